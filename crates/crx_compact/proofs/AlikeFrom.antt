@@ -1,13 +1,7 @@
 -- Two lists that are alike from a place on, as the arcs that a loop has not come to yet are those before it.
-use Rattle.std.specs.Prelude.{◌≡◌, ◌<◌, ℕ, ◌+◌, List, [], ◌∷◌, length, drop, slice_index_or, slice_set}
-use Rattle.std.proofs.Common.{arith}
-use Rattle.std.proofs.lemmas.List.{drop-drop, drop-set-lt, length-drop}
+use Rattle.crx_compact.proofs.Words.{◌≡◌, ◌<◌, ℕ, ◌+◌, List, length, drop, slice_index_or, slice_set, arith}
+use Rattle.crx_compact.proofs.Words.{common_steps, drop-drop, drop-set-lt, length-drop}
 use Rattle.crx_compact.proofs.PlaceByPlace.{from-place}
-use Rattle.std.proofs.lemmas.Grind.{common_steps}
-
-abbrev first_or : {X : Type 0} → X → List X → X
-first_or d [] = d
-first_or d (x ∷ xs) = x
 
 -- they have the same item at that place
 pub alike-there : {X : Type 0} (xs ys : List X) (k : ℕ) (d e : X)

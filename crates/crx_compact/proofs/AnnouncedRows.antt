@@ -1,20 +1,11 @@
 -- After an epoch line: the rows are of the satellites that the text announces.
-use Rattle.std.proofs.Common.{◌≡◌, [], ◌∷◌, ℕ, List, true, All, Result, Ok, map, refl, ap}
-use Rattle.std.proofs.Common.{sym, ◌∙◌, subst}
-use Rattle.std.specs.List.{list_all}
-use Rattle.crx_base.specs.meaning.Lines.{is_printable}
-use Rattle.crx_text.specs.Texts.{patched}
-use Rattle.crx_text.proofs.EachPlace.{length-each_place}
-use Rattle.crx_base.specs.declared.fault.Fault.{Fault}
-use Rattle.crx_header.specs.meaning.ObservationTypes.{Count}
-use Rattle.crx_compact.specs.HeldRows.{IsAwaitedSatellite, past_of_tail}
-use Rattle.crx_compact.specs.meaning.CompactPlaces.{satellites_of_line, satellites_of_text}
-use Rattle.crx_compact.specs.meaning.EpochText.{Satellite}
-use Rattle.crx_compact.specs.Placing.{IsAnnounced, OpenHistory, padded_among, satellite_of}
-use Rattle.crx_compact.specs.RowsSoFar.{AreAnnounced, NamesSatellites}
-use Rattle.crx_compact.specs.Tails.{RowTail, Tail}
+use Rattle.crx_compact.proofs.Words.{◌≡◌, [], ◌∷◌, ℕ, List, true, All, Result, Ok, map, refl, ap, sym, ◌∙◌}
+use Rattle.crx_compact.proofs.Words.{subst, list_all, is_printable, patched, length-each_place, Fault, Count}
+use Rattle.crx_compact.proofs.Words.{IsAwaitedSatellite, past_of_tail, satellites_of_line, satellites_of_text}
+use Rattle.crx_compact.proofs.Words.{Satellite, IsAnnounced, OpenHistory, padded_among, satellite_of}
+use Rattle.crx_compact.proofs.Words.{AreAnnounced, RowTail, Tail, arith}
+use Rattle.crx_compact.specs.RowsSoFar.{NamesSatellites}
 use Rattle.crx_compact.proofs.EpochLines.{announced, named-by_line}
-use Rattle.std.proofs.Common.{arith}
 
 satellites-again : (before : List RowTail) (satellites : List Satellite)
     → map satellite_of (map (padded_among before) satellites) ≡ satellites

@@ -1,10 +1,10 @@
 -- Texts and identifiers by their characters.
-use Rattle.crx_compact.proofs.Words.{◌≡◌, refl, ℕ, zero, suc, ◌<◌, ◌≤◌, ◌⊎◌, List, [], ◌∷◌, take, Bool, true}
-use Rattle.crx_compact.proofs.Words.{◌++◌, Option, Some, None, if◌then◌else◌, nat_eq, ◌||◌}
-use Rattle.crx_compact.proofs.Words.{length, arith, inl, inr, not-suc-le-zero, le_of_suc-le-suc, sym, ◌∙◌, ap}
-use Rattle.crx_compact.proofs.Words.{at, list_all, and_parts, and_from, before_end_blanks, without_end_blanks}
-use Rattle.crx_compact.proofs.Words.{by_position, is_kept, bytes_eq, is_ascii_digit, is_system}
-use Rattle.crx_header.specs.meaning.Satellites.{is_identifier}
+use Rattle.crx_compact.proofs.Words.{◌≡◌, suc, ◌<◌, ◌≤◌, ◌⊎◌, ◌∷◌, true, ◌++◌, Some, None, ◌||◌, sym, refl}
+use Rattle.crx_compact.proofs.Words.{zero, List, take, Bool, Option, nat_eq, length, arith, at, is_kept, ℕ}
+use Rattle.crx_compact.proofs.Words.{not-suc-le-zero, le_of_suc-le-suc, without_end_blanks, is_ascii_digit}
+use Rattle.crx_compact.proofs.Words.{[], if◌then◌else◌, list_all, and_parts, by_position, bytes_eq, is_system}
+use Rattle.crx_compact.proofs.Words.{is_identifier, cases_lt}
+use Rattle.std.proofs.lemmas.Slice.Eq.{bytes_eq-Decides}
 
 pub at-take_past : (n : ℕ) (text : List ℕ) (p : ℕ) → n ≤ p → at (take n text) p ≡ 32
 at-take_past (suc n) (c ∷ cs) zero h = absurd (not-suc-le-zero h)
@@ -12,9 +12,7 @@ at-take_past (suc n) (c ∷ cs) (suc p) h = at-take_past n cs p (le_of_suc-le-su
 at-take_past n text p h = refl
 
 pub within-or_past : (n p : ℕ) → (p < n) ⊎ (n ≤ p)
-within-or_past zero p = inr (omega arith)
-within-or_past (suc n) zero = inl (omega arith)
-within-or_past (suc n) (suc p) = grind (arith, within-or_past n p)
+within-or_past n p = cases_lt p n
 
 pub list_all-at : (p : ℕ → Bool)
     → p 32 ≡ true → (text : List ℕ) → list_all p text ≡ true → (k : ℕ) → p (at text k) ≡ true
@@ -25,8 +23,7 @@ list_all-at p e (c ∷ cs) h (suc k) = list_all-at p e cs (and_parts (p c) (list
 pub list_all-append : (p : ℕ → Bool) (xs ys : List ℕ)
     → list_all p xs ≡ true → list_all p ys ≡ true → list_all p (xs ++ ys) ≡ true
 list_all-append p [] ys h k = k
-list_all-append p (x ∷ xs) ys h k = and_from (p x) (list_all p (xs ++ ys))
-    (and_parts (p x) (list_all p xs) h).0 (list_all-append p xs ys (and_parts (p x) (list_all p xs) h).1 k)
+list_all-append p (x ∷ xs) ys h k = grind (arith, and_parts, list_all-append p xs ys)
 
 pub all-take : (p : ℕ → Bool) (n : ℕ) (xs : List ℕ) → list_all p xs ≡ true → list_all p (take n xs) ≡ true
 all-take p (suc n) (x ∷ xs) h = grind (arith, all-take p n xs (and_parts (p x) (list_all p xs) h).1)
@@ -37,8 +34,7 @@ if_some b x n h = grind arith
 
 all_blank : (text : List ℕ) → ((p : ℕ) → at text p ≡ 32) → without_end_blanks text ≡ []
 all_blank [] h = refl
-all_blank (c ∷ cs) h =
-    ap (before_end_blanks c) (all_blank cs (λ p. h (suc p))) ∙ ap (λ n. before_end_blanks n []) (h 0)
+all_blank (c ∷ cs) h = cc (all_blank cs (λ p. h (suc p)), h 0)
 
 -- texts with the same characters are the same without the blanks at their ends
 pub same_characters : (xs ys : List ℕ) → ((p : ℕ) → at xs p ≡ at ys p)
@@ -58,13 +54,10 @@ at-by_position f e (a ∷ as') (b ∷ bs) zero = refl
 at-by_position f e (a ∷ as') (b ∷ bs) (suc p) = at-by_position f e as' bs p
 
 pub bytes_eq-same : (a : List ℕ) → bytes_eq a a ≡ true
-bytes_eq-same [] = refl
-bytes_eq-same (c ∷ cs) = grind (arith, bytes_eq-same cs)
+bytes_eq-same a = (bytes_eq-Decides a a).1 refl
 
 pub bytes_eq-is : (a b : List ℕ) → bytes_eq a b ≡ true → a ≡ b
-bytes_eq-is [] [] h = refl
-bytes_eq-is (c ∷ cs) (d ∷ ds) h = grind (arith, bytes_eq-is cs ds (grind (arith, h)))
-bytes_eq-is a b h = grind (arith, h)
+bytes_eq-is a b h = (bytes_eq-Decides a b).0 h
 
 pub length-is : (name : List ℕ) → is_identifier name ≡ true → length name ≡ 3
 length-is name h = grind arith

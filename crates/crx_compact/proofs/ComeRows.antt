@@ -1,22 +1,16 @@
 -- Rows that come one by one, each after what is stored of its satellite: the row of the epoch before, or a
 -- blank one.
-use Rattle.std.proofs.Common.{◌≡◌, ◌++◌, ◌∷◌, [], ℕ, List, Bool, true, false, not, Some}
-use Rattle.std.proofs.Common.{Result, IsOk, IfOk, length, take, slice_get, refl}
-use Rattle.std.proofs.Common.{if◌then◌else◌, ap, sym, ◌∙◌, arith, unwrap_or}
-use Rattle.std.specs.Str.{bytes_eq}
+use Rattle.crx_compact.proofs.Words.{rules, ◌≡◌, ◌++◌, ◌∷◌, [], ℕ, List, Bool, true, false, not, Some, Result}
+use Rattle.crx_compact.proofs.Words.{IfOk, length, take, slice_get, refl, if◌then◌else◌, ap, sym, ◌∙◌, arith}
+use Rattle.crx_compact.proofs.Words.{unwrap_or, bytes_eq, is_among, Row, Satellite, PlacedRows, padded}
+use Rattle.crx_compact.proofs.Words.{padded_among, row_or_blank, row_line_after, row_line_in, row_tail_after}
+use Rattle.crx_compact.proofs.Words.{row_tail_in, RowTail, are_different, take_all, slice_get_within}
+use Rattle.std.proofs.Common.{IsOk}
 use Rattle.std.proofs.lemmas.Bool.{or_parts}
-use Rattle.crx_header.specs.meaning.Satellites.{is_among, are_apart}
 use Rattle.crx_header.proofs.Apart.{other_way, new_at}
-use Rattle.crx_rinex.specs.meaning.Observations.{Row}
-use Rattle.crx_compact.specs.meaning.EpochText.{Satellite}
-use Rattle.crx_compact.specs.Placing.{HasCome, PlacedRows, empty_row, padded, padded_among}
-use Rattle.crx_compact.specs.Placing.{row_tail_named, row_or_blank}
-use Rattle.crx_compact.specs.Steps.{row_line_after, row_line_in, row_tail_after, row_tail_in}
-use Rattle.crx_compact.specs.Tails.{RowTail}
+use Rattle.crx_compact.specs.Placing.{HasCome, empty_row, row_tail_named}
 use Rattle.crx_compact.proofs.Characters.{bytes_eq-is}
-use Rattle.crx_rinex.specs.meaning.Epochs.{are_different}
-use Rattle.std.proofs.lemmas.List.{take_all}
-use Rattle.std.proofs.lemmas.Option.{get_or_from_slice_get, slice_get_within}
+use Rattle.std.proofs.lemmas.Option.{get_or_from_slice_get}
 use Rattle.std.proofs.lemmas.Grind.{common_steps}
 
 -- ---- a blank row is none
@@ -66,11 +60,8 @@ among-last : {X : Type 0} (f : X → List ℕ) (xs : List X) (x : X) (name : Lis
     → is_among f name (xs ++ x ∷ []) ≡ false → (is_among f name xs ≡ false) × (bytes_eq (f x) name ≡ false)
 among-last f [] x name h = (refl, (or_parts (bytes_eq (f x) name) false h).0)
 among-last f (y ∷ ys) x name h =
-    grind (
-      arith,
-      among-last f ys x name (or_parts (bytes_eq (f y) name) (is_among f name (ys ++ x ∷ []))
-          h).1,
-    )
+    let rest = (or_parts (bytes_eq (f y) name) (is_among f name (ys ++ x ∷ [])) h).1 in
+    grind (arith, among-last f ys x name rest)
 
 pub awaited-after : {X : Type 0} (f : X → List ℕ) (come : List X) (x : X) (before : List RowTail)
     (old new : PlacedRows)
@@ -85,8 +76,7 @@ pub row-new : (rows : List Row) (index : ℕ) (row : Row) → are_different rows
     → slice_get rows index ≡ Some row → is_among (λ (r : Row). r.name) row.name (take index rows) ≡ false
 row-new rows index row apart here =
     let within = slice_get_within rows index row here in
-    let whole : take (length rows) rows ≡ rows = take_all (length rows) rows (omega arith) in
     ap (λ (r : Row). is_among (λ (q : Row). q.name) r.name (take index rows))
     (sym (get_or_from_slice_get rows index row row here))
     ∙ new_at (λ (r : Row). r.name) (length rows) rows index row
-    (ap (are_apart (λ (r : Row). r.name)) whole ∙ apart) within within
+    (search (rules, take_all)) within within

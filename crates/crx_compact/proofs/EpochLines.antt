@@ -1,23 +1,15 @@
 -- An epoch line that was read: its satellites are as many as it announces, and no two of one identifier.
 use Rattle.crx_compact.proofs.Words.{◌≡◌, refl, ℕ, ◌+◌, ◌*◌, Bool, true, false, List, [], ◌∷◌, map, drop}
 use Rattle.crx_compact.proofs.Words.{Option, Some, None, Result, Ok, Err, length, list_all, AllByRecursion}
-use Rattle.crx_compact.proofs.Words.{bytes_eq, ap, sym, ◌∙◌, and_from, is_blank, columns, Count}
-use Rattle.crx_compact.proofs.Words.{is_among, are_apart, types_of_satellite, Fault, BadEpoch}
-use Rattle.crx_compact.proofs.Words.{epoch_count, ◌otherwise◌next◌}
-use Rattle.crx_compact.proofs.Words.{is_printable, names_in, Satellite, satellites_named, Past}
-use Rattle.crx_compact.proofs.Words.{satellites_of_line, length-map, apart-map, Tail}
-use Rattle.crx_compact.proofs.Words.{past_of_tail, AreAnnounced, length-each_place, patched, HEAD_WIDTH}
-use Rattle.crx_compact.proofs.Words.{NAME_WIDTH}
-use Rattle.std.specs.List.{list_any}
-use Rattle.std.proofs.Common.{All, subst}
-use Rattle.std.proofs.lemmas.List.Elements.{All-head, All-tail}
-use Rattle.crx_compact.specs.RowsSoFar.{NamesSatellites}
-use Rattle.crx_header.specs.meaning.InOrder.{◌or_else◌with◌}
-use Rattle.crx_compact.specs.meaning.EpochText.{satellite_before}
+use Rattle.crx_compact.proofs.Words.{bytes_eq, ap, sym, ◌∙◌, and_from, is_blank, columns, Count, is_among}
+use Rattle.crx_compact.proofs.Words.{are_apart, types_of_satellite, Fault, BadEpoch, epoch_count}
+use Rattle.crx_compact.proofs.Words.{◌otherwise◌next◌, is_printable, names_in, Satellite, satellites_named}
+use Rattle.crx_compact.proofs.Words.{Past, satellites_of_line, length-map, apart-map, Tail, past_of_tail}
+use Rattle.crx_compact.proofs.Words.{AreAnnounced, length-each_place, patched, HEAD_WIDTH, NAME_WIDTH, All}
+use Rattle.crx_compact.proofs.Words.{subst, arith, rules, All-head, All-tail, common_steps, list_any}
+use Rattle.crx_compact.proofs.Words.{NamesSatellites, ◌or_else◌with◌, satellite_before}
 use Rattle.crx_compact.proofs.Identifiers.{AreNew, new-before, not-among}
 use Rattle.crx_compact.proofs.Results.{no-err, if-err, if-true}
-use Rattle.std.proofs.lemmas.Grind.{common_steps}
-use Rattle.std.proofs.Common.{arith, rules}
 
 -- whether no identifier is there twice
 abbrev pub differ : List (List ℕ) → Bool
@@ -62,22 +54,10 @@ pub satellites-facts : (types : List Count) (earlier names : List (List ℕ)) (g
     → satellites_named types earlier names ≡ Ok given → SatellitesFacts types earlier names given
 satellites-facts types earlier [] given e = grind arith
 satellites-facts types earlier (n ∷ ns) given e =
-    grind (
-      arith,
-      common_steps,
-      satellites_named,
-      satellite-before,
-      types_of_satellite,
-      new-before,
-      and_from,
-      is_among,
-      not-among,
-      satellites-facts types (n ∷ earlier) ns (satellite-before types earlier n
-          (types_of_satellite types n) (satellites_named types (n ∷ earlier) ns) given refl e).from
-          (satellite-before types earlier n (types_of_satellite types n) (satellites_named types (n ∷ earlier)
-          ns)
-          given refl e).first,
-    )
+    let others = satellites_named types (n ∷ earlier) ns in
+    let step = satellite-before types earlier n (types_of_satellite types n) others given refl e in
+    let rest = satellites-facts types (n ∷ earlier) ns step.from step.first in
+    grind (arith, common_steps, new-before, and_from, is_among, not-among)
 
 -- so many satellites of an epoch text, or its first fault
 abbrev pub satellites_counted : List Count → List ℕ → Option ℕ → Result (List Satellite) Fault
@@ -99,9 +79,9 @@ line-facts_of types past line satellites e = search (rules, text-facts, if-true,
 many : (types : List Count) (past : Past) (line : List ℕ) (satellites : List Satellite)
     → (facts : LineFacts types past line satellites) → length satellites ≡ facts.count
 many types past line satellites facts =
-    sym (length-map satellites (λ (s : Satellite). s.name)) ∙ ap length facts.named.same
-    ∙ length-each_place facts.count
-    (λ k. columns (past.text line) (HEAD_WIDTH + 1 + NAME_WIDTH * k) NAME_WIDTH)
+    let places = length-each_place facts.count
+    (λ k. columns (past.text line) (HEAD_WIDTH + 1 + NAME_WIDTH * k) NAME_WIDTH) in
+    cc (length-map satellites (λ (s : Satellite). s.name), facts.named.same)
 
 -- an epoch line that was read names its satellites
 pub named-by_line : (types : List Count) (before : Tail) (line : List ℕ) (satellites : List Satellite)
@@ -110,11 +90,7 @@ pub named-by_line : (types : List Count) (before : Tail) (line : List ℕ) (sate
 named-by_line types before line satellites e =
     let past = past_of_tail before in
     let facts = line-facts_of types past line satellites e in
-    record {
-      earlier = types;
-      named = ap (λ n. satellites_named types [] (names_in (patched before.text line) n))
-          (many types past line satellites facts) ∙ facts.read;
-    }
+    record { earlier = types; named = cc (many types past line satellites facts, facts.read) }
 
 -- the same identifiers by other counts of types, which are those of the satellites
 pub named-again : (earlier types : List Count) (seen names : List (List ℕ)) (given : List Satellite)
@@ -126,11 +102,10 @@ named-again earlier types seen (n ∷ ns) given e typed =
     let others = satellites_named earlier (n ∷ seen) ns in
     let P : Satellite → Type 0 = λ s. types_of_satellite types s.name ≡ Some s.count in
     let step = satellite-before earlier seen n (types_of_satellite earlier n) others given refl e in
-    let s : Satellite = record { name = n; count = step.count } in
     let whole = subst (All P) (sym step.made) typed in
-    let here : types_of_satellite types n ≡ Some step.count = All-head P s step.from whole in
-    let rest = named-again earlier types (n ∷ seen) ns step.from step.first (All-tail P s step.from whole) in
-    cc (here, step.new, rest, step.made)
+    let here : types_of_satellite types n ≡ Some step.count = All-head P _ step.from whole in
+    let rest = named-again earlier types (n ∷ seen) ns step.from step.first (All-tail P _ step.from whole) in
+    cc
 
 -- an epoch line that was read announces its satellites, and names no two of them alike
 pub announced : (types : List Count) (before old new : Tail) (line : List ℕ) (satellites : List Satellite)
@@ -139,9 +114,8 @@ pub announced : (types : List Count) (before old new : Tail) (line : List ℕ) (
 announced types before old new line satellites e left =
     let facts = line-facts_of types (past_of_tail before) line satellites e in
     let names = many types (past_of_tail before) line satellites facts in
-    let A : Tail → Type 0 = λ t. AreAnnounced t.text satellites in
+    let different = apart-map (λ (n : List ℕ). n) (λ (s : Satellite). s.name) satellites in
     rw left (record {
       counted = facts.counted ∙ ap {B = Option ℕ} Some (sym names);
-      apart = sym (apart-map (λ (n : List ℕ). n) (λ (s : Satellite). s.name) satellites)
-          ∙ ap differ facts.named.same ∙ facts.named.apart;
+      apart = cc (different, facts.named.same, facts.named.apart);
     })

@@ -1,14 +1,12 @@
 -- Things of different identifiers: each is found by its own, and none is among earlier ones.
-use Rattle.std.proofs.Common.{◌≡◌, ℕ, true, false, not, List, [], ◌∷◌, Some, refl}
-use Rattle.std.specs.List.{list_any, AllByRecursion}
-use Rattle.std.specs.Str.{bytes_eq}
-use Rattle.std.proofs.lemmas.Bool.{and_parts, not-true, or_parts}
-use Rattle.crx_header.specs.meaning.Satellites.{is_among, are_apart}
+use Rattle.crx_compact.proofs.Words.{◌≡◌, ℕ, true, false, not, List, [], ◌∷◌, Some, refl, AllByRecursion}
+use Rattle.crx_compact.proofs.Words.{bytes_eq, and_parts, not-true, is_among, are_apart, arith}
+use Rattle.std.specs.List.{list_any}
+use Rattle.std.proofs.lemmas.Bool.{or_parts}
 use Rattle.crx_header.proofs.Apart.{other_way}
 use Rattle.crx_compact.specs.meaning.Sequences.{named}
 use Rattle.crx_compact.proofs.Characters.{bytes_eq-same}
 use Rattle.std.proofs.lemmas.Grind.{common_steps}
-use Rattle.std.proofs.Common.{arith}
 
 -- those that are found among some items are found with one more before them, of another identifier
 found-later : {X : Type 0} (f : X → List ℕ) (x : X) (xs ys : List X) → is_among f (f x) ys ≡ false
@@ -16,16 +14,8 @@ found-later : {X : Type 0} (f : X → List ℕ) (x : X) (xs ys : List X) → is_
     → AllByRecursion (λ y. named f (f y) (x ∷ xs) ≡ Some y) ys
 found-later f x xs [] new h = tt
 found-later f x xs (y ∷ ys) new h =
-    grind (
-      arith,
-      common_steps,
-      or_parts,
-      bytes_eq,
-      is_among,
-      other_way,
-      found-later f x xs ys (or_parts
-          (bytes_eq (f y) (f x)) (is_among f (f x) ys) new).1 h.1,
-    )
+    let rest = (or_parts (bytes_eq (f y) (f x)) (is_among f (f x) ys) new).1 in
+    grind (arith, common_steps, or_parts, bytes_eq, is_among, other_way, found-later f x xs ys rest h.1)
 
 -- each of some different items is the first of its identifier
 pub each-own : {X : Type 0} (f : X → List ℕ) (xs : List X)

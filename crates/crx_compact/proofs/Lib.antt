@@ -12,7 +12,6 @@ pub mod RowByRow
 pub mod ComeRows
 pub mod Writing
 pub mod NamesCome
-pub mod ShownHistory
 pub mod AnnouncedRows
 pub mod Identifiers
 pub mod Marks

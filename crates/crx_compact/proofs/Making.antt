@@ -1,10 +1,9 @@
 -- Items one by one, and the text that is made of them.
+use Rattle.std.proofs.lemmas.List.{take_more, flat_map_more}
+use Rattle.std.proofs.lemmas.Option.{get_or_from_slice_get, slice_get_within}
 use Rattle.crx_compact.proofs.Words.{◌≡◌, refl, ℕ, zero, suc, ◌+◌, List, [], ◌∷◌, ◌++◌, take, slice_get, Some}
-use Rattle.crx_compact.proofs.Words.{None, Result, ◌∙◌, ap, add-one, same_Some}
-use Rattle.std.specs.Prelude.{flat_map}
-use Rattle.std.specs.Prelude.{IsOk, IsErr}
-use Rattle.std.proofs.lemmas.List.{flat_map_more}
-use Rattle.std.proofs.Common.{arith}
+use Rattle.crx_compact.proofs.Words.{None, Result, ap, arith}
+use Rattle.std.specs.Prelude.{flat_map, IsOk, IsErr}
 
 -- a result that is no Err is an Ok
 pub ok-unless : {X E : Type 0} (r : Result X E) → (IsErr r → ⊥) → IsOk r
@@ -15,13 +14,7 @@ ok-unless r good = grind arith
 -- the items up to a place, and the one there
 pub taken_more : {X : Type 0} (xs : List X) (i : ℕ) (x : X)
     → slice_get xs i ≡ Some x → take (i + 1) xs ≡ take i xs ++ x ∷ []
-taken_more xs i x h = ap (λ n. take n xs) (add-one i) ∙ taken_next xs i x h
-  where
-    taken_next : {X : Type 0} (xs : List X) (i : ℕ) (x : X)
-        → slice_get xs i ≡ Some x → take (suc i) xs ≡ take i xs ++ x ∷ []
-    taken_next [] i x h = absurd (cc)
-    taken_next (y ∷ ys) zero x h = ap (λ z. z ∷ []) (same_Some y x h)
-    taken_next (y ∷ ys) (suc i) x h = ap (λ zs. y ∷ zs) (taken_next ys i x h)
+taken_more xs i x h = cc (take_more xs i x (slice_get_within xs i x h), get_or_from_slice_get xs i x x h)
 
 -- nothing is past a place where nothing is
 pub taken_all : {X : Type 0} (xs : List X) (i : ℕ) → slice_get xs i ≡ None → take i xs ≡ xs

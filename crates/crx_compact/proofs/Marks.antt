@@ -1,42 +1,25 @@
 -- The marks of a satellite line, and the row that its cells and marks make.
-use Rattle.std.specs.Prelude.{◌≡◌, refl, ℕ, suc, ◌+◌, ◌-◌, ◌*◌, Bool, true, false, List, [], ◌∷◌, ◌++◌, ℤ}
-use Rattle.std.specs.Prelude.{length, map, take, drop, replicate, slice_index_or, Option, None, Result}
-use Rattle.std.specs.Prelude.{Ok, Err, IfErr, OnOk, if◌then◌else◌, ◌==◌, zero}
-use Rattle.std.specs.List.{list_all}
-use Rattle.std.proofs.Common.{sym, ◌∙◌, ap, arith}
-use Rattle.std.proofs.lemmas.List.{length-map}
-use Rattle.crx_text.specs.meaning.Columns.{columns, without_end_blanks}
-use Rattle.crx_text.specs.meaning.Texts.{by_position, is_kept}
-use Rattle.crx_base.specs.meaning.Lines.{is_printable}
-use Rattle.crx_text.specs.Texts.{character_of, patched}
-use Rattle.crx_text.specs.declared.code.Code.{Code}
-use Rattle.crx_base.specs.declared.fault.Fault.{Fault}
-use Rattle.crx_base.specs.declared.fault.Fault.TheVariants.{BadFlags, Truncated, BadField}
+use Rattle.crx_compact.proofs.Words.{◌≡◌, refl, ℕ, suc, ◌*◌, Bool, true, false, List, [], ◌∷◌, ℤ, length, map}
+use Rattle.crx_compact.proofs.Words.{drop, slice_index_or, Option, None, Result, Ok, Err, if◌then◌else◌, ◌==◌}
+use Rattle.crx_compact.proofs.Words.{zero, list_all, sym, ◌∙◌, ap, arith, rules, length-map, columns}
+use Rattle.crx_compact.proofs.Words.{without_end_blanks, is_kept, is_printable, patched, Code, Fault}
+use Rattle.crx_compact.proofs.Words.{BadFlags, Truncated, BadField, and_then, before_all, begins_epoch}
+use Rattle.crx_compact.proofs.Words.{◌otherwise◌next◌, Satellite, ReadCell, after_cells, cells_of, cells_read}
+use Rattle.crx_compact.proofs.Words.{cell_read, ReadRow, are_marks, row_of_cells, Past, ArcTail, RowTail}
+use Rattle.crx_compact.proofs.Words.{Tail, shown_value, cell_of_tail, flags_held, flags_of_tail, tail_named}
+use Rattle.crx_compact.proofs.Words.{shown_row, HeldRow, held_row, past_of_tail, arcs_of_tail, held_from}
+use Rattle.crx_compact.proofs.Words.{past_of_row, row_held, value_at_place, at, at-without_end_blanks}
+use Rattle.crx_compact.proofs.Words.{columns-are, list_all-from_at, length-columns, code_of}
+use Rattle.std.specs.Prelude.{IfErr, OnOk}
 use Rattle.std.proofs.Math.Path.{fun_ext}
-use Rattle.crx_compact.specs.meaning.Sequences.{and_then, before_all}
-use Rattle.crx_header.specs.meaning.EpochColumns.{begins_epoch}
-use Rattle.crx_header.specs.meaning.InOrder.{◌otherwise◌next◌}
-use Rattle.crx_compact.specs.meaning.EpochText.{Satellite}
-use Rattle.crx_compact.specs.meaning.Cells.{ReadCell, after_cells, cells_of, cells_read, cell_read}
-use Rattle.crx_compact.specs.meaning.CompactPlaces.{ReadRow, are_marks, row_of_cells}
-use Rattle.crx_compact.specs.meaning.Past.{Past}
-use Rattle.crx_compact.specs.ArcTails.{ArcTail}
-use Rattle.crx_compact.specs.Tails.{RowTail, Tail}
-use Rattle.crx_compact.specs.ArcSteps.{shown_value}
-use Rattle.crx_compact.specs.Steps.{cell_of_tail, flags_held, flags_of_tail, tail_named}
 use Rattle.crx_compact.proofs.CellsRead.{cells-same}
-use Rattle.crx_compact.specs.ShownRows.{shown_row}
-use Rattle.crx_compact.specs.HeldRows.{HeldRow, held_row, past_of_tail, arcs_of_tail, held_from, past_of_row}
-use Rattle.crx_compact.specs.HeldRows.{row_after, row_held, row_held_from}
-use Rattle.crx_compact.specs.Cells.{value_at_place, CellsAreRead}
+use Rattle.crx_compact.specs.HeldRows.{row_after, row_held_from}
+use Rattle.crx_compact.specs.Cells.{CellsAreRead}
 use Rattle.crx_compact.proofs.SoundTexts.{held-columns, patched-trimmed}
 use Rattle.crx_compact.proofs.Characters.{list_all-at, at-by_position}
-use Rattle.crx_text.proofs.Characters.{at, at-without_end_blanks, columns-are, list_all-from_at}
-use Rattle.crx_text.proofs.Characters.{length-columns}
 use Rattle.crx_compact.proofs.PlaceByPlace.{at-padded, at-take}
-use Rattle.crx_text.specs.meaning.Codes.{code_of, after_cell}
+use Rattle.crx_text.specs.meaning.Codes.{after_cell}
 use Rattle.crx_compact.proofs.Results.{ok-same, and_then-ok, before-ok}
-use Rattle.std.proofs.Common.{rules}
 
 -- ---- the characters of patched indicators
 
@@ -56,25 +39,14 @@ pub columns-left : (count : ℕ) (flags : List ℕ)
     → columns flags 1 (2 * count) ≡ columns (patched flags []) 1 (2 * count)
 columns-left count flags = columns-are flags 1 (2 * count)
     (columns (patched flags []) 1 (2 * count)) (length-columns (patched flags []) 1 (2 * count)) (λ p less.
-    let place : 1 - 1 + p ≡ p = omega arith in
-    ap (at flags) place ∙ sym (at-take (2 * count) (patched flags [] ++ replicate (2 * count) 32) p less
-    ∙ at-padded (2 * count) (patched flags []) p ∙ (search (
-      rules,
-      at-without_end_blanks,
-      by_position,
-      character_of,
-      at-by_position,
-    ))))
+    search (rules, at, at-take, at-padded, at-without_end_blanks, at-by_position))
 
 -- the columns of indicators show what is held of them
 pub columns-held : (count : ℕ) (flags : List ℕ) → columns (flags_held count flags) 1 (2 * count)
     ≡ columns flags 1 (2 * count)
 columns-held count flags = columns-are (flags_held count flags) 1
     (2 * count) (columns flags 1 (2 * count)) (length-columns flags 1 (2 * count)) (λ p less.
-    let place : 1 - 1 + p ≡ p = omega arith in
-    ap (at (flags_held count flags)) place
-    ∙ at-without_end_blanks (take (2 * count) flags) p ∙ at-take (2 * count) flags p less
-    ∙ sym (at-take (2 * count) (flags ++ replicate (2 * count) 32) p less ∙ at-padded (2 * count) flags p))
+    search (rules, at, at-without_end_blanks, at-take, at-padded))
 
 -- ---- a satellite's line
 
@@ -110,8 +82,7 @@ cells-count value (text ∷ texts) cells e =
     let rest = cells_read (λ j. value (suc j)) texts in
     let one = and_then-ok (cell_read BadField (value 0) (code_of text)) (λ c. before_all c rest) cells e in
     let two = before-ok one.from rest cells one.next in
-    sym (ap length (ok-same (one.from ∷ two.from) cells two.next))
-    ∙ ap suc (cells-count (λ j. value (suc j)) texts two.from two.first)
+    search (rules, ok-same, and_then-ok, before-ok, cells-count (λ j. value (suc j)) texts two.from two.first)
 
 pub texts-count : (count : ℕ) (line : List ℕ) → length (cells_of count line) ≡ count
 texts-count zero line = refl
@@ -147,32 +118,7 @@ line-held arcs flags satellite line left at name held h read e same columned =
     let shown : columns text 1 (2 * length left) ≡ columns marked 1 (2 * length read.cells) =
     ap (λ n. columns text 1 (2 * n)) many ∙ ap (λ (q : List ℕ). columns q 1 (2 * satellite.count)) t
     ∙ columns-held satellite.count marked ∙ ap (λ n. columns marked 1 (2 * n)) (sym count) in
-    line-marks arcs flags satellite line at read.cells true h read.good read.marks e ∙ sym (
-    ap {B = Result HeldRow Fault} (λ (n : List ℕ). Ok (record {
-      row = record { name = n; values = map shown_value left; flags = columns text 1 (2 * length left) };
-      tail = record { name = n; flags = text; cells = left };
-    })) same ∙ ap {B = Result HeldRow Fault} (λ (fs : List ℕ). Ok (record {
-      row = record { name = satellite.name; values = map shown_value left; flags = fs };
-      tail = record { name = satellite.name; flags = text; cells = left };
-    })) shown ∙ ap {B = Result HeldRow Fault} (λ (vs : List (Option ℤ)). Ok (record {
-      row = record { name = satellite.name; values = vs; flags = columns marked 1 (2 * length read.cells) };
-      tail = record { name = satellite.name; flags = text; cells = left };
-    })) read.shown ∙ ap {B = Result HeldRow Fault} (λ (q : List ℕ). Ok (record {
-      row = record {
-        name = satellite.name;
-        values = map (λ (c : ReadCell). c.value) read.cells;
-        flags = columns marked 1 (2 * length read.cells);
-      };
-      tail = record { name = satellite.name; flags = q; cells = left };
-    })) kept ∙ ap {B = Result HeldRow Fault} (λ (cs : List (Option ArcTail)). Ok (record {
-      row = record {
-        name = satellite.name;
-        values = map (λ (c : ReadCell). c.value) read.cells;
-        flags = columns marked 1 (2 * length read.cells);
-      };
-      tail = record { name = satellite.name; flags = flags_held (length codes) marked; cells = cs };
-    })) read.left
-    )
+    cc (line-marks arcs flags satellite line at read.cells true h read.good read.marks e)
 
 -- ---- faults as they are reported
 
@@ -201,9 +147,6 @@ row-by_tail tail satellite line = grind (arith, cells-same, cell-by_kept, row-de
 pub if-err : {X E : Type 0} (r : Result X E) (P Q : E → Type 0) → ((e : E) → P e → Q e) → IfErr r P
     → IfErr r Q
 if-err r P Q f h = grind arith
-
-pub on-ok : {X E : Type 0} (r : Result X E) {P Q : Type 0} → (P → Q) → OnOk r P → OnOk r Q
-on-ok r f h = grind arith
 
 pub on-both : {X E : Type 0} (r : Result X E) {P Q R : Type 0} → (P → Q → R) → OnOk r P → OnOk r Q → OnOk r R
 on-both r f p q = grind arith

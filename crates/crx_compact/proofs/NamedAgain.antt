@@ -1,22 +1,15 @@
 -- An epoch line after which the satellites of the epoch before come again: no mark is in the columns of their
 -- identifiers.
-use Rattle.std.proofs.Common.{◌≡◌, ◌≤◌, ◌+◌, ◌-◌, ◌*◌, ◌++◌, ◌∙◌, ℕ, List, [], ◌∷◌, Some, All, length, map}
-use Rattle.std.proofs.Common.{ap, sym, refl, arith, drop, replicate, subst}
-use Rattle.std.proofs.lemmas.List.{length-map}
-use Rattle.crx_base.specs.declared.limits.TheConstants.{HEAD_WIDTH, NAME_WIDTH}
-use Rattle.crx_text.specs.meaning.Columns.{columns}
-use Rattle.crx_text.specs.meaning.Texts.{by_position}
-use Rattle.crx_text.specs.Texts.{character_of, patched}
-use Rattle.crx_text.proofs.Characters.{at, at-drop, at-without_end_blanks, columns-are, length-columns}
-use Rattle.crx_header.specs.meaning.ObservationTypes.{Count}
-use Rattle.crx_header.specs.meaning.Satellites.{types_of_satellite}
-use Rattle.crx_compact.specs.HeldRows.{IsAwaitedSatellite}
-use Rattle.crx_compact.specs.meaning.EpochText.{Satellite, names_in, satellites_named}
-use Rattle.crx_compact.specs.Placing.{HasRoom, PlacedRows, padded_among, satellite_of}
-use Rattle.crx_compact.specs.Tails.{RowTail}
+use Rattle.crx_compact.proofs.Words.{rules, ◌≡◌, ◌≤◌, ◌+◌, ◌*◌, ◌∙◌, ℕ, List, [], ◌∷◌, Some, All, length, map}
+use Rattle.crx_compact.proofs.Words.{ap, sym, refl, replicate, subst, length-map, HEAD_WIDTH, NAME_WIDTH}
+use Rattle.crx_compact.proofs.Words.{columns, by_position, character_of, patched, at, at-without_end_blanks}
+use Rattle.crx_compact.proofs.Words.{columns-are, length-columns, Count, types_of_satellite}
+use Rattle.crx_compact.proofs.Words.{IsAwaitedSatellite, Satellite, names_in, satellites_named, HasRoom}
+use Rattle.crx_compact.proofs.Words.{PlacedRows, padded_among, satellite_of, RowTail, All-head, All-tail}
+use Rattle.crx_compact.proofs.Words.{each_place-same}
+use Rattle.crx_text.proofs.Characters.{at-drop}
 use Rattle.crx_compact.proofs.PlaceByPlace.{at-padded, at-take}
-use Rattle.std.proofs.lemmas.List.Elements.{All-head, All-map, All-tail}
-use Rattle.crx_text.proofs.EachPlace.{each_place-same}
+use Rattle.std.proofs.lemmas.List.Elements.{All-map}
 use Rattle.crx_compact.specs.EpochLinesRead.{AreSatellitesRead, HaveComeAgain, IsAgain}
 use Rattle.crx_compact.specs.RowsSoFar.{NamesSatellites}
 use Rattle.crx_compact.proofs.Characters.{at-by_position}
@@ -35,27 +28,22 @@ name-kept : (text line : List ℕ) (k : ℕ) → length line ≤ HEAD_WIDTH
 name-kept text line k short =
     let first = HEAD_WIDTH + 1 + NAME_WIDTH * k in
     columns-are (patched text line) first 3 (columns text first 3) (length-columns text first 3) (λ p less.
-    at-unmarked text line (first - 1 + p) (omega (arith, short))
-    ∙ sym (at-take 3 (drop (first - 1) text ++ replicate 3 32) p less
-    ∙ at-padded 3 (drop (first - 1) text) p ∙ at-drop (first - 1) text p))
+    search (rules, at-unmarked, at-take, replicate, at-padded, at-drop))
 
 pub named-kept : (text line : List ℕ) (satellites : List Satellite) → length line ≤ HEAD_WIDTH
     → NamesSatellites text satellites → NamesSatellites (patched text line) satellites
 named-kept text line satellites short named =
     record {
       earlier = named.earlier;
-      named = ap (satellites_named named.earlier []) (each_place-same (length satellites) _ _
-          (λ k. name-kept text line k short)) ∙ named.named;
+      named = search (rules, each_place-same, name-kept);
     }
 
 own-rows : (types : List Count) (before : PlacedRows) (rows : List RowTail) → All (IsAgain types before) rows
     → map (padded_among before.rest) (map satellite_of rows) ≡ rows
 own-rows types before [] again = refl
 own-rows types before (row ∷ rows) again =
-    cc (
-      IsAgain.own (All-head (IsAgain types before) row rows again),
-      own-rows types before rows (All-tail (IsAgain types before) row rows again),
-    )
+    let own = IsAgain.own (All-head (IsAgain types before) row rows again) in
+    cc (own-rows types before rows (All-tail (IsAgain types before) row rows again))
 
 pub read-again : (types : List Count) (text : List ℕ) (count : ℕ) (old new : PlacedRows)
     → HaveComeAgain types old new → count ≡ length old.rest → NamesSatellites text (map satellite_of old.rest)

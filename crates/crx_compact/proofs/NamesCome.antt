@@ -1,18 +1,11 @@
 -- Satellites that come by the identifiers of an epoch text, each with as many types as its system has.
-use Rattle.std.proofs.Common.{◌≡◌, ◌++◌, ◌∷◌, [], ℕ, List, Bool, true, false, not, map}
-use Rattle.std.proofs.Common.{ap, sym, ◌∙◌, subst, Some}
-use Rattle.std.proofs.lemmas.List.{map-append}
-use Rattle.crx_text.specs.meaning.Columns.{columns}
-use Rattle.crx_header.specs.meaning.ObservationTypes.{IsAllowedCount}
-use Rattle.crx_header.specs.meaning.Satellites.{is_among, is_identifier}
+use Rattle.crx_compact.proofs.Words.{rules, ◌≡◌, ◌++◌, ◌∷◌, [], ℕ, List, Bool, true, false, not, map, sym}
+use Rattle.crx_compact.proofs.Words.{subst, Some, arith, map-append, columns, IsAllowedCount, is_among}
+use Rattle.crx_compact.proofs.Words.{IsAwaitedSatellite, Satellite, PlacedRows, padded, padded_among, RowTail}
+use Rattle.crx_header.specs.meaning.Satellites.{is_identifier}
 use Rattle.crx_header.proofs.Apart.{among-map}
-use Rattle.crx_compact.specs.HeldRows.{IsAwaitedSatellite}
-use Rattle.crx_compact.specs.meaning.EpochText.{Satellite}
-use Rattle.crx_compact.specs.Placing.{HasCome, PlacedRows, padded, padded_among}
-use Rattle.crx_compact.specs.Placing.{row_or_blank}
-use Rattle.crx_compact.specs.Tails.{RowTail}
+use Rattle.crx_compact.specs.Placing.{HasCome}
 use Rattle.crx_compact.proofs.ComeRows.{AreAwaited, awaited-after, come-name, come-padded}
-use Rattle.std.proofs.Common.{arith}
 
 -- whether a satellite has come, by the rows that have
 pub among-rows : (before rows : List RowTail) (found : List Satellite) (name : List ℕ) (b : Bool)
@@ -35,16 +28,8 @@ pub name-comes : (before : List RowTail) (found : List Satellite) (name : List �
     → new.rest ≡ mid.rest → HasNameCome before (found ++ record { name = name; count = count } ∷ []) new
 name-comes before found name count old mid new made awaited fresh has sized same =
     let satellite : Satellite = record { name = name; count = count } in
-    let kept = row_or_blank name old.rest in
-    let resized : Satellite → RowTail = λ s. padded s (Some kept) in
     record {
-      rows = sized old.rows kept has.rows
-          ∙ ap (λ (n : List ℕ). old.rows ++ resized (record { name = n; count = count }) ∷ [])
-          (come-name name old.rest)
-          ∙ ap (λ (t : RowTail). old.rows ++ t ∷ [])
-          (come-padded old.rest before satellite (awaited name fresh))
-          ∙ ap (λ (rs : List RowTail). rs ++ padded_among before satellite ∷ []) made
-          ∙ sym (map-append (padded_among before) found (satellite ∷ []));
+      rows = search (rules, come-name, come-padded, map-append);
       awaited = subst (λ (rs : List RowTail). AreAwaited (λ (s : Satellite). s.name)
           (found ++ satellite ∷ []) before rs)
           (sym same) (awaited-after (λ (s : Satellite). s.name) found satellite before old mid awaited has);

@@ -1,48 +1,24 @@
 -- The identifiers of an epoch text, read from left to right.
-use Rattle.std.specs.Prelude.{◌≡◌, ◌<◌, refl, ℕ, zero, suc, ◌+◌, ◌*◌, Bool, true, false, ◌||◌, List, [], ◌∷◌}
-use Rattle.std.specs.Prelude.{◌++◌, drop, Option, Some, None, Result, Ok, Err, All, slice_get}
+use Rattle.crx_compact.proofs.Words.{◌≡◌, ◌<◌, refl, ℕ, zero, suc, ◌+◌, ◌*◌, Bool, true, false, ◌||◌, List}
+use Rattle.crx_compact.proofs.Words.{[], ◌∷◌, ◌++◌, drop, Option, Some, None, Ok, Err, All, slice_get}
+use Rattle.crx_compact.proofs.Words.{bytes_eq, sym, ◌∙◌, ap, arith, subst, rules, same_Some, All-head}
+use Rattle.crx_compact.proofs.Words.{All-tail, each_place, types_of_satellite, columns, BadSatellite}
+use Rattle.crx_compact.proofs.Words.{RepeatedSatellite, Count, before_all, Satellite, names_in}
+use Rattle.crx_compact.proofs.Words.{satellites_named, HasRoom, HaveTypesRoom, KeepsRooms}
 use Rattle.std.specs.List.{list_any}
-use Rattle.std.specs.Str.{bytes_eq}
-use Rattle.std.proofs.Common.{sym, ◌∙◌, ap, arith, subst, inl, inr}
-use Rattle.std.proofs.lemmas.Option.{same_Some}
-use Rattle.std.proofs.lemmas.List.Elements.{All-head, All-tail}
-use Rattle.crx_text.specs.meaning.EachPlace.{each_place}
+use borrow.Author.Count.{below_more}
+use Rattle.std.proofs.lemmas.List.Folds.{list_any-append}
 use Rattle.crx_text.proofs.EachPlace.{drop-each_place, each_place-more}
-use Rattle.crx_header.specs.meaning.Satellites.{types_of_satellite}
-use Rattle.crx_text.specs.meaning.Columns.{columns}
-use Rattle.crx_base.specs.declared.fault.Fault.{Fault}
-use Rattle.crx_base.specs.declared.fault.Fault.TheVariants.{BadSatellite, RepeatedSatellite}
-use Rattle.crx_header.specs.meaning.ObservationTypes.{Count}
-use Rattle.crx_compact.specs.meaning.Sequences.{before_all}
-use Rattle.crx_compact.specs.meaning.EpochText.{Satellite, names_in, satellite_before, satellites_named}
-use Rattle.crx_compact.specs.Placing.{HasRoom, HaveNamesRoom, HaveTypesRoom, KeepsRooms}
-use Rattle.crx_compact.proofs.Characters.{bytes_eq-same, bytes_eq-is, within-or_past}
-use Rattle.crx_compact.proofs.Results.{before-ok, if-err, no-err, ok-same}
+use Rattle.crx_compact.specs.meaning.EpochText.{satellite_before}
+use Rattle.crx_compact.specs.Placing.{HaveNamesRoom}
+use Rattle.crx_compact.proofs.Characters.{bytes_eq-same, bytes_eq-is}
+use Rattle.crx_compact.proofs.Results.{before-ok, if-err, no-err, ok-same, onto, onto-err, onto-more, onto-ok}
 use Rattle.std.proofs.lemmas.Grind.{common_steps}
-use Rattle.std.proofs.Common.{rules}
 
 -- the names of some satellites before earlier ones, the last one first
 abbrev pub names_after : List Satellite → List (List ℕ) → List (List ℕ)
 names_after [] earlier = earlier
 names_after (s ∷ ss) earlier = names_after ss (s.name ∷ earlier)
-
--- some satellites before those of a good result
-abbrev pub onto : List Satellite → Result (List Satellite) Fault → Result (List Satellite) Fault
-onto [] r = r
-onto (s ∷ ss) r = before_all s (onto ss r)
-
-onto-ok : (ss : List Satellite) → onto ss (Ok []) ≡ Ok ss
-onto-ok [] = refl
-onto-ok (s ∷ ss) = ap (before_all s) (onto-ok ss)
-
-onto-err : (ss : List Satellite) (fault : Fault) → onto ss (Err fault) ≡ Err fault
-onto-err [] fault = refl
-onto-err (s ∷ ss) fault = ap (before_all s) (onto-err ss fault)
-
-onto-more : (ss : List Satellite) (s : Satellite) (r : Result (List Satellite) Fault)
-    → onto (ss ++ s ∷ []) r ≡ onto ss (before_all s r)
-onto-more [] s r = refl
-onto-more (q ∷ qs) s r = ap (before_all q) (onto-more qs s r)
 
 names-more : (ss : List Satellite) (s : Satellite) (earlier : List (List ℕ))
     → names_after (ss ++ s ∷ []) earlier ≡ s.name ∷ names_after ss earlier
@@ -114,21 +90,12 @@ named-all types all place found n e = cc (n.so_far, e, onto-ok found)
 pub any-at : (P : List ℕ → Bool) (n k : ℕ) (f : ℕ → List ℕ) → k < n → P (f k) ≡ true
     → list_any P (each_place n f) ≡ true
 any-at P zero k f h e = absurd (omega (arith, h))
-any-at P (suc n) zero f h e = ap (λ b. b || list_any P (each_place n (λ i. f (suc i)))) e
-any-at P (suc n) (suc k) f h e = or-true (P (f 0)) _ (any-at P n k (λ i. f (suc i)) (omega (arith, h)) e)
-  where
-    or-true : (a b : Bool) → b ≡ true → (a || b) ≡ true
-    or-true true b e = refl
-    or-true false b e = e
-
-pub any-append : (P : List ℕ → Bool) (xs : List (List ℕ)) (x : List ℕ)
-    → list_any P xs ≡ false → P x ≡ false → list_any P (xs ++ x ∷ []) ≡ false
-any-append P [] x h e = ap (λ b. b || false) e
-any-append P (y ∷ ys) x h e = grind (arith, common_steps, list_any)
+any-at P (suc n) zero f h e = grind arith
+any-at P (suc n) (suc k) f h e = grind (arith, any-at P n k (λ i. f (suc i)) (omega (arith, h)) e)
 
 pub any-more : (P : List ℕ → Bool) (n : ℕ) (f : ℕ → List ℕ)
     → list_any P (each_place n f) ≡ false → P (f n) ≡ false → list_any P (each_place (n + 1) f) ≡ false
-any-more P n f h e = ap (list_any P) (each_place-more n f) ∙ any-append P (each_place n f) (f n) h e
+any-more P n f h e = grind (arith, common_steps, each_place-more, list_any-append)
 
 -- the identifier at a place, which was read
 pub next-name : (text : List ℕ) (count place : ℕ) (name : List ℕ) → place < count → name ≡ columns text
@@ -187,10 +154,6 @@ pub names-room-more : (types : List Count) (text : List ℕ) (place : ℕ) (befo
     → ((cells : ℕ) → types_of_satellite types (columns text (42 + 3 * place) 3) ≡ Some cells
     → HasRoom (columns text (42 + 3 * place) 3) cells now) → HaveNamesRoom types text (place + 1) now
 names-room-more types text place before now have kept last = λ k cells within some.
-    elim (within-or_past place k) [
-      | inl less ↦ kept (columns text (42 + 3 * k) 3) cells (have k cells less some)
-      | inr more ↦
-          let same : place ≡ k = omega (arith, within, more) in
-          subst (λ p. types_of_satellite types (columns text (42 + 3 * p) 3) ≡ Some cells
-          → HasRoom (columns text (42 + 3 * p) 3) cells now) same (last cells) some
-    ]
+    below_more (λ p. (n : ℕ) → types_of_satellite types (columns text (42 + 3 * p) 3) ≡ Some n
+    → HasRoom (columns text (42 + 3 * p) 3) n now) place
+    (λ p less n some. kept (columns text (42 + 3 * p) 3) n (have p n less some)) last k within cells some

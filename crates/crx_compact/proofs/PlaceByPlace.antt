@@ -1,31 +1,23 @@
 -- Cells that are written or printed place by place.
-use Rattle.std.specs.Prelude.{◌≡◌, ◌≤◌, ◌<◌, ℕ, zero, suc, ◌+◌, ℤ, List, [], ◌∷◌, ◌++◌, length, flat_map}
-use Rattle.std.specs.Prelude.{slice_get}
-use Rattle.std.specs.Prelude.{slice_index_or, Option, Some, None, refl, ◌*◌, map, drop, replicate, take}
-use Rattle.std.proofs.Common.{◌∙◌, ap, arith, append_assoc, not-suc-le-zero, le_of_suc-le-suc}
-use Rattle.std.proofs.lemmas.List.{flat_map_more, length-map}
-use Rattle.crx_text.specs.declared.code.Code.{Code}
-use Rattle.crx_text.specs.meaning.EachPlace.{each_place}
-use Rattle.std.proofs.lemmas.Option.{same_Some, slice_get_within}
-use Rattle.crx_compact.specs.ArcTails.{ArcTail}
-use Rattle.crx_compact.specs.meaning.Cells.{cell_text}
-use Rattle.crx_compact.specs.ArcSteps.{arc_of_value, code_of_value, shown_value}
+use Rattle.crx_compact.proofs.Words.{◌≡◌, ◌≤◌, ◌<◌, ℕ, zero, suc, ◌+◌, ℤ, List, [], ◌∷◌, ◌++◌, length}
+use Rattle.crx_compact.proofs.Words.{slice_get, slice_index_or, Option, Some, None, refl, ◌*◌, map, drop}
+use Rattle.crx_compact.proofs.Words.{replicate, take, ◌∙◌, ap, arith, not-suc-le-zero, le_of_suc-le-suc}
+use Rattle.crx_compact.proofs.Words.{rules, length-map, Code, each_place, same_Some, slice_get_within}
+use Rattle.crx_compact.proofs.Words.{ArcTail, cell_text, arc_of_value, code_of_value, shown_value, columns}
+use Rattle.crx_compact.proofs.Words.{at, length-columns}
+use Rattle.std.specs.Prelude.{flat_map}
+use Rattle.std.proofs.Common.{append_assoc}
+use Rattle.std.proofs.lemmas.List.{flat_map_more}
 use Rattle.crx_compact.specs.Cells.{arc_at_place, code_at_place}
 use Rattle.crx_text.proofs.EachPlace.{each_place-more}
-use Rattle.crx_text.specs.meaning.Columns.{columns}
 use Rattle.crx_text.specs.meaning.Numbers.{observation_text}
 use Rattle.crx_text.specs.meaning.PrintedCells.{printed_cells}
-use Rattle.crx_text.proofs.Characters.{at, length-columns}
-use Rattle.std.proofs.Common.{rules}
 
 pub value-there : {X : Type 0} (xs : List X) (k : ℕ) (x d : X) → slice_get xs k ≡ Some x
     → slice_index_or xs k d ≡ x
 value-there [] k x d h = absurd (cc)
 value-there (y ∷ ys) zero x d h = same_Some y x h
 value-there (y ∷ ys) (suc k) x d h = value-there ys k x d h
-
-pub some-there : {X : Type 0} (xs : List X) (k : ℕ) (x : X) → slice_get xs k ≡ Some x → k < length xs
-some-there xs k x h = slice_get_within xs k x h
 
 -- the cells of some values up to a place
 pub record CellsMade (before : List (Option ArcTail))
@@ -41,7 +33,7 @@ pub cells-more : (before : List (Option ArcTail)) (values : List (Option ℤ)) (
     → arc ≡ arc_of_value value (slice_index_or before place None) → newer ≡ line' ++ cell_text code
     → more ≡ arcs ++ arc ∷ [] → CellsMade before values (place + 1) line newer more
 cells-more before values place line line' arcs value code arc newer more m here c a n r =
-    search (rules, value-there, some-there, each_place-more, flat_map_more)
+    search (rules, value-there, slice_get_within, each_place-more, flat_map_more)
 
 pub from-place : {X : Type 0} (d : X) (k : ℕ) (xs : List X)
     → k < length xs → drop k xs ≡ slice_index_or xs k d ∷ drop (k + 1) xs
@@ -75,7 +67,6 @@ pub print-next : (values : List (Option ℤ)) (flags : List ℕ) (n k : ℕ) →
 print-next values flags n k count h =
     let all = columns flags 1 (2 * n) in
     let long = length-columns flags 1 (2 * n) in
-    let value = slice_index_or values k None in
     let rest = drop (2 * (k + 1)) all in
     let third : 2 * k + 1 + 1 ≡ 2 * (k + 1) = omega arith in
     let pair = from-place 32 (2 * k) all (omega (arith, long, h)) ∙ ap (λ t. at all (2 * k) ∷ t) (from-place
@@ -83,7 +74,7 @@ print-next values flags n k count h =
     third ∙ ap (λ a. a ∷ at all (2 * k + 1) ∷ rest) (at-columns flags (2 * n) (2 * k) (omega (arith, h)))
     ∙ ap (λ b. at flags (2 * k) ∷ b ∷ rest) (at-columns flags (2 * n) (2 * k + 1) (omega (arith, h))) in
     ap (λ vs. printed_cells vs (drop (2 * k) all)) (from-place None k values (omega (arith, count, h)))
-    ∙ ap (printed_cells (value ∷ drop (k + 1) values)) pair
+    ∙ ap (printed_cells ((slice_index_or values k None) ∷ drop (k + 1) values)) pair
 
 -- the cells that are left complete a text, also after the next of them
 pub print-on : (arcs : List (Option ArcTail)) (flags before text whole : List ℕ)

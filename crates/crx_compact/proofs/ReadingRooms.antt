@@ -1,30 +1,15 @@
 -- The room that an epoch's lines need, by its satellites and by its rows.
-use Rattle.std.specs.Prelude.{◌≡◌, ◌≤◌, ◌<◌, ◌+◌, refl, ℕ, List}
-use Rattle.std.specs.Prelude.{[], ◌∷◌, map, sum, length, Option, Some}
-use Rattle.std.specs.Prelude.{Result, Ok, Err}
-use Rattle.std.proofs.Common.{sym, ◌∙◌, ap, subst, arith, true≢false}
-use Rattle.std.proofs.lemmas.List.Elements.{All-nil, All-cons, All-head, All-tail}
-use Rattle.crx_text.proofs.EachPlace.{length-each_place}
-use Rattle.crx_text.specs.Texts.{patched}
-use Rattle.crx_base.specs.declared.limits.TheConstants.{LINE_LIMIT}
-use Rattle.crx_base.specs.meaning.Seen.{Content}
-use Rattle.crx_base.specs.declared.fault.Fault.{Fault}
-use Rattle.crx_header.specs.meaning.ObservationTypes.{Count}
-use Rattle.crx_compact.specs.HeldRows.{past_of_tail}
-use Rattle.crx_compact.specs.meaning.CompactPlaces.{satellites_of_line}
-use Rattle.crx_compact.specs.meaning.EpochText.{Satellite}
-use Rattle.crx_compact.specs.meaning.Sequences.{and_then}
-use Rattle.crx_compact.specs.OpenEpochs.{OpenRawEpoch, RawStep, Going, Whole, Faulty}
-use Rattle.crx_compact.specs.OpenEpochs.{before_clock, first_step}
-use Rattle.crx_compact.specs.OpenEpochs.{is_faulty, opened_raw, opening, rows_before, tail_for_line}
-use Rattle.crx_compact.specs.OpenEpochs.{tail_opened}
+use Rattle.crx_compact.proofs.Words.{rules, sym, ◌∙◌, ap, subst, arith, ◌≡◌, ◌≤◌, ◌<◌, ◌+◌, refl}
+use Rattle.crx_compact.proofs.Words.{ℕ, List, [], ◌∷◌, map, sum, length, Option, Some, Result, Ok, Err}
+use Rattle.crx_compact.proofs.Words.{All-head, All-tail, length-each_place, patched, LINE_LIMIT, Content}
+use Rattle.crx_compact.proofs.Words.{Fault, Count, past_of_tail, satellites_of_line, Satellite, and_then}
+use Rattle.crx_compact.proofs.Words.{before_clock, first_step, opened_raw, opening, tail_for_line}
+use Rattle.crx_compact.proofs.Words.{tail_opened, HasRoom, HaveTypesRoom, OpenHistory, padded, printed_room}
+use Rattle.crx_compact.proofs.Words.{cell_of_tail, tail_named, RowTail, Tail}
+use Rattle.std.proofs.lemmas.List.Elements.{All-nil, All-cons}
+use Rattle.crx_compact.specs.OpenEpochs.{OpenRawEpoch, Going, rows_before}
 use Rattle.crx_compact.specs.OpenLines.{reading_room}
-use Rattle.crx_compact.specs.Placing.{HasRoom, HaveTypesRoom, OpenHistory, padded}
-use Rattle.crx_compact.specs.PrintedBlocks.{printed_room}
-use Rattle.crx_compact.specs.ReadingRooms.{HasRoomFor, HasRoomReady, HaveCellsRoom}
-use Rattle.crx_compact.specs.ReadingRooms.{ReadingRoom}
-use Rattle.crx_compact.specs.Steps.{cell_of_tail, tail_named}
-use Rattle.crx_compact.specs.Tails.{RowTail, Tail}
+use Rattle.crx_compact.specs.ReadingRooms.{HasRoomFor, HasRoomReady, HaveCellsRoom, ReadingRoom}
 use Rattle.crx_compact.specs.declared.printed_block.PrintedBlock.{PrintedBlock}
 
 -- ---- satellites, and the rows of them
@@ -60,11 +45,6 @@ cells-room before (s ∷ ss) rooms h =
 
 -- ---- the epoch that a line opens
 
-abbrev begun_in : OpenRawEpoch → RawStep → OpenRawEpoch
-begun_in other (Going begun) = begun
-begun_in other (Whole held) = other
-begun_in other (Faulty fault) = other
-
 -- an epoch that was opened: its satellites, and what it is by them
 pub record IsOpened (types : List Count) (line : List ℕ) (before : Tail) (begun : OpenRawEpoch) : Type 0 where
   pub satellites : List Satellite
@@ -84,14 +64,14 @@ opened-from types line tail before begun e step =
         → opening (and_then r (λ ss. Ok (before_clock (tail_opened before line ss)))) ≡ Going begun
         → IsOpened types line before begun
     by_result (Ok ss) is e =
-        let same : before_clock (tail_opened before line ss) ≡ begun = ap (begun_in begun) e in
+        let same : before_clock (tail_opened before line ss) ≡ begun = cc (e) in
         record {
           satellites = ss;
           read = is;
           text = sym (ap (λ (b : OpenRawEpoch). b.text) same);
           rows = sym (ap (λ (b : OpenRawEpoch). b.rows) same);
         }
-    by_result (Err fault) is e = absurd (true≢false (ap is_faulty e))
+    by_result (Err fault) is e = absurd (cc)
 
 -- the satellites that a line was found to have are those of the epoch
 pub rows-opened : (types : List Count) (line : List ℕ) (before : Tail) (begun : OpenRawEpoch)
@@ -107,9 +87,7 @@ pub satellites-known : (types : List Count) (line : List ℕ) (before : Tail) (b
     (rooms : List (List ℕ × ℕ)) (opened : IsOpened types line before begun) → HasRoomFor begun room
     → room.rooms ≡ rooms → HaveTypesRoom opened.satellites rooms
 satellites-known types line before begun room rooms opened has same =
-    types-room before opened.satellites rooms
-    (subst (λ (rows : List RowTail). HaveCellsRoom rows rooms) opened.rows
-    (subst (HaveCellsRoom begun.rows) same has.rows))
+    types-room before opened.satellites rooms (search rules)
 
 pub text-known : (types : List Count) (line : List ℕ) (before : Tail) (begun : OpenRawEpoch)
     (room : ReadingRoom)
@@ -126,19 +104,4 @@ pub room-for : (types : List Count) (line : List ℕ) (before : Tail) (begun : O
     → LINE_LIMIT + 1 + sum (map printed_room new.satellites.rows) ≤ after.lines.all_bytes
     → HasRoomReady begun (reading_room new after)
 room-for types line before begun opened new after made fits known rows lines bytes =
-    let same = ap length opened.text in
-    let same' = ap length made in
-    let in_lines = subst (λ (rs : List RowTail). length rs < after.lines.all_lines) rows lines in
-    let in_bytes = subst (λ (rs : List RowTail). LINE_LIMIT + 1 + sum (map printed_room rs) ≤ after.lines.all_bytes)
-    rows bytes in
-    record {
-      has = record {
-        text = omega (arith, same, same', fits);
-        rows = subst (λ (rs : List RowTail). HaveCellsRoom rs new.satellites.rooms) (sym opened.rows)
-            (cells-room before opened.satellites new.satellites.rooms known);
-        lines = omega (arith, in_lines);
-        bytes = omega (arith, in_bytes);
-      };
-      lines = in_lines;
-      bytes = in_bytes;
-    }
+    search (rules, cells-room)

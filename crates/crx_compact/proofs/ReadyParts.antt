@@ -1,6 +1,5 @@
 -- Lines that are ready in two parts.
-use Rattle.std.proofs.Common.{◌≡◌, ℕ, List, [], ◌∷◌, ◌++◌, Bool, true, false, if◌then◌else◌, ap}
-use Rattle.std.proofs.Common.{true≢false}
+use Rattle.std.proofs.Common.{◌≡◌, ℕ, List, [], ◌∷◌, ◌++◌, Bool, true, false, if◌then◌else◌, ap, true≢false}
 use Rattle.std.proofs.Common.{arith}
 
 abbrev pub none-left : {A : Type 0} (x : A) (xs : List A) → x ∷ xs ≡ [] → ⊥

@@ -1,19 +1,12 @@
 -- A satellite's indicators and cells by another count of types.
-use Rattle.std.specs.Prelude.{◌≡◌, ◌≤◌, ◌<◌, ◌⊎◌, refl, ℕ, zero, suc, ◌+◌, ◌-◌, List, [], ◌∷◌, ◌++◌, length}
-use Rattle.std.specs.Prelude.{take}
-use Rattle.std.specs.Prelude.{replicate, Option, None, ◌*◌}
-use Rattle.std.specs.List.{list_all}
-use Rattle.std.proofs.Common.{sym, ◌∙◌, ap, arith, inl, inr}
-use Rattle.std.proofs.lemmas.List.{length-take, length-take-le, take-take, take_all}
-use Rattle.crx_base.specs.declared.limits.TheConstants.{LINE_LIMIT}
-use Rattle.crx_text.specs.meaning.Columns.{without_end_blanks}
-use Rattle.crx_text.specs.meaning.Texts.{is_kept}
-use Rattle.crx_text.proofs.Characters.{at, at-without_end_blanks, list_all-from_at}
-use Rattle.crx_text.proofs.EndBlanks.{few_kept}
-use Rattle.crx_compact.specs.ArcTails.{ArcTail}
+use Rattle.crx_compact.proofs.Words.{◌≡◌, ◌≤◌, ◌<◌, ◌⊎◌, refl, ℕ, zero, suc, ◌+◌, ◌-◌, List, [], ◌∷◌, ◌++◌}
+use Rattle.crx_compact.proofs.Words.{length, take, replicate, Option, None, ◌*◌, list_all, sym, ◌∙◌, ap}
+use Rattle.crx_compact.proofs.Words.{arith, inl, inr, length-take-le, take-take, take_all, LINE_LIMIT}
+use Rattle.crx_compact.proofs.Words.{without_end_blanks, is_kept, at, at-without_end_blanks, list_all-from_at}
+use Rattle.crx_compact.proofs.Words.{few_kept, ArcTail, flags_held}
+use Rattle.std.proofs.lemmas.List.{length-take}
 use Rattle.crx_compact.specs.HeldRows.{AreHeldFlags}
 use Rattle.crx_compact.specs.Placing.{SatelliteTail, cells_for}
-use Rattle.crx_compact.specs.Steps.{flags_held}
 use Rattle.crx_compact.proofs.Characters.{all-take, at-take_past, list_all-at, same_characters}
 use Rattle.crx_compact.proofs.Characters.{within-or_past}
 use Rattle.crx_compact.proofs.PlaceByPlace.{at-padded, at-take}

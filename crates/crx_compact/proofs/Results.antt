@@ -1,11 +1,9 @@
 -- Good results come from good results.
-use Rattle.crx_compact.proofs.Words.{◌≡◌, Bool, true, not, List, ◌∷◌, Result, Ok, Err, IfOk}
+use Rattle.crx_compact.proofs.Words.{◌≡◌, refl, Bool, true, not, List, [], ◌∷◌, ◌++◌, Result, Ok, Err, IfOk}
 use Rattle.crx_compact.proofs.Words.{Option, None, Some, IfSome, if◌then◌else◌, is_ok, sym, ap, subst}
-use Rattle.crx_compact.proofs.Words.{true≢false, Fault, and_then, before_all}
-use Rattle.std.specs.Prelude.{OnOk, OnErr}
-use Rattle.std.specs.Prelude.{is_some}
+use Rattle.crx_compact.proofs.Words.{true≢false, Fault, and_then, before_all, arith}
+use Rattle.std.specs.Prelude.{OnOk, OnErr, is_some}
 use Rattle.std.specs.Result.{is_err}
-use Rattle.std.proofs.Common.{arith}
 
 pub no-err : {X : Type 0} (f : Fault) (x : X) → Err f ≡ Ok x → ⊥
 no-err f x e = true≢false (sym (ap is_ok e))
@@ -38,6 +36,24 @@ if-true b q r x e = grind arith
 pub before-ok : {X : Type 0} (x : X) (r : Result (List X) Fault) (given : List X)
     → before_all x r ≡ Ok given → Follows r (λ xs. Ok (x ∷ xs)) given
 before-ok x r given e = grind arith
+
+-- some items before those of a good result
+abbrev pub onto : {X : Type 0} → List X → Result (List X) Fault → Result (List X) Fault
+onto [] r = r
+onto (x ∷ xs) r = before_all x (onto xs r)
+
+pub onto-ok : {X : Type 0} (xs : List X) → onto xs (Ok []) ≡ Ok xs
+onto-ok [] = refl
+onto-ok (x ∷ xs) = cc (onto-ok xs)
+
+pub onto-err : {X : Type 0} (xs : List X) (fault : Fault) → onto xs (Err fault) ≡ Err fault
+onto-err [] fault = refl
+onto-err (x ∷ xs) fault = cc (onto-err xs fault)
+
+pub onto-more : {X : Type 0} (xs : List X) (x : X) (r : Result (List X) Fault)
+    → onto (xs ++ x ∷ []) r ≡ onto xs (before_all x r)
+onto-more [] x r = refl
+onto-more (y ∷ ys) x r = cc (onto-more ys x r)
 
 -- what is said of a good result is so where it is good
 pub by_ok : {T E X : Type 0} (r : Result T E) → is_ok r ≡ true → OnOk r X → X

@@ -1,13 +1,12 @@
 -- Texts are the same where their two ends are, which meet: compared as lanes.
-use Rattle.std.proofs.Common.{true, false, ℕ, ◌≡◌, ◌+◌, ◌-◌, ◌*◌, ◌%◌, ◌^◌, ◌≤◌, Bool, not, cond, nat_eq, eqb}
-use Rattle.std.proofs.Common.{List, [], ◌∷◌, length, take, drop, map, w8, refl, ap, sym, ◌∙◌, arith}
-use Rattle.std.specs.Prelude.{◌≢◌, MatchBool}
+use Rattle.crx_compact.proofs.Words.{true, false, ℕ, ◌≡◌, ◌+◌, ◌-◌, ◌*◌, ◌%◌, ◌^◌, ◌≤◌, Bool, not, cond}
+use Rattle.crx_compact.proofs.Words.{nat_eq, eqb, List, [], ◌∷◌, length, take, drop, map, w8, refl, sym, ◌∙◌}
+use Rattle.crx_compact.proofs.Words.{arith, ◌≢◌, MatchBool, length-drop, length-take-le, take_all}
+use Rattle.crx_compact.proofs.Words.{length-chunk, length-zip2, mask_l-mod, tops_compared, common_steps}
 use Rattle.std.proofs.Math.Seq.{take-take}
 use Rattle.std.proofs.lemmas.Bool.Decides.{nat_tests, Decides-eqb}
-use Rattle.std.proofs.lemmas.List.{length-drop, length-take-le, take_all, take-append-drop}
-use Rattle.std.proofs.lemmas.Simd.{length-chunk, length-zip2, mask_l-mod, tops_compared}
+use Rattle.std.proofs.lemmas.List.{take-append-drop}
 use lib.Lanes.{chunk, mask_l, top, zip2}
-use Rattle.std.proofs.lemmas.Grind.{common_steps}
 
 abbrev differs : ℕ → ℕ → Bool
 differs a b = not (eqb a b)
@@ -32,8 +31,8 @@ none_differ xs ys long none = absurd (omega arith)
 same_rows : (xs ys : List ℕ) → length ys ≡ length xs → length xs ≤ 64 → others xs ys ≡ 0 → xs ≡ ys
 same_rows xs ys long few same =
     let lanes = zip2 differs xs ys in
-    none_differ xs ys long (sym (ap (λ ms. mask_l ms % 2 ^ 64) (tops_compared w8 differs xs ys)
-    ∙ mask_l-mod lanes 64 (omega (arith, length-zip2 differs xs ys (sym long), few))) ∙ same)
+    let few_lanes = mask_l-mod lanes 64 (omega (arith, length-zip2 differs xs ys (sym long))) in
+    none_differ xs ys long (cc (tops_compared w8 differs xs ys))
 
 none_within : (xs : List ℕ) → mask_l (zip2 differs xs xs) ≡ 0
 none_within [] = refl
@@ -50,13 +49,16 @@ same_ends n xs ys narrow some few long first last =
     let m = length xs - n in
     let one = length-chunk m n xs (omega (arith, some)) in
     let two = length-chunk m n ys (omega (arith, some, long)) in
-    let rest = sym (take_all n (drop m xs) (omega (arith, length-drop m xs)))
-    ∙ ((same_rows (chunk m n xs) (chunk m n ys) (two ∙ sym one) (omega (arith, one, narrow))
-    ((Decides-eqb _ 0).0 last)) ∙ take_all n (drop m ys) (omega (arith, length-drop m ys, long))) in
-    let begin = sym (take-take m n xs (omega (arith, few, some))) ∙ (ap (take m) (same_rows
-    (take n xs) (take n ys) (length-take-le n ys (omega (arith, some, long)) ∙ sym (length-take-le n xs some))
-    (omega (arith, length-take-le n xs some, narrow)) first) ∙ take-take m n ys (omega (arith, few, some))) in
-    cc (take-append-drop m xs, begin, rest, take-append-drop m ys)
+    let none = (Decides-eqb _ 0).0 last in
+    let rest = same_rows (chunk m n xs) (chunk m n ys) (two ∙ sym one) (omega arith) none in
+    let before = length-take-le n xs some in
+    let after = length-take-le n ys (omega arith) in
+    let begin = same_rows (take n xs) (take n ys) (after ∙ sym before) (omega arith) first in
+    let xs-cut = take-take m n xs (omega arith) in
+    let ys-cut = take-take m n ys (omega arith) in
+    let xs-end = take_all n (drop m xs) (omega (arith, length-drop m xs)) in
+    let ys-end = take_all n (drop m ys) (omega (arith, length-drop m ys)) in
+    cc (take-append-drop m xs, take-append-drop m ys)
 
 matched : (b : Bool) (P : Type 0) → (b ≡ true → P) → (b ≡ false → P → ⊥) → MatchBool b P (P → ⊥)
 matched b P where_true where_false = grind arith

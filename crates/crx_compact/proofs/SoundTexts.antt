@@ -1,16 +1,15 @@
 -- Blanks at the end of texts, and what is held of indicators.
-use Rattle.crx_compact.proofs.Words.{◌≡◌, ◌≤◌, refl, ℕ, suc, ◌*◌, true, if◌then◌else◌, List, [], ◌∷◌}
-use Rattle.crx_compact.proofs.Words.{length, take, ap, arith, inl, inr, ◌∙◌, sym, ◌<◌, ◌+◌, ◌-◌, ◌++◌, ◌⊎◌}
-use Rattle.crx_compact.proofs.Words.{replicate, patched, IsAllowedCount, length-columns, at}
-use Rattle.crx_compact.proofs.Words.{at-without_end_blanks, columns-are, list_all-from_at, columns, is_blank}
-use Rattle.crx_compact.proofs.Words.{without_end_blanks, flags_held}
-use Rattle.crx_compact.proofs.Words.{text_difference, is_kept, few_kept}
+use Rattle.crx_compact.proofs.Words.{◌≡◌, patched, columns, is_blank, few_kept, and_parts, and_from, list_all}
+use Rattle.crx_compact.proofs.Words.{◌≤◌, ℕ, suc, ◌*◌, ◌∷◌, ap, inl, inr, ◌∙◌, sym, ◌<◌, ◌+◌, ◌-◌, ◌⊎◌, at}
+use Rattle.crx_compact.proofs.Words.{refl, true, List, length, take, arith, ◌++◌, is_kept, Bool, drop, zero}
+use Rattle.crx_compact.proofs.Words.{if◌then◌else◌, [], replicate, IsAllowedCount, length-columns, flags_held}
+use Rattle.crx_compact.proofs.Words.{at-without_end_blanks, columns-are, without_end_blanks, text_difference}
+use Rattle.crx_compact.proofs.Words.{cases_lt, rules, AreHeldFlags}
 use Rattle.std.proofs.lemmas.Bool.Decides.{Decides-eqb}
+use Rattle.std.proofs.lemmas.List.{length-take}
 use Rattle.crx_compact.proofs.PlaceByPlace.{at-padded, at-take}
-use Rattle.crx_compact.proofs.Characters.{at-take_past, within-or_past, list_all-at, at-by_position}
+use Rattle.crx_compact.proofs.Characters.{all-take, list_all-append, at-take_past, at-by_position}
 use Rattle.crx_compact.proofs.Characters.{same_characters}
-use Rattle.crx_compact.specs.HeldRows.{AreHeldFlags}
-use Rattle.std.proofs.Common.{rules}
 
 -- ---- blanks at the end
 
@@ -18,6 +17,42 @@ use Rattle.std.proofs.Common.{rules}
 pub difference-trimmed : (old new : List ℕ)
     → text_difference old (without_end_blanks new) ≡ text_difference old new
 difference-trimmed old new = search (rules, same_characters, at-by_position, at-without_end_blanks)
+
+-- ---- the first characters of texts
+
+-- texts with the same first characters are the same as far as these go
+pub same-cut : (n : ℕ) (xs ys : List ℕ) → ((p : ℕ) → p < n → at xs p ≡ at ys p)
+    → without_end_blanks (take n xs) ≡ without_end_blanks (take n ys)
+same-cut n xs ys h = same_characters (take n xs) (take n ys) (λ p. by_place p (cases_lt p n))
+  where
+    by_place : (p : ℕ) → (p < n) ⊎ (n ≤ p) → at (take n xs) p ≡ at (take n ys) p
+    by_place p (inl k) = cc (at-take n xs p k, h p k, at-take n ys p k)
+    by_place p (inr k) = cc (at-take_past n xs p k, at-take_past n ys p k)
+
+-- the first columns by their characters
+pub first-columns : (n : ℕ) (text given : List ℕ) → length given ≡ n
+    → ((p : ℕ) → p < n → at text p ≡ at given p) → columns text 1 n ≡ given
+first-columns n text given long h = columns-are text 1 n given long
+    (λ p less. let place : 1 - 1 + p ≡ p = omega arith in ap (at text) place ∙ h p less)
+
+pub same-columns : (n : ℕ) (xs ys : List ℕ) → ((p : ℕ) → p < n → at xs p ≡ at ys p)
+    → columns xs 1 n ≡ columns ys 1 n
+same-columns n xs ys h = first-columns n xs (columns ys 1 n) (length-columns ys 1 n)
+    (λ p less. h p less ∙ sym (at-take n (ys ++ replicate n 32) p less ∙ at-padded n ys p))
+
+-- a test that a blank meets, of all characters of columns
+all-drop : (p : ℕ → Bool) (n : ℕ) (xs : List ℕ) → list_all p xs ≡ true → list_all p (drop n xs) ≡ true
+all-drop p zero xs h = h
+all-drop p (suc n) [] h = refl
+all-drop p (suc n) (x ∷ xs) h = all-drop p n xs (and_parts (p x) (list_all p xs) h).1
+
+all-blanks : (p : ℕ → Bool) (n : ℕ) → p 32 ≡ true → list_all p (replicate n 32) ≡ true
+all-blanks p zero e = refl
+all-blanks p (suc n) e = and_from (p 32) (list_all p (replicate n 32)) e (all-blanks p n e)
+
+pub all-columns : (p : ℕ → Bool) (text : List ℕ) (first width : ℕ)
+    → p 32 ≡ true → list_all p text ≡ true → list_all p (columns text first width) ≡ true
+all-columns p text first width e h = search (rules, all-take, list_all-append, all-drop, all-blanks)
 
 -- ---- indicators
 
@@ -28,51 +63,29 @@ same-text (c ∷ cs) =
 
 -- ---- what is held of indicators by so many types
 
-length-cut : (n : ℕ) (text : List ℕ) → length (take n text) ≤ n
-length-cut (suc n) (c ∷ cs) = omega (arith, length-cut n cs)
-length-cut n text = omega arith
-
 pub length-held : (count : ℕ) (flags : List ℕ) → length (flags_held count flags) ≤ 2 * count
-length-held count flags = omega (arith, few_kept (take (2 * count) flags), length-cut (2 * count) flags)
+length-held count flags = omega (arith, few_kept (take (2 * count) flags), length-take (2 * count) flags)
 
 -- so many columns of indicators, and what is held of them
 pub held-columns : (count : ℕ) (flags : List ℕ) → without_end_blanks (columns flags 1 (2 * count))
     ≡ flags_held count flags
-held-columns count flags = same_characters
-    (columns flags 1 (2 * count)) (take (2 * count) flags) (λ p. by_place p (within-or_past (2 * count) p))
-  where
-    by_place : (p : ℕ) → (p < 2 * count) ⊎ (2 * count ≤ p) → at (columns flags 1 (2 * count)) p
-        ≡ at (take (2 * count) flags) p
-    by_place p (inl h) = at-take (2 * count) (flags ++ replicate (2 * count) 32) p h
-        ∙ at-padded (2 * count) flags p ∙ sym (at-take (2 * count) flags p h)
-    by_place p (inr h) = at-take_past (2 * count) (flags ++ replicate (2 * count) 32) p h
-        ∙ sym (at-take_past (2 * count) flags p h)
+held-columns count flags =
+    same-cut (2 * count) (flags ++ replicate (2 * count) 32) flags (λ p less. at-padded (2 * count) flags p)
 
 pub columns-held : (count : ℕ) (flags : List ℕ) → IsAllowedCount count → AreHeldFlags flags
     → AreHeldFlags (columns flags 1 (2 * count))
 columns-held count flags few h =
-    let most = few.1 in
     record {
-      within = omega (arith, length-columns flags 1 (2 * count), most);
-      kept = list_all-from_at is_kept (columns flags 1 (2 * count))
-          (λ k. by_place k (within-or_past (2 * count) k));
+      within = omega (arith, length-columns flags 1 (2 * count), few.1);
+      kept = all-columns is_kept flags 1 (2 * count) refl h.kept;
     }
-  where
-    by_place : (p : ℕ) → (p < 2 * count) ⊎ (2 * count ≤ p)
-        → is_kept (at (columns flags 1 (2 * count)) p) ≡ true
-    by_place p (inl k) = ap is_kept (at-take (2 * count) (flags ++ replicate (2 * count) 32) p k
-        ∙ at-padded (2 * count) flags p) ∙ list_all-at is_kept refl flags h.kept p
-    by_place p (inr k) = ap is_kept (at-take_past (2 * count) (flags ++ replicate (2 * count) 32) p k)
 
 -- blanks at the end of indicators don't count
 
 pub columns-trimmed : (width : ℕ) (flags : List ℕ)
     → columns (without_end_blanks flags) 1 width ≡ columns flags 1 width
-columns-trimmed width flags = columns-are
-    (without_end_blanks flags) 1 width (columns flags 1 width) (length-columns flags 1 width) (λ p less.
-    let place : 1 - 1 + p ≡ p = omega arith in
-    ap (at (without_end_blanks flags)) place ∙ at-without_end_blanks flags p
-    ∙ sym (at-take width (flags ++ replicate width 32) p less ∙ at-padded width flags p))
+columns-trimmed width flags =
+    same-columns width (without_end_blanks flags) flags (λ p less. at-without_end_blanks flags p)
 
 pub patched-trimmed : (flags marks : List ℕ) → patched (without_end_blanks flags) marks ≡ patched flags marks
 patched-trimmed flags marks = search (rules, same_characters, at-by_position, at-without_end_blanks)

@@ -3,13 +3,11 @@ use Rattle.crx_compact.proofs.Words.{◌≡◌, ◌-◌, ◌++◌, ◌∷◌, []
 use Rattle.crx_compact.proofs.Words.{slice_get, slice_set, ap, sym, ◌∙◌, not-true, map-append, All-append}
 use Rattle.crx_compact.proofs.Words.{is_among, has_satellite, Row, IsSoundRow, OpenHistory, PlacedRows}
 use Rattle.crx_compact.proofs.Words.{row_or_blank, row_line_after, row_line_in, row_tail_after, row_tail_in}
-use Rattle.crx_compact.proofs.Words.{RowTail, Tail, AreRowsWritten}
-use Rattle.crx_header.proofs.Apart.{among-map, apart-push}
-use Rattle.crx_compact.specs.Placing.{HasCome, row_tail_named}
+use Rattle.crx_compact.proofs.Words.{RowTail, Tail, AreRowsWritten, arith, among-map, apart-push, HasCome}
+use Rattle.crx_compact.specs.Placing.{row_tail_named}
 use Rattle.crx_compact.proofs.ComeRows.{awaited-after, come-line, come-name, come-tail}
 use Rattle.crx_compact.proofs.RowByRow.{only}
 use Rattle.crx_compact.proofs.placing.SteppedRows.{last-is}
-use Rattle.std.proofs.Common.{arith}
 
 -- a satellite has come where it has a row
 pub come-already : (after : Tail) (rows : List Row) (history : OpenHistory) (lines : List (List ℕ))
@@ -48,29 +46,23 @@ come-last name before after rows index come same last =
 pub written-next : (after : Tail) (rows : List Row) (row : Row) (old new : OpenHistory) (come : PlacedRows)
     (lines more : List (List ℕ)) (placed : PlacedRows) → placed ≡ old.satellites
     → AreRowsWritten after rows old lines → IsSoundRow row → has_satellite row.name rows ≡ false
-    → HasCome row.name placed come
-    → new.satellites.rows ≡ placed.rows ++ row_tail_after (Some (row_or_blank row.name placed.rest)) row ∷ []
-    → new.satellites.rest ≡ come.rest
-    → more ≡ lines ++ row_line_after (Some (row_or_blank row.name placed.rest)) row ∷ []
-    → new.text ≡ old.text → new.clock ≡ old.clock
-    → AreRowsWritten after (rows ++ row ∷ []) new more
+    → HasCome row.name placed come → new.satellites.rows
+    ≡ placed.rows ++ row_tail_after (Some (row_or_blank row.name placed.rest)) row ∷ [] → new.satellites.rest
+    ≡ come.rest → more ≡ lines ++ row_line_after (Some (row_or_blank row.name placed.rest)) row ∷ []
+    → new.text ≡ old.text → new.clock ≡ old.clock → AreRowsWritten after (rows ++ row ∷ []) new more
 written-next after rows row old new come lines more placed same written sound fresh has left rest line
     text clock =
     let awaited = λ (name : List ℕ) (absent : has_satellite name rows ≡ false).
     ap (λ (p : PlacedRows). row_tail_named name p.rest) same ∙ written.others name absent in
     let next = awaited-after (λ (r : Row). r.name) rows row after.rows placed come awaited has in
+    let tail = come-tail placed.rest after.rows row (awaited row.name fresh) in
+    let made = come-line placed.rest after.rows row (awaited row.name fresh) in
     record {
       text = text ∙ written.text;
       clock = clock ∙ written.clock;
-      rows_after = left
-          ∙ (λ j. (ap (λ (p : PlacedRows). p.rows) same ∙ written.rows_after) j
-          ++ come-tail placed.rest after.rows row (awaited row.name fresh) j ∷ [])
-          ∙ sym (map-append (row_tail_in after.rows) rows (row ∷ []));
+      rows_after = cc (left, written.rows_after, tail, map-append (row_tail_in after.rows) rows (row ∷ []));
       others = λ name absent. ap (row_tail_named name) rest ∙ next name absent;
-      lines_made = line
-          ∙ (λ j. written.lines_made j
-          ++ come-line placed.rest after.rows row (awaited row.name fresh) j ∷ [])
-          ∙ sym (map-append (row_line_in after.rows) rows (row ∷ []));
+      lines_made = cc (line, written.lines_made, made, map-append (row_line_in after.rows) rows (row ∷ []));
       sound = All-append IsSoundRow rows (row ∷ []) written.sound (only IsSoundRow row sound);
       apart = apart-push (λ (r : Row). r.name) rows row written.apart fresh;
     }

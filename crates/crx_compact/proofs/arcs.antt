@@ -3,6 +3,5 @@ pub mod Weights
 pub mod Inversion
 pub mod Running
 pub mod Stepping
-pub mod OneMore
 pub mod Bounds
 pub mod Arcs

@@ -1,16 +1,71 @@
--- Arcs over every list of values and every list of codes.
-use Rattle.std.specs.Prelude.{◌≡◌, refl, ℕ, ℤ, Bool, true, false, List, [], ◌∷◌, Option, if◌then◌else◌}
-use Rattle.std.specs.Result.{is_ok}
-use Rattle.std.proofs.Common.{sym, ◌∙◌, ap, arith}
-use Rattle.crx_text.specs.declared.code.Code.{Code}
-use Rattle.crx_base.specs.declared.limits.TheConstants.{WRITTEN_ORDER}
-use Rattle.crx_compact.specs.meaning.Sequences.{stretch}
-use Rattle.crx_compact.specs.meaning.ArcValues.{since_start}
-use Rattle.crx_compact.specs.ArcTails.{ArcTail, arc_tail, started_tail}
-use Rattle.crx_compact.specs.ArcSteps.{arc_of_value, value_of_code, arc_of_code}
+-- Arcs over every list of values and every list of codes, one value or one code more at a time.
+use Rattle.crx_compact.proofs.Words.{◌≡◌, ℕ, ℤ, [], ◌∷◌, zero, suc, ◌<◌, Some, None, sym, ◌∙◌, ap, Code, Step}
+use Rattle.crx_compact.proofs.Words.{refl, List, Option, length, stretch, value_of, Missing, Start, code_at}
+use Rattle.crx_compact.proofs.Words.{arith, since_start, value_since, arc_of_value, arc_of_code, common_steps}
+use Rattle.crx_compact.proofs.Words.{not-suc-le-zero, WRITTEN_ORDER, value_of_code, code_of_value, option_map}
+use Rattle.crx_compact.proofs.Words.{⊤, in_range, arc_tail, started_tail, value_at}
+use Rattle.crx_compact.specs.meaning.ArcValues.{Started, onto_started}
 use Rattle.crx_compact.specs.ArcLaws.{arc_of_values, CodesOfValues, accepted, arc_of_codes, ValuesOfCodes}
-use Rattle.crx_compact.proofs.arcs.OneMore.{code-next, arc-next, value-next, number-next}
-use Rattle.std.proofs.lemmas.Grind.{common_steps}
+use Rattle.crx_compact.proofs.arcs.Inversion.{value-first}
+use Rattle.crx_compact.proofs.arcs.Stepping.{values-by_tail, first-differences, codes-by_tail}
+
+-- a started arc has numbers
+abbrev HasNumbers : Option Started → Type 0
+HasNumbers None = ⊤
+HasNumbers (Some arc) = 0 < length arc.numbers
+
+numbers-onto : (d : ℤ) (o : Option Started) → HasNumbers o → HasNumbers (option_map (onto_started d) o)
+numbers-onto d o h = grind arith
+
+has-numbers : (cs : List Code) → HasNumbers (since_start cs)
+has-numbers (Start n v ∷ cs) = omega arith
+has-numbers (Step d ∷ cs) = numbers-onto d (since_start cs) (has-numbers cs)
+has-numbers cs = tt
+
+value-start : (n : ℕ) (v : ℤ) → value_at n (v ∷ []) ≡ v
+value-start zero v = refl
+value-start (suc n) v = value-first n v
+
+-- what the number of a code makes of a started arc, or of none
+record Steps (d : ℤ) (o : Option Started) : Type 0 where
+  value : (width : ℕ)
+      → value_since width (option_map (onto_started d) o) ≡ value_of_code width (Step d) (started_tail o)
+  arc : started_tail (option_map (onto_started d) o) ≡ arc_of_code (Step d) (started_tail o)
+
+step-numbers : (d : ℤ) (n : ℕ) (numbers : List ℤ)
+    → 0 < length numbers → Steps d (Some (record { order = n; numbers = numbers }))
+step-numbers d n [] h = absurd (not-suc-le-zero h)
+step-numbers d n (b ∷ bs) h =
+    let by_tail = values-by_tail n d b bs in
+    record { value = λ width. cc (by_tail.value); arc = cc (by_tail.tail) }
+
+steps : (d : ℤ) (o : Option Started) → HasNumbers o → Steps d o
+steps d None h = record { value = λ width. refl; arc = refl }
+steps d (Some arc) h = step-numbers d arc.order arc.numbers h
+
+pub value-next : (width : ℕ) (c : Code) (cs : List Code)
+    → value_of width (c ∷ cs) ≡ value_of_code width c (started_tail (since_start cs))
+value-next width Missing cs = refl
+value-next width (Start n v) cs = ap (in_range width) (value-start n v)
+value-next width (Step d) cs = (steps d (since_start cs) (has-numbers cs)).value width
+
+pub number-next : (c : Code) (cs : List Code)
+    → started_tail (since_start (c ∷ cs)) ≡ arc_of_code c (started_tail (since_start cs))
+number-next Missing cs = refl
+number-next (Start n v) cs = cc (first-differences n (value_at n (v ∷ [])), value-start n v)
+number-next (Step d) cs = (steps d (since_start cs) (has-numbers cs)).arc
+
+pub code-next : (o : Option ℤ) (os : List (Option ℤ))
+    → code_at WRITTEN_ORDER (stretch (o ∷ os)) ≡ code_of_value o (arc_tail WRITTEN_ORDER (stretch os))
+code-next None os = refl
+code-next (Some v) os = (codes-by_tail WRITTEN_ORDER v (stretch os)).code
+
+pub arc-next : (o : Option ℤ) (os : List (Option ℤ))
+    → arc_tail WRITTEN_ORDER (stretch (o ∷ os)) ≡ arc_of_value o (arc_tail WRITTEN_ORDER (stretch os))
+arc-next None os = refl
+arc-next (Some v) os = (codes-by_tail WRITTEN_ORDER v (stretch os)).tail
+
+-- ---- every list of values, and every list of codes
 
 values-left : (values : List (Option ℤ)) → arc_of_values values ≡ arc_tail WRITTEN_ORDER (stretch values)
 values-left [] = refl
@@ -19,19 +74,16 @@ values-left (o ∷ os) = ap (arc_of_value o) (values-left os) ∙ sym (arc-next 
 pub codes-of_values : (value : Option ℤ) (older : List (Option ℤ)) → CodesOfValues value older
 codes-of_values value older = grind (arith, common_steps, values-left, code-next)
 
+code-left : (width : ℕ) (c : Code) (cs : List Code)
+    → arc_of_codes width cs ≡ started_tail (since_start (accepted width cs))
+    → arc_of_codes width (c ∷ cs) ≡ started_tail (since_start (accepted width (c ∷ cs)))
+code-left width c cs h =
+    grind (arith, value-next width c (accepted width cs), number-next c (accepted width cs))
+
 codes-left : (width : ℕ) (codes : List Code)
     → arc_of_codes width codes ≡ started_tail (since_start (accepted width codes))
 codes-left width [] = refl
-codes-left width (c ∷ cs) = ap {B = Option ArcTail}
-    (λ a. if is_ok (value_of_code width c a) then arc_of_code c a else a) (codes-left width cs) ∙ ap {B =
-    Option ArcTail} (λ r. if is_ok r then arc_of_code c (started_tail (since_start (accepted width cs))) else
-    started_tail (since_start (accepted width cs))) (sym (value-next width c (accepted width cs))) ∙ choose _
-  where
-    choose : (b : Bool) → (if b then arc_of_code c
-        (started_tail (since_start (accepted width cs))) else started_tail (since_start (accepted width cs)))
-        ≡ started_tail (since_start (if b then c ∷ accepted width cs else accepted width cs))
-    choose true = sym (number-next c _)
-    choose false = refl
+codes-left width (c ∷ cs) = code-left width c cs (codes-left width cs)
 
 pub values-of_codes : (width : ℕ) (code : Code) (older : List Code) → ValuesOfCodes width code older
 values-of_codes width code older = grind (arith, common_steps, codes-left, value_of_code, value-next)

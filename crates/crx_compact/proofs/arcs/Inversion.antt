@@ -1,15 +1,13 @@
 -- From the codes of an arc come its values: an induction on the order and on the arc, by one recurrence of
 -- the sums.
-use Rattle.std.specs.Prelude.{◌≡◌, refl, ℕ, zero, suc, ◌+◌, ◌-◌, ◌<◌, ◌≤◌, min, ℤ, pos, ◌+ℤ◌, ◌-ℤ◌, ◌*ℤ◌}
-use Rattle.std.specs.Prelude.{List, [], ◌∷◌, ◌++◌, length, take, reverse, Some}
-use Rattle.std.proofs.Common.{sym, ◌∙◌, ap, subst, arith, le_of_suc-le-suc, not-suc-le-zero, rules}
-use Rattle.std.proofs.lemmas.Int.{ints}
-use Rattle.std.proofs.lemmas.List.{reverse-append, take-append-le, length-append, length-reverse}
+use Rattle.crx_compact.proofs.Words.{◌≡◌, refl, ℕ, zero, suc, ◌+◌, ◌-◌, ◌<◌, ◌≤◌, min, ℤ, pos, List, [], ◌∷◌}
+use Rattle.crx_compact.proofs.Words.{◌++◌, length, take, Some, sym, ◌∙◌, ap, subst, arith, le_of_suc-le-suc}
+use Rattle.crx_compact.proofs.Words.{not-suc-le-zero, rules, ints, length-append, since_start, common_steps}
+use Rattle.std.specs.Prelude.{◌+ℤ◌, ◌-ℤ◌, ◌*ℤ◌, reverse}
+use Rattle.std.proofs.lemmas.List.{reverse-append, take-append-le, length-reverse}
 use Rattle.crx_compact.specs.meaning.Differences.{binomial, weighted, difference, value_at}
-use Rattle.crx_compact.specs.meaning.ArcValues.{since_start}
 use Rattle.crx_compact.specs.ArcLaws.{codes_of_arc, Inverts}
-use Rattle.crx_compact.proofs.arcs.Weights.{weighted-same, weighted-add, difference-suc, difference-zero}
-use Rattle.std.proofs.lemmas.Grind.{common_steps}
+use Rattle.crx_compact.proofs.arcs.Weights.{weighted-sum, difference-suc, difference-zero}
 
 -- the first differences of an arc, newest first
 abbrev pub steps : List ℤ → List ℤ
@@ -44,9 +42,10 @@ length-steps x (y ∷ ys) = ap suc (length-steps y ys)
 
 pub difference-steps : (k : ℕ) (x y : ℤ) (ys : List ℤ)
     → k ≤ length ys → difference (suc k) (x ∷ y ∷ ys) ≡ difference k (steps (x ∷ y ∷ ys))
-difference-steps zero x y ys h = difference-suc 0 x (y ∷ ys)
-    ∙ ap (λ n. n -ℤ difference 0 (y ∷ ys)) (difference-zero x (y ∷ ys))
-    ∙ ap (λ n. x -ℤ n) (difference-zero y ys) ∙ sym (difference-zero (x -ℤ y) (steps (y ∷ ys)))
+difference-steps zero x y ys h =
+    let first = difference-suc 0 x (y ∷ ys) in
+    let old = difference-zero y ys in
+    cc (difference-zero x (y ∷ ys), difference-zero (x -ℤ y) (steps (y ∷ ys)))
 difference-steps (suc k) x y [] h = absurd (not-suc-le-zero h)
 difference-steps (suc k) x y (z ∷ zs) h =
     let first = difference-steps k x y (z ∷ zs) (omega (arith, h)) in
@@ -57,11 +56,8 @@ difference-steps (suc k) x y (z ∷ zs) h =
 pub numbers-steps : (n : ℕ) (xs : List ℤ) → without_oldest (numbers_of (suc n) xs) ≡ numbers_of n (steps xs)
 numbers-steps n (x ∷ y ∷ ys) =
     let order : min (length (y ∷ ys)) (suc n) ≡ suc (min (length ys) n) = omega arith in
-    let same = ap (λ m. min m n) (length-steps y ys) in
-    ap (λ d. d ∷ without_oldest (numbers_of (suc n) (y ∷ ys)))
-    (ap (λ k. difference k (x ∷ y ∷ ys)) order ∙ difference-steps (min (length ys) n) x y ys (omega arith)
-    ∙ ap (λ k. difference k (steps (x ∷ y ∷ ys))) (sym same)) ∙
-    ap (λ r. difference (min (length (steps (y ∷ ys))) n) (steps (x ∷ y ∷ ys)) ∷ r) (numbers-steps n (y ∷ ys))
+    let first = difference-steps (min (length ys) n) x y ys (omega arith) in
+    cc (length-steps y ys, numbers-steps n (y ∷ ys))
 numbers-steps n xs = refl
 
 -- ---- the recurrence of the values
@@ -75,9 +71,6 @@ last-without_weight : (w : ℕ → ℤ) (n : ℕ) (r : List ℤ) (x : ℤ)
 last-without_weight w zero r x h = refl
 last-without_weight w (suc n) [] x h = grind (arith, common_steps, take-nil)
 last-without_weight w (suc n) (y ∷ r) x h = cc (last-without_weight (λ i. w (suc i)) n r x h)
-
-pos-add : (m n : ℕ) → pos (m + n) ≡ pos m +ℤ pos n
-pos-add m n = omega (arith, ints)
 
 pub binomial-past : (n i : ℕ) → n < i → binomial n i ≡ 0
 binomial-past n zero h = absurd (not-suc-le-zero h)
@@ -94,105 +87,62 @@ laters m count numbers = weighted (λ i. pos (binomial (i + m) m)) (take count n
 
 value_parts : (m : ℕ) (c : List ℤ) (u d : ℕ) (o : List ℤ) → length c - 1 ≡ u
     → length c - suc m ≡ d → reverse c ≡ o → value_at (suc m) c ≡ firsts u (suc m) o +ℤ laters m d c
-value_parts m c u d o eu ed eo = ap (λ n. firsts n (suc m) (reverse c) +ℤ laters m (length c - suc m) c) eu
-    ∙ ap (λ n. firsts u (suc m) (reverse c) +ℤ laters m n c) ed
-    ∙ ap (λ r. firsts u (suc m) r +ℤ laters m d c) eo
+value_parts m c u d o eu ed eo = rw (eu, ed, eo)
 
 -- one step of the later sum: Pascal's law
 laters-step : (m d : ℕ) (x : ℤ) (c : List ℤ)
     → laters (suc m) d (x ∷ c) ≡ laters (suc m) (d - 1) c +ℤ laters m d (x ∷ c)
 laters-step m zero x c = refl
 laters-step m (suc e) x c =
-    let none = ap pos (binomial-past (0 + m) (suc m) (omega arith)) in
-    let shift = weighted-same (λ i. pos (binomial (suc i + m) (suc m)))
-    (λ i. pos (binomial (i + suc m) (suc m))) (moved m) (take e c) in
-    let rest = ap (λ v. (v *ℤ x) +ℤ weighted (λ i. pos (binomial (suc i + m) (suc m))) (take e c)) none
-    ∙ ap (λ v. (pos 0 *ℤ x) +ℤ v) shift ∙ zero_times x (laters (suc m) e c) in
     let less : suc e - 1 ≡ e = omega arith in
-    weighted-same (λ i. pos (binomial (i + suc m) (suc m)))
-    (λ i. pos (binomial (i + m) m) +ℤ pos (binomial (i + m) (suc m))) (pascal m) (x ∷ take e c)
-    ∙ weighted-add (λ i. pos (binomial (i + m) m)) (λ i. pos (binomial (i + m) (suc m))) (x ∷ take e c)
-    ∙ ap (λ v. laters m (suc e) (x ∷ c) +ℤ v) rest ∙ turn (laters m (suc e) (x ∷ c)) (laters (suc m) e c)
-    ∙ ap (λ n. laters (suc m) n c +ℤ laters m (suc e) (x ∷ c)) (sym less)
-  where
-    pascal : (m i : ℕ) → pos (binomial (i + suc m) (suc m)) ≡ pos (binomial (i + m) m) +ℤ pos
-        (binomial (i + m) (suc m))
-    pascal m i =
-        let next : i + suc m ≡ suc (i + m) = omega arith in
-        cc (next, pos-add (binomial (i + m) m) (binomial (i + m) (suc m)))
-
-    moved : (m i : ℕ) → pos (binomial (suc i + m) (suc m)) ≡ pos (binomial (i + suc m) (suc m))
-    moved m i =
-        let same : suc i + m ≡ i + suc m = omega arith in
-        ap (λ n. pos (binomial n (suc m))) same
-
-    zero_times : (x y : ℤ) → (pos 0 *ℤ x) +ℤ y ≡ y
-    zero_times x y = omega (arith, ints)
-
-    turn : (a b : ℤ) → a +ℤ b ≡ b +ℤ a
-    turn a b = omega (arith, ints)
+    let here : 0 + m ≡ m = omega arith in
+    let next : 0 + suc m ≡ suc m = omega arith in
+    let first : pos (binomial (0 + suc m) (suc m)) ≡ pos (binomial (0 + m) m) =
+    rw (next, here) (omega (arith, ints, binomial-past m (suc m) (omega arith))) in
+    let pascal : (i : ℕ) → pos (binomial (suc i + suc m) (suc m))
+    ≡ pos (binomial (i + suc m) (suc m)) +ℤ pos (binomial (suc i + m) m) = λ i.
+    let next : suc i + suc m ≡ suc (i + suc m) = omega arith in
+    let same : suc i + m ≡ i + suc m = omega arith in
+    rw (next, same) (omega (arith, ints)) in
+    let rest = weighted-sum (λ i. pos (binomial (suc i + suc m) (suc m)))
+    (λ i. pos (binomial (i + suc m) (suc m))) (λ i. pos (binomial (suc i + m) m)) pascal (take e c) in
+    rw less (omega (arith, ints, ap (λ n. n *ℤ x) first))
 
 -- one step of the first sum
 firsts-step : (n : ℕ) (z x : ℤ) (r : List ℤ) → firsts (suc (length r)) (suc n) (z ∷ (r ++ x ∷ []))
     ≡ firsts (length r) (suc n) (z ∷ r) +ℤ firsts (length r) n (r ++ x ∷ [])
 firsts-step n z x r =
-    let w : ℕ → ℤ = λ k. pos (binomial (length r) k) in
-    let w' : ℕ → ℤ = λ k. pos (binomial (length r) (suc k)) in
-    ap (λ v. (pos 1 *ℤ z) +ℤ v) ((weighted-same (λ k. pos (binomial (suc (length r)) (suc k))) (λ k.
-    w k +ℤ w' k) (λ k. pos-add (binomial (length r) k) (binomial (length r) (suc k))) (take n (r ++ x ∷ [])))
-    ∙ weighted-add w w' (take n (r ++ x ∷ [])) ∙ ap (λ v. weighted w (take n (r ++ x ∷ [])) +ℤ v)
-    (last-without_weight w' n r x (ap pos (binomial-past (length r) (suc (length r)) (omega arith)))))
-    ∙ regroup (pos 1 *ℤ z) (weighted w (take n (r ++ x ∷ []))) (weighted w' (take n r))
-  where
-    regroup : (a b c : ℤ) → a +ℤ (b +ℤ c) ≡ (a +ℤ c) +ℤ b
-    regroup a b c = omega (arith, ints)
-
-reverse-first : (x : ℤ) (b : List ℤ) → reverse (x ∷ b) ≡ reverse b ++ x ∷ []
-reverse-first x b = reverse-append (x ∷ []) b
-
-reverse-last : (b : List ℤ) (z : ℤ) → reverse (b ++ z ∷ []) ≡ z ∷ reverse b
-reverse-last b z = reverse-append b (z ∷ [])
-
-length-last : (b : List ℤ) (z : ℤ) → length (b ++ z ∷ []) ≡ suc (length b)
-length-last b z = length-append b (z ∷ []) ∙ (omega arith)
+    let past = binomial-past (length r) (suc (length r)) (omega arith) in
+    let w : ℕ → ℤ = λ k. pos (binomial (length r) (suc k)) in
+    let sum = weighted-sum (λ k. pos (binomial (suc (length r)) (suc k))) w
+    (λ k. pos (binomial (length r) k)) (λ k. omega (arith, ints)) (take n (r ++ x ∷ [])) in
+    omega (arith, ints, last-without_weight w n r x (ap pos past))
 
 -- the value one epoch later, of an order above 0: the value before it, and the value, of the order below, of
--- all
--- numbers but the oldest
+-- all numbers but the oldest
 pub value-recurs : (n : ℕ) (x : ℤ) (b : List ℤ) (z : ℤ)
     → value_at (suc n) (x ∷ (b ++ z ∷ [])) ≡ value_at (suc n) (b ++ z ∷ []) +ℤ value_at n (x ∷ b)
 value-recurs zero x b z =
-    let long = length-last b z in
-    value_parts 0 (x ∷ (b ++ z ∷ [])) (suc (length b)) (suc (length b))
-    (z ∷ reverse (x ∷ b)) (omega (arith, long)) (omega (arith, long)) (reverse-last (x ∷ b) z) ∙ regroup
-    (pos 1 *ℤ z) x (laters 0 (length b) (b ++ z ∷ [])) ∙ ap (λ v. v +ℤ x) (sym (value_parts 0 (b ++ z ∷ [])
-    (length b) (length b) (z ∷ reverse b) (omega (arith, long)) (omega (arith, long)) (reverse-last b z)))
-  where
-    regroup : (a x c : ℤ) → (a +ℤ pos 0) +ℤ ((pos 1 *ℤ x) +ℤ c) ≡ ((a +ℤ pos 0) +ℤ c) +ℤ x
-    regroup a x c = omega (arith, ints)
+    let long = length-append b (z ∷ []) in
+    let left = value_parts 0 (x ∷ (b ++ z ∷ [])) (suc (length b)) (suc (length b)) (z ∷ reverse (x ∷ b))
+    (omega arith) (omega arith) (reverse-append (x ∷ b) (z ∷ [])) in
+    let right = value_parts 0 (b ++ z ∷ []) (length b) (length b) (z ∷ reverse b)
+    (omega arith) (omega arith) (reverse-append b (z ∷ [])) in
+    omega (arith, ints)
 value-recurs (suc m) x b z =
-    let long = length-last b z in
+    let long = length-append b (z ∷ []) in
     let same = sym (length-reverse b) in
-    let left = value_parts
-    (suc m) (x ∷ (b ++ z ∷ [])) (suc (length (reverse b))) (length b - m) _ (omega (arith, long, same))
-    (omega (arith, long)) (reverse-last (x ∷ b) z ∙ ap (λ q. z ∷ q) (reverse-first x b)) in
-    let right = value_parts (suc m) (b ++ z ∷ []) (length (reverse b))
-    (length b - m - 1) (z ∷ reverse b) (omega (arith, long, same)) (omega (arith, long)) (reverse-last b z) in
-    let below = value_parts m (x ∷ b) (length (reverse b))
-    (length b - m) (reverse b ++ x ∷ []) (omega (arith, same)) (omega arith) (reverse-first x b) in
-    let later = laters-step m _ x _ ∙ ap (λ v. laters (suc m) (length b - m - 1) (b ++ z ∷ []) +ℤ v)
-    (ap (weighted (λ i. pos (binomial (i + m) m))) (take-append-le (length b - m) (x ∷ b) (z ∷ []) (omega
-    arith))) in
+    let left = value_parts (suc m) (x ∷ (b ++ z ∷ [])) (suc (length (reverse b))) (length b - m) _
+    (omega arith) (omega arith)
+    (reverse-append (x ∷ b) (z ∷ []) ∙ ap (λ q. z ∷ q) (reverse-append (x ∷ []) b)) in
+    let right = value_parts (suc m) (b ++ z ∷ []) (length (reverse b)) (length b - m - 1) (z ∷ reverse b)
+    (omega arith) (omega arith) (reverse-append b (z ∷ [])) in
+    let below = value_parts m (x ∷ b) (length (reverse b)) (length b - m) (reverse b ++ x ∷ [])
+    (omega arith) (omega arith) (reverse-append (x ∷ []) b) in
+    let cut = ap (weighted (λ i. pos (binomial (i + m) m)))
+    (take-append-le (length b - m) (x ∷ b) (z ∷ []) (omega arith)) in
     let first = firsts-step (suc m) z x (reverse b) in
-    left ∙ ap (λ v. v +ℤ laters (suc m) (length b - m) (x ∷ (b ++ z ∷ []))) first ∙ ap (λ v. (firsts (length
-    (reverse b)) (suc (suc m)) (z ∷ reverse b) +ℤ firsts (length (reverse b)) (suc m) (reverse b ++ x ∷ []))
-    +ℤ v) later ∙ four (firsts (length (reverse b)) (suc (suc m)) (z ∷ reverse b)) (firsts (length (reverse
-    b)) (suc m) (reverse b ++ x ∷ [])) (laters (suc m) (length b - m - 1) (b ++ z ∷ [])) (laters m (length
-    b - m) (x ∷ b)) ∙ ap (λ v. v +ℤ (firsts (length (reverse b)) (suc m) (reverse b ++ x ∷ []) +ℤ laters m
-    (length b - m) (x ∷ b))) (sym right) ∙ ap (λ v. value_at (suc (suc m)) (b ++ z ∷ []) +ℤ v) (sym below)
-  where
-    four : (a b c d : ℤ) → (a +ℤ b) +ℤ (c +ℤ d) ≡ (a +ℤ c) +ℤ (b +ℤ d)
-    four a b c d = omega (arith, ints)
+    omega (arith, ints, laters-step m (length b - m) x (b ++ z ∷ []))
 
 -- the same with the oldest number found in the list
 pub value-step : (n : ℕ) (x y : ℤ) (ys : List ℤ)
@@ -211,14 +161,11 @@ value-first n d = search rules
 pub value-numbers : (n : ℕ) (xs : List ℤ) (x : ℤ) → value_at n (numbers_of n (x ∷ xs)) ≡ x
 value-numbers zero xs x = grind (arith, common_steps, difference, difference-zero)
 value-numbers (suc n) [] x = grind (arith, common_steps, value-first, difference-zero)
-value-numbers (suc n) (y ∷ ys) x = value-step n (difference (min (length (y ∷ ys)) (suc n)) (x ∷ y ∷ ys))
-    (difference (min (length ys) (suc n)) (y ∷ ys)) (numbers_of (suc n) ys)
-    ∙ ap (λ v. v +ℤ value_at n (without_oldest (numbers_of (suc n) (x ∷ y ∷ ys))))
-    (value-numbers (suc n) ys y) ∙ ap (λ c. y +ℤ value_at n c) (numbers-steps n (x ∷ y ∷ ys))
-    ∙ ap (λ v. y +ℤ v) (value-numbers n (steps (y ∷ ys)) (x -ℤ y)) ∙ back x y
-  where
-    back : (x y : ℤ) → y +ℤ (x -ℤ y) ≡ x
-    back x y = omega (arith, ints)
+value-numbers (suc n) (y ∷ ys) x =
+    let step = value-step n (difference (min (length (y ∷ ys)) (suc n)) (x ∷ y ∷ ys))
+    (difference (min (length ys) (suc n)) (y ∷ ys)) (numbers_of (suc n) ys) in
+    let below = ap (value_at n) (numbers-steps n (x ∷ y ∷ ys)) in
+    omega (arith, ints, value-numbers (suc n) ys y, value-numbers n (steps (y ∷ ys)) (x -ℤ y))
 
 -- the codes of an arc have its start, and these numbers
 pub started-codes : (n : ℕ) (xs : List ℤ) (x : ℤ)

@@ -1,23 +1,17 @@
 -- Running differences: their step, and their size.
-use Rattle.std.specs.Prelude.{◌≡◌, ◌≤◌, ◌<◌, refl, ℕ, zero, suc, ◌+◌, ◌-◌, ◌^◌, ℤ, pos, negsuc, ◌+ℤ◌, ◌-ℤ◌}
-use Rattle.std.specs.Prelude.{List, [], ◌∷◌, ◌++◌, length, take, drop, min, slice_index_or, slice_set, Bool}
-use Rattle.std.specs.Prelude.{true, false, Option, Some, Ok, Err, if◌then◌else◌}
-use Rattle.std.proofs.Common.{sym, ◌∙◌, ap, arith, subst, FitsSigned, w64, to_z, of_z, lit<, lit≤, rules}
+use Rattle.crx_compact.proofs.Words.{◌≡◌, ◌≤◌, ◌<◌, refl, ℕ, zero, suc, ◌+◌, ◌-◌, ◌^◌, ℤ, pos, List, [], ◌∷◌}
+use Rattle.crx_compact.proofs.Words.{◌++◌, length, take, drop, min, slice_index_or, slice_set, Bool, true}
+use Rattle.crx_compact.proofs.Words.{false, Some, Ok, Err, if◌then◌else◌, ◌*◌, sym, ◌∙◌, ap, arith, rules}
+use Rattle.crx_compact.proofs.Words.{ints, common_steps, IsWithin, IsShort, Step, code_of_value, arc_of_value}
+use Rattle.crx_compact.proofs.Words.{value_of_code, arc_of_code, WRITTEN_ORDER, ◌+ℤ◌, ◌-ℤ◌, w64, to_z-of_z}
+use Rattle.crx_compact.proofs.Words.{drop-set-lt, differences_after, onto_sum, differences_by, highest}
+use Rattle.crx_compact.proofs.Words.{in_range, is_within, OutOfRange}
+use Rattle.std.proofs.Common.{FitsSigned, to_z, of_z, lit≤, lit<}
+use Rattle.std.proofs.lemmas.List.{length-take}
+use Rattle.crx_compact.proofs.arcs.Bounds.{ten-more}
 use Rattle.std.proofs.Math.Nat.{pow-le-pow_right}
-use Rattle.std.proofs.lemmas.Int.{ints, to_z-of_z}
-use Rattle.std.proofs.lemmas.List.{drop-set-lt, length-take}
-use Rattle.std.proofs.lemmas.Grind.{common_steps}
 use Rattle.crx_compact.specs.Arcs.{IsBelow, AreBelow, value_bound, kept_tail, IsArcInRange, IsNewestWithin}
-use Rattle.crx_text.specs.meaning.Numbers.{IsWithin}
-use Rattle.crx_text.specs.Codes.{IsShort}
-use Rattle.crx_text.specs.declared.code.Code.TheVariants.{Step}
-use Rattle.crx_compact.specs.ArcTails.{ArcTail}
 use Rattle.crx_compact.specs.meaning.Differences.{newest}
-use Rattle.crx_compact.specs.ArcSteps.{differences_after, onto_sum, differences_by, highest, code_of_value}
-use Rattle.crx_compact.specs.ArcSteps.{arc_of_value, value_of_code, arc_of_code}
-use Rattle.crx_compact.specs.meaning.ArcValues.{in_range, is_within}
-use Rattle.crx_base.specs.declared.fault.Fault.TheVariants.{OutOfRange}
-use Rattle.crx_base.specs.declared.limits.TheConstants.{WRITTEN_ORDER}
 
 -- ---- size
 
@@ -26,19 +20,15 @@ abbrev pub order_bound : ℕ → ℕ
 order_bound zero = value_bound
 order_bound (suc k) = order_bound k + order_bound k
 
-order-bound-more : (k j : ℕ) → order_bound k ≤ order_bound (j + k)
-order-bound-more k zero = grind arith
-order-bound-more k (suc j) =
-    let e : suc j + k ≡ suc (j + k) = omega arith in
-    let below = order-bound-more k j in
-    rw e (omega arith)
+order-bound-is : (k : ℕ) → order_bound k ≡ value_bound * 2 ^ k
+order-bound-is zero = omega arith
+order-bound-is (suc k) = omega (arith, order-bound-is k)
 
 -- the largest of all, of order 9
 pub order-bound-within : (k : ℕ) → k ≤ 9 → order_bound k ≤ 51200000000000000
 order-bound-within k h =
-    let e : (9 - k) + k ≡ 9 = omega arith in
-    let P : ℕ → Type 0 = λ n. order_bound k ≤ order_bound n in
-    subst P e (order-bound-more k (9 - k))
+    let power : 2 ^ k ≤ 2 ^ 9 = pow-le-pow_right (lit< tt) {i = k} {j = 9} h in
+    omega (arith, order-bound-is k)
 
 -- the differences at a next value below the bound are as small as those before
 pub after-below : (bound : ℕ) (value : ℤ) (ds : List ℤ)
@@ -48,10 +38,7 @@ after-below bound value (d ∷ ds) h hs =
     (h, after-below (bound + bound) (value -ℤ d) ds (less bound value d h hs.0) hs.1)
   where
     less : (b : ℕ) (x y : ℤ) → IsBelow b x → IsBelow b y → IsBelow (b + b) (x -ℤ y)
-    less b x y f g = record {
-      low = omega (arith, ints, f.low, g.high);
-      high = omega (arith, ints, f.high, g.low);
-    }
+    less b x y f g = omega (arith, ints)
 
 pub take-below : (bound n : ℕ) (ds : List ℤ) → AreBelow bound ds → AreBelow bound (take n ds)
 take-below bound (suc n) (d ∷ ds) h = (h.0, take-below (bound + bound) n ds h.1)
@@ -121,13 +108,9 @@ pub advance-step : (k : ℕ) (target ds : List ℤ) (next : ℤ) → k < length 
     → Advanced (k + 1) target (slice_set ds k next) (next -ℤ slice_index_or ds k (pos 0))
 advance-step k target ds next h a =
     let b = next-below k ds h a.rest_below in
-    let f = a.next_below in
-    let g = b.first in
     let more : k + 1 ≡ suc k = omega arith in
     let later = drop-set-lt (k + 1) ds k next (omega arith) in
-    let Q : ℕ → Type 0 = λ n. IsBelow (order_bound n) (next -ℤ slice_index_or ds k (pos 0)) in
-    let small : IsBelow (order_bound (suc k)) (next -ℤ slice_index_or ds k (pos 0)) =
-    record { low = omega (arith, ints, f.low, g.high); high = omega (arith, ints, f.high, g.low) } in
+    let small : IsBelow (order_bound (suc k)) (next -ℤ slice_index_or ds k (pos 0)) = omega (arith, ints) in
     record { done = grind (arith, common_steps); next_below = rw more small; rest_below = rw later b.rest }
 
 -- ---- the same up to order 3, at once
@@ -144,19 +127,7 @@ pub record ToThird (value : ℤ) (ds : List ℤ) : Type 0 where
 
 pub to-third : (value : ℤ) (ds : List ℤ)
     → 3 < length ds → IsBelow value_bound value → AreBelow value_bound (take 3 ds) → ToThird value ds
-to-third value (a ∷ b ∷ c ∷ ds) h f hs =
-    let v = f in
-    let x = hs.0 in
-    let y = hs.1.0 in
-    let z = hs.1.1.0 in
-    record {
-      zeroth_before = omega (arith, ints, x.low, x.high);
-      first_before = omega (arith, ints, y.low, y.high);
-      second_before = omega (arith, ints, z.low, z.high);
-      first = omega (arith, ints, v.low, v.high, x.low, x.high);
-      second = omega (arith, ints, v.low, v.high, x.low, x.high, y.low, y.high);
-      third = omega (arith, ints, v.low, v.high, x.low, x.high, y.low, y.high, z.low, z.high);
-    }
+to-third value (a ∷ b ∷ c ∷ ds) h f hs = omega (arith, ints, f, hs.0, hs.1.0, hs.1.1.0)
 to-third value ds h f hs = absurd (omega (arith, h))
 
 -- the first four of some numbers, put in place one after another
@@ -186,20 +157,15 @@ pub record OntoThird (number : ℤ) (ds : List ℤ) : Type 0 where
 
 pub onto-third : (number : ℤ) (ds : List ℤ)
     → 3 < length ds → IsBelow (10 ^ 18) number → AreBelow value_bound (take 3 ds) → OntoThird number ds
-onto-third number (a ∷ b ∷ c ∷ ds) h f hs =
-    let n = f in
-    let x = hs.0 in
-    let y = hs.1.0 in
-    let z = hs.1.1.0 in
-    record {
-      zeroth_before = omega (arith, ints, x.low, x.high);
-      first_before = omega (arith, ints, y.low, y.high);
-      second_before = omega (arith, ints, z.low, z.high);
-      second = omega (arith, ints, n.low, n.high, z.low, z.high);
-      first = omega (arith, ints, n.low, n.high, y.low, y.high, z.low, z.high);
-      value = omega (arith, ints, n.low, n.high, x.low, x.high, y.low, y.high, z.low, z.high);
-      sums = refl;
-    }
+onto-third number (a ∷ b ∷ c ∷ ds) h f hs = record {
+  zeroth_before = omega (arith, ints, hs.0);
+  first_before = omega (arith, ints, hs.1.0);
+  second_before = omega (arith, ints, hs.1.1.0);
+  second = omega (arith, ints, f, hs.1.1.0);
+  first = omega (arith, ints, f, hs.1.0, hs.1.1.0);
+  value = omega (arith, ints, f, hs.0, hs.1.0, hs.1.1.0);
+  sums = refl;
+}
 onto-third number ds h f hs = absurd (omega (arith, h))
 
 -- one place more of the value by a number
@@ -216,19 +182,14 @@ pub sum-step : (k : ℕ) (target value : ℤ) (ds : List ℤ) → k < length ds
     → Summed k target value ds → Summed (k + 1) target (value +ℤ slice_index_or ds k (pos 0)) ds
 sum-step k target value ds h s =
     let b = next-below k ds h s.rest_below in
-    let f = s.value_below in
-    let g = b.first in
     let more : k + 1 ≡ suc k = omega arith in
     let small : IsBelow (10 ^ 18 + order_bound (suc k)) (value +ℤ slice_index_or ds k (pos 0)) =
-    record { low = omega (arith, ints, f.low, g.low); high = omega (arith, ints, f.high, g.high) } in
+    omega (arith, ints) in
     record {
-      done = regroup value _ _ ∙ ap (λ x. value +ℤ x) (sym (ap total (drop-index ds k h))) ∙ s.done;
+      done = omega (arith, ints, s.done, ap total (drop-index ds k h));
       value_below = rw more small;
       rest_below = b.rest;
     }
-  where
-    regroup : (a b r : ℤ) → (a +ℤ b) +ℤ r ≡ a +ℤ (b +ℤ r)
-    regroup a b r = omega (arith, ints)
 
 -- the last one of some differences is the highest
 pub highest-last : (ds : List ℤ) (d : ℤ) → highest (ds ++ d ∷ []) ≡ d
@@ -243,11 +204,7 @@ take-take n m ds = grind arith
 -- a value that fits its columns is below the bound of all
 pub within-below : (width : ℕ) (value : ℤ) → width ≤ 15 → IsWithin width value → IsBelow value_bound value
 within-below width value few h =
-    let low : 10 ^ (width - 2) ≤ 10 ^ 13 = pow-le-pow_right (lit< tt) {i = width - 2} {j = 13} (omega arith)
-    in
-    let high : 10 ^ (width - 1) ≤ 10 ^ 14 = pow-le-pow_right (lit< tt) {i = width - 1} {j = 14} (omega arith)
-    in
-    record { low = omega (arith, ints, h.low); high = omega (arith, ints, h.high) }
+    omega (arith, ints, ten-more (width - 2) 13 (omega arith), ten-more (width - 1) 14 (omega arith))
 
 pub below-short : (bound : ℕ) (value : ℤ) → bound ≤ 10 ^ 18 → IsBelow bound value → IsShort value
 below-short bound value room h = grind arith
@@ -262,7 +219,7 @@ pub record IsLast (order count last : ℕ) : Type 0 where
 
 lower-taken : (order count last : ℕ) (ds : List ℤ) → IsLast order count last
     → take order (take count ds) ≡ take last ds
-lower-taken order count last ds e = take-take order count ds ∙ ap (λ k. take k ds) (sym e.least)
+lower-taken order count last ds e = cc (take-take order count ds, e.least)
 
 -- the differences that a next one needs are as small
 pub lower-below : (order count last : ℕ) (ds : List ℤ)
@@ -284,8 +241,7 @@ module _ (width order count : ℕ) (ds : List ℤ) (third : (order ≡ 3) × (co
       (omega (arith, long)) (short-below number h) (lower-below order count 3 ds third-last kept.below)
     where
       short-below : (n : ℤ) → IsShort n → IsBelow (10 ^ 18) n
-      short-below (pos n) s = record { low = omega (arith, ints); high = omega (arith, ints, s) }
-      short-below (negsuc n) s = record { low = omega (arith, ints, s); high = omega (arith, ints) }
+      short-below n s = grind arith
 
 some-kept : (order : ℕ) (value : ℤ) (ds : List ℤ) → Some
     (record { order = order; differences = differences_after value ds })
@@ -303,9 +259,9 @@ pub record GoesOn (order count last : ℕ) (value : ℤ) (ds : List ℤ) : Type 
 pub goes-on : (order count last : ℕ) (value : ℤ) (ds : List ℤ)
     → IsLast order count last → 0 < count → 0 < length ds → GoesOn order count last value ds
 goes-on order (suc count) last value (d ∷ ds) e h l =
-    let after = take-after order value (take (suc count) (d ∷ ds))
-    ∙ ap (differences_after value) (lower-taken order (suc count) last (d ∷ ds) e) in
-    record { code = cc (after); tail = cc (some-kept order value (take last (d ∷ ds)), after) }
+    let after = take-after order value (take (suc count) (d ∷ ds)) in
+    let lower = lower-taken order (suc count) last (d ∷ ds) e in
+    record { code = cc; tail = cc (some-kept order value (take last (d ∷ ds))) }
 goes-on order count last value ds e h l = absurd (omega arith)
 
 -- the arc after a next value in range is kept as well
@@ -344,12 +300,10 @@ pub steps-on : (width order count last : ℕ) (number value : ℤ) (ds : List �
     → IsLast order count last → 0 < count → 0 < length ds
     → value ≡ newest (differences_by number (take last ds)) → StepsOn width order count last number value ds
 steps-on width order (suc count) last number value (d ∷ ds) e h l v =
-    let lower = lower-taken order _ last _ e in
+    let lower = lower-taken order (suc count) last (d ∷ ds) e in
     record {
       value_is = cc;
-      tail = sym (some-kept order value _) ∙ ap {B = Option ArcTail} (λ xs. Some
-          (record { order = order; differences = xs })) (ap (λ x. differences_after x (take last (d ∷ ds))) v
-          ∙ sym (by-after number (take last (d ∷ ds))) ∙ ap (differences_by number) (sym lower));
+      tail = cc (some-kept order value (take last (d ∷ ds)), by-after number (take last (d ∷ ds)));
     }
 steps-on width order count last number value ds e h l v = absurd (omega arith)
 

@@ -1,18 +1,13 @@
 -- The step of the running differences, both ways.
-use Rattle.std.specs.Prelude.{◌≡◌, refl, ℕ, zero, suc, ◌-◌, min, ℤ, pos, ◌+ℤ◌, ◌-ℤ◌, List, [], ◌∷◌, length}
-use Rattle.std.specs.Prelude.{take}
-use Rattle.std.proofs.Common.{sym, ◌∙◌, ap, arith, rules}
-use Rattle.std.proofs.lemmas.Int.{ints}
-use Rattle.crx_text.specs.meaning.EachPlace.{each_place}
-use Rattle.crx_compact.specs.meaning.Differences.{difference, value_at, newest}
-use Rattle.crx_compact.specs.ArcTails.{differences_of, values_of}
-use Rattle.crx_compact.specs.ArcSteps.{differences_after, highest, differences_by}
+use Rattle.crx_compact.proofs.Words.{◌≡◌, refl, ℕ, zero, suc, ◌-◌, min, ℤ, pos, List, [], ◌∷◌, length, take}
+use Rattle.crx_compact.proofs.Words.{ap, arith, rules, ints, each_place, common_steps, ◌+ℤ◌, ◌-ℤ◌, difference}
+use Rattle.crx_compact.proofs.Words.{value_at, differences_of, values_of, differences_after, highest}
+use Rattle.crx_compact.proofs.Words.{differences_by, take-each_place}
+use Rattle.crx_compact.specs.meaning.Differences.{newest}
 use Rattle.crx_compact.specs.ArcLaws.{CodesByTail, ValuesByTail}
-use Rattle.crx_text.proofs.EachPlace.{take-each_place}
 use Rattle.crx_compact.proofs.arcs.Weights.{difference-suc, difference-zero}
 use Rattle.crx_compact.proofs.arcs.Inversion.{numbers_of, value-numbers, value-first, value-step}
 use Rattle.crx_compact.proofs.arcs.Inversion.{without_oldest}
-use Rattle.std.proofs.lemmas.Grind.{common_steps}
 
 -- ---- in compaction
 
@@ -26,12 +21,11 @@ differences-each (suc m) f g h =
 pub differences-step : (n : ℕ) (x y : ℤ) (ys : List ℤ)
     → take (suc n) (differences_after x (differences_of n (y ∷ ys))) ≡ differences_of n (x ∷ y ∷ ys)
 differences-step n x y ys =
-    let m = suc (min _ n) in
+    let m = suc (min (length (y ∷ ys) - 1) n) in
     let count : min (suc n) (suc m) ≡ suc (min (length (x ∷ y ∷ ys) - 1) n) = omega arith in
-    ap (take (suc n)) ((ap (λ d. differences_after d (differences_of n (y ∷ ys)))
-    (sym (difference-zero x (y ∷ ys)))) ∙ (differences-each m (λ i. difference i (x ∷ y ∷ ys))
-    (λ i. difference i (y ∷ ys)) (λ i. difference-suc i x (y ∷ ys)))) ∙ take-each_place (suc n)
-    (suc m) (λ i. difference i (x ∷ y ∷ ys)) ∙ ap (λ k. each_place k (λ i. difference i (x ∷ y ∷ ys))) count
+    let all = differences-each m (λ i. difference i (x ∷ y ∷ ys)) (λ i. difference i (y ∷ ys))
+    (λ i. difference-suc i x (y ∷ ys)) in
+    cc (difference-zero x (y ∷ ys), take-each_place (suc n) (suc m) (λ i. difference i (x ∷ y ∷ ys)))
 
 highest-each : (m : ℕ) (f : ℕ → ℤ) → highest (each_place (suc m) f) ≡ f m
 highest-each zero f = refl
@@ -58,25 +52,19 @@ value-newest (suc n) (y ∷ ys) c =
 pub numbers-values : (n : ℕ) (cs : List ℤ) → numbers_of n (values_of n cs) ≡ cs
 numbers-values n [] = refl
 numbers-values n (c ∷ older) =
-    let v = value_at n _ in
+    let v = value_at n (c ∷ older) in
     let c' = difference (min (length (values_of n older)) n) (v ∷ values_of n older) in
+    let rest = ap (λ r. value_at n (c' ∷ r)) (numbers-values n older) in
     let again = value-numbers n (values_of n older) v in
-    let same = cancel c' c (value_at n (pos 0 ∷ older)) (sym (value-newest n older c')
-    ∙ (ap (λ r. value_at n (c' ∷ r)) (sym (numbers-values n older)) ∙ again) ∙ (value-newest n older c)) in
+    let same : c' ≡ c = omega (arith, ints, value-newest n older c', value-newest n older c) in
     cc (same, numbers-values n older)
-  where
-    cancel : (a b r : ℤ) → a +ℤ r ≡ b +ℤ r → a ≡ b
-    cancel a b r h = omega (arith, ints, h)
 
 differences-by_each : (k : ℕ) (f g : ℕ → ℤ)
     → ((i : ℕ) → f (suc i) ≡ f i -ℤ g i) → differences_by (f k) (each_place k g) ≡ each_place (suc k) f
 differences-by_each zero f g h = refl
 differences-by_each (suc k) f g h =
-    let sum = add_back (f (suc zero)) (f zero) (g zero) (h zero) in
-    cc (differences-by_each k (λ i. f (suc i)) (λ i. g (suc i)) (λ i. h (suc i)), sum)
-  where
-    add_back : (a b c : ℤ) → a ≡ b -ℤ c → c +ℤ a ≡ b
-    add_back a b c h = omega (arith, ints, h)
+    let sum : g zero +ℤ f (suc zero) ≡ f zero = omega (arith, ints, h zero) in
+    cc (differences-by_each k (λ i. f (suc i)) (λ i. g (suc i)) (λ i. h (suc i)))
 
 -- the differences of an arc's values after a next number
 pub values-differences : (n : ℕ) (c b : ℤ) (older : List ℤ) → differences_of n (values_of n (c ∷ b ∷ older))

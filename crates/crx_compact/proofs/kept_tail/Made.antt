@@ -1,12 +1,10 @@
 -- A kept tail is made from no memory, at any tail.
-use Rattle.std.proofs.Common.{[], ◌∷◌, refl}
-use Rattle.std.specs.Prelude.{Option}
+use Rattle.crx_compact.proofs.Words.{[], ◌∷◌, refl, Option, Tail}
 use seplogic.Ra.Ura.{Ura}
 use mir.Val.{Val, vstruct, vcons, vnil}
 use base.Logic.{ent, emp}
 use types.Logic.{Logic, sem}
 use denote.Shadow.{makes_shadow}
-use Rattle.crx_compact.specs.Tails.{Tail}
 use Rattle.crx_compact.specs.declared.kept_tail.KeptTail.{KeptTail}
 use Rattle.crx_compact.specs.contracts.kept_tail.KeptTail.{the_row}
 

@@ -1,15 +1,12 @@
 -- The satellites of the epoch before come again.
-use Rattle.std.proofs.Common.{◌≡◌, ℕ, ◌+◌, ◌<◌, ◌≤◌, List, [], Some, length, take, option_map, ap, sym}
-use Rattle.std.proofs.Common.{◌∙◌, arith, inl, inr, refl, subst}
-use Rattle.std.specs.Str.{bytes_eq}
+use Rattle.crx_compact.proofs.Words.{◌≡◌, ℕ, ◌+◌, ◌<◌, ◌≤◌, List, [], Some, length, take, option_map, ap, sym}
+use Rattle.crx_compact.proofs.Words.{◌∙◌, arith, refl, subst, bytes_eq, Count, padded, satellite_of, RowTail}
+use borrow.Author.Count.{below_more}
 use Rattle.std.proofs.lemmas.Option.{get_or_from_slice_get}
 use Rattle.indexmap.specs.IndexMap.{IndexMap, IsUnique}
-use Rattle.crx_header.specs.meaning.ObservationTypes.{Count}
 use Rattle.crx_compact.specs.Entries.{Entry, KeepsTypes, placed_rows}
 use Rattle.crx_compact.specs.EpochLinesRead.{HaveComeAgain, IsAgain}
-use Rattle.crx_compact.specs.Placing.{SatelliteTail, padded, row_of_entry, row_tail_named, satellite_of}
-use Rattle.crx_compact.specs.Tails.{RowTail}
-use Rattle.crx_compact.proofs.Characters.{within-or_past}
+use Rattle.crx_compact.specs.Placing.{SatelliteTail, row_of_entry, row_tail_named}
 use Rattle.crx_compact.proofs.placing.EntryChanges.{room-here}
 use Rattle.crx_compact.proofs.placing.Ranges.{found-in_range, named-map}
 use Rattle.crx_compact.proofs.placing.SteppedRows.{among-placed, row-at, rows-counted, rows_of}
@@ -18,20 +15,12 @@ use Rattle.crx_compact.proofs.placing.SteppedRows.{among-placed, row-at, rows-co
 pub kept-more : (types : List Count) (count : ℕ) (es : List Entry)
     → ((index : ℕ) → index < count → KeepsTypes types index es) → KeepsTypes types count es
     → (index : ℕ) → index < count + 1 → KeepsTypes types index es
-kept-more types count es kept last index less = elim (within-or_past count index) [
-  | inl before ↦ kept index before
-  | inr behind ↦
-      let same : count ≡ index = omega (arith, less, behind) in
-      subst (λ i. KeepsTypes types i es) same last
-]
+kept-more types count es kept last = below_more (λ index. KeepsTypes types index es) count kept last
 
 -- where no row has come, no satellite has
 pub none-placed : (placed live : ℕ) (es : List Entry) → (placed ≤ live) × (live ≤ length es)
     → rows_of placed es ≡ [] → placed ≡ 0
-none-placed placed live es order none =
-    let few = order.0 in
-    let all = order.1 in
-    omega (arith, ap length none, rows-counted placed es (omega (arith, few, all)))
+none-placed placed live es order none = omega (arith, ap length none, rows-counted placed es (omega arith))
 
 module _ {S : Type 0} (m : IndexMap (List ℕ) SatelliteTail S) (unique : IsUnique bytes_eq m)
     (types : List Count) (live : ℕ)

@@ -1,19 +1,15 @@
 -- A satellite comes: what its map's entries show of the rows that have come, and of those that haven't.
-use Rattle.std.proofs.Common.{◌≡◌, ℕ, zero, suc, ◌+◌, ◌<◌, ◌≤◌, Bool, true, false, List, [], ◌∷◌, ◌++◌}
-use Rattle.std.proofs.Common.{length, map}
-use Rattle.std.proofs.Common.{take, drop, slice_get, Some, None, option_map, refl, ap, sym, ◌∙◌, arith}
-use Rattle.std.specs.Prelude.{unwrap_or}
-use Rattle.std.specs.Str.{bytes_eq}
+use Rattle.crx_compact.proofs.Words.{◌≡◌, ℕ, zero, suc, ◌+◌, ◌<◌, ◌≤◌, Bool, true, false, List, [], ◌∷◌, ◌++◌}
+use Rattle.crx_compact.proofs.Words.{length, map, take, drop, slice_get, Some, None, option_map, refl, ap}
+use Rattle.crx_compact.proofs.Words.{sym, ◌∙◌, arith, bytes_eq, map-append, take-take, is_among, RowTail}
 use Rattle.std.specs.List.{IsDistinct}
 use Rattle.std.specs.Map.{keys_of}
 use Rattle.std.proofs.lemmas.Bool.{or_parts}
-use Rattle.std.proofs.lemmas.List.{map-append, take-append-drop, take-take}
-use Rattle.crx_header.specs.meaning.Satellites.{is_among}
+use Rattle.std.proofs.lemmas.List.{take-append-drop}
 use Rattle.crx_header.proofs.Apart.{among-map, other_way}
 use Rattle.crx_compact.specs.meaning.Sequences.{named}
 use Rattle.crx_compact.specs.Entries.{Entry, IsFound, IsPutNext, IsRevived, key_of, placed_rows}
-use Rattle.crx_compact.specs.Placing.{HasCome, empty_row, row_tail_named, row_tail_of, row_of_entry}
-use Rattle.crx_compact.specs.Tails.{RowTail}
+use Rattle.crx_compact.specs.Placing.{HasCome, row_tail_named, row_tail_of, row_of_entry}
 use Rattle.crx_compact.proofs.placing.Ranges.{among-up_to, found-in_range, named-map, none-named, not-before}
 use Rattle.crx_compact.proofs.placing.Ranges.{rest-one_more}
 use Rattle.std.proofs.lemmas.Grind.{common_steps}
@@ -75,14 +71,12 @@ module _ (name : List ℕ) (placed live found : ℕ) (old known : List Entry)
       → HasCome name (placed_rows placed live old) (placed_rows (placed + 1) live new)
   come-awaited new apart behind before within put =
       let front : take live known ≡ take live old = is.front live within in
+      let at = found-in_range placed live known found (name, is.satellite) apart is.there behind before in
       let there : row_tail_named name (map row_of_entry (drop placed (take live old)))
-      ≡ Some (row_tail_of name is.satellite) = named-map (λ (row : RowTail). row.name) row_of_entry name
-      (drop placed (take live old)) ∙ ap (λ es. option_map row_of_entry (named key_of name (drop placed es)))
-      (sym front) ∙ ap (option_map row_of_entry)
-      (found-in_range placed live known found (name, is.satellite) apart is.there behind before) in
+      ≡ Some (row_tail_of name is.satellite) =
+      cc (named-map (λ (row : RowTail). row.name) row_of_entry name (drop placed (take live old))) in
       record {
-        rows = rows-more (name, is.satellite) new (omega arith) (put.come (name, is.satellite) is.there)
-            ∙ ap (λ r. map row_of_entry (take placed old) ++ unwrap_or r (empty_row name) ∷ []) (sym there);
+        rows = cc (rows-more (name, is.satellite) new (omega arith) (put.come (name, is.satellite) is.there));
         others = λ other differs. by-entries other _ _ (put.others live (name, is.satellite) other before
             is.there (other_way other name differs) ∙ ap (λ es. named key_of other (drop placed es)) front);
       }
@@ -103,8 +97,7 @@ module _ (name : List ℕ) (placed live found : ℕ) (old known : List Entry)
       ∙ ap (take placed) anew.front ∙ take-take placed live known few in
       let next : live + 1 ≡ suc live = omega arith in
       record {
-        rows = rows-more blank new (omega arith) (put.come blank there ∙ ap (λ es. es ++ blank ∷ []) first)
-            ∙ ap (λ r. map row_of_entry (take placed old) ++ unwrap_or r (empty_row name) ∷ []) (sym none);
+        rows = cc (rows-more blank new (omega arith) (cc (put.come blank there)));
         others = λ other differs.
             let apart-from : bytes_eq name other ≡ false = other_way other name differs in
             by-entries other _ _ (put.others (live + 1) blank other (omega arith) there apart-from ∙ ap (λ n.

@@ -1,10 +1,11 @@
 -- A satellite is found by its identifier, or added behind the others.
 use Rattle.std.proofs.Common.{◌≡◌, ℕ, ◌<◌, List, [], ◌∷◌, ◌++◌, length, take, slice_get, get_or, position}
-use Rattle.std.proofs.Common.{Option, Some, None, IfSome, is_some, refl, ap, sym, ◌∙◌, inl, inr}
-use Rattle.std.proofs.Common.{◌⊎◌, arith, Bool, false, true}
+use Rattle.std.proofs.Common.{Option, Some, None, IfSome, is_some, refl, ap, sym, ◌∙◌, inl, inr, ◌⊎◌, arith}
+use Rattle.std.proofs.Common.{Bool, false, true}
 use Rattle.std.specs.Str.{bytes_eq}
+use Rattle.std.proofs.lemmas.Grind.{common_steps}
 use Rattle.std.specs.Map.{keys_of, lookup}
-use Rattle.std.proofs.lemmas.Bool.{cases_Bool, false≢true}
+use Rattle.std.proofs.lemmas.Bool.{cases_Bool}
 use Rattle.std.proofs.lemmas.List.{take-append-le, length-map}
 use Rattle.std.proofs.lemmas.List.Quantifiers.{position-Some}
 use Rattle.std.proofs.lemmas.Option.{get_or_from_slice_get, none-some, same_Some, slice_get-map}
@@ -13,7 +14,7 @@ use Rattle.crx_header.specs.meaning.Satellites.{is_among}
 use Rattle.crx_header.proofs.Apart.{other_way}
 use Rattle.crx_compact.specs.Entries.{Entry, IsFound, key_of}
 use Rattle.crx_compact.specs.Placing.{SatelliteTail}
-use Rattle.crx_compact.proofs.placing.PutNext.{there-is}
+use Rattle.crx_compact.proofs.RowByRow.{is-there}
 use Rattle.crx_compact.proofs.placing.Rooms.{known-room, room-from_look_up, rooms-kept}
 
 pub found-there : (name : List ℕ) (i : ℕ) (es : List Entry) (satellite : SatelliteTail)
@@ -37,27 +38,25 @@ found-by_look_up : (name : List ℕ) (i : ℕ) (es : List Entry)
 found-by_look_up name i es is =
     let at = position-Some (bytes_eq name) (keys_of es) i [] is in
     let within : i < length es = omega (arith, at.0, length-map es key_of) in
-    let entry = there-is es i within in
-    let same : name ≡ key_of entry.0 = (bytes_eq-Decides name (get_or (keys_of es) i [])).0 at.1
-    ∙ get_or_from_slice_get (keys_of es) i (key_of entry.0) [] (cc (slice_get-map key_of es i, entry.1)) in
-    found-there name i es entry.0.1 (entry.1 ∙ ap (λ (n : List ℕ). Some (n, entry.0.1)) (sym same))
+    let entry = is-there es i within in
+    let same : name ≡ key_of entry.item = (bytes_eq-Decides name (get_or (keys_of es) i [])).0 at.1
+    ∙ get_or_from_slice_get (keys_of es) i (key_of entry.item) []
+    (cc (slice_get-map key_of es i, entry.there)) in
+    found-there name i es entry.item.1 (entry.there ∙ ap (λ (n : List ℕ). Some (n, entry.item.1)) (sym same))
 
 pub found-if_some : (name : List ℕ) (es : List Entry) (r : Option ℕ)
     → position (bytes_eq name) (keys_of es) ≡ r → IfSome r (λ i. IsFound name i es es)
 found-if_some name es None is = tt
 found-if_some name es (Some i) is = found-by_look_up name i es is
 
-at-seam : {X : Type 0} (xs : List X) (x : X) → slice_get (xs ++ x ∷ []) (length xs) ≡ Some x
+pub at-seam : {X : Type 0} (xs : List X) (x : X) → slice_get (xs ++ x ∷ []) (length xs) ≡ Some x
 at-seam [] x = refl
 at-seam (y ∷ xs) x = at-seam xs x
 
 look_up-more : (test : List ℕ → Bool) (es more : List Entry) (satellite : SatelliteTail)
     → lookup test es ≡ Some satellite → lookup test (es ++ more) ≡ Some satellite
 look_up-more test [] more satellite h = absurd (none-some satellite h)
-look_up-more test (e ∷ es) more satellite h = elim (cases_Bool (test e.0)) [
-  | inl t ↦ rw t (rw t at h)
-  | inr f ↦ rw f (look_up-more test es more _ (rw f at h))
-]
+look_up-more test (e ∷ es) more satellite h = grind (arith, common_steps, look_up-more test es more satellite)
 
 -- what is found once one was added was there, or is that one
 look_up-added : (test : List ℕ → Bool) (es : List Entry) (name : List ℕ) (satellite found : SatelliteTail)
@@ -67,10 +66,8 @@ look_up-added test [] name satellite found h = elim (cases_Bool (test name)) [
   | inl t ↦ inr (t, same_Some satellite found (rw t at h))
   | inr f ↦ absurd (none-some found (rw f at h))
 ]
-look_up-added test (e ∷ es) name satellite found h = elim (cases_Bool (test e.0)) [
-  | inl t ↦ inl (rw t (rw t at h))
-  | inr f ↦ rw f (look_up-added test es name satellite found (rw f at h))
-]
+look_up-added test (e ∷ es) name satellite found h =
+    grind (arith, common_steps, look_up-added test es name satellite found)
 
 pub found-added : (name : List ℕ) (satellite : SatelliteTail) (es new : List Entry)
     → new ≡ es ++ (name, satellite) ∷ [] → satellite.room ≡ 0 → IsFound name (length es) es new
@@ -103,7 +100,4 @@ none-there r h = grind arith
 pub not-found : (name : List ℕ) (es : List Entry) → is_some (lookup (bytes_eq name) es) ≡ false
     → is_among key_of name es ≡ false
 not-found name [] h = refl
-not-found name (e ∷ es) h = elim (cases_Bool (bytes_eq name e.0)) [
-  | inl t ↦ absurd (false≢true (sym h ∙ rw t refl))
-  | inr f ↦ rw (other_way name e.0 f) (not-found name es (rw f at h))
-]
+not-found name (e ∷ es) h = grind (arith, common_steps, cases_Bool, other_way, not-found name es)

@@ -1,13 +1,11 @@
 -- What is answered of a satellite that comes.
-use Rattle.std.proofs.Common.{◌≡◌, ℕ, ◌+◌, ◌<◌, ◌≤◌, Bool, true, false, not, List, length, slice_get, Some}
-use Rattle.std.proofs.Common.{None, IsTrue, ◌↔◌, ap, arith, refl, sym, true≢false, rules}
-use Rattle.std.specs.Str.{bytes_eq}
+use Rattle.crx_compact.proofs.Words.{◌≡◌, ℕ, ◌+◌, ◌<◌, ◌≤◌, Bool, true, false, not, List, length, slice_get}
+use Rattle.crx_compact.proofs.Words.{Some, None, ap, arith, refl, sym, true≢false, rules, bytes_eq, is_among}
+use Rattle.crx_compact.proofs.Words.{PlacedRows, RowTail}
+use Rattle.std.proofs.Common.{IsTrue, ◌↔◌}
 use Rattle.indexmap.specs.IndexMap.{IndexMap, IsUnique}
-use Rattle.crx_header.specs.meaning.Satellites.{is_among}
 use Rattle.crx_compact.specs.Entries.{Entry, IsFound, IsPutNext, IsRevived, key_of, placed_rows}
-use Rattle.crx_compact.specs.Placing.{AnswersPlacing, HasAskedRoom, HasSameRooms, IsPlaced, PlacedRows}
-use Rattle.crx_compact.specs.Placing.{SatelliteTail}
-use Rattle.crx_compact.specs.Tails.{RowTail}
+use Rattle.crx_compact.specs.Placing.{AnswersPlacing, HasAskedRoom, HasSameRooms, IsPlaced, SatelliteTail}
 use Rattle.crx_compact.proofs.placing.Coming.{come-anew, come-awaited, is-new, repeated, unknown-no_row}
 use Rattle.crx_compact.proofs.placing.EntryChanges.{enough-room, little-room}
 use Rattle.crx_compact.proofs.placing.Rooms.{unknown}

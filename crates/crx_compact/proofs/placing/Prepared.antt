@@ -1,6 +1,6 @@
 -- A satellite gets more room, and no row changes.
-use Rattle.std.proofs.Common.{◌≡◌, ℕ, ◌≤◌, List, length, map, take, drop, slice_get, Some, ap, sym, ◌∙◌}
-use Rattle.std.proofs.Common.{arith}
+use Rattle.std.proofs.Common.{rules, ◌≡◌, ℕ, ◌≤◌, List, length, map, take, drop, slice_get, Some, ap, sym}
+use Rattle.std.proofs.Common.{◌∙◌, arith}
 use Rattle.std.proofs.lemmas.List.{drop-map, length-take, take-map}
 use Rattle.std.proofs.lemmas.Option.{get_or_from_slice_get}
 use Rattle.std.proofs.Math.Seq.{map-set_same}
@@ -20,9 +20,10 @@ pub rows-same : (es : List Entry) (i : ℕ) (name : List ℕ) (before after : Sa
     → slice_get es i ≡ Some (name, before) → after.flags ≡ before.flags → after.cells ≡ before.cells
     → map row_of_entry (set_value_at es i after) ≡ map row_of_entry es
 rows-same es i name before after there flags cells =
-    ap (map row_of_entry) (changed-is es i name before after there) ∙ map-set_same row_of_entry es i
-    (name, after) (name, before) ((λ j. record { name = name; flags = flags j; cells = cells j })
-    ∙ ap row_of_entry (sym (get_or_from_slice_get es i (name, before) (name, before) there)))
+    ap (map row_of_entry) (changed-is es i name before after there) ∙ map-set_same row_of_entry es i (
+      name,
+      after,
+    ) (name, before) (search (rules, get_or_from_slice_get))
 
 module _ (name : List ℕ) (found : ℕ) (old known new : List Entry) (is : IsFound name found old known)
     (same : map row_of_entry new ≡ map row_of_entry known) where

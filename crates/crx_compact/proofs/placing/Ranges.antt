@@ -1,7 +1,6 @@
 -- Entries of a map in ranges, one after the other: where an identifier is, and what a swap leaves of them.
 use Rattle.std.proofs.Common.{◌≡◌, ℕ, zero, suc, ◌<◌, ◌≤◌, true, false, List, [], ◌∷◌, take, drop, set, map}
-use Rattle.std.proofs.Common.{swap, slice_get, Some, None, option_map, refl, ap, sym, ◌∙◌}
-use Rattle.std.proofs.Common.{arith, rules}
+use Rattle.std.proofs.Common.{swap, slice_get, Some, None, option_map, refl, ap, sym, ◌∙◌, arith, rules}
 use Rattle.std.specs.Str.{bytes_eq}
 use Rattle.std.specs.List.{AllByRecursion, IsDistinct}
 use Rattle.std.specs.Map.{keys_of}
@@ -28,12 +27,11 @@ named-map f g name (x ∷ xs) = grind (arith, named-map f g name xs)
 -- where none is of an identifier, none is found
 pub none-named : {X : Type 0} (f : X → List ℕ) (name : List ℕ) (count : ℕ) (xs : List X)
     → is_among f name xs ≡ false → named f name (drop count xs) ≡ None
-none-named f name zero [] h = refl
-none-named f name (suc count) [] h = refl
 none-named f name zero (x ∷ xs) h =
     grind (arith, none-named f name zero xs (or_parts (bytes_eq (f x) name) (is_among f name xs) h).1)
 none-named f name (suc count) (x ∷ xs) h =
     none-named f name count xs (or_parts (bytes_eq (f x) name) (is_among f name xs) h).1
+none-named f name count xs h = refl
 
 module _ {V : Type 0} where
   abbrev name_of : List ℕ × V → List ℕ
@@ -42,18 +40,16 @@ module _ {V : Type 0} where
   -- an identifier that differs from all differs from the one at an index
   apart-at : (name : List ℕ) (es : List (List ℕ × V)) (i : ℕ) (e : List ℕ × V) → AllByRecursion (λ other.
       bytes_eq name other ≡ false) (keys_of es) → slice_get es i ≡ Some e → bytes_eq name e.0 ≡ false
-  apart-at name [] i e h there = absurd (none-some e there)
-  apart-at name (x ∷ es) zero e h there = cc (same_Some x e there, h.0)
   apart-at name (x ∷ es) (suc i) e h there = apart-at name es i e h.1 there
+  apart-at name es i e h there = grind (arith, same_Some)
 
   -- one that is at an index isn't among those before it
   pub not-before : (n : ℕ) (es : List (List ℕ × V)) (i : ℕ) (e : List ℕ × V) → IsDistinct bytes_eq
       (keys_of es) → slice_get es i ≡ Some e → n ≤ i → is_among name_of e.0 (take n es) ≡ false
-  not-before (suc n) (x ∷ es) zero e h there before = absurd (omega (arith, before))
   not-before (suc n) (x ∷ es) (suc i) e h there before =
       rw (apart-at x.0 es i e (IsDistinct-head bytes_eq x.0 (keys_of es) h) there)
       (not-before n es i e (IsDistinct-tail bytes_eq x.0 (keys_of es) h) there (omega (arith, before)))
-  not-before n es i e h there before = refl
+  not-before n es i e h there before = grind arith
 
   -- and is among those up to it
   pub among-up_to : (n : ℕ) (es : List (List ℕ × V)) (i : ℕ) (e : List ℕ × V)
@@ -83,13 +79,11 @@ module _ {V : Type 0} where
   pub rest-one_more : (start end : ℕ) (es : List (List ℕ × V)) (e : List ℕ × V) (other : List ℕ)
       → start ≤ end → slice_get es end ≡ Some e → bytes_eq e.0 other ≡ false
       → named name_of other (drop start (take (suc end) es)) ≡ named name_of other (drop start (take end es))
-  rest-one_more start end [] e other within there differs = absurd (none-some e there)
-  rest-one_more zero zero (x ∷ es) e other within there differs = grind arith
-  rest-one_more (suc start) zero (x ∷ es) e other within there differs = absurd (omega (arith, within))
   rest-one_more zero (suc end) (x ∷ es) e other within there differs =
       cc (rest-one_more zero end es e other (omega arith) there differs)
   rest-one_more (suc start) (suc end) (x ∷ es) e other within there differs =
       rest-one_more start end es e other (omega (arith, within)) there differs
+  rest-one_more start end es e other within there differs = grind arith
 
   -- in a range without its first one, all others are found as before
   pub rest-next : (start end : ℕ) (es : List (List ℕ × V)) (e : List ℕ × V) (other : List ℕ)
@@ -105,11 +99,9 @@ module _ {V : Type 0} where
   in_place : (end i : ℕ) (es : List (List ℕ × V)) (a b : List ℕ × V) (other : List ℕ) → i < end
       → slice_get es i ≡ Some b → AllByRecursion (λ name. bytes_eq a.0 name ≡ false) (keys_of es) → bytes_eq
       b.0 other ≡ false → named name_of other (take end (set es i a)) ≡ named name_of other (a ∷ take end es)
-  in_place end i [] a b other within there new differs = absurd (none-some b there)
-  in_place zero i (x ∷ es) a b other within there new differs = absurd (omega (arith, within))
-  in_place (suc end) zero (x ∷ es) a b other within there new differs = grind arith
   in_place (suc end) (suc i) (x ∷ es) a b other within there new differs =
       search (rules, in_place end i es a b other (omega (arith, within)) there new.1 differs)
+  in_place end i es a b other within there new differs = grind arith
 
   -- the same in a range that loses its first one, which is put in the place of the other
   pub rest-brought : (start end i : ℕ) (es : List (List ℕ × V)) (a b : List ℕ × V) (other : List ℕ)

@@ -1,17 +1,16 @@
 -- A satellite that comes back is the first one behind those that mean something, with nothing stored.
-use Rattle.std.proofs.Common.{◌≡◌, ℕ, ◌<◌, ◌≤◌, List, [], length, set, slice_get, swap, Some}
-use Rattle.std.proofs.Common.{ap, sym, ◌∙◌, arith, length-set, refl}
-use Rattle.std.specs.Str.{bytes_eq}
+use Rattle.crx_compact.proofs.Words.{◌≡◌, ℕ, ◌<◌, ◌≤◌, List, [], length, set, slice_get, Some, ap, sym, ◌∙◌}
+use Rattle.crx_compact.proofs.Words.{arith, refl, bytes_eq, slice_get_within}
+use Rattle.std.proofs.Common.{swap, length-set}
 use Rattle.std.specs.Map.{lookup}
 use Rattle.std.proofs.lemmas.List.{take-set-le}
 use Rattle.std.proofs.lemmas.List.Edits.{length-swap}
-use Rattle.std.proofs.lemmas.Option.{slice_get_within}
 use Rattle.indexmap.specs.IndexMap.{IndexMap, IsUnique, set_value_at}
 use Rattle.indexmap.specs.Layout.{length-set_value_at}
 use Rattle.crx_compact.specs.Entries.{Entry, IsRevived}
 use Rattle.crx_compact.specs.Placing.{SatelliteTail}
 use Rattle.crx_compact.proofs.placing.EntryChanges.{changed-is, rooms-changed, rooms-changed-back, set-there}
-use Rattle.crx_compact.proofs.placing.PutNext.{there-is}
+use Rattle.crx_compact.proofs.RowByRow.{is-there}
 use Rattle.crx_compact.proofs.placing.Ranges.{swap-is}
 use Rattle.crx_compact.proofs.placing.Rooms.{rooms-kept}
 use Rattle.std.proofs.lemmas.Grind.{common_steps}
@@ -46,12 +45,12 @@ module _ {S : Type 0} (m : IndexMap (List ℕ) SatelliteTail S) (found : ℕ) (n
       let es = set_value_at m.entries found after in
       let counted : length es ≡ length m.entries = length-set_value_at m.entries found after in
       let near : found < length m.entries = within in
-      let first = there-is es live (omega (arith, near, counted, behind)) in
-      let a = first.0 in
+      let first = is-there es live (omega (arith, near, counted, behind)) in
+      let a = first.item in
       let here : slice_get es found ≡ Some (name, after) =
       ap (λ es. slice_get es found) set-is ∙ set-there m.entries found (name, after) within in
       let made : new ≡ set (set es found a) live (name, after) =
-      swapped ∙ swap-is es found live (name, after) a here first.1 in
+      swapped ∙ swap-is es found live (name, after) a here first.there in
       record {
         there = grind (arith, common_steps, slice_get, set-there, length-set);
         front = grind (arith, common_steps, take-set-le, set-is);

@@ -1,14 +1,13 @@
 -- The room of the satellites that are known, by look-ups in their map.
-use Rattle.std.proofs.Common.{◌≡◌, ℕ, ◌≤◌, false, List, [], ◌∷◌, Some, None, option_map, refl}
-use Rattle.std.proofs.Common.{sym, ◌∙◌, inl, inr, arith, subst, rules}
-use Rattle.std.specs.Str.{bytes_eq}
+use Rattle.crx_compact.proofs.Words.{◌≡◌, ℕ, ◌≤◌, false, List, [], ◌∷◌, Some, None, option_map, refl, sym}
+use Rattle.crx_compact.proofs.Words.{◌∙◌, inl, inr, arith, subst, rules, bytes_eq, false≢true, is_among}
+use Rattle.crx_compact.proofs.Words.{HasRoom, KeepsRooms}
 use Rattle.std.specs.Map.{lookup}
-use Rattle.std.proofs.lemmas.Bool.{cases_Bool, false≢true}
+use Rattle.std.proofs.lemmas.Bool.{cases_Bool}
 use Rattle.std.proofs.lemmas.Option.{none-some}
-use Rattle.crx_header.specs.meaning.Satellites.{is_among}
 use Rattle.crx_header.proofs.Apart.{other_way}
 use Rattle.crx_compact.specs.Entries.{Entry, key_of, rooms_of}
-use Rattle.crx_compact.specs.Placing.{HasRoom, KeepsRooms, SatelliteTail}
+use Rattle.crx_compact.specs.Placing.{SatelliteTail}
 use Rattle.crx_compact.specs.meaning.Sequences.{named}
 use Rattle.std.proofs.lemmas.Grind.{common_steps}
 

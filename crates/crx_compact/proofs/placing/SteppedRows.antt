@@ -1,27 +1,20 @@
 -- What is stored of one satellite among those that have come changes: its row, and no other one.
-use Rattle.std.proofs.Common.{◌≡◌, ℕ, zero, suc, ◌-◌, ◌<◌, ◌≤◌, List, [], ◌∷◌, ◌++◌, length, map, take}
-use Rattle.std.proofs.Common.{slice_get, drop, Option, Some, None, refl, ap, ◌∙◌, arith}
-use Rattle.std.proofs.Common.{slice_set, slice_index_or}
+use Rattle.crx_compact.proofs.Words.{◌≡◌, ℕ, zero, suc, ◌-◌, ◌<◌, ◌≤◌, List, [], ◌∷◌, ◌++◌, length, map, take}
+use Rattle.crx_compact.proofs.Words.{slice_get, drop, Option, Some, None, refl, ap, ◌∙◌, arith, slice_set}
+use Rattle.crx_compact.proofs.Words.{slice_index_or, bytes_eq, length-map, length-take-le, same_Some}
+use Rattle.crx_compact.proofs.Words.{slice_get-map, index-each_place, without_end_blanks, each_place}
+use Rattle.crx_compact.proofs.Words.{text_difference, Row, ArcTail, cell_text, padded, flags_held}
+use Rattle.crx_compact.proofs.Words.{row_line_after, row_tail_after, RowTail}
 use Rattle.std.specs.Prelude.{flat_map}
-use Rattle.std.specs.Str.{bytes_eq}
-use Rattle.std.proofs.Math.Seq.{take-set-lt}
-use Rattle.std.proofs.lemmas.List.{drop-set-lt, map-set, length-map, length-take, length-take-le}
-use Rattle.std.proofs.lemmas.Option.{none-some, same_Some, slice_get-map}
-use Rattle.crx_text.proofs.EachPlace.{index-each_place}
-use Rattle.crx_text.specs.meaning.Columns.{without_end_blanks}
-use Rattle.crx_text.specs.meaning.EachPlace.{each_place}
-use Rattle.crx_text.specs.meaning.Texts.{text_difference}
-use Rattle.crx_rinex.specs.meaning.Observations.{Row}
-use Rattle.crx_compact.specs.ArcTails.{ArcTail}
+use Rattle.std.proofs.Math.Seq.{take-set-lt, set-append_seam}
+use Rattle.std.proofs.lemmas.List.{drop-set-lt, map-set, length-take, length-append}
 use Rattle.crx_compact.specs.Cells.{arcs_of_cells, codes_of_cells}
 use Rattle.indexmap.specs.IndexMap.{IndexMap, IsUnique, set_value_at}
 use Rattle.indexmap.specs.Layout.{length-set_value_at}
+use Rattle.crx_compact.proofs.placing.Found.{at-seam}
 use Rattle.crx_compact.proofs.placing.EntryChanges.{changed-is, rooms-changed, rooms-changed-back}
 use Rattle.crx_compact.specs.Entries.{Entry, placed_rows}
-use Rattle.crx_compact.specs.meaning.Cells.{cell_text}
-use Rattle.crx_compact.specs.Placing.{KeepsRest, SatelliteTail, cells_for, padded, row_tail_of, row_of_entry}
-use Rattle.crx_compact.specs.Steps.{flags_held, row_line_after, row_tail_after}
-use Rattle.crx_compact.specs.Tails.{RowTail}
+use Rattle.crx_compact.specs.Placing.{KeepsRest, SatelliteTail, cells_for, row_tail_of, row_of_entry}
 use Rattle.std.proofs.lemmas.Grind.{common_steps}
 
 get-take : {X : Type 0} (n i : ℕ) (xs : List X) → i < n → slice_get (take n xs) i ≡ slice_get xs i
@@ -69,11 +62,10 @@ module _ {S : Type 0} (m : IndexMap (List ℕ) SatelliteTail S) (placed live : �
       (placed_rows placed live m.entries) (placed_rows placed live (set_value_at m.entries i after))
   rest-kept order unique same =
       let below = among-placed placed i _ within in
-      let few = order.0 in
       record {
         rest = ap (λ es. map row_of_entry (drop placed (take live es)))
             (changed-is m.entries i name before after there) ∙ ap (λ es. map row_of_entry (drop placed es))
-            (take-set-lt live m.entries i (name, after) (omega (arith, below, few)))
+            (take-set-lt live m.entries i (name, after) (omega arith))
             ∙ ap (map row_of_entry) (drop-set-lt placed (take live m.entries) i (name, after) below);
         rooms = record {
           forth = rooms-changed m i name before after unique there (omega (arith, same));
@@ -85,16 +77,9 @@ module _ {S : Type 0} (m : IndexMap (List ℕ) SatelliteTail S) (placed live : �
 
 pub last-is : {X : Type 0} (xs ys : List X) (x y : X) (i : ℕ) → xs ≡ ys ++ y ∷ [] → i ≡ length xs - 1
     → (slice_get xs i ≡ Some y) × (slice_set xs i x ≡ ys ++ x ∷ [])
-last-is xs [] x y i e is = grind arith
-last-is [] (z ∷ ys) x y i e is = absurd (none-some z (ap (λ (zs : List _). slice_get zs 0) e))
-last-is (w ∷ xs) (z ∷ ys) x y zero e is = grind (arith, common_steps)
-last-is (w ∷ xs) (z ∷ ys) x y (suc i) e is =
-    let next = last-is xs ys x y i (ap (λ (zs : List _). drop_one zs) e) (omega (arith, is)) in
-    (next.0, rw (same_Some w z (ap (λ (zs : List _). slice_get zs 0) e), next.1) refl)
-  where
-    drop_one : {X : Type 0} → List X → List X
-    drop_one [] = []
-    drop_one (x ∷ xs) = xs
+last-is xs ys x y i e is =
+    let same : i ≡ length ys = omega (arith, is, ap length e, length-append ys (y ∷ [])) in
+    rw (e, same) (at-seam ys y, set-append_seam ys y [] x)
 
 -- a satellite by another count of types
 pub padded-is : (name : List ℕ) (count : ℕ) (satellite after : SatelliteTail) → after ≡ record satellite {

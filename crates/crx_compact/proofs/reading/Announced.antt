@@ -1,13 +1,10 @@
 -- The satellites of an open epoch stay those that its text announces, each with its count of types.
-use Rattle.crx_compact.proofs.Words.{◌≡◌, ◌≤◌, refl, ℕ, zero, suc, List, [], ◌∷◌, length, map, Some}
-use Rattle.crx_compact.proofs.Words.{All, slice_get, slice_set, unwrap_or, arith}
-use Rattle.crx_compact.proofs.Words.{length-map, All-head, All-tail, same_Some, columns}
-use Rattle.crx_compact.proofs.Words.{SATELLITES_LIMIT, satellites_few, IsAwaitedSatellite}
-use Rattle.crx_compact.proofs.Words.{IsAnnounced, IsRowRead, OpenHistory, satellite_of, RowTail}
+use Rattle.crx_compact.proofs.Words.{◌≡◌, ◌≤◌, zero, suc, List, [], ◌∷◌, length, map, Some, All, arith, rules}
+use Rattle.crx_compact.proofs.Words.{refl, SATELLITES_LIMIT, satellites_few, IsAwaitedSatellite, satellite_of}
+use Rattle.crx_compact.proofs.Words.{ℕ, unwrap_or, All-head, All-tail, same_Some, columns, IsRowRead, RowTail}
+use Rattle.crx_compact.proofs.Words.{slice_get, slice_set, length-map, IsAnnounced, OpenHistory, common_steps}
 use Rattle.std.proofs.lemmas.List.Elements.{All-cons}
 use Rattle.crx_compact.specs.Placing.{HasAllowedCount}
-use Rattle.std.proofs.lemmas.Grind.{common_steps}
-use Rattle.std.proofs.Common.{rules}
 
 -- ---- they stay
 
@@ -33,9 +30,8 @@ rows-allowed history h = each history.satellites.rows h.satellites
   where
     each : (rows : List RowTail) → All IsAwaitedSatellite (map satellite_of rows) → All HasAllowedCount rows
     each [] k = λ i d less. absurd (omega (arith, less))
-    each (row ∷ rows) k = All-cons HasAllowedCount row rows (IsAwaitedSatellite.counted
-        (All-head IsAwaitedSatellite (satellite_of row) (map satellite_of rows) k))
-        (each rows (All-tail IsAwaitedSatellite (satellite_of row) (map satellite_of rows) k))
+    each (row ∷ rows) k = All-cons HasAllowedCount row rows (All-head IsAwaitedSatellite _ _ k).counted
+        (each rows (All-tail IsAwaitedSatellite _ _ k))
 
 -- they are as few as an epoch may have
 pub rows-few : (history : OpenHistory) → IsAnnounced history

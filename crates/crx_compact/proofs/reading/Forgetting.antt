@@ -1,15 +1,10 @@
 -- A line that begins with > forgets what was read before it.
-use Rattle.crx_compact.proofs.Words.{◌≡◌, ℕ, true, List, [], ◌∷◌, drop, Option, Some, None, Result, Ok}
-use Rattle.crx_compact.proofs.Words.{if◌then◌else◌, ◌∙◌, ap, ReadLine, Content, Fault, NotAnEpoch, Count}
-use Rattle.crx_compact.proofs.Words.{Here, one_line, begins_epoch, RawEpoch}
-use Rattle.crx_compact.proofs.Words.{block_of, Past, past_of_line}
-use Rattle.crx_compact.proofs.Words.{BegunEpoch, epoch_begun}
-use Rattle.crx_compact.proofs.Words.{ReadEpoch, epoch_after_line, epoch_at}
-use Rattle.crx_compact.specs.ReadingLaws.{Forgets}
+use Rattle.crx_compact.proofs.Words.{◌≡◌, ℕ, true, List, ◌∷◌, drop, Option, Some, None, Result, Ok, ◌∙◌}
+use Rattle.crx_compact.proofs.Words.{ReadLine, Content, Fault, NotAnEpoch, Count, Here, one_line}
+use Rattle.crx_compact.proofs.Words.{begins_epoch, RawEpoch, Past, past_of_line, BegunEpoch, epoch_begun}
+use Rattle.crx_compact.proofs.Words.{ReadEpoch, epoch_after_line, epoch_at, rules, arith, Forgets}
 use Rattle.crx_compact.proofs.soundness.Soundness.{then-comes}
 use Rattle.crx_compact.proofs.Results.{no-err, ok-same, and_then-ok}
-use Rattle.std.proofs.Common.{rules}
-use Rattle.std.proofs.Common.{arith}
 
 begun-line : (types : List Count) (line : List ℕ) (past : Option Past) (begun : BegunEpoch)
     → epoch_begun types line past ≡ Ok begun → begun.line ≡ line
@@ -37,8 +32,6 @@ read-line types older line lines read count e =
 pub forgets : (types : List Count) (older : List RawEpoch) (line : List ℕ) (lines : List ReadLine)
     → begins_epoch line ≡ true → Forgets types older line lines
 forgets types older line lines h = record {
-  place =
-      search rules;
-  block = λ read count e. ap {B = List RawEpoch} (λ b. read.raw ∷ (if b then [] else block_of older))
-      (ap begins_epoch (read-line types older line lines read count e) ∙ h);
+  place = search rules;
+  block = λ read count e. cc (read-line types older line lines read count e, h);
 }

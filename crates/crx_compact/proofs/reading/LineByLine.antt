@@ -1,19 +1,16 @@
 -- The steps of a reader, line by line, agree with what is at all lines so far.
-use Rattle.crx_compact.proofs.Words.{◌≡◌, refl, ℕ, suc, ◌+◌, List, [], ◌∷◌, ◌++◌, map, length, Option, Some}
-use Rattle.crx_compact.proofs.Words.{None, Result, Ok, Err, slice_get, option_map, sym, ◌∙◌, ap}
-use Rattle.crx_compact.proofs.Words.{arith, true≢false, take_all, map-map, patched, ReadLine}
-use Rattle.crx_compact.proofs.Words.{Content, Fault, Count, Place, Here, Wrong}
-use Rattle.crx_compact.proofs.Words.{Wanted, then_place, after_lines, one_line, and_then, Satellite}
-use Rattle.crx_compact.proofs.Words.{BegunEpoch, epoch_begun, ReadCell, clock_line_read, ReadRow}
-use Rattle.crx_compact.proofs.Words.{satellite_line_read, rows_read, epoch_of_rows, epoch_after_line, ArcTail}
-use Rattle.crx_compact.proofs.Words.{arc_of_code, shown_value, RowTail, Tail}
-use Rattle.crx_compact.proofs.Words.{tail_named, held_row, HeldRow, past_of_tail, padded}
-use Rattle.crx_compact.proofs.Words.{shown_row, tail_for_line, HeldEpoch, RawStep, before_clock, with_rows}
-use Rattle.crx_compact.proofs.Words.{opened_raw, opening, whole_epoch, whole_or_awaiting, tail_opened}
-use Rattle.crx_compact.proofs.Words.{raw_step_with_row, row_step, step_with_rows, next_step, placed_as}
-use Rattle.crx_compact.proofs.Words.{held_after, place_of_step}
+use Rattle.crx_compact.proofs.Words.{◌≡◌, slice_get, Satellite, rows_read, tail_named, opened_raw, held_after}
+use Rattle.crx_compact.proofs.Words.{refl, List, [], arith, Fault, Count, Place, Wrong, Wanted, padded, rules}
+use Rattle.crx_compact.proofs.Words.{ℕ, Result, Content, ReadRow, ArcTail, RowTail, HeldRow, RawStep, opening}
+use Rattle.crx_compact.proofs.Words.{suc, patched, ReadLine, one_line, and_then, ReadCell, held_row, row_step}
+use Rattle.crx_compact.proofs.Words.{◌+◌, ◌∷◌, ◌++◌, map, Some, None, Ok, Err, sym, ◌∙◌, ap, Here, Tail}
+use Rattle.crx_compact.proofs.Words.{length, clock_line_read, epoch_after_line, tail_for_line, step_with_rows}
+use Rattle.crx_compact.proofs.Words.{Option, after_lines, epoch_begun, arc_of_code, shown_value, common_steps}
+use Rattle.crx_compact.proofs.Words.{option_map, true≢false, then_place, BegunEpoch, whole_epoch, tail_opened}
+use Rattle.crx_compact.proofs.Words.{take_all, map-map, shown_row, HeldEpoch, with_rows, next_step, placed_as}
+use Rattle.crx_compact.proofs.Words.{satellite_line_read, epoch_of_rows, whole_or_awaiting, raw_step_with_row}
+use Rattle.crx_compact.proofs.Words.{past_of_tail, before_clock, place_of_step, append_assoc, length-append}
 use Rattle.std.specs.Option.{is_some}
-use Rattle.std.proofs.lemmas.List.{append_assoc, length-append}
 use Rattle.crx_compact.specs.OpenEpochs.{OpenRawEpoch, rows_before, raw_step_with_clock, place_of_steps}
 use Rattle.crx_compact.specs.OpenEpochs.{open_raw_after}
 use Rattle.crx_compact.specs.OpenEpochs.RawStep.{Going}
@@ -21,8 +18,6 @@ use Rattle.crx_compact.specs.ReadingLaws.{is_wanted, StepsAgree, WantedWhereOpen
 use Rattle.crx_compact.proofs.ShownRows.{set-next}
 use Rattle.crx_compact.proofs.reading.PaddedRows.{row-opened, row-shows}
 use Rattle.crx_compact.proofs.soundness.Soundness.{Paired, RowFacts, rows-facts}
-use Rattle.std.proofs.lemmas.Grind.{common_steps}
-use Rattle.std.proofs.Common.{rules}
 
 -- ---- the satellite lines
 
@@ -95,13 +90,11 @@ rows-steps before text arc rows (s ∷ ss) count (Content line ∷ lines) =
     step (Err q) next = ap {B = Place HeldEpoch} (λ k. Wrong k q) (omega arith)
     step (Ok read) next =
         let left : RowTail = (held_row before read).tail in
-        let more = length-append rows (left ∷ []) in
-        let many : suc (length rows) ≡ length (rows ++ left ∷ []) = omega (arith, more) in
-        ap {B = Place HeldEpoch} (λ (all : List RowTail). place_of_steps
-        (suc count) (step_with_rows (tail_with text arc all) (suc (length rows))) lines) (set-next rows opened
-        (padded s (tail_named s.name before)) left) ∙ ap {B = Place HeldEpoch} (λ n. place_of_steps
-        (suc count) (step_with_rows (tail_with text arc ((rows ++ left ∷ []) ++ opened)) n) lines) many ∙ next
-        read ∙ one-more before text arc rows read lines count (rows_read (past_of_tail before) ss lines)
+        let many : suc (length rows) ≡ length (rows ++ left ∷ []) =
+        omega (arith, length-append rows (left ∷ [])) in
+        let set = set-next rows opened (padded s (tail_named s.name before)) left in
+        let more = rows_read (past_of_tail before) ss lines in
+        cc (next read, one-more before text arc rows read lines count more)
 rows-steps before text arc rows (s ∷ ss) count lines = grind (arith, get-next)
 
 -- ---- the clock line and the epoch line
@@ -124,25 +117,16 @@ clock-shown : (before : Tail) (line : List ℕ) (cell : ReadCell) → clock_line
     ≡ Ok cell → shown_value (arc_of_code cell.code before.clock) ≡ cell.value
 clock-shown before line cell e = grind (arith, common_steps)
 
-held-same : (before : Tail)
-    (line : List ℕ) (satellites : List Satellite) (cell : ReadCell) (rows : List ReadRow) (tail : Option Tail)
-    → tail_for_line tail line ≡ Some before → shown_value (arc_of_code cell.code before.clock) ≡ cell.value
-    → map (λ (r : ReadRow). r.row) rows ≡ map shown_row (rows_left before rows)
-    → held_after tail (epoch_of_rows (read_begun before line satellites) cell rows) ≡ whole_epoch
-    (tail_with (patched before.text line) (arc_of_code cell.code before.clock) (rows_left before rows))
-held-same before line satellites cell rows tail h clock shown = grind (arith, map-map, take_all)
-
 read_rows-held : (before : Tail) (line : List ℕ) (satellites : List Satellite) (cell : ReadCell)
     (tail : Option Tail) (lines : List ReadLine) (p : Place (List ReadRow)) → tail_for_line tail line
     ≡ Some before → shown_value (arc_of_code cell.code before.clock) ≡ cell.value → rows_read
     (past_of_tail before) satellites lines ≡ p → placed_as (held_after tail) (after_lines 1 (after_lines 1
     (then_place p lines (λ rows rest. Here (epoch_of_rows (read_begun before line satellites) cell rows) 0))))
     ≡ after_lines 2 (rows_placed before (patched before.text line) (arc_of_code cell.code before.clock) [] p)
-read_rows-held before line satellites cell tail lines (Here rows n) h clock e = grind (
-  arith,
-  held-same before line satellites cell rows tail h clock (rows-shown before satellites rows
-      (rows-facts (past_of_tail before) satellites lines rows n e).each),
-)
+read_rows-held before line satellites cell tail lines (Here rows n) h clock e =
+    let facts = rows-facts (past_of_tail before) satellites lines rows n e in
+    let shown = rows-shown before satellites rows facts.each in
+    grind (arith, map-map, take_all)
 read_rows-held before line satellites cell tail lines (Wrong n q) h clock e = grind arith
 read_rows-held before line satellites cell tail lines Wanted h clock e = refl
 
@@ -195,16 +179,17 @@ wanted-placed f p = grind arith
 pub wanted-where_open : (types : List Count) (tail : Option Tail) (lines : List ReadLine)
     → WantedWhereOpen types tail lines
 wanted-where_open types tail [] = refl
-wanted-where_open types tail (line ∷ lines) = sym (wanted-placed (held_after tail) _)
-    ∙ ap is_wanted (steps-agree types tail (line ∷ lines)) ∙ wanted-steps 0 _ lines
+wanted-where_open types tail (line ∷ lines) =
+    cc (wanted-placed (held_after tail) _, steps-agree types tail (line ∷ lines), wanted-steps 0 _ lines)
 
 -- a step more, where the lines so far make an open epoch
 step-more : (count : ℕ) (s : RawStep) (lines : List ReadLine) (line : ReadLine) (begun : OpenRawEpoch)
     → open_raw_after s lines ≡ Some begun → place_of_steps count s (lines ++ line ∷ [])
     ≡ place_of_step (suc (count + length lines)) (next_step begun line)
 step-more count (Going so_far) [] line begun h = grind arith
-step-more count (Going so_far) (l ∷ ls) line begun h = step-more (suc count)
-    (next_step so_far l) ls line begun h ∙ ap (λ n. place_of_step n (next_step begun line)) (omega arith)
+step-more count (Going so_far) (l ∷ ls) line begun h =
+    let many : suc count + length ls ≡ count + suc (length ls) = omega arith in
+    cc (step-more (suc count) (next_step so_far l) ls line begun h)
 step-more count s lines line begun h = absurd (true≢false (sym (ap is_some h)))
 
 open-more : (s : RawStep) (lines : List ReadLine) (line : ReadLine) (begun : OpenRawEpoch) → open_raw_after

@@ -1,14 +1,12 @@
 -- That memory ran out is no fault of a clock line or a satellite's line.
-use Rattle.crx_compact.proofs.Words.{◌≡◌, ℕ, suc, ℤ, List, [], ◌∷◌, Bool, true, false, Option, None}
-use Rattle.crx_compact.proofs.Words.{Result, Ok, Err, not, if◌then◌else◌, slice_index_or, ◌∙◌, ap, Code}
-use Rattle.crx_compact.proofs.Words.{code_of, Fault, BadField, BadFlags, OutOfMemory}
-use Rattle.crx_compact.proofs.Words.{Truncated, OBSERVATION_WIDTH, begins_epoch, and_then, before_all}
-use Rattle.crx_compact.proofs.Words.{Satellite, ReadCell, cell_read, cells_read, cells_of, ReadRow, are_marks}
-use Rattle.crx_compact.proofs.Words.{after_cells, row_of_cells, satellite_line_read, Past, HeldRow}
-use Rattle.crx_compact.proofs.Words.{arcs_of_tail, held_from, past_of_row, row_held, value_at_place}
-use Rattle.crx_compact.proofs.Words.{flags_of_tail, value_of_code, ArcTail, RowTail}
+use Rattle.crx_compact.proofs.Words.{◌≡◌, BadField, BadFlags, and_then, ReadCell, cells_of, HeldRow, row_held}
+use Rattle.crx_compact.proofs.Words.{ℕ, suc, ℤ, [], ◌∷◌, Ok, Err, not, ◌∙◌, ap, Code}
+use Rattle.crx_compact.proofs.Words.{List, Bool, true, Option, None, Result, Fault, ArcTail, RowTail, arith}
+use Rattle.crx_compact.proofs.Words.{false, Truncated, Satellite, cell_read, cells_read, are_marks, held_from}
+use Rattle.crx_compact.proofs.Words.{if◌then◌else◌, begins_epoch, row_of_cells, flags_of_tail, value_of_code}
+use Rattle.crx_compact.proofs.Words.{slice_index_or, OBSERVATION_WIDTH, satellite_line_read, value_at_place}
+use Rattle.crx_compact.proofs.Words.{code_of, OutOfMemory, before_all, after_cells, arcs_of_tail, past_of_row}
 use Rattle.crx_compact.proofs.Marks.{row_of_line, row_with_marks}
-use Rattle.std.proofs.Common.{arith}
 
 abbrev fault_in : {X : Type 0} → Result X Fault → Fault
 fault_in (Ok x) = Truncated
@@ -38,31 +36,26 @@ cells-none value h (text ∷ texts) = and-then-none (cell_read BadField (value 0
     value (suc place)) texts) (cells-none (λ place. value (suc place)) (λ place. h (suc place)) texts))
   where
     before : (cell : ReadCell) (r : Result (List ReadCell) Fault) → NoMemory r → NoMemory (before_all cell r)
-    before cell (Ok cells) k = λ e. cc
-    before cell (Err fault) k = k
+    before cell r k = grind arith
+
+test-none : {X : Type 0} (b : Bool) (fault : Fault) (r : Result X Fault)
+    → (fault ≡ OutOfMemory → ⊥) → NoMemory r → NoMemory (if b then Err fault else r)
+test-none true fault r h k = h
+test-none false fault r h k = k
 
 pub no-memory-at-row : (kept : Option RowTail) (s : Satellite) (line : List ℕ) (fault : Fault)
     → row_held kept s line ≡ Err fault → fault ≡ OutOfMemory → ⊥
-no-memory-at-row kept s line fault e out = and-then-none {Y = HeldRow} (satellite_line_read past s line) (λ
-    read. Ok (held_from arcs flags read)) (by_start (begins_epoch line)) (λ read h. cc) (ap fault_in e ∙ out)
-  where
-    arcs : List (Option ArcTail)
-    arcs = arcs_of_tail kept
-
-    flags : List ℕ
-    flags = flags_of_tail kept
-
-    past : Past
-    past = past_of_row arcs flags
-
-    by_marks : (cells : List ReadCell) (b : Bool) → NoMemory {X = ReadRow}
-        (if not b then Err BadFlags else Ok (row_of_cells past s.name (after_cells s.count line) cells))
-    by_marks cells true = λ h. cc
-    by_marks cells false = λ h. cc
-
-    by_start : (b : Bool) → NoMemory {X = ReadRow} (if b then Err Truncated else row_of_line past s line)
-    by_start true = λ h. cc
-    by_start false = and-then-none (cells_read (value_at_place arcs) (cells_of s.count line))
-        (λ cells. row_with_marks past s (after_cells s.count line) cells) (cells-none (value_at_place arcs)
-        (λ place code. value-none OBSERVATION_WIDTH code (slice_index_or arcs place None))
-        (cells_of s.count line)) (λ cells. by_marks cells (are_marks s.count (after_cells s.count line)))
+no-memory-at-row kept s line fault e out =
+    let arcs = arcs_of_tail kept in
+    let flags = flags_of_tail kept in
+    let past = past_of_row arcs flags in
+    let marks = after_cells s.count line in
+    let value =
+    λ (place : ℕ) (code : Code). value-none OBSERVATION_WIDTH code (slice_index_or arcs place None) in
+    let read = cells-none (value_at_place arcs) value (cells_of s.count line) in
+    let row = and-then-none (cells_read (value_at_place arcs) (cells_of s.count line))
+    (λ cells. row_with_marks past s marks cells) read (λ cells. test-none (not (are_marks s.count marks))
+    BadFlags (Ok (row_of_cells past s.name marks cells)) (λ h. cc) (λ h. cc)) in
+    and-then-none {Y = HeldRow} (satellite_line_read past s line) (λ read. Ok (held_from arcs flags read))
+    (test-none (begins_epoch line) Truncated (row_of_line past s line) (λ h. cc) row) (λ read h. cc)
+    (ap fault_in e ∙ out)

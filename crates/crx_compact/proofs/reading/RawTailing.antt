@@ -1,23 +1,19 @@
 -- The tail of a block of raw epochs decides what the next one stands for, and the next tail.
-use Rattle.crx_compact.proofs.Words.{◌≡◌, refl, ℕ, Bool, true, false, List, [], ◌∷◌, ◌*◌, map, length, Option}
-use Rattle.crx_compact.proofs.Words.{Some, None, if◌then◌else◌, unwrap_or, option_map, sym, ◌∙◌, ap}
-use Rattle.crx_compact.proofs.Words.{get_or_past, patched, ReadLine, Count}
-use Rattle.crx_compact.proofs.Words.{stretch, RawRow, RawEpoch, block_of, overlaid, raw_row_named, raw_run_of}
-use Rattle.crx_compact.proofs.Words.{marks_of, code_in, since_start, Past, past_of_block, past_of_epochs}
-use Rattle.crx_compact.proofs.Words.{past_of_line, epoch_at, RowTail, tail_left, no_tail, tail_named}
-use Rattle.crx_compact.proofs.Words.{cell_of_tail, flags_of_tail, flags_held, raw_row_tail_after}
-use Rattle.crx_compact.proofs.Words.{raw_tail_after, arc_of_code, past_of_tail, tail_for_line}
-use Rattle.crx_compact.proofs.Words.{epoch_after, HasSingleLines, each_place-same, index-each_place}
+use Rattle.crx_compact.proofs.Words.{◌≡◌, refl, ℕ, List, [], ◌∷◌, ◌*◌, map, length, Option, Some, None}
+use Rattle.crx_compact.proofs.Words.{unwrap_or, option_map, sym, ◌∙◌, ap, get_or_past, patched, ReadLine}
+use Rattle.crx_compact.proofs.Words.{Count, stretch, RawRow, RawEpoch, block_of, overlaid, raw_row_named}
+use Rattle.crx_compact.proofs.Words.{raw_run_of, marks_of, code_in, since_start, Past, past_of_block}
+use Rattle.crx_compact.proofs.Words.{past_of_epochs, past_of_line, epoch_at, RowTail, tail_left, no_tail}
+use Rattle.crx_compact.proofs.Words.{tail_named, cell_of_tail, flags_of_tail, flags_held, raw_row_tail_after}
+use Rattle.crx_compact.proofs.Words.{raw_tail_after, arc_of_code, past_of_tail, tail_for_line, epoch_after}
+use Rattle.crx_compact.proofs.Words.{HasSingleLines, each_place-same, index-each_place, arith, rules}
+use Rattle.crx_compact.proofs.Words.{raw_row_tail, tail_of_block, started_tail}
 use Rattle.std.proofs.Math.Path.{fun_ext}
-use Rattle.crx_compact.specs.Tails.{raw_row_tail, tail_of_block}
-use Rattle.crx_compact.specs.ArcTails.{started_tail}
 use Rattle.crx_compact.specs.ReadingLaws.{RawByTail}
 use Rattle.crx_compact.proofs.Lists.{mapped-same}
-use Rattle.crx_compact.proofs.wayback.Overlays.{overlaid-patched}
-use Rattle.crx_compact.proofs.wayback.Cuts.{overlaid-take}
+use Rattle.crx_compact.proofs.wayback.Overlays.{overlaid-patched, overlaid-take}
 use Rattle.crx_compact.proofs.wayback.Runs.{named-made}
-use Rattle.crx_compact.proofs.arcs.OneMore.{value-next, number-next}
-use Rattle.std.proofs.Common.{arith, rules}
+use Rattle.crx_compact.proofs.arcs.Arcs.{value-next, number-next}
 
 -- ---- what a tail holds of a satellite
 
@@ -77,12 +73,7 @@ epochs-left (e ∷ older) = ap {B = Option Past} Some (past-left (block_of (e �
 
 line-left : (older : List RawEpoch) (line : List ℕ)
     → past_of_line older line ≡ option_map past_of_tail (tail_for_line (tail_left older) line)
-line-left older line = step _
-  where
-    step : (b : Bool) → (if b then Some (past_of_block []) else past_of_epochs older)
-        ≡ option_map past_of_tail (if b then Some no_tail else tail_left older)
-    step true = cc (past-left [])
-    step false = epochs-left older
+line-left older line = grind (arith, past-left [], epochs-left older)
 
 -- the tail decides what is at the next lines
 pub place-by_tail : (types : List Count) (older : List RawEpoch) (lines : List ReadLine)
@@ -92,10 +83,4 @@ place-by_tail types older lines = cc (fun_ext (λ line. line-left older line))
 -- what a raw epoch leaves
 pub left-by_tail : (raw : RawEpoch) (older : List RawEpoch) → HasSingleLines raw → tail_left (raw ∷ older)
     ≡ Some (raw_tail_after (unwrap_or (tail_for_line (tail_left older) raw.line) no_tail) raw)
-left-by_tail raw older own = step _ older
-  where
-    step : (b : Bool) (os : List RawEpoch) → Some (tail_of_block (raw ∷ (if b then [] else block_of os)))
-        ≡ Some (raw_tail_after (unwrap_or (if b then Some no_tail else tail_left os) no_tail) raw)
-    step true os = cc (raw-by_tail raw [] own)
-    step false [] = cc (raw-by_tail raw [] own)
-    step false (e ∷ os) = cc (raw-by_tail raw (block_of (e ∷ os)) own)
+left-by_tail raw older own = grind (arith, raw-by_tail raw [] own, raw-by_tail raw (block_of older) own)

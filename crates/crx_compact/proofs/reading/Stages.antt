@@ -1,15 +1,13 @@
 -- A reader of compact epochs by how far the lines of an epoch have come.
-use Rattle.crx_compact.proofs.Words.{◌≡◌, ◌==◌, refl, ℕ, ◌≤◌, ◌<◌, Bool, true, false, List, length, Option}
-use Rattle.crx_compact.proofs.Words.{Some, None, Result, Ok, Err, if◌then◌else◌, is_ok, sym, ◌∙◌, ap, arith}
-use Rattle.crx_compact.proofs.Words.{true≢false, Fault, Content, Count, past_of_tail, satellites_of_line}
-use Rattle.crx_compact.proofs.Words.{Satellite, and_then, ColumnsState, RawStep, Reading, before_clock}
-use Rattle.crx_compact.proofs.Words.{first_step, is_idle, opening, step_in, step_with_rows}
-use Rattle.crx_compact.proofs.Words.{tail_for_line, tail_held, tail_opened, with_rows, columns_state, step_at}
-use Rattle.crx_compact.proofs.Words.{OpenHistory, tail_of_history, Tail, Stage, Rows}
+use Rattle.crx_compact.proofs.Words.{◌≡◌, ◌≤◌, ◌<◌, List, Some, None, Ok, ◌∙◌, ap, Tail, Rows, ◌==◌, Bool}
+use Rattle.crx_compact.proofs.Words.{true, if◌then◌else◌, satellites_of_line, step_with_rows, tail_of_history}
+use Rattle.crx_compact.proofs.Words.{ℕ, Satellite, first_step, tail_held, tail_opened, with_rows, OpenHistory}
+use Rattle.crx_compact.proofs.Words.{false, length, Option, Result, is_ok, arith, Fault, Count, Stage, rules}
+use Rattle.crx_compact.proofs.Words.{Content, and_then, RawStep, Reading, is_idle, opening, step_in, step_at}
+use Rattle.crx_compact.proofs.Words.{past_of_tail, ColumnsState, before_clock, tail_for_line, columns_state}
 use Rattle.crx_compact.specs.OpenEpochs.{awaits_row, is_faulty, makes_epoch}
 use Rattle.crx_compact.specs.declared.columns.Stage.TheVariants.{Unbegun}
 use Rattle.crx_compact.proofs.reading.StepsByCode.{rows-whole}
-use Rattle.std.proofs.Common.{rules}
 
 -- ---- between two epochs
 
@@ -33,8 +31,7 @@ line-good types line held before e good =
   where
     by_result : (r : Result (List Satellite) Fault) → is_ok r ≡ true
         → is_faulty (opening (and_then r (λ ss. Ok (before_clock (tail_opened before line ss))))) ≡ false
-    by_result (Ok ss) h = refl
-    by_result (Err fault) h = absurd (true≢false (sym h))
+    by_result r h = grind arith
 
 -- ---- the lines after it
 

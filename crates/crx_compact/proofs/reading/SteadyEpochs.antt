@@ -1,10 +1,8 @@
 -- What is at compact lines is certain as soon as its last line has come.
-use Rattle.crx_compact.proofs.Words.{ℕ, List, [], ◌∷◌, Option, Count, Satellite}
-use Rattle.crx_compact.proofs.Words.{Past, BegunEpoch}
-use Rattle.crx_compact.proofs.Words.{rows_read, epoch_after_line, epoch_against}
+use Rattle.crx_compact.proofs.Words.{ℕ, List, [], ◌∷◌, Option, Count, Satellite, Past, BegunEpoch, rows_read}
+use Rattle.crx_compact.proofs.Words.{epoch_after_line, epoch_against, arith, rules}
 use Rattle.crx_rinex.specs.Steady.{IsSteady}
 use Rattle.crx_rinex.proofs.Steady.{steady-here, steady-first_line, steady-then}
-use Rattle.std.proofs.Common.{arith, rules}
 
 pub steady-rows_read : (past : Past) (satellites : List Satellite) → IsSteady (rows_read past satellites)
 steady-rows_read past [] = steady-here []

@@ -1,16 +1,13 @@
 -- What a line makes of an open epoch, by what was read of it into a history.
-use Rattle.crx_compact.proofs.Words.{◌≡◌, refl, ◌≤◌, ◌<◌, ℕ, ◌+◌, true, List, [], ◌∷◌, length, map, Option}
-use Rattle.crx_compact.proofs.Words.{Some, None, Err, slice_get, ◌∙◌, arith, columns}
-use Rattle.crx_compact.proofs.Words.{Fault, HEAD_WIDTH, Content, Epoch, printed_epoch, printed_head}
-use Rattle.crx_compact.proofs.Words.{printed_row, shown_value, row_held, HasMade, HasPrintedLines}
-use Rattle.crx_compact.proofs.Words.{RawStep, Reading, next_step, step_with_rows}
-use Rattle.crx_compact.proofs.Words.{whole_epoch, with_rows, IsRowRead, OpenHistory, satellite_of}
-use Rattle.crx_compact.proofs.Words.{tail_of_history, shown_epoch, shown_row, RowTail, Tail}
+use Rattle.crx_compact.proofs.Words.{◌≡◌, ◌≤◌, ◌<◌, ℕ, ◌+◌, ◌∷◌, map, Some, None, Err, ◌∙◌, Tail}
+use Rattle.crx_compact.proofs.Words.{refl, printed_head, printed_row, shown_value, satellite_of, common_steps}
+use Rattle.crx_compact.proofs.Words.{true, List, length, arith, Fault, Epoch, Reading, RowTail, get_or, rules}
+use Rattle.crx_compact.proofs.Words.{[], Content, row_held, HasMade, RawStep, with_rows, IsRowRead, shown_row}
+use Rattle.crx_compact.proofs.Words.{slice_get, HEAD_WIDTH, next_step, whole_epoch, OpenHistory, shown_epoch}
+use Rattle.crx_compact.proofs.Words.{columns, printed_epoch, HasPrintedLines, step_with_rows, tail_of_history}
 use Rattle.std.proofs.lemmas.Option.{slice_get-get_or, slice_get_past}
 use Rattle.crx_compact.specs.OpenEpochs.{Idle, Whole, Faulty}
 use Rattle.crx_compact.specs.Placing.{empty_row}
-use Rattle.std.proofs.lemmas.Grind.{common_steps}
-use Rattle.std.proofs.Common.{rules}
 
 -- ---- satellite lines
 
@@ -22,12 +19,7 @@ row-stepped old new count line h = grind arith
 -- the row that is awaited
 pub row-awaited : (rows : List RowTail) (count : ℕ)
     → count < length rows → (row : RowTail) × (slice_get rows count ≡ Some row)
-row-awaited rows count h = by_place _ refl
-  where
-    by_place : (o : Option RowTail) → slice_get rows count ≡ o
-        → (row : RowTail) × (slice_get rows count ≡ Some row)
-    by_place None e = absurd (cc (slice_get-get_or rows count (empty_row []) h, e))
-    by_place (Some row) e = (row, e)
+row-awaited rows count h = (get_or rows count (empty_row []), slice_get-get_or rows count (empty_row []) h)
 
 pub row-faulty : (tail : Tail) (count : ℕ) (line : List ℕ) (fault : Fault) → count < length tail.rows
     → ((row : RowTail) → slice_get tail.rows count ≡ Some row → row_held (Some row) (satellite_of row) line

@@ -1,44 +1,25 @@
 -- An epoch that was read is whole, and its marks can be before others.
-use Rattle.crx_compact.proofs.Words.{◌≡◌, refl, ℕ, zero, suc, ◌+◌, ◌*◌, ℤ, Bool, true, false, ◌&&◌}
-use Rattle.crx_compact.proofs.Words.{nat_eq, List, [], ◌∷◌, map, length, take, drop, replicate, Option}
-use Rattle.crx_compact.proofs.Words.{Some, None, Result, Ok, IfSome, if◌then◌else◌, unwrap_or, list_all}
-use Rattle.crx_compact.proofs.Words.{AllByRecursion, sym, ◌∙◌, ap, subst, arith, length-map, and_parts}
-use Rattle.crx_compact.proofs.Words.{and_from, columns, character_at, is_blank, IsMissingOrWithin, IsValue}
-use Rattle.crx_compact.proofs.Words.{Row, Count, is_system, IsAllowedCount, types_of_satellite}
-use Rattle.crx_compact.proofs.Words.{IsSoundRow, HasItsTypes, apart-map, satellites_few, Code}
-use Rattle.crx_compact.proofs.Words.{Fault, OBSERVATION_WIDTH, CLOCK_WIDTH, is_kept, is_printable}
-use Rattle.crx_compact.proofs.Words.{stretch, Satellite, RawRow, RawEpoch, block_of, latest_mark}
-use Rattle.crx_compact.proofs.Words.{overlaid, raw_row_named, raw_run_of, marks_of, code_in}
-use Rattle.crx_compact.proofs.Words.{value_of, Past, past_of_block, ReadCell, ReadRow, ReadEpoch}
-use Rattle.crx_compact.proofs.Words.{each_place-all, length-each_place, length-columns, list_all-from_at}
+use Rattle.crx_compact.proofs.Words.{◌≡◌, IsAllowedCount, satellites_few, length-each_place, list_all-from_at}
+use Rattle.crx_compact.proofs.Words.{refl, unwrap_or, is_system, IsSoundRow, apart-map, Satellite, raw_run_of}
+use Rattle.crx_compact.proofs.Words.{ℕ, ◌+◌, ◌*◌, ℤ, ◌∷◌, map, None, sym, ◌∙◌, ap, Row, Code, Past, suc, true}
+use Rattle.crx_compact.proofs.Words.{List, take, Some, Result, IfSome, arith, Count, Fault, RawRow, []}
+use Rattle.crx_compact.proofs.Words.{list_all, RawEpoch, block_of, overlaid, marks_of, value_of, ReadCell}
+use Rattle.crx_compact.proofs.Words.{length, Option, Ok, columns, IsValue, is_kept, stretch, code_in, ReadRow}
+use Rattle.crx_compact.proofs.Words.{AllByRecursion, IsMissingOrWithin, types_of_satellite, OBSERVATION_WIDTH}
+use Rattle.crx_compact.proofs.Words.{subst, character_at, HasItsTypes, CLOCK_WIDTH, is_printable, latest_mark}
+use Rattle.crx_compact.proofs.Words.{length-map, raw_row_named, past_of_block, each_place-all, length-columns}
+use Rattle.crx_compact.proofs.Words.{All-from_recursion, count_of}
 use Rattle.std.specs.Prelude.{OnSome}
-use Rattle.std.proofs.lemmas.List.Elements.{All-from_recursion}
-use Rattle.crx_header.specs.meaning.ObservationTypes.{count_of}
 use Rattle.crx_header.specs.ObservationTypes.{AreCounts}
 use Rattle.crx_header.specs.meaning.Satellites.{has_number}
 use Rattle.crx_header.proofs.Counts.{allowed_of, system_of}
 use Rattle.crx_compact.specs.ReadingLaws.{HasPrintableMarks, IsGood, ReadsWholeEpochs}
 use Rattle.crx_compact.proofs.Lists.{all-from}
+use Rattle.crx_compact.proofs.SoundTexts.{all-columns}
 use Rattle.crx_compact.proofs.wayback.Overlays.{at-overlaid}
-use Rattle.crx_compact.proofs.Characters.{all-take, list_all-at, list_all-append}
+use Rattle.crx_compact.proofs.Characters.{all-take, list_all-at}
 use Rattle.crx_compact.proofs.soundness.Soundness.{AreReadCells, RowFacts, Paired, block_for, epoch-facts}
-use Rattle.crx_compact.proofs.EpochLines.{names_of, differ}
-use Rattle.std.proofs.Common.{rules}
-
--- ---- columns
-
-all-drop : (p : ℕ → Bool) (n : ℕ) (xs : List ℕ) → list_all p xs ≡ true → list_all p (drop n xs) ≡ true
-all-drop p zero xs h = h
-all-drop p (suc n) [] h = refl
-all-drop p (suc n) (x ∷ xs) h = all-drop p n xs (and_parts (p x) (list_all p xs) h).1
-
-all-blanks : (p : ℕ → Bool) (n : ℕ) → p 32 ≡ true → list_all p (replicate n 32) ≡ true
-all-blanks p zero e = refl
-all-blanks p (suc n) e = and_from (p 32) (list_all p (replicate n 32)) e (all-blanks p n e)
-
-all-columns : (p : ℕ → Bool) (text : List ℕ) (first width : ℕ)
-    → p 32 ≡ true → list_all p text ≡ true → list_all p (columns text first width) ≡ true
-all-columns p text first width e h = search (rules, all-take, list_all-append, all-drop, all-blanks)
+use Rattle.crx_compact.proofs.EpochLines.{names_of}
 
 -- ---- marks
 
@@ -51,8 +32,7 @@ latest-printable [] p h = refl
 latest-printable (w ∷ ws) p h = grind (arith, list_all-at _ refl w h.0 p, latest-printable ws p h.1)
 
 overlaid-kept : (marks : List (List ℕ)) → ArePrintable marks → list_all is_kept (overlaid marks) ≡ true
-overlaid-kept marks h = list_all-from_at is_kept (overlaid marks)
-    (λ p. ap is_kept (at-overlaid marks p) ∙ (grind (arith, (latest-printable marks p h))))
+overlaid-kept marks h = grind (arith, list_all-from_at, at-overlaid, latest-printable)
 
 -- ---- the marks of a run
 
@@ -63,11 +43,7 @@ block-printable (e ∷ older) h = grind (arith, block-printable older h.1)
 
 block_for-printable : (line : List ℕ) (older : List RawEpoch)
     → AllByRecursion HasPrintableMarks older → AllByRecursion HasPrintableMarks (block_for line older)
-block_for-printable line older h = choose _
-  where
-    choose : (b : Bool) → AllByRecursion HasPrintableMarks (if b then [] else block_of older)
-    choose true = tt
-    choose false = block-printable older h
+block_for-printable line older h = grind (arith, block-printable older h)
 
 found-printable : (name : List ℕ) (rows : List RawRow)
     → AllByRecursion (λ (r : RawRow). list_all is_printable r.marks ≡ true) rows
@@ -89,8 +65,7 @@ raw_run-printable name (e ∷ es) h =
         → ArePrintable (marks_of (raw_run_of name es))
         → ArePrintable (marks_of (stretch (o ∷ map (λ (q : RawEpoch). raw_row_named name q.rows) es)))
     choose None k next = tt
-    choose (Some r) k next = marks-cut (2 * length r.codes) (r.marks ∷ marks_of (raw_run_of name es))
-        (k, next)
+    choose (Some r) k next = marks-cut (2 * length r.codes) (r.marks ∷ _) (k, next)
 
 -- ---- values
 
@@ -125,28 +100,22 @@ pub row-sound : (types : List Count) (block : List RawEpoch) (satellite : Satell
     → RowFacts (past_of_block block) satellite read → IsSoundRow read.row × HasItsTypes types read.row
 row-sound types block satellite read counts printable known h =
     let name = satellite.name in
-    let flags = columns ((past_of_block block).flags name read.raw.marks) 1 (2 * length h.cells) in
+    let long = length-columns ((past_of_block block).flags name read.raw.marks) 1 (2 * length h.cells) in
     let many = length-map h.cells (λ (c : ReadCell). c.value) in
     let count = many ∙ h.counted in
     let typed = typed-parts types name satellite.count known.typed in
     let P : Option ℕ → Type 0 = λ o. IfSome o IsAllowedCount in
     let Q : Option ℕ → Type 0 = λ o. OnSome o (is_system (character_at name 1) ≡ true) in
-    let marks : list_all is_printable read.raw.marks ≡ true = (and_parts (list_all is_printable
-    read.raw.marks) (list_all is_blank (drop (2 * satellite.count) read.raw.marks)) h.marks_ok).0 in
-    let S : ReadRow → Type 0 = λ r. IsSoundRow r.row × HasItsTypes types r.row in
+    let system = subst Q typed.found (system_of types (character_at name 1) counts) in
+    let marks : list_all is_printable read.raw.marks ≡ true = grind (arith, h.marks_ok) in
     rw (← h.is_read) (
       record {
-        named = and_from (nat_eq (length name) 3) (is_system (character_at name 1) && has_number name)
-            (ap (λ n. nat_eq n 3) known.short) (and_from (is_system (character_at name 1)) (has_number name)
-            (subst Q typed.found (system_of types (character_at name 1) counts)) typed.number);
+        named = cc (known.short, typed.number, system);
         counted = rw count (subst P typed.found (allowed_of types (character_at name 1) counts));
         ranged = All-from_recursion IsValue (map (λ (c : ReadCell). c.value) h.cells)
             (cells-fit ((past_of_block block).value name) (λ j c v e. value_of-fits OBSERVATION_WIDTH
             (c ∷ map (code_in j) (raw_run_of name block)) v e) h.cells h.are_read);
-        paired =
-            let first =
-            length-columns ((past_of_block block).flags name read.raw.marks) 1 (2 * length h.cells) in
-            omega (arith, many);
+        paired = cc (long, many);
         kept = all-columns is_kept ((past_of_block block).flags name read.raw.marks) 1
             (2 * length h.cells) refl (overlaid-kept (read.raw.marks ∷ marks_of (raw_run_of name block))
             (marks, raw_run-printable name block printable));
@@ -200,20 +169,17 @@ reads-whole types older lines read count counts printable e =
     let sound_block = block_for-printable read.raw.line older printable in
     let three = each_place-all (λ (m : List ℕ). length m ≡ 3) n (λ k. columns text (42 + 3 * k) 3)
     (λ k. length-columns text (42 + 3 * k) 3) in
-    let N : List (List ℕ) → Type 0 = λ ns. AllByRecursion (λ (m : List ℕ). length m ≡ 3) ns in
-    let known = known-all types facts.satellites facts.line_ok.named.known
-    (subst N (sym facts.line_ok.named.same) three) in
+    let known =
+    known-all types facts.satellites facts.line_ok.named.known (rw facts.line_ok.named.same three) in
     let all = rows-sound types block facts.satellites facts.rows counts sound_block known facts.rows_ok in
     let names = row-names (past_of_block block) facts.satellites facts.rows facts.rows_ok in
-    let apart = sym (apart-map (λ (n : List ℕ). n) (λ (r : Row). r.name) rows)
-    ∙ ap differ (names ∙ facts.line_ok.named.same) ∙ facts.line_ok.named.apart in
-    let many : length rows ≡ n = sym (length-map rows (λ (r : Row). r.name))
-    ∙ ap length (names ∙ facts.line_ok.named.same) ∙ length-each_place n (λ k. columns text (42 + 3 * k) 3) in
+    let places = length-each_place n (λ k. columns text (42 + 3 * k) 3) in
+    let many : length rows ≡ n = cc (length-map rows (λ (r : Row). r.name), facts.line_ok.named.same) in
+    let different = apart-map (λ (n : List ℕ). n) (λ (r : Row). r.name) rows in
     let announced = ap (λ o. unwrap_or o 0) facts.line_ok.counted in
     let clock = value_of-fits CLOCK_WIDTH (facts.clock.code ∷ map (λ (q : RawEpoch). q.clock) block)
     facts.clock.value facts.clock_ok in
-    let G : ReadEpoch → Type 0 = λ r. IsGood types r in
-    subst G facts.is_read (record {
+    subst (IsGood types) facts.is_read (record {
       whole = record {
         sound = record {
           head_sound = record {
@@ -223,7 +189,7 @@ reads-whole types older lines read count counts printable e =
             ranged = clock;
           };
           rows_sound = All-from_recursion IsSoundRow rows (all-from IsSoundRow (λ r both. both.0) rows all);
-          apart = apart;
+          apart = cc (different, facts.line_ok.named.same, facts.line_ok.named.apart);
           within = omega (arith, many, announced);
         };
         full = many ∙ sym announced;

@@ -1,27 +1,22 @@
 -- What follows of an epoch from its having been read.
-use Rattle.crx_compact.proofs.Words.{◌≡◌, refl, ℕ, suc, ◌+◌, ◌*◌, Bool, true, ℤ, List, [], ◌∷◌, map}
-use Rattle.crx_compact.proofs.Words.{length, slice_index_or, drop, Option, Some, None, Result, Ok, not}
-use Rattle.crx_compact.proofs.Words.{if◌then◌else◌, AllByRecursion, sym, ◌∙◌, ap, subst, arith, length-map}
-use Rattle.crx_compact.proofs.Words.{columns, code_of, ReadLine, Row}
-use Rattle.crx_compact.proofs.Words.{Epoch, Count, apart-map, Place, Here, Wrong, Wanted, then_place}
-use Rattle.crx_compact.proofs.Words.{first_line, Code, Missing, Fault, NotAnEpoch}
-use Rattle.crx_compact.proofs.Words.{BadField, BadFlags, Truncated, each_place, and_then}
-use Rattle.crx_compact.proofs.Words.{before_all, begins_epoch, Satellite, RawRow, RawEpoch, block_of}
-use Rattle.crx_compact.proofs.Words.{raw_row_named, raw_run_of, marks_of, Past, past_of_block, past_of_epochs}
-use Rattle.crx_compact.proofs.Words.{past_of_line, satellites_of_line, BegunEpoch, epoch_begun}
-use Rattle.crx_compact.proofs.Words.{clock_line_read, are_marks, ReadRow, row_of_cells, satellite_line_read}
-use Rattle.crx_compact.proofs.Words.{rows_read, ReadEpoch, epoch_of_rows, epoch_after_line, epoch_at}
-use Rattle.crx_compact.proofs.Words.{ReadCell, cell_read, cells_read, cells_of, after_cells, HasSingleLines}
-use Rattle.std.specs.Prelude.{⊤}
+use Rattle.crx_compact.proofs.Words.{◌≡◌, suc, List, drop, Some, None, Here, Code, Past, refl, ◌+◌, ◌*◌, Bool}
+use Rattle.crx_compact.proofs.Words.{true, length, Option, Result, Count, Place, Wanted, RawRow, subst, rules}
+use Rattle.crx_compact.proofs.Words.{Wrong, BegunEpoch, begins_epoch, past_of_line, row_of_cells, epoch_begun}
+use Rattle.crx_compact.proofs.Words.{Fault, apart-map, Truncated, Satellite, are_marks, rows_read, raw_run_of}
+use Rattle.crx_compact.proofs.Words.{cells_read, length-map, then_place, first_line, NotAnEpoch, each_place}
+use Rattle.crx_compact.proofs.Words.{ℕ, ℤ, ◌∷◌, map, Ok, not, sym, ◌∙◌, ap, [], code_of, slice_index_or}
+use Rattle.crx_compact.proofs.Words.{AllByRecursion, past_of_epochs, clock_line_read, Missing, arith, ReadRow}
+use Rattle.crx_compact.proofs.Words.{columns, ReadLine, BadField, BadFlags, RawEpoch, block_of, marks_of}
+use Rattle.crx_compact.proofs.Words.{epoch_at, ReadCell, cells_of, ReadEpoch, cell_read, if◌then◌else◌}
+use Rattle.crx_compact.proofs.Words.{satellites_of_line, satellite_line_read, epoch_after_line, after_cells}
+use Rattle.crx_compact.proofs.Words.{raw_row_named, past_of_block, epoch_of_rows, HasSingleLines, ⊤}
 use Rattle.crx_compact.specs.Expansion.{all_ok, text_of, row_from, rows_from, epoch_of_block, epoch_from}
-use Rattle.crx_compact.proofs.wayback.Cuts.{columns-cut}
+use Rattle.crx_compact.proofs.wayback.Overlays.{columns-cut}
 use Rattle.crx_compact.specs.ReadingLaws.{ReadsSoundly}
 use Rattle.crx_compact.proofs.Identifiers.{each-own}
-use Rattle.crx_compact.proofs.Results.{no-err, ok-same, Follows, and_then-ok, if-err, if-true, before-ok}
-use Rattle.crx_compact.proofs.Marks.{row_with_marks, row_of_line, cells-count, texts-count}
+use Rattle.crx_compact.proofs.Results.{no-err, ok-same, and_then-ok, if-err, if-true, before-ok}
+use Rattle.crx_compact.proofs.Marks.{row_with_marks, cells-count, texts-count}
 use Rattle.crx_compact.proofs.EpochLines.{differ, names_of, LineFacts, line-facts_of}
-use Rattle.std.proofs.lemmas.Grind.{common_steps}
-use Rattle.std.proofs.Common.{rules}
 
 -- ---- good answers come from good answers
 
@@ -81,8 +76,8 @@ read-cells : (value : ℕ → Code → Result (Option ℤ) Fault) (texts : List 
 read-cells value [] cells e = subst (AreReadCells value) (ok-same [] cells e) tt
 read-cells value (text ∷ texts) cells e =
     let rest = cells_read (λ j. value (suc j)) texts in
-    let one = and_then-ok (cell_read BadField (value 0) (code_of text)) (λ c. before_all c rest) cells e in
-    let two = before-ok one.from rest cells one.next in
+    let one = and_then-ok _ _ cells e in
+    let two = before-ok one.from _ cells one.next in
     rw (← ok-same (one.from ∷ two.from) cells two.next) (
       read-cell BadField (value 0) text one.from one.first,
       read-cells (λ j. value (suc j)) texts two.from two.first,
@@ -110,8 +105,8 @@ pub line-facts : (past : Past) (satellite : Satellite) (line : List ℕ) (read :
 line-facts past satellite line read e =
     let texts = cells_of satellite.count line in
     let marks = after_cells satellite.count line in
-    let step = and_then-ok (cells_read (past.value satellite.name) texts) (λ cs. row_with_marks past satellite
-    marks cs) read (if-err (begins_epoch line) Truncated (row_of_line past satellite line) read e) in
+    let step = and_then-ok (cells_read (past.value satellite.name) texts)
+    (λ cs. row_with_marks past satellite marks cs) read (if-err (begins_epoch line) Truncated _ read e) in
     let row = row_of_cells past satellite.name marks step.from in
     rw (← ok-same row read (if-err (not (are_marks satellite.count marks)) BadFlags (Ok row) read step.next))
     (record {
@@ -122,10 +117,6 @@ line-facts past satellite line read e =
       marks_ok = if-true (are_marks satellite.count marks) BadFlags (Ok row) read step.next;
       is_read = refl;
     })
-
-raw-name : (past : Past) (satellite : Satellite) (read : ReadRow)
-    → RowFacts past satellite read → read.raw.name ≡ satellite.name
-raw-name past satellite read h = sym (ap (λ (r : ReadRow). r.raw.name) h.is_read)
 
 -- the row is what the line stands for after those before it
 row-meant : (block : List RawEpoch) (satellite : Satellite) (read : ReadRow) → RowFacts (past_of_block block)
@@ -164,14 +155,14 @@ rows-facts past (s ∷ ss) lines rows count e =
     one.more one.later in
     let rest = rows-facts past ss others two.from two.count two.first in
     let same = ap (thing_here (one.from ∷ two.from)) two.later in
-    grind (arith, common_steps, count_here, line-facts)
+    grind (arith, count_here, line-facts)
 
 -- ---- identifiers
 
 pub raw-names : (past : Past) (satellites : List Satellite) (rows : List ReadRow) → Paired (RowFacts past)
     satellites rows → map (λ (r : RawRow). r.name) (map (λ (r : ReadRow). r.raw) rows) ≡ names_of satellites
 raw-names past [] [] h = refl
-raw-names past (s ∷ ss) (r ∷ rs) h = cc (raw-name past s r h.0, raw-names past ss rs h.1)
+raw-names past (s ∷ ss) (r ∷ rs) h = cc (h.0.is_read, raw-names past ss rs h.1)
 raw-names past satellites rows h = absurd h
 
 -- ---- the epoch
@@ -202,26 +193,22 @@ record Begun (types : List Count) (older : List RawEpoch) (begun : BegunEpoch) :
   past_is : past_of_block (block_for begun.line older) ≡ begun.past
 
 -- a past, if there is one, is that of a block
-abbrev IsOfBlock : List RawEpoch → Option Past → Type 0
-IsOfBlock block None = ⊤
-IsOfBlock block (Some past) = past ≡ past_of_block block
-
-past-found_if : (b : Bool) (os : List RawEpoch)
-    → IsOfBlock (if b then [] else block_of os) (if b then Some (past_of_block []) else past_of_epochs os)
-past-found_if b os = grind arith
+past-found_if : (b : Bool) (os : List RawEpoch) (past : Past)
+    → (if b then Some (past_of_block []) else past_of_epochs os) ≡ Some past
+    → past_of_block (if b then [] else block_of os) ≡ past
+past-found_if b os past e = grind arith
 
 begun-facts : (types : List Count) (older : List RawEpoch) (line : List ℕ) (begun : BegunEpoch)
     → epoch_begun types line (past_of_line older line) ≡ Ok begun → Begun types older begun
-begun-facts types older line begun e =
-    by_past (past_of_line older line) (past-found_if (begins_epoch line) older) e
+begun-facts types older line begun e = by_past (past_of_line older line) refl e
   where
-    by_past : (o : Option Past) → IsOfBlock (block_for line older) o
-        → epoch_begun types line o ≡ Ok begun → Begun types older begun
+    by_past : (o : Option Past)
+        → past_of_line older line ≡ o → epoch_begun types line o ≡ Ok begun → Begun types older begun
     by_past None h e = absurd (no-err NotAnEpoch begun e)
     by_past (Some past) h e =
-        let step : Follows (satellites_of_line types past line) (λ ss. Ok
-        (record { line = line; past = past; satellites = ss })) begun = and_then-ok (satellites_of_line
-        types past line) (λ ss. Ok (record { line = line; past = past; satellites = ss })) begun e in
+        let step = and_then-ok (satellites_of_line types past line)
+        (λ ss. Ok (record { line = line; past = past; satellites = ss })) begun e in
+        let found = past-found_if (begins_epoch line) older past h in
         search rules
 
 -- what an epoch's clock line and satellite lines make
@@ -229,20 +216,16 @@ epoch-made : (types : List Count) (older : List RawEpoch)
     (begun : BegunEpoch) (lines : List ReadLine) (read : ReadEpoch) (count : ℕ) → Begun types older begun
     → epoch_after_line begun lines ≡ Here read count → EpochFacts types older read (suc count)
 epoch-made types older begun lines read count h e =
-    let rows_next : ReadCell → List ReadLine → Place ReadEpoch = λ clock others. then_place (rows_read
-    begun.past begun.satellites others) others (λ rows rest. Here (epoch_of_rows begun clock rows) 0) in
-    let one = then-comes (first_line lines (clock_line_read begun.past)) lines rows_next read count e in
+    let one = then-comes _ _ _ read count e in
     let line = line-reads lines (clock_line_read begun.past) one.from one.count one.first in
     let others = drop one.count lines in
-    let two = then-comes (rows_read begun.past begun.satellites others) others
-    (λ rows rest. Here (epoch_of_rows begun one.from rows) 0) read one.more one.later in
+    let two = then-comes _ _ _ read one.more one.later in
     let block = block_for begun.line older in
     let past = h.past_is in
     let rows = rows-facts begun.past begun.satellites others two.from two.count two.first in
     let made = ap (thing_here (epoch_of_rows begun one.from two.from)) two.later in
     let none = ap count_here two.later in
-    let P : ReadEpoch → Type 0 = λ r. EpochFacts types older r (suc count) in
-    subst P made (record {
+    subst (λ r. EpochFacts types older r (suc count)) made (record {
       satellites = begun.satellites;
       clock = one.from;
       rows = two.from;
@@ -250,20 +233,14 @@ epoch-made types older begun lines read count h e =
       clock_ok = search rules;
       rows_ok = subst (λ p. Paired (RowFacts p) begun.satellites two.from) (sym past) rows.each;
       counted = omega (arith, one.counted, line.one, two.counted, rows.counted, none);
-      is_read = ap {B = ReadEpoch} (λ p. epoch_of_rows (record {
-        line = begun.line;
-        past = p;
-        satellites = begun.satellites;
-      }) one.from two.from) past;
+      is_read = cc;
     })
 
 pub epoch-facts : (types : List Count) (older : List RawEpoch) (lines : List ReadLine) (read : ReadEpoch)
     (count : ℕ) → epoch_at types older lines ≡ Here read count → EpochFacts types older read count
 epoch-facts types older lines read count e =
-    let begin : List ℕ → Result BegunEpoch Fault = λ line. epoch_begun types line (past_of_line older line) in
-    let one =
-    then-comes (first_line lines begin) lines (λ begun others. epoch_after_line begun others) read count e in
-    let line = line-reads lines begin one.from one.count one.first in
+    let one = then-comes _ _ _ read count e in
+    let line = line-reads lines _ one.from one.count one.first in
     let facts = epoch-made types older one.from (drop one.count lines) read one.more
     (begun-facts types older line.line one.from line.ok) one.later in
     search rules
@@ -289,24 +266,17 @@ rows-meant block raw satellites rows h own = absurd h
 epoch-meant : (types : List Count) (older : List RawEpoch) (read : ReadEpoch) (count : ℕ)
     → EpochFacts types older read count → epoch_from read.raw older ≡ Ok read.epoch
 epoch-meant types older read count h =
-    let line : List ℕ = read.raw.line in
-    let block : List RawEpoch = block_for line older in
-    let raws : List RawRow = map (λ (r : ReadRow). r.raw) h.rows in
-    let rows : List Row = map (λ (r : ReadRow). r.row) h.rows in
-    let raw : RawEpoch = record { line = line; clock = h.clock.code; rows = raws } in
-    let single : HasSingleLines read.raw = rows-single types older read count h in
+    let block = block_for read.raw.line older in
+    let raws = map (λ (r : ReadRow). r.raw) h.rows in
+    let raw : RawEpoch = record { line = read.raw.line; clock = h.clock.code; rows = raws } in
     let same : raw ≡ read.raw = ap (λ (r : ReadEpoch). r.raw) h.is_read in
-    let own : HasSingleLines raw = let Q : RawEpoch → Type 0 = λ x. HasSingleLines x
-    in subst Q (sym same) single in
-    let meant : epoch_of_block (raw ∷ block) raw
-    ≡ Ok (record { head = columns (text_of (raw ∷ block)) 1 41; clock = h.clock.value; rows = rows }) =
-    ap {B = Result Epoch Fault} (λ res. and_then res (λ clock. and_then (rows_from (raw ∷ block) raws)
-    (λ rs. Ok (record { head = columns (text_of (raw ∷ block)) 1 41; clock = clock; rows = rs })))) h.clock_ok
-    ∙ ap {B = Result Epoch Fault} (λ res. and_then res (λ rs. Ok (record {
+    let own : HasSingleLines raw = subst (λ (x : RawEpoch). HasSingleLines x) (sym same)
+    (rows-single types older read count h) in
+    let meant : epoch_of_block (raw ∷ block) raw ≡ Ok (record {
       head = columns (text_of (raw ∷ block)) 1 41;
       clock = h.clock.value;
-      rows = rs;
-    }))) (rows-meant block raw h.satellites h.rows h.rows_ok own) in
+      rows = map (λ (r : ReadRow). r.row) h.rows;
+    }) = rw (h.clock_ok, rows-meant block raw h.satellites h.rows h.rows_ok own) in
     search rules
 
 pub reads-soundly : ReadsSoundly

@@ -1,12 +1,39 @@
--- The cells of a satellite line are read back from it.
-use Rattle.crx_compact.proofs.Words.{◌≡◌, refl, ℕ, true, List, [], ◌∷◌, ◌++◌, length, map, list_all}
-use Rattle.crx_compact.proofs.Words.{AllByRecursion, arith, without_end_blanks, Code, code_text}
-use Rattle.crx_compact.proofs.Words.{cell_text, cells_of, after_cells}
-use Rattle.std.specs.Prelude.{flat_map}
-use Rattle.std.proofs.lemmas.List.{append_assoc}
-use Rattle.crx_text.specs.meaning.Codes.{first_cell, after_cell}
-use Rattle.crx_compact.proofs.wayback.CodeTexts.{is_code_character}
-use Rattle.std.proofs.lemmas.Grind.{common_steps}
+-- The texts of codes hold no blank and no >, so the cells of a satellite line are read back from it.
+use Rattle.crx_compact.proofs.Words.{◌≡◌, [], ◌∷◌, map, ◌+◌, ◌^◌, ◌<◌, ◌≤◌, Bool, not, ◌&&◌, ◌==◌, pos, Step}
+use Rattle.crx_compact.proofs.Words.{refl, after_cells, IsPrintable, DIGITS_LIMIT, append_assoc, common_steps}
+use Rattle.crx_compact.proofs.Words.{ℕ, list_all, code_text, cell_text, cells_of, decimal, is_blank, flat_map}
+use Rattle.crx_compact.proofs.Words.{true, List, ◌++◌, arith, Code, ℤ, negsuc, Missing, Start, IsShort, rules}
+use Rattle.crx_compact.proofs.Words.{length, AllByRecursion, without_end_blanks, signed_decimal, is_printable}
+use Rattle.crx_compact.proofs.Words.{first_cell, after_cell, all_ascii_digits, ORDER_LIMIT}
+use Rattle.std.proofs.lemmas.Fmt.{decimal_digit}
+use Rattle.crx_text.proofs.ReadBack.{decimal_is_digits}
+
+-- ---- characters of codes: digits, a minus and &
+
+abbrev pub is_code_character : ℕ → Bool
+is_code_character c = is_printable c && (not (is_blank c) && not (c == 62))
+
+digits-characters : (text : List ℕ) → all_ascii_digits text ≡ true → list_all is_code_character text ≡ true
+digits-characters [] h = refl
+digits-characters (c ∷ cs) h = grind (arith, digits-characters cs (grind (arith, h)))
+
+-- a bound that both the digits of a code and those of an order meet
+small : (n : ℕ) → n < 10 ^ DIGITS_LIMIT → n < 2 ^ 64
+small n h = omega (arith, h)
+
+-- ---- codes
+
+pub signed-characters : (z : ℤ) → IsShort z → list_all is_code_character (signed_decimal z) ≡ true
+signed-characters (pos n) h = digits-characters (decimal n) (decimal_is_digits n (small n h))
+signed-characters (negsuc n) h = search (rules, digits-characters, decimal, decimal_is_digits, small)
+
+pub order-text : (n : ℕ) → n ≤ ORDER_LIMIT → decimal n ≡ (48 + n) ∷ []
+order-text n h = decimal_digit n (omega (arith, h))
+
+pub code-characters : (c : Code) → IsPrintable c → list_all is_code_character (code_text c) ≡ true
+code-characters Missing h = refl
+code-characters (Step z) h = signed-characters z h
+code-characters (Start n z) h = grind (arith, common_steps, order-text, signed-characters)
 
 -- ---- blanks at a line's end do not change its cells
 
@@ -43,15 +70,8 @@ pub cells-written : (codes : List Code) (marks : List ℕ) → AreWritten codes
     → cells_of (length codes) (without_end_blanks (flat_map cell_text codes ++ marks)) ≡ map code_text codes
 cells-written [] marks h = refl
 cells-written (c ∷ cs) marks h =
-    grind (
-      arith,
-      first_cell-trimmed,
-      one_cell,
-      first_cell-text,
-      after_cell-trimmed,
-      after_cell-text,
-      cells-written cs marks h.1,
-    )
+    let rest = cells-written cs marks h.1 in
+    grind (arith, first_cell-trimmed, one_cell, first_cell-text, after_cell-trimmed, after_cell-text)
 
 pub marks-written : (codes : List Code) (marks : List ℕ) → AreWritten codes → after_cells
     (length codes) (without_end_blanks (flat_map cell_text codes ++ marks)) ≡ without_end_blanks marks

@@ -1,13 +1,14 @@
--- Texts by their characters: what a difference marks comes back, and marks laid over one another are patches
--- in turn.
-use Rattle.crx_compact.proofs.Words.{◌≡◌, refl, ◌≢◌, ℕ, zero, suc, ◌≤◌, if◌then◌else◌, List, [], ◌∷◌, length}
-use Rattle.crx_compact.proofs.Words.{All, ◌∙◌, ap, arith, not-suc-le-zero, le_of_suc-le-suc, is_blank}
-use Rattle.crx_compact.proofs.Words.{without_end_blanks, by_position, mark_of, text_difference, character_of}
-use Rattle.crx_compact.proofs.Words.{patched, each_place, latest_mark, shown, longest, overlaid, at}
-use Rattle.crx_compact.proofs.Words.{at-without_end_blanks, index-each_place}
-use Rattle.crx_compact.specs.Laws.{patched_in_turn}
-use Rattle.crx_compact.proofs.Characters.{same_characters, at-by_position}
-use Rattle.std.proofs.Common.{rules}
+-- Texts by their characters: what a difference marks comes back, marks laid over one another are patches in
+-- turn, and texts and marks can be cut at a width.
+use Rattle.crx_compact.proofs.Words.{◌≡◌, is_blank, character_of, each_place, latest_mark, overlaid, take_all}
+use Rattle.crx_compact.proofs.Words.{refl, ◌≢◌, zero, List, length, mark_of, patched, shown, longest, columns}
+use Rattle.crx_compact.proofs.Words.{ℕ, suc, ◌≤◌, [], ◌∷◌, All, ◌∙◌, ap, at, ◌<◌, ◌⊎◌, map, take, inl, inr}
+use Rattle.crx_compact.proofs.Words.{if◌then◌else◌, arith, not-suc-le-zero, text_difference, index-each_place}
+use Rattle.crx_compact.proofs.Words.{le_of_suc-le-suc, without_end_blanks, by_position, at-without_end_blanks}
+use Rattle.crx_compact.proofs.Words.{cases_lt, rules, patched_in_turn}
+use Rattle.crx_compact.proofs.Characters.{same_characters, at-by_position, at-take_past}
+use Rattle.crx_compact.proofs.SoundTexts.{same-cut, same-columns}
+use Rattle.crx_compact.proofs.PlaceByPlace.{at-take}
 
 -- ---- patch after difference
 
@@ -23,9 +24,8 @@ at-All P e (c ∷ cs) h (suc p) = at-All P e cs (λ k d less. h (suc k) d (omega
 pub patched-difference : (old new : List ℕ)
     → All (λ c. c ≢ 38) new → patched old (text_difference old new) ≡ without_end_blanks new
 patched-difference old new h = same_characters (by_position character_of old (text_difference old new)) new
-    (λ p. at-by_position character_of refl old (text_difference old new) p ∙ ap (character_of (at old p))
-    (at-without_end_blanks (by_position mark_of old new) p ∙ at-by_position mark_of refl old new p)
-    ∙ character-mark (at old p) (at new p) (at-All (λ c. c ≢ 38) (omega arith) new h p))
+    (λ p. let marked = at-All (λ c. c ≢ 38) (omega arith) new h p in
+    grind (arith, at-by_position, at-without_end_blanks, character-mark))
 
 -- ---- marks over one another
 
@@ -55,3 +55,40 @@ overlaid-patched w ws =
 pub overlaid-in_turn : (marks : List (List ℕ)) → overlaid marks ≡ patched_in_turn marks
 overlaid-in_turn [] = refl
 overlaid-in_turn (w ∷ ws) = overlaid-patched w ws ∙ ap (λ u. patched u w) (overlaid-in_turn ws)
+
+-- ---- marks that are cut
+
+latest-take : (n : ℕ) (marks : List (List ℕ)) (p : ℕ) → p < n
+    → latest_mark (map (take n) marks) p ≡ latest_mark marks p
+latest-take n [] p h = refl
+latest-take n (w ∷ ws) p h = cc (at-take n w p h, latest-take n ws p h)
+
+latest-take_past : (n : ℕ) (marks : List (List ℕ)) (p : ℕ) → n ≤ p → latest_mark (map (take n) marks) p ≡ 32
+latest-take_past n [] p h = refl
+latest-take_past n (w ∷ ws) p h = cc (at-take_past n w p h, latest-take_past n ws p h)
+
+-- marks that are cut make the text that is cut
+pub overlaid-take : (n : ℕ) (marks : List (List ℕ))
+    → overlaid (map (take n) marks) ≡ without_end_blanks (take n (overlaid marks))
+overlaid-take n marks = same_characters
+    (each_place (longest (map (take n) marks)) (λ q. shown (latest_mark (map (take n) marks) q)))
+    (take n (overlaid marks)) (λ p. cc (at-longest (map (take n) marks) p, cut p (cases_lt p n)))
+  where
+    cut : (p : ℕ) → (p < n) ⊎ (n ≤ p)
+        → shown (latest_mark (map (take n) marks) p) ≡ at (take n (overlaid marks)) p
+    cut p (inl h) = cc (latest-take n marks p h, at-overlaid marks p, at-take n (overlaid marks) p h)
+    cut p (inr h) = cc (latest-take_past n marks p h, at-take_past n (overlaid marks) p h)
+
+-- a cut doesn't shorten what is no longer
+pub trimmed-within : (n : ℕ) (text : List ℕ)
+    → length text ≤ n → without_end_blanks (take n (without_end_blanks text)) ≡ without_end_blanks text
+trimmed-within n text few = same-cut n (without_end_blanks text) text (λ p less. at-without_end_blanks text p)
+    ∙ ap without_end_blanks (take_all n text few)
+
+-- ---- columns
+
+-- the first columns of marks don't ask for what is past them
+pub columns-cut : (n : ℕ) (marks : List (List ℕ))
+    → columns (overlaid (map (take n) marks)) 1 n ≡ columns (overlaid marks) 1 n
+columns-cut n marks = same-columns n (overlaid (map (take n) marks)) (overlaid marks)
+    (λ p less. cc (at-overlaid (map (take n) marks) p, latest-take n marks p less, at-overlaid marks p))

@@ -1,35 +1,29 @@
 -- A satellite's line reads as its row.
-use Rattle.crx_compact.proofs.Words.{◌≡◌, refl, ℕ, zero, suc, ◌+◌, ◌-◌, ◌*◌, ◌^◌, ◌<◌, ◌≤◌, ℤ, Bool, true}
-use Rattle.crx_compact.proofs.Words.{false, cond, nat_eq, List, [], ◌∷◌, ◌++◌, length, map, slice_index_or}
-use Rattle.crx_compact.proofs.Words.{All, Option, Some, None, Result, Ok, list_all, AllByRecursion}
-use Rattle.crx_compact.proofs.Words.{bytes_eq, sym, ◌∙◌, ap, subst, arith, not-suc-le-zero, get_or_past}
-use Rattle.crx_compact.proofs.Words.{All-head, All-tail, IsWithin, IsMissingOrWithin, IsValue, begins_epoch}
-use Rattle.crx_compact.proofs.Words.{without_end_blanks, text_difference, mark_of, by_position}
-use Rattle.crx_compact.proofs.Words.{code_text, IsPrintable, Row, Epoch, value_in, Code, Fault}
-use Rattle.crx_compact.proofs.Words.{WRITTEN_ORDER, OBSERVATION_WIDTH, CLOCK_WIDTH, each_place, stretch}
-use Rattle.crx_compact.proofs.Words.{code_at, Marked, run_of, since_full, row_named, arc_of}
-use Rattle.crx_compact.proofs.Words.{indicators_before, codes_of, satellite_line, cell_text, Satellite}
-use Rattle.crx_compact.proofs.Words.{RawEpoch, raw_run_of, code_in, value_of, past_of_block, ReadCell}
-use Rattle.crx_compact.proofs.Words.{cells_read, cells_of, after_cells, are_marks, row_of_cells}
-use Rattle.crx_compact.proofs.Words.{satellite_line_read, AreWhole, each_place-all, index-each_place}
-use Rattle.crx_compact.proofs.Words.{length-each_place, raw_row, Count, code_of-code_text, at}
-use Rattle.crx_compact.proofs.Words.{at-without_end_blanks, columns-are, list_all-from_at}
-use Rattle.std.specs.Prelude.{flat_map}
+use Rattle.crx_compact.proofs.Words.{◌≡◌, suc, ◌-◌, ◌*◌, ◌^◌, Bool, true, cond, List, ◌++◌, Some, None, Code}
+use Rattle.crx_compact.proofs.Words.{refl, nat_eq, length, Option, Result, stretch, code_at, code_in, raw_row}
+use Rattle.crx_compact.proofs.Words.{ℕ, ◌<◌, ◌≤◌, ℤ, ◌∷◌, map, All, sym, ◌∙◌, ap, Row, at, zero, false, subst}
+use Rattle.crx_compact.proofs.Words.{arith, Epoch, Fault, Marked, run_of, arc_of, Count, [], code_text}
+use Rattle.crx_compact.proofs.Words.{each_place, since_full, row_named, raw_run_of, cells_read}
+use Rattle.crx_compact.proofs.Words.{slice_index_or, AllByRecursion, IsValue, text_difference, satellite_line}
+use Rattle.crx_compact.proofs.Words.{Ok, value_in, codes_of, RawEpoch, value_of, ReadCell, cells_of, AreWhole}
+use Rattle.crx_compact.proofs.Words.{list_all, without_end_blanks, satellite_line_read, at-without_end_blanks}
+use Rattle.crx_compact.proofs.Words.{bytes_eq, All-head, All-tail, IsWithin, cell_text, Satellite, are_marks}
+use Rattle.crx_compact.proofs.Words.{not-suc-le-zero, IsMissingOrWithin, OBSERVATION_WIDTH, indicators_before}
+use Rattle.crx_compact.proofs.Words.{get_or_past, mark_of, by_position, IsPrintable, CLOCK_WIDTH, after_cells}
+use Rattle.crx_compact.proofs.Words.{begins_epoch, WRITTEN_ORDER, past_of_block, row_of_cells, each_place-all}
+use Rattle.crx_compact.proofs.Words.{index-each_place, length-each_place, code_of-code_text, list_all-from_at}
+use Rattle.crx_compact.proofs.Words.{flat_map, rules, common_steps, CodesFit, map-each_place, at-drop}
 use Rattle.crx_rinex.specs.meaning.EpochLines.{IsClockOffset}
-use Rattle.crx_compact.specs.Laws.{CodesFit}
-use Rattle.crx_text.proofs.EachPlace.{map-each_place}
+use Rattle.crx_compact.proofs.SoundTexts.{first-columns}
 use Rattle.crx_compact.proofs.Lists.{all-from}
-use Rattle.crx_compact.proofs.wayback.Writable.{IsTypedRow, typed-rows}
-use Rattle.crx_compact.proofs.wayback.CodeTexts.{is_code_character, code-characters}
-use Rattle.crx_compact.proofs.wayback.Cells.{AreWritten, cells-written, marks-written, one_cell}
+use Rattle.crx_compact.proofs.wayback.Facts.{IsTypedRow, typed-rows, unmarked, at-difference}
+use Rattle.crx_compact.proofs.wayback.Facts.{difference-printable, trimmed-again}
+use Rattle.crx_compact.proofs.wayback.Cells.{is_code_character, code-characters, AreWritten, cells-written}
+use Rattle.crx_compact.proofs.wayback.Cells.{marks-written, one_cell}
 use Rattle.crx_compact.proofs.wayback.Overlays.{at_past}
 use Rattle.crx_compact.proofs.wayback.Runs.{raw_run, codes-read, marked, rows_before, value-back, HasFlags}
 use Rattle.crx_compact.proofs.wayback.Runs.{marks-new}
 use Rattle.crx_compact.proofs.arcs.Bounds.{IsNear, near-within, code-printable}
-use Rattle.crx_compact.proofs.wayback.Facts.{unmarked, at-difference, difference-printable, trimmed-again}
-use Rattle.crx_text.proofs.Characters.{at-drop}
-use Rattle.std.proofs.Common.{rules}
-use Rattle.std.proofs.lemmas.Grind.{common_steps}
 
 -- ---- rows of a run
 
@@ -199,18 +193,13 @@ row-again : (types : List Count) (block : List RawEpoch) (r : Row) (rs : List Ro
     → AllByRecursion (IsRowOf types r.name) (r ∷ rs) → raw_run_of r.name block ≡ raw_run rs
     → row_of_cells (past_of_block block) r.name (text_difference (indicators_before (r ∷ rs)) r.flags)
     (each_place (length r.values) (cells_at r rs)) ≡ record { raw = raw_row (r ∷ rs) r; row = r }
-row-again types block r rs h e = grind (
-  arith,
-  map-each_place (λ (c : ReadCell). c.code) (length r.values) (cells_at r rs),
-  map-each_place (λ (c : ReadCell). c.value) (length r.values) (cells_at r rs),
-  values-again r.values,
-  length-each_place (length r.values) (cells_at r rs),
-  e,
-  marks-new r rs (flags-run types r.name (r ∷ rs) h),
-  columns-are (without_end_blanks r.flags) 1 (2 * length r.values) r.flags h.0.is_row.0.paired
-      (λ p less. let place : 1 - 1 + p ≡ p = omega arith in ap (at (without_end_blanks r.flags)) place
-      ∙ at-without_end_blanks r.flags p),
-)
+row-again types block r rs h e =
+    let codes = map-each_place (λ (c : ReadCell). c.code) (length r.values) (cells_at r rs) in
+    let values = map-each_place (λ (c : ReadCell). c.value) (length r.values) (cells_at r rs) in
+    let many = length-each_place (length r.values) (cells_at r rs) in
+    let flags = first-columns (2 * length r.values) (without_end_blanks r.flags) r.flags h.0.is_row.0.paired
+    (λ p less. at-without_end_blanks r.flags p) in
+    grind (arith, values-again r.values, marks-new r rs (flags-run types r.name (r ∷ rs) h))
 
 -- a line that was written reads as its codes and marks, and as its row
 pub row-read : (types : List Count) (block : List RawEpoch) (r : Row) (rs : List Row)

@@ -1,23 +1,19 @@
 -- Runs and arcs of what was written, as a reader finds them.
-use Rattle.crx_compact.proofs.Words.{◌≡◌, refl, ◌≢◌, ℕ, ◌*◌, ℤ, Bool, true, false, nat_eq, List, []}
-use Rattle.crx_compact.proofs.Words.{◌∷◌, length, map, take, Option, Some, None, Ok, if◌then◌else◌}
-use Rattle.crx_compact.proofs.Words.{AllByRecursion, option_map, ◌∙◌, ap, arith, get_or_past}
-use Rattle.crx_compact.proofs.Words.{without_end_blanks, text_difference, mark_of, by_position, patched}
-use Rattle.crx_compact.proofs.Words.{Row, Epoch, value_in, Code, WRITTEN_ORDER}
-use Rattle.crx_compact.proofs.Words.{back_to, stretch, code_at, Marked, epoch_text, row_named, since_full}
-use Rattle.crx_compact.proofs.Words.{run_of, arc_of, codes_of, indicators_before, newest_text}
-use Rattle.crx_compact.proofs.Words.{RawRow, RawEpoch, block_of, raw_row_named, raw_run_of, marks_of, code_in}
-use Rattle.crx_compact.proofs.Words.{overlaid, since_start, value_since, value_of, index-each_place}
-use Rattle.crx_compact.proofs.Words.{length-each_place, IsMissingOrWithin, raw_row, raw_of, raws_of, at}
-use Rattle.crx_compact.proofs.Words.{at-without_end_blanks}
-use Rattle.crx_compact.specs.meaning.Sequences.{named}
+use Rattle.crx_compact.proofs.Words.{◌≡◌, ◌≢◌, ℕ, ◌*◌, ℤ, [], ◌∷◌, map, Ok, ◌∙◌, ap, Row, at, Some, None}
+use Rattle.crx_compact.proofs.Words.{Code, refl, Bool, true, List, false, rules, arith, run_of, RawRow, named}
+use Rattle.crx_compact.proofs.Words.{Epoch, nat_eq, raw_of, length, Option, Marked, patched, back_to, code_in}
+use Rattle.crx_compact.proofs.Words.{arc_of, code_at, mark_of, raw_row, raws_of, value_of, codes_of, marks_of}
+use Rattle.crx_compact.proofs.Words.{stretch, block_of, value_in, overlaid, row_named, since_full, option_map}
+use Rattle.crx_compact.proofs.Words.{RawEpoch, epoch_text, newest_text, since_start, value_since, get_or_past}
+use Rattle.crx_compact.proofs.Words.{raw_run_of, without_end_blanks, indicators_before, at-without_end_blanks}
+use Rattle.crx_compact.proofs.Words.{by_position, if◌then◌else◌, AllByRecursion, WRITTEN_ORDER, raw_row_named}
+use Rattle.crx_compact.proofs.Words.{text_difference, index-each_place, length-each_place, IsMissingOrWithin}
 use Rattle.crx_compact.specs.ArcLaws.{codes_of_arc}
 use Rattle.crx_compact.proofs.arcs.Bounds.{within-is}
 use Rattle.crx_compact.proofs.arcs.Inversion.{value-numbers, started-codes}
 use Rattle.crx_compact.proofs.Characters.{at-by_position, same_characters}
-use Rattle.crx_compact.proofs.wayback.Overlays.{character-mark, overlaid-patched}
-use Rattle.crx_compact.proofs.wayback.Cuts.{overlaid-take, trimmed-within}
-use Rattle.std.proofs.Common.{rules}
+use Rattle.crx_compact.proofs.wayback.Overlays.{character-mark, overlaid-patched, overlaid-take}
+use Rattle.crx_compact.proofs.wayback.Overlays.{trimmed-within}
 
 -- ---- the block that a reader finds
 
@@ -83,11 +79,9 @@ run-step full name e older found h next = grind arith
 pub runs-read : (name : List ℕ) (ms : List Marked) → raw_run_of name (raw_block ms) ≡ raw_run (run_of name ms)
 runs-read name [] = refl
 runs-read name (m ∷ older) =
-    cc (
-      named-made (λ (r : Row). r.name) (λ (r : RawRow). r.name) (λ n r. raw_row (run_of n (m ∷ older)) r)
-          (λ n r. refl) name m.epoch.rows,
-      run-step m.in_full name m.epoch older (row_named name m.epoch.rows) refl (runs-read name older),
-    )
+    let made = named-made (λ (r : Row). r.name) (λ (r : RawRow). r.name)
+    (λ n r. raw_row (run_of n (m ∷ older)) r) (λ n r. refl) name m.epoch.rows in
+    cc (run-step m.in_full name m.epoch older (row_named name m.epoch.rows) refl (runs-read name older))
 
 -- ---- arcs
 
@@ -185,8 +179,9 @@ marks-cut : (r : Row) (rs : List Row)
 marks-cut r rs h e =
     let n = 2 * length (codes_of (length r.values) (r ∷ rs)) in
     let count = length-each_place (length r.values) (λ j. code_at WRITTEN_ORDER (arc_of j (r ∷ rs))) in
-    overlaid-take n (text_difference (indicators_before (r ∷ rs)) r.flags ∷ marks_of (raw_run rs))
-    ∙ ap (λ t. without_end_blanks (take n t)) e ∙ trimmed-within n r.flags (omega (arith, count, h.counted))
+    let marks = text_difference (indicators_before (r ∷ rs)) r.flags in
+    let cut = overlaid-take n (marks ∷ marks_of (raw_run rs)) in
+    cc (trimmed-within n r.flags (omega (arith, count, h.counted)))
 
 -- a reader finds the indicators of a run's newest row, by its marks over those before
 pub marks-new : (r : Row) (rs : List Row) → AllByRecursion HasFlags (r ∷ rs) → overlaid (text_difference

@@ -1,27 +1,127 @@
--- The compact lines of an epoch can be in a file.
-use Rattle.crx_compact.proofs.Words.{◌≡◌, refl, ℕ, Bool, true, false, ◌&&◌, ◌||◌, List, [], ◌∷◌}
-use Rattle.crx_compact.proofs.Words.{map, if◌then◌else◌, list_all, AllByRecursion, ◌∙◌, ap, arith, and_parts}
-use Rattle.crx_compact.proofs.Words.{character_at, without_end_blanks, text_difference, mark_of, is_printable}
-use Rattle.crx_compact.proofs.Words.{code_text, Code, Row, Epoch, Count, begins_epoch}
-use Rattle.crx_compact.proofs.Words.{is_observation_flag, Marked, epoch_text, since_full, newest_text}
-use Rattle.crx_compact.proofs.Words.{satellite_line, epoch_line, cell_text}
-use Rattle.crx_compact.proofs.Words.{AreWhole, length-each_place, IsWholeEpoch, at}
-use Rattle.crx_compact.proofs.Words.{at-without_end_blanks, list_all-from_at}
-use Rattle.std.specs.Prelude.{flat_map}
-use Rattle.crx_header.specs.meaning.EpochColumns.{is_event_flag, is_event_line}
-use Rattle.crx_compact.specs.Laws.{has_no_epochs, LinesCanStand}
+-- The compact lines of an epoch can be in a file, and none of them is too long.
+use Rattle.crx_compact.proofs.Words.{◌≡◌, [], ◌∷◌, map, ap, Row, ◌+◌, ◌-◌, ◌*◌, ◌^◌, ◌<◌, ◌≤◌, pos, at, refl}
+use Rattle.crx_compact.proofs.Words.{AllByRecursion, satellite_line, list_all-from_at, SATELLITES_LIMIT, ℕ}
+use Rattle.crx_compact.proofs.Words.{character_at, is_printable, begins_epoch, IsWholeEpoch, WRITTEN_ORDER}
+use Rattle.crx_compact.proofs.Words.{compact_epoch, if◌then◌else◌, epoch_text, signed_decimal, each_place-all}
+use Rattle.crx_compact.proofs.Words.{Bool, true, false, ◌&&◌, ◌||◌, List, arith, Code, Epoch, Count, ℤ, subst}
+use Rattle.crx_compact.proofs.Words.{list_all, without_end_blanks, is_observation_flag, at-without_end_blanks}
+use Rattle.crx_compact.proofs.Words.{and_parts, code_text, Marked, cell_text, AreWhole, clock_arc, since_full}
+use Rattle.crx_compact.proofs.Words.{epoch_line, mark_of, newest_text, by_position, DIGITS_LIMIT, CLOCK_WIDTH}
+use Rattle.crx_compact.proofs.Words.{text_difference, length-each_place, OBSERVATION_WIDTH, indicators_before}
+use Rattle.crx_compact.proofs.Words.{negsuc, length, value_in, code_at, arc_of, codes_of, IsWithin, few_kept}
+use Rattle.crx_compact.proofs.Words.{flat_map, neg_ℤ, common_steps, rules, length-append, is_event_flag}
+use Rattle.crx_compact.proofs.Words.{is_event_line, has_no_epochs, LinesCanStand, TYPES_LIMIT}
 use Rattle.crx_compact.proofs.Lists.{all-from}
-use Rattle.crx_compact.proofs.wayback.Writable.{IsTypedRow, typed-rows}
-use Rattle.crx_compact.proofs.wayback.CodeTexts.{is_code_character, code-characters}
-use Rattle.crx_compact.proofs.wayback.Cells.{AreWritten}
+use Rattle.crx_compact.proofs.wayback.Facts.{IsTypedRow, typed-rows, text-kept, text-head, text-begins}
+use Rattle.crx_compact.proofs.wayback.Facts.{at-difference, difference-printable, length-text}
+use Rattle.crx_compact.proofs.wayback.Cells.{is_code_character, code-characters, order-text, AreWritten}
 use Rattle.crx_compact.proofs.wayback.Runs.{marked, begins_full, begins_later}
 use Rattle.crx_compact.proofs.Characters.{list_all-at, list_all-append}
-use Rattle.crx_compact.proofs.wayback.Facts.{text-kept, text-head}
-use Rattle.crx_compact.proofs.wayback.Facts.{text-begins, at-difference, difference-printable}
 use Rattle.crx_compact.proofs.wayback.Rows.{IsRowOf, clock-printable, line-begins, lines-each, written-codes}
+use Rattle.crx_compact.proofs.wayback.Rows.{clocks-fit, near-all, stretch-within, values-fit}
 use Rattle.crx_compact.proofs.wayback.Reading.{text-other}
-use Rattle.std.proofs.lemmas.Grind.{common_steps}
-use Rattle.std.proofs.Common.{rules}
+use Rattle.std.proofs.lemmas.Fmt.{length-decimal-le}
+use Rattle.std.proofs.Math.Nat.{pow-le-pow_right}
+use Rattle.crx_compact.proofs.arcs.Bounds.{IsNear, doubled, difference-within, ten-more}
+
+-- ---- numbers and codes
+
+signed-length : (k b : ℕ) (z : ℤ)
+    → 0 < k → k ≤ DIGITS_LIMIT → b < 10 ^ k → IsNear b z → length (signed_decimal z) ≤ k + 1
+signed-length k b (pos n) some few h near = search (rules, pow-le-pow_right, length-decimal-le)
+signed-length k b (negsuc n) some few h near = search (rules, pow-le-pow_right, length-decimal-le)
+
+-- a number that fits its columns: a minus takes the place of a digit
+within-length : (j : ℕ) (z : ℤ) → 0 < j → j + 1 ≤ DIGITS_LIMIT → IsWithin (j + 2) z
+    → length (signed_decimal z) ≤ j + 1
+within-length j (pos n) some few h = grind (arith, common_steps, ten-more, length-decimal-le)
+within-length j (negsuc n) some few h = grind (arith, common_steps, neg_ℤ, ten-more, length-decimal-le)
+
+-- a code of an arc whose values fit so many columns: a first value has two characters before it, and a
+-- difference one digit more than a value
+pub code-length : (j : ℕ) (xs : List ℤ)
+    → 0 < j → j + 2 ≤ DIGITS_LIMIT → doubled WRITTEN_ORDER (10 ^ (j + 1)) < 10 ^ (j + 2)
+    → AllByRecursion (IsWithin (j + 2)) xs → length (code_text (code_at WRITTEN_ORDER xs)) ≤ j + 3
+code-length j [] some few h all = omega arith
+code-length j (x ∷ []) some few h all = grind (arith, common_steps, within-length, order-text)
+code-length j (x ∷ y ∷ ys) some few h all =
+    let b = 10 ^ (j + 1) in
+    let same : j + 2 - 1 ≡ j + 1 = omega arith in
+    let P : ℕ → Type 0 = λ m. AllByRecursion (IsNear (10 ^ m)) (x ∷ y ∷ ys) in
+    let near = difference-within b x (y ∷ ys) (subst P same (near-all (j + 2) (x ∷ y ∷ ys) all)) in
+    omega (arith, signed-length (j + 2) (doubled WRITTEN_ORDER b) _ (omega arith) few h near)
+
+-- ---- texts
+
+by_position-length : (f : ℕ → ℕ → ℕ) (xs ys : List ℕ)
+    → length (by_position f xs ys) ≡ length xs + (length ys - length xs)
+by_position-length f [] [] = omega arith
+by_position-length f (x ∷ xs) [] = omega (arith, by_position-length f xs [])
+by_position-length f [] (y ∷ ys) = omega (arith, by_position-length f [] ys)
+by_position-length f (x ∷ xs) (y ∷ ys) = omega (arith, by_position-length f xs ys)
+
+pub difference-length : (n : ℕ) (old new : List ℕ)
+    → length old ≤ n → length new ≤ n → length (text_difference old new) ≤ n
+difference-length n old new h k =
+    omega (arith, few_kept (by_position mark_of old new), by_position-length mark_of old new)
+
+pub cells-length : (n : ℕ) (codes : List Code) → AllByRecursion (λ (c : Code). length (code_text c) ≤ n) codes
+    → length (flat_map cell_text codes) ≤ (n + 1) * length codes
+cells-length n [] h = omega arith
+cells-length n (c ∷ cs) h = grind (arith, length-append, cells-length n cs h.1)
+
+-- ---- counts of satellites
+
+pub few-satellites : (types : List Count) (e : Epoch) → IsWholeEpoch types e
+    → length e.rows ≤ SATELLITES_LIMIT
+few-satellites types e h = grind arith
+
+pub text-short : (types : List Count) (e : Epoch)
+    → IsWholeEpoch types e → length (epoch_text e) ≤ 41 + 3 * SATELLITES_LIMIT
+text-short types e h = grind (arith, length-text types e h, few-satellites types e h)
+
+-- ---- lines
+
+-- the most bytes of a written line: so many codes of 15 characters, each with a blank and two indicators
+abbrev most : ℕ
+most = 18 * TYPES_LIMIT
+
+before-length : (types : List Count) (name : List ℕ) (run : List Row)
+    → AllByRecursion (IsRowOf types name) run → length (indicators_before run) ≤ 2 * TYPES_LIMIT
+before-length types name run h = grind arith
+
+row-short : (types : List Count) (name : List ℕ) (run : List Row) (r : Row)
+    → AllByRecursion (IsRowOf types name) run → IsTypedRow types r → length (satellite_line run r) ≤ most
+row-short types name run r h k =
+    let codes = codes_of (length r.values) run in
+    let each = each_place-all (λ (c : Code). length (code_text c) ≤ 15) (length r.values) (λ j. code_at
+    WRITTEN_ORDER (arc_of j run)) (λ j. code-length 12 (arc_of j run) (omega arith) (omega arith) (omega
+    arith) (stretch-within OBSERVATION_WIDTH (map (value_in j) run) (values-fit types name j run h))) in
+    let count = length-each_place (length r.values) (λ j. code_at WRITTEN_ORDER (arc_of j run)) in
+    let cells = cells-length 15 codes each in
+    let tail = difference-length (2 * TYPES_LIMIT) (indicators_before run) r.flags
+    (before-length types name run h) (omega (arith, k.0.paired, k.0.counted.1)) in
+    grind (arith, common_steps, length-append, flat_map, cell_text, few_kept)
+
+old-short : (types : List Count) (full : Bool) (e : Epoch) (older : List Marked) → AreWhole types (since_full
+    (marked full e ∷ older)) → length (if full then [] else newest_text older) ≤ 41 + 3 * SATELLITES_LIMIT
+old-short types false e (m ∷ older) h = text-short types m.epoch h.1.0
+old-short types full e older h = omega arith
+
+-- none of the compact lines of an epoch is too long
+pub lines-short : (types : List Count) (full : Bool) (e : Epoch) (older : List Marked)
+    → AreWhole types (since_full (marked full e ∷ older)) → AllByRecursion
+    (λ (line : List ℕ). length line ≤ 18 * TYPES_LIMIT) (compact_epoch (marked full e ∷ older))
+lines-short types full e older h =
+    let ms = marked full e ∷ older in
+    let old = old-short types full e older h in
+    let line = difference-length _ _ (epoch_text e) old (text-short types e h.0) in
+    let fits = stretch-within CLOCK_WIDTH (map (λ (e : Epoch). e.clock) (since_full ms))
+    (clocks-fit types (since_full ms) h) in
+    let clock = code-length 13 (clock_arc ms) (omega arith) (omega arith) (omega arith) fits in
+    let kept = typed-rows types e h.0 in
+    let rows = lines-each (λ l. length l ≤ most) types ms (row-short types) h e.rows kept in
+    (omega arith, (omega arith, rows))
 
 -- ---- characters
 
@@ -37,8 +137,7 @@ cells-printable (c ∷ cs) h = grind (arith, list_all-append, code-printable, ce
 
 pub trimmed-printable : (text : List ℕ)
     → list_all is_printable text ≡ true → list_all is_printable (without_end_blanks text) ≡ true
-trimmed-printable text h = list_all-from_at is_printable (without_end_blanks text)
-    (λ p. ap is_printable (at-without_end_blanks text p) ∙ list_all-at is_printable refl text h p)
+trimmed-printable text h = grind (arith, list_all-from_at, at-without_end_blanks, list_all-at)
 
 -- ---- satellite lines
 
@@ -63,12 +162,11 @@ full-no_event : (types : List Count) (e : Epoch)
 full-no_event types e h =
     let line = text_difference [] (epoch_text e) in
     let flag : is_observation_flag (at e.head 31) ≡ true = grind (arith, common_steps) in
-    ap (λ b. begins_epoch line && b) (ap is_event_flag (at-difference [] (epoch_text e) 31 ∙ ap (mark_of 32)
-    (text-head types e h 31 (omega arith))) ∙ flag-mark (at e.head 31) flag) ∙ false-right (begins_epoch line)
+    let head = text-head types e h 31 (omega arith) in
+    no-flag (begins_epoch line) _ (cc (at-difference [] (epoch_text e) 31, flag-mark (at e.head 31) flag))
   where
-    false-right : (b : Bool) → (b && false) ≡ false
-    false-right true = refl
-    false-right false = refl
+    no-flag : (b c : Bool) → c ≡ false → (b && c) ≡ false
+    no-flag b c h = grind arith
 
 line-no_event : (types : List Count) (full : Bool) (e : Epoch) (older : List Marked) → AreWhole types
     (since_full (marked full e ∷ older)) → is_event_line (epoch_line (marked full e) older) ≡ false
@@ -91,14 +189,9 @@ lines-stand types full e older h =
     ) in
     let first = difference-printable (if full then [] else newest_text older) (epoch_text e)
     (text-kept types e h.0) in
-    let printable = lines-each _ types ms (λ name run r h k. grind (
-      arith,
-      trimmed-printable,
-      list_all-append,
-      cells-printable,
-      written-codes,
-      difference-printable,
-    )) h e.rows rows in
+    let printable = lines-each _ types ms (λ name run r h k.
+    grind (arith, trimmed-printable, list_all-append, cells-printable, written-codes, difference-printable))
+    h e.rows rows in
     let no_event = all-from (λ (line : List ℕ). is_event_line line ≡ false)
     (λ line begins. ap (λ b. b && is_event_flag (character_at line 32)) begins) (text ∷ lines) others in
     record {

@@ -1,23 +1,20 @@
--- The tail of the epochs decides the next epoch's lines and the next tail.
-use Rattle.crx_compact.proofs.Words.{◌≡◌, refl, ℕ, ℤ, Bool, true, false, List, [], ◌∷◌, map, Option}
-use Rattle.crx_compact.proofs.Words.{Some, None, if◌then◌else◌, option_map, sym, ◌∙◌, ap, get_or_past}
-use Rattle.crx_compact.proofs.Words.{without_end_blanks, text_difference, Row, Epoch, value_in, WRITTEN_ORDER}
-use Rattle.crx_compact.proofs.Words.{back_to, stretch, Marked, epoch_text, row_named, run_of, arc_of}
-use Rattle.crx_compact.proofs.Words.{newest_text, indicators_before, satellite_line, RowTail, Tail, tail_of}
-use Rattle.crx_compact.proofs.Words.{no_tail, tail_named, cell_of_tail, flags_of_tail, row_line_in}
-use Rattle.crx_compact.proofs.Words.{row_tail_in}
-use Rattle.crx_compact.proofs.Words.{index-each_place, are_different}
-use Rattle.crx_compact.specs.Tails.{row_tail}
-use Rattle.crx_compact.specs.ArcTails.{arc_tail}
-use Rattle.crx_compact.specs.Laws.{EpochByTail}
+-- The tail of the epochs decides the next epoch's lines and the next tail: so an epoch is coded after others.
+use Rattle.crx_compact.proofs.Words.{◌≡◌, text_difference, satellite_line, index-each_place, lines_after_tail}
+use Rattle.crx_compact.proofs.Words.{refl, false, [], Option, Epoch, Marked, run_of, arc_of, tail_of, no_tail}
+use Rattle.crx_compact.proofs.Words.{ℕ, ℤ, Bool, true, List, ◌∷◌, map, Some, None, sym, ◌∙◌, ap, Row, Tail}
+use Rattle.crx_compact.proofs.Words.{if◌then◌else◌, without_end_blanks, indicators_before, tail_written_after}
+use Rattle.crx_compact.proofs.Words.{option_map, get_or_past, value_in, newest_text, row_line_in, row_tail_in}
+use Rattle.crx_compact.proofs.Words.{WRITTEN_ORDER, cell_of_tail, flags_of_tail, are_different, compact_epoch}
+use Rattle.crx_compact.proofs.Words.{back_to, stretch, epoch_text, row_named, RowTail, tail_named, tail_after}
+use Rattle.crx_compact.proofs.Words.{arc_tail, rules, arith, IsSoundEpoch}
+use Rattle.crx_compact.specs.Tails.{row_tail, tail_or_nothing}
+use Rattle.crx_compact.specs.Laws.{EpochByTail, tail_before}
 use Rattle.crx_compact.proofs.Lists.{mapped-same}
 use Rattle.crx_compact.proofs.wayback.Runs.{marked, named-made, rows_before}
 use Rattle.crx_compact.proofs.wayback.Rows.{run-begins}
 use Rattle.crx_compact.proofs.SoundTexts.{before-trimmed}
 use Rattle.crx_compact.proofs.Identifiers.{each-own}
-use Rattle.crx_compact.proofs.arcs.OneMore.{code-next, arc-next}
-use Rattle.std.proofs.Common.{rules}
-use Rattle.std.proofs.Common.{arith}
+use Rattle.crx_compact.proofs.arcs.Arcs.{code-next, arc-next}
 
 -- ---- what a tail holds of a satellite
 
@@ -36,23 +33,19 @@ cell-found name rest None j = refl
 cell-found name rest (Some r) j = index-each_place _ j _ None (λ le. ap (λ (o : Option ℤ).
     arc_tail WRITTEN_ORDER (stretch (o ∷ map (value_in j) (stretch rest)))) (get_or_past r.values j None le))
 
-flags-found : (rest : List (Option Row)) (found : Option Row) → flags_of_tail
-    (option_map (row_tail (stretch (found ∷ rest))) found) ≡ head_flags (stretch (found ∷ rest))
-flags-found rest found = grind arith
+tail-found : (name : List ℕ) (m : Marked) (older : List Marked) → tail_named name (tail_of (m ∷ older))
+    ≡ option_map (row_tail (run_of name (m ∷ older))) (row_named name m.epoch.rows)
+tail-found name m older = named-made (λ (r : Row). r.name) (λ (t : RowTail). t.name)
+    (λ n r. row_tail (run_of n (m ∷ older)) r) (λ n r. refl) name m.epoch.rows
 
 cell-left : (full : Bool) (name : List ℕ) (older : List Marked) (j : ℕ) → cell_of_tail j
     (tail_named name (start full older)) ≡ arc_tail WRITTEN_ORDER (arc_of j (rows_before full name older))
-cell-left false name (m ∷ older) j = ap (cell_of_tail j) (named-made (λ (r : Row). r.name)
-    (λ (t : RowTail). t.name) (λ n r. row_tail (run_of n (m ∷ older)) r) (λ n r. refl) name m.epoch.rows)
-    ∙ cell-found name _ _ j
+cell-left false name (m ∷ older) j = ap (cell_of_tail j) (tail-found name m older) ∙ cell-found name _ _ j
 cell-left full name older j = refl
 
 flags-left : (full : Bool) (name : List ℕ) (older : List Marked)
     → flags_of_tail (tail_named name (start full older)) ≡ head_flags (rows_before full name older)
-flags-left false name (m ∷ older) = ap flags_of_tail (named-made (λ (r : Row). r.name)
-    (λ (t : RowTail). t.name) (λ n r. row_tail (run_of n (m ∷ older)) r) (λ n r. refl) name m.epoch.rows)
-    ∙ flags-found (map (λ (q : Epoch). row_named name q.rows) (map (λ (k : Marked). k.epoch)
-    (if m.in_full then [] else back_to (λ (k : Marked). k.in_full) older))) (row_named name m.epoch.rows)
+flags-left false name (m ∷ older) = grind (arith, tail-found name m older)
 flags-left full name older = refl
 
 -- ---- one row more
@@ -105,3 +98,21 @@ epoch-by full e older h =
 pub epoch-by_tail : (m : Marked) (older : List Marked) → are_different m.epoch.rows ≡ true
     → EpochByTail m older
 epoch-by_tail m older h = epoch-by m.in_full m.epoch older h
+
+-- ---- an epoch coded after others
+
+written-before : (full : Bool) (epoch : Epoch) (epochs : List Marked)
+    → tail_written_after full (tail_or_nothing epochs) ≡ tail_before (marked full epoch) epochs
+written-before full epoch epochs = grind arith
+
+pub lines-coded : (full : Bool) (epoch : Epoch) (held : Option Tail) (epochs : List Marked)
+    → IsSoundEpoch epoch → held ≡ tail_or_nothing epochs
+    → lines_after_tail (tail_written_after full held) epoch ≡ compact_epoch (marked full epoch ∷ epochs)
+lines-coded full epoch held epochs h e =
+    cc (e, written-before full epoch epochs, (epoch-by_tail (marked full epoch) epochs h.apart).lines)
+
+pub tail-coded : (full : Bool) (epoch : Epoch) (held : Option Tail) (epochs : List Marked)
+    → IsSoundEpoch epoch → held ≡ tail_or_nothing epochs
+    → tail_after (tail_written_after full held) epoch ≡ tail_of (marked full epoch ∷ epochs)
+tail-coded full epoch held epochs h e =
+    cc (e, written-before full epoch epochs, (epoch-by_tail (marked full epoch) epochs h.apart).tail)

@@ -14,8 +14,7 @@ use Rattle.std.proofs.Math.Nat.{pow-le-pow_right}
 use Rattle.crx_text.specs.meaning.Numbers.{IsMissingOrWithin, number_text, size_text, observation_text}
 use Rattle.crx_text.specs.meaning.Numbers.{IsValue}
 use Rattle.crx_text.proofs.Spellings.{abs_within}
-use Rattle.crx_compact.proofs.wayback.Writable.{sound-name_kept}
-use Rattle.crx_compact.proofs.wayback.Facts.{head-kept}
+use Rattle.crx_compact.proofs.wayback.Facts.{sound-name_kept, head-kept}
 use Rattle.crx_base.specs.declared.limits.TheConstants.{OBSERVATION_DECIMALS, CLOCK_DECIMALS}
 use Rattle.crx_text.proofs.ReadBack.{decimal_is_digits}
 use Rattle.crx_filter.proofs.wayback.WayBack.{whole-settled}

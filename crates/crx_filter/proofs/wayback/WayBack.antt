@@ -9,7 +9,7 @@ use Words.{AtLines, Looking, is_skipped, reading_from, fault_at_end, ended_with,
 use Words.{written_lines, result_of, rinex_place, marked_epochs, whole_rinex, version_line, program_line}
 use Words.{compact_lines, rinex_reading, compact_place, whole_compact, expanded_unit, expanded, printed_items}
 use Words.{AreInPlace, OfCopiedLine, OfCopiedLines, HaveNoReturns, written_well, Place, ap, ◌∙◌}
-use Rattle.crx_compact.proofs.wayback.Lengths.{lines-short}
+use Rattle.crx_compact.proofs.wayback.Standing.{lines-short}
 use Rattle.crx_filter.specs.WayBack.{ComesBack}
 use Rattle.crx_filter.proofs.Choosing.{by_bool}
 use Rattle.crx_filter.proofs.reading.Forward.{rinex-forward}

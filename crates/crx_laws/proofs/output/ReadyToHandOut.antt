@@ -6,7 +6,7 @@ use Rattle.crx_filter.proofs.Words.{Choices, is_date, Item, Accepted, Warned, is
 use Rattle.crx_filter.proofs.Words.{marked_epochs, compact_unit, rinex_place, rinex_reading, AreInPlace}
 use Rattle.crx_filter.proofs.Words.{OfCopiedLine, OfCopiedLines}
 use Rattle.crx_compact.specs.meaning.Compaction.{run_of, satellite_line}
-use Rattle.crx_compact.proofs.wayback.Lengths.{lines-short}
+use Rattle.crx_compact.proofs.wayback.Standing.{lines-short}
 use Rattle.crx_header.specs.meaning.CompactHeader.{lines_before_header}
 use Rattle.crx_laws.specs.Bounds.{AreReadyToHandOut, OfUnits, longest_of, IsNotTooLong}
 use Rattle.crx_laws.specs.Bounds.{CompactIsReadyToHandOut}

@@ -9,8 +9,8 @@ use Rattle.crx_compact.specs.ArcTails.{ArcTail, arc_tail, IsBoundedArc}
 use Rattle.crx_compact.specs.Tails.{row_tail, IsBoundedRowTail}
 use Rattle.crx_compact.specs.Laws.{WrittenAreBounded}
 use Rattle.crx_text.proofs.EachPlace.{each_place-all, length-each_place}
-use Rattle.crx_compact.proofs.wayback.Lengths.{few-satellites, text-short}
-use Rattle.crx_compact.proofs.wayback.Writable.{IsTypedRow, typed-rows}
+use Rattle.crx_compact.proofs.wayback.Standing.{few-satellites, text-short}
+use Rattle.crx_compact.proofs.wayback.Facts.{IsTypedRow, typed-rows}
 use Rattle.crx_text.proofs.EndBlanks.{few_kept}
 use Rattle.crx_rinex.proofs.ReadingBack.{name-length}
 

@@ -1,18 +1,10 @@
-use Rattle.std.proofs.Common.{◌≤◌, ◌<◌, sym, length, pos, ◌+ℤ◌, slice_index_or, FitsSigned, w64, to_z, arith}
-use Rattle.std.proofs.lemmas.Int.{ints}
+use Rattle.std.proofs.Common.{rules, ◌≤◌, ◌<◌, length, pos, ◌+ℤ◌, slice_index_or, FitsSigned, w64, to_z}
+use Rattle.std.proofs.Common.{arith}
 use Rattle.crx_compact.proofs.arcs.Running.{same-bits, first-fits, sum-fits, sum-step, newest-by}
 use Rattle.crx_compact.proofs.arc.value_after.Goals as goal
 
 pub loop-difference-init : goal.loop-difference-init
-loop-difference-init c =
-    rw (same-bits _ c.ranges.number) (record {
-      done = sym (newest-by c.args.number c.args.differences.now);
-      value_below = record {
-        low = omega (arith, ints, c.requires.short.low);
-        high = omega (arith, ints, c.requires.short.high);
-      };
-      rest_below = c.requires.below;
-    })
+loop-difference-init c = rw (same-bits _ c.ranges.number) (search (rules, newest-by))
 
 pub overflow_add-value : goal.overflow_add-value
 overflow_add-value c =
@@ -23,8 +15,7 @@ overflow_add-value c =
     first-fits c.loop-difference.difference-index
     c.args.differences.now here few c.loop-difference.invariant.rest_below in
     rw (same-bits _ fits)
-    (sum-fits c.loop-difference.difference-index
-    _ (to_z w64 c.loop-difference.value-bits) c.args.differences.now here few c.loop-difference.invariant)
+    (search (rules, sum-fits, to_z, w64, c.loop-difference.invariant))
 
 pub loop-difference-preserved : goal.loop-difference-preserved
 loop-difference-preserved c =

@@ -1,34 +1,26 @@
+use Rattle.crx_compact.proofs.Words.{take, ap, ◌∙◌, arith, ◌≡◌, ◌+◌, ◌*◌, ◌++◌, ◌∷◌, [], at, shown_value}
 use Rattle.std.specs.List.{slice_index}
 use Rattle.std.proofs.lemmas.Grind.{get_or_default_zero}
-use Rattle.std.proofs.Common.{take, ap, ◌∙◌, arith, ◌≡◌, ◌+◌, ◌*◌, ◌++◌, ◌∷◌, []}
-use Rattle.crx_text.proofs.Characters.{at}
 use Rattle.crx_text.specs.meaning.Numbers.{observation_text}
-use Rattle.crx_compact.specs.ArcSteps.{shown_value}
 use Rattle.crx_compact.proofs.PlaceByPlace.{print-on}
 use Rattle.crx_compact.proofs.cells.print_cells.Goals as goal
 
 pub loop-place-preserved : goal.loop-place-preserved
 loop-place-preserved c =
-    let end = c.loop-place.invariant.end in
-    let long = c.loop-place.auto.bytes in
-    let same = c.obs_print_cell.auto.bytes in
     let place = c.loop-place.place in
     let flags = c.args.flags.now in
-    let full = c.requires.full in
     let before = take c.loop-place.end c.loop-place.bytes in
     let printed : take (c.loop-place.end + 16) c.obs_print_cell.new.bytes
     ≡ before ++ (observation_text (shown_value c.index-arcs-place.result)
     ++ at flags (2 * place) ∷ at flags (2 * place + 1) ∷ []) =
-    rw (
-      get_or_default_zero flags (2 * place) 32 (omega (arith, full)),
-      get_or_default_zero flags (2 * place + 1) 32 (omega (arith, full)),
-    )
-    (c.obs_print_cell.ensures.written
-    ∙ ap (λ v. before ++ (observation_text v ++ slice_index flags (2 * place) ∷ slice_index flags (2 * place + 1) ∷ []))
-    c.value.ensures.value) in
+    rw (get_or_default_zero flags (2 * place) 32 (omega arith))
+    (rw (get_or_default_zero flags (2 * place + 1) 32 (omega arith)) (c.obs_print_cell.ensures.written
+    ∙ ap (λ v. before ++ (observation_text v ++ slice_index flags (2 * place) ∷ slice_index flags
+    (2 * place + 1) ∷ []))
+    c.value.ensures.value)) in
     record {
       cells = print-on c.args.arcs.now flags before _ _ place c.index-arcs-place.result c.loop-place-test.true
           c.index-arcs-place.is printed c.loop-place.invariant.cells;
-      end = omega (arith, end);
-      long = omega (arith, long, same);
+      end = omega arith;
+      long = omega arith;
     }

@@ -1,7 +1,5 @@
-use Rattle.std.specs.Prelude.{◌≡◌, ◌+◌, ◌*◌, ◌++◌, length, drop, map, take}
-use Rattle.crx_text.specs.meaning.Columns.{columns}
+use Rattle.crx_compact.proofs.Words.{◌≡◌, ◌+◌, ◌*◌, ◌++◌, length, drop, map, take, columns, shown_value}
 use Rattle.crx_text.specs.meaning.PrintedCells.{printed_cells}
-use Rattle.crx_compact.specs.ArcSteps.{shown_value}
 use Rattle.crx_compact.proofs.cells.print_cells.Given as goal
 
 -- the cells that are left complete the bytes up to the end

@@ -1,12 +1,11 @@
-use Rattle.std.proofs.lemmas.Result.{err_from_is_err_and}
-use Rattle.std.proofs.lemmas.List.{length-take-le}
-use Rattle.std.proofs.Common.{List, Err, ℕ, ap, ◌≡◌, ◌<◌, ◌-◌, ◌∙◌, arith, length, subst, take, Bor}
-use Rattle.crx_compact.specs.Cells.{CellsAreRead, value_at_place}
-use Rattle.crx_compact.specs.meaning.Cells.{cells_of, cells_read}
+use Rattle.crx_compact.proofs.Words.{rules, List, Err, ℕ, ap, ◌≡◌, ◌<◌, ◌∙◌, arith, length, subst, take}
+use Rattle.crx_compact.proofs.Words.{err_from_is_err_and, length-take-le, value_at_place, cells_of}
+use Rattle.crx_compact.proofs.Words.{cells_read}
+use Rattle.std.proofs.Common.{Bor}
 use Rattle.crx_compact.proofs.CellsRead.{first-read, first-refused, read-none, read-next, next-refused}
 use Rattle.crx_compact.proofs.CellsRead.{read-all}
-use Rattle.crx_compact.proofs.cells.read_cells.Goals as goal
 use Rattle.crx_compact.proofs.cells.read_cells.Goals.{in-Some, in-None+in_ok-length-in-None}
+use Rattle.crx_compact.proofs.cells.read_cells.Goals as goal
 
 pub loop-place-init : goal.loop-place-init
 loop-place-init c = read-none (take c.args.count c.args.arcs.now) c.args.line.now
@@ -42,11 +41,4 @@ loop-place-preserved c =
     ]
 
 pub returns-clause-ok : goal.returns-clause-ok
-returns-clause-ok c =
-    let first = take c.args.count c.args.arcs.now in
-    let many = length-take-le c.args.count c.args.arcs.now c.requires.fitting in
-    let arcs = take c.args.count c.loop-place.arcs in
-    let line = c.args.line.now in
-    let rest = c.loop-place.rest.now in
-    subst (λ n. CellsAreRead first n line arcs (length line - length rest)) many
-    (read-all first line rest c.loop-place.place arcs c.loop-place.invariant (omega (arith, many)))
+returns-clause-ok c = search (rules, length-take-le, c.requires.fitting, read-all, c.loop-place.invariant)

@@ -1,8 +1,6 @@
-use Rattle.std.proofs.Common.{◌≡◌, ◌<◌, List, Option, None, ℕ, ℤ, get_or, ap, ◌∙◌}
-use Rattle.std.proofs.Common.{arith, length, sym, take}
-use Rattle.std.proofs.lemmas.List.{get_or-take, length-set, take_more_set}
-use Rattle.crx_compact.specs.ArcTails.{ArcTail}
-use Rattle.crx_compact.specs.ArcSteps.{arc_of_value, code_of_value}
+use Rattle.crx_compact.proofs.Words.{◌≡◌, ◌<◌, List, Option, None, ℕ, ℤ, get_or, ap, ◌∙◌, arith, length, sym}
+use Rattle.crx_compact.proofs.Words.{take, length-set, take_more_set, ArcTail, arc_of_value, code_of_value}
+use Rattle.std.proofs.lemmas.List.{get_or-take}
 use Rattle.std.proofs.lemmas.Option.{slice_get-get_or}
 use Rattle.crx_compact.proofs.AlikeFrom.{alike-there, alike-after}
 use Rattle.crx_compact.proofs.PlaceByPlace.{cells-more}

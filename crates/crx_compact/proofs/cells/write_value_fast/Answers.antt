@@ -9,8 +9,7 @@ pub write_cell-requires-in-Some-push_third-clause-room :
 write_cell-requires-in-Some-push_third-clause-room c =
     let fits : FitsSigned w64 c.in-Some-push_third.difference = search rules in
     let short = code_text_length (Step c.in-Some-push_third.difference) c.in-Some-push_third.ensures.short in
-    let room = c.requires.room in
-    rw (same-bits _ fits) (omega (arith, short, room))
+    rw (same-bits _ fits) (omega (arith, short))
 
 pub returns-in-Some-push_third : goal.returns-in-Some-push_third
 returns-in-Some-push_third c =

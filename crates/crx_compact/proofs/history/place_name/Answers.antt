@@ -1,6 +1,5 @@
-use Rattle.crx_compact.proofs.Words.{ℕ, List, Some, ◌≡◌, ◌∙◌, inl, inr, refl, subst, sym, err_from_is_err_and}
-use Rattle.crx_compact.proofs.Words.{types_of_satellite, HasRoom, PlacedRows}
-use Rattle.crx_compact.specs.Placing.{IsPlaced}
+use Rattle.crx_compact.proofs.Words.{rules, ℕ, List, Some, ◌≡◌, ◌∙◌, inl, inr, refl, subst, sym}
+use Rattle.crx_compact.proofs.Words.{err_from_is_err_and, types_of_satellite, HasRoom, PlacedRows}
 use Rattle.crx_compact.proofs.Naming.{names-room}
 use Rattle.crx_compact.proofs.Results.{from_some, some-otherwise}
 use Rattle.crx_compact.proofs.placing.Placed.{placed-asked}
@@ -31,25 +30,14 @@ returns-in_err-prepare_names-clause-rooms c = λ name count has.
 
 -- room was asked for all
 pub unwrap-requires : goal.unwrap-requires
-unwrap-requires c =
-    let at = c.requires.there in
-    some-otherwise c.place-2.result (λ none. (c.place-2.ensures.unplaced none).known
-    (subst (λ (n : List ℕ). HasRoom n c.args.cells c.prepare_names.new.satellites.rooms) (sym at.2)
-    (c.in_ok-prepare_names.ensures.room at.0 c.args.cells at.1
-    (subst (λ (n : List ℕ). types_of_satellite c.args.types.now n ≡ Some c.args.cells) at.2 at.3))))
+unwrap-requires c = search (rules, some-otherwise, types_of_satellite)
 
 pub returns-clause-ok : goal.returns-clause-ok
-returns-clause-ok c =
-    let none = c.in_default.ensures.unplaced refl in
-    subst (λ (p : PlacedRows). IsPlaced c.args.name c.args.cells p c.place-2.new.self c.unwrap.result) none.unchanged
-    (placed-asked (rw (← none.unchanged) at none.absent) c.prepare_names.ensures.asked
-    (from_some (IsPlaced c.args.name c.args.cells c.prepare_names.new.satellites c.place-2.new.self)
-    c.place-2.result c.unwrap.result c.unwrap.ensures c.place-2.ensures.placed))
+returns-clause-ok c = search (rules, placed-asked, from_some)
 
 pub returns-clause-rooms : goal.returns-clause-rooms
 returns-clause-rooms c = λ name count has.
-    c.place-2.ensures.rooms.forth name count
-    (c.prepare_names.ensures.asked.rooms name count (c.place.ensures.rooms.forth name count has))
+    search rules
 
 pub returns-clause-back : goal.returns-clause-back
 returns-clause-back c = inl c.in_ok-prepare_names.ensures.good

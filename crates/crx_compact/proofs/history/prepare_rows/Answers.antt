@@ -1,10 +1,9 @@
+use Rattle.crx_compact.proofs.Words.{◌≡◌, ◌≤◌, ℕ, List, ap, length, map, sum, sym, ◌∙◌, subst, arith, inl}
+use Rattle.crx_compact.proofs.Words.{inr, false≢true, Row, HasRoom, HaveRoom, row_room, slice_get_within}
 use Rattle.crx_base.specs.declared.limits.TheConstants.{TYPES_LIMIT}
-use Rattle.crx_compact.proofs.Words.{◌≡◌, ◌≤◌, ℕ, ℤ, List, Option, ap, length, map, sum, sym, ◌∙◌, subst}
-use Rattle.crx_compact.proofs.Words.{take, arith, inl, inr, false≢true, Row, HasRoom, HaveRoom, row_room}
 use borrow.Author.Count.{falls}
 use Rattle.crx_compact.proofs.Making.{taken_all}
-use Rattle.crx_compact.proofs.PlaceByPlace.{some-there}
-use Rattle.crx_compact.proofs.RowByRow.{all-at, all-next, all-of, sum-next}
+use Rattle.crx_compact.proofs.RowByRow.{all-at, all-next, sum-next}
 use Rattle.crx_compact.proofs.history.prepare_rows.Goals as goal
 
 pub loop-row-preserved : goal.loop-row-preserved
@@ -14,17 +13,13 @@ loop-row-preserved c =
     let index : ℕ = c.loop-row.index in
     let rooms = c.prepare.new.self.rooms in
     let roomy : HasRoom row.name (length row.values) rooms =
-    subst (λ (name : List ℕ). HasRoom name (length row.values) rooms) c.name.ensures.value
-    (subst (λ (values : List (Option ℤ)). HasRoom c.name.result (length values) rooms) c.values-count.ensures.value
-    c.in_ok-prepare.ensures.room) in
+    rw (c.name.ensures.value, c.values-count.ensures.value) at c.in_ok-prepare.ensures.room in
     let many : length c.values-count.result.now ≡ length row.values = ap length c.values-count.ensures.value in
     let few : length row.values ≤ TYPES_LIMIT = c.values-count.ensures.sound.counted.1 in
     let next = sum-next row_room rows index row (sym c.in-Some.ensures.value) in
-    let made = c.loop-row.invariant.made in
-    let bounded = c.loop-row.invariant.bounded in
     record {
-      made = omega (arith, many, next, made);
-      bounded = omega (arith, many, few, bounded);
+      made = omega arith;
+      bounded = omega arith;
       rows = c.prepare.ensures.asked.rows ∙ c.loop-row.invariant.rows;
       rest = c.prepare.ensures.asked.rest ∙ c.loop-row.invariant.rest;
       kept = λ name count has. c.prepare.ensures.asked.rooms name count
@@ -39,9 +34,7 @@ loop-row-preserved c =
         })
       ];
       room = all-next (λ (r : Row). HasRoom r.name (length r.values) rooms) rows index row
-          (all-of (λ (r : Row). HasRoom r.name (length r.values) c.loop-row.satellites.rooms)
-          (λ (r : Row). HasRoom r.name (length r.values) rooms) (take index rows)
-          (λ r known. c.prepare.ensures.asked.rooms r.name (length r.values) known) c.loop-row.invariant.room)
+          (λ i d within. c.prepare.ensures.asked.rooms _ _ (c.loop-row.invariant.room i d within))
           (sym c.in-Some.ensures.value) roomy;
     }
 
@@ -67,24 +60,21 @@ returns-in_err-prepare-clause-asked c = record {
 
 pub overflow_add-bytes-in-Some-2 : goal.overflow_add-bytes-in-Some-2
 overflow_add-bytes-in-Some-2 c =
-    let within = some-there c.args.epoch.now.rows c.loop-row.index c.in-Some.row.now
+    let within = slice_get_within c.args.epoch.now.rows c.loop-row.index c.in-Some.row.now
     (sym c.in-Some.ensures.value) in
-    let few = c.row.ensures.within in
-    let counted = c.values-count.ensures.sound.counted.1 in
     let many = ap length c.values-count.ensures.value in
-    omega (arith, c.loop-row.invariant.bounded, within, few, counted, many)
+    omega arith
 
 pub overflow_add-index : goal.overflow_add-index
 overflow_add-index c =
-    let within = some-there c.args.epoch.now.rows c.loop-row.index c.in-Some.row.now
+    let within = slice_get_within c.args.epoch.now.rows c.loop-row.index c.in-Some.row.now
     (sym c.in-Some.ensures.value) in
-    let few = c.row.ensures.within in
-    omega (arith, within, few)
+    omega arith
 
 pub loop-row-smaller : goal.loop-row-smaller
 loop-row-smaller c =
     falls (length c.args.epoch.now.rows) c.loop-row.index
-    (some-there c.args.epoch.now.rows c.loop-row.index c.in-Some.row.now (sym c.in-Some.ensures.value))
+    (slice_get_within c.args.epoch.now.rows c.loop-row.index c.in-Some.row.now (sym c.in-Some.ensures.value))
 
 pub returns-in_err-prepare-clause-known : goal.returns-in_err-prepare-clause-known
 returns-in_err-prepare-clause-known c = λ have.
@@ -95,6 +85,4 @@ returns-in_err-prepare-clause-known c = λ have.
     (all-at (λ (r : Row). HasRoom r.name (length r.values) c.args.satellites.now.rooms) c.args.epoch.now.rows
     c.loop-row.index row have (sym c.in-Some.ensures.value)) in
     absurd (false≢true (c.in_err-prepare.ensures.known
-    (subst (λ (name : List ℕ). HasRoom name (length c.values-count.result.now) rooms) (sym c.name.ensures.value)
-    (subst (λ (values : List (Option ℤ)). HasRoom row.name (length values) rooms) (sym c.values-count.ensures.value)
-    roomy))))
+    (rw (c.name.ensures.value, c.values-count.ensures.value) roomy)))

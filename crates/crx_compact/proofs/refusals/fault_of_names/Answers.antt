@@ -1,16 +1,11 @@
-use Rattle.std.proofs.Common.{◌≡◌, ◌+◌, ◌*◌, ◌++◌, ◌∷◌, [], ℕ, List, Bool, not, true, false, map, Option}
-use Rattle.std.proofs.Common.{Some, None}
-use Rattle.std.proofs.Common.{sym, ap, ◌∙◌, ◌<◌, arith, drop, refl, slice_set, subst}
-use Rattle.std.specs.Result.{is_ok}
+use Rattle.crx_compact.proofs.Words.{arith, rules, ◌≡◌, ◌+◌, ◌*◌, ◌++◌, ◌∷◌, [], ℕ, List, Bool, not, true}
+use Rattle.crx_compact.proofs.Words.{false, map, Option, Some, None, sym, ap, ◌∙◌, ◌<◌, refl, slice_set}
+use Rattle.crx_compact.proofs.Words.{subst, length-set, map-append, bytes_eq, columns, is_among, Satellite}
+use Rattle.crx_compact.proofs.Words.{names_in}
 use Rattle.std.specs.Option.{is_some}
-use Rattle.std.proofs.lemmas.List.{length-set, map-append}
 use Rattle.std.specs.List.{list_any}
-use Rattle.std.specs.Str.{bytes_eq}
-use Rattle.crx_text.specs.meaning.Columns.{columns}
-use Rattle.crx_header.specs.meaning.Satellites.{is_among}
 use Rattle.crx_header.proofs.Apart.{among-map}
 use Rattle.crx_text.proofs.EachPlace.{drop_all-each_place, each_place-more}
-use Rattle.crx_compact.specs.meaning.EpochText.{Satellite, names_in}
 use Rattle.crx_compact.proofs.Naming.{named-all, named-bad, named-more, named-twice, next-name}
 use Rattle.crx_compact.specs.Refusals.{AreMarked, mark_place}
 use Rattle.crx_compact.proofs.Marked.{marked-more}
@@ -18,18 +13,13 @@ use Rattle.crx_compact.proofs.refusals.fault_of_names.Goals as goal
 
 -- no types are known of a satellite
 none : (o : Option ℕ) (b : Bool) → is_some o ≡ not b → b ≡ true → o ≡ None
-none None b e h = refl
-none (Some n) b e h = absurd (cc)
+none o b e h = grind arith
 
 pub returns-then-is_none-clause-fault : goal.returns-then-is_none-clause-fault
 returns-then-is_none-clause-fault c =
-    let found = c.loop-place.invariant in
-    named-bad c.args.types.now (names_in c.args.text.now c.args.count)
-    c.loop-place.place found.0 c.identifier-name.result found.1
-    (next-name c.args.text.now c.args.count c.loop-place.place
-    c.identifier-name.result c.loop-place-test.true c.identifier-name.ensures.value)
-    (sym c.types_of_satellite.ensures.value
-    ∙ none c.types_of_satellite.result c.is_none.result c.is_none.ensures c.if-is_none.true)
+    named-bad c.args.types.now (names_in c.args.text.now c.args.count) c.loop-place.place
+    c.loop-place.invariant.0 c.identifier-name.result c.loop-place.invariant.1 (search (rules, next-name))
+    (search (rules, none))
 
 -- some types are
 some : (o : Option ℕ) (b : Bool) → is_some o ≡ not b → b ≡ false → (n : ℕ) × (o ≡ Some n)
@@ -94,9 +84,4 @@ is_among_first-requires-clause-marked c = c.loop-place.invariant.3
 
 pub returns-clause-none : goal.returns-clause-none
 returns-clause-none c = λ out.
-    let found = c.loop-place.invariant in
-    let end : c.loop-place.place ≡ c.args.count = omega arith in
-    ap is_ok (named-all c.args.types.now (names_in c.args.text.now c.args.count) c.loop-place.place found.0
-    found.1
-    (ap (λ n. drop n (names_in c.args.text.now c.args.count)) end
-    ∙ drop_all-each_place c.args.count (λ k. columns c.args.text.now (42 + 3 * k) 3)))
+    search (rules, c.loop-place.invariant, named-all, drop_all-each_place)

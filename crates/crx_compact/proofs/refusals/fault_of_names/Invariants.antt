@@ -1,5 +1,4 @@
-use Rattle.std.specs.Prelude.{◌≡◌, List, length, map}
-use Rattle.crx_compact.specs.meaning.EpochText.{Satellite, names_in}
+use Rattle.crx_compact.proofs.Words.{◌≡◌, List, length, map, Satellite, names_in}
 use Rattle.crx_compact.specs.Refusals.{AreMarked}
 use Rattle.crx_compact.proofs.Naming.{NamedSoFar}
 use Rattle.crx_compact.proofs.refusals.fault_of_names.Given as goal

@@ -1,6 +1,4 @@
-use Rattle.std.proofs.Common.{◌+◌, ◌*◌, ℕ, List, sym, ap, ◌∙◌}
-use Rattle.std.specs.Str.{bytes_eq}
-use Rattle.crx_text.specs.meaning.Columns.{columns}
+use Rattle.crx_compact.proofs.Words.{rules, ◌+◌, ◌*◌, ℕ, List, sym, bytes_eq, columns}
 use Rattle.crx_compact.proofs.Naming.{any-at, any-more}
 use Rattle.crx_compact.proofs.refusals.is_among_first.Goals as goal
 
@@ -8,12 +6,10 @@ pub returns-then-eq : goal.returns-then-eq
 returns-then-eq c =
     sym (any-at (λ (n : List ℕ). bytes_eq n c.args.name) c.args.count c.loop-place.place
     (λ k. columns c.args.text.now (42 + 3 * k) 3) c.loop-place-test.true
-    (ap (λ (n : List ℕ). bytes_eq n c.args.name) (sym c.identifier.ensures.value) ∙ sym c.eq.ensures
-    ∙ c.if-eq.true))
+    (search (rules, c.identifier.ensures.value, c.eq.ensures, c.if-eq.true)))
 
 pub loop-place-preserved : goal.loop-place-preserved
 loop-place-preserved c =
     any-more (λ (n : List ℕ). bytes_eq n c.args.name) c.loop-place.place
     (λ k. columns c.args.text.now (42 + 3 * k) 3) c.loop-place.invariant
-    (ap (λ (n : List ℕ). bytes_eq n c.args.name) (sym c.identifier.ensures.value) ∙ sym c.eq.ensures
-    ∙ c.if-eq.false)
+    (search (rules, c.identifier.ensures.value, c.eq.ensures, c.if-eq.false))

@@ -1,6 +1,4 @@
-use Rattle.std.specs.Prelude.{◌≡◌, ℕ, List, false}
-use Rattle.crx_header.specs.meaning.Satellites.{is_among}
-use Rattle.crx_compact.specs.meaning.EpochText.{names_in}
+use Rattle.crx_compact.proofs.Words.{◌≡◌, ℕ, List, false, is_among, names_in}
 use Rattle.crx_compact.proofs.refusals.is_among_first.Given as goal
 
 abbrev pub invariant-loop-place : goal.invariant-loop-place

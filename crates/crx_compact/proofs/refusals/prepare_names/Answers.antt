@@ -1,24 +1,14 @@
-use Rattle.std.proofs.Common.{not, ◌≡◌, ℕ, List, Some, ap, subst, sym, ◌∙◌}
-use Rattle.std.proofs.lemmas.Bool.{false≢true}
-use Rattle.std.proofs.lemmas.Option.{none-some, same_Some}
-use Rattle.crx_header.specs.meaning.Satellites.{types_of_satellite}
-use Rattle.crx_compact.specs.Placing.{HasRoom}
+use Rattle.crx_compact.proofs.Words.{rules, not, ℕ, List, ap, subst, ◌∙◌, false≢true, same_Some}
+use Rattle.crx_compact.proofs.Words.{types_of_satellite, HasRoom}
+use Rattle.std.proofs.lemmas.Option.{none-some}
 use Rattle.crx_compact.proofs.Results.{by_ok}
 use Rattle.crx_compact.proofs.Naming.{names-room-more}
+use Rattle.crx_compact.proofs.refusals.prepare_names.Goals.{in-Some-types_of_satellite+else-is_err}
+use Rattle.crx_compact.proofs.refusals.prepare_names.Goals.{in_default-types_of_satellite}
 use Rattle.crx_compact.proofs.refusals.prepare_names.Goals as goal
-use Rattle.crx_compact.proofs.refusals.prepare_names.Goals.{in-Some-types_of_satellite+else-is_err, in_default-types_of_satellite}
 
 pub returns-then-is_err-clause-known : goal.returns-then-is_err-clause-known
-returns-then-is_err-clause-known c named good has =
-    let name = c.identifier-name.result in
-    let is = c.identifier-name.ensures.value in
-    let rooms = c.loop-place.satellites.rooms in
-    absurd (false≢true (sym (c.is_err.ensures.negation ∙ ap not c.if-is_err.true) ∙ c.prepare.ensures.known
-    (c.loop-place.invariant.kept name c.in-Some-types_of_satellite.cells
-    (subst (λ (n : List ℕ). HasRoom n c.in-Some-types_of_satellite.cells c.args.satellites.now.rooms) (sym is)
-    (has c.loop-place.place c.in-Some-types_of_satellite.cells c.loop-place-test.true
-    (subst (λ (n : List ℕ). types_of_satellite c.args.types.now n ≡ Some c.in-Some-types_of_satellite.cells) is
-    (sym c.in-Some-types_of_satellite.ensures.value)))))))
+returns-then-is_err-clause-known c named good has = search (rules, false≢true)
 
 pub loop-place-preserved : goal.loop-place-preserved
 loop-place-preserved c =

@@ -1,8 +1,7 @@
-use Rattle.std.proofs.Common.{◌≡◌, ◌∙◌, ◌-◌, ◌*◌, ◌++◌, List, ℕ, ap, arith, drop, length, min, replicate, subst, sym, take}
-use Rattle.std.proofs.lemmas.List.{length-take-le, take_at, take_min}
+use Rattle.crx_compact.proofs.Words.{◌≡◌, ◌∙◌, ◌-◌, ◌*◌, ◌++◌, List, ℕ, ap, arith, drop, length, min}
+use Rattle.crx_compact.proofs.Words.{replicate, subst, sym, take, length-take-le, take_at, columns, patched}
+use Rattle.std.proofs.lemmas.List.{take_min}
 use Rattle.crx_text.proofs.Blanks.{columns_are}
-use Rattle.crx_text.specs.meaning.Columns.{columns}
-use Rattle.crx_text.specs.Texts.{patched}
 use Rattle.crx_compact.specs.HeldRows.{AreHeldFlags}
 use Rattle.crx_compact.proofs.Marks.{patched-kept}
 use Rattle.crx_compact.proofs.SoundTexts.{columns-held}
@@ -24,11 +23,10 @@ returns-clause-kept c =
     let text = c.bytes-text.ensures.value ∙ c.in-Ok.ensures.ok in
     let same = c.put_flags.auto.held in
     let made = ap length text in
-    let short = c.bytes-text.ensures.within in
     rw (take_at c.put_flags.new.held (drop all c.args.indicators.now) all (omega (arith, many, same)))
     (subst AreHeldFlags (sym (put-columns all before _ _ _ many c.min.ensures c.put_flags.ensures.put
     ∙ ap (λ (t : List ℕ). columns t 1 all) text))
     (columns-held c.args.count (patched before marks) c.requires.allowed (record {
-      within = omega (arith, made, ap length c.bytes-text.ensures.value, short);
+      within = omega (arith, made, ap length c.bytes-text.ensures.value);
       kept = patched-kept before marks c.requires.held.kept (sym c.in-Ok.ensures.printable);
     })))

@@ -1,5 +1,4 @@
-use Rattle.std.proofs.Common.{refl, ap, sym, subst, ◌∙◌}
-use Rattle.std.specs.Str.{bytes_eq}
+use Rattle.std.proofs.Common.{rules, refl, ap, sym, subst}
 use Rattle.indexmap.proofs.CallerLemmas.{insert_entry-new}
 use Rattle.crx_compact.specs.Entries.{IsFound}
 use Rattle.crx_compact.specs.Placing.{SatelliteTail}
@@ -11,9 +10,7 @@ returns-in-Ok-clause-found c =
     subst (λ found. IsFound c.args.name found c.args.map.now.entries c.insert.new.self.entries)
     (sym c.len-count.ensures.len)
     (found-added c.args.name c.new.result c.args.map.now.entries c.insert.new.self.entries
-    (c.in-Ok.ensures.entries
-    ∙ insert_entry-new bytes_eq c.args.map.now c.args.name c.new.result
-    (none-there _ (c.in_default.ensures.unknown refl)))
+    (search (rules, c.in-Ok.ensures.entries, insert_entry-new, none-there, c.in_default.ensures.unknown))
     (ap (λ (s : SatelliteTail). s.room) c.new.ensures.empty))
 
 pub returns-clause-unknown : goal.returns-clause-unknown

@@ -1,21 +1,16 @@
-use Rattle.std.proofs.Common.{rules, ◌≡◌, ◌<◌, ◌+◌, ◌∷◌, ℕ, ℤ, List, true, length, take, refl, sym, ap, ◌∙◌}
-use Rattle.std.proofs.Common.{FitsSigned, w64, to_z, of_z, Some, Result, Ok, Err, Option}
-use Rattle.std.specs.Result.{is_ok}
-use Rattle.crx_text.specs.declared.code.Code.{Code}
-use Rattle.crx_compact.specs.ArcTails.{ArcTail}
+use Rattle.crx_compact.proofs.Words.{rules, ◌≡◌, ◌<◌, ◌+◌, ◌∷◌, ℕ, ℤ, List, true, length, take, ap, ◌∙◌, Some}
+use Rattle.crx_compact.proofs.Words.{Result, Ok, Option, is_ok, Code, ArcTail, value_of, if◌then◌else◌, Fault}
+use Rattle.crx_compact.proofs.Words.{arc_of_code, value_of_code}
+use Rattle.std.proofs.Common.{FitsSigned, w64, to_z, of_z}
 use Rattle.crx_compact.specs.ArcLaws.{accepted, arc_of_codes}
-use Rattle.crx_compact.specs.meaning.ArcValues.{value_of}
-use Rattle.crx_compact.proofs.arcs.Arcs.{values-of_codes}
-use Rattle.std.specs.Prelude.{if◌then◌else◌}
-use Rattle.crx_base.specs.declared.fault.Fault.{Fault}
-use Rattle.crx_base.specs.declared.fault.Fault.TheVariants.{NoArc, OutOfRange}
 use Rattle.crx_compact.specs.meaning.ArcValues.{is_within, in_range}
-use Rattle.crx_compact.specs.ArcSteps.{arc_of_code, differences_after, value_of_code}
+use Rattle.crx_compact.proofs.arcs.Arcs.{values-of_codes}
+use Rattle.crx_compact.specs.ArcSteps.{differences_after}
 use Rattle.crx_compact.specs.Arcs.{kept_tail}
 use Rattle.crx_compact.proofs.arcs.Bounds.{within-is}
-use Rattle.crx_compact.proofs.arcs.Running.{StepsOn, in-range-by, accepted as is-accepted, refused}
-use Rattle.crx_compact.proofs.arcs.Running.{stepped, same-bits, begun-list, begun-kept}
-use Rattle.crx_compact.proofs.arcs.Running.{lower-below, within-below, goes-on-kept}
+use Rattle.crx_compact.proofs.arcs.Running.{StepsOn, in-range-by, accepted as is-accepted, refused, stepped}
+use Rattle.crx_compact.proofs.arcs.Running.{same-bits, begun-list, begun-kept, lower-below, within-below}
+use Rattle.crx_compact.proofs.arcs.Running.{goes-on-kept}
 use Rattle.crx_compact.proofs.arc.Arc.apply.Goals as goal
 
 pub invariant_of-self-in-Start : goal.invariant_of-self-in-Start
@@ -23,24 +18,17 @@ invariant_of-self-in-Start g c =
     let some : 0 < length c.self.inside.differences = search rules in
     let fits : FitsSigned w64 c.in-Start.value = search rules in
     let is : is_within g.row.WIDTH c.in-Start.value
-    ≡ true = ap (is_within g.row.WIDTH) (sym (same-bits _ fits))
-    ∙ sym c.is_within.ensures ∙ c.if-not-is_within.false in
+    ≡ true = search (rules, same-bits, c.is_within.ensures, c.if-not-is_within.false) in
     let printable = rw c.in-Start.is at c.requires in
     rw (same-bits _ fits) (begun-kept g.row.WIDTH c.in-Start.order
     c.self.inside.differences c.in-Start.value some c.self.invariant.few_columns printable.0
     ((within-is _ _).0 is))
 
 pub returns-else-not-is_within-clause-ok : goal.returns-else-not-is_within-clause-ok
-returns-else-not-is_within-clause-ok g c =
-    let some : 0 < length c.self.inside.differences = search rules in
-    let fits : FitsSigned w64 c.in-Start.value = search rules in
-    rw (c.in-Start.is, same-bits _ fits)
-    (ap (kept_tail c.in-Start.order) (begun-list c.self.inside.differences c.in-Start.value some))
+returns-else-not-is_within-clause-ok g c = search (rules, c.in-Start.is, same-bits, begun-list)
 
 pub value_after-value-requires-clause-below : goal.value_after-value-requires-clause-below
-value_after-value-requires-clause-below g c =
-    lower-below c.self.inside.order c.self.inside.count c.min-last.result _
-    (record { least = search rules }) c.self.invariant.below
+value_after-value-requires-clause-below g c = search (rules, lower-below)
 
 pub returns-then-not-is_within-2-clause-value : goal.returns-then-not-is_within-2-clause-value
 returns-then-not-is_within-2-clause-value g c =
@@ -55,9 +43,7 @@ returns-then-not-is_within-2-clause-value g c =
     ∙ on.value_is)
 
 pub go_on-requires-clause-below : goal.go_on-requires-clause-below
-go_on-requires-clause-below g c =
-    lower-below c.self.inside.order c.self.inside.count c.min-last.result _
-    (record { least = search rules }) c.self.invariant.below
+go_on-requires-clause-below g c = search (rules, lower-below)
 
 pub go_on-requires-clause-next : goal.go_on-requires-clause-next
 go_on-requires-clause-next g c =
@@ -85,21 +71,18 @@ returns-else-not-is_within-2-clause-value g c =
     let on : StepsOn g.row.WIDTH c.self.inside.order c.self.inside.count
     c.min-last.result c.in-Step.number c.value_after-value.result c.self.inside.differences =
     stepped _ _ _ _ _ _ _ c.min-last.ensures (search rules) c.self.told c.value_after-value.ensures fits in
-    let is : is_within g.row.WIDTH c.value_after-value.result ≡ true =
-    is-accepted g.row.WIDTH _ _ c.is_within-in-Step.ensures c.if-not-is_within-2.false fits' in
     let given : Ok (Some c.value_after-value.result) ≡ in_range g.row.WIDTH c.value_after-value.result =
-    in-range-by _ _ true (sym is) in
+    search (rules, in-range-by, is-accepted, c.is_within-in-Step.ensures, c.if-not-is_within-2.false) in
     rw (c.in-Step.is, ← c.self.view_is, same-bits _ fits') (given ∙ on.value_is)
 
 pub returns-else-not-is_within-2-clause-ok : goal.returns-else-not-is_within-2-clause-ok
 returns-else-not-is_within-2-clause-ok g c =
     let fits : FitsSigned w64 c.in-Step.number = search rules in
-    let fits' : FitsSigned w64 c.value_after-value.result = search rules in
     let on : StepsOn g.row.WIDTH c.self.inside.order c.self.inside.count
     c.min-last.result c.in-Step.number c.value_after-value.result c.self.inside.differences =
     stepped _ _ _ _ _ _ _ c.min-last.ensures (search rules) c.self.told c.value_after-value.ensures fits in
     rw (c.in-Step.is, ← c.self.view_is)
-    (ap (kept_tail c.self.inside.order) (rw (same-bits _ fits') at c.go_on.ensures.after) ∙ on.tail)
+    (ap (kept_tail c.self.inside.order) (search (rules, same-bits, c.go_on.ensures.after)) ∙ on.tail)
 
 -- what is said of any codes so far, by what is said of the arc
 every : (width : ℕ) (code : Code) (codes : List Code) (old new : Option ArcTail) (result : Result
@@ -115,13 +98,11 @@ every width code codes old new result value left h = (
 
 pub returns-then-self-eq0-clause-every : goal.returns-then-self-eq0-clause-every
 returns-then-self-eq0-clause-every g c = λ codes h.
-    let value : Err NoArc ≡ value_of_code g.row.WIDTH c.args.code c.args.self.now = search rules in
-    every g.row.WIDTH c.args.code codes c.args.self.now c.args.self.now (Err NoArc) value refl h
+    search (rules, every)
 
 pub returns-then-not-is_within-2-clause-every : goal.returns-then-not-is_within-2-clause-every
 returns-then-not-is_within-2-clause-every g c = λ codes h.
-    every g.row.WIDTH c.args.code codes c.args.self.now c.args.self.now (Err OutOfRange)
-    (returns-then-not-is_within-2-clause-value g c) refl h
+    search (rules, every, returns-then-not-is_within-2-clause-value)
 
 pub returns-else-not-is_within-clause-every : goal.returns-else-not-is_within-clause-every
 returns-else-not-is_within-clause-every g c = λ codes h.

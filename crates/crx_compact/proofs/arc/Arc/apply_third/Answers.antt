@@ -1,138 +1,78 @@
-use Rattle.std.proofs.Common.{rules, take, sym, ap, subst, ◌∙◌, arith, FitsSigned, w64, ℕ}
+use Rattle.std.proofs.lemmas.Grind.{common_steps}
+use Rattle.std.proofs.Common.{rules, take, sym, ap, subst, ◌∙◌, arith, ℕ}
 use Rattle.crx_compact.specs.meaning.Differences.{newest}
 use Rattle.crx_compact.specs.ArcSteps.{differences_after}
 use Rattle.crx_compact.specs.Arcs.{kept_tail, IsArcInRange}
 use Rattle.crx_compact.proofs.arcs.Bounds.{within-is}
-use Rattle.crx_compact.proofs.arcs.Running.{by-after, goes-on-kept, in-range-by, onto-third-kept, same-bits}
-use Rattle.crx_compact.proofs.arcs.Running.{steps-on, third-last}
+use Rattle.crx_compact.proofs.arcs.Running.{IsLast, OntoThird, by-after, goes-on-kept, in-range-by}
+use Rattle.crx_compact.proofs.arcs.Running.{onto-third-kept, same-bits, steps-on, third-last}
+use Rattle.crx_compact.proofs.arc.Arc.apply_third.{Given.Over, Goals.Else-not-is_third}
 use Rattle.crx_compact.proofs.arc.Arc.apply_third.Goals as goal
 
+onto : (g : Over) (c : Else-not-is_third g) → OntoThird c.args.number c.self.inside.differences
+onto g c = onto-third-kept _ _ _ _ (search rules) c.self.invariant (search rules) c.args.number c.requires
+
+last : (g : Over) (c : Else-not-is_third g) → IsLast c.self.inside.order c.self.inside.count 3
+last g c = third-last _ _ _ _ (search rules) c.self.invariant (search rules)
+
 pub overflow_add-second : goal.overflow_add-second
-overflow_add-second g c =
-    let third = c.is_third.ensures.third c.if-not-is_third.false in
-    let ds = c.self.inside.differences in
-    let fits : FitsSigned w64 c.args.number = search rules in
-    let o = onto-third-kept _ _ _ ds third c.self.invariant (search rules) c.args.number c.requires in
-    rw (same-bits _ fits, same-bits _ o.second_before) o.second
+overflow_add-second g c = search (rules, same-bits, onto)
 
 pub overflow_add-first : goal.overflow_add-first
-overflow_add-first g c =
-    let third = c.is_third.ensures.third c.if-not-is_third.false in
-    let ds = c.self.inside.differences in
-    let fits : FitsSigned w64 c.args.number = search rules in
-    let o = onto-third-kept _ _ _ ds third c.self.invariant (search rules) c.args.number c.requires in
-    rw (same-bits _ fits, same-bits _ o.first_before, same-bits _ o.second_before, same-bits _ o.second) o.first
+overflow_add-first g c = search (rules, same-bits, onto)
 
 pub overflow_add-value : goal.overflow_add-value
-overflow_add-value g c =
-    let third = c.is_third.ensures.third c.if-not-is_third.false in
-    let ds = c.self.inside.differences in
-    let fits : FitsSigned w64 c.args.number = search rules in
-    let o = onto-third-kept _ _ _ ds third c.self.invariant (search rules) c.args.number c.requires in
-    rw (
-      same-bits _ fits,
-      same-bits _ o.zeroth_before,
-      same-bits _ o.first_before,
-      same-bits _ o.second_before,
-      same-bits _ o.second,
-      same-bits _ o.first,
-    ) o.value
+overflow_add-value g c = grind (arith, common_steps, same-bits, onto)
 
 pub invariant_of-self : goal.invariant_of-self
 invariant_of-self g c =
-    let third = c.is_third.ensures.third c.if-not-is_third.false in
+    let at = (goal.at.invariant_of-self g c).Else-not-is_third in
+    let o = onto g at in
+    let fits = c.ranges.number in
     let ds = c.self.inside.differences in
-    let fits : FitsSigned w64 c.args.number = search rules in
-    let o = onto-third-kept _ _ _ ds third c.self.invariant (search rules) c.args.number c.requires in
-    let put = rw (
-      same-bits _ fits,
-      same-bits _ o.zeroth_before,
-      same-bits _ o.first_before,
-      same-bits _ o.second_before,
-      same-bits _ o.second,
-      same-bits _ o.first,
-      same-bits _ o.value,
-    )
+    let put =
+    simp (same-bits, fits, o.zeroth_before, o.first_before, o.second_before, o.second, o.first, o.value)
     at c.put_four.ensures in
-    let is = rw (
-      same-bits _ fits,
-      same-bits _ o.zeroth_before,
-      same-bits _ o.first_before,
-      same-bits _ o.second_before,
-      same-bits _ o.second,
-      same-bits _ o.first,
-      same-bits _ o.value,
-    )
+    let is =
+    simp (same-bits, fits, o.zeroth_before, o.first_before, o.second_before, o.second, o.first, o.value)
     at c.is_within.ensures in
     subst (λ (n : ℕ). IsArcInRange g.row.WIDTH c.self.inside.order n (take n c.put_four.new.differences))
-    (sym third.1)
-    (goes-on-kept _ c.self.inside.order c.self.inside.count 3 ds _ _
-    (third-last _ _ _ ds third c.self.invariant (search rules)) c.self.invariant
+    (sym (c.is_third.ensures.third c.if-not-is_third.false).1)
+    (goes-on-kept _ c.self.inside.order c.self.inside.count 3 ds _ _ (last g at) c.self.invariant
     ((within-is _ _).0 (sym is ∙ c.if-not-is_within.false))
     (put ∙ o.sums ∙ by-after c.args.number (take 3 ds)
     ∙ ap (λ v. differences_after v (take 3 ds)) (sym (ap newest o.sums))))
 
 pub returns-then-not-is_within-clause-other : goal.returns-then-not-is_within-clause-other
 returns-then-not-is_within-clause-other g c = λ has.
-    let third = c.is_third.ensures.third c.if-not-is_third.false in
-    let ds = c.self.inside.differences in
-    let fits : FitsSigned w64 c.args.number = search rules in
-    let o = onto-third-kept _ _ _ ds third c.self.invariant (search rules) c.args.number c.requires in
-    let is = rw (
-      same-bits _ fits,
-      same-bits _ o.zeroth_before,
-      same-bits _ o.first_before,
-      same-bits _ o.second_before,
-      same-bits _ o.second,
-      same-bits _ o.first,
-      same-bits _ o.value,
-    )
+    let at = (goal.at.returns-then-not-is_within-clause-other g c).Else-not-is_third in
+    let o = onto g at in
+    let fits = c.ranges.number in
+    let is =
+    simp (same-bits, fits, o.zeroth_before, o.first_before, o.second_before, o.second, o.first, o.value)
     at c.is_within.ensures in
-    let on = steps-on g.row.WIDTH c.self.inside.order c.self.inside.count 3 c.args.number _ ds
-    (third-last _ _ _ ds third c.self.invariant (search rules)) (omega (arith, third.1)) (search rules)
-    (ap newest o.sums) in
+    let on = steps-on g.row.WIDTH c.self.inside.order c.self.inside.count 3 c.args.number _
+    c.self.inside.differences (last g at) (omega arith) (search rules) (ap newest o.sums) in
     rw (← c.self.view_is)
     (sym (in-range-by g.row.WIDTH _ _ (sym c.if-not-is_within.true ∙ is) ∙ on.value_is))
 
 pub returns : goal.returns
 returns g c =
+    let at = (goal.at.returns g c).Else-not-is_third in
     let third = c.is_third.ensures.third c.if-not-is_third.false in
     let ds = c.self.inside.differences in
-    let fits : FitsSigned w64 c.args.number = search rules in
-    let o = onto-third-kept _ _ _ ds third c.self.invariant (search rules) c.args.number c.requires in
-    let put = rw (
-      same-bits _ fits,
-      same-bits _ o.zeroth_before,
-      same-bits _ o.first_before,
-      same-bits _ o.second_before,
-      same-bits _ o.second,
-      same-bits _ o.first,
-      same-bits _ o.value,
-    )
+    let o = onto g at in
+    let fits = c.ranges.number in
+    let put =
+    simp (same-bits, fits, o.zeroth_before, o.first_before, o.second_before, o.second, o.first, o.value)
     at c.put_four.ensures in
-    let is = rw (
-      same-bits _ fits,
-      same-bits _ o.zeroth_before,
-      same-bits _ o.first_before,
-      same-bits _ o.second_before,
-      same-bits _ o.second,
-      same-bits _ o.first,
-      same-bits _ o.value,
-    )
+    let is =
+    simp (same-bits, fits, o.zeroth_before, o.first_before, o.second_before, o.second, o.first, o.value)
     at c.is_within.ensures in
-    let on = steps-on g.row.WIDTH c.self.inside.order c.self.inside.count 3 c.args.number _ ds
-    (third-last _ _ _ ds third c.self.invariant (search rules)) (omega (arith, third.1)) (search rules)
-    (ap newest o.sums) in
-    rw (
-      ← c.self.view_is,
-      same-bits _ fits,
-      same-bits _ o.zeroth_before,
-      same-bits _ o.first_before,
-      same-bits _ o.second_before,
-      same-bits _ o.second,
-      same-bits _ o.first,
-      same-bits _ o.value,
-    ) (record {
+    let on = steps-on g.row.WIDTH c.self.inside.order c.self.inside.count 3 c.args.number _ ds (last g at)
+    (omega (arith, third.1)) (search rules) (ap newest o.sums) in
+    rw (← c.self.view_is) (simp
+    (same-bits, fits, o.zeroth_before, o.first_before, o.second_before, o.second, o.first, o.value) (record {
       value = sym (in-range-by g.row.WIDTH _ _ (sym c.if-not-is_within.false ∙ is) ∙ on.value_is);
       arc = ap (λ n. kept_tail c.self.inside.order (take n c.put_four.new.differences)) third.1
           ∙ ap (kept_tail c.self.inside.order) (put ∙ o.sums ∙ by-after c.args.number (take 3 ds)
@@ -140,4 +80,4 @@ returns g c =
           ∙ on.tail;
       none = tt;
       other = tt;
-    })
+    }))

@@ -1,15 +1,10 @@
-use Rattle.std.proofs.Common.{rules, ◌≡◌, ◌<◌, ◌+◌, ◌∷◌, ℤ, List, Option, length, take, ap, ◌∙◌, arith}
-use Rattle.std.proofs.Common.{slice_set, FitsSigned, w64, to_z, of_z}
-use Rattle.crx_base.specs.declared.limits.TheConstants.{WRITTEN_ORDER}
-use Rattle.crx_text.specs.meaning.Numbers.{IsWithin}
-use Rattle.crx_text.specs.declared.code.Code.{Code}
-use Rattle.crx_text.specs.declared.code.Code.TheVariants.{Start, Step}
+use Rattle.crx_compact.proofs.Words.{rules, ◌≡◌, ◌<◌, ◌+◌, ◌∷◌, ℤ, List, Option, length, take, ap, ◌∙◌, arith}
+use Rattle.crx_compact.proofs.Words.{slice_set, WRITTEN_ORDER, IsWithin, Code, Start, Step, ArcTail, code_at}
+use Rattle.crx_compact.proofs.Words.{stretch, arc_of_value, code_of_value}
+use Rattle.std.proofs.Common.{FitsSigned, w64, to_z, of_z}
 use Rattle.crx_compact.specs.ArcLaws.{arc_of_values}
-use Rattle.crx_compact.specs.ArcTails.{ArcTail}
-use Rattle.crx_compact.specs.meaning.Differences.{code_at}
-use Rattle.crx_compact.specs.meaning.Sequences.{stretch}
 use Rattle.crx_compact.proofs.arcs.Arcs.{codes-of_values}
-use Rattle.crx_compact.specs.ArcSteps.{arc_of_value, code_of_value, differences_after, highest}
+use Rattle.crx_compact.specs.ArcSteps.{differences_after, highest}
 use Rattle.crx_compact.specs.Arcs.{kept_tail}
 use Rattle.crx_compact.proofs.arcs.Running.{GoesOn, same-bits, begun-tail, begun-kept, lower-below}
 use Rattle.crx_compact.proofs.arcs.Running.{within-below, goes-on-kept, goes-on, highest-short, within-short}
@@ -54,9 +49,7 @@ returns-then-self-eq0 g c =
     }
 
 pub go_on-highest-requires-clause-below : goal.go_on-highest-requires-clause-below
-go_on-highest-requires-clause-below g c =
-    lower-below c.self.inside.order c.self.inside.count c.min-last.result _
-    (record { least = search rules }) c.self.invariant.below
+go_on-highest-requires-clause-below g c = search (rules, lower-below)
 
 pub go_on-highest-requires-clause-next : goal.go_on-highest-requires-clause-next
 go_on-highest-requires-clause-next g c =
@@ -66,11 +59,10 @@ go_on-highest-requires-clause-next g c =
 
 pub invariant_of-self-2 : goal.invariant_of-self-2
 invariant_of-self-2 g c =
-    let fits : FitsSigned w64 c.in-Some.value = search rules in
     let within : IsWithin g.row.WIDTH c.in-Some.value = rw c.in-Some.is at c.requires in
     let after : take (c.min-last.result + 1) c.go_on-highest.new.differences
     ≡ differences_after c.in-Some.value (take c.min-last.result c.self.inside.differences) =
-    rw (same-bits _ fits) at c.go_on-highest.ensures.after in
+    search (rules, same-bits, c.go_on-highest.ensures.after) in
     goes-on-kept _ _ _ _ _ _ _ (record { least = search rules })
     c.self.invariant within after
 

@@ -1,15 +1,14 @@
-use Rattle.crx_compact.proofs.Words.{◌≡◌, ℕ, Bool, true, false, not, Some, None, if◌then◌else◌, refl, subst}
-use Rattle.crx_compact.proofs.Words.{sym, ap, ◌∙◌, false≢true, ColumnsState, is_idle, tail_held, PendingLines}
+use Rattle.crx_compact.proofs.Words.{rules, arith, ◌≡◌, ℕ, Bool, true, not, Some, None, if◌then◌else◌, subst}
+use Rattle.crx_compact.proofs.Words.{sym, ap, ◌∙◌, false≢true, ColumnsState, is_idle, tail_held}
 use Rattle.crx_compact.proofs.Words.{columns_state, OpenHistory, tail_of_history, lines_after_tail, no_tail}
 use Rattle.crx_compact.proofs.Words.{tail_after, tail_written_after, Tail, Stage, HeldColumns}
 use Rattle.crx_compact.specs.OpenEpochs.ColumnsState.{Idle}
 use Rattle.crx_compact.specs.Coded.{CodedEpoch}
-use Rattle.crx_compact.specs.EncodingRooms.{GrowsForEpoch, HasRoomForEpoch, KeepsEncodingRoom}
-use Rattle.crx_compact.specs.EncodingRooms.{all_free, encoding_room, made_room}
+use Rattle.crx_compact.specs.EncodingRooms.{GrowsForEpoch, made_room}
 use Rattle.crx_compact.specs.LineLists.{room_of_lines}
 use Rattle.crx_compact.proofs.EncodingRooms.{all-free-room}
 use Rattle.crx_compact.proofs.reading.Stages.{stage-idle, tail-idle}
-use Rattle.crx_compact.proofs.wayback.Encoding.{lines-coded, tail-coded}
+use Rattle.crx_compact.proofs.wayback.Tailing.{lines-coded, tail-coded}
 use Rattle.crx_compact.proofs.columns.Columns.encode.Goals.{then-full, else-full}
 use Rattle.crx_compact.proofs.columns.Columns.encode.Goals as goal
 
@@ -17,9 +16,7 @@ use Rattle.crx_compact.proofs.columns.Columns.encode.Goals as goal
 in-full : (full is_kept : Bool) (tail : Tail)
     → (if (if full then true else not is_kept) then no_tail else tail)
     ≡ tail_written_after full (if is_kept then Some tail else None)
-in-full true is_kept tail = refl
-in-full false true tail = refl
-in-full false false tail = refl
+in-full full is_kept tail = grind arith
 
 -- the tail that an epoch is written after, by what idle columns store
 written-after : (full is_kept in_full : Bool) (stage : Stage) (count : ℕ) (history : OpenHistory)
@@ -31,30 +28,24 @@ written-after full is_kept in_full stage count history state is idle means =
     ap (λ b. if b then no_tail else tail_of_history history) means ∙ in-full full is_kept (tail_of_history history)
     ∙ ap (tail_written_after full) (sym (tail-idle is_kept stage count history state is idle))
 
-asked-for : (full in_full other : Bool) → in_full ≡ full → full ≡ true
-    → in_full ≡ (if full then true else other)
-asked-for full in_full other is asked = is ∙ asked ∙ sym (ap (λ f. if f then true else other) asked)
-
 means : (c : goal.After-replace-lines)
     → c.if-full.in_full ≡ (if c.args.full then true else not c.self.inside.is_kept)
 means c = elim (c.if-full.branch) [
-  | then-full w ↦ asked-for c.args.full _ _ w.in_full-is w.if-full.true
-  | else-full w ↦ w.in_full-is ∙ sym (ap (λ f. if f then true else not c.self.inside.is_kept) w.if-full.false)
+  | then-full w ↦ cc (w.in_full-is, w.if-full.true)
+  | else-full w ↦ cc (w.in_full-is, w.if-full.false)
 ]
 
 after : (c : goal.After-replace-lines)
     → (if c.if-full.in_full then no_tail else tail_of_history c.self.inside.history)
     ≡ tail_written_after c.args.full (tail_held c.args.self.now.state)
-after c = written-after c.args.full c.self.inside.is_kept c.if-full.in_full c.self.inside.stage
-    c.self.inside.count
-    c.self.inside.history c.args.self.now.state (ap (λ
-    (held : HeldColumns). held.state) c.self.view_is) c.requires.idle (means c)
+after c =
+    written-after c.args.full c.self.inside.is_kept c.if-full.in_full c.self.inside.stage c.self.inside.count
+    c.self.inside.history c.args.self.now.state (search (rules, c.self.view_is)) c.requires.idle (means c)
 
 pub returns-in-Ok-clause-coded : goal.returns-in-Ok-clause-coded
 returns-in-Ok-clause-coded c =
     ap (λ lines. record { epoch = c.args.epoch; lines = lines; room = room_of_lines c.replace-lines.result })
-    (ap (λ (made : PendingLines). made.lines) c.replace-lines.ensures.value ∙ c.in-Ok.ensures.written.lines_made
-    ∙ ap (λ t. lines_after_tail t c.args.epoch) (after c))
+    (search (rules, lines_after_tail, after))
 
 pub returns-in-Ok-clause-kept : goal.returns-in-Ok-clause-kept
 returns-in-Ok-clause-kept c =
@@ -68,14 +59,11 @@ returns-in-Ok-clause-only c =
     subst (λ (held : HeldColumns). GrowsForEpoch c.args.epoch held.encoding.rooms
     c.encode.new.self.satellites.rooms (made_room held.front held.encoding)
     (room_of_lines c.replace-lines.result)) c.self.view_is
-    (subst (λ (made : PendingLines). GrowsForEpoch c.args.epoch c.self.inside.history.satellites.rooms
-    c.encode.new.self.satellites.rooms (room_of_lines c.self.inside.lines) (room_of_lines made))
-    (sym c.replace-lines.ensures.value) c.in-Ok.ensures.only)
+    (search (rules, c.replace-lines.ensures.value, c.in-Ok.ensures.only))
 
 pub returns-in-Ok-clause-left : goal.returns-in-Ok-clause-left
 returns-in-Ok-clause-left c = λ epochs h.
-    returns-in-Ok-clause-kept c ∙ ap {B = ColumnsState} (λ (t : Tail). Idle (Some t))
-    (tail-coded c.args.full c.args.epoch (tail_held c.args.self.now.state) epochs c.is_full.ensures.sound h)
+    search (rules, returns-in-Ok-clause-kept, tail-coded, tail_held, c.is_full.ensures.sound)
 
 pub returns-in-Ok-clause-lines : goal.returns-in-Ok-clause-lines
 returns-in-Ok-clause-lines c = λ epochs h.
@@ -84,23 +72,9 @@ returns-in-Ok-clause-lines c = λ epochs h.
 
 pub returns-in-Err-clause-known : goal.returns-in-Err-clause-known
 returns-in-Err-clause-known c = λ has front.
-    absurd (false≢true (c.in-Err.ensures.known
-    (all-free-room c.args.epoch _ (subst (HasRoomForEpoch c.args.epoch)
-    (sym (ap (λ (held : HeldColumns). held.encoding) c.self.view_is)) has))
-    (sym (ap (λ (held : HeldColumns). held.front) c.self.view_is ∙ front))))
+    search (rules, false≢true, c.in-Err.ensures.known, all-free-room, c.self.view_is)
 
 pub returns-in-Err-clause-err_kept : goal.returns-in-Err-clause-err_kept
 returns-in-Err-clause-err_kept c = λ front.
-    let as_many = sym (ap (λ (held : HeldColumns). held.front) c.self.view_is ∙ front) in
-    let lines = c.encode.ensures.lines_kept as_many in (
-      subst (λ (held : HeldColumns). KeepsEncodingRoom held.encoding
-          (all_free (encoding_room c.encode.new.self c.encode.new.lines))) c.self.view_is (record {
-            rooms = c.encode.ensures.rooms_kept;
-            text = c.encode.ensures.text_kept;
-            lines = lines.all_lines;
-            bytes = lines.all_bytes;
-            held_lines = lines.held_lines;
-            held_bytes = lines.held_bytes;
-          }),
-      lines.reserved ∙ sym as_many,
-    )
+    let kept = c.encode.ensures in
+    search (rules, c.self.view_is, kept.lines_kept, kept.rooms_kept, kept.text_kept)

@@ -10,15 +10,13 @@ use Rattle.crx_compact.proofs.columns.Columns.feed.Goals as goal
 
 pub returns-in-Ok-clause-made : goal.returns-in-Ok-clause-made
 returns-in-Ok-clause-made c =
-    let inside = c.self.inside in
     let new = c.take_line.new in
     let rows = c.in-Ok-true.ensures.ok in
     let tail : Tail = tail_of_history new.history in
     let come : new.count ≡ length new.history.satellites.rows =
     eqb-true new.count (length new.history.satellites.rows) (sym rows.whole ∙ c.in-Ok-true.field-0-test) in
     let step : step_in c.args.self.now.state (Content c.args.line.now) ≡ step_with_rows tail new.count =
-    step-by-stage inside.is_kept inside.stage inside.count inside.history c.args.self.now.state c.args.line.now
-    (ap (λ (held : HeldColumns). held.state) c.self.view_is) ∙ rows.made in
+    search (rules, step-by-stage, c.self.view_is, c.in-Ok-true.ensures.ok) in
     let P : Tail → Type 0 = λ t.
     HasMade (step_in c.args.self.now.state (Content c.args.line.now)) (Idle (Some t)) (Some c.in-Ok.epoch) in
     subst P (sym (ap {B = Tail} tail_of_history c.end.ensures.ended))
@@ -33,8 +31,7 @@ returns-in-Err-epoch-clause-memory c = λ out.
     let come : new.count ≡ length new.history.satellites.rows =
     eqb-true new.count (length new.history.satellites.rows) (sym rows.whole ∙ c.in-Ok-true.field-0-test) in
     let step : step_in c.args.self.now.state (Content c.args.line.now) ≡ step_with_rows tail new.count =
-    step-by-stage inside.is_kept inside.stage inside.count inside.history c.args.self.now.state c.args.line.now
-    (ap (λ (held : HeldColumns). held.state) c.self.view_is) ∙ rows.made in
+    search (rules, step-by-stage, c.self.view_is, c.in-Ok-true.ensures.ok) in
     let some : 0 < length new.history.satellites.rows = c.in-Err-epoch.ensures.memory in (
       rows.start,
       row-was_awaited inside.is_kept inside.stage inside.count inside.history c.args.self.now.state
@@ -51,8 +48,7 @@ returns-in-Ok-false-clause-made c =
     let left : new.count < length new.history.satellites.rows =
     rows-left new.count (length new.history.satellites.rows) (sym rows.whole ∙ c.in-Ok-false.field-0-test) rows.within in
     let step : step_in c.args.self.now.state (Content c.args.line.now) ≡ step_with_rows tail new.count =
-    step-by-stage inside.is_kept inside.stage inside.count inside.history c.args.self.now.state c.args.line.now
-    (ap (λ (held : HeldColumns). held.state) c.self.view_is) ∙ rows.made in
+    search (rules, step-by-stage, c.self.view_is, c.in-Ok-false.ensures.ok) in
     let P : ColumnsState → Type 0 = λ s. HasMade (step_in c.args.self.now.state
     (Content c.args.line.now)) s None in
     subst P (sym (state-rows inside.is_kept new.stage new.count new.history rows.rows))

@@ -1,7 +1,6 @@
-use Rattle.crx_compact.proofs.Words.{◌≡◌, ◌∙◌, ◌<◌, sym, ap, subst, arith, Bool, length, Some, None, true}
-use Rattle.crx_compact.proofs.Words.{false, eqb-true, Content, ColumnsState, HasMade, HasPrintedLines}
+use Rattle.crx_compact.proofs.Words.{rules, ◌≡◌, ◌∙◌, ◌<◌, sym, ap, subst, arith, Bool, length, Some, None}
+use Rattle.crx_compact.proofs.Words.{true, false, eqb-true, Content, ColumnsState, HasMade, HasPrintedLines}
 use Rattle.crx_compact.proofs.Words.{step_in, step_with_rows, tail_of_history, AreLinesTo, IsBlock, Tail}
-use Rattle.crx_compact.proofs.Words.{HeldColumns}
 use Rattle.crx_compact.specs.OpenEpochs.{Idle}
 use Rattle.crx_compact.proofs.PrintedBlocks.{block-whole}
 use Rattle.crx_compact.proofs.reading.Stages.{rows-left, state-rows, step-by-stage}
@@ -18,8 +17,7 @@ returns-then-not-is_whole-clause-made c =
     let left : new.count < length new.history.satellites.rows =
     rows-left new.count (length new.history.satellites.rows) (sym rows.whole ∙ more) rows.within in
     let step : step_in c.args.self.now.state (Content c.args.line.now) ≡ step_with_rows tail new.count =
-    step-by-stage inside.is_kept inside.stage inside.count inside.history c.args.self.now.state c.args.line.now
-    (ap (λ (held : HeldColumns). held.state) c.self.view_is) ∙ rows.made in
+    search (rules, step-by-stage, c.self.view_is, c.in-Ok.ensures.ok) in
     let P : ColumnsState → Type 0 = λ s.
     HasMade (step_in c.args.self.now.state (Content c.args.line.now)) s None in (
       subst P (sym (state-rows inside.is_kept new.stage new.count new.history rows.rows))
@@ -29,7 +27,6 @@ returns-then-not-is_whole-clause-made c =
 
 pub returns-else-not-is_whole-clause-made : goal.returns-else-not-is_whole-clause-made
 returns-else-not-is_whole-clause-made c =
-    let inside = c.self.inside in
     let new = c.take_line.new in
     let rows = c.in-Ok.ensures.ok in
     let tail : Tail = tail_of_history new.history in
@@ -37,8 +34,7 @@ returns-else-not-is_whole-clause-made c =
     let come : new.count ≡ length new.history.satellites.rows =
     eqb-true new.count (length new.history.satellites.rows) (sym rows.whole ∙ whole) in
     let step : step_in c.args.self.now.state (Content c.args.line.now) ≡ step_with_rows tail new.count =
-    step-by-stage inside.is_kept inside.stage inside.count inside.history c.args.self.now.state c.args.line.now
-    (ap (λ (held : HeldColumns). held.state) c.self.view_is) ∙ rows.made in
+    search (rules, step-by-stage, c.self.view_is, c.in-Ok.ensures.ok) in
     let block = c.print.new.self in
     let lines : AreLinesTo new.count block.lines new.history =
     subst (λ n. AreLinesTo n block.lines new.history) c.print.ensures.rows

@@ -1,4 +1,4 @@
-use Rattle.std.proofs.Common.{◌≡◌, ◌+◌, ◌++◌, ◌∷◌, [], List, ℕ, drop, length, take, ap, sym, ◌∙◌, arith}
+use Rattle.std.proofs.Common.{rules, ◌≡◌, ◌+◌, ◌++◌, ◌∷◌, [], List, ℕ, length, take, ap, sym, ◌∙◌, arith}
 use Rattle.std.proofs.lemmas.List.{take-append-le, take-take, take_all, take_at}
 use Rattle.crx_compact.proofs.copied_line.CopiedLine.put.Goals as goal
 
@@ -17,23 +17,7 @@ line-put bytes line put =
     record { there = there; text = text ∙ ap (λ (t : List ℕ). t ++ 10 ∷ []) (sym there) }
 
 pub invariant_of-self : goal.invariant_of-self
-invariant_of-self c =
-    let inside = c.self.inside in
-    let bytes = c.put_line.new.bytes in
-    let a = c.put_line.auto.bytes in
-    let b = c.deref_mut.ensures.len in
-    rw (take_at bytes (drop (length bytes) inside.bytes.items) inside.bytes.len (omega (arith, a, b))) (
-      c.requires.short,
-      omega (arith, a, b, ap length c.deref_mut.ensures.value, c.self.invariant.1),
-      (line-put bytes c.args.line.now c.put_line.ensures.put).text,
-    )
+invariant_of-self c = search (rules, take_at, line-put)
 
 pub returns : goal.returns
-returns c =
-    let inside = c.self.inside in
-    let bytes = c.put_line.new.bytes in
-    let a = c.put_line.auto.bytes in
-    let b = c.deref_mut.ensures.len in
-    let kept = take_at bytes (drop (length bytes) inside.bytes.items) inside.bytes.len (omega (arith, a, b))
-    in
-    record { line = rw kept (line-put bytes c.args.line.now c.put_line.ensures.put).there }
+returns c = search (rules, take_at, line-put, c.put_line.ensures.put)

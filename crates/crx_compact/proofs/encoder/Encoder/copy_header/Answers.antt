@@ -1,6 +1,6 @@
-use Rattle.std.proofs.Common.{◌≡◌, List, ℕ, Bool, true, false, ◌++◌, ◌∷◌, [], ap, ◌∙◌}
+use Rattle.std.proofs.Common.{rules, ◌≡◌, List, ℕ, Bool, true, false, ◌++◌, ◌∷◌, [], ap, ◌∙◌}
 use Rattle.crx_header.specs.declared.crinex.TheConstants.{CRINEX_PROGRAM, CRINEX_PROGRAM_LABEL}
-use Rattle.crx_header.specs.meaning.CompactHeader.{left_justified, lines_before_header, program_line, version_line}
+use Rattle.crx_header.specs.meaning.CompactHeader.{left_justified, lines_before_header, version_line}
 use Rattle.crx_compact.specs.Encoding.{EncoderState, forgotten}
 use Rattle.crx_compact.specs.EncodingRooms.{all_free}
 use Rattle.crx_compact.proofs.Justified.{left_justified-is}
@@ -11,9 +11,7 @@ first-header : (date columns one two three line copied : List ℕ) (is_first : B
     → three ≡ two ++ CRINEX_PROGRAM_LABEL → copied ≡ line → is_first ≡ true
     → version_line ∷ three ∷ copied ∷ [] ≡ lines_before_header date is_first ++ line ∷ []
 first-header date columns one two three line copied is_first is first second third held begins =
-    let program : three ≡ program_line date =
-    third ∙ ap (λ (t : List ℕ). t ++ CRINEX_PROGRAM_LABEL) (second ∙ (λ j. first j ++ is j)) in
-    rw begins (λ j. version_line ∷ program j ∷ held j ∷ [])
+    search rules
 
 pub returns-then-is_first : goal.returns-then-is_first
 returns-then-is_first c = record {

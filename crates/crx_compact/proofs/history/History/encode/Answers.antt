@@ -1,15 +1,16 @@
-use Rattle.crx_compact.proofs.Words.{◌≡◌, ◌++◌, ◌∷◌, [], ℕ, ℤ, List, Option, true, not, length}
-use Rattle.crx_compact.proofs.Words.{take, sym, ap, ◌∙◌, subst, arith, inl, inr, if◌then◌else◌, is_ok}
-use Rattle.crx_compact.proofs.Words.{eqb-true, length-map, satellites_of, has_satellite, Epoch, Row}
-use Rattle.crx_compact.proofs.Words.{HasRoom, HaveRoom, OpenHistory, row_of_parts, row_room, tail_of_history}
-use Rattle.crx_compact.proofs.Words.{no_tail, row_tail_in, Tail, AreRowsWritten, epoch_by_rows}
+use Rattle.std.proofs.Common.{rules}
+use Rattle.crx_compact.proofs.Words.{◌≡◌, ◌++◌, ◌∷◌, [], ℕ, ℤ, List, Option, true, not, length, take, sym, ap}
+use Rattle.crx_compact.proofs.Words.{◌∙◌, subst, arith, inl, inr, if◌then◌else◌, is_ok, eqb-true, length-map}
+use Rattle.crx_compact.proofs.Words.{satellites_of, has_satellite, Row, HasRoom, HaveRoom, OpenHistory}
+use Rattle.crx_compact.proofs.Words.{row_of_parts, row_room, tail_of_history, no_tail, row_tail_in, Tail}
+use Rattle.crx_compact.proofs.Words.{AreRowsWritten, slice_get_within}
+use Rattle.std.proofs.lemmas.Grind.{common_steps}
 use borrow.Author.Count.{falls}
 use Rattle.crx_compact.specs.EncodingRooms.{HasTakenRow, encoding_room}
 use Rattle.crx_compact.specs.Placing.{GrowsOnly, IsAskedAmong}
-use Rattle.crx_compact.specs.Written.{IsEpochWritten, IsRowWritten}
+use Rattle.crx_compact.specs.Written.{IsRowWritten}
 use Rattle.crx_compact.proofs.ComeRows.{row-new}
 use Rattle.crx_compact.proofs.Making.{taken_all, taken_more}
-use Rattle.crx_compact.proofs.PlaceByPlace.{some-there}
 use Rattle.crx_compact.proofs.Results.{by_ok, from_ok}
 use Rattle.crx_compact.proofs.EncodingRooms.{room-kept}
 use Rattle.crx_compact.proofs.RowByRow.{all-at, sum-left, sum-next, sum-to}
@@ -28,65 +29,43 @@ loop-row-init c =
       clock = ap (λ (h : OpenHistory). h.clock) c.self.view_is j;
       rows = (c.prepare_rows.ensures.asked.rows ∙ ap (λ (h : OpenHistory). h.satellites.rows) c.self.view_is) j;
     }) in
-    let lines = c.in_ok-make_room.ensures.free_lines in
-    let bytes = c.in_ok-make_room.ensures.free_bytes in
-    let sized = c.in_ok-room.ensures.bytes in
-    let many = c.count-2.ensures.value in
-    let long = c.in_ok-make_long.ensures.room in
-    let first = c.count.ensures.value in
-    let text = ap length c.begin_rows.ensures.texts.next_text in
-    let grown = c.make_room.ensures.grown in
+    let wide = c.in_ok-make_text_room.ensures in
+    let long = c.in_ok-make_long.ensures in
     let held = c.make_long.new.text.ok in
-    let unused = c.in_ok-reserve_front.ensures.unused in
-    let front = c.in_ok-reserve_front.ensures.held in
-    let reserved = c.in_ok-reserve_front.ensures.reserved in
-    let asked = c.make_room.ensures.held in
-    let both = c.begin_rows.ensures.texts.text_room in
+    let sized = c.in_ok-room.ensures in
+    let front = c.in_ok-reserve_front.ensures in
+    let made = c.in_ok-make_room.ensures in
+    let text = ap length c.begin_rows.ensures.texts.next_text in
     let before = ap (λ (h : OpenHistory). h.text_room) c.self.view_is in
-    let wide = c.in_ok-make_text_room.ensures.room in
-    let first_kept = c.make_text_room.ensures.capacity in
-    let next_kept = c.make_long.ensures.capacity in
+    let known = ap (λ (h : OpenHistory). h.satellites.rooms) c.self.view_is in
     record {
       written = subst (AreRowsWritten _ [] c.begin_rows.new.self)
           (sym (c.make_room.ensures.grown.lines ∙ c.reserve_front.ensures.emptied))
           (subst (λ (t : Tail). AreRowsWritten (if c.args.in_full then no_tail else t) [] c.begin_rows.new.self [])
           same c.begin_rows.ensures.begun);
       room = record {
-        text = omega (arith, wide, long, held.0, held.1, both, first);
+        text = omega (arith, held.0, held.1);
         rows = subst (HaveRoom c.args.epoch.now.rows) (sym c.begin_rows.ensures.rooms)
             c.in_ok-room.ensures.room;
-        lines = omega (arith, lines, many, grown.among_lines);
-        bytes = omega (arith, bytes, sized, grown.among_bytes);
+        lines = omega arith;
+        bytes = omega arith;
       };
-      free_lines = omega (arith, lines, many);
-      free_bytes = omega (arith, bytes, sized);
-      text = omega (arith, long, first, text);
-      front = c.make_room.ensures.grown.front ∙ c.in_ok-reserve_front.ensures.front;
-      reserved = grown.reserved ∙ c.in_ok-reserve_front.ensures.reserved;
+      free_lines = omega arith;
+      free_bytes = omega arith;
+      text = omega arith;
+      front = c.make_room.ensures.grown.front ∙ front.front;
+      reserved = c.make_room.ensures.grown.reserved ∙ front.reserved;
       rooms_kept = λ name count has. subst (HasRoom name count) (sym c.begin_rows.ensures.rooms)
-          (c.prepare_rows.ensures.asked.rooms name count
-          (subst (HasRoom name count)
-          (sym (ap (λ (h : OpenHistory). h.satellites.rooms) c.self.view_is)) has));
-      only = λ name count has. subst (λ (h : OpenHistory). GrowsOnly (IsAskedAmong c.args.epoch.now.rows)
-          h.satellites.rooms c.prepare_rows.new.satellites.rooms)
-          c.self.view_is c.in_ok-room.ensures.only name count
+          (c.prepare_rows.ensures.asked.rooms name count (subst (HasRoom name count) (sym known) has));
+      only = λ name count has. subst (λ (rooms : List (List ℕ × ℕ)). GrowsOnly
+          (IsAskedAmong c.args.epoch.now.rows)
+          rooms c.prepare_rows.new.satellites.rooms) known c.in_ok-room.ensures.only name count
           (subst (HasRoom name count) c.begin_rows.ensures.rooms has);
-      used_lines = omega (arith, grown.grown_lines, unused.0);
-      used_bytes = omega (arith, grown.grown_bytes, unused.1);
-      held = record {
-        lines = omega (arith, reserved, front.lines, asked.lines, unused.0, many, grown.reserved);
-        bytes = omega (arith, reserved, front.bytes, asked.bytes, unused.1, sized, grown.reserved);
-      };
-      text_kept = omega (arith, before, first_kept, next_kept, both);
-      lines_kept = λ as_many.
-          let dropped = c.reserve_front.ensures.kept as_many in
-          record {
-            all_lines = omega (arith, dropped.all_lines, grown.all_lines);
-            all_bytes = omega (arith, dropped.all_bytes, grown.all_bytes);
-            held_lines = omega (arith, dropped.held_lines, grown.held_lines);
-            held_bytes = omega (arith, dropped.held_bytes, grown.held_bytes);
-            reserved = grown.reserved ∙ dropped.reserved;
-          };
+      used_lines = omega arith;
+      used_bytes = omega arith;
+      held = omega arith;
+      text_kept = omega arith;
+      lines_kept = λ as_many. let dropped = c.reserve_front.ensures.kept as_many in omega arith;
     }
 
 pub unwrap-requires : goal.unwrap-requires
@@ -96,9 +75,7 @@ unwrap-requires c =
     let row : Row = c.in-Some.row.now in
     let here = sym c.in-Some.ensures.value in
     let rooms = c.loop-row.self.satellites.rooms in
-    let within = some-there rows index row here in
-    let free_lines = c.loop-row.invariant.free_lines in
-    let free_bytes = c.loop-row.invariant.free_bytes in
+    let within = slice_get_within rows index row here in
     let next = sum-left row_room rows index row here in
     let many : length c.values.result.now ≡ length row.values = ap length c.values.ensures.value in
     c.write_row.ensures.known (record {
@@ -108,21 +85,20 @@ unwrap-requires c =
           (sym c.values.ensures.value)
           (all-at (λ (r : Row). HasRoom r.name (length r.values) rooms) rows index row
           c.loop-row.invariant.room.rows here));
-      line = omega (arith, within, free_lines);
-      bytes = omega (arith, next, free_bytes, many);
+      line = omega arith;
+      bytes = omega arith;
     })
 
 pub overflow_add-index : goal.overflow_add-index
 overflow_add-index c =
-    let within = some-there c.args.epoch.now.rows c.loop-row.index c.in-Some.row.now
+    let within = slice_get_within c.args.epoch.now.rows c.loop-row.index c.in-Some.row.now
     (sym c.in-Some.ensures.value) in
-    let few = c.row.ensures.within in
-    omega (arith, within, few)
+    omega arith
 
 pub loop-row-smaller : goal.loop-row-smaller
 loop-row-smaller c =
     falls (length c.args.epoch.now.rows) c.loop-row.index
-    (some-there c.args.epoch.now.rows c.loop-row.index c.in-Some.row.now (sym c.in-Some.ensures.value))
+    (slice_get_within c.args.epoch.now.rows c.loop-row.index c.in-Some.row.now (sym c.in-Some.ensures.value))
 
 pub loop-row-preserved : goal.loop-row-preserved
 loop-row-preserved c =
@@ -144,35 +120,26 @@ loop-row-preserved c =
     ∙ ap not (ap (λ (r : Row). has_satellite r.name so_far) parts ∙ row-new rows index row c.requires.sound.apart here) in
     let taken = from_ok (λ is_new. is_new ≡ true → HasTakenRow put old new) c.write_row.result c.unwrap.result
     c.unwrap.ensures c.write_row.ensures.taken is_new in
-    let kept = c.write_row.ensures.kept in
-    let free_lines = c.loop-row.invariant.free_lines in
-    let free_bytes = c.loop-row.invariant.free_bytes in
-    let text = c.loop-row.invariant.text in
     let same = ap length c.write_row.ensures.texts.next_text in
-    let one_line = taken.lines in
-    let some_bytes = taken.bytes in
-    let all_lines = kept.lines in
-    let all_bytes = kept.bytes in
     let next = sum-left row_room rows index row here in
     let many : length c.values.result.now ≡ length row.values = ap length c.values.ensures.value in
-    let known = c.loop-row.invariant in
-    let front = c.write_row.ensures.reserved in
-    let grows = c.write_row.ensures.only in
-    let within = some-there rows index row here in
+    let within = slice_get_within rows index row here in
     let so_many = sum-next row_room rows index row here in
     let whole = sum-to row_room rows index row here in
+    let known = c.loop-row.invariant in
+    let kept = c.write_row.ensures.kept in
     record {
       written = subst (λ (rs : List Row). AreRowsWritten after rs c.write_row.new.self c.write_row.new.lines.lines)
           ((λ j. so_far ++ parts j ∷ []) ∙ sym (taken_more rows index row here)) (written.written is_new);
-      room = room-kept c.args.epoch.now old new kept c.loop-row.invariant.room;
-      free_lines = omega (arith, free_lines, one_line, all_lines);
-      free_bytes = omega (arith, free_bytes, some_bytes, all_bytes, next, many);
-      text = omega (arith, text, same);
-      front = c.write_row.ensures.front ∙ c.loop-row.invariant.front;
-      reserved = c.write_row.ensures.reserved ∙ c.loop-row.invariant.reserved;
-      rooms_kept = λ name count has. kept.rooms name count (c.loop-row.invariant.rooms_kept name count has);
-      only = λ name count has. elim (grows.rooms name count has) [
-        | inl before ↦ c.loop-row.invariant.only name count before
+      room = room-kept c.args.epoch.now old new kept known.room;
+      free_lines = omega arith;
+      free_bytes = omega arith;
+      text = omega arith;
+      front = omega arith;
+      reserved = omega arith;
+      rooms_kept = λ name count has. kept.rooms name count (known.rooms_kept name count has);
+      only = λ name count has. elim (c.write_row.ensures.only.rooms name count has) [
+        | inl before ↦ known.only name count before
         | inr asked ↦ inr (record {
           index = index;
           row = row;
@@ -180,47 +147,24 @@ loop-row-preserved c =
           asked = (asked.0 ∙ c.name.ensures.value, omega (arith, asked.1, many));
         })
       ];
-      used_lines = omega (arith, known.used_lines, one_line);
-      used_bytes = omega (arith, known.used_bytes, some_bytes, so_many, many);
-      held = record {
-        lines = omega (arith, known.held.lines, known.used_lines, grows.lines, within, front);
-        bytes = omega (arith, known.held.bytes, known.used_bytes, grows.bytes, whole, many, front);
-      };
-      text_kept = omega (arith, kept.text, c.loop-row.invariant.text_kept);
-      lines_kept = λ as_many.
-          let lines = c.loop-row.invariant.lines_kept as_many in
-          record {
-            all_lines = omega (arith, lines.all_lines, kept.lines);
-            all_bytes = omega (arith, lines.all_bytes, kept.bytes);
-            held_lines = omega (arith, lines.held_lines, kept.held_lines);
-            held_bytes = omega (arith, lines.held_bytes, kept.held_bytes);
-            reserved = c.write_row.ensures.reserved ∙ lines.reserved;
-          };
+      used_lines = omega arith;
+      used_bytes = omega arith;
+      held = omega arith;
+      text_kept = omega arith;
+      lines_kept = λ as_many. let lines = known.lines_kept as_many in omega arith;
     }
 
 -- all rows are written
 written : (c : In_default)
     → AreRowsWritten (if c.args.in_full then no_tail else tail_of_history c.args.self.now) c.args.epoch.now.rows
     c.loop-row.self c.loop-row.lines.lines
-written c =
-    let after : Tail = if c.args.in_full then no_tail else tail_of_history c.args.self.now in
-    subst (λ (rows : List Row). AreRowsWritten after rows c.loop-row.self c.loop-row.lines.lines)
-    (taken_all c.args.epoch.now.rows c.loop-row.index (sym c.in_default.ensures.value))
-    c.loop-row.invariant.written
+written c = search (rules, no_tail, tail_of_history, taken_all)
 
 pub end_rows-requires-clause-counted : goal.end_rows-requires-clause-counted
-end_rows-requires-clause-counted c =
-    let epoch = c.args.epoch.now in
-    ap length (written (goal.at.end_rows-requires-clause-counted c).In_default).rows_after ∙ length-map epoch.rows (row_tail_in _)
-    ∙ eqb-true (length epoch.rows) (satellites_of epoch.head) c.requires.whole ∙ sym c.head.ensures.count
+end_rows-requires-clause-counted c = search (rules, written, length-map, row_tail_in, eqb-true, satellites_of)
 
 pub unwrap-requires-2 : goal.unwrap-requires-2
-unwrap-requires-2 c =
-    let epoch = c.args.epoch.now in
-    let text = c.loop-row.invariant.text in
-    let many = eqb-true (length epoch.rows) (satellites_of epoch.head) c.requires.whole in
-    let count = c.head.ensures.count in
-    c.end_rows.ensures.known (omega (arith, text, many, count))
+unwrap-requires-2 c = grind (arith, common_steps, c.end_rows.ensures.known)
 
 pub returns-clause-rooms_kept : goal.returns-clause-rooms_kept
 returns-clause-rooms_kept c = λ name count has.
@@ -229,22 +173,13 @@ returns-clause-rooms_kept c = λ name count has.
 pub returns-clause-only : goal.returns-clause-only
 returns-clause-only c =
     let memory = c.end_rows.ensures.memory in
-    let held = c.loop-row.invariant.held in
-    let reserved = c.end_rows.ensures.reserved in
     record {
       rooms = λ name count has. c.loop-row.invariant.only name count (memory.rooms.back name count has);
       lines = record {
-        lines = omega (arith, held.lines, reserved, memory.lines, memory.spare_lines);
-        bytes = omega (arith, held.bytes, reserved, memory.bytes, memory.spare_bytes);
+        lines = omega arith;
+        bytes = omega arith;
       };
     }
 
 pub returns-clause-written : goal.returns-clause-written
-returns-clause-written c =
-    let epoch = c.args.epoch.now in
-    let after : Tail = if c.args.in_full then no_tail else tail_of_history c.args.self.now in
-    let whole : epoch_by_rows c.head.result.now epoch.rows ≡ epoch =
-    (λ j. record { head = c.head.ensures.head j; clock = c.head.ensures.clock j; rows = epoch.rows }) in
-    subst (λ (e : Epoch). IsEpochWritten after e c.end_rows.new.self c.end_rows.new.lines.lines) whole
-    (by_ok c.end_rows.result (ap is_ok c.unwrap-2.ensures)
-    (c.end_rows.ensures.written after epoch.rows (written (goal.at.returns-clause-written c).In_default)))
+returns-clause-written c = search (rules, no_tail, tail_of_history, by_ok, is_ok, written)

@@ -1,7 +1,7 @@
-use Rattle.crx_compact.proofs.Words.{◌≡◌, ◌++◌, ◌∷◌, List, ℕ, map, arith, ap, length, ◌∙◌, is_ok}
-use Rattle.crx_compact.proofs.Words.{without_end_blanks, by_position, mark_of, text_difference, Row}
-use Rattle.crx_compact.proofs.Words.{code_text, arc_of_value, code_of_value, epoch_text, OpenHistory}
-use Rattle.crx_compact.proofs.Words.{PlacedRows, row_tail_in, RowTail, Tail, AreRowsWritten, epoch_by_rows}
+use Rattle.crx_compact.proofs.Words.{rules, ◌≡◌, ◌++◌, ◌∷◌, List, ℕ, map, ap, ◌∙◌, is_ok, without_end_blanks}
+use Rattle.crx_compact.proofs.Words.{by_position, mark_of, text_difference, Row, code_text, arc_of_value}
+use Rattle.crx_compact.proofs.Words.{code_of_value, epoch_text, OpenHistory, PlacedRows, row_tail_in, RowTail}
+use Rattle.crx_compact.proofs.Words.{Tail, AreRowsWritten, epoch_by_rows}
 use Rattle.std.specs.List.{flat_map}
 use Rattle.std.proofs.lemmas.List.Folds.{flat_map-map}
 use Rattle.crx_text.proofs.CodeTexts.{code_text_length}
@@ -12,11 +12,7 @@ use Rattle.crx_compact.proofs.history.History.end_rows.Goals as goal
 
 -- an empty text has room for a code
 pub unwrap-requires : goal.unwrap-requires
-unwrap-requires c =
-    let short = code_text_length c.push.result c.push.ensures.printable in
-    let empty = ap length c.clear.ensures.emptied in
-    ok-unless c.code_print.result (λ failed. let full = c.code_print.ensures.full.0 failed in
-    omega (arith, short, empty, full))
+unwrap-requires c = search (rules, ok-unless, code_text_length)
 
 -- the rows of an epoch that has ended, and its text
 ended : (after : Tail) (rows : List Row) (lines : List (List ℕ)) (old : OpenHistory) (seen end : PlacedRows)
@@ -31,8 +27,7 @@ named : (after : Tail) (rows : List Row) (head text : List ℕ) (end : List RowT
     → text ≡ without_end_blanks (head ++ flat_map (λ (row : Row). row.name) rows)
 named after rows head text end is made =
     made ∙ ap (λ (names : List ℕ). without_end_blanks (head ++ names))
-    (ap (flat_map (λ (row : RowTail). row.name)) is
-    ∙ flat_map-map (λ (row : RowTail). row.name) (row_tail_in after.rows) rows)
+    (search (rules, flat_map-map, row_tail_in))
 
 pub returns-clause-written : goal.returns-clause-written
 returns-clause-written c = λ after rows written.

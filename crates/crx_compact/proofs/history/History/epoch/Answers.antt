@@ -1,31 +1,24 @@
-use Rattle.crx_compact.proofs.Words.{List, ap, inl, inr, sym, ◌∙◌, arith, slice_get, false≢true, option_map}
-use Rattle.crx_compact.proofs.Words.{slice_get-map, with_row, has_satellite, Epoch, Row, IsAwaitedSatellite}
-use Rattle.crx_compact.proofs.Words.{OpenHistory, satellite_of, shown_row, RowTail}
+use Rattle.crx_compact.proofs.Words.{rules, List, ap, inl, inr, sym, ◌∙◌, arith, slice_get, false≢true}
+use Rattle.crx_compact.proofs.Words.{option_map, slice_get-map, with_row, has_satellite, Epoch, Row}
+use Rattle.crx_compact.proofs.Words.{IsAwaitedSatellite, OpenHistory, satellite_of, shown_row, RowTail}
 use Rattle.crx_compact.proofs.RowByRow.{IsThere, all-at, is-there}
-use Rattle.crx_compact.proofs.ShownHistory.{row-shown}
+use Rattle.crx_compact.proofs.ShownEpochs.{row-shown}
 use Rattle.crx_compact.proofs.history.History.epoch.Goals as goal
 
 pub row-requires-clause-sound : goal.row-requires-clause-sound
 row-requires-clause-sound c = λ old there.
-    let history : OpenHistory = c.args.self.now in
-    let here = ap (λ (h : OpenHistory). slice_get h.satellites.rows c.loop-index.index)
-    (sym c.self.view_is) ∙ there in
     let sound = all-at IsAwaitedSatellite _ c.loop-index.index
     (satellite_of old) c.requires.announced.satellites
-    (slice_get-map satellite_of history.satellites.rows c.loop-index.index
-    ∙ ap (option_map satellite_of) here) in
+    (search (rules, slice_get-map, satellite_of, option_map, slice_get, c.self.view_is)) in
     (sound.named, sound.counted)
 
 -- only memory can be wanted, since the epoch has no row of the satellite
 pub returns-in-Err-clause-err : goal.returns-in-Err-clause-err
 returns-in-Err-clause-err c =
     let index = c.loop-index.index in
-    let history : OpenHistory = c.args.self.now in
     let rows : List RowTail = c.self.inside.satellites.rows in
-    let many = c.placed-index-end.ensures.value in
-    let next = c.loop-index-test.true in
-    let row : IsThere rows index = is-there rows index (omega (arith, many, next)) in
-    let at = row-shown history index row.item c.requires.announced
+    let row : IsThere rows index = is-there rows index (omega arith) in
+    let at = row-shown c.args.self.now index row.item c.requires.announced
     (ap (λ (h : OpenHistory). slice_get h.satellites.rows index) (sym c.self.view_is) ∙ row.there) in
     let new = ap (λ (r : Row). has_satellite r.name c.loop-index.epoch.rows)
     (c.in_ok-row.ensures.ok row.item row.there)
@@ -38,12 +31,9 @@ returns-in-Err-clause-err c =
 pub loop-index-preserved : goal.loop-index-preserved
 loop-index-preserved c =
     let index = c.loop-index.index in
-    let history : OpenHistory = c.args.self.now in
     let rows : List RowTail = c.self.inside.satellites.rows in
-    let many = c.placed-index-end.ensures.value in
-    let next = c.loop-index-test.true in
-    let row : IsThere rows index = is-there rows index (omega (arith, many, next)) in
-    let at = row-shown history index row.item c.requires.announced
+    let row : IsThere rows index = is-there rows index (omega arith) in
+    let at = row-shown c.args.self.now index row.item c.requires.announced
     (ap (λ (h : OpenHistory). slice_get h.satellites.rows index) (sym c.self.view_is) ∙ row.there) in
     c.in-Ok.ensures.ok
     ∙ ap (λ (r : Row). with_row c.loop-index.epoch r) (c.in_ok-row.ensures.ok row.item row.there)

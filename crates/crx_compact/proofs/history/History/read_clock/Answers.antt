@@ -1,5 +1,4 @@
-use Rattle.crx_compact.proofs.Words.{rules, ap, ◌∙◌, sym, refl, CLOCK_WIDTH, ReadCell, shown_value}
-use Rattle.crx_compact.proofs.Words.{Missing, None}
+use Rattle.crx_compact.proofs.Words.{rules, ap, refl, ReadCell, shown_value, Missing, None}
 use Rattle.crx_compact.proofs.CellsRead.{shown-code}
 use Rattle.crx_compact.proofs.Marks.{none-there}
 use Rattle.crx_compact.proofs.history.History.read_clock.Goals as goal
@@ -11,8 +10,7 @@ returns-clause-ok c =
       cell = cell;
       read = search rules;
       left = search rules;
-      shown = ap shown_value c.in_ok-apply.ensures.ok
-          ∙ shown-code CLOCK_WIDTH c.in-Ok.code _ _ (sym c.in_ok-apply.ensures.value);
+      shown = search (rules, shown_value, c.in_ok-apply.ensures.ok, shown-code, c.in_ok-apply.ensures.value);
     }
 
 pub returns-then-is_empty-clause-ok : goal.returns-then-is_empty-clause-ok

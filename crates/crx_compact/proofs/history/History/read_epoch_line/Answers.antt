@@ -3,8 +3,7 @@ use Rattle.crx_compact.proofs.Words.{◌∙◌, arith, rules, err_from_is_err_an
 use Rattle.crx_compact.proofs.Words.{append-nil, is_printable, Fault, patched, past_of_tail}
 use Rattle.crx_compact.proofs.Words.{satellites_of_line, satellites_of_text, Satellite, HasRoom}
 use Rattle.crx_compact.proofs.Words.{HaveTypesRoom, OpenHistory, PlacedRows, padded_among, tail_of_history}
-use Rattle.crx_compact.proofs.Words.{RowTail, Tail}
-use Rattle.crx_compact.proofs.Words.{◌≤◌, HEAD_WIDTH, IsAnnounced, and_parts, satellite_of}
+use Rattle.crx_compact.proofs.Words.{RowTail, Tail, and_parts, satellite_of}
 use Rattle.crx_compact.specs.Refusals.{AnswersRefusal}
 use Rattle.crx_compact.specs.RowsSoFar.{NamesSatellites}
 use Rattle.crx_compact.proofs.NamedAgain.{named-kept}
@@ -24,8 +23,7 @@ by-line types before line text printable made =
 text : (c : After-read_satellites) → c.bytes-text.result.now ≡ patched c.args.self.now.text c.args.line.now
 text c = c.bytes-text.ensures.value
     ∙ by_ok c.patch_bytes.result c.if-is_err.ensures.negation c.patch_bytes.ensures.ok
-    ∙ ap (λ (t : List ℕ). patched t c.args.line.now) (c.deref.ensures.value
-    ∙ ap (λ (h : OpenHistory). h.text) c.self.view_is)
+    ∙ ap (λ (t : List ℕ). patched t c.args.line.now) (search (rules, c.deref.ensures.value, c.self.view_is))
 
 same : (c : After-read_satellites)
     → satellites_of_line c.args.types.now (past_of_tail (tail_of_history c.args.self.now)) c.args.line.now
@@ -38,21 +36,14 @@ pub read_satellites-requires-clause-named : goal.read_satellites-requires-clause
 read_satellites-requires-clause-named c both =
     let line = c.args.line.now in
     let before = c.args.self.now.text in
-    let parts = and_parts c.args.is_named _ both in
-    let short : length line ≤ HEAD_WIDTH = search (rules, parts.1) in
     let made : c.bytes-text.result.now ≡ patched before line = c.bytes-text.ensures.value
     ∙ by_ok c.patch_bytes.result c.if-is_err.ensures.negation c.patch_bytes.ensures.ok
-    ∙ ap (λ (t : List ℕ). patched t line) (c.deref.ensures.value
-    ∙ ap (λ (h : OpenHistory). h.text) c.self.view_is) in
+    ∙ ap (λ (t : List ℕ). patched t line) (search (rules, c.deref.ensures.value, c.self.view_is)) in
     let rest : c.begin.new.self.rest ≡ c.args.self.now.satellites.rows =
-    ap (λ (p : PlacedRows). p.rest) c.begin.ensures.begun
-    ∙ ap (λ (h : OpenHistory). h.satellites.rows ++ h.satellites.rest) c.self.view_is
-    ∙ ap (λ (rest : List RowTail). c.args.self.now.satellites.rows ++ rest) c.requires.between
-    ∙ append-nil c.args.self.now.satellites.rows in
+    search (rules, c.begin.ensures.begun, c.self.view_is, c.requires.between, append-nil) in
     subst (λ (t : List ℕ). NamesSatellites t (map satellite_of c.begin.new.self.rest)) (sym made)
     (subst (λ (rows : List RowTail). NamesSatellites (patched before line) (map satellite_of rows)) (sym rest)
-    (named-kept before line (map satellite_of c.args.self.now.satellites.rows) short
-    (IsAnnounced.named (c.requires.named parts.0))))
+    (search (rules, named-kept, map, satellite_of, and_parts, c.requires.named)))
 
 -- the satellites have the room that they had
 rooms : (c : After-read_satellites) → c.begin.new.self.rooms ≡ c.args.self.now.satellites.rooms

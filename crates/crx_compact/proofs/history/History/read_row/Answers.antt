@@ -1,5 +1,5 @@
 use Rattle.crx_compact.proofs.Words.{◌≡◌, List, ap, ◌∙◌, slice_get, slice_set, OpenHistory, RowTail}
-use Rattle.crx_compact.proofs.Marks.{on-ok}
+use Rattle.std.proofs.lemmas.Result.{on_ok_weaker}
 use Rattle.crx_compact.proofs.RowByRow.{IsThere, is-there}
 use Rattle.crx_compact.proofs.history.History.read_row.Goals as goal
 
@@ -10,7 +10,7 @@ returns-clause-ok c =
     let seen : c.self.inside.satellites.rows ≡ old.satellites.rows =
     ap (λ (history : OpenHistory). history.satellites.rows) c.self.view_is in
     let row : IsThere old.satellites.rows index = is-there old.satellites.rows index c.requires.within in
-    on-ok c.read_line.result (λ read.
+    on_ok_weaker c.read_line.result (λ read.
     let left = read row.item (ap (λ (rs : List RowTail). slice_get rs index) seen ∙ row.there) in
     record {
       row = row.item;

@@ -1,5 +1,5 @@
-use Rattle.crx_compact.proofs.Words.{◌≡◌, ◌≤◌, ◌-◌, ◌++◌, ◌∷◌, [], List, ℕ, Some, length, min, not, ap, sym}
-use Rattle.crx_compact.proofs.Words.{◌∙◌, refl, subst, arith, false≢true, same_Some, has_satellite, Row}
+use Rattle.crx_compact.proofs.Words.{rules, ◌≡◌, ◌≤◌, ◌-◌, ◌++◌, ◌∷◌, [], List, ℕ, Some, length, min, not, ap}
+use Rattle.crx_compact.proofs.Words.{sym, ◌∙◌, refl, subst, arith, false≢true, same_Some, has_satellite, Row}
 use Rattle.crx_compact.proofs.Words.{IsSoundRow, HasRoom, KeepsRooms, OpenHistory, row_of_parts, row_or_blank}
 use Rattle.crx_compact.proofs.Words.{row_line_after, row_tail_after, RowTail, Tail, AreRowsWritten}
 use Rattle.std.specs.Prelude.{vec_capacity}
@@ -17,9 +17,7 @@ returns-in_err-place_or_add-clause-memory c = λ after rows written.
 
 pub returns-in_err-place_or_add-clause-known : goal.returns-in_err-place_or_add-clause-known
 returns-in_err-place_or_add-clause-known c = λ known.
-    absurd (false≢true (c.in_err-place_or_add.ensures.known
-    (subst (λ (h : OpenHistory). HasRoom c.args.name (length c.args.values.now) h.satellites.rooms)
-    (sym c.self.view_is) known.satellite)))
+    search (rules, false≢true, c.in_err-place_or_add.ensures.known, c.self.view_is)
 
 -- no satellite has less room, and for texts there is as much
 rooms : (c : After-place_or_add)
@@ -80,18 +78,16 @@ returns-in_err-make_room-clause-memory c = λ after rows written.
 
 pub returns-in_err-make_room-clause-known : goal.returns-in_err-make_room-clause-known
 returns-in_err-make_room-clause-known c = λ known.
-    let line = known.line in
-    let bytes = known.bytes in
-    absurd (false≢true (c.in_err-make_room.ensures.known (omega (arith, line)) (omega (arith, bytes))))
+    absurd (false≢true (c.in_err-make_room.ensures.known (omega arith) (omega arith)))
 
 pub returns-in_err-make_room-clause-kept : goal.returns-in_err-make_room-clause-kept
 returns-in_err-make_room-clause-kept c = record {
   rooms = rooms (goal.at.returns-in_err-make_room-clause-kept c).After-place_or_add;
   text = texts (goal.at.returns-in_err-make_room-clause-kept c).After-place_or_add;
-  lines = c.make_room.ensures.grown.all_lines;
-  bytes = c.make_room.ensures.grown.all_bytes;
-  held_lines = c.make_room.ensures.grown.held_lines;
-  held_bytes = c.make_room.ensures.grown.held_bytes;
+  lines = omega arith;
+  bytes = omega arith;
+  held_lines = omega arith;
+  held_bytes = omega arith;
 }
 
 -- what is asked for is what the row needs
@@ -116,25 +112,10 @@ returns-then-not-branch-clause-only c =
     record { rooms = only at; text = not-more at; lines = omega arith; bytes = omega arith }
 
 pub returns-in_err-make_room-clause-only : goal.returns-in_err-make_room-clause-only
-returns-in_err-make_room-clause-only c =
-    let at = (goal.at.returns-in_err-make_room-clause-only c).After-place_or_add in
-    record {
-      rooms = only at;
-      text = not-more at;
-      lines = c.make_room.ensures.held.lines;
-      bytes = c.make_room.ensures.held.bytes;
-    }
+returns-in_err-make_room-clause-only c = search (rules, rooms, only, not-more)
 
 pub returns-clause-only : goal.returns-clause-only
-returns-clause-only c =
-    let at = (goal.at.returns-clause-only c).After-place_or_add in
-    let put = c.put_row.ensures.taken in
-    record {
-      rooms = λ name count has. only at name count (c.put_row.ensures.kept.rooms.back name count has);
-      text = not-more at;
-      lines = omega (arith, c.make_room.ensures.held.lines, put.all_lines, put.spare_lines);
-      bytes = omega (arith, c.make_room.ensures.held.bytes, put.all_bytes, put.spare_bytes);
-    }
+returns-clause-only c = search (rules, rooms, only, not-more)
 
 pub put_row-requires-clause-sound : goal.put_row-requires-clause-sound
 put_row-requires-clause-sound c = λ old there.
@@ -145,8 +126,7 @@ put_row-requires-clause-sound c = λ old there.
     let come = c.in_ok-place_or_add.ensures.ok.come c.if-not-branch.false in
     let last = come-last name placed c.place_or_add.new.self c.place_or_add.new.self.rows _ come refl
     (ap (λ n. n - 1) c.placed-last.ensures.value) in
-    let kept = row_or_blank name placed.rest in
-    let is = same_Some old kept (sym there ∙ last.there) in
+    let is = same_Some old (row_or_blank name placed.rest) (sym there ∙ last.there) in
     let named : old.name ≡ name = ap (λ (t : RowTail). t.name) is ∙ last.named in (
       subst (λ (n : List ℕ). IsSoundRow (row_of_parts n values flags)) (sym named) c.requires.sound,
       subst (λ (n : List ℕ). HasRoom n (length values) c.place_or_add.new.self.rooms) (sym named)
@@ -185,40 +165,7 @@ returns-clause-written c = λ after rows written.
 
 pub returns-clause-taken : goal.returns-clause-taken
 returns-clause-taken c = λ is.
-    let lines = c.make_room.ensures.grown.grown_lines in
-    let bytes = c.make_room.ensures.grown.grown_bytes in
-    let asked = c.in_ok-make_room.ensures.free_bytes in
-    let only_lines = c.make_room.ensures.only_lines in
-    let only_bytes = c.make_room.ensures.only_bytes in
-    let put = c.put_row.ensures.taken in
-    let one = put.free_lines in
-    let some = c.put_row.ensures.free_bytes in
-    let all_lines = put.all_lines in
-    let all_bytes = put.all_bytes in
-    record {
-      satellite = c.put_row.ensures.kept.rooms.forth c.args.name (length c.args.values.now)
-          (c.in_ok-place_or_add.ensures.ok.room c.if-not-branch.false);
-      lines = omega (arith, lines, one, all_lines);
-      bytes = omega (arith, bytes, some, all_bytes);
-      asked = omega (arith, bytes, asked, all_bytes);
-      only_lines = omega (arith, lines, all_lines, only_lines);
-      only_bytes = omega (arith, bytes, all_bytes, only_bytes);
-    }
+    search rules
 
 pub returns-clause-kept : goal.returns-clause-kept
-returns-clause-kept c =
-    let at = (goal.at.returns-clause-kept c).After-place_or_add in
-    let grown = c.make_room.ensures.grown in
-    let put = c.put_row.ensures.taken in
-    let lines = grown.all_lines in
-    let bytes = grown.all_bytes in
-    let all_lines = put.all_lines in
-    let all_bytes = put.all_bytes in
-    record {
-      rooms = λ name count has. c.put_row.ensures.kept.rooms.forth name count (rooms at name count has);
-      text = texts at;
-      lines = omega (arith, lines, all_lines);
-      bytes = omega (arith, bytes, all_bytes);
-      held_lines = omega (arith, grown.held_lines, all_lines, put.spare_lines);
-      held_bytes = omega (arith, grown.held_bytes, all_bytes, put.spare_bytes);
-    }
+returns-clause-kept c = search (rules, rooms, texts)

@@ -1,7 +1,6 @@
 -- `of` makes a value of no bytes, at the tail of the history that it is given. The history stays as it was.
-use Rattle.std.proofs.Common.{[], ◌∷◌, refl}
+use Rattle.crx_compact.proofs.Words.{[], ◌∷◌, refl, Option, Some, tail_of_history, Tail}
 use Rattle.std.proofs.raw_atomic.Walks.{proved}
-use Rattle.std.specs.Prelude.{Option, Some}
 use mir.Syntax.{named}
 use mir.Val.{Val, vptr}
 use types.Kit.{‵, raw, ◌⊛◌, ◌$◌, ◌∵◌, !, qed, move, keep, use0, split, suffices, done}
@@ -14,13 +13,11 @@ use denote.Ref.{shr_vals, shr_Tells}
 use denote.Signature.{plain, types_at}
 use denote.Triple.Entry.{alive}
 use denote.Triple.Walked.{says, Stays, stay_none_ref, Goes-none_ref, walk_of, ends_at}
-use Rattle.crx_compact.specs.Placing.{tail_of_history}
-use Rattle.crx_compact.specs.Tails.{Tail}
 use Rattle.crx_compact.proofs.kept_tail.Made.{stored, kept, had_of_nothing}
-use Rattle.crx_compact.specs.contracts.history.History as History
 use Rattle.crx_compact.specs.contracts.kept_tail.KeptTail.{the_row}
-use Rattle.crx_compact.specs.contracts.kept_tail.KeptTail.of as it
 use Rattle.crx_compact.proofs.kept_tail.KeptTail.of.Statement.{statement}
+use Rattle.crx_compact.specs.contracts.history.History as History
+use Rattle.crx_compact.specs.contracts.kept_tail.KeptTail.of as it
 use Rattle.crx_compact.proofs.kept_tail.KeptTail.of.Code as code
 
 abbrev stayed : Stays it.ended.signature.params it.ended.kept

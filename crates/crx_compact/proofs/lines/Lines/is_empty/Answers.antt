@@ -1,4 +1,4 @@
-use Rattle.crx_compact.proofs.Words.{◌≡◌, ◌≤◌, ℕ, zero, suc, List, [], ◌∷◌, drop, take, length, ap, true}
+use Rattle.crx_compact.proofs.Words.{rules, ◌≡◌, ◌≤◌, ℕ, zero, suc, List, [], ◌∷◌, drop, length, ap, true}
 use Rattle.crx_compact.proofs.Words.{nat_eq, arith, length-take-le, cut}
 use Rattle.std.proofs.Math.ListN.{drop_of_length-le}
 use Rattle.std.proofs.lemmas.Bool.Decides.{nat_tests}
@@ -21,17 +21,4 @@ none-left (n ∷ ns) text (suc past) none = let rest : length ns ≤ past = none
 
 pub returns : goal.returns
 returns c =
-    let inside = c.self.inside in
-    let lengths : List ℕ = take inside.count inside.lengths.items in
-    let text = drop inside.handed_out_bytes (take inside.filled inside.bytes.items) in
-    let many : length lengths ≡ inside.count =
-    length-take-le inside.count inside.lengths.items c.self.invariant.1 in
-    let past = c.self.invariant.0.past_within in
-    record {
-      value = rw (← c.self.view_is) (
-        λ same. let end = at-end inside.handed_out inside.count same in
-            all-past lengths text inside.handed_out (omega (arith, end, many)),
-        λ none. let end = none-left lengths text inside.handed_out none in
-            at-end-is inside.handed_out inside.count (omega (arith, past, many)) (omega (arith, end, many)),
-      );
-    }
+    search (rules, length-take-le, none-left, at-end, all-past, at-end-is)

@@ -1,31 +1,44 @@
-use Rattle.crx_compact.proofs.Words.{◌+◌, ◌++◌, List, ℕ, Some, drop, length, take, ap, ◌∙◌, arith, length-set}
-use Rattle.crx_compact.proofs.Words.{take_at, PendingLines, row_of_parts, row_line_after}
-use Rattle.crx_compact.proofs.LineTexts.{front-kept, row-pushed}
-use Rattle.crx_compact.proofs.Lists.{HasAt, has-at}
+use Rattle.crx_compact.proofs.Words.{◌≡◌, ◌+◌, ◌++◌, List, ℕ, Some, drop, length, set, slice_get, take, ap}
+use Rattle.crx_compact.proofs.Words.{◌∙◌, arith, length-set, take_at, PendingLines, RowTail, row_line_after}
+use Rattle.crx_compact.proofs.Words.{row_of_parts}
+use Rattle.crx_compact.proofs.LineTexts.{Pushed, front-kept, row-pushed}
+use Rattle.crx_compact.proofs.RowByRow.{is-there}
+use Rattle.crx_compact.proofs.lines.Lines.put_row.Goals.{After-write_line-length}
 use Rattle.crx_compact.proofs.lines.Lines.put_row.Goals as goal
+
+-- the row's line is put after the others
+pushed : (c : After-write_line-length) (row : RowTail) → slice_get c.args.satellites.now.rows c.args.index ≡
+    Some row
+    → Pushed (take c.self.inside.count c.self.inside.lengths.items)
+    (take (c.self.inside.count + 1) (set c.self.inside.lengths.items c.self.inside.count
+    c.write_line-length.result))
+    (take c.self.inside.filled c.self.inside.bytes.items)
+    (take (c.self.inside.filled + (c.write_line-length.result + 1))
+    (set c.write_line-length.new.bytes (c.self.inside.filled + c.write_line-length.result) 10))
+    (row_line_after (Some row) (row_of_parts row.name c.args.values.now c.args.flags.now))
+    c.self.inside.handed_out c.self.inside.handed_out_bytes
+pushed c row there =
+    let inside = c.self.inside in
+    let line : List ℕ = row_line_after (Some row) (row_of_parts row.name c.args.values.now c.args.flags.now)
+    in
+    row-pushed inside.lengths.items inside.bytes.items _ _ inside.count inside.filled
+    c.write_line-length.result _ _
+    c.self.invariant.0 (omega (arith, ap (λ (l : PendingLines). l.free_lines) c.self.view_is))
+    c.self.invariant.2
+    (c.write_line-length.ensures.line row there
+    ∙ ap (λ (t : List ℕ). take inside.filled t ++ line) c.deref_mut.ensures.value)
+    c.write_line-length.ensures.within
 
 pub invariant_of-self : goal.invariant_of-self
 invariant_of-self c =
     let inside = c.self.inside in
     let bytes = c.write_line-length.new.bytes in
-    let at : HasAt c.args.satellites.now.rows c.args.index =
-    has-at c.args.satellites.now.rows c.args.index c.requires.within in
-    let line : List ℕ =
-    row_line_after (Some at.it) (row_of_parts at.it.name c.args.values.now c.args.flags.now) in
-    let a = c.write_line-length.auto.bytes in
-    let b = c.deref_mut.ensures.len in
-    let free = c.requires.free_line in
+    let at = is-there c.args.satellites.now.rows c.args.index c.requires.within in
     let view = ap (λ (l : PendingLines). l.free_lines) c.self.view_is in
-    let within = c.write_line-length.ensures.within in
-    let pushed = row-pushed inside.lengths.items inside.bytes.items bytes line inside.count inside.filled
-    c.write_line-length.result inside.handed_out inside.handed_out_bytes c.self.invariant.0
-    (omega (arith, free, view)) c.self.invariant.2
-    (c.write_line-length.ensures.line at.it at.there
-    ∙ ap (λ (t : List ℕ). take inside.filled t ++ line) c.deref_mut.ensures.value) within in
-    rw (take_at bytes (drop (length bytes) inside.bytes.items) inside.bytes.len (omega (arith, a, b))) (
-      pushed.still,
-      omega (arith, free, view, length-set inside.lengths.items inside.count c.write_line-length.result),
-      omega (arith, within, length-set bytes (inside.filled + c.write_line-length.result) 10),
+    rw (take_at bytes (drop (length bytes) inside.bytes.items) inside.bytes.len (omega arith)) (
+      (pushed (goal.at.invariant_of-self c).After-write_line-length at.item at.there).still,
+      omega (arith, view, length-set inside.lengths.items inside.count c.write_line-length.result),
+      omega (arith, length-set bytes (inside.filled + c.write_line-length.result) 10),
       c.self.invariant.3,
       front-kept _ _ _ _ _ c.self.invariant.4 (omega arith) (omega arith),
     )
@@ -34,19 +47,6 @@ pub returns-clause-lines : goal.returns-clause-lines
 returns-clause-lines c = λ old there.
     let inside = c.self.inside in
     let bytes = c.write_line-length.new.bytes in
-    let line : List ℕ =
-    row_line_after (Some old) (row_of_parts old.name c.args.values.now c.args.flags.now) in
-    let a = c.write_line-length.auto.bytes in
-    let b = c.deref_mut.ensures.len in
-    let free = c.requires.free_line in
-    let view = ap (λ (l : PendingLines). l.free_lines) c.self.view_is in
-    let pushed = row-pushed inside.lengths.items inside.bytes.items bytes line inside.count inside.filled
-    c.write_line-length.result inside.handed_out inside.handed_out_bytes c.self.invariant.0
-    (omega (arith, free, view)) c.self.invariant.2
-    (c.write_line-length.ensures.line old there
-    ∙ ap (λ (t : List ℕ). take inside.filled t ++ line) c.deref_mut.ensures.value)
-    c.write_line-length.ensures.within in
-    rw (
-      ← c.self.view_is,
-      take_at bytes (drop (length bytes) inside.bytes.items) inside.bytes.len (omega (arith, a, b)),
-    ) pushed.is
+    let at = (goal.at.returns-clause-lines c).After-write_line-length in
+    let whole = take_at bytes (drop (length bytes) inside.bytes.items) inside.bytes.len (omega arith) in
+    rw (← c.self.view_is, whole) (pushed at old there).is

@@ -3,6 +3,4 @@ use Rattle.crx_compact.proofs.reading.Announced.{rows-few}
 use Rattle.crx_compact.proofs.printed_block.PrintedBlock.begin.Goals as goal
 
 pub overflow_add-count : goal.overflow_add-count
-overflow_add-count c =
-    let few = rows-few c.args.history.now c.requires.announced in
-    let many = c.count.ensures.value in omega (arith, few, many)
+overflow_add-count c = omega (arith, c.count.ensures.value, rows-few, c.requires.announced)

@@ -1,5 +1,4 @@
-use Rattle.std.proofs.Common.{arith, ◌∙◌}
-use Rattle.crx_compact.proofs.Words.{◌≡◌, PlacedRows, Some, slice_get, subst, sym}
+use Rattle.crx_compact.proofs.Words.{arith, ◌∙◌, ◌≡◌, PlacedRows, Some, slice_get, subst, sym}
 use Rattle.crx_compact.proofs.PrintedBlocks.{room-there, row-printed}
 use Rattle.crx_compact.proofs.RowByRow.{IsThere, is-there}
 use Rattle.crx_compact.proofs.printed_block.PrintedBlock.print.Goals as goal
@@ -11,11 +10,10 @@ put_printed-requires-clause-free_bytes c = λ row there.
 
 pub loop-self-preserved : goal.loop-self-preserved
 loop-self-preserved c =
-    let next = c.loop-self-test.true in
     let within = c.requires.within in
     let put = c.put_printed.ensures in
     let row : IsThere c.args.history.now.satellites.rows c.loop-self.self.rows =
-    is-there c.args.history.now.satellites.rows c.loop-self.self.rows (omega (arith, next, within)) in
+    is-there c.args.history.now.satellites.rows c.loop-self.self.rows (omega arith) in
     let there = subst (λ (p : PlacedRows). slice_get p.rows c.loop-self.self.rows ≡ Some row.item)
     (sym c.satellites.ensures.value) row.there in
     record {
@@ -24,7 +22,7 @@ loop-self-preserved c =
           c.put_printed.new.self c.loop-self.invariant.lines row.there
           (put.lines row.item there) put.taken.free_lines (put.free_bytes row.item there);
       head = c.loop-self.invariant.head;
-      within = omega (arith, next);
+      within = omega arith;
       room = record {
         all_lines = put.taken.all_lines ∙ c.loop-self.invariant.room.all_lines;
         all_bytes = put.taken.all_bytes ∙ c.loop-self.invariant.room.all_bytes;

@@ -1,5 +1,4 @@
-use Rattle.std.specs.Prelude.{◌≡◌, ◌-◌, ◌*◌, ◌++◌, None, map, take, replicate}
-use Rattle.crx_compact.specs.ArcSteps.{shown_value}
+use Rattle.crx_compact.proofs.Words.{◌≡◌, ◌-◌, ◌*◌, ◌++◌, None, map, take, replicate, shown_value}
 use Rattle.crx_compact.proofs.satellite.SatelliteHistory.row.Given as goal
 
 -- the values up to a place are put into the row

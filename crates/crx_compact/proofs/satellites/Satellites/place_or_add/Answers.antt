@@ -1,5 +1,5 @@
-use Rattle.std.proofs.Common.{ℕ, List, ◌⊎◌, inl, inr, refl, subst}
-use Rattle.crx_compact.specs.Placing.{HasRoom, HasSameRooms, IsPlaced, PlacedRows}
+use Rattle.std.proofs.Common.{rules, ℕ, List, ◌⊎◌, inl, inr, refl}
+use Rattle.crx_compact.specs.Placing.{HasRoom, HasSameRooms}
 use Rattle.crx_compact.proofs.Results.{from_some, on_err, some-otherwise}
 use Rattle.crx_compact.proofs.placing.Placed.{placed-asked}
 use Rattle.crx_compact.proofs.satellites.Satellites.place_or_add.Goals as goal
@@ -33,19 +33,12 @@ unwrap-requires c =
 
 -- no row has changed before it comes
 pub returns-clause-ok : goal.returns-clause-ok
-returns-clause-ok c =
-    let none = c.in_default.ensures.unplaced refl in
-    subst (λ (p : PlacedRows). IsPlaced c.args.name c.args.count p c.place-2.new.self c.unwrap.result) none.unchanged
-    (placed-asked (rw (← none.unchanged) at none.absent) c.prepare.ensures.asked
-    (from_some (IsPlaced c.args.name c.args.count c.prepare.new.self c.place-2.new.self)
-    c.place-2.result c.unwrap.result c.unwrap.ensures c.place-2.ensures.placed))
+returns-clause-ok c = search (rules, placed-asked, from_some)
 
 pub returns-clause-only : goal.returns-clause-only
 returns-clause-only c = λ name count has.
-    asked-before c.place.ensures.rooms
-    (c.prepare.ensures.only name count (c.place-2.ensures.rooms.back name count has))
+    search (rules, asked-before, c.place.ensures.rooms, c.prepare.ensures.only, c.place-2.ensures.rooms.back)
 
 pub returns-clause-rooms : goal.returns-clause-rooms
 returns-clause-rooms c = λ name count has.
-    c.place-2.ensures.rooms.forth name count
-    (c.prepare.ensures.asked.rooms name count (c.place.ensures.rooms.forth name count has))
+    search (rules, c.place-2.ensures.rooms.forth, c.prepare.ensures.asked.rooms, c.place.ensures.rooms.forth)

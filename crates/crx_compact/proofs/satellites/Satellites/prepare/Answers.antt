@@ -1,7 +1,6 @@
-use Rattle.std.proofs.Common.{◌≤◌, max, inl, inr, arith, ap, subst, sym, ◌∙◌}
+use Rattle.std.proofs.Common.{rules, ◌≤◌, max, inl, inr, arith, ap, subst, sym, ◌∙◌}
 use Rattle.std.proofs.lemmas.Option.{same_Some}
 use Rattle.std.proofs.lemmas.Result.{on_ok_weaker}
-use Rattle.indexmap.specs.IndexMap.{set_value_at}
 use Rattle.indexmap.specs.Layout.{length-set_value_at}
 use Rattle.crx_compact.proofs.placing.EntryChanges.{has-room, room-there, rooms-changed, rooms-changed-only}
 use Rattle.crx_compact.proofs.placing.Prepared.{front-same, none-lost, range-same, rows-same}
@@ -12,32 +11,11 @@ use Rattle.crx_compact.proofs.satellites.Satellites.prepare.Goals as goal
 
 pub invariant_of-self-2 : goal.invariant_of-self-2
 invariant_of-self-2 c =
-    let known = c.find_or_add.new.map.entries in
-    let found = c.in_ok-found.found in
-    let more = none-lost c.args.name found c.self.inside.known.entries known c.in_ok-found.ensures.found in
-    let all = c.self.invariant.1 in
-    (c.self.invariant.0, omega (arith, all, more, length-set_value_at known found c.make_room.new.self))
+    let found = c.in_ok-found.ensures.found in
+    omega (arith, none-lost, found, c.self.invariant.1, c.self.invariant.0, length-set_value_at)
 
 pub returns-clause-asked : goal.returns-clause-asked
-returns-clause-asked c =
-    let known = c.find_or_add.new.map.entries in
-    let found = c.in_ok-found.found in
-    let few = c.self.invariant.0 in
-    let all = c.self.invariant.1 in
-    let after = set_value_at known found c.make_room.new.self in
-    let same = rows-same known found _ _ c.make_room.new.self c.pair_mut-satellite.ensures.value
-    c.make_room.ensures.flags c.make_room.ensures.cells in
-    rw (← c.self.view_is) (record {
-      rows = front-same c.args.name found c.self.inside.known.entries known after
-          c.in_ok-found.ensures.found same
-          c.self.inside.placed (omega (arith, few, all));
-      rest = range-same c.args.name found c.self.inside.known.entries known after
-          c.in_ok-found.ensures.found same
-          c.self.inside.placed c.self.inside.live all;
-      rooms = λ name count has. rooms-changed c.find_or_add.new.map found _ _ c.make_room.new.self
-          c.find_or_add.ensures.unique c.pair_mut-satellite.ensures.value c.make_room.ensures.kept name count
-          (c.in_ok-found.ensures.found.rooms name count has);
-    })
+returns-clause-asked c = search (rules, rows-same, front-same, range-same, rooms-changed)
 
 pub returns-clause-only : goal.returns-clause-only
 returns-clause-only c =
@@ -56,16 +34,12 @@ returns-clause-only c =
     ])
 
 pub returns-clause-room : goal.returns-clause-room
-returns-clause-room c =
-    on_ok_weaker c.make_room.result (has-room c.find_or_add.new.map c.in_ok-found.found c.args.name _
-    c.make_room.new.self c.find_or_add.ensures.unique c.in_ok-found.ensures.found.there c.args.count)
-    c.make_room.ensures.room
+returns-clause-room c = on_ok_weaker c.make_room.result (search (rules, has-room)) c.make_room.ensures.room
 
 pub returns-in_err-found-clause-known : goal.returns-in_err-found-clause-known
 returns-in_err-found-clause-known c =
     rw (← c.self.view_is)
-    (λ has. absurd (unknown c.args.name c.args.count c.self.inside.known.entries
-    c.in_err-found.ensures.unknown has))
+    (λ has. search (rules, unknown, c.in_err-found.ensures.unknown))
 
 pub returns-clause-known : goal.returns-clause-known
 returns-clause-known c =

@@ -1,10 +1,7 @@
-use Rattle.std.proofs.Common.{ap, ◌∙◌, ◌≡◌, Some, Ok, Err, arith, subst, length, List, ℕ}
+use Rattle.crx_compact.proofs.Words.{ap, ◌∙◌, ◌≡◌, Some, Ok, Err, arith, subst, length, List, ℕ, Fault}
+use Rattle.crx_compact.proofs.Words.{row_held, satellite_of, shown_row, RowTail}
 use Rattle.std.proofs.lemmas.Result.{on_ok_weaker, IfErr-weaker}
-use Rattle.crx_base.specs.declared.fault.Fault.{Fault}
-use Rattle.crx_compact.specs.HeldRows.{row_held}
-use Rattle.crx_compact.specs.Placing.{row_tail_of, satellite_of}
-use Rattle.crx_compact.specs.ShownRows.{shown_row}
-use Rattle.crx_compact.specs.Tails.{RowTail}
+use Rattle.crx_compact.specs.Placing.{row_tail_of}
 use Rattle.crx_compact.proofs.placing.SteppedRows.{order-kept, rest-kept, row-at, rows-changed}
 use Rattle.crx_compact.proofs.satellites.Satellites.read_line.Goals as goal
 
@@ -24,10 +21,8 @@ returns c =
     let there = c.pair_mut-satellite.ensures.value in
     let at = row-at self.placed within there in
     let name = c.pair_mut-satellite.result.0.now in
-    let satellite = c.pair_mut-satellite.result.1.now in
     let line = c.args.line.now in
     let left : RowTail = row_tail_of name c.read.new.self in
-    let same = c.read.ensures.room in
     rw (← c.self.view_is) (record {
       ok = on_ok_weaker c.read.result (λ held old also.
           let is = at.is old also in (
@@ -39,10 +34,11 @@ returns c =
             rows-changed self.known self.placed self.live within there c.read.new.self,
           )) c.read.ensures.ok;
       err = IfErr-weaker c.read.result (λ (fault : Fault). (name : List ℕ)
-          → row_held (Some (row_tail_of name satellite)) (satellite_of (row_tail_of name satellite)) line ≡ Err fault) _
+          → row_held (Some (row_tail_of name c.pair_mut-satellite.result.1.now))
+          (satellite_of (row_tail_of name c.pair_mut-satellite.result.1.now)) line ≡ Err fault) _
           (λ fault held old also.
           subst (λ (row : RowTail). row_held (Some row) (satellite_of row) line ≡ Err fault) (at.is old also)
           (held name)) c.read.ensures.err;
       kept = rest-kept self.known self.placed self.live within there c.read.new.self c.self.invariant
-          c.pair_mut-satellite.ensures.unique (omega (arith, same));
+          c.pair_mut-satellite.ensures.unique (omega (arith, c.read.ensures.room));
     })

@@ -1,11 +1,10 @@
-use Rattle.std.proofs.Common.{rules, ap, ◌∙◌, ◌++◌, take, arith, length, slice_set, Some}
-use Rattle.crx_text.proofs.EachPlace.{length-each_place}
-use Rattle.crx_compact.specs.Placing.{SatelliteTail, row_of_parts}
-use Rattle.crx_compact.specs.Steps.{row_line_after, row_tail_after}
-use Rattle.crx_compact.specs.Tails.{RowTail}
-use Rattle.crx_rinex.specs.meaning.Observations.{Row}
+use Rattle.crx_compact.proofs.Words.{rules, ap, ◌∙◌, ◌++◌, take, arith, length, slice_set, Some}
+use Rattle.crx_compact.proofs.Words.{length-each_place, row_of_parts, row_line_after, row_tail_after, RowTail}
+use Rattle.crx_compact.proofs.Words.{Row}
+use Rattle.crx_compact.specs.Placing.{SatelliteTail}
 use Rattle.crx_compact.proofs.placing.EntryChanges.{room-there}
-use Rattle.crx_compact.proofs.placing.SteppedRows.{order-kept, rest-kept, row-at, rows-changed, written-line, written-row}
+use Rattle.crx_compact.proofs.placing.SteppedRows.{order-kept, rest-kept, row-at, rows-changed, written-line}
+use Rattle.crx_compact.proofs.placing.SteppedRows.{written-row}
 use Rattle.crx_compact.proofs.satellites.Satellites.write_line.Goals as goal
 
 pub mark-requires : goal.mark-requires
@@ -14,13 +13,12 @@ mark-requires c =
     let at = row-at c.self.inside.placed (rw (← c.self.view_is) at c.requires.within) there in
     let sound = (rw (← c.self.view_is) at c.requires.sound) _ at.there in
     let paired = sound.0.paired in
-    let few = sound.0.counted.1 in
     record {
       fits = record {
         room = room-there c.self.inside.known c.args.index _ _ c.pair_mut-satellite.result.1.now
             c.pair_mut-satellite.ensures.unique there _ sound.1;
         paired = paired;
-        held = record { within = omega (arith, paired, few); kept = sound.0.kept };
+        held = record { within = omega arith; kept = sound.0.kept };
       };
     }
 
