@@ -1,6 +1,6 @@
 -- The date of a job that words ask for fits its columns.
-use Rattle.std.proofs.Common.{arith, ◌≡◌, ◌∙◌, ap, refl, true, Bool, ℕ, List, [], ◌∷◌}
-use Rattle.std.{proofs.Common.{Option, Some, None}, specs.Option.option_map_or}
+use Rattle.std.proofs.Common.{arith, ◌≡◌, ◌∙◌, ap, refl, true, Bool, ℕ, List, [], ◌∷◌, Option, Some, None}
+use Rattle.std.specs.Option.{option_map_or}
 use Rattle.clap.specs.{Faults.fault_of, Kinds.Kinds, Simple.subcommand_of, Walk.Row}
 use Rattle.clap.specs.declared.error.ErrorKind.{ErrorKind}
 use Rattle.crx_base.specs.meaning.Choices.{is_date}

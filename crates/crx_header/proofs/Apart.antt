@@ -1,10 +1,8 @@
 -- Things of different identifiers, and one put in the place of another of the same identifier.
-use Rattle.std.proofs.lemmas.Grind.{common_steps}
-use Rattle.std.proofs.Common.{◌≡◌, ℕ, zero, suc, ◌<◌, true, false, not, ◌||◌, List, [], ◌∷◌, ◌++◌, length}
-use Rattle.std.proofs.{Common.{get_or, map, take, refl, ap, sym, ◌∙◌, arith}, lemmas.Bool.or_parts}
-use Rattle.std.proofs.lemmas.Bool.{and_parts, not-true, false_from_ne_true}
-use Rattle.std.{proofs.lemmas.{List.Folds.list_any-append, Slice.Eq.bytes_eq-Decides}, specs.Prelude.Bool}
-use Rattle.std.specs.Str.{bytes_eq}
+use Rattle.std.proofs.lemmas.{Grind.common_steps, List.Folds.list_any-append, Slice.Eq.bytes_eq-Decides}
+use Rattle.std.{specs.{Prelude.Bool, Str.bytes_eq}, proofs.lemmas.Bool.{or_parts, and_parts, not-true}}
+use Rattle.std.proofs.{lemmas.Bool.false_from_ne_true, Common.{◌≡◌, ℕ, zero, suc, ◌<◌, true, false, not}}
+use Rattle.std.proofs.Common.{◌||◌, List, [], ◌∷◌, ◌++◌, length, get_or, map, take, refl, ap, sym, ◌∙◌, arith}
 use Rattle.crx_header.specs.meaning.Satellites.{is_among, are_apart}
 
 -- the test of two texts doesn't ask which is the first

@@ -1,20 +1,17 @@
 -- What the search for a line's end found, as the first line of the input.
-use Rattle.std.proofs.lemmas.Grind.{common_steps}
-use Rattle.std.proofs.Common.{eqb, ltb, ◌||◌}
+use Rattle.std.proofs.Common.{rules, eqb, ltb, ◌||◌, ◌≡◌, ◌≢◌, ℕ, ◌+◌, ◌-◌, ◌<◌, ◌≤◌, Bool, true, false, not}
+use Rattle.std.proofs.Common.{◌&&◌, cond, List, [], ◌∷◌, ◌++◌, ◌⊎◌, length, take, drop, slice_index, IsTrue}
+use Rattle.std.proofs.Common.{MatchBool, sym, ap, ◌∙◌, subst, arith, ⊎_elim, append-nil, append_assoc}
+use Rattle.std.proofs.Common.{length-append, length-take, length-drop, take-append-drop, Option, Some, Ok}
+use Rattle.std.proofs.lemmas.{Bool.{true≢false, lt-ltb, Decides.nat_tests}, Grind.common_steps}
+use Rattle.std.proofs.lemmas.List.{drop_more, get_or-take, take_all, drop_all, take_at, nil_from_length}
+use Rattle.std.proofs.lemmas.List.Elements.{All-from_get_or}
 use mir.Val.{bool_byte}
-use Rattle.std.proofs.lemmas.Bool.Decides.{nat_tests}
-use Rattle.std.proofs.Common.{◌≡◌, ◌≢◌, ℕ, ◌+◌, ◌-◌, ◌<◌, ◌≤◌, Bool, true, false, not, ◌&&◌, cond, List, []}
-use Rattle.std.proofs.Common.{◌∷◌, ◌++◌, ◌⊎◌, length, take, drop, slice_index, IsTrue, MatchBool, sym, ap}
-use Rattle.std.proofs.Common.{◌∙◌, subst, arith, ⊎_elim, append-nil, append_assoc, length-append, length-take}
-use Rattle.std.proofs.{Common.{length-drop, take-append-drop, Option, Some, Ok}, lemmas.Bool.true≢false}
-use Rattle.std.proofs.lemmas.{Bool.lt-ltb, List.{drop_more, get_or-take, take_all, drop_all, take_at}}
-use Rattle.std.proofs.lemmas.List.{nil_from_length, Elements.{All-append, All-from_get_or}}
-use Rattle.crx_lines.proofs.{ReturnLemmas.length-without_return, SeekLemmas.{Seeking-sum, Seeking-none}}
 use Rattle.crx_lines.specs.{Readers.part_shown, Reading.{HasNoFeed, ReaderState, BeginsWith, TakesPiece}}
 use Rattle.crx_lines.specs.Reading.{Stops, AnswersFault, AnswersAs, ReaderAnswers, line_shown, line_number}
-use Rattle.crx_lines.specs.{Seeking.Seeking, declared.line.{Line.Line, Part.Part}}
-use Rattle.crx_lines.specs.{declared.phase.Phase.TheVariants.{Open, Ended}, meaning.Devices.Tally}
-use Rattle.crx_lines.specs.meaning.Devices.{with_failure}
+use Rattle.crx_lines.{specs.Seeking.Seeking, proofs.SeekLemmas.{Seeking-sum, Seeking-none}}
+use Rattle.crx_lines.{proofs.ReturnLemmas.length-without_return, specs.meaning.Devices.{Tally, with_failure}}
+use Rattle.crx_lines.specs.declared.{line.{Line.Line, Part.Part}, phase.Phase.TheVariants.{Open, Ended}}
 use Rattle.crx_base.specs.declared.fault.{At.At, Fault.{Fault, TheVariants.{InputTooLong, ReadFailed}}}
 use Rattle.crx_base.specs.{declared.limits.TheConstants.{LINE_LIMIT, INPUT_LIMIT}, meaning.Lines.Piece}
 use Rattle.crx_base.specs.meaning.Lines.{InputLine, line_of, is_long, without_return, ends_with_return}
@@ -44,18 +41,7 @@ module _ (gave : List ℕ → Type 0) (old held : List ℕ)
   begins true end some =
       grind (arith, common_steps, take-append-drop, drop_more, append_assoc, searched-no_feed)
   begins false end some =
-      let whole : take len held ≡ held = take_all len held (omega (arith, end.0)) in
-      let long : 0 < passed + len = ⊎_elim (λ h. h) (λ e. absurd (true≢false (sym e))) some in
-      record {
-        cut = (
-          s.input ∙ ap (λ l. s.front ++ l) (sym whole),
-          drop_all (len + 0) held (omega (arith, end.0)),
-          omega (arith, length-append s.front (take len held), s.passed_is, ap length whole, end.0, long),
-          end.1,
-        );
-        no_feed = All-append (λ b. b ≢ 10) s.front
-            (take len held) s.none_passed (searched-no_feed held len s.searched_within s.none_searched);
-      }
+      grind (arith, common_steps, take_all, ⊎_elim, true≢false, drop_all, length-append, searched-no_feed)
 
   -- how many of the bytes that are held are the line's, with its LF
   ends-within : (is_ended : Bool) → EndIs held len is_ended at_end → len + cond is_ended 1 0 ≤ length held
@@ -107,14 +93,7 @@ module _ (gave : List ℕ → Type 0) (old held : List ℕ)
       → (0 < passed) ⊎ (LINE_LIMIT < length content)
       → IsTrue (is_long (line_of (piece_at s.front held len is_ended)))
   content-long is_ended content same over =
-      let all = s.front ++ take len held in
-      let size = length-append s.front (take len held) in
-      lt-ltb _ _ (
-      ⊎_elim (λ some. ⊎_elim (λ none. absurd (omega (arith, some, none)))
-      (λ far. omega (arith, far, s.passed_is, size, (length-without_return all).1)) s.far) (λ long. ⊎_elim
-      (λ none. omega (arith, long, ap length same, ap (λ l. length (without_return l)) (whole-piece none)))
-      (λ far. omega (arith, far, s.passed_is, size, (length-without_return all).1)) s.far) over
-      )
+      search (rules, length-append, lt-ltb, ⊎_elim, length-without_return, without_return, whole-piece)
 
   pub nothing : passed ≡ 0 → len ≡ 0 → len ≡ length held → (held ≡ []) × (old ++ s.given ≡ [])
   nothing none empty all = grind (arith, common_steps, nil_from_length, append-nil)
@@ -128,8 +107,7 @@ over-limit gave old held room passed b so_far s limit =
     let front = old ++ s.given in
     let whole : length front
     ≡ INPUT_LIMIT - so_far = omega (arith, length-append old s.given, s.taken_is, limit) in
-    let cut =
-    ap (take (INPUT_LIMIT - so_far)) (sym (append_assoc old s.given (b ∷ [])))
+    let cut = ap (take (INPUT_LIMIT - so_far)) (sym (append_assoc old s.given (b ∷ [])))
     ∙ take_at front (b ∷ []) (INPUT_LIMIT - so_far) whole ∙ s.input in (
       omega (arith, length-append old (s.given ++ b ∷ []), length-append s.given (b ∷ []), s.taken_is, limit),
       rw cut (Seeking-none gave old held room room passed s),
@@ -143,10 +121,9 @@ pub over-fault : (gave : List ℕ → Type 0) (old held : List ℕ) (room passed
     → before.passed + (length old + room) ≡ INPUT_LIMIT → Stops before at after → then ≡ tally
     → AnswersFault before (s.given ++ b ∷ []) at_end tally then at fault after
 over-fault gave old held room passed b at_end tally then s before after at fault is rest limit stops well =
-    let facts = over-limit gave old held room passed b before.passed s limit in
     let P : List ℕ → Type 0 = λ l. (INPUT_LIMIT < before.passed + length (l ++ (s.given ++ b ∷ [])))
     × HasNoFeed (take (INPUT_LIMIT - before.passed) (l ++ (s.given ++ b ∷ []))) in
-    let there = subst P (sym rest) facts in
+    let there = subst P (sym rest) (over-limit gave old held room passed b before.passed s limit) in
     rw is (there.0, there.1, stops, well)
 
 pub read-fault : (gave : List ℕ

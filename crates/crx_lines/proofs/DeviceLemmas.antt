@@ -1,7 +1,6 @@
 -- What a step of a reader adds to the counts of its source, and what the tallies of a sink have in common.
 use Rattle.std.proofs.{Common.{◌≡◌, ◌≢◌, ℕ, Bool, true, false, cond, ap, ap₂, ◌∙◌}, lemmas.Bool.ne_eqb}
-use Rattle.crx_lines.specs.{Devices.tally_after_line, meaning.Devices.{SinkTally, ends_after, one_more}}
-use Rattle.crx_lines.specs.meaning.Devices.{tally_of}
+use Rattle.crx_lines.specs.{Devices.tally_after_line, meaning.Devices.{ends_after, one_more, tally_of}}
 
 -- a read that gave a byte didn't report the end
 pub ends-some : (given before after : ℕ) → given ≢ 0 → after ≡ ends_after given before → after ≡ before
@@ -16,7 +15,3 @@ pub tally-line : (is_ended : Bool) (failures ends failures' ends' : ℕ)
     → tally_of failures' ends' ≡ tally_after_line is_ended (tally_of failures ends)
 tally-line true failures ends failures' ends' f e = ap₂ tally_of f e
 tally-line false failures ends failures' ends' f e = ap₂ tally_of f e
-
--- the failures of equal tallies
-pub failures-of : {a b : SinkTally} → a ≡ b → a.failures ≡ b.failures
-failures-of same = ap (λ t. t.failures) same

@@ -1,11 +1,9 @@
 -- The lanes before the first one that is LF, by a mask's lowest bit.
-use Rattle.std.proofs.lemmas.Grind.{common_steps}
 use Rattle.std.proofs.Common.{◌≡◌, ℕ, suc, ◌+◌, ◌*◌, ◌%◌, ◌^◌, ◌<◌, ◌≤◌, Bool, true, false, cond, eqb, not}
 use Rattle.std.proofs.Common.{List, [], ◌∷◌, map, length, replicate, w8, arith, sym, ◌∙◌}
-use Rattle.std.proofs.lemmas.Simd.{bitmask_splat, leading_from_mask_l, length-chunk, trailing_mask_l}
-use Rattle.std.specs.List.{prefix_len}
-use lib.Count.{count_trailing_zeros}
-use lib.Lanes.{chunk, mask_l, top, zip2}
+use Rattle.std.proofs.lemmas.{Grind.common_steps, Simd.{bitmask_splat, leading_from_mask_l, length-chunk}}
+use Rattle.std.{proofs.lemmas.Simd.trailing_mask_l, specs.List.prefix_len}
+use lib.{Count.count_trailing_zeros, Lanes.{chunk, mask_l, top, zip2}}
 
 stops : (b : Bool) (n m l : ℕ) → 0 < cond b 1 0 + 2 * n → (0 < n → m < l) → cond (not b) (1 + m) 0 < suc l
 stops true n m l some f = omega arith
@@ -14,8 +12,7 @@ stops false n m l some f = omega (arith, f (omega (arith, some)))
 first_within : {X : Type 0} (p : X → Bool) (xs : List X) → 0 < mask_l (map p xs)
     → prefix_len (λ x. not (p x)) xs < length xs
 first_within p [] some = absurd (omega (arith, some))
-first_within p (x ∷ xs) some =
-    stops (p x) _ _ _ some (first_within p xs)
+first_within p (x ∷ xs) some = grind (arith, common_steps, stops, first_within p xs)
 
 -- the mask of 32 bytes from an index on
 abbrev pub feeds_at : ℕ → List ℕ → ℕ

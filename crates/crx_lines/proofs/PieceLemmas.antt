@@ -20,8 +20,7 @@ pieces-first (b ∷ bs) rest none =
 pub pieces-last : (piece : List ℕ) → HasNoFeed piece → 0 < length piece
     → pieces_of piece ≡ record { bytes = piece; is_ended = false } ∷ []
 pieces-last [] none some = absurd (omega (arith, some))
-pieces-last (b ∷ []) none some =
-    let test = ne_eqb b 10 (All-head NoFeed b [] none) in rw test refl
+pieces-last (b ∷ []) none some = rw (ne_eqb b 10 (All-head NoFeed b [] none)) refl
 pieces-last (b ∷ c ∷ cs) none some =
     let test = ne_eqb b 10 (All-head NoFeed b (c ∷ cs) none) in
     rw test (ap (onto_first b) (pieces-last _ (All-tail NoFeed b (c ∷ cs) none) (omega arith)))

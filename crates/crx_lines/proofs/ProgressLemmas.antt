@@ -1,16 +1,14 @@
 -- From one answer of a reader of lines to the next: the lines so far, and the bytes that were given.
-use Rattle.std.proofs.lemmas.Grind.{common_steps}
-use Rattle.std.proofs.Common.{◌≡◌, ◌≢◌, ◌⊎◌, inr, ℕ, ◌+◌, ◌-◌, ◌<◌, ◌≤◌, Bool, true, false}
-use Rattle.std.proofs.Common.{Option, Some, None, Result, Ok, Err, List, [], ◌∷◌, ◌++◌, length, take, map}
-use Rattle.std.proofs.Common.{refl, sym, ap, ◌∙◌, subst, arith, append-nil, append_assoc, length-append}
-use Rattle.std.proofs.{Math.Seq.take-append-add, lemmas.List.{length_push, map-append, take_all}}
-use Rattle.crx_lines.proofs.PieceLemmas.{pieces-first, pieces-last, pieces-split, ended-none}
-use Rattle.crx_lines.specs.{Devices.{with_end, tally_after_line}, Progress.{IsOpen, IsOver, IsStopped}}
-use Rattle.crx_lines.specs.{Progress.{StandsAt, HasRead, IsOneMore, AtFault, AtAnswer}, Reading.HasNoFeed}
-use Rattle.crx_lines.specs.Reading.{ReaderState, TakesPiece, ReaderAnswers, AnswersFault, line_shown}
-use Rattle.crx_lines.specs.{Reading.line_number, declared.{line.Line.Line, phase.Phase.Phase}}
-use Rattle.crx_lines.specs.{declared.phase.Phase.TheVariants.{Open, Ended, Stopped}, meaning.Devices.one_more}
-use Rattle.crx_lines.specs.meaning.Devices.{Tally, with_failure}
+use Rattle.std.proofs.{lemmas.{Grind.common_steps, List.{length_push, map-append}}, Math.Seq.take-append-add}
+use Rattle.std.proofs.{lemmas.List.take_all, Common.{rules, ◌≡◌, ◌⊎◌, inr, ℕ, ◌+◌, ◌-◌, ◌<◌, ◌≤◌, Bool, true}}
+use Rattle.std.proofs.Common.{false, Option, Some, None, Result, Ok, Err, List, [], ◌∷◌, ◌++◌, length, take}
+use Rattle.std.proofs.Common.{map, refl, sym, ap, ◌∙◌, subst, arith, append-nil, append_assoc, length-append}
+use Rattle.crx_lines.specs.{Devices.{with_end, tally_after_line}, Reading.{HasNoFeed, ReaderState}}
+use Rattle.crx_lines.specs.Reading.{TakesPiece, ReaderAnswers, AnswersFault, line_shown, line_number}
+use Rattle.crx_lines.specs.Progress.{IsOpen, IsOver, IsStopped, StandsAt, HasRead, IsOneMore, AtFault}
+use Rattle.crx_lines.{specs.Progress.AtAnswer, proofs.PieceLemmas.{pieces-first, pieces-last, pieces-split}}
+use Rattle.crx_lines.{proofs.PieceLemmas.ended-none, specs.meaning.Devices.{one_more, Tally, with_failure}}
+use Rattle.crx_lines.specs.declared.{line.Line.Line, phase.Phase.TheVariants.{Open, Ended, Stopped}}
 use Rattle.crx_base.specs.declared.fault.{At.At, Fault.{Fault, TheVariants.{LineTooLong, InputTooLong}}}
 use Rattle.crx_base.specs.declared.{fault.Fault.TheVariants.ReadFailed, limits.TheConstants.INPUT_LIMIT}
 use Rattle.crx_base.specs.meaning.{Lines.{InputLine, Piece, pieces_of, lines_of, line_of}, Seen.ended_pieces}
@@ -52,8 +50,7 @@ over-piece : (F : List ℕ → List InputLine)
     → ((y : List ℕ) → F (given ++ y) ≡ lines ++ F (old_rest ++ y)) → old_rest ++ more ≡ bytes ++ 10 ∷ rest
     → F (bytes ++ 10 ∷ (rest ++ x)) ≡ line ∷ F (rest ++ x)
     → F ((given ++ more) ++ x) ≡ (lines ++ line ∷ []) ++ F (rest ++ x)
-over-piece F line given more old_rest bytes rest x lines so-far cut first =
-    grind (arith, common_steps, append_assoc, line)
+over-piece F line given more old_rest bytes rest x lines so-far cut first = search (rules, append_assoc)
 
 module _ (at_end : Type 0) (start counted counted' : Tally) (given more : List ℕ)
     (old new : ReaderState) (lines : List InputLine) (o : IsOpen start counted given old lines) where
@@ -86,11 +83,8 @@ module _ (at_end : Type 0) (start counted counted' : Tally) (given more : List �
       → TakesPiece old more at_end (record { bytes = bytes; is_ended = is_ended }) new
       → counted' ≡ tally_after_line is_ended counted → StandsAt new.phase at_end start counted'
       (given ++ more) new (lines ++ line_of (record { bytes = bytes; is_ended = is_ended }) ∷ [])
-  line-stands bytes true t same =
-      subst (λ f. StandsAt f at_end start counted' (given ++ more) new
-      (lines ++ line_of (ended_piece bytes) ∷ [])) (sym t.phase) (line-ended bytes t same)
-  line-stands bytes false t same =
-      rw t.phase (line-last bytes t same)
+  line-stands bytes true t same = grind (arith, common_steps, line_of, ended_piece, line-ended)
+  line-stands bytes false t same = grind (arith, common_steps, line-last)
 
   none-over : old.rest ++ more ≡ []
       → at_end → counted' ≡ with_end counted → IsOver at_end start counted' (given ++ more) lines

@@ -1,9 +1,8 @@
 -- A CR at the end of a text.
-use Rattle.std.proofs.lemmas.Grind.{common_steps}
-use Rattle.std.proofs.Common.{◌≡◌, ◌≢◌, ◌==◌, ℕ, ◌+◌, ◌-◌, ◌≤◌, ◌<◌, true, false, List, [], ◌∷◌, ◌++◌, length}
-use Rattle.std.proofs.Common.{take, drop, get_or, slice_range, refl, sym, ap, ◌∙◌, arith, eq-eqb, length-take}
-use Rattle.std.proofs.{Common.length-drop, lemmas.{Bool.ne_eqb, List.{take-take, take_more, get_or-take}}}
-use Rattle.std.proofs.lemmas.List.{get_or-drop}
+use Rattle.std.proofs.Common.{rules, ◌≡◌, ◌≢◌, ◌==◌, ℕ, ◌+◌, ◌-◌, ◌≤◌, ◌<◌, true, false, List, [], ◌∷◌, ◌++◌}
+use Rattle.std.proofs.Common.{length, take, drop, get_or, slice_range, refl, sym, ap, ◌∙◌, arith, eq-eqb}
+use Rattle.std.proofs.{Common.{length-take, length-drop}, lemmas.{Bool.ne_eqb, Grind.common_steps}}
+use Rattle.std.proofs.lemmas.List.{take-take, take_more, get_or-take, get_or-drop}
 use Rattle.crx_base.specs.meaning.Lines.{without_return, ends_with_return}
 
 pub without_return-cr : (xs : List ℕ) (x : ℕ) → (x == 13) ≡ true → without_return (xs ++ x ∷ []) ≡ xs
@@ -68,13 +67,7 @@ pub content-other : (xs : List ℕ) (start end n : ℕ)
     → (slice_range xs start (start + n) ≡ without_return (take n (slice_range xs start end)))
     × (false ≡ ends_with_return (take n (slice_range xs start end)))
 content-other xs start end n some inside within other =
-    let front = slice_range xs start _ in
-    let test = ne_eqb _ 13 other in
-    let whole = part-front xs start end n inside ∙ part-last xs start end n some inside within in
-    rw (part-last xs start end n some inside within) (
-      whole ∙ sym (without_return-other front _ test),
-      sym (ends_with_return-push front _ ∙ test),
-    )
+    search (rules, slice_range, ne_eqb, part-front, part-last, without_return-other, ends_with_return-push)
 
 -- no byte at all
 pub content-none : (xs : List ℕ) (start end n : ℕ) → n ≡ 0

@@ -1,8 +1,7 @@
 -- The search for the end of a line, step by step.
-use Rattle.std.proofs.lemmas.Grind.{common_steps}
-use Rattle.std.proofs.Common.{◌≡◌, ◌≢◌, ℕ, ◌+◌, ◌<◌, ◌≤◌, List, [], ◌++◌, ◌⊎◌, length, slice_index, refl, sym}
-use Rattle.std.proofs.Common.{ap, ◌∙◌, subst, arith, inr, ⊎_elim, append-nil, append_assoc}
-use Rattle.std.proofs.{Common.length-append, lemmas.{List.get_or_append_left}}
+use Rattle.std.proofs.Common.{rules, ◌≡◌, ◌≢◌, ℕ, ◌+◌, ◌<◌, ◌≤◌, List, [], ◌++◌, ◌⊎◌, length, slice_index}
+use Rattle.std.proofs.Common.{refl, sym, ap, ◌∙◌, subst, arith, inr, ⊎_elim, append-nil, append_assoc}
+use Rattle.std.proofs.{Common.length-append, lemmas.{Grind.common_steps, List.get_or_append_left}}
 use Rattle.std.proofs.lemmas.List.Elements.{All-append, All-from_get_or, All-contains, Contains-append_left}
 use Rattle.std.specs.List.{Contains}
 use Rattle.crx_lines.{proofs.PieceLemmas.NoFeed, specs.{Reading.HasNoFeed, Seeking.Seeking}}
@@ -61,9 +60,8 @@ pub Seeking-step : (gave : List ℕ → Type 0) (old held shown after : List ℕ
     → ((n ≡ 0) × (after ≡ held)) ⊎ ((n ≡ length held) × (LINE_LIMIT + 1 < n) × (after ≡ []))
     → Seeking gave old after room taken (passed + n) (length after)
 Seeking-step gave old held shown after room taken passed searched n s same none discarded =
-    let rest =
-    subst (λ l. (k : ℕ) → searched ≤ k → k < length l → slice_index l k ≢ 10) same none in
-    let all = Seeking-searched gave old held room taken passed searched (length held) s (omega arith) rest in
+    let all = Seeking-searched gave old held room taken passed searched (length held) s (omega arith)
+    (subst (λ l. (k : ℕ) → searched ≤ k → k < length l → slice_index l k ≢ 10) same none) in
     let keeps = λ (e : (n ≡ 0) × (after ≡ held)).
     let sum : passed ≡ passed + n = omega (arith, e.0) in
     subst (λ m. Seeking gave old after room taken m (length after)) sum
@@ -88,8 +86,7 @@ pub Seeking-same : (gave then : List ℕ → Type 0) (old held after : List ℕ)
     → Seeking gave old held room taken passed (length held)
     → ((given : List ℕ) → gave given → then (given ++ [])) → after ≡ held → m ≡ length held
     → Seeking then old after room taken passed m
-Seeking-same gave then old held after room taken passed m s goes same searched =
-    grind (arith, common_steps, append-nil)
+Seeking-same gave then old held after room taken passed m s goes same searched = search (rules, append-nil)
 
 -- every byte was discarded or is held
 pub Seeking-sum : (gave : List ℕ → Type 0) (old held : List ℕ) (room taken passed searched : ℕ)

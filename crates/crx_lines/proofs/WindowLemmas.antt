@@ -14,14 +14,13 @@ grown xs ys start end k n ordered within fits =
     let len : length held ≡ end - start = omega (arith, length-drop start (take end xs)) in
     let sum : end + n - start ≡ (end - start) + n = omega arith in
     let parts : end ≡ start + (end - start) = omega arith in
-    let same = ap (λ j. drop start (take j xs)) parts ∙ drop-take start (end - start) xs in
     let after = ys ++ post_of end k xs in
     ap (take (end + n - start)) (drop-append-le start (take end xs) after (omega arith)) ∙ ap
     (λ j. take j (held ++ after)) sum ∙ take-add (end - start) n (held ++ after) ∙ (rw (
       take_at held after _ len,
       drop_at held after _ len,
       take-append-le n ys _ fits,
-      same,
+      (ap (λ j. drop start (take j xs)) parts ∙ drop-take start (end - start) xs),
     ) refl)
 
 -- the first bytes are discarded

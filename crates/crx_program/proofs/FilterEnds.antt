@@ -20,8 +20,7 @@ pub from_file : {F G : Type 0} (sources : SourceGhosts (Logged (Std F))) (sinks 
     → IsFilteredFrom sources sinks name source target_name force target tool choices input output messages
     status
 from_file sources sinks name target_name force source target opened_by e tool choices input output messages
-    status first last is opened failures ends h =
-    rw e (first, last, is, opened, failures, ends, h)
+    status first last is opened failures ends h = rw e (first, last, is, opened, failures, ends, h)
 
 -- a job that wasn't begun, with less that stays
 pub still_not_begun : (job : Job) (messages : Device) (status : ℕ) (P Q : Type 0)

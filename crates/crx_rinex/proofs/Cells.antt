@@ -1,14 +1,13 @@
 -- The cells of a satellite line, taken one by one.
-use Rattle.std.proofs.lemmas.Grind.{common_steps}
 use Rattle.std.proofs.Common.{◌≡◌, ℕ, ℤ, ◌+◌, ◌-◌, ◌*◌, ◌<◌, ◌≤◌, All, List, [], ◌∷◌, ◌++◌, Option, Some}
 use Rattle.std.proofs.Common.{None, length, take, drop, replicate, get_or, refl, ap, sym, subst, ◌∙◌, arith}
-use Rattle.std.proofs.{Common.{suc, zero, Bool, true, false, Err, MatchBool}, lemmas.Bool.and_from}
-use Rattle.std.proofs.lemmas.List.{take_more_set, length-set, take_at, take-append-le, drop_all, length-drop}
-use Rattle.std.proofs.lemmas.List.{get_or_default, get_or_past, take-set, take-take, take_all, length-append}
-use Rattle.std.proofs.lemmas.List.{length-replicate, take-replicate, append_assoc}
-use Rattle.std.proofs.lemmas.List.{Elements.{All-set}, Folds.concat-append}
-use Rattle.std.proofs.lemmas.{List.Folds.list_all-append, Option.{option_and_then_some, same_Some, none-some}}
-use Rattle.std.specs.{List.{concat, list_all}, Prelude.slice_set}
+use Rattle.std.proofs.{Common.{suc, zero, Bool, true, Err, MatchBool}, lemmas.Bool.and_from}
+use Rattle.std.proofs.lemmas.{Grind.common_steps, List.{take_more_set, length-set, take_at, take-append-le}}
+use Rattle.std.proofs.lemmas.List.{drop_all, length-drop, get_or_default, get_or_past, take-set, take-take}
+use Rattle.std.proofs.lemmas.List.{take_all, length-append, length-replicate, take-replicate, append_assoc}
+use Rattle.std.proofs.lemmas.List.{Elements.All-set, Folds.{concat-append, list_all-append}}
+use Rattle.std.{proofs.lemmas.Option.{option_and_then_some, same_Some, none-some}, specs.List.concat}
+use Rattle.std.specs.{List.list_all, Prelude.slice_set}
 use Rattle.crx_text.proofs.EachPlace.{each_place-more, index-each_place, length-each_place}
 use Rattle.crx_text.specs.{Numbers.IsObservation, meaning.Columns.{character_at, is_blank}}
 use Rattle.crx_text.specs.meaning.{EachPlace.each_place, Numbers.{observation_of, number_of, IsValue}}
@@ -125,8 +124,7 @@ pub cells_end : (line : List ℕ) (values : List (Option ℤ)) (flags : List ℕ
     → AreCellsRead k line values flags → k ≡ m → length values ≡ m
     → b ≡ list_all is_blank (drop (16 * m + 3) line)
     → MatchBool b (AreAllRead m line values flags) (row_by_cells m line ≡ Err BadField)
-cells_end line values flags k m true h all long ended = grind (arith, common_steps, cells_whole)
-cells_end line values flags k m false h all long ended = grind arith
+cells_end = grind (arith, common_steps, cells_whole)
 
 -- a field that spells nothing
 pub cells_none : (line : List ℕ) (k m : ℕ) → k < m → observation_of (field line k) ≡ None
@@ -177,14 +175,12 @@ sound-cleared name m n named small within =
 -- a value of which every number that it has fits its columns
 pub is-value : (value : Option ℤ)
     → ((number : ℤ) → value ≡ Some number → IsObservation number) → IsValue value
-is-value None h = tt
-is-value (Some number) h = h number refl
+is-value = grind (arith, common_steps)
 
 pub sound-with_value : (row : Row) (k : ℕ) (value : Option ℤ)
     → IsSoundRow row → IsValue value → IsSoundRow (with_value row k value)
 sound-with_value row k value h sound =
-    let same =
-    sym (length-set _ k value) in
+    let same = sym (length-set _ k value) in
     record {
       named = h.named;
       counted = subst IsAllowedCount same h.counted;

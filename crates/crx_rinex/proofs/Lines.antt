@@ -1,14 +1,11 @@
 -- Lines that are borrowed one by one, from the first of a list on.
-use Rattle.std.proofs.lemmas.Grind.{common_steps}
-use Rattle.std.proofs.Common.{◌≡◌, ◌≢◌, ◌↔◌, ◌<◌, ℕ, ◌-◌, List, [], ◌∷◌, Option, Some, None, is_none, is_some}
-use Rattle.std.proofs.Common.{not, Bool, Bor, option_copied, IsTrue, drop, map, slice_get, refl, sym}
-use Rattle.std.proofs.Common.{true, false, true≢false, arith, suc, zero}
-use Rattle.std.proofs.lemmas.Option.{none-some}
+use Rattle.std.proofs.Common.{◌≡◌, ◌≢◌, ◌↔◌, ◌<◌, ℕ, ◌-◌, List, [], ◌∷◌, Option, None, is_none, is_some, not}
+use Rattle.std.proofs.Common.{Bool, Bor, option_copied, IsTrue, drop, map, slice_get, refl, true≢false, arith}
+use Rattle.std.proofs.{Common.{suc, zero}, lemmas.{Grind.common_steps, Option.none-some}}
 
 pub after_first : {X : Type 0} (x : X) (xs : List X) (n : ℕ) → n ≢ 0
     → slice_get (x ∷ xs) n ≡ slice_get xs (n - 1)
-after_first x xs zero h = absurd (h refl)
-after_first x xs (suc n) h = grind arith
+after_first = grind (arith, common_steps)
 
 pub first_of_rest : {X : Type 0} (xs : List X) (n : ℕ) → slice_get (drop n xs) 0 ≡ slice_get xs n
 first_of_rest xs zero = refl
@@ -16,8 +13,7 @@ first_of_rest [] (suc n) = refl
 first_of_rest (x ∷ xs) (suc n) = first_of_rest xs n
 
 pub no_next : {X : Type 0} (xs : List X) → slice_get xs 0 ≡ None → xs ≡ drop 1 xs
-no_next [] h = refl
-no_next (x ∷ xs) h = absurd (none-some x (sym h))
+no_next = grind (arith, common_steps, none-some)
 
 -- no element is at a place exactly where nothing is left from there on
 none-left : {A B : Type 0} (f : A → B) (xs : List A) (k : ℕ)
@@ -30,10 +26,7 @@ none-left f (x ∷ xs) (suc k) = none-left f xs k
 -- whether something is at a place, as `is_some` says it of a reference
 none-copied : {A : Type 0} (b : Bool) (o : Option (Bor A))
     → is_some o ≡ not b → IsTrue b ↔ IsTrue (is_none (option_copied o))
-none-copied true None is = ((λ t. refl), (λ t. refl))
-none-copied false None is = absurd (true≢false (sym is))
-none-copied true (Some x) is = absurd (true≢false is)
-none-copied false (Some x) is = grind arith
+none-copied = grind (arith, common_steps, true≢false)
 
 -- lines that are a first one and others are all borrowed where no other is at the last place
 pub all-handed_out : {A B : Type 0} (f : A → B) (first : B) (xs : List A) (n : ℕ) (b : Bool)

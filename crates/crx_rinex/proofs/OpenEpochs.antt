@@ -1,19 +1,18 @@
 -- Epochs whose lines come one after another.
-use Rattle.std.proofs.lemmas.Grind.{common_steps}
 use Rattle.std.proofs.Common.{◌≡◌, ℕ, ◌-◌, ◌<◌, zero, suc, List, [], ◌∷◌, ◌++◌, length, Option, Some, None}
-use Rattle.std.proofs.Common.{Result, Ok, Err, refl, ap, sym, subst, ◌∙◌, inl, inr, arith, append-nil}
-use Rattle.std.{proofs.lemmas.{List.length_push, Option.none-some}, specs.Prelude.⊤}
+use Rattle.std.proofs.Common.{Result, refl, ap, sym, subst, ◌∙◌, inl, inr, arith, append-nil}
+use Rattle.std.{proofs.lemmas.{Grind.common_steps, Option.none-some}, specs.Prelude.⊤}
 use Rattle.crx_base.specs.{declared.fault.Fault.Fault, meaning.Seen.{ReadLine, Content, Overlong}}
 use Rattle.crx_rinex.proofs.Steady.{steady-here, steady-first_line, steady-then}
 use Rattle.crx_rinex.specs.EpochPlaces.{EpochStep, Going, Whole, Faulty, when_wanted, whole_or_going}
 use Rattle.crx_rinex.specs.EpochPlaces.{after_row, epoch_step, still_open, opened_by, opened_at, open_after}
 use Rattle.crx_rinex.specs.{EpochPlaces.{open_with, place_after}, Laws.{IsWantedWhereOpen, IsDecidedByOpen}}
-use Rattle.crx_rinex.specs.{Steady.IsSteady, meaning.{EpochPlaces.OpenEpoch}}
-use Rattle.crx_rinex.specs.meaning.EpochPlaces.{Beginning, EventBegins, EpochBegins, opened, rows_wanted}
-use Rattle.crx_rinex.specs.meaning.EpochPlaces.{with_next_row, row_at, rows_at, rest_at, beginning_of}
-use Rattle.crx_rinex.specs.meaning.{EpochPlaces.{unit_begun, epoch_place}, Observations.{Row, Epoch}}
-use Rattle.crx_rinex.specs.meaning.Places.{Place, Here, Wrong, Wanted, after_lines, then_place, one_line}
-use Rattle.crx_rinex.specs.meaning.{Places.first_line, Units.{Unit, Observation}}
+use Rattle.crx_rinex.specs.{Steady.IsSteady, meaning.EpochPlaces.{OpenEpoch, Beginning, EventBegins}}
+use Rattle.crx_rinex.specs.meaning.EpochPlaces.{EpochBegins, opened, rows_wanted, with_next_row, row_at}
+use Rattle.crx_rinex.specs.meaning.EpochPlaces.{rows_at, rest_at, beginning_of, unit_begun, epoch_place}
+use Rattle.crx_rinex.specs.meaning.{Observations.{Row, Epoch}, Places.{Place, Here, Wrong, Wanted}}
+use Rattle.crx_rinex.specs.meaning.{Places.{after_lines, then_place, one_line, first_line}, Units.Unit}
+use Rattle.crx_rinex.specs.meaning.Units.{Observation}
 use Rattle.crx_header.specs.meaning.ObservationTypes.{Count}
 
 -- ---- what is found is certain
@@ -51,14 +50,12 @@ row_then_rest : (n : ℕ) (so_far : OpenEpoch) (line : List ℕ) (lines : List R
     → rows_wanted so_far ≡ suc n
     → then_place (one_line r) (Content line ∷ lines) (λ row rest. rows_at (with_next_row so_far row) n rest)
     ≡ after_step (after_row so_far r) lines
-row_then_rest n so_far line lines (Err fault) h = refl
-row_then_rest n so_far line lines (Ok row) h = grind (arith, common_steps, whole_or_rest, length_push)
+row_then_rest = grind (arith, common_steps, whole_or_rest)
 
 rest_by_step : (n : ℕ) (so_far : OpenEpoch) (line : ReadLine) (lines : List ReadLine)
     → rows_wanted so_far ≡ suc n → rest_at so_far (line ∷ lines) ≡ after_step (epoch_step so_far line) lines
 rest_by_step n so_far Overlong lines h = rw h refl
-rest_by_step n so_far (Content line) lines h =
-    rw h (row_then_rest n so_far line lines _ h)
+rest_by_step n so_far (Content line) lines h = rw h (row_then_rest n so_far line lines _ h)
 
 -- ---- line after line
 
@@ -69,19 +66,16 @@ IsGoing (Whole epoch) = ⊤
 IsGoing (Faulty fault) = ⊤
 
 when_wants : (n : ℕ) (so_far : OpenEpoch) → rows_wanted so_far ≡ n → IsGoing (when_wanted n so_far)
-when_wants zero so_far h = tt
-when_wants (suc n) so_far h = omega (arith, h)
+when_wants = grind (arith, common_steps)
 
 going_wants : (so_far : OpenEpoch) → IsGoing (whole_or_going so_far)
 going_wants so_far = when_wants _ so_far refl
 
 row_wants : (so_far : OpenEpoch) (r : Result Row Fault) → IsGoing (after_row so_far r)
-row_wants so_far (Err fault) = tt
-row_wants so_far (Ok row) = going_wants _
+row_wants = grind (arith, common_steps, going_wants)
 
 step_wants : (so_far : OpenEpoch) (line : ReadLine) → IsGoing (epoch_step so_far line)
-step_wants so_far Overlong = tt
-step_wants so_far (Content line) = row_wants so_far _
+step_wants = grind (arith, common_steps, row_wants)
 
 step_at : (so_far : OpenEpoch) (line : ReadLine) (lines : List ReadLine)
     → 0 < rows_wanted so_far → rest_at so_far (line ∷ lines) ≡ after_step (epoch_step so_far line) lines
@@ -92,9 +86,7 @@ nothing_yet so_far h = grind arith
 
 one_more_before : {X : Type 0} (count : ℕ) (p : Place X)
     → after_lines 1 (after_lines count p) ≡ after_lines (suc count) p
-one_more_before count (Here x n) = ap (λ m. Here x m) (omega arith)
-one_more_before count (Wrong k fault) = ap (λ m. Wrong m fault) (omega arith)
-one_more_before count Wanted = refl
+one_more_before = grind (arith, common_steps)
 
 -- an epoch that stays open over some lines goes on after them as the later one does
 record GoesOn (so_far later : OpenEpoch) (lines : List ReadLine) : Type 0 where
@@ -139,16 +131,12 @@ not_wrong : {X : Type 0} (k : ℕ) (fault : Fault) → ◌≡◌ {A = Place X} (
 not_wrong k fault h = subst IsFound h tt
 
 wanted_before : {X : Type 0} (count : ℕ) (p : Place X) → after_lines count p ≡ Wanted → p ≡ Wanted
-wanted_before count (Here x n) h = absurd (not_here x _ h)
-wanted_before count (Wrong k fault) h = absurd (not_wrong _ fault h)
-wanted_before count Wanted h = refl
+wanted_before = grind (arith, common_steps, not_here, not_wrong)
 
 open_by : (so_far : OpenEpoch) (line : ReadLine) (lines : List ReadLine) (step : EpochStep)
     → ((next : OpenEpoch) → 0 < rows_wanted next → rest_at next lines ≡ Wanted → IsOpen (Some next) lines)
     → IsGoing step → after_step step lines ≡ Wanted → IsOpen (still_open step) lines
-open_by so_far line lines (Going next) ih wants h = grind arith
-open_by so_far line lines (Whole epoch) ih wants h = absurd (not_here epoch 1 h)
-open_by so_far line lines (Faulty fault) ih wants h = absurd (not_wrong 0 fault h)
+open_by = grind (arith, common_steps, not_here, not_wrong)
 
 open_where_wanted : (lines : List ReadLine) (so_far : OpenEpoch)
     → 0 < rows_wanted so_far → rest_at so_far lines ≡ Wanted → IsOpen (Some so_far) lines
@@ -159,8 +147,7 @@ open_where_wanted (line ∷ lines) so_far wants h =
 
 -- one line more
 pub open_none : (begun : Option OpenEpoch) → open_after begun [] ≡ begun
-open_none None = refl
-open_none (Some so_far) = refl
+open_none = grind (arith, common_steps)
 
 open_push : (lines : List ReadLine) (begun : Option OpenEpoch) (line : ReadLine)
     → open_after begun (lines ++ line ∷ []) ≡ open_after (open_after begun lines) (line ∷ [])
@@ -189,9 +176,7 @@ record Begins (types : List Count) (line : ReadLine) (so_far : OpenEpoch) : Type
 begins_by : (types : List Count) (line : List ℕ) (r : Result Beginning Fault) (so_far : OpenEpoch)
     → opened_by types r ≡ Some so_far → (0 < rows_wanted so_far) × ((lines : List ReadLine) → then_place
     (one_line r) (Content line ∷ lines) (unit_begun types) ≡ after_lines 1 (as_unit (rest_at so_far lines)))
-begins_by types line (Err fault) so_far h = absurd (none-some so_far h)
-begins_by types line (Ok (EventBegins event)) so_far h = absurd (none-some so_far h)
-begins_by types line (Ok (EpochBegins head)) so_far h = grind arith
+begins_by = grind (arith, common_steps)
 
 begins : (types : List Count) (line : ReadLine) (so_far : OpenEpoch)
     → opened_at types line ≡ Some so_far → Begins types line so_far
@@ -203,19 +188,14 @@ begins types (Content line) so_far h =
 decided_by : (types : List Count) (line : List ℕ) (r : Result Beginning Fault) (lines : List ReadLine)
     → opened_by types r ≡ None
     → then_place (one_line r) (Content line ∷ lines) (unit_begun types) ≡ Wanted → ⊥
-decided_by types line (Err fault) lines h w = not_wrong 0 fault w
-decided_by types line (Ok (EventBegins event)) lines h w = not_here _ _ w
-decided_by types line (Ok (EpochBegins head)) lines h w = grind arith
+decided_by = grind (arith, common_steps, not_wrong, not_here)
 
 decided : (types : List Count) (line : ReadLine) (lines : List ReadLine)
     → opened_at types line ≡ None → epoch_place types (line ∷ lines) ≡ Wanted → ⊥
-decided types Overlong lines h w = not_wrong 0 _ w
-decided types (Content line) lines h w = decided_by types line (beginning_of line) lines h w
+decided = grind (arith, common_steps, not_wrong, decided_by)
 
 unit_wanted : (p : Place Epoch) → as_unit p ≡ Wanted → p ≡ Wanted
-unit_wanted (Here epoch n) h = absurd (not_here _ _ h)
-unit_wanted (Wrong k fault) h = absurd (not_wrong _ _ h)
-unit_wanted Wanted h = refl
+unit_wanted = grind (arith, common_steps, not_here, not_wrong)
 
 wanted_from : (types : List Count) (line : ReadLine) (lines : List ReadLine) (begun : Option OpenEpoch)
     → opened_at types line ≡ begun → epoch_place types (line ∷ lines) ≡ Wanted → IsOpen begun lines
@@ -271,9 +251,7 @@ wanted-open types (line ∷ lines) = (
 step_place : (count : ℕ) (step : EpochStep)
     → IsGoing step → after_lines 1 (as_unit (after_lines count (after_step step [])))
     ≡ place_after (suc count) step
-step_place count (Going so_far) wants = grind (arith, common_steps, after_lines, as_unit, nothing_yet, wants)
-step_place count (Whole epoch) wants = grind arith
-step_place count (Faulty fault) wants = ap (λ m. Wrong m fault) (omega arith)
+step_place = grind (arith, common_steps, nothing_yet)
 
 pub next-by_open : (types : List Count) (lines : List ReadLine) (line : ReadLine) (so_far : OpenEpoch)
     → open_with types lines ≡ Some so_far → IsDecidedByOpen types lines line so_far

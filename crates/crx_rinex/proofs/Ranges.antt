@@ -1,9 +1,8 @@
 -- What is read out of columns fits them.
-use Rattle.std.proofs.lemmas.Grind.{common_steps}
 use Rattle.std.proofs.Common.{◌≡◌, ℕ, ◌+◌, ◌-◌, ◌<◌, ◌≤◌, ◌^◌, Bool, true, false, cond, eqb, ◌&&◌, List, []}
 use Rattle.std.proofs.Common.{◌∷◌, ◌++◌, length, take, drop, Option, Some, None, refl, subst, inl, inr, arith}
-use Rattle.std.proofs.lemmas.{Bool.{cases_Bool, and_parts, eqb-true}, List.{length-append, length-take}}
-use Rattle.std.proofs.lemmas.{List.length-drop, Option.{cond_some, same_Some, none-some}}
+use Rattle.std.proofs.lemmas.{Bool.{cases_Bool, and_parts, eqb-true}, Grind.common_steps, List.length-append}
+use Rattle.std.proofs.lemmas.{List.{length-take, length-drop}, Option.{cond_some, same_Some, none-some}}
 use Rattle.std.proofs.lemmas.Str.Parse.{digits_value_short, numerals_by_value, tells_all_ascii_digits}
 use Rattle.std.specs.{Bool.nat_lt, Option.option_map, Prelude.{ℤ, slice_index}, Str.all_ascii_digits}
 use Rattle.std.specs.Str.Parse.{digits_value}
@@ -44,8 +43,7 @@ size_small decimals text n h =
 -- a number fits the columns of its spelling
 mapped : {P : Type 0} (f : ℕ → ℤ) (o : Option ℕ) (v : ℤ)
     → option_map f o ≡ Some v → ((n : ℕ) → o ≡ Some n → f n ≡ v → P) → P
-mapped f None v h k = absurd (none-some v h)
-mapped f (Some n) v h k = k n refl (same_Some (f n) v h)
+mapped = grind (arith, common_steps, none-some, same_Some)
 
 decimal_within : (decimals : ℕ) (text : List ℕ) (v : ℤ)
     → decimal_number decimals text ≡ Some v → IsWithin (length text) v
@@ -69,14 +67,12 @@ first_blanks_shorter (c ∷ cs) =
 
 found_within : (decimals : ℕ) (text : List ℕ) (s : Option ℤ) (o : Option ℤ)
     → decimal_number decimals text ≡ s → option_map Some s ≡ Some o → IsMissingOrWithin (length text) o
-found_within decimals text None o e h = absurd (none-some o h)
-found_within decimals text (Some v) o e h = grind (arith, common_steps, same_Some, decimal_within)
+found_within = grind (arith, common_steps, none-some, same_Some, decimal_within)
 
 missing_within : (decimals : ℕ) (text : List ℕ) (o : Option ℤ)
     → missing_or_number decimals text ≡ Some o → IsMissingOrWithin (length text) o
 missing_within decimals [] o h = grind arith
-missing_within decimals (c ∷ cs) o h =
-    found_within _ (c ∷ cs) _ o refl h
+missing_within decimals (c ∷ cs) o h = found_within _ (c ∷ cs) _ o refl h
 
 within_more : (columns width : ℕ) (o : Option ℤ)
     → columns ≤ width → IsMissingOrWithin columns o → IsMissingOrWithin width o
@@ -85,8 +81,7 @@ within_more columns width (Some v) fewer h = IsWithin_more columns width v fewer
 
 pub tested : {A : Type 0} (b : Bool) (o : Option A) (y : A) → cond b o None ≡ Some y
     → (b ≡ true) × (o ≡ Some y)
-tested true o y h = (refl, h)
-tested false o y h = absurd (none-some y h)
+tested = grind (arith, common_steps, none-some)
 
 number_within : (width decimals : ℕ) (text : List ℕ) (o : Option ℤ)
     → number_of width decimals text ≡ Some o → IsMissingOrWithin width o

@@ -1,12 +1,10 @@
 -- What is printed of rows, epoch lines and epochs is read back.
-use Rattle.std.proofs.lemmas.Grind.{common_steps}
-use Rattle.std.proofs.Common.{◌≡◌, ℕ, ℤ, ◌+◌, ◌-◌, ◌*◌, ◌<◌, suc, Bool, true, false, cond, ◌&&◌, List}
-use Rattle.std.proofs.Common.{[], ◌∷◌, ◌++◌, length, drop, map, Option, Some, None, IfSome, Ok, refl, ap, sym}
-use Rattle.std.proofs.Common.{◌∙◌, arith, append-nil, append_assoc, length-append}
-use Rattle.std.proofs.lemmas.{Bool.{and_parts, or_parts, not-true}, List.Elements.All-head}
-use Rattle.std.proofs.lemmas.{List.{Elements.All-tail, Folds.list_any-append}, Option.none-some}
-use Rattle.std.specs.{List.{concat, list_all}, Option.{option_and_then, ForSome}, Prelude.{All, ◌==◌}}
-use Rattle.std.specs.Str.{bytes_eq}
+use Rattle.std.proofs.{lemmas.Grind.common_steps, Common.{◌≡◌, ℕ, ℤ, ◌+◌, ◌-◌, ◌*◌, ◌<◌, suc, Bool, true}}
+use Rattle.std.proofs.Common.{false, cond, ◌&&◌, List, [], ◌∷◌, ◌++◌, length, drop, map, Option, Some, None}
+use Rattle.std.proofs.Common.{IfSome, Ok, refl, ap, sym, ◌∙◌, arith, append-nil, append_assoc, length-append}
+use Rattle.std.proofs.lemmas.{Bool.{and_parts, or_parts, not-true}, List.Elements.{All-head, All-tail}}
+use Rattle.std.{proofs.lemmas.{List.Folds.list_any-append, Option.none-some}, specs.List.{concat, list_all}}
+use Rattle.std.specs.{Option.{option_and_then, ForSome}, Prelude.{All, ◌==◌}, Str.bytes_eq}
 use Rattle.crx_text.proofs.Characters.{at, at-without_end_blanks, at-drop, at-append, at-append_past}
 use Rattle.crx_text.proofs.{Characters.{columns-are, list_all-from_at}, ReadBack.number_of-number_text}
 use Rattle.crx_text.specs.meaning.{Columns.{character_at, columns, is_blank}, EachPlace.each_place}
@@ -26,18 +24,16 @@ use Rattle.crx_rinex.specs.meaning.SatelliteLines.{flags_at, flags_in, row_with,
 use Rattle.crx_rinex.specs.meaning.{SatelliteLines.{IsSoundRow, HasItsTypes}, Units.Observation}
 use Rattle.crx_header.{proofs.Apart.other_way, specs.meaning.EpochColumns.{begins_epoch, is_event_flag}}
 use Rattle.crx_header.specs.meaning.EpochColumns.{is_observation_flag, satellites_in, satellites_of}
-use Rattle.crx_header.specs.meaning.{EpochColumns.epoch_count, ObservationTypes.{Count}}
+use Rattle.crx_header.specs.meaning.{EpochColumns.epoch_count, ObservationTypes.Count}
 use Rattle.crx_header.specs.meaning.Satellites.{types_of_satellite}
 
 -- ---- a field
 
 given : {X : Type 0} (P : X → Type 0) (o : Option X) → IfSome o P → ForSome o P
-given P None h x e = absurd (none-some x e)
-given P (Some y) h x e = grind (arith, common_steps)
+given = grind (arith, common_steps, none-some)
 
 tested : {A : Type 0} (b : Bool) (o : Option A) (y : A) → cond b o None ≡ Some y → b ≡ true
-tested true o y h = refl
-tested false o y h = absurd (none-some y h)
+tested = grind (arith, common_steps, none-some)
 
 -- a text that spells a number fills its columns
 decimal-width : (width decimals : ℕ) (text : List ℕ) (o : Option ℤ)
@@ -64,8 +60,7 @@ first-cell : (line rest : List ℕ) (k : ℕ) (value : Option ℤ) (a b : ℕ) �
     × (character_at line (16 * k + 18) ≡ a) × (character_at line (16 * k + 19) ≡ b)
 first-cell line rest k value a b fits same =
     let width = value-width value fits in
-    let found =
-    columns-are line (16 * k + 3 + 1) 14 _ width (λ p less.
+    let found = columns-are line (16 * k + 3 + 1) 14 _ width (λ p less.
     let place : 16 * k + 3 + 1 - 1 + p ≡ 16 * k + 3 + p = omega arith in
     ap (at line) place ∙ same p ∙ at-append (observation_text value) (a ∷ b ∷ rest) p
     (omega (arith, less, width))) in
@@ -104,8 +99,7 @@ cells-read line k (value ∷ values) (a ∷ b ∷ flags) same pairs fit =
     let now : (p : ℕ) → at line _ ≡ at (observation_text value ++ a ∷ b ∷ printed_cells values flags) p =
     λ p. same p ∙ ap (λ t. at t p) (cells-are values flags value a b) in
     let first = first-cell line (printed_cells values flags) k value a b fits now in
-    let rest : AreCells line (k + 1) values flags =
-    cells-read line (k + 1) values flags (λ p.
+    let rest : AreCells line (k + 1) values flags = cells-read line (k + 1) values flags (λ p.
     let place : 16 * (k + 1) + 3 + p ≡ 16 * k + 3 + (14 + suc (suc p)) = omega arith in
     ap (at line) place ∙ now (14 + suc (suc p)) ∙ at-append_past (observation_text value)
     (a ∷ b ∷ printed_cells values flags) 14 (suc (suc p)) width) (omega (arith, pairs))
@@ -129,8 +123,7 @@ length-cells (value ∷ values) [] pairs fit = absurd (omega (arith, pairs))
 length-cells (value ∷ values) (a ∷ []) pairs fit = absurd (omega (arith, pairs))
 length-cells (value ∷ values) (a ∷ b ∷ flags) pairs fit =
     let width : length _ ≡ 14 = value-width value (All-head IsValue value values fit) in
-    let rest =
-    length-cells values flags (omega (arith, pairs)) (All-tail IsValue value values fit) in
+    let rest = length-cells values flags (omega (arith, pairs)) (All-tail IsValue value values fit) in
     let all = ap (λ t. length t) (cells-are values flags value a b) ∙ length-append (observation_text value)
     (a ∷ b ∷ printed_cells values flags) in
     omega (arith, width, rest, all)
@@ -216,8 +209,7 @@ head-of_text head line h same =
     let named = columns-are line 1 41 _ wide (λ p less.
     let place : 1 - 1 + p ≡ p = omega arith in
     ap (at line) place ∙ front p less) in
-    let offset =
-    columns-are line 42 15 _ reads (λ p less.
+    let offset = columns-are line 42 15 _ reads (λ p less.
     let place : 42 - 1 + p ≡ 41 + p = omega arith in
     ap (at line) place ∙ same _ ∙ at-append_past _ _ 41 p wide) in
     let all = length-head head h in
@@ -240,11 +232,9 @@ row-new : (rows : List Row) (row : Row) (rest : List Row)
 row-new [] row rest h = refl
 row-new (r ∷ rows) row rest h =
     let parts = and_parts _ _ h in
-    let none =
-    not-true _ parts.0 in
+    let none = not-true _ parts.0 in
     let apart = or_parts _ _ (sym (list_any-append (λ k. bytes_eq k.name r.name) rows _) ∙ none) in
-    let differs =
-    (or_parts _ _ apart.1).0 in
+    let differs = (or_parts _ _ apart.1).0 in
     let other : bytes_eq r.name _ ≡ false = other_way row.name r.name differs in
     rw other (row-new rows row rest parts.1)
 

@@ -1,29 +1,17 @@
 -- Rows of different satellites, one after another.
-use Rattle.std.proofs.lemmas.Grind.{common_steps}
-use Rattle.std.proofs.Common.{◌≡◌, ℕ, ◌≤◌, Bool, true, false, ◌&&◌, List, [], ◌∷◌, ◌++◌, length}
-use Rattle.std.proofs.Common.{take, map}
-use Rattle.std.proofs.Common.{◌||◌, refl, ap, sym, ◌∙◌, arith, Option, Some, None, unwrap_or, cond}
-use Rattle.std.proofs.Common.{leb}
-use Rattle.std.specs.List.{list_all, list_any}
-use Rattle.std.specs.Str.{bytes_eq}
-use Rattle.std.proofs.lemmas.Slice.Eq.{bytes_eq-Decides}
-use Rattle.std.specs.Option.{option_and_then}
-use Rattle.crx_text.specs.meaning.Columns.{character_at, columns}
+use Rattle.std.proofs.Common.{◌≡◌, ℕ, ◌≤◌, Bool, false, ◌&&◌, List, [], ◌∷◌, ◌++◌, length, take, map, ◌||◌}
+use Rattle.std.proofs.Common.{refl, ap, sym, ◌∙◌, arith, Option, None, unwrap_or, cond, leb}
+use Rattle.std.proofs.lemmas.{Bool.{cases_Bool, leb-true, eqb-false}, Grind.common_steps, List.length_push}
+use Rattle.std.proofs.lemmas.{List.{map-append, Elements.All-push}, Slice.Eq.bytes_eq-Decides}
+use Rattle.std.specs.{List.{list_all, list_any}, Option.option_and_then, Str.bytes_eq}
+use Rattle.crx_text.specs.meaning.{Columns.{character_at, columns}, Texts.is_kept}
 use Rattle.crx_base.specs.declared.limits.TheConstants.{SATELLITES_LIMIT}
-use Rattle.crx_header.specs.meaning.Label.{number_in}
-use Rattle.std.proofs.lemmas.Bool.{cases_Bool, leb-true, eqb-false}
-use Rattle.std.proofs.lemmas.List.{length_push, map-append}
-use Rattle.std.proofs.lemmas.List.Elements.{All-push}
-use Rattle.crx_text.specs.meaning.Texts.{is_kept}
-use Rattle.crx_rinex.specs.meaning.Observations.{Row, Epoch}
-use Rattle.crx_rinex.specs.meaning.EpochLines.{ObservationHead}
-use Rattle.crx_header.specs.meaning.EpochColumns.{satellites_of, count_within_limit, begins_epoch}
-use Rattle.crx_header.specs.meaning.EpochColumns.{is_observation_flag}
-use Rattle.crx_rinex.specs.meaning.Epochs.{has_satellite, IsSoundEpoch}
-use Rattle.crx_header.specs.meaning.Satellites.{is_among}
-use Rattle.crx_rinex.specs.Epochs.{with_row, is_full_epoch, AreEpochParts}
-use Rattle.crx_rinex.specs.meaning.SatelliteLines.{IsSoundRow}
 use Rattle.crx_header.proofs.Apart.{among-map, apart-push, other_way}
+use Rattle.crx_header.specs.meaning.EpochColumns.{satellites_of, count_within_limit, begins_epoch}
+use Rattle.crx_header.specs.meaning.{EpochColumns.is_observation_flag, Label.number_in, Satellites.is_among}
+use Rattle.crx_rinex.specs.Epochs.{with_row, is_full_epoch, AreEpochParts}
+use Rattle.crx_rinex.specs.meaning.{EpochLines.ObservationHead, Epochs.{has_satellite, IsSoundEpoch}}
+use Rattle.crx_rinex.specs.meaning.{Observations.{Row, Epoch}, SatelliteLines.IsSoundRow}
 
 -- an epoch that isn't full stays sound with a new satellite's row
 pub sound-with_row : (epoch : Epoch) (row : Row) → IsSoundEpoch epoch → IsSoundRow row
@@ -42,9 +30,7 @@ sound-with_row epoch row h sound room new =
 
 few : (b : Bool) (o : Option ℕ)
     → unwrap_or (cond b (option_and_then count_within_limit o) None) 0 ≤ SATELLITES_LIMIT
-few true None = omega arith
-few true (Some n) = grind (arith, common_steps, cases_Bool, leb, leb-true)
-few false o = omega arith
+few = grind (arith, common_steps, cases_Bool, leb, leb-true)
 
 -- columns announce no more satellites than the limit
 pub satellites_few : (head : List ℕ) → satellites_of head ≤ SATELLITES_LIMIT
@@ -54,8 +40,7 @@ satellites_few head = few
 
 -- the identifiers of the rows say which satellites they have
 pub by_names : (epoch : Epoch) (names : List (List ℕ)) (rows : List Row) (count : ℕ)
-    (name name' : List ℕ) (b : Bool)
-    → name' ≡ name → rows ≡ epoch.rows → count ≡ length rows
+    (name name' : List ℕ) (b : Bool) → name' ≡ name → rows ≡ epoch.rows → count ≡ length rows
     → take (length rows) names ≡ map (λ (row : Row). row.name) rows
     → is_among (λ (n : List ℕ). n) name' (take count names) ≡ b → has_satellite name epoch.rows ≡ b
 by_names epoch names rows count name name' b is e long h new =
@@ -80,8 +65,7 @@ same-both_ways xs ys = grind (arith, common_steps, cases_Bool, bytes_eq, bytes_e
 
 -- whether a satellite is among the rows, by their identifiers
 pub among-names : (names : List (List ℕ)) (rows : List Row) (name : List ℕ)
-    → names ≡ map (λ (row : Row). row.name) rows
-    → list_any (bytes_eq name) names ≡ has_satellite name rows
+    → names ≡ map (λ (row : Row). row.name) rows → list_any (bytes_eq name) names ≡ has_satellite name rows
 among-names names rows name is =
     ap (list_any (bytes_eq name)) is ∙ by-row rows
   where

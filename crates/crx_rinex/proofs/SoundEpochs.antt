@@ -1,17 +1,16 @@
 -- What is read of an observation epoch is sound.
-use Rattle.std.proofs.Common.{◌≡◌, ℕ, ℤ, ◌+◌, ◌*◌, ◌≤◌, zero, suc, Bool, true, false, not, cond, List, []}
-use Rattle.std.proofs.Common.{◌∷◌, length, drop, Option, Some, None, IfSome, OnSome, unwrap_or, Result, Ok}
-use Rattle.std.proofs.{Common.{Err, refl, ap, sym, subst, ◌∙◌, arith}, lemmas.Bool.and_from}
-use Rattle.std.proofs.lemmas.List.{length_push, length-append, Elements.{All-cons, All-nil, All-push}}
-use Rattle.std.{proofs.lemmas.Option.{option_and_then_some, same_Some, none-some}, specs.List.list_all}
-use Rattle.std.specs.{List.AllByRecursion, Prelude.{⊤, All}}
+use Rattle.std.proofs.Common.{rules, ◌≡◌, ℕ, ℤ, ◌+◌, ◌*◌, ◌≤◌, zero, suc, Bool, true, false, not, cond, List}
+use Rattle.std.proofs.Common.{[], ◌∷◌, length, drop, Option, Some, None, IfSome, OnSome, unwrap_or, Result}
+use Rattle.std.proofs.{Common.{Ok, Err, refl, ap, sym, subst, ◌∙◌, arith}, lemmas.Bool.and_from}
+use Rattle.std.proofs.lemmas.{Grind.common_steps, List.{length_push, length-append, Elements.All-cons}}
+use Rattle.std.proofs.lemmas.{List.Elements.{All-nil, All-push}, Option.{option_and_then_some, same_Some}}
+use Rattle.std.{proofs.lemmas.Option.none-some, specs.{List.{list_all, AllByRecursion}, Prelude.{⊤, All}}}
 use Rattle.crx_text.proofs.{Characters.length-columns, EachPlace.{each_place-all, length-each_place}}
 use Rattle.crx_text.specs.meaning.{Columns.{character_at, columns, is_blank}, EachPlace.each_place}
 use Rattle.crx_text.specs.meaning.{Numbers.{observation_of, clock_of, IsValue}, Texts.is_kept}
-use Rattle.crx_base.specs.declared.fault.Fault.{Fault, TheVariants.{NotAnEpoch, BadEpoch}}
-use Rattle.crx_base.specs.declared.fault.Fault.TheVariants.{BadField, BadClock, BadFlags, Truncated}
-use Rattle.crx_base.specs.{declared.limits.TheConstants.SATELLITES_LIMIT, meaning.Seen.{ReadLine, Content}}
-use Rattle.crx_base.specs.meaning.Seen.{Overlong}
+use Rattle.crx_base.specs.{meaning.Seen.{ReadLine, Content, Overlong}, declared.fault.Fault.Fault}
+use Rattle.crx_base.specs.declared.{limits.TheConstants.SATELLITES_LIMIT, fault.Fault.TheVariants.NotAnEpoch}
+use Rattle.crx_base.specs.declared.fault.Fault.TheVariants.{BadEpoch, BadField, BadClock, BadFlags, Truncated}
 use Rattle.crx_header.proofs.{Apart.apart-push, Counts.{allowed_of, system_of}}
 use Rattle.crx_header.{proofs.FirstColumns.identifier_columns, specs.ObservationTypes.AreCounts}
 use Rattle.crx_header.specs.meaning.EpochColumns.{is_event_flag, begins_epoch, epoch_count, records_in}
@@ -22,14 +21,13 @@ use Rattle.crx_rinex.proofs.{Cells.flags_in_more, Ranges.{value_fits, clock_fits
 use Rattle.crx_rinex.{proofs.Rows.satellites_few, specs.meaning.EpochLines.{HeadLine, EventHead, EpochHead}}
 use Rattle.crx_rinex.specs.meaning.EpochLines.{ObservationHead, IsObservationHead, epoch_head, event_head}
 use Rattle.crx_rinex.specs.meaning.{EpochLines.head_of, EpochPlaces.{OpenEpoch, Beginning, EventBegins}}
-use Rattle.crx_rinex.specs.meaning.EpochPlaces.{EpochBegins, opened, rows_wanted, epoch_of, with_next_row}
-use Rattle.crx_rinex.specs.meaning.EpochPlaces.{row_if_new, next_row, rows_at, rest_at, begun_by}
-use Rattle.crx_rinex.specs.meaning.{EpochPlaces.{beginning_of, unit_begun, epoch_place}, Epochs.has_satellite}
-use Rattle.crx_rinex.specs.meaning.{Epochs.{are_different, IsWholeEpoch}, Observations.{Row, Epoch}}
-use Rattle.crx_rinex.specs.meaning.Places.{Place, Here, Wrong, Wanted, after_lines, then_place, one_line}
-use Rattle.crx_rinex.specs.meaning.SatelliteLines.{row_of, row_of_types, row_with, values_in, flags_in}
-use Rattle.crx_rinex.specs.meaning.SatelliteLines.{flags_at, field, all_some, IsSoundRow, HasItsTypes}
-use Rattle.crx_rinex.specs.meaning.Units.{Unit, Observation}
+use Rattle.crx_rinex.specs.meaning.EpochPlaces.{EpochBegins, opened, rows_wanted, with_next_row, row_if_new}
+use Rattle.crx_rinex.specs.meaning.EpochPlaces.{next_row, rows_at, rest_at, begun_by, unit_begun, epoch_place}
+use Rattle.crx_rinex.specs.meaning.{Epochs.{has_satellite, are_different, IsWholeEpoch}, Observations.Row}
+use Rattle.crx_rinex.specs.meaning.{Observations.Epoch, Places.{Place, Here, Wrong, Wanted, after_lines}}
+use Rattle.crx_rinex.specs.meaning.{Places.{then_place, one_line}, SatelliteLines.{row_of, row_of_types}}
+use Rattle.crx_rinex.specs.meaning.SatelliteLines.{row_with, values_in, flags_in, flags_at, field, all_some}
+use Rattle.crx_rinex.specs.meaning.{SatelliteLines.{IsSoundRow, HasItsTypes}, Units.{Unit, Observation}}
 
 -- ---- a row
 
@@ -43,8 +41,7 @@ name_types types (a ∷ b ∷ c ∷ []) = refl
 name_types types (a ∷ b ∷ c ∷ d ∷ rest) = refl
 
 if_some : (o : Option (Option ℤ)) → ((value : Option ℤ) → o ≡ Some value → IsValue value) → IfSome o IsValue
-if_some None h = tt
-if_some (Some value) h = h value refl
+if_some = grind (arith, common_steps)
 
 record AreValues (count : ℕ) (values : List (Option ℤ)) : Type 0 where
   long : length values ≡ count
@@ -176,8 +173,7 @@ count_case line (Some count) e =
     ]
 
 event_case : (flag : ℕ) (o : Option ℕ) → IsSoundHead (event_head flag o)
-event_case flag None = tt
-event_case flag (Some count) = tt
+event_case = grind (arith, common_steps)
 
 pub sound-head_of : (line : List ℕ) → IsSoundHead (head_of line)
 sound-head_of line =
@@ -215,8 +211,7 @@ IsNext so_far (Ok row) = IsSoundRow row × HasItsTypes so_far.types row
 
 new_row : (so_far : OpenEpoch) (r : Result Row Fault)
     → IsSoundRead so_far.types r → IsNext so_far (row_if_new so_far.rows r)
-new_row so_far (Err fault) h = tt
-new_row so_far (Ok row) h = grind arith
+new_row = search rules
 
 pub next_sound : (so_far : OpenEpoch) (line : List ℕ) → AreCounts so_far.types
     → IsNext so_far (next_row so_far line)
@@ -237,10 +232,6 @@ sound-next_row so_far row h n =
       apart = apart-push (λ r. r.name) _ row h.apart n.2;
     }
 
-whole : (so_far : OpenEpoch) → IsSoundSoFar so_far
-    → length so_far.rows ≡ so_far.head.count → IsWholeEpoch so_far.types (epoch_of so_far)
-whole so_far h full = grind arith
-
 -- the epoch that is read, and how many lines it took
 abbrev AreGood : List Count → ℕ → ℕ → Place Epoch → Type 0
 AreGood types total count (Here epoch n) = IsWholeEpoch types epoch × (n ≡ count)
@@ -254,8 +245,7 @@ good_row : (count : ℕ) (so_far : OpenEpoch) (line : List ℕ) (lines : List Re
     → (r : Result Row Fault) → IsNext so_far r → AreGood so_far.types so_far.head.count (suc count)
     (then_place (one_line r) (Content line ∷ lines)
     (λ row rest. rows_at (with_next_row so_far row) count rest))
-good_row count so_far line lines ih (Err fault) n = tt
-good_row count so_far line lines ih (Ok row) n = grind arith
+good_row = grind (arith, common_steps)
 
 good_rows : (count : ℕ) (so_far : OpenEpoch) (lines : List ReadLine)
     → AreCounts so_far.types → IsSoundSoFar so_far → length so_far.rows + count ≡ so_far.head.count
@@ -277,9 +267,7 @@ IsReadWell types _ = ⊤
 good_unit : (types : List Count) (count : ℕ) (p : Place Epoch) (lines : List ReadLine)
     → AreGood types count count p
     → IsReadWell types (after_lines 1 (then_place p lines (λ epoch rest. Here (Observation epoch) 0)))
-good_unit types count (Here epoch n) lines h = grind arith
-good_unit types count (Wrong j fault) lines h = tt
-good_unit types count Wanted lines h = tt
+good_unit = grind (arith, common_steps)
 
 -- what an epoch line begins is sound
 abbrev pub IsSoundBeginning : Result Beginning Fault → Type 0
@@ -289,9 +277,7 @@ IsSoundBeginning (Ok (EpochBegins head)) = IsObservationHead head
 
 pub begun_sound : (line : List ℕ) (r : Result HeadLine Fault) → IsSoundHead r
     → IsSoundBeginning (begun_by line r)
-begun_sound line (Err fault) h = tt
-begun_sound line (Ok (EventHead flag count)) h = tt
-begun_sound line (Ok (EpochHead head count clock)) h = h
+begun_sound = grind (arith, common_steps)
 
 good_begun : (types : List Count) (line : List ℕ) (lines : List ReadLine) (r : Result Beginning Fault)
     → AreCounts types → IsSoundBeginning r
@@ -308,10 +294,7 @@ good_begun types line lines (Ok (EpochBegins head)) counts h =
 
 read_well : (types : List Count) (lines : List ReadLine) → AreCounts types
     → IsReadWell types (epoch_place types lines)
-read_well types [] counts = tt
-read_well types (Overlong ∷ lines) counts = tt
-read_well types (Content line ∷ lines) counts =
-    good_begun types line lines (beginning_of line) counts (begun_sound line _ (sound-head_of line))
+read_well = grind (arith, common_steps, good_begun, begun_sound, sound-head_of)
 
 pub sound-epoch_place : (types : List Count) (lines : List ReadLine) (epoch : Epoch) (count : ℕ)
     → AreCounts types → epoch_place types lines ≡ Here (Observation epoch) count

@@ -1,7 +1,7 @@
 -- Blanks at the ends of texts, and the columns of a line that ends before them.
-use Rattle.std.proofs.lemmas.Grind.{common_steps}
 use Rattle.std.proofs.Common.{◌≡◌, ℕ, ◌-◌, ◌≤◌, true, false, List, [], ◌∷◌, ◌++◌, length, take, drop}
-use Rattle.std.proofs.{Common.{replicate, refl, ap, arith, suc, zero, cond}, lemmas.List.take-replicate}
+use Rattle.std.proofs.{Common.{replicate, refl, ap, arith, suc, zero, cond}, lemmas.Grind.common_steps}
+use Rattle.std.proofs.lemmas.List.{take-replicate}
 use Rattle.crx_text.specs.meaning.Columns.{is_blank, columns, before_end_blanks, without_end_blanks}
 use Rattle.crx_text.specs.meaning.Columns.{without_first_blanks, without_blanks}
 
@@ -31,9 +31,7 @@ padded_more : (w n : ℕ) (s : List ℕ)
 padded_more zero n s h = refl
 padded_more (suc w) n [] h = let e : suc w - 0 ≡ suc w = omega arith in rw e
     (take-replicate {X = ℕ} (suc w) n 32 h)
-padded_more (suc w) n (x ∷ s) h =
-    let e : suc w - suc (length (take w s)) ≡ w - length (take w s) = omega arith in
-    rw e (ap (λ t. x ∷ t) (padded_more w n s (omega arith)))
+padded_more (suc w) n (x ∷ s) h = grind (arith, common_steps, padded_more w n s (omega arith))
 
 -- columns are the part inside the line, and blanks after it
 pub columns_are : (line : List ℕ) (first width : ℕ) → columns line first width ≡ take width

@@ -1,17 +1,12 @@
 -- Reading the number in a cell, up to the first blank of a line.
-use Rattle.std.proofs.lemmas.Grind.{common_steps}
 use Rattle.std.proofs.Common.{true, false, ℕ, ℤ, ◌≡◌, ◌==◌, ◌<◌, Bool, List, [], ◌∷◌, length, Option, Some}
 use Rattle.std.proofs.Common.{None, if◌then◌else◌, ◌&&◌, ◌||◌, ◌-◌, inl, inr, arith, refl, ap, get_or, eqb}
-use Rattle.std.{proofs.lemmas.Bool.{cases_eq, ne_eqb, Decides.nat_tests}, specs.Char.is_ascii_digit}
-use Rattle.std.specs.{List.list_any, Option.option_map, Str.{all_ascii_digits, Parse.starts_with_minus}}
+use Rattle.std.proofs.lemmas.{Bool.{cases_eq, ne_eqb, Decides.nat_tests}, Grind.common_steps}
+use Rattle.std.specs.{Char.is_ascii_digit, List.list_any, Option.option_map, Str.all_ascii_digits}
+use Rattle.std.specs.Str.Parse.{starts_with_minus}
 use Rattle.crx_text.specs.{Codes.counted_digits, declared.code.Code.TheVariants.{Start, Step}}
 use Rattle.crx_text.specs.meaning.Codes.{code_of, coded_number, first_cell, is_order, start_of}
 use Rattle.crx_text.specs.meaning.Numbers.{signed_number, without_minus}
-
-chosen : (a : Bool) (n : ℕ) (f : ℕ → ℤ)
-    → (if a then Some (f n) else None) ≡ option_map f (if a then Some n else None)
-chosen true n f = refl
-chosen false n f = refl
 
 -- the number in a cell, by its minus and its digits
 pub coded_number-cell : (text digits : List ℕ) → digits ≡ without_minus text → coded_number (first_cell text)
@@ -21,8 +16,7 @@ coded_number-cell text digits is = grind arith
 
 pub no_cell : {A : Type 0} (r : Option (ℕ × A)) (counted : Option ℕ) (f : ℕ → ℤ)
     → r ≡ None → option_map (λ cell. cell.0) r ≡ counted → option_map f counted ≡ None
-no_cell None counted f is e = rw (← e) refl
-no_cell (Some x) counted f is e = absurd (cc)
+no_cell = grind (arith, common_steps)
 
 pub a_cell : {A : Type 0} (r : Option (ℕ × A)) (counted : Option ℕ) (f : ℕ → ℤ) (size : ℕ) (next : A)
     → r ≡ Some (size, next) → option_map (λ cell. cell.0) r ≡ counted → option_map f counted ≡ Some (f size)
@@ -31,8 +25,7 @@ a_cell r counted f size next is e = rw (← e, is) refl
 -- where no digit begins the cell, it has no number
 pub no_first_digit : (text : List ℕ)
     → (0 < length text → is_ascii_digit (get_or text 0 0) ≡ false) → counted_digits (first_cell text) ≡ None
-no_first_digit [] stops = refl
-no_first_digit (c ∷ cs) stops = grind arith
+no_first_digit = grind (arith, common_steps)
 
 -- ---- a number is the code of a difference
 
@@ -46,18 +39,14 @@ unfolding coded_number
 no_text = refl
 
 stopped : (b : Bool) → (b && false) ≡ false
-stopped true = refl
-stopped false = refl
+stopped = grind (arith, common_steps)
 
 after_order : (c : ℕ) (cs : List ℕ) → coded_number (c ∷ 38 ∷ cs) ≡ None
 after_order c cs = grind (arith, common_steps, cases_eq, no_digits, stopped)
 
 pub code_of-number : (text : List ℕ) (number : ℤ) → coded_number text ≡ Some number
     → code_of text ≡ Some (Step number)
-code_of-number [] number e = absurd (let none = no_text in cc)
-code_of-number (c ∷ []) number e = ap (option_map Step) e
-code_of-number (c ∷ d ∷ cs) number e =
-    grind (arith, common_steps, cases_eq, coded_number, after_order, option_map)
+code_of-number = grind (arith, common_steps, no_text, option_map, cases_eq, after_order)
 
 -- ---- a text that is one cell
 
@@ -84,8 +73,7 @@ blank_is_no_digit (c ∷ cs) some =
     ]
 
 no_number_with_blank : (text : List ℕ) → list_any (λ c. eqb c 32) text ≡ true → coded_number text ≡ None
-no_number_with_blank [] some = absurd (cc)
-no_number_with_blank (c ∷ cs) some = grind (arith, common_steps, cases_eq, no_digits, blank_is_no_digit)
+no_number_with_blank = grind (arith, common_steps, cases_eq, no_digits, blank_is_no_digit)
 
 -- a blank is in no code
 pub no_code_with_blank : (text : List ℕ) → list_any (λ c. eqb c 32) text ≡ true → code_of text ≡ None

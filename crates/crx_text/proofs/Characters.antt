@@ -1,10 +1,9 @@
 -- Texts by their characters, blanks being after them: what is read by columns doesn't ask for the blanks at a
 -- text's end.
-use Rattle.std.proofs.lemmas.Grind.{common_steps}
-use Rattle.std.proofs.{Common.{◌∙◌, ap, arith, not-suc-le-zero}, lemmas.List.length-append}
-use Rattle.std.{proofs.lemmas.List.{length-take, length-replicate}, specs.{List.list_all, Prelude.◌≡◌}}
-use Rattle.std.specs.Prelude.{refl, ℕ, zero, suc, ◌+◌, ◌-◌, ◌<◌, ◌≤◌, Bool, true, ◌&&◌, List, [], ◌∷◌, ◌++◌}
-use Rattle.std.specs.Prelude.{length, take, drop, replicate, slice_index_or}
+use Rattle.std.proofs.{Common.{rules, ◌∙◌, ap, arith, not-suc-le-zero}, lemmas.Grind.common_steps}
+use Rattle.std.{proofs.lemmas.List.{length-append, length-take, length-replicate}, specs.List.list_all}
+use Rattle.std.specs.Prelude.{◌≡◌, refl, ℕ, zero, suc, ◌+◌, ◌-◌, ◌<◌, ◌≤◌, Bool, true, ◌&&◌, List, [], ◌∷◌}
+use Rattle.std.specs.Prelude.{◌++◌, length, take, drop, replicate, slice_index_or}
 use Rattle.crx_text.specs.meaning.Columns.{before_end_blanks, without_end_blanks, columns}
 
 -- the character at a position, from 0
@@ -12,9 +11,7 @@ abbrev pub at : List ℕ → ℕ → ℕ
 at text position = slice_index_or text position 32
 
 pub at-before_end_blanks : (c : ℕ) (text : List ℕ) (p : ℕ) → at (before_end_blanks c text) p ≡ at (c ∷ text) p
-at-before_end_blanks c (d ∷ ds) p = refl
-at-before_end_blanks c [] zero = grind arith
-at-before_end_blanks c [] (suc p) = grind arith
+at-before_end_blanks = grind (arith, common_steps)
 
 pub at-without_end_blanks : (text : List ℕ) (p : ℕ) → at (without_end_blanks text) p ≡ at text p
 at-without_end_blanks [] p = refl
@@ -22,9 +19,7 @@ at-without_end_blanks (c ∷ cs) zero = grind arith
 at-without_end_blanks (c ∷ cs) (suc p) = at-before_end_blanks c _ (suc p) ∙ at-without_end_blanks cs p
 
 pub at-drop : (k : ℕ) (text : List ℕ) (p : ℕ) → at (drop k text) p ≡ at text (k + p)
-at-drop zero text p = ap (at text) (omega arith)
-at-drop (suc k) [] p = refl
-at-drop (suc k) (c ∷ cs) p = grind (arith, common_steps)
+at-drop = grind (arith, common_steps)
 
 pub at-append : (xs ys : List ℕ) (p : ℕ) → p < length xs → at (xs ++ ys) p ≡ at xs p
 at-append [] ys p h = absurd (not-suc-le-zero h)
@@ -57,14 +52,12 @@ take-padded (suc n) (suc k) (c ∷ cs) (w ∷ ws) le e h =
 -- ---- columns
 
 pub length-columns : (line : List ℕ) (first width : ℕ) → length (columns line first width) ≡ width
-length-columns line first width =
-    grind (arith, common_steps, length-take, replicate, length-append, length-replicate)
+length-columns line first width = grind (arith, common_steps, length-take, length-append, length-replicate)
 
 -- columns by their characters
 pub columns-are : (text : List ℕ) (first width : ℕ) (want : List ℕ) → length want ≡ width
     → ((p : ℕ) → p < width → at text (first - 1 + p) ≡ at want p) → columns text first width ≡ want
-columns-are text first width want e h =
-    take-padded width width _ want (omega arith) e (λ p less. at-drop _ text p ∙ h p less)
+columns-are text first width want e h = search (rules, take-padded, at-drop)
 
 pub list_all-from_at : (p : ℕ → Bool) (text : List ℕ) → ((k : ℕ) → p (at text k) ≡ true) → list_all p text
     ≡ true

@@ -1,8 +1,7 @@
 -- The columns of a receiver clock offset in lanes.
-use Rattle.std.proofs.lemmas.Grind.{common_steps}
-use Rattle.std.proofs.Common.{◌≡◌, ℕ, ◌+◌, ◌-◌, ◌*◌, ◌%◌, ◌^◌, ◌<◌, Bool, true, false, cond, ltb, eqb, Some}
-use Rattle.std.proofs.Common.{List, [], ◌∷◌, ◌++◌, map, length, replicate, take, drop, get_or, subst, refl}
-use Rattle.std.proofs.{Common.{sym, ap, ◌∙◌, arith}, lemmas.{Bool.and_from, List.length-drop}}
+use Rattle.std.proofs.Common.{◌≡◌, ℕ, ◌+◌, ◌-◌, ◌*◌, ◌%◌, ◌^◌, ◌<◌, Bool, true, cond, ltb, eqb, Some, List}
+use Rattle.std.proofs.Common.{[], ◌∷◌, ◌++◌, map, length, replicate, take, drop, get_or, subst, refl, sym, ap}
+use Rattle.std.proofs.{Common.{◌∙◌, arith}, lemmas.{Bool.and_from, Grind.common_steps, List.length-drop}}
 use Rattle.std.{proofs.lemmas.Simd.pick_l_whole, specs.{Char.is_ascii_digit, List.{list_all, list_any}}}
 use Rattle.std.specs.{List.range_with_len, Str.{all_ascii_digits, Parse.digits_value}}
 use lib.Lanes.{pick_l, mask_l, top, zip2, dots}
@@ -44,9 +43,6 @@ bits_of c = bit (c 3) ∷ bit (c 4) ∷ bit (c 5) ∷ bit (c 3) ∷ bit (c 6) �
 lane_digit : (x : ℕ) → is_ascii_digit x ≡ true → above_zero x ≡ x - 48
 lane_digit x is_digit = grind arith
 
-lane_fits : (x : ℕ) → above_zero x < 256
-lane_fits x = omega arith
-
 module _ (c : ℕ → ℕ) (small : (i : ℕ)
     → c i < 256) (set : digit_bits (map c (range_with_len 0 15)) % 2 ^ 64 ≡ 65535) where
   all : list_all (λ b. b) (bits_of c) ≡ true
@@ -70,7 +66,6 @@ module _ (c : ℕ → ℕ) (small : (i : ℕ)
       ≡ digits_value 10 (drop 3 (map c (range_with_len 0 15)))
   value_explicit =
       let d = λ (i : ℕ). above_zero (c i) in
-      let whole = weighed_digits 0 (drop 3 (map c (range_with_len 0 15))) digits_explicit in
       twelve (d 3) (d 4) (d 5) (d 6) (d 7) (d 8) (d 9) (d 10) (d 11) (d 12) (d 13) (d 14) (d 3) ∙ ((rw (
         same_at 3 0 refl,
         same_at 4 1 refl,
@@ -84,7 +79,7 @@ module _ (c : ℕ → ℕ) (small : (i : ℕ)
         same_at 12 12 refl,
         same_at 13 13 refl,
         same_at 14 14 refl,
-      ) refl) ∙ whole)
+      ) refl) ∙ (weighed_digits 0 (drop 3 (map c (range_with_len 0 15))) digits_explicit))
 
 pub fraction_digits : (field : List ℕ) → length field ≡ 15
     → ((i : ℕ) → get_or field i 0 < 256) → digit_bits field % 2 ^ 64 ≡ 65535 → all_ascii_digits (drop 3 field)
@@ -135,5 +130,4 @@ pub fraction_small : (field : List ℕ) (fraction : ℕ) → length field ≡ 15
 fraction_small field fraction long digits is = grind (arith, common_steps, value_small, length-drop)
 
 pub clock_range : (is_below : Bool) (size : ℕ) → size < 10 ^ 13 → IsWithin 15 (signed_number is_below size)
-clock_range true size small = neg_is_within size 15 small
-clock_range false size small = pos_is_within size 15 (omega (arith, small))
+clock_range = grind (arith, common_steps, neg_is_within, pos_is_within)

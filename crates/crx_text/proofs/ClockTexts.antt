@@ -1,10 +1,10 @@
 -- The text of a receiver clock offset with one digit before the point.
-use Rattle.std.proofs.Common.{◌≡◌, ℕ, ◌+◌, ◌-◌, ◌*◌, ◌/◌, ◌%◌, ◌^◌, ◌<◌, List, [], ◌∷◌, ◌++◌, length}
-use Rattle.std.proofs.Common.{replicate, take, set, subst, refl, sym, ap, ◌∙◌, arith}
-use Rattle.std.{proofs.lemmas.Fmt.decimal_digit, specs.List.range_with_len}
+use Rattle.std.proofs.Common.{◌≡◌, ℕ, ◌+◌, ◌-◌, ◌*◌, ◌/◌, ◌^◌, ◌<◌, List, [], ◌∷◌, ◌++◌, length, replicate}
+use Rattle.std.proofs.{Common.{take, set, subst, refl, sym, arith}, lemmas.Fmt.decimal_digit}
+use Rattle.std.{proofs.lemmas.Grind.common_steps, specs.List.range_with_len}
 use lib.Lanes.{pick_l, put_chunk}
 use Rattle.crx_text.proofs.{ClockColumns.fifteen, LaneBits.sixteen, PrintedTexts.{plus, nine_in, three_in}}
-use Rattle.crx_text.{proofs.PrintedTexts.twelve_padded, specs.meaning.Numbers.{size_text, zero_padded}}
+use Rattle.crx_text.{proofs.PrintedTexts.twelve_padded, specs.meaning.Numbers.size_text}
 
 -- two stores of eight lanes, of which the second begins in the first
 abbrev pub stored : List ℕ → List ℕ → List ℕ
@@ -20,10 +20,7 @@ stored_fraction text field long wide =
 
 first_three : (field text : List ℕ) (digit : ℕ)
     → length field ≡ 15 → set (set (set (take 3 field ++ text) 0 32) 1 digit) 2 46 ≡ 32 ∷ digit ∷ 46 ∷ text
-first_three [] text digit wide = absurd (omega arith)
-first_three (a ∷ []) text digit wide = absurd (omega arith)
-first_three (a ∷ b ∷ []) text digit wide = absurd (omega arith)
-first_three (a ∷ b ∷ c ∷ rest) text digit wide = refl
+first_three = grind (arith, common_steps)
 
 module _ (size : ℕ) (small : size < 10 ^ 13) where
   abbrev pub fraction : ℕ
@@ -35,13 +32,7 @@ module _ (size : ℕ) (small : size < 10 ^ 13) where
   pub clock_written : (field : List ℕ) → length field ≡ 15
       → set (set (set (take 3 field ++ take 12 fraction_lanes) 0 32) 1 (48 + size / 10 ^ 12)) 2 46
       ≡ 32 ∷ size_text 12 size
-  clock_written field wide =
-      let rest : fraction ≡ size % 10 ^ 12 = omega arith in
-      let below : fraction < 10 ^ 12 = omega arith in
-      let digits =
-      twelve_padded _ below ∙ ap (zero_padded 12) rest in
-      let whole = decimal_digit (size / 10 ^ 12) (omega arith) in
-      rw (first_three field (take 12 fraction_lanes) (48 + size / 10 ^ 12) wide, digits, whole) refl
+  clock_written field wide = grind (arith, common_steps, twelve_padded, decimal_digit, first_three)
 
 pub text_long : (field : List ℕ) (size : ℕ)
     → field ≡ 32 ∷ size_text 12 size → length field ≡ 15 → 1 + length (size_text 12 size) ≡ 15

@@ -1,11 +1,10 @@
 -- Printed codes.
-use Rattle.std.proofs.lemmas.Grind.{common_steps}
-use Rattle.std.proofs.Common.{true, false, ◌≡◌, ◌≢◌, ℕ, ℤ, pos, negsuc, neg_ℤ, suc, ◌+◌, ◌≤◌, ◌<◌, ◌^◌}
-use Rattle.std.proofs.Common.{List, [], ◌∷◌, ◌++◌, length, get_or, take, slice_set, decimal, Some, inl, inr}
+use Rattle.std.proofs.Common.{rules, true, false, ◌≡◌, ◌≢◌, ℕ, ℤ, pos, negsuc, neg_ℤ, ◌+◌, ◌≤◌, ◌<◌, ◌^◌}
+use Rattle.std.proofs.Common.{List, ◌∷◌, ◌++◌, length, get_or, take, slice_set, decimal, Some, inl, inr}
 use Rattle.std.proofs.{Common.{arith, ap, sym, ◌∙◌, refl}, lemmas.Bool.{cases_lt, Decides.nat_tests}}
-use Rattle.std.proofs.lemmas.{Fmt.{decimal_digit, decimal_nonempty, length-decimal-le}, List.append_assoc}
-use Rattle.std.{proofs.lemmas.{List.get_or_past, Str.Parse.not_in_digits}, specs.Fmt.signed_decimal}
-use Rattle.std.specs.{Option.option_map, Str.{all_ascii_digits, Parse.starts_with_minus}}
+use Rattle.std.proofs.lemmas.{Fmt.{decimal_digit, decimal_nonempty, length-decimal-le}, Grind.common_steps}
+use Rattle.std.proofs.lemmas.{List.{append_assoc, get_or_past}, Str.Parse.not_in_digits}
+use Rattle.std.specs.{Fmt.signed_decimal, Option.option_map, Str.{all_ascii_digits, Parse.starts_with_minus}}
 use Rattle.crx_text.proofs.{CodeReads.coded_number_fitting, DigitPairs.two_written, ReadBack.decimal_first}
 use Rattle.crx_text.{proofs.ReadBack.{decimal_is_digits, decimal_weighs, digits_own}, specs.Codes.IsPrintable}
 use Rattle.crx_text.specs.{Codes.IsShort, declared.code.Code.{Code, TheVariants.{Missing, Start, Step}}}
@@ -24,10 +23,7 @@ signed_decimal_length (negsuc n) short = grind (arith, common_steps, length-deci
 
 -- how long a code's text may be
 pub code_text_length : (code : Code) → IsPrintable code → length (code_text code) ≤ 21
-code_text_length Missing printable = omega arith
-code_text_length (Start order value) printable =
-    grind (arith, common_steps, code_text_start, signed_decimal_length)
-code_text_length (Step difference) printable = grind (arith, common_steps, signed_decimal_length)
+code_text_length = grind (arith, common_steps, code_text_start, signed_decimal_length)
 
 -- an order, & and a number, written one after another
 pub start_written : (bytes number : List ℕ) (at order : ℕ) → at + 2 ≤ length bytes → take (at + 2)
@@ -45,8 +41,7 @@ no_mark_in_digits ds i digits =
     ]
 
 pub without_minus-digits : (text : List ℕ) → get_or text 0 0 ≢ 45 → without_minus text ≡ text
-without_minus-digits [] other = refl
-without_minus-digits (c ∷ cs) other = grind arith
+without_minus-digits = grind (arith, common_steps)
 
 pub starts_with_minus-digits : (text : List ℕ) → get_or text 0 0 ≢ 45 → starts_with_minus text ≡ false
 starts_with_minus-digits text other = grind (arith, nat_tests)
@@ -54,8 +49,7 @@ starts_with_minus-digits text other = grind (arith, nat_tests)
 pub coded_number-decimal : (n : ℕ) → n < 10 ^ DIGITS_LIMIT → coded_number (decimal n) ≡ Some (pos n)
 coded_number-decimal n small =
     let tiny : n < 2 ^ 64 = omega arith in
-    let first = decimal_first n tiny in
-    let other : get_or (decimal n) 0 0 ≢ 45 = omega (arith, first) in
+    let other : get_or (decimal n) 0 0 ≢ 45 = omega (arith, decimal_first n tiny) in
     coded_number_fitting (decimal n) (decimal n) (sym (without_minus-digits (decimal n) other))
     (decimal_nonempty n tiny) (length-decimal-le DIGITS_LIMIT n (omega arith) small tiny)
     ∙ (rw (decimal_is_digits n tiny, starts_with_minus-digits (decimal n) other, decimal_weighs n tiny) refl)
@@ -68,20 +62,14 @@ coded_number-minus n small =
     ∙ (rw (decimal_is_digits n tiny, decimal_weighs n tiny) refl)
 
 pub coded_number-signed_decimal : (z : ℤ) → IsShort z → coded_number (signed_decimal z) ≡ Some z
-coded_number-signed_decimal (pos n) short = coded_number-decimal n short
-coded_number-signed_decimal (negsuc n) short = coded_number-minus (suc n) short
+coded_number-signed_decimal = grind (arith, common_steps, coded_number-decimal, coded_number-minus)
 
 pub code_of_step : (text : List ℕ) → 0 < length text → get_or text 1 0 ≢ 38 → code_of text ≡ step_of text
-code_of_step [] some other = absurd (omega arith)
-code_of_step (c ∷ []) some other = refl
-code_of_step (c ∷ d ∷ cs) some other = grind arith
+code_of_step = grind (arith, common_steps)
 
 pub code_of-signed_decimal : (z : ℤ) → IsShort z → code_of (signed_decimal z) ≡ step_of (signed_decimal z)
-code_of-signed_decimal (pos n) short =
+code_of-signed_decimal =
     grind (arith, common_steps, code_of_step, decimal_nonempty, no_mark_in_digits, decimal, decimal_is_digits)
-code_of-signed_decimal (negsuc n) short =
-    let tiny : suc n < 2 ^ 64 = omega arith in
-    code_of_step _ (omega arith) (no_mark_in_digits (decimal (suc n)) 0 (decimal_is_digits (suc n) tiny))
 
 pub code_of_start : (order : ℕ) (value : ℤ) → order ≤ ORDER_LIMIT
     → IsShort value → code_of ((48 + order) ∷ 38 ∷ signed_decimal value) ≡ Some (Start order value)
@@ -90,7 +78,6 @@ code_of_start order value small short = grind (arith, common_steps, is_order, co
 -- what is printed of a code is read back
 pub code_of-code_text : (code : Code) → IsPrintable code → code_of (code_text code) ≡ Some code
 code_of-code_text Missing printable = refl
-code_of-code_text (Start order value) printable =
-    grind (arith, common_steps, code_of, code_text_start, code_of_start)
+code_of-code_text (Start order value) printable = search (rules, code_of, code_text_start, code_of_start)
 code_of-code_text (Step z) printable = code_of-signed_decimal z printable
     ∙ ap (option_map Step) (coded_number-signed_decimal z printable)

@@ -1,11 +1,10 @@
 -- Two digits at a time.
-use Rattle.std.proofs.lemmas.Grind.{common_steps}
-use Rattle.std.proofs.Common.{bit_or, ◌≡◌, ℕ, ℤ, pos, negsuc, w64, zero, suc, ◌+◌, ◌-◌, ◌*◌, ◌/◌, ◌%◌, ◌<◌}
-use Rattle.std.proofs.Common.{◌≤◌, Bool, true, ◌&&◌, T, eqb, List, [], ◌∷◌, ◌++◌, length, take, drop}
-use Rattle.std.proofs.Common.{get_or, slice_set, inl, inr, arith, eqb→eq, eqb-true, append_assoc, decimal}
-use Rattle.std.proofs.{Common.{◌^◌, ap, sym, ◌∙◌, refl, subst}, Math.{Dec.ltb, Seq.take-append-add}}
-use Rattle.std.proofs.lemmas.Bool.{agree_below, agree_below_at, and_parts, cases_lt, le-ltb, lt-ltb}
-use Rattle.std.proofs.lemmas.{Fmt.{decimal_digit, decimal_nonempty}, List.{take_more_set, length-set}}
+use Rattle.std.proofs.Common.{rules, bit_or, ◌≡◌, ℕ, ℤ, w64, zero, suc, ◌+◌, ◌-◌, ◌*◌, ◌/◌, ◌%◌, ◌<◌, ◌≤◌}
+use Rattle.std.proofs.Common.{Bool, true, ◌&&◌, T, eqb, List, [], ◌∷◌, ◌++◌, length, take, drop, get_or}
+use Rattle.std.proofs.Common.{slice_set, arith, eqb→eq, eqb-true, append_assoc, decimal, ◌^◌, ap, sym, ◌∙◌}
+use Rattle.std.proofs.{Common.{refl, subst}, Math.{Dec.ltb, Seq.take-append-add}, lemmas.Bool.agree_below}
+use Rattle.std.proofs.lemmas.{Bool.{agree_below_at, and_parts, cases_lt, le-ltb, lt-ltb}, Fmt.decimal_digit}
+use Rattle.std.proofs.lemmas.{Fmt.decimal_nonempty, Grind.common_steps, List.{take_more_set, length-set}}
 use Rattle.std.proofs.lemmas.{List.{length-take-le, length-drop, take-take}, Nat.from_le_bytes-to_le_bytes_4}
 use Rattle.std.specs.{Fmt.signed_decimal, Int.{from_le_bytes, to_le_bytes, w32}}
 use lib.Count.{count_trailing_zeros}
@@ -34,8 +33,7 @@ pub joined : (first second third front back : List ℕ) (at middle end : ℕ)
 joined first second third front back at middle end one two = grind (arith, common_steps, one, append_assoc)
 
 pub signed_decimal_some : (z : ℤ) → SFits w64 z → 0 < length (signed_decimal z)
-signed_decimal_some (pos n) fits = let small = fits.sfits in decimal_nonempty n (omega (arith, small))
-signed_decimal_some (negsuc n) fits = omega arith
+signed_decimal_some = grind (arith, common_steps, decimal_nonempty)
 
 -- ---- four digits in a word
 
@@ -43,11 +41,7 @@ abbrev pub four : ℕ → List ℕ
 four n = (48 + n / 100 / 10) ∷ (48 + n / 100 % 10) ∷ (48 + n % 100 / 10) ∷ (48 + n % 100 % 10) ∷ []
 
 pub four_small : (n i : ℕ) → n < 10000 → get_or (four n) i 0 < 256
-four_small n zero small = omega arith
-four_small n (suc zero) small = omega arith
-four_small n (suc (suc zero)) small = omega arith
-four_small n (suc (suc (suc zero))) small = omega arith
-four_small n (suc (suc (suc (suc i)))) small = omega arith
+four_small = grind (arith, common_steps)
 
 -- how many zeros are before a number's digits in four columns
 abbrev pub zeros_of : ℕ → ℕ
@@ -59,34 +53,7 @@ few_zeros n = grind (arith, common_steps, ltb, bool_byte)
 -- a number's own digits are after those zeros
 own_digits : (n : ℕ) → n < 10000 → drop (zeros_of n) (four n) ≡ decimal n
 own_digits n small =
-    elim (cases_lt n 10) [
-      | inl one ↦
-          let own : n % 100 % 10 ≡ n = omega arith in
-          rw (
-            lt-ltb n 10 one,
-            lt-ltb n 100 (omega arith),
-            lt-ltb n 1000 (omega arith),
-            decimal_digit n one,
-            own,
-          ) refl
-      | inr tens ↦ elim (cases_lt n 100) [
-        | inl two ↦
-            let own : n % 100 ≡ n = omega arith in
-            rw (le-ltb n 10 tens, lt-ltb n 100 two, lt-ltb n 1000 (omega arith), decimal_two n tens two, own)
-            refl
-        | inr hundreds ↦ elim (cases_lt n 1000) [
-          | inl three ↦
-              let own : n / 100 % 10 ≡ n / 100 = omega arith in
-              let whole : decimal n ≡ (48 + n / 100) ∷ pair (n % 100) = decimal_pair n hundreds (omega arith)
-              ∙ ap (λ (t : List ℕ). t ++ pair (n % 100)) (decimal_digit (n / 100) (omega arith)) in
-              rw (le-ltb n 10 tens, le-ltb n 100 hundreds, lt-ltb n 1000 three, whole, own) refl
-          | inr thousands ↦
-              let whole : decimal n ≡ four n = decimal_pair n hundreds (omega arith) ∙ ap
-              (λ (t : List ℕ). t ++ pair (n % 100)) (decimal_two (n / 100) (omega arith) (omega arith)) in
-              rw (le-ltb n 10 tens, le-ltb n 100 hundreds, le-ltb n 1000 thousands, whole) refl
-        ]
-      ]
-    ]
+    search (rules, cases_lt, lt-ltb, decimal_digit, le-ltb, decimal_two, decimal, pair, decimal_pair, four)
 
 pub zeros_counted : (n : ℕ) → n < 10000 → zeros_of n + length (decimal n) ≡ 4
 zeros_counted n small =
@@ -137,9 +104,8 @@ all_agree = refl
 
 lowest_is : (n : ℕ) → n < 10000 → lowest_of n ≡ zeros_of n
 lowest_is n small =
-    let same =
-    agree_below_at (λ n. eqb (lowest_of n) (zeros_of n)) (λ n. true) 10000 n all_agree small in
-    eqb→eq _ _ (subst T (sym same) tt)
+    eqb→eq _ _ (subst T (sym (agree_below_at (λ n. eqb (lowest_of n) (zeros_of n)) (λ n. true) 10000 n
+    all_agree small)) tt)
 
 -- a word whose bytes are a number's columns, and its digits
 pub zeros_found : (n word : ℕ) → n < 10000 → word < 2 ^ 32 → to_le_bytes w32 word ≡ four n

@@ -3,19 +3,18 @@ use Rattle.std.proofs.Common.{◌≡◌, ℕ, zero, suc, ◌+◌, ◌-◌, ◌*�
 use Rattle.std.proofs.Common.{not, cond, ◌&&◌, T, ltb, leb, eqb, List, [], ◌∷◌, ◌++◌, map, length, replicate}
 use Rattle.std.proofs.Common.{take, drop, get_or, subst, Fits, w8, refl, sym, ap, ◌∙◌, arith}
 use Rattle.std.proofs.{Math.Nat.mul-le-mul_right, lemmas.Bool.{agree_below_at, and_parts, lt-ltb, ltb-true}}
-use Rattle.std.proofs.lemmas.{Bool.{le-leb, Decides.nat_tests}, List.{length-append, length-take-le}}
-use Rattle.std.proofs.lemmas.List.{take-append-drop, take-take, get_or-take, take-append-le, take-map}
-use Rattle.std.proofs.lemmas.{List.Sums.{prefix_len-le-length, prefix_len_stops}, Simd.mask_l-mod}
+use Rattle.std.proofs.lemmas.{Bool.{le-leb, Decides.nat_tests}, Grind.common_steps, List.length-append}
+use Rattle.std.proofs.lemmas.List.{length-take-le, take-append-drop, take-take, get_or-take, take-append-le}
+use Rattle.std.proofs.lemmas.{List.{take-map, Sums.{prefix_len-le-length, prefix_len_stops}}, Simd.mask_l-mod}
 use Rattle.std.{proofs.lemmas.Simd.trailing_mask_l, specs.{Char.is_ascii_digit, List.range_with_len}}
 use Rattle.std.specs.{List.prefix_len, Str.{all_ascii_digits, Parse.{digits_value, digits_value_after}}}
-use lib.Count.{count_trailing_zeros}
-use lib.Lanes.{Each1, chunk, pick_l, mask_l, top, zip2, dots, all_below, pair_sums, products}
-use Rattle.crx_text.proofs.{GroupHalves.wide_of, LaneBits.{sixteen, no_bit, top_lane}, PlainLanes.lane_fits}
+use lib.{Count.count_trailing_zeros, Lanes.{Each1, chunk, pick_l, mask_l, top, zip2, dots, all_below}}
+use lib.Lanes.{pair_sums, products}
 use Rattle.crx_text.proofs.PowersOfTen.{digit_range, digits_before, digit_value_is, digits_value_after-append}
-use Rattle.crx_text.{proofs.PowersOfTen.value_small, specs.Digits.{above_zero, written}}
-use Rattle.crx_text.specs.FirstDigits.{HasFirstDigits, is_below_ten}
+use Rattle.crx_text.proofs.{PowersOfTen.value_small, LaneBits.{sixteen, no_bit, top_lane}}
+use Rattle.crx_text.specs.{Digits.{above_zero, written}, FirstDigits.{HasFirstDigits, is_below_ten}}
 use Rattle.crx_text.specs.{declared.code_digits.TheConstants.{WEIGHTS, SCALES}, meaning.Codes.after_cell}
-use Rattle.crx_text.specs.meaning.Codes.{first_cell}
+use Rattle.crx_text.{specs.meaning.Codes.first_cell, proofs.{GroupHalves.wide_of, PlainLanes.lane_fits}}
 
 -- ---- the lanes of a row
 
@@ -65,9 +64,7 @@ prefix_in_front p (suc n) (x ∷ xs) few = go (p x) few (prefix_in_front p n xs)
 ends : (ds : List ℕ) (bits : List Bool)
     → prefix_len (λ b. not b) (map (leb 10) ds ++ true ∷ bits) ≡ prefix_len is_below_ten ds
 ends [] bits = refl
-ends (d ∷ ds) bits =
-    let here : not (leb 10 d) ≡ is_below_ten d = grind (arith, nat_tests) in
-    rw here (ap (λ n. cond (is_below_ten d) (1 + n) 0) (ends ds bits))
+ends (d ∷ ds) bits = grind (arith, common_steps, leb, is_below_ten, cond, ends ds bits)
 
 abbrev pub end_lanes : List ℕ → List Bool
 end_lanes v = map (top 7) (zip2 (λ a b. cond (leb a b) 255 0)
@@ -186,8 +183,7 @@ written_digits size zero row digits = refl
 written_digits size (suc count) [] digits = refl
 written_digits size (suc count) (c ∷ cs) digits =
     let parts = and_parts _ _ digits in
-    let range = digit_range c parts.0 in
-    let value : above_zero c ≡ c - 48 = omega (arith, range) in
+    let value : above_zero c ≡ c - 48 = omega (arith, digit_range c parts.0) in
     ap (λ (d : ℕ). written (size * 10 + d) (take count (map above_zero cs))) value
     ∙ (written_digits (size * 10 + (c - 48)) count cs parts.1
     ∙ ap (λ d. digits_value_after 10 (size * 10 + d) (take count cs)) (sym (digit_value_is c parts.0)))
@@ -234,16 +230,14 @@ first_cell-digits : (ds rest : List ℕ) → all_ascii_digits ds ≡ true
 first_cell-digits [] rest digits = refl
 first_cell-digits (c ∷ cs) rest digits =
     let parts = and_parts _ _ digits in
-    let other = no_blank c parts.0 in
-    rw other (ap (λ t. c ∷ t) (first_cell-digits cs rest parts.1))
+    rw (no_blank c parts.0) (ap (λ t. c ∷ t) (first_cell-digits cs rest parts.1))
 
 after_cell-digits : (ds rest : List ℕ) → all_ascii_digits ds ≡ true
     → after_cell (ds ++ rest) ≡ after_cell rest
 after_cell-digits [] rest digits = refl
 after_cell-digits (c ∷ cs) rest digits =
     let parts = and_parts _ _ digits in
-    let other = no_blank c parts.0 in
-    rw other (after_cell-digits cs rest parts.1)
+    rw (no_blank c parts.0) (after_cell-digits cs rest parts.1)
 
 -- so many digits, which a text begins with, and no digit after them
 digits_found : (text : List ℕ) (size count : ℕ) → count < 8 → count ≤ length text
@@ -257,8 +251,8 @@ digits_found text size count few long digits value stop =
     record {
       few = omega arith;
       within = long;
-      small = let less = value_small 0 (take count text) digits in let power : 10 ^ length _ ≡ 10 ^ count = ap
-          (λ (n : ℕ). 10 ^ n) within in omega (arith, value, less, power);
+      small = let less = value_small 0 (take count text) digits in let power : 10 ^ length _ ≡ 10 ^ count =
+          ap (λ (n : ℕ). 10 ^ n) within in omega (arith, value, less, power);
       digits = sym (ap all_ascii_digits cell ∙ digits_before (take count text) _ digits);
       value = ap (λ n. digits_value_after 10 n (first_cell rest)) value ∙ sym
           (ap (digits_value_after 10 0) cell ∙ digits_value_after-append 0 (take count text)
@@ -302,8 +296,7 @@ module _ (text : List ℕ) (more size count : ℕ)
   pub few_digits_of : length text < 8
       → size ≡ digits_value 10 (take count (text ++ replicate more 0)) → HasFirstDigits text size count
   few_digits_of short size_is =
-      let front =
-      take-append-le count text _ few_within in
+      let front = take-append-le count text _ few_within in
       let same = count_is ∙ padded_prefix text more in
       digits_found text size count (omega (arith, few_within, short)) few_within
       (ap all_ascii_digits (sym front) ∙ few_digits) (size_is ∙ ap (digits_value_after 10 0) front) (λ less.

@@ -1,7 +1,7 @@
 -- Lists of what a function gives at one place after another.
-use Rattle.std.{proofs.Common.{sym, ◌∙◌, ap, arith, add-one}, specs.{List.AllByRecursion, Prelude.◌≡◌}}
-use Rattle.std.specs.Prelude.{refl, ℕ, zero, suc, ◌+◌, ◌<◌, ◌≤◌, min, [], ◌∷◌, ◌++◌, length, map, take, drop}
-use Rattle.std.specs.Prelude.{slice_index_or}
+use Rattle.std.proofs.{Common.{sym, ◌∙◌, ap, arith, add-one}, lemmas.Grind.common_steps}
+use Rattle.std.specs.{List.AllByRecursion, Prelude.{◌≡◌, refl, ℕ, zero, suc, ◌+◌, ◌<◌, ◌≤◌, min, [], ◌∷◌}}
+use Rattle.std.specs.Prelude.{◌++◌, length, map, take, drop, slice_index_or}
 use Rattle.crx_text.specs.meaning.EachPlace.{each_place}
 
 pub length-each_place : {X : Type 0} (n : ℕ) (f : ℕ → X) → length (each_place n f) ≡ n
@@ -17,8 +17,7 @@ index-each_place (suc n) (suc j) f d h = index-each_place n j (λ i. f (suc i)) 
 
 pub each_place-same : {X : Type 0} (n : ℕ) (f g : ℕ → X) → ((k : ℕ) → f k ≡ g k) → each_place n f
     ≡ each_place n g
-each_place-same zero f g h = refl
-each_place-same (suc n) f g h = grind arith
+each_place-same = grind (arith, common_steps)
 
 pub each_place-all : {X : Type 0} (P : X → Type 0) (n : ℕ) (f : ℕ → X)
     → ((i : ℕ) → P (f i)) → AllByRecursion P (each_place n f)
@@ -33,9 +32,7 @@ map-each_place g (suc n) f = ap (λ r. g (f 0) ∷ r) (map-each_place g n (λ i.
 -- one place more
 pub each_place-more : {X : Type 0} (n : ℕ) (f : ℕ → X) → each_place (n + 1) f ≡ each_place n f ++ f n ∷ []
 each_place-more zero f = refl
-each_place-more (suc n) f =
-    let more : suc n + 1 ≡ suc (n + 1) = omega arith in
-    ap (λ k. each_place k f) more ∙ ap (λ r. f zero ∷ r) (each_place-more n (λ i. f (suc i)))
+each_place-more (suc n) f = grind (arith, common_steps, each_place, each_place-more n (λ i. f (suc i)))
 
 pub take-each_place : {X : Type 0} (k m : ℕ) (f : ℕ → X) → take k (each_place m f) ≡ each_place (min k m) f
 take-each_place zero m f = grind arith

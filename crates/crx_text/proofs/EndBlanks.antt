@@ -1,9 +1,8 @@
 -- The blanks at the end of a text, 16 characters at a time.
-use Rattle.std.proofs.lemmas.Grind.{common_steps}
 use Rattle.std.proofs.Common.{Bool, true, false, not, cond, if◌then◌else◌, eqb, ℕ, suc, ◌≡◌, ◌+◌, ◌-◌, ◌*◌}
 use Rattle.std.proofs.Common.{◌%◌, ◌^◌, ◌<◌, ◌≤◌, List, [], ◌∷◌, ◌++◌, length, drop, take, map, replicate, w8}
 use Rattle.std.proofs.{Common.{arith, refl, ap, sym, ◌∙◌, ◌≢◌, get_or}, Math.{Nat.pow-suc, Seq.take-add}}
-use Rattle.std.proofs.lemmas.{Bool.ne_eqb, List.{drop_all, drop_more, length-append, length-take-le}}
+use Rattle.std.proofs.lemmas.{Bool.ne_eqb, Grind.common_steps, List.{drop_all, drop_more, length-take-le}}
 use Rattle.std.proofs.lemmas.{List.{nil_from_length, take-append-drop, take_more}, Simd.bitmask_splat}
 use Rattle.std.{proofs.lemmas.Simd.{chunk-drop, length-chunk}, specs.Int.Count.count_leading_zeros}
 use Rattle.std.specs.Int.Count.{leading_unique}
@@ -11,18 +10,13 @@ use lib.Lanes.{chunk, mask_l, top, zip2}
 use Rattle.crx_text.specs.meaning.Columns.{is_blank, before_end_blanks, without_end_blanks}
 
 before_some : (x : ℕ) (zs : List ℕ) → 0 < length zs → before_end_blanks x zs ≡ x ∷ zs
-before_some x [] some = absurd (omega arith)
-before_some x (z ∷ zs) some = refl
+before_some = grind (arith, common_steps)
 
 -- what is after a part decides which blanks are dropped
 kept_append : (xs ys : List ℕ)
     → 0 < length (without_end_blanks ys) → without_end_blanks (xs ++ ys) ≡ xs ++ without_end_blanks ys
 kept_append [] ys some = refl
-kept_append (x ∷ xs) ys some =
-    let rest = kept_append xs ys some in
-    let long : 0 < length _ =
-    omega (arith, length-append xs (without_end_blanks ys), some) in
-    ap (before_end_blanks x) rest ∙ before_some x _ long
+kept_append (x ∷ xs) ys some = grind (arith, common_steps, before_some, kept_append xs ys some)
 
 none_append : (xs ys : List ℕ) → without_end_blanks ys ≡ []
     → without_end_blanks (xs ++ ys) ≡ without_end_blanks xs
@@ -57,8 +51,7 @@ nothing_after text = ap without_end_blanks (drop_all (length text) text (omega a
 pub blank_passed : (text : List ℕ) (last end : ℕ) → last + 1 ≡ end → end ≤ length text
     → get_or text last 0 ≡ 32
     → without_end_blanks (drop end text) ≡ [] → without_end_blanks (drop last text) ≡ []
-blank_passed text last end sum within blank none =
-    grind (arith, common_steps, without_end_blanks, drop_more, before_end_blanks)
+blank_passed text last end sum within blank none = grind (arith, common_steps)
 
 -- another character before blanks ends the text
 pub ended_at : (text : List ℕ) (last end : ℕ) → last + 1 ≡ end → end ≤ length text → get_or text last 0 ≢ 32
@@ -66,12 +59,11 @@ pub ended_at : (text : List ℕ) (last end : ℕ) → last + 1 ≡ end → end �
 ended_at text last end sum within other none =
     let less : last < length text = omega (arith, sum, within) in
     let c : ℕ = get_or text last 0 in
-    let test = ne_eqb c 32 other in
     let rest : without_end_blanks (drop (last + 1) text) ≡ [] =
     ap (λ (k : ℕ). without_end_blanks (drop k text)) sum ∙ none in
-    let here : before_end_blanks c [] ≡ c ∷ [] = rw test refl in
-    let kept : without_end_blanks (drop last text) ≡ c ∷ [] =
-    ap without_end_blanks (drop_more text last 0 less) ∙ ap (before_end_blanks c) rest ∙ here in
+    let here : before_end_blanks c [] ≡ c ∷ [] = rw (ne_eqb c 32 other) refl in
+    let kept : without_end_blanks (drop last text) ≡ c ∷ [] = ap without_end_blanks
+    (drop_more text last 0 less) ∙ ap (before_end_blanks c) rest ∙ here in
     ap (λ (k : ℕ). take k text) (sym sum) ∙ take_more text last 0 less
     ∙ ap (λ (t : List ℕ). take last text ++ t) (sym kept)
     ∙ sym (kept_append (take last text) (drop last text) (omega (arith, ap length kept)))
@@ -138,13 +130,8 @@ module _ (text : List ℕ) (end : ℕ) (within : end ≤ length text)
       let whole : without_end_blanks text ≡ take start text ++ without_end_blanks piece =
       sym before ∙ (ap (λ (k : ℕ). without_end_blanks (take k text)) (sym sum) ∙ (ap without_end_blanks
       (take-add start size text) ∙ kept_append (take start text) piece (omega (arith, kept, some)))) in
-      let long : start + count ≡ length (without_end_blanks text) = omega (
-        arith,
-        ap length whole,
-        length-append (take start text) (without_end_blanks piece),
-        length-take-le start text (omega (arith, sum, within)),
-        kept,
-      ) in
+      let long : start + count ≡ length (without_end_blanks text) =
+      grind (arith, common_steps, length-take-le) in
       ap (λ (k : ℕ). take k text) long ∙ take_kept text
 
   -- one that keeps nothing goes with the blanks after it

@@ -1,6 +1,6 @@
 -- A size's groups of three digits, two halves at a time.
-use Rattle.std.proofs.Common.{◌≡◌, ℕ, zero, suc, ◌+◌, ◌*◌, ◌/◌, ◌%◌, ◌^◌, ◌<◌, List, [], ◌∷◌, length, map}
-use Rattle.std.proofs.{Common.{arith, ap, ◌∙◌}, Math.Nat.pow-suc}
+use Rattle.std.proofs.Common.{rules, ◌≡◌, ℕ, zero, suc, ◌+◌, ◌*◌, ◌/◌, ◌%◌, ◌^◌, ◌<◌, List, [], ◌∷◌, length}
+use Rattle.std.proofs.{Common.{map, arith}, Math.Nat.pow-suc}
 use lib.Lanes.{Each1, zip2, digits_l, number_l}
 
 -- ---- the halves
@@ -24,8 +24,7 @@ halves_are (x ∷ y ∷ z ∷ v) long small = absurd (omega arith)
 
 bytes_back : (n x : ℕ) → x < 256 ^ n → number_l 256 (digits_l 256 n x) ≡ x
 bytes_back zero x h = omega (arith, h)
-bytes_back (suc n) x h =
-    ap (λ m. x % 256 + 256 * m) (bytes_back n (x / 256) (omega (arith, h, pow-suc 256 n))) ∙ omega arith
+bytes_back (suc n) x h = search (rules, pow-suc, bytes_back n (x / 256) (omega (arith, h, pow-suc 256 n)))
 
 -- the lanes of two halves
 abbrev pub lanes_of : List ℕ → List ℕ
@@ -33,10 +32,6 @@ lanes_of v = digits_l (2 ^ 32) 4 (number_l 256 (digits_l 256 16 (number_l (2 ^ 6
 
 module _ (a b c d : ℕ) (as_small : a < 1000) (bs_small : b < 1000) (cs_small : c < 1000)
     (ds_small : d < 1000) where
-  number_is : number_l (2 ^ 64) ((a + b * 2 ^ 32) ∷ (c + d * 2 ^ 32) ∷ [])
-      ≡ a + 2 ^ 32 * (b + 2 ^ 32 * (c + 2 ^ 32 * (d + 2 ^ 32 * 0)))
-  number_is = omega arith
-
   pub lanes_are : lanes_of ((a + b * 2 ^ 32) ∷ (c + d * 2 ^ 32) ∷ []) ≡ a ∷ b ∷ c ∷ d ∷ []
   lanes_are = grind arith
 

@@ -1,9 +1,8 @@
 -- Rows of lanes: from a list of known length to its elements, and from a mask to each lane.
-use Rattle.std.proofs.lemmas.Grind.{common_steps}
 use Rattle.std.proofs.Common.{take, zero, ◌<◌, ◌≡◌, ℕ, suc, ◌+◌, ◌-◌, ◌*◌, ◌%◌, ◌^◌, ◌≤◌, Bool, true, false}
 use Rattle.std.proofs.Common.{not, cond, ◌&&◌, ◌||◌, nat_eq, eqb, bit_and, List, [], ◌∷◌, map, length}
 use Rattle.std.proofs.{Common.{replicate, w8, refl, sym, ap, ◌∙◌, arith}, Math.Nat.{pow-suc, one-le-pow}}
-use Rattle.std.proofs.{Math.Nat.{mod-one, zero-mod}, lemmas.{Bool.Decides.nat_tests, List.take-map}}
+use Rattle.std.proofs.{Math.Nat.{mod-one, zero-mod}, lemmas.{Grind.common_steps, List.take-map}}
 use Rattle.std.proofs.lemmas.{List.length-take-le, Nat.and_mask, Simd.{pick_l_whole, bitmask_splat}}
 use Rattle.std.specs.List.{range_with_len, list_all, list_any}
 use lib.Lanes.{pick_l, mask_l, top, zip2}
@@ -18,8 +17,7 @@ sixteen xs long = sym (pick_l_whole 0 xs 16 long)
 -- ---- a mask's bits
 
 no_bit_next : (b : Bool) (m : ℕ) → nat_eq (cond b 1 0 + 2 * m) 0 ≡ (not b && nat_eq m 0)
-no_bit_next true m = grind (arith, nat_tests)
-no_bit_next false m = grind (arith, nat_tests)
+no_bit_next = grind (arith, common_steps)
 
 pub no_bit : {X : Type 0} (p : X → Bool) (xs : List X) → nat_eq (mask_l (map p xs)) 0 ≡ not (list_any p xs)
 no_bit p [] = refl
@@ -32,16 +30,12 @@ no_bit p (x ∷ xs) = no_bit_next (p x) (mask_l (map p xs))
 
 all_bits_next : (b : Bool) (m power : ℕ)
     → 1 ≤ power → nat_eq (cond b 1 0 + 2 * m) (2 * power - 1) ≡ (b && nat_eq m (power - 1))
-all_bits_next true m power some = grind (arith, nat_tests)
-all_bits_next false m power some = grind (arith, nat_tests)
+all_bits_next = grind (arith, common_steps)
 
 pub all_bits : {X : Type 0} (p : X → Bool) (xs : List X)
     → nat_eq (mask_l (map p xs)) (2 ^ length xs - 1) ≡ list_all p xs
 all_bits p [] = refl
-all_bits p (x ∷ xs) =
-    let power : 2 ^ suc (length xs) ≡ 2 * 2 ^ length xs = omega (arith, pow-suc 2 (length xs)) in
-    let some = one-le-pow _ 2 (omega arith) in
-    rw power (all_bits_next (p x) _ _ some ∙ ap (λ t. p x && t) (all_bits p xs))
+all_bits p (x ∷ xs) = grind (arith, common_steps, pow-suc, one-le-pow, all_bits_next, all_bits p xs)
 
 -- a comparison of 16 lanes with one byte: each lane
 pub each_is_byte : (byte : ℕ) (xs : List ℕ) → length xs ≡ 16
@@ -59,17 +53,13 @@ mod_step : (b x p : ℕ) → b < 2 → 0 < p → (b + 2 * x) % (2 * p) ≡ b + 2
 mod_step b x p bit some = grind arith
 
 bit_below : (m : Bool) → cond m 1 0 < 2
-bit_below true = omega arith
-bit_below false = omega arith
+bit_below = grind (arith, common_steps)
 
 first_bits : (n : ℕ) (ms : List Bool) → mask_l ms % 2 ^ n ≡ mask_l (take n ms)
 first_bits zero ms = mod-one _
 first_bits (suc n) [] = zero-mod _
 first_bits (suc n) (m ∷ ms) =
-    let power : 2 ^ suc n ≡ 2 * 2 ^ n = omega (arith, pow-suc 2 n) in
-    let some : 1 ≤ 2 ^ n = one-le-pow n 2 (omega arith) in
-    ap (λ (k : ℕ). mask_l (m ∷ ms) % k) power ∙ mod_step _ (mask_l ms) (2 ^ n) (bit_below m)
-    (omega (arith, some)) ∙ ap (λ k. cond m 1 0 + 2 * k) (first_bits n ms)
+    grind (arith, common_steps, pow-suc, one-le-pow, mask_l, mod_step, bit_below, cond, first_bits n ms)
 
 -- a comparison of 16 lanes with one byte, of which the first 14 count
 fourteen_bits : (byte : ℕ) (xs : List ℕ) → length xs ≡ 16
@@ -94,5 +84,4 @@ each_of_field byte xs long =
 -- ---- the lanes of masks, which are 255 or 0
 
 pub top_lane : (a : Bool) → top 7 (cond a 255 0) ≡ a
-top_lane true = refl
-top_lane false = refl
+top_lane = grind (arith, common_steps)

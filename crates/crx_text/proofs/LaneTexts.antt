@@ -1,9 +1,8 @@
 -- Texts in pieces of 16 characters and a rest.
-use Rattle.std.proofs.lemmas.Grind.{common_steps}
-use Rattle.std.proofs.Common.{true, false, ℕ, zero, suc, ◌≡◌, ◌+◌, ◌-◌, ◌≤◌, ◌&&◌, Bool, List, [], ◌∷◌, ◌++◌}
-use Rattle.std.proofs.{Common.{length, drop, take, arith, refl, ap, sym, ◌∙◌}, Math.Seq.{take-add, take-take}}
-use Rattle.std.{proofs.lemmas.List.{length-drop, take_all, Folds.list_all-append}, specs.List.list_all}
-use Rattle.std.specs.Simd.Lanes.{zip2, chunk}
+use Rattle.std.proofs.Common.{rules, true, false, ℕ, zero, suc, ◌≡◌, ◌+◌, ◌-◌, ◌≤◌, ◌&&◌, Bool, List, [], ◌∷◌}
+use Rattle.std.proofs.{Common.{◌++◌, length, drop, take, arith, refl, ap, sym, ◌∙◌}, Math.Seq.take-add}
+use Rattle.std.proofs.{Math.Seq.take-take, lemmas.{Grind.common_steps, List.{length-drop, take_all}}}
+use Rattle.std.{proofs.lemmas.List.Folds.list_all-append, specs.{List.list_all, Simd.Lanes.{zip2, chunk}}}
 
 -- ---- tests
 
@@ -39,8 +38,7 @@ list_all_ends p n xs few = list_all-append p _ _ ∙ list_all-overlap p _ n xs (
 -- the last piece, some of which was passed before
 pub list_all-last_piece : (p : ℕ → Bool) (n i : ℕ) (xs : List ℕ) → n ≤ length xs → length xs - n ≤ i
     → (list_all p (take i xs) && list_all p (chunk (length xs - n) n xs)) ≡ list_all p xs
-list_all-last_piece p n i xs some passed =
-    grind (arith, common_steps, take_all, length-drop, list_all, list_all-overlap)
+list_all-last_piece p n i xs some passed = search (rules, take_all, length-drop, list_all, list_all-overlap)
 
 -- ---- rules
 
@@ -83,7 +81,6 @@ pub last_written : (m n i : ℕ) (whole out made : List ℕ) → m + n ≡ lengt
     → take i out ≡ take i whole
     → length made ≡ length whole → take (m + n) made ≡ take m out ++ chunk m n whole → made ≡ whole
 last_written m n i whole out made all passed before long written =
-    let front =
-    sym (take-take m i out passed) ∙ ap (take m) before ∙ take-take m i whole passed in
-    sym (take_all (m + n) made (omega (arith, long, all))) ∙ piece_written m n whole out made front written
+    sym (take_all (m + n) made (omega (arith, long, all))) ∙ piece_written m n whole out made
+    (sym (take-take m i out passed) ∙ ap (take m) before ∙ take-take m i whole passed) written
     ∙ take_all (m + n) whole (omega (arith, all))

@@ -1,10 +1,9 @@
 -- What operations on vectors of characters say of each character.
-use Rattle.std.proofs.lemmas.Grind.{common_steps}
-use Rattle.std.proofs.Common.{true, false, ℕ, suc, zero, ◌≡◌, ◌+◌, ◌-◌, ◌%◌, ◌^◌, ◌&&◌, cond, eqb, ltb}
+use Rattle.std.proofs.Common.{rules, true, false, ℕ, suc, zero, ◌≡◌, ◌+◌, ◌-◌, ◌%◌, ◌^◌, ◌&&◌, cond, eqb, ltb}
 use Rattle.std.proofs.Common.{bit_or, Bool, List, [], ◌∷◌, length, map, replicate, Fits, w8, arith, refl, ap}
-use Rattle.std.proofs.{Common.{sym, ◌∙◌}, lemmas.{Bool.{agree_below, agree_below_at, ne_eqb}, Nat.le_or_l}}
-use Rattle.std.proofs.lemmas.Simd.{map-map, splat_is_map, tops_compared, zip2_of_maps, zip2_splat}
-use Rattle.std.specs.List.{list_all}
+use Rattle.std.proofs.{Common.{sym, ◌∙◌}, lemmas.Bool.{agree_below, agree_below_at, ne_eqb}}
+use Rattle.std.proofs.lemmas.{Grind.common_steps, Nat.le_or_l, Simd.{map-map, splat_is_map, tops_compared}}
+use Rattle.std.{proofs.lemmas.Simd.{zip2_of_maps, zip2_splat}, specs.List.list_all}
 use mir.Val.{bits, hbits}
 use lib.Lanes.{fold_l, zip2, sel_l, top, Each1}
 use Rattle.crx_text.specs.{Texts.character_of, meaning.Texts.{mark_of, is_kept}}
@@ -58,8 +57,7 @@ character_lanes olds marks first second =
 
 or_none : (a b : ℕ) → eqb (bit_or a b) 0 ≡ (eqb a 0 && eqb b 0)
 or_none zero zero = refl
-or_none (suc a) b = let more = le_or_l (suc a) b in ne_eqb _ 0 (λ e. omega (arith, e, more))
-    ∙ ap (λ t. t && eqb b 0) (sym (ne_eqb (suc a) 0 (λ e. omega (arith, e))))
+or_none (suc a) b = grind (arith, common_steps, le_or_l (suc a) b, ne_eqb)
 or_none zero (suc b) = grind arith
 
 abbrev unset : ℕ → Bool
@@ -76,10 +74,7 @@ none_in_fold (x ∷ xs) a =
     regroup false b c = refl
 
 crossed : (a b c d : Bool) → ((a && b) && (c && d)) ≡ ((a && c) && (b && d))
-crossed false b c d = refl
-crossed true false false d = refl
-crossed true false true d = refl
-crossed true true c d = refl
+crossed = grind (arith, common_steps)
 
 -- no lane is set exactly where none was, and each character passes
 none_more : (q : ℕ → Bool) (f : ℕ → ℕ)
@@ -123,19 +118,16 @@ module _ (v : List ℕ) (long : length v ≡ 16) (others : List ℕ) (same : len
 
   unprintable_each : unprintable v ≡ map too_far v
   unprintable_each =
-      let r = zip2 (λ a b. (a + (256 - b)) % 256) v (replicate 16 32) in
       let r_is = zip2_splat (λ a b. (a + (256 - b)) % 256) v 16 32 long in
       let limit = splat_is_map v 16 94 long in
-      let selected =
-      (λ i. sel_l (lanes_below _ r 94 r_is i) (limit i) (r_is i))
-      ∙ chosen (λ x. top 7 (cond _ 255 0)) (λ _. 94) from_blank v in
+      let selected = (λ i. sel_l (lanes_below _ (zip2 (λ a b. (a + (256 - b)) % 256) v (replicate 16 32)) 94
+      r_is i) (limit i) (r_is i)) ∙ chosen (λ x. top 7 (cond _ 255 0)) (λ _. 94) from_blank v in
       zip2_of_maps (λ a b. (a + (256 - b)) % 256)
       (λ x. cond (top 7 _) 94 (from_blank x)) (λ _. 94) v selected limit
 
   pub printable_lanes : Each1 (Fits w8) v → list_all unset (zip2 bit_or others (unprintable v)) ≡
       (list_all unset others && list_all is_printable v)
-  printable_lanes fits = ap (λ t. list_all unset (zip2 bit_or others t)) unprintable_each
-      ∙ none_more _ too_far refl others v (same ∙ sym long) fits
+  printable_lanes fits = search (rules, list_all, unset, zip2, bit_or, unprintable_each, none_more, too_far)
 
   ampersands_each : sel_l {A = ℕ} (equals v (replicate 16 38)) (replicate 16 255) (replicate 16 0)
       ≡ map (λ x. cond (eqb x 38) 255 0) v

@@ -1,5 +1,4 @@
 -- The test of a field's columns by lanes: what each lane's bit says, and all of them together.
-use Rattle.std.proofs.lemmas.Grind.{common_steps}
 use Rattle.std.proofs.Common.{◌≡◌, ℕ, zero, suc, ◌+◌, ◌-◌, ◌%◌, ◌<◌, Bool, true, false, cond, ◌&&◌, ◌||◌, ltb}
 use Rattle.std.proofs.Common.{eqb, bit_and, bit_or, List, [], ◌∷◌, ◌++◌, map, length, replicate, get_or}
 use Rattle.std.proofs.{Common.{subst, Fits, w8, refl, sym, ◌∙◌, eqb-true, arith}, lemmas.Bool.and_from}
@@ -25,10 +24,6 @@ lane start most before c = eqb (cond (top 7 (bit_and (cond (eqb before 32) 255 0
 
 abbrev pub allowed : ℕ → ℕ → Bool
 allowed before c = is_ascii_digit c || (eqb before 32 && (eqb c 32 || eqb c 45))
-
-chosen : (k : Bool) (f : ℕ) → eqb (cond k 0 f) 0 ≡ (eqb f 0 || k)
-chosen true f = grind (arith, common_steps, eqb)
-chosen false f = grind (arith, common_steps, eqb)
 
 -- the lane of a column before the point
 whole_lane : (before c : ℕ) → c < 256 → lane 48 9 before c ≡ allowed before c

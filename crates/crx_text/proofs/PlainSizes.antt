@@ -1,11 +1,10 @@
 -- The number that a row of lanes weighs, three digits at a time.
-use Rattle.std.proofs.lemmas.Grind.{common_steps}
-use Rattle.std.proofs.Common.{◌≡◌, ℕ, suc, ◌+◌, ◌-◌, ◌*◌, ◌%◌, ◌^◌, ◌<◌, ◌≤◌, Bool, true, false, cond, ◌&&◌}
-use Rattle.std.proofs.Common.{◌||◌, ltb, bit_and, ◌/◌, leb, eqb, List, [], ◌∷◌, ◌++◌, map, length}
-use Rattle.std.proofs.Common.{replicate, get_or, subst, Fits, w8, refl, sym, ◌∙◌, ltb-true, ltb-false}
-use Rattle.std.proofs.{Common.{eqb-true, inl, inr, arith}, Math.Nat.{pow-suc, mul-le-mul_right}}
-use Rattle.std.proofs.lemmas.{Bool.{and_parts, or_cases, leb-true, le-leb}, List.Folds.list_all-append}
-use Rattle.std.{proofs.lemmas.Nat.and_mask, specs.{List.{range_with_len, list_all}, Str.all_ascii_digits}}
+use Rattle.std.proofs.Common.{◌≡◌, ℕ, suc, ◌+◌, ◌-◌, ◌*◌, ◌%◌, ◌^◌, ◌<◌, ◌≤◌, Bool, true, cond, ◌&&◌, ltb}
+use Rattle.std.proofs.Common.{bit_and, ◌/◌, leb, List, [], ◌∷◌, ◌++◌, map, length, replicate, get_or, subst}
+use Rattle.std.proofs.{Common.{Fits, w8, refl, sym, ◌∙◌, ltb-true, ltb-false, arith}, Math.Nat.pow-suc}
+use Rattle.std.proofs.{Math.Nat.mul-le-mul_right, lemmas.Bool.{and_parts, or_cases, leb-true, le-leb}}
+use Rattle.std.proofs.lemmas.{Grind.common_steps, List.Folds.list_all-append, Nat.and_mask}
+use Rattle.std.specs.{List.{range_with_len, list_all}, Str.all_ascii_digits}
 use lib.Lanes.{Each1, pick_l, top, zip2, sel_l, dots}
 use Rattle.crx_text.proofs.{GroupHalves.{wide_of, wide_are_four}, LaneBits.sixteen, PlainLanes.lane_fits}
 use Rattle.crx_text.proofs.{PowersOfTen.digit_range, Sizes.{pos_is_within, neg_is_within}}
@@ -49,13 +48,7 @@ pair_is a b as_small bs_small = grind (arith, common_steps, bit_and, and_mask)
 pub pairs_are : (groups : List ℕ) → length groups ≡ 4 → Each1 (λ group. group < 2 ^ 16) groups
     → joined_pairs groups ≡ (get_or groups 0 0 * 1000 + get_or groups 1 0)
     ∷ (get_or groups 2 0 * 1000 + get_or groups 3 0) ∷ []
-pairs_are [] long small = absurd (omega arith)
-pairs_are (a ∷ []) long small = absurd (omega arith)
-pairs_are (a ∷ b ∷ []) long small = absurd (omega arith)
-pairs_are (a ∷ b ∷ c ∷ []) long small = absurd (omega arith)
-pairs_are (a ∷ b ∷ c ∷ d ∷ []) long small =
-    grind (arith, common_steps, wide_are_four, zip2, bit_and, replicate, pair_is)
-pairs_are (a ∷ b ∷ c ∷ d ∷ e ∷ more) long small = absurd (omega arith)
+pairs_are = grind (arith, common_steps, wide_are_four, zip2, bit_and, replicate, pair_is)
 
 -- three digits, as the weights add them up
 abbrev pub group_of : ℕ → ℕ → ℕ → ℕ → ℕ
@@ -85,48 +78,31 @@ weighed_is_small n [] small = omega arith
 weighed_is_small n (c ∷ cs) small =
     let parts = and_parts _ (list_all (λ c. leb c 57) cs) small in
     let digit : n * 10 + (c - 48) + 1 ≤ (n + 1) * 10 = omega (arith, leb-true _ _ parts.0) in
-    let less = weighed_is_small (n * 10 + (c - 48)) cs parts.1 in
-    let grows =
-    mul-le-mul_right (10 ^ length cs) digit in
+    let grows = mul-le-mul_right (10 ^ length cs) digit in
     let power : 10 ^ suc (length cs) ≡ 10 ^ length cs * 10 = pow-suc 10 (length cs) in
-    rw power (omega (arith, less, grows))
+    rw power (omega (arith, weighed_is_small (n * 10 + (c - 48)) cs parts.1, grows))
 
 digits_are_small : (cs : List ℕ) → all_ascii_digits cs ≡ true → list_all (λ c. leb c 57) cs ≡ true
 digits_are_small [] digits = refl
 digits_are_small (c ∷ cs) digits =
     let parts = and_parts _ _ digits in
-    let range = digit_range c parts.0 in
-    let small = le-leb c 57 (omega (arith, range)) in
-    rw small (digits_are_small cs parts.1)
+    rw (le-leb c 57 (omega (arith, digit_range c parts.0))) (digits_are_small cs parts.1)
 
 plain_is_small : (before : ℕ) (cs : List ℕ) → is_plain_after before cs ≡ true → list_all (λ c. leb c 57) cs
     ≡ true
 plain_is_small before [] plain = refl
 plain_is_small before (c ∷ cs) plain =
-    let parts = and_parts _
-    _ plain in
-    let small = le-leb c 57
-    (elim (or_cases _ _ parts.0) [
-      | inl digit ↦ let range = digit_range c digit in omega (arith, range)
-      | inr sign ↦ elim (or_cases (eqb c 32) (eqb c 45)
-          (and_parts _ (eqb c 32 || eqb c 45) sign).1) [
-            | inl blank ↦ omega (arith, eqb-true _ _ blank)
-            | inr minus ↦ omega (arith, eqb-true _ _ minus)
-          ]
-    ]) in
+    let parts = and_parts _ _ plain in
+    let small = le-leb c 57 (grind (arith, common_steps, or_cases)) in
     rw small (plain_is_small c cs parts.1)
 
 small_explicit : (c : ℕ → ℕ) → IsPlain (map c (range_with_len 0 16))
     → weighed 0 (plain_digits (map c (range_with_len 0 16))) < 10 ^ 12
 small_explicit c plain =
-    let whole =
-    plain_is_small 32 (map c (range_with_len 0 10)) plain.whole in
-    let digits = (and_parts (leb (c 0) 57) _ whole).1 in
-    let fraction =
-    digits_are_small (map c (range_with_len 11 3)) plain.fraction in
     weighed_is_small 0 (plain_digits (map c (range_with_len 0 16)))
     (list_all-append (λ b. leb b 57) (map c (range_with_len 1 9)) (map c (range_with_len 11 3))
-    ∙ (λ k. digits k && fraction k))
+    ∙ (λ k. ((and_parts (leb (c 0) 57) _ (plain_is_small 32 (map c (range_with_len 0 10)) plain.whole)).1) k
+    && (digits_are_small (map c (range_with_len 11 3)) plain.fraction) k))
 
 pub plain_size_is_small : (v : List ℕ) → length v ≡ 16 → IsPlain v → weighed 0 (plain_digits v) < 10 ^ 12
 plain_size_is_small v long =
@@ -135,5 +111,4 @@ plain_size_is_small v long =
 
 pub signed_in_range : (is_below : Bool) (size : ℕ) → size < 10 ^ 12
     → IsWithin 14 (signed_number is_below size)
-signed_in_range true size small = neg_is_within size 14 small
-signed_in_range false size small = pos_is_within size 14 (omega (arith, small))
+signed_in_range = grind (arith, common_steps, neg_is_within, pos_is_within)

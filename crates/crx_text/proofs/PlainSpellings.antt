@@ -1,18 +1,16 @@
 -- What plain columns spell.
-use Rattle.std.proofs.lemmas.Grind.{common_steps}
-use Rattle.std.proofs.Common.{◌≡◌, ◌≢◌, ℕ, ℤ, pos, ◌+◌, ◌-◌, ◌*◌, ◌^◌, true, false, ◌||◌, eqb, Option, Some}
+use Rattle.std.proofs.Common.{rules, ◌≡◌, ◌≢◌, ℕ, ℤ, pos, ◌+◌, ◌-◌, ◌*◌, true, false, ◌||◌, eqb, Option, Some}
 use Rattle.std.proofs.Common.{None, List, [], ◌∷◌, ◌++◌, map, take, length, get_or, subst, refl, sym, ap, ◌∙◌}
 use Rattle.std.proofs.{Common.{inl, inr, eqb-true, arith}, lemmas.Bool.{and_parts, or_cases, cases_eq}}
-use Rattle.std.{proofs.lemmas.Bool.ne_eqb, specs.{Char.is_ascii_digit, List.{list_all, list_any}}}
-use Rattle.std.specs.{List.range_with_len, Option.option_map, Str.all_ascii_digits}
+use Rattle.std.{proofs.lemmas.{Bool.ne_eqb, Grind.common_steps}, specs.{Char.is_ascii_digit, List.list_all}}
+use Rattle.std.specs.{List.{list_any, range_with_len}, Option.option_map, Str.all_ascii_digits}
 use Rattle.std.specs.Str.Parse.{digits_value_after}
-use Rattle.crx_text.proofs.{LaneBits.fourteen, PowersOfTen.{digit_range, digit_value_is, digits_before}}
-use Rattle.crx_text.proofs.{PowersOfTen.digits_value_after-append, ReadBack.{digits_behind, size_of_pieces}}
-use Rattle.crx_text.proofs.{ReadBack.without_first_blanks-text, Sizes.missing_or_number_text}
-use Rattle.crx_text.{proofs.Sizes.{number_of_width, decimal_number_plain}, specs.Fields.IsPlain}
-use Rattle.crx_text.specs.Fields.{is_plain_after, weighed, plain_digits}
-use Rattle.crx_text.specs.meaning.{Columns.without_first_blanks, Numbers.{number_of, missing_or_number}}
-use Rattle.crx_text.specs.meaning.Numbers.{signed_number, size_of}
+use Rattle.crx_text.proofs.PowersOfTen.{digit_range, digit_value_is, digits_before, digits_value_after-append}
+use Rattle.crx_text.specs.{Fields.{IsPlain, is_plain_after, weighed, plain_digits}, meaning.Numbers.number_of}
+use Rattle.crx_text.specs.meaning.Numbers.{missing_or_number, signed_number, size_of}
+use Rattle.crx_text.proofs.ReadBack.{digits_behind, size_of_pieces, without_first_blanks-text}
+use Rattle.crx_text.proofs.Sizes.{missing_or_number_text, number_of_width, decimal_number_plain}
+use Rattle.crx_text.{proofs.LaneBits.fourteen, specs.meaning.Columns.without_first_blanks}
 
 -- ---- blank columns
 
@@ -25,8 +23,7 @@ all_blank (x ∷ xs) ys all =
 pub blank_number : (width decimals : ℕ) (field ys : List ℕ)
     → length field ≡ width → list_all (λ c. eqb c 32) (field ++ ys) ≡ true
     → number_of width decimals field ≡ Some None
-blank_number width decimals field ys long all =
-    number_of_width width _ field long ∙ ap (missing_or_number _) (all_blank field ys all)
+blank_number width decimals field ys long all = search (rules, number_of_width, missing_or_number, all_blank)
 
 -- ---- digits
 
@@ -36,10 +33,9 @@ digits_after before [] other plain = refl
 digits_after before (c ∷ cs) other plain =
     let test = ne_eqb before 32 other in
     let parts = and_parts _ _ plain in
-    let is_digit : is_ascii_digit c ≡ true =
-    elim (or_cases _ _ parts.0) [ inl digit ↦ digit | inr other ↦ absurd (cc) ] in
-    let range = digit_range c is_digit in
-    rw is_digit (digits_after c cs (λ e. omega (arith, range)) parts.1)
+    let is_digit : is_ascii_digit c ≡ true = elim (or_cases _ _ parts.0)
+    [ inl digit ↦ digit | inr other ↦ absurd (cc) ] in
+    rw is_digit (digits_after c cs (λ e. omega (arith, digit_range c is_digit)) parts.1)
 
 pub weighed_digits : (n : ℕ) (ds : List ℕ) → all_ascii_digits ds ≡ true
     → weighed n ds ≡ digits_value_after 10 n ds
@@ -53,21 +49,13 @@ no_minus : (ds : List ℕ) → all_ascii_digits ds ≡ true → list_any (λ c. 
 no_minus [] digits = refl
 no_minus (c ∷ cs) digits =
     let parts = and_parts _ _ digits in
-    let range = digit_range c parts.0 in
-    let test = ne_eqb c 45 (λ e. omega (arith, range)) in
-    rw test (no_minus cs parts.1)
+    rw (ne_eqb c 45 (λ e. omega (arith, digit_range c parts.0))) (no_minus cs parts.1)
 
 digits_decimal : (decimals : ℕ) (whole fraction : List ℕ)
     → all_ascii_digits whole ≡ true → all_ascii_digits fraction ≡ true → length fraction ≡ decimals
     → size_of decimals (whole ++ 46 ∷ fraction) ≡ Some (weighed 0 (whole ++ fraction))
 digits_decimal decimals whole fraction first then three =
-    let w = digits_value_after 10 0 whole in
-    let f = digits_value_after 10 0 fraction in
-    let joined =
-    weighed_digits 0 (whole ++ fraction) (digits_before whole fraction first ∙ then)
-    ∙ (digits_value_after-append 0 whole fraction ∙ digits_behind w _) in
-    let power = ap (λ n. w * 10 ^ n + f) three in
-    size_of_pieces _ w f whole _ three first then refl refl ∙ ap Some (sym (joined ∙ power))
+    search (rules, weighed_digits, digits_before, digits_value_after-append, digits_behind, size_of_pieces)
 
 -- ---- a number after its blanks
 
@@ -130,16 +118,14 @@ plain_explicit : (c : ℕ → ℕ) (rest : List ℕ) → IsPlain (map c (range_w
     → number_of 14 3 (map c (range_with_len 0 14))
     ≡ Some (Some (number_in (map c (range_with_len 0 14) ++ rest)))
 plain_explicit c rest plain =
-    let whole = map c (range_with_len 0 10) in
     let fraction = map c (range_with_len 11 3) in
     let one = and_parts (is_ascii_digit (c 11)) _ plain.fraction in
     let two = and_parts (is_ascii_digit (c 12)) _ one.1 in
     let three = and_parts (is_ascii_digit (c 13)) _ two.1 in
-    let reads = decimal_whole 3 fraction whole plain.fraction refl plain.whole in
     let first : 0 * 10 + (c 0 - 48) ≡ 0 = first_weighs_nothing (c 0) plain.first in
     number_of_width 14 3 (map c (range_with_len 0 14)) refl
     ∙ (rw (plain.point, not_minus (c 11) one.0, not_minus (c 12) two.0, not_minus (c 13) three.0)
-    (rw first at reads))
+    (rw first at (decimal_whole 3 fraction (map c (range_with_len 0 10)) plain.fraction refl plain.whole)))
 
 -- a field, and lanes after it
 pub plain_number : (field rest : List ℕ) → length field ≡ 14

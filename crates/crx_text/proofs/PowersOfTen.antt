@@ -1,9 +1,8 @@
 -- Numbers that grow digit by digit, and the powers of ten that bound them.
-use Rattle.std.proofs.lemmas.Grind.{common_steps}
-use Rattle.std.proofs.Common.{pow-add, true, List, [], ◌∷◌, ◌++◌, length, drop, get_or, ◌≡◌, ℕ, suc, ◌+◌, ◌-◌}
-use Rattle.std.proofs.{Common.{◌*◌, ◌<◌, ◌≤◌, ◌^◌, arith, refl, ap, ◌∙◌}, Math.Nat.{pow-suc, one-le-pow}}
-use Rattle.std.proofs.{Math.Nat.{mul-le-mul_right, pow-le-pow_right}, lemmas.Bool.and_parts}
-use Rattle.std.{proofs.lemmas.{Bool.Decides.nat_tests, List.drop_more}, specs.Char.digit_value}
+use Rattle.std.proofs.{lemmas.Grind.common_steps, Common.{pow-add, true, List, [], ◌∷◌, ◌++◌, length, drop}}
+use Rattle.std.proofs.Common.{get_or, ◌≡◌, ℕ, suc, ◌+◌, ◌-◌, ◌*◌, ◌<◌, ◌≤◌, ◌^◌, arith, refl, ap, ◌∙◌}
+use Rattle.std.proofs.Math.Nat.{pow-suc, one-le-pow, mul-le-mul_right, pow-le-pow_right}
+use Rattle.std.{proofs.lemmas.{Bool.{and_parts, Decides.nat_tests}, List.drop_more}, specs.Char.digit_value}
 use Rattle.std.specs.{Char.is_ascii_digit, Int.IsInRange, Str.{all_ascii_digits, Parse.digits_value_after}}
 
 pub ten_pow_pos : (k : ℕ) → 1 ≤ 10 ^ k
@@ -37,8 +36,7 @@ all_digits_next ds i within is_digit = rw (drop_more ds i 0 within, is_digit) re
 pub digits_value_next : (ds : List ℕ) (i size : ℕ) → i < length ds → is_ascii_digit (get_or ds i 0) ≡ true
     → digits_value_after 10 (size * 10 + (get_or ds i 0 - 48)) (drop (i + 1) ds) ≡ digits_value_after 10 size
     (drop i ds)
-digits_value_next ds i size within is_digit =
-    grind (arith, common_steps, drop_more, digits_value_after, digit_value_is)
+digits_value_next ds i size within is_digit = grind (arith, common_steps, digit_value_is)
 
 -- the number that digits write is that of the first ones, continued from
 pub digits_value_after-append : (n : ℕ) (xs ys : List ℕ)
@@ -60,22 +58,17 @@ pub value_small : (size : ℕ) (ds : List ℕ)
 value_small size [] digits = omega arith
 value_small size (c ∷ cs) digits =
     let parts = and_parts _ _ digits in
-    let range = digit_range c parts.0 in
-    let value = digit_value_is c parts.0 in
-    let next : size * 10 + digit_value c + 1 ≤ (size + 1) * 10 = omega (arith, value, range) in
-    let less = value_small (size * 10 + digit_value c) cs parts.1 in
-    let grows =
-    mul-le-mul_right (10 ^ length cs) next in
+    let next : size * 10 + digit_value c + 1 ≤ (size + 1) * 10 =
+    omega (arith, (digit_value_is c parts.0), (digit_range c parts.0)) in
+    let grows = mul-le-mul_right (10 ^ length cs) next in
     let power : 10 ^ suc (length cs) ≡ 10 ^ length cs * 10 = pow-suc 10 (length cs) in
-    rw power (omega (arith, less, grows))
+    rw power (omega (arith, value_small (size * 10 + digit_value c) cs parts.1, grows))
 
 -- a number of some digits, and as many more digits
 pub more_digits_fit : (size a b n : ℕ) → size < 1 * 10 ^ a → a + b ≤ n → (size + 1) * 10 ^ b ≤ 10 ^ n
 more_digits_fit size a b n small few =
     let grows : (size + 1) * 10 ^ b ≤ 10 ^ a * 10 ^ b = mul-le-mul_right (10 ^ b) (omega (arith, small)) in
-    let joined = pow-add 10 a b in
-    let power = pow-le-pow_right {n = 10} (omega arith) few in
-    omega (arith, grows, joined, power)
+    omega (arith, grows, pow-add 10 a b, pow-le-pow_right {n = 10} (omega arith) few)
 
 -- a number of so many digits, where more may be
 pub small_number : (size count limit : ℕ) → count ≤ limit → size < 10 ^ count → size < 10 ^ limit

@@ -47,11 +47,10 @@ decimal_of_digits d [] digits fits = grind (arith, common_steps, and_parts, ltb-
 decimal_of_digits zero (e ∷ ds) digits fits = decimal_of_digits e ds digits fits
 decimal_of_digits (suc d) (e ∷ ds) digits fits =
     let parts = and_parts _ _ digits in
-    let small = ltb-true _ _ parts.0 in
     let test = ne_eqb (suc d) 0 (λ z. omega arith) in
     let same : 0 * 10 + suc d ≡ suc d = omega arith in
     let more = decimal_more (suc d) (e ∷ ds) (omega arith) parts.1 (rw same at fits) in
-    rw (same, test) (more ∙ ap (λ t. t ++ glyphs (e ∷ ds)) (decimal_digit (suc d) small))
+    rw (same, test) (more ∙ ap (λ t. t ++ glyphs (e ∷ ds)) (decimal_digit (suc d) (ltb-true _ _ parts.0)))
 
 pub zeros_few : (ds : List ℕ) → leading_zeros ds ≤ length ds - 1
 zeros_few [] = omega arith

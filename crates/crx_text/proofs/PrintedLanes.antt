@@ -1,13 +1,11 @@
 -- The lanes of a printed observation: three digits of each group, and where the number begins.
-use Rattle.std.proofs.lemmas.Grind.{common_steps}
-use Rattle.std.proofs.Common.{◌≡◌, ℕ, zero, suc, ◌+◌, ◌-◌, ◌*◌, ◌/◌, ◌%◌, ◌^◌, ◌<◌, ◌≤◌, Bool, true, false}
-use Rattle.std.proofs.Common.{not, cond, bit_and, leb, eqb, List, [], ◌∷◌, ◌++◌, map, length, replicate, take}
-use Rattle.std.proofs.Common.{drop, get_or, subst, refl, sym, ap, ◌∙◌, eqb-true, arith}
-use Rattle.std.proofs.lemmas.{Bool.{agree_below_at, le-leb, ne_eqb, Decides.nat_tests}, Nat.and_mask}
-use Rattle.std.{proofs.lemmas.Simd.{trailing_mask_l, mask_l-mod, pick_l_whole}, specs.List.range_with_len}
-use Rattle.std.specs.List.{prefix_len}
-use lib.Count.{count_trailing_zeros}
-use lib.Lanes.{Each1, chunk, mask_l, pick_l, top, zip2, digits_l, number_l}
+use Rattle.std.proofs.Common.{rules, ◌≡◌, ℕ, zero, suc, ◌+◌, ◌-◌, ◌*◌, ◌/◌, ◌%◌, ◌^◌, ◌<◌, ◌≤◌, Bool, true}
+use Rattle.std.proofs.Common.{false, not, cond, bit_and, leb, eqb, List, [], ◌∷◌, ◌++◌, map, length}
+use Rattle.std.proofs.Common.{replicate, take, drop, get_or, subst, refl, sym, ap, ◌∙◌, eqb-true, arith}
+use Rattle.std.proofs.lemmas.{Bool.{agree_below_at, le-leb, ne_eqb, Decides.nat_tests}, Grind.common_steps}
+use Rattle.std.proofs.lemmas.{Nat.and_mask, Simd.{trailing_mask_l, mask_l-mod, pick_l_whole}}
+use Rattle.std.specs.List.{range_with_len, prefix_len}
+use lib.{Count.count_trailing_zeros, Lanes.{Each1, chunk, mask_l, pick_l, top, zip2, digits_l, number_l}}
 use Rattle.crx_text.proofs.{LaneBits.{sixteen, no_bit, top_lane}, PrintedDigits.leading_zeros}
 use Rattle.crx_text.specs.FieldTexts.{group_digits}
 
@@ -25,8 +23,7 @@ abbrev digits_word : ℕ → ℕ
 digits_word g = g % 10 + g / 10 % 10 * 256 + g / 100 * 65536
 
 word_is : (g : ℕ) → g < 1000 → group_word g ≡ digits_word g
-word_is g small =
-    grind (arith, common_steps, bit_and, and_mask, small_word, eqb-true, agree_below_at, eqb, digits_word)
+word_is g small = grind (arith, common_steps, bit_and, and_mask, eqb-true, agree_below_at, eqb)
 
 next_group : (n g y : ℕ) → g < 1000 → digits_l 256 (suc (suc (suc (suc n)))) (group_word g + 2 ^ 32 * y)
     ≡ g % 10 ∷ g / 10 % 10 ∷ g / 100 ∷ 0 ∷ digits_l 256 n y
@@ -39,8 +36,7 @@ quadruple (suc n) = suc (suc (suc (suc (quadruple n))))
 digits_of_groups : (gs : List ℕ) → Each1 (λ g. g < 1000) gs
     → digits_l 256 (quadruple (length gs)) (number_l (2 ^ 32) (map group_word gs)) ≡ group_digits gs
 digits_of_groups [] small = refl
-digits_of_groups (g ∷ gs) small =
-    next_group _ g _ small.0 ∙ ap (λ t. g % 10 ∷ g / 10 % 10 ∷ g / 100 ∷ 0 ∷ t) (digits_of_groups gs small.1)
+digits_of_groups (g ∷ gs) small = grind (arith, common_steps, next_group, digits_of_groups gs small.1)
 
 -- the words as the code makes them of the groups
 abbrev pub words_of : List ℕ → List ℕ
@@ -77,8 +73,7 @@ one_more n = omega arith
 begins : (before : List ℕ) (d : ℕ) (bits : List Bool)
     → prefix_len (λ b. not b) (map (leb 1) before ++ true ∷ bits) ≡ leading_zeros (before ++ d ∷ [])
 begins [] d bits = refl
-begins (x ∷ []) d bits =
-    grind (arith, common_steps, prefix_len, not, leb, leading_zeros, one_more, begins_here, begins_now)
+begins (x ∷ []) d bits = search (rules, prefix_len, leb, leading_zeros, one_more, begins_here, begins_now)
 begins (x ∷ y ∷ ys) d bits = go x (begins (y ∷ ys) d bits)
   where
     go : (z : ℕ) → prefix_len (λ b. not b) (map (leb 1) (y ∷ ys) ++ true ∷ bits) ≡ leading_zeros

@@ -1,10 +1,9 @@
 -- From the row of text to the text of a size.
-use Rattle.std.proofs.lemmas.Grind.{common_steps}
-use Rattle.std.proofs.Common.{◌≡◌, ℕ, zero, suc, ◌+◌, ◌-◌, ◌/◌, ◌%◌, ◌^◌, ◌<◌, true, false}
-use Rattle.std.proofs.Common.{eqb, List, [], ◌∷◌, ◌++◌, length, replicate, take, drop, refl, sym, ap, ◌∙◌}
-use Rattle.std.proofs.{Common.{append_assoc, length-append, ltb-true, arith}, lemmas.Bool.{and_parts, ne_eqb}}
-use Rattle.std.proofs.lemmas.List.{length-map, length-drop, length-replicate, take_at, drop_at}
-use Rattle.std.proofs.lemmas.List.{replicate-append-replicate}
+use Rattle.std.proofs.Common.{rules, ◌≡◌, ℕ, zero, suc, ◌+◌, ◌-◌, ◌/◌, ◌%◌, ◌^◌, ◌<◌, true, List, [], ◌∷◌}
+use Rattle.std.proofs.Common.{◌++◌, length, replicate, take, drop, refl, sym, ap, ◌∙◌, append_assoc}
+use Rattle.std.proofs.{Common.{length-append, ltb-true, arith}, lemmas.Bool.{and_parts, ne_eqb}}
+use Rattle.std.proofs.lemmas.{Grind.common_steps, List.{length-map, length-drop, length-replicate, take_at}}
+use Rattle.std.proofs.lemmas.List.{drop_at, replicate-append-replicate}
 use lib.Lanes.{zip2}
 use Rattle.crx_text.proofs.PrintedDigits.{written, are_digits, glyphs, decimal_of_digits, padded_digits}
 use Rattle.crx_text.{proofs.PrintedDigits.{leading_zeros, zeros_few}, specs.meaning.Numbers.size_text}
@@ -42,8 +41,7 @@ module _ (three : List ℕ) (short : length three ≡ 3) (three_digits : are_dig
   full_row : (ds : List ℕ) → are_digits ds ≡ true
       → plus (ds ++ behind three) (replicate (length ds + 6) 48) ≡ glyphs ds ++ printed_behind three
   full_row ds digits =
-      let bases =
-      sym (replicate-append-replicate (length ds) 6 48) ∙ ap
+      let bases = sym (replicate-append-replicate (length ds) 6 48) ∙ ap
       (λ n. replicate (length ds) 48 ++ (48 ∷ (replicate n 48 ++ (48 ∷ 48 ∷ [])))) (sym short) in
       ap (plus _) bases ∙ plus_digits ds _ _ digits ∙ ap (λ t. glyphs ds ++ (46 ∷ t))
       (plus_digits three _ _ three_digits)
@@ -58,10 +56,7 @@ module _ (three : List ℕ) (short : length three ≡ 3) (three_digits : are_dig
       let count : length (zero ∷ e ∷ ds) + 6 - suc (leading_zeros (e ∷ ds))
       ≡ length (e ∷ ds) + 6 - leading_zeros (e ∷ ds) = omega arith in
       rw count (ap (λ (t : List ℕ). 32 ∷ t) (spaced_row (e ∷ ds) digits))
-  spaced_row (suc d ∷ e ∷ ds) digits =
-      let test : eqb (suc d) 0 ≡ false = ne_eqb (suc d) 0 (λ z. omega arith) in
-      let count : length (suc d ∷ e ∷ ds) + 6 - 0 ≡ length (suc d ∷ e ∷ ds) + 6 = omega arith in
-      rw (test, count) (full_row (suc d ∷ e ∷ ds) digits)
+  spaced_row (suc d ∷ e ∷ ds) digits = grind (arith, common_steps, ne_eqb, full_row (suc d ∷ e ∷ ds) digits)
 
 module _ (nine three : List ℕ) (long : length nine ≡ 9)
     (short : length three ≡ 3) (nine_digits : are_digits nine ≡ true)
@@ -79,21 +74,11 @@ module _ (nine three : List ℕ) (long : length nine ≡ 9)
       (append_assoc (replicate zeros 32) (printed nine three) (48 ∷ 48 ∷ []))))
 
   pub printed_length : length (printed nine three) ≡ 13 - leading_zeros nine
-  printed_length =
-      grind (arith, common_steps, zeros_few, length-append, glyphs, leading_zeros, length-map, length-drop)
+  printed_length = search (rules, zeros_few, length-append, glyphs, leading_zeros, length-map, length-drop)
 
   pub row_cut : take 14 ((replicate (1 + leading_zeros nine) 32 ++ printed nine three) ++ (48 ∷ 48 ∷ []))
       ≡ replicate (1 + leading_zeros nine) 32 ++ printed nine three
-  row_cut =
-      let few = zeros_few nine in
-      take_at _ _ 14 (omega (
-        arith,
-        length-append (replicate (1 + leading_zeros nine) 32) (printed nine three),
-        length-replicate {A = ℕ} (1 + leading_zeros nine) 32,
-        printed_length,
-        few,
-        long,
-      ))
+  row_cut = take_at _ _ 14 (grind (arith, common_steps, replicate, printed_length, zeros_few, long))
 
 -- ---- the digits of a size
 

@@ -1,31 +1,26 @@
 -- What is printed is read back.
-use Rattle.std.proofs.Common.{true, ℕ, ℤ, pos, negsuc, neg_ℤ, suc, zero, ◌≡◌, ◌≢◌, ◌+◌, ◌-◌, ◌*◌, ◌/◌, ◌%◌}
-use Rattle.std.proofs.Common.{◌<◌, ◌≤◌, ◌^◌, List, [], ◌∷◌, ◌++◌, length, drop, take, get_or, replicate}
-use Rattle.std.proofs.{Common.{decimal, Option, Some, None, arith, refl, ap, sym, ◌∙◌}, Math.Nat.pow-suc}
-use Rattle.std.proofs.{Math.Nat.{mod-lt, div-le_self}, lemmas.Fmt.{decimal_is_IsNumeral, digits_decimal}}
-use Rattle.std.proofs.lemmas.{Fmt.{first_decimal, decimal_nonempty, decimal_digit}, Int.ints}
-use Rattle.std.proofs.lemmas.List.{length-append, length-replicate, append_assoc, take_at, drop_at, get_or_at}
-use Rattle.std.proofs.lemmas.{List.{get_or_append_left, append-nil}, Nat.div-add-mod'}
-use Rattle.std.proofs.lemmas.Str.Parse.{IsNumeralModel, numerals_by_value, tells_all_ascii_digits}
-use Rattle.std.specs.{Char.digit_value, Option.{option_map, ForSome}, Str.all_ascii_digits}
-use Rattle.std.specs.Str.Parse.{digits_value, digits_value_after}
-use Rattle.crx_text.proofs.{PowersOfTen.ten_pow_pos, Sizes.{size_of_parts, decimal_number_plain}}
-use Rattle.crx_text.proofs.Sizes.{decimal_number_minus, missing_or_number_text, number_of_width}
+use Rattle.std.proofs.Common.{rules, true, ℕ, ℤ, pos, negsuc, neg_ℤ, suc, zero, ◌≡◌, ◌≢◌, ◌+◌, ◌-◌, ◌*◌, ◌<◌}
+use Rattle.std.proofs.Common.{◌≤◌, ◌^◌, List, [], ◌∷◌, ◌++◌, length, get_or, replicate, decimal, Option, Some}
+use Rattle.std.proofs.{Common.{None, arith, refl, ap, ◌∙◌}, Math.Nat.{pow-suc, div-le_self}}
+use Rattle.std.proofs.lemmas.Fmt.{decimal_is_IsNumeral, digits_decimal, first_decimal, decimal_nonempty}
+use Rattle.std.proofs.lemmas.{Fmt.decimal_digit, Grind.common_steps, Int.ints, List.get_or_at}
+use Rattle.std.proofs.lemmas.{Nat.div-add-mod', Str.Parse.{IsNumeralModel, numerals_by_value}}
+use Rattle.std.{proofs.lemmas.Str.Parse.tells_all_ascii_digits, specs.{Char.digit_value, Option.option_map}}
+use Rattle.std.specs.{Option.ForSome, Str.{all_ascii_digits, Parse.{digits_value, digits_value_after}}}
+use Rattle.crx_text.proofs.Sizes.{size_of_parts, decimal_number_plain, decimal_number_minus, number_of_width}
 use Rattle.crx_text.proofs.Spellings.{fraction_short, length-zero_padded, length-size_text, size_text_fits}
 use Rattle.crx_text.proofs.Spellings.{ten_pow_small, abs_within, abs_within_below}
 use Rattle.crx_text.specs.meaning.{Columns.without_first_blanks, Numbers.{IsWithin, number_of, number_text}}
-use Rattle.crx_text.specs.meaning.Numbers.{size_of, size_text, zero_padded, right_justified, decimal_number}
-use Rattle.crx_text.specs.meaning.Numbers.{missing_or_number}
+use Rattle.crx_text.specs.meaning.Numbers.{size_of, size_text, right_justified, decimal_number}
 
 -- the digits that are after a number
 pub digits_behind : (n : ℕ) (ds : List ℕ) → digits_value_after 10 n ds
     ≡ n * 10 ^ length ds + digits_value_after 10 0 ds
 digits_behind n [] = omega arith
 digits_behind n (c ∷ cs) =
-    let left = digits_behind (n * 10 + digit_value c) cs in
     let right = digits_behind (0 * 10 + digit_value c) cs in
     let power : 10 ^ suc (length cs) ≡ 10 ^ length cs * 10 = pow-suc 10 (length cs) in
-    rw power (omega (arith, left, right))
+    rw power (omega (arith, digits_behind (n * 10 + digit_value c) cs, right))
 
 pub digits_own : IsNumeralModel (λ ds. all_ascii_digits ds ≡ true) (digits_value 10)
 digits_own = numerals_by_value (λ ds. all_ascii_digits ds ≡ true) tells_all_ascii_digits
@@ -52,43 +47,30 @@ pub size_of_pieces : (decimals w f : ℕ) (whole fraction : List ℕ) → length
     → digits_value_after 10 0 fraction ≡ f → size_of decimals (whole ++ 46 ∷ fraction)
     ≡ Some (w * 10 ^ decimals + f)
 size_of_pieces decimals w f whole fraction count whole_digits fraction_digits whole_is fraction_is =
-    let text = whole ++ 46 ∷ fraction in
-    let long : length text
-    ≡ length whole + suc decimals = omega (arith, length-append whole (46 ∷ fraction), count) in
-    let dot : get_or text (length whole) 0 ≡ 46 = get_or_at whole 46 fraction 0 (length whole) refl in
-    let front : take (length whole) text ≡ whole = take_at whole (46 ∷ fraction) (length whole) refl in
-    let split : text ≡ (whole ++ 46 ∷ []) ++ fraction = sym (append_assoc whole (46 ∷ []) fraction) in
-    let back : drop (length whole + 1) text ≡ fraction = ap (drop (length whole + 1)) split ∙ drop_at
-    (whole ++ 46 ∷ []) fraction (length whole + 1) (length-append whole (46 ∷ [])) in
-    let value : digits_value_after 10 (digits_value_after 10 0 whole) fraction ≡ w * 10 ^ decimals + f =
-    digits_behind (digits_value_after 10 0 whole) fraction ∙ (rw (whole_is, count, fraction_is) refl) in
-    size_of_parts decimals (length whole) text (omega arith) (omega arith) dot
-    ∙ (rw (front, back, whole_digits, fraction_digits, value) refl)
+    grind (arith, common_steps, get_or_at, digits_value_after, digits_behind, size_of_parts)
 
 -- a size is read back from its text
 pub size_of-size_text : (decimals size : ℕ)
     → 0 < decimals → decimals < 19 → size < 2 ^ 64 → size_of decimals (size_text decimals size) ≡ Some size
 size_of-size_text decimals size some few small =
-    let unit : ℕ = 10 ^ _ in
-    let one = ten_pow_pos _ in
-    let bound = ten_pow_small decimals few in
-    let rest_small : size % unit < 2 ^ 64 = let below : size % unit < unit = mod-lt size one in
-    omega (arith, below, bound) in
-    let whole_small : size / unit < 2 ^ 64 = let less : size / unit ≤ size = div-le_self size unit in
-    omega (arith, less, small) in
-    let short = fraction_short decimals size some few in
-    let sum : size / unit * unit + size % unit ≡ size = div-add-mod' size unit in
-    let pieces = size_of_pieces decimals (size / unit) _ _ _ (length-zero_padded _ _ short)
-    (decimal_is_digits _ whole_small) (zeros_are_digits (decimals - length _) (decimal _)
-    (decimal_is_digits _ rest_small)) (decimal_weighs _ whole_small)
-    (zeros_weigh_nothing (decimals - length _) (decimal _) ∙ decimal_weighs _ rest_small) in
-    pieces ∙ ap Some sum
+    search (
+      rules,
+      div-le_self,
+      fraction_short,
+      div-add-mod',
+      size_of_pieces,
+      length-zero_padded,
+      decimal_is_digits,
+      zeros_are_digits,
+      decimal,
+      decimal_weighs,
+      zeros_weigh_nothing,
+    )
 
 -- ---- the field
 
 pub without_first_blanks-text : (text : List ℕ) → get_or text 0 0 ≢ 32 → without_first_blanks text ≡ text
-without_first_blanks-text [] other = refl
-without_first_blanks-text (c ∷ cs) other = grind arith
+without_first_blanks-text = grind (arith, common_steps)
 
 pub without_first_blanks-blanks : (k : ℕ) (text : List ℕ)
     → get_or text 0 0 ≢ 32 → without_first_blanks (replicate k 32 ++ text) ≡ text
@@ -97,41 +79,30 @@ without_first_blanks-blanks (suc k) text other = without_first_blanks-blanks k t
 
 -- the first digit
 pub decimal_first : (n : ℕ) → n < 2 ^ 64 → 48 ≤ get_or (decimal n) 0 0
-decimal_first zero small = let e = decimal_digit 0 (omega arith) in rw e (omega arith)
-decimal_first (suc n) small = let first = first_decimal (suc n) (omega arith) small in omega (arith, first)
+decimal_first = grind (arith, common_steps, decimal_digit, first_decimal)
 
 pub size_text_first : (decimals size : ℕ) → size < 2 ^ 64 → 48 ≤ get_or (size_text decimals size) 0 0
 size_text_first decimals size small =
-    let whole_small : size / 10 ^ decimals < 2 ^ 64 = let less : size / 10 ^ decimals ≤ size =
-    div-le_self size (10 ^ decimals) in omega (arith, less, small) in
-    let some = decimal_nonempty (size / 10 ^ decimals) whole_small in
-    let same : get_or (size_text decimals size) 0 0 ≡ get_or (decimal (size / 10 ^ decimals)) 0 0 =
-    get_or_append_left (decimal (size / 10 ^ decimals))
-    (46 ∷ zero_padded decimals (size % 10 ^ decimals)) 0 0 some in
-    rw same (decimal_first (size / 10 ^ decimals) whole_small)
+    grind (arith, common_steps, div-le_self, decimal_nonempty, decimal, decimal_first)
 
 -- a text after its blanks, in a field that it fills
 pub number_of-right_justified : (width decimals : ℕ) (text : List ℕ) (number : ℤ)
     → length text ≤ width → 0 < length text → get_or text 0 0 ≢ 32 → decimal_number decimals text ≡ Some
     number → number_of width decimals (right_justified width text) ≡ Some (Some number)
 number_of-right_justified width decimals text number fits some other reads =
-    let filled : length _ ≡ width = simp (length-append, length-replicate) (omega arith) in
-    number_of_width width _ _ filled
-    ∙ (ap (missing_or_number _) (without_first_blanks-blanks (width - length text) text other)
-    ∙ (missing_or_number_text decimals text some ∙ ap (option_map Some) reads))
+    grind (arith, common_steps, number_of_width, without_first_blanks-blanks)
 
 pub number_of-number_text_plain : (width decimals size : ℕ)
     → 0 < decimals → decimals + 3 ≤ width → width ≤ 19 → size < 10 ^ (width - 1)
     → number_of width decimals (number_text width decimals (Some (pos size))) ≡ Some (Some (pos size))
 unfolding number_text
 number_of-number_text_plain width decimals size some room few small =
-    let bound = ten_pow_small (width - 1) (omega arith) in
-    let tiny : size < 2 ^ 64 = omega (arith, small, bound) in
+    let tiny : size < 2 ^ 64 = omega (arith, small, ten_pow_small (width - 1) (omega arith)) in
     let first = size_text_first decimals size tiny in
     let fits = size_text_fits decimals size width some (omega (arith, room)) few small in
     let long = length-size_text decimals size some (omega arith) in
-    let reads : decimal_number decimals (size_text decimals size) ≡ Some (pos size) =
-    decimal_number_plain decimals (size_text decimals size) (omega (arith, first))
+    let reads : decimal_number decimals (size_text decimals size) ≡ Some (pos size) = decimal_number_plain
+    decimals (size_text decimals size) (omega (arith, first))
     ∙ ap (option_map pos) (size_of-size_text decimals size some (omega arith) tiny) in
     number_of-right_justified width decimals
     (size_text decimals size) (pos size) fits (omega (arith, long)) (omega (arith, first)) reads
@@ -141,14 +112,12 @@ pub number_of-number_text_minus : (width decimals less : ℕ)
     → number_of width decimals (number_text width decimals (Some (negsuc less))) ≡ Some (Some (negsuc less))
 unfolding number_text
 number_of-number_text_minus width decimals less some room few small =
-    let bound = ten_pow_small (width - 1 - 1) (omega arith) in
-    let tiny : less + 1 < 2 ^ 64 = omega (arith, small, bound) in
+    let tiny : less + 1 < 2 ^ 64 = omega (arith, small, ten_pow_small (width - 1 - 1) (omega arith)) in
     let fits = size_text_fits decimals (less + 1) (width - 1) some (omega (arith, room))
     (omega (arith, few)) small in
     let text = 45 ∷ size_text decimals _ in
     let negated : neg_ℤ (pos _) ≡ negsuc less = omega (arith, ints) in
-    let reads =
-    decimal_number_minus _ text refl ∙ (ap (option_map (λ n. neg_ℤ (pos n)))
+    let reads = decimal_number_minus _ text refl ∙ (ap (option_map (λ n. neg_ℤ (pos n)))
     (size_of-size_text _ _ some (omega arith) tiny) ∙ ap Some negated) in
     number_of-right_justified width decimals text
     (negsuc less) (omega (arith, fits, room)) (omega arith) (omega arith) reads
@@ -157,9 +126,7 @@ pub number_of-number_text_blank : (width decimals : ℕ)
     → number_of width decimals (number_text width decimals None) ≡ Some None
 unfolding number_text
 number_of-number_text_blank width decimals =
-    let blank : without_first_blanks (replicate width 32) ≡ [] = ap without_first_blanks
-    (sym (append-nil (replicate width 32))) ∙ without_first_blanks-blanks width [] (omega arith) in
-    number_of_width width _ _ (length-replicate width 32) ∙ ap (missing_or_number decimals) blank
+    grind (arith, common_steps, without_first_blanks-blanks width [] (omega arith), number_of_width)
 
 -- what is printed is read back, at any width
 pub number_of-number_text : (width decimals : ℕ) (value : Option ℤ) → 0 < decimals → decimals + 3 ≤ width
@@ -168,8 +135,7 @@ pub number_of-number_text : (width decimals : ℕ) (value : Option ℤ) → 0 < 
     ≡ Some value
 number_of-number_text width decimals None some room few within = number_of-number_text_blank width decimals
 number_of-number_text width decimals (Some (pos n)) some room few within =
-    number_of-number_text_plain width decimals n some room few
-    (abs_within width (pos n) (within (pos n) refl))
+    grind (arith, common_steps, number_of-number_text_plain, abs_within width (pos n) (within (pos n) refl))
 number_of-number_text width decimals (Some (negsuc n)) some room few within =
     number_of-number_text_minus width decimals n some room few
     (let small = abs_within_below width (negsuc n) refl (within (negsuc n) refl) in omega (arith, small))

@@ -1,10 +1,8 @@
 -- The spellings of a number without its sign: what reading them asks for.
-use Rattle.std.proofs.lemmas.Grind.{common_steps}
 use Rattle.std.proofs.Common.{ℤ, pos, neg_ℤ, ◌≡◌, ℕ, ◌+◌, ◌-◌, ◌<◌, ◌≤◌, ◌^◌, Bool, true, false, ◌&&◌, ◌≢◌}
-use Rattle.std.proofs.Common.{if◌then◌else◌, nat_lt, Option, Some, None, List, [], ◌∷◌, length}
-use Rattle.std.proofs.{Common.{drop, take, get_or, arith, refl, sym}, Math.Nat.pow-le-pow_right}
-use Rattle.std.{specs.Option.option_map}
-use Rattle.std.specs.Str.{all_ascii_digits, Parse.{digits_value, digits_value_after}}
+use Rattle.std.proofs.Common.{if◌then◌else◌, nat_lt, Option, Some, None, List, length, drop, take, get_or}
+use Rattle.std.proofs.{Common.{arith, sym}, Math.Nat.pow-le-pow_right, lemmas.Grind.common_steps}
+use Rattle.std.specs.{Option.option_map, Str.{all_ascii_digits, Parse.{digits_value, digits_value_after}}}
 use Rattle.crx_text.proofs.PowersOfTen.{ten_pow_pos, digits_value_after-append}
 use Rattle.crx_text.specs.meaning.{Columns.without_first_blanks, Numbers.{size_of, decimal_number}}
 use Rattle.crx_text.specs.meaning.Numbers.{missing_or_number, number_of, signed_number, IsWithin}
@@ -29,26 +27,22 @@ size_of_parts decimals point text at long dot =
 -- a choice of two tests after the first one
 pub neither : (a b : Bool) (x y : ℕ) → ◌≡◌ {A = Option ℕ} None (if a then Some x else None)
     → ◌≡◌ {A = Option ℕ} (if a && b then Some y else None) None
-neither true b x y e = absurd (cc)
-neither false b x y e = refl
+neither = grind (arith, common_steps)
 
 pub first_passed : (a b : Bool) (x w : ℕ) (f : ℕ → ℕ)
     → Some w ≡ (if a then Some x else None) → (if a && b then Some (f x) else None)
     ≡ (if b then Some (f w) else None)
-first_passed true b x w f e = let same : w ≡ x = cc in rw same refl
-first_passed false b x w f e = absurd (cc)
+first_passed = grind (arith, common_steps)
 
 -- ---- the sign
 
 pub decimal_number_plain : (decimals : ℕ) (text : List ℕ)
     → get_or text 0 0 ≢ 45 → decimal_number decimals text ≡ option_map pos (size_of decimals text)
-decimal_number_plain decimals [] other = refl
-decimal_number_plain decimals (c ∷ cs) other = grind arith
+decimal_number_plain = grind (arith, common_steps)
 
 pub decimal_number_minus : (decimals : ℕ) (text : List ℕ) → get_or text 0 0 ≡ 45
     → decimal_number decimals text ≡ option_map (λ n. neg_ℤ (pos n)) (size_of decimals (drop 1 text))
-decimal_number_minus decimals [] minus = absurd (omega arith)
-decimal_number_minus decimals (c ∷ cs) minus = grind arith
+decimal_number_minus = grind (arith, common_steps)
 
 -- ---- the range
 
@@ -93,10 +87,8 @@ number_of_width width decimals text same = grind arith
 
 pub missing_or_number_blank : (decimals : ℕ) (text : List ℕ)
     → length text ≡ 0 → missing_or_number decimals text ≡ Some None
-missing_or_number_blank decimals [] empty = refl
-missing_or_number_blank decimals (c ∷ cs) empty = absurd (omega arith)
+missing_or_number_blank = grind (arith, common_steps)
 
 pub missing_or_number_text : (decimals : ℕ) (text : List ℕ)
     → 0 < length text → missing_or_number decimals text ≡ option_map Some (decimal_number decimals text)
-missing_or_number_text decimals [] some = absurd (omega arith)
-missing_or_number_text decimals (c ∷ cs) some = refl
+missing_or_number_text = grind (arith, common_steps)

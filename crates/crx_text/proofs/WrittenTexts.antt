@@ -1,9 +1,8 @@
 -- Texts that are written into bytes after others.
-use Rattle.std.proofs.lemmas.Grind.{common_steps}
 use Rattle.std.proofs.{Common.{sym, ◌∙◌, ap, arith, append_assoc}, Math.Seq.take-append-add}
-use Rattle.std.proofs.lemmas.List.{drop-take, take-take, drop_at, take_more_set, length-append}
-use Rattle.std.{proofs.lemmas.List.length-take-le, specs.Prelude.{◌≡◌, ◌≤◌, ◌<◌, ℕ, ◌+◌, ◌-◌, List, [], ◌∷◌}}
-use Rattle.std.specs.Prelude.{◌++◌, length, set, take, drop}
+use Rattle.std.proofs.lemmas.{Grind.common_steps, List.{drop-take, take-take, drop_at, take_more_set}}
+use Rattle.std.{proofs.lemmas.List.{length-append, length-take-le}, specs.Prelude.{◌≡◌, ◌≤◌, ◌<◌, ℕ, ◌+◌}}
+use Rattle.std.specs.Prelude.{◌-◌, List, [], ◌∷◌, ◌++◌, length, set, take, drop}
 use Rattle.crx_text.{proofs.EndBlanks.{few_kept, take_kept}, specs.meaning.Columns.without_end_blanks}
 
 -- ---- a line of cells and marks
@@ -50,7 +49,8 @@ pub counted-line : (new old line : List ℕ) (at count : ℕ)
     → take (at + count) new ≡ take at old ++ line → at + count < length new → at ≤ length old
     → count ≡ length line
 counted-line new old line at count written room within =
-    let long =
-    sym (length-take-le _ new (omega (arith, room))) ∙ ap length written ∙ length-append _ line in
-    let before = length-take-le at old within in
-    omega (arith, long, before)
+    omega (
+      arith,
+      (sym (length-take-le _ new (omega (arith, room))) ∙ ap length written ∙ length-append _ line),
+      length-take-le at old within,
+    )

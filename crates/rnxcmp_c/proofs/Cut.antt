@@ -1,12 +1,10 @@
 -- What ended a run at a line, by what is kept.
-use Rattle.rnxcmp_c.proofs.{GoingLemmas.notices-both, Words.{◌≡◌, inl, inr, ℕ, Bool, true, List, [], ◌++◌}}
-use Rattle.rnxcmp_c.proofs.Words.{take, drop, Option, Some, None, refl, sym, ap, ◌∙◌, append-nil, arith}
-use Rattle.rnxcmp_c.proofs.Words.{length, length-append, take-append-drop, At, notices_text, Begins, Course}
-use Rattle.rnxcmp_c.proofs.Words.{Halt, Unwritten, Unreported, AreNext, Device, waiting, Pending, IsKept}
-use Rattle.rnxcmp_c.proofs.Words.{StopsBy}
-use Rattle.crx_lines.specs.meaning.Devices.{SinkTally}
-use Rattle.crx_runs.specs.{Endings.EndsFrom, Taking.IsDone, declared.one_line.Halt.TheVariants.Fault}
-use Rattle.std.proofs.lemmas.List.{append_cancel_left}
+use Rattle.std.proofs.{Common.rules, lemmas.{Grind.common_steps, List.append_cancel_left}}
+use Rattle.rnxcmp_c.proofs.{GoingLemmas.notices-both, Words.{◌≡◌, ℕ, Bool, true, List, [], ◌++◌, take, drop}}
+use Rattle.rnxcmp_c.proofs.Words.{Option, Some, None, sym, ap, ◌∙◌, append-nil, arith, length-append}
+use Rattle.rnxcmp_c.proofs.Words.{take-append-drop, At, notices_text, Begins, Course, Halt, AreNext, Device}
+use Rattle.rnxcmp_c.proofs.Words.{waiting, Pending, IsKept, StopsBy}
+use Rattle.crx_runs.specs.{Endings.EndsFrom, Taking.IsDone}
 
 none-not-some : {notices : List At} → ◌≡◌ {A = Option (List At)} None (Some notices) → ⊥
 none-not-some e = cc
@@ -54,74 +52,11 @@ module _ (before after : Course) (output then_output kept then_kept : Pending) w
   pub cut-stops : (memory : Option (List At)) (number : ℕ) (halt : Halt)
       → EndsFrom memory number (kept-by output then_output) (kept-by kept then_kept) before after halt
       → StopsBy number memory before after output then_output kept then_kept halt
-  cut-stops memory number (Fault at) (inl out) =
-      let w = out.wrote.0 in
-      let m = out.reported.0 in
-      inl (
-        (out.fault, out.place),
-        record {
-          notices = out.notices;
-          allowed = out.allowed;
-          own = out.next;
-          wrote = w.2 ∙ ap (λ t. waiting output ++ t) (none-more _ w.0 w.1) ∙ append-nil _;
-          reported = m.2 ∙ ap (λ t. waiting kept ++ t) (rest-of _ m.0 _ (sym (notices-both _ _) ∙ m.1));
-        },
-      )
-  cut-stops memory number (Fault at) (inr ended) =
-      let w = ended.wrote.0 in
-      let m = ended.reported.0 in
-      inr (record {
-        fault = ended.ends.fault;
-        notices = ended.notices;
-        output_is = ended.ends.output;
-        warnings_are = ended.ends.warnings;
-        wrote = w.2 ∙ ap (λ t. waiting output ++ t) (none-more _ w.0 (sym ended.ends.output ∙ w.1))
-            ∙ append-nil _;
-        reported = m.2 ∙ ap (λ t. waiting kept ++ t) (rest-of _ m.0 _
-            (sym (ap notices_text ended.ends.warnings ∙ notices-both _ _) ∙ m.1));
-      })
-  cut-stops memory number Unwritten cut =
-      let w = cut.wrote.took in
-      let m = cut.reported.0 in
-      record {
-        text = w.0;
-        told = m.0;
-        wrote = w.2;
-        first = inr (begins-taken _ _ w.0 cut.wrote.count w.1);
-        reported = m.2;
-        lost = inl (record {
-          failed = ap (λ t. t.failures) cut.wrote.failed;
-          longer = omega (arith, cut.wrote.some, cut.wrote.less);
-        });
-      }
-  cut-stops memory number Unreported cut =
-      let w = cut.wrote.0 in
-      let m = cut.reported.took in
-      let next = begins-next before after _ cut.next in
-      record {
-        text = [];
-        told = m.0;
-        wrote = w.2 ∙ ap (λ t. waiting output ++ t) (none-more before.output w.0 w.1);
-        first = inl refl;
-        reported = m.2;
-        lost = inr (record {
-          failed = ap (λ (t : SinkTally). t.failures) cut.reported.failed;
-          longer = omega (
-            arith,
-            cut.reported.some,
-            cut.reported.less,
-            ap length (notices-both before.warnings cut.notices),
-            ap length next.same,
-            length-append (notices_text before.warnings ++ notices_text cut.notices) next.rest,
-          );
-        });
-      }
+  cut-stops =
+      search (rules, none-more, append-nil, rest-of, notices-both, begins-taken, begins-next, length-append)
 
   -- the same of the end, at which memory may run out for the texts alone
   pub halted-stops : (number last : ℕ) (halt : Halt)
       → EndsFrom None last (kept-by output then_output) (kept-by kept then_kept) before after halt
       → StopsBy number None before after output then_output kept then_kept halt
-  halted-stops number last (Fault at) (inl out) = absurd (none-not-some out.allowed)
-  halted-stops number last (Fault at) (inr faulty) = cut-stops None number (Fault at) (inr faulty)
-  halted-stops number last Unwritten cut = cut-stops None number Unwritten cut
-  halted-stops number last Unreported cut = cut-stops None number Unreported cut
+  halted-stops = grind (arith, common_steps, none-not-some, cut-stops)

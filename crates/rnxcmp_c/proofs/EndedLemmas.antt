@@ -1,13 +1,13 @@
 -- What the result of a run brings back, saves and judges follows from what it is, by the laws.
-use Rattle.std.proofs.Common.{arith}
+use Rattle.std.proofs.{Common.arith, lemmas.Grind.common_steps}
 use Rattle.rnxcmp_c.proofs.{Kept.{brings-back, judges-status, saves-all_else}, Lossless.brings-back_passed}
-use Rattle.rnxcmp_c.proofs.Words.{◌≡◌, ◌⊎◌, ℕ, List, true, ap, sym, ◌∙◌, code_of_fault}
-use Rattle.rnxcmp_c.proofs.Words.{InputTooLong, Choices, expanded, checked, what-passes, FilterResult, Answer}
-use Rattle.rnxcmp_c.proofs.Words.{OUTPUT_LIMIT, BothTexts, HasNoMemory}
-use Rattle.rnxcmp_c.proofs.Words.{RunHasEnded, RunHasResult, StopsAtLimit, StopsForMemory, StopsWhenFull}
-use Rattle.rnxcmp_c.proofs.Words.{Task, run_for, CallBringsBackWhatPasses, CallBringsBackWhatWasCompacted}
-use Rattle.rnxcmp_c.{proofs.Words.CallSavesAllElse, specs.meaning.Ended.{CheckPromises, ExpansionPromises}}
-use Rattle.rnxcmp_c.specs.meaning.Stretches.{CallKeepsUndamaged, CallWritesWholeUnits}
+use Rattle.rnxcmp_c.proofs.Words.{◌≡◌, ◌⊎◌, ℕ, List, true, code_of_fault, InputTooLong, Choices, expanded}
+use Rattle.rnxcmp_c.proofs.Words.{checked, what-passes, FilterResult, Answer, OUTPUT_LIMIT, BothTexts}
+use Rattle.rnxcmp_c.proofs.Words.{HasNoMemory, RunHasEnded, RunHasResult, StopsAtLimit, StopsForMemory}
+use Rattle.rnxcmp_c.proofs.Words.{StopsWhenFull, Task, run_for, CallBringsBackWhatPasses}
+use Rattle.rnxcmp_c.proofs.Words.{CallBringsBackWhatWasCompacted, CallSavesAllElse}
+use Rattle.rnxcmp_c.specs.meaning.{Ended.{CheckPromises, ExpansionPromises}, Stretches.CallKeepsUndamaged}
+use Rattle.rnxcmp_c.specs.meaning.Stretches.{CallWritesWholeUnits}
 use Rattle.crx_filter.proofs.stretches.StretchesSaved.{rest-kept, whole-first}
 
 -- what holds of the result of an expansion holds of what it brings back, saves and keeps
@@ -57,17 +57,7 @@ module _ (fed : List ℕ) (made kept : BothTexts) (answer : Answer) where
 
   pub run-expansion : (choices : Choices) → Has (expanded fed choices)
       → ExpansionPromises choices fed made kept answer
-  run-expansion choices whole =
-      let kept = keeps-promises Has choices fed whole in
-      record {
-        lossless = kept.lossless;
-        way_back = kept.way_back;
-        salvage = kept.salvage;
-        damage = kept.damage;
-        whole_units = kept.whole_units;
-      }
+  run-expansion choices whole = grind (arith, common_steps, keeps-promises Has choices fed whole)
 
   pub run-check : Has (checked fed) → CheckPromises fed answer
-  run-check whole =
-      let status = ap (λ (a : Answer). a.status) (RunHasResult.answered whole) in
-      record { lossless = λ zero. what-passes fed (sym status ∙ zero); standard = judges-status fed _ status }
+  run-check whole = grind (arith, common_steps, RunHasResult.answered whole, what-passes, judges-status)

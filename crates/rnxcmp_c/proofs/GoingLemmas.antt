@@ -1,21 +1,20 @@
 -- A run goes on by the bytes that are fed.
+use Rattle.std.proofs.{Common.{rules, ◌≢◌, slice_index}, lemmas.{Grind.common_steps, List.get_or-take}}
+use Rattle.std.proofs.lemmas.List.Elements.{All-append, All-from_get_or}
 use Rattle.rnxcmp_c.proofs.{PieceLemmas.none-where_none, Words.{Some, ◌≡◌, inl, inr, ℕ, ◌+◌, ◌-◌, ◌<◌, ◌≤◌}}
-use Rattle.rnxcmp_c.proofs.Words.{true, false, List, [], ◌∷◌, ◌++◌, length, take, drop, None, refl, sym}
-use Rattle.rnxcmp_c.proofs.Words.{ap, ◌∙◌, subst, arith, append-nil, Option, append_assoc, is_some}
-use Rattle.rnxcmp_c.proofs.Words.{length-append, length-take, take-append-add, take-append-drop}
-use Rattle.rnxcmp_c.proofs.Words.{take-append-le, InputLine, lines_of, ended_lines_of, HasNoFeed, At}
-use Rattle.rnxcmp_c.proofs.Words.{IsLawful, Filter, with_next, notices_text, Begins, Course, are_some, Held}
-use Rattle.rnxcmp_c.proofs.Words.{waiting, IsText, IsGoing, MovesOn, EndsThere, HandlePast, fed_with}
-use Rattle.rnxcmp_c.proofs.Words.{StopsSoon, with_one_more, piece_line, IsAll, IsCutBy, RanOutAt, StopsShort}
-use Rattle.rnxcmp_c.proofs.Words.{IsPastLimit, MovesWithin, PassesLimit, RunBreaks, RunFails, StepStops}
-use Rattle.rnxcmp_c.proofs.Words.{IsMemoryLacking, ready_in, LINE_ROOM, READY_LIMIT, Stop, Fault, Limit}
-use Rattle.rnxcmp_c.{proofs.Words.{line_reached, memory_next}, specs.Counting.take-of_taken}
-use Rattle.rnxcmp_c.specs.Going.{RunsShort, IsBroken, IsFailed, AddsWithin, IsKeptWithin}
-use Rattle.rnxcmp_c.specs.Holding.{AreUnfailed}
-use Rattle.std.proofs.{Common.{◌≢◌, slice_index}, lemmas.List.{drop_more, get_or-take, Elements.All-append}}
-use Rattle.std.proofs.lemmas.List.Elements.{All-from_get_or}
+use Rattle.rnxcmp_c.proofs.Words.{true, false, List, [], ◌∷◌, ◌++◌, length, take, drop, None, refl, sym, ap}
+use Rattle.rnxcmp_c.proofs.Words.{◌∙◌, subst, arith, append-nil, Option, append_assoc, is_some, length-append}
+use Rattle.rnxcmp_c.proofs.Words.{length-take, take-append-add, take-append-le, InputLine, lines_of}
+use Rattle.rnxcmp_c.proofs.Words.{ended_lines_of, HasNoFeed, At, IsLawful, Filter, with_next, notices_text}
+use Rattle.rnxcmp_c.proofs.Words.{Begins, Course, are_some, Held, waiting, IsText, IsGoing, MovesOn}
+use Rattle.rnxcmp_c.proofs.Words.{EndsThere, HandlePast, fed_with, StopsSoon, with_one_more, piece_line}
+use Rattle.rnxcmp_c.proofs.Words.{IsAll, IsCutBy, RanOutAt, StopsShort, IsPastLimit, MovesWithin, PassesLimit}
+use Rattle.rnxcmp_c.proofs.Words.{RunBreaks, RunFails, StepStops, IsMemoryLacking, ready_in, LINE_ROOM}
+use Rattle.rnxcmp_c.proofs.Words.{READY_LIMIT, Stop, Fault, Limit, line_reached, memory_next}
+use Rattle.rnxcmp_c.specs.{Counting.take-of_taken, Going.{RunsShort, IsBroken, IsFailed, AddsWithin}}
+use Rattle.rnxcmp_c.specs.{Going.IsKeptWithin, Holding.AreUnfailed, declared.piece.Piece.Piece}
 use Rattle.crx_lines.proofs.ProgressLemmas.{lines-first, lines-last, ended_lines-first, ended_lines-none}
-use Rattle.crx_runs.specs.{Engines.Awaited, meaning.Messages.warning_text}
+use Rattle.crx_runs.specs.Engines.{Awaited}
 
 -- lines that were ended are no more, where the bytes that follow have no LF
 ended-still : (filter : Filter) (shows : List InputLine → List Awaited → Type 0) (held : Held)
@@ -40,8 +39,7 @@ soon-by filter shows past bytes done some rest old all going none more low =
     done (some ++ rest) (length some - 1) ∙ ap (λ (l : List ℕ). done ++ l)
     (take-append-le (length some - 1) some rest (omega arith)) in
     let lines : ended_lines_of (past.fed ++ take (length (done ++ some) - 1) bytes) ≡ ended_lines_of
-    (past.fed ++ done) =
-    ap (λ (l : List ℕ). ended_lines_of (past.fed ++ l)) first ∙ ap ended_lines_of
+    (past.fed ++ done) = ap (λ (l : List ℕ). ended_lines_of (past.fed ++ l)) first ∙ ap ended_lines_of
     (sym (append_assoc past.fed done most)) ∙ ended-still filter shows old (fed_with past done) most going
     none in
     record {
@@ -68,21 +66,16 @@ no_feed-before bytes n within none =
 -- the bytes up to an LF, and those after it
 pub cut-at : (bytes : List ℕ) (n : ℕ) → n < length bytes → slice_index bytes n ≡ 10
     → bytes ≡ take n bytes ++ 10 ∷ drop (n + 1) bytes
-cut-at bytes n within feed =
-    sym (take-append-drop n bytes) ∙ ap (λ l. take n bytes ++ l)
-    (drop_more bytes n 0 within ∙ ap (λ b. b ∷ drop (n + 1) bytes) feed)
+cut-at bytes n within feed = grind (arith, common_steps)
 
 pub notices-both : (xs ys : List At) → notices_text (xs ++ ys) ≡ notices_text xs ++ notices_text ys
 notices-both [] ys = refl
-notices-both (x ∷ xs) ys =
-    ap (λ t. warning_text x ++ t) (notices-both xs ys) ∙ sym (append_assoc (warning_text x) (notices_text xs)
-    (notices_text ys))
+notices-both (x ∷ xs) ys = grind (arith, common_steps, notices-both xs ys)
 
 -- texts grow at their ends
 more-text : (whole taken kept more then : List ℕ) (after : List ℕ) → after ≡ whole ++ more
     → whole ≡ taken ++ kept → then ≡ kept ++ more → after ≡ taken ++ then
-more-text whole taken kept more then after grows is was =
-    grows ∙ ap (λ t. t ++ more) is ∙ append_assoc taken kept more ∙ ap (λ t. taken ++ t) (sym was)
+more-text whole taken kept more then after grows is was = grind (arith, common_steps)
 
 -- both texts are as they were
 text-kept : {course : Course} {old new : Held} {past : HandlePast} → IsText course old past
@@ -97,16 +90,7 @@ text-fed text = grind arith
 
 text-grows : (before after : Course) (shown : Type 0) (old new : Held) (past : HandlePast)
     → IsText before old past → MovesOn before after shown old new → IsText after new past
-text-grows before after shown old new past text moved =
-    let kept = moved.kept in
-    record {
-      wrote = more-text before.output past.output (waiting old.output) kept.text (waiting new.output) _
-          kept.output_is text.wrote kept.wrote;
-      reported = more-text (notices_text before.warnings) past.messages (waiting old.messages)
-          (notices_text kept.notices) (waiting new.messages) _
-          (ap notices_text kept.warnings_are ∙ notices-both before.warnings kept.notices) text.reported
-          kept.reported;
-    }
+text-grows before after shown old new past text moved = grind (arith, common_steps, more-text, notices-both)
 
 flag-grows : (before after : Course) (shown : Type 0) (old new : Held)
     → old.warned ≡ are_some before.warnings → MovesOn before after shown old new
@@ -157,223 +141,145 @@ pub adds-kept : (course : Course) (old new : Held) (past : HandlePast)
     → course.output ≡ past.output ++ waiting old.output
     → (0 < old.limit → old.left + length course.output ≡ old.limit) → AddsWithin old new
     → IsKeptWithin new past
-adds-kept course old new past wrote left adds limited =
-    let before : 0 < old.limit = subst (λ (n : ℕ). 0 < n) adds.limit limited in
-    omega (
-      arith,
-      left before,
-      adds.left before,
-      adds.limit,
-      ap length wrote,
-      length-append past.output (waiting old.output),
-      length-append past.output (waiting new.output),
-    )
-
--- what is held of a run, but for the bytes of its last line
-pub record IsSame (old new : Held) : Type 0 where
-  pub number : new.number ≡ old.number
-  pub warned : new.warned ≡ old.warned
-  pub limit : new.limit ≡ old.limit
-  pub left : new.left ≡ old.left
-  pub output : (waiting new.output) ≡ (waiting old.output)
-  pub messages : (waiting new.messages) ≡ (waiting old.messages)
-  pub output_good : new.output.failures ≡ old.output.failures
-  pub messages_good : new.messages.failures ≡ old.messages.failures
+adds-kept course old new past wrote left adds limited = grind (arith, common_steps)
 
 -- what is kept of a line that goes on is what is kept of all of it
-kept-more : (old new : Held) (bytes tail : List ℕ) → old.tail.bytes.items ≡ take LINE_ROOM tail
-    → new.tail.bytes.items ≡ take LINE_ROOM (old.tail.bytes.items ++ bytes)
-    → new.tail.bytes.items ≡ take LINE_ROOM (tail ++ bytes)
-kept-more old new bytes tail before after =
-    after ∙ ap (λ t. take LINE_ROOM (t ++ bytes)) before ∙ take-of_taken LINE_ROOM tail bytes
+kept-more : (old new bytes tail : List ℕ) → old ≡ take LINE_ROOM tail → new ≡ take LINE_ROOM (old ++ bytes)
+    → new ≡ take LINE_ROOM (tail ++ bytes)
+kept-more old new bytes tail before after = rw (after, before) (take-of_taken LINE_ROOM tail bytes)
 
-module _ (filter : Filter) (shows : List InputLine → List Awaited → Type 0)
-    (held : Held) (past : HandlePast) (is : IsGoing filter shows held past) where
-  abbrev lines : List InputLine
-  lines = ended_lines_of past.fed
+module _ {filter : Filter} {shows : List InputLine → List Awaited → Type 0} {held : Held} {past : HandlePast}
+    (is : IsGoing filter shows held past) (piece : Piece) (bytes : List ℕ)
+    (added : piece.bytes.items ≡ take LINE_ROOM (held.tail.bytes.items ++ bytes)) (none : HasNoFeed bytes)
+  where
+    abbrev lines : List InputLine
+    lines = ended_lines_of past.fed
 
-  -- bytes without LF are kept, as far as there is room
-  pub keeps-going : (new : Held) (bytes : List ℕ) → IsSame held new
-      → new.tail.bytes.items ≡ take LINE_ROOM (held.tail.bytes.items ++ bytes)
-      → HasNoFeed bytes → IsGoing filter shows new (fed_with past bytes)
-  keeps-going new bytes same kept none =
-      let tail : List ℕ = is.tail ++ bytes in
-      let no_feed : HasNoFeed tail = All-append (λ b. b ≢ 10) is.tail bytes is.no_feed none in
-      let still : ended_lines_of (past.fed ++ bytes) ≡ ended_lines_of past.fed =
-      is.cut_ended bytes ∙ ap (λ l. ended_lines_of past.fed ++ l) (ended_lines-none tail no_feed)
-      ∙ append-nil (ended_lines_of past.fed) in
-      let over : (F : List ℕ → List InputLine) (more : List ℕ)
-      → ((y : List ℕ) → F (past.fed ++ y) ≡ ended_lines_of past.fed ++ F (is.tail ++ y))
-      → F ((past.fed ++ bytes) ++ more) ≡ ended_lines_of (past.fed ++ bytes) ++ F (tail ++ more) =
-      λ F more so_far. ap F (append_assoc past.fed bytes more) ∙ so_far (bytes ++ more)
-      ∙ ap (λ t. ended_lines_of past.fed ++ F t) (sym (append_assoc is.tail bytes more))
-      ∙ ap (λ ls. ls ++ F (tail ++ more)) (sym still) in
-      record {
-        shown = subst (λ ls. shows ls []) (sym still) is.shown;
-        good = subst (λ ls. (filter.so_far ls).fault ≡ None) (sym still) is.good;
-        text = subst (λ ls. IsText (filter.so_far ls) new (fed_with past bytes)) (sym still)
-            (text-fed (text-kept is.text same.output same.messages));
-        flag = same.warned ∙ is.flag ∙ ap (λ ls. are_some (filter.so_far ls).warnings) (sym still);
-        number = same.number ∙ is.number ∙ ap length (sym still);
-        tail = tail;
-        kept = kept-more held new bytes is.tail is.kept kept;
-        no_feed = no_feed;
-        cut = λ more. over lines_of more is.cut;
-        cut_ended = λ more. over ended_lines_of more is.cut_ended;
-        counted =
-            omega (arith, is.counted, same.number, length-append is.tail bytes, length-append past.fed bytes);
-        left = λ limited.
-            let before : 0 < held.limit = subst (λ (n : ℕ). 0 < n) same.limit limited in
-            omega (
-              arith,
-              is.left before,
-              same.limit,
-              same.left,
-              ap (λ ls. length (filter.so_far ls).output) still,
-            );
-        unfailed = record {
-          output = same.output_good ∙ is.unfailed.output;
-          messages = same.messages_good ∙ is.unfailed.messages;
-        };
-      }
+    -- what is held once these bytes were added to those of the last line
+    abbrev mid : Held
+    mid = record held { tail = piece }
 
-  -- a line's bytes, and its LF
-  module _ (mid : Held) (piece : List ℕ) (same : IsSame held mid)
-      (tail : mid.tail.bytes.items ≡ take LINE_ROOM (held.tail.bytes.items ++ piece))
-      (none : HasNoFeed piece) where
     abbrev bytes_all : List ℕ
-    bytes_all = is.tail ++ piece
-
-    pub mid-kept : mid.tail.bytes.items ≡ take LINE_ROOM bytes_all
-    mid-kept = kept-more held mid piece is.tail is.kept tail
-
-    abbrev line : InputLine
-    line = piece_line bytes_all true
-
-    abbrev fed : List ℕ
-    fed = piece ++ 10 ∷ []
+    bytes_all = is.tail ++ bytes
 
     whole : HasNoFeed bytes_all
-    whole = All-append (λ b. b ≢ 10) is.tail piece is.no_feed none
+    whole = All-append (λ b. b ≢ 10) is.tail bytes is.no_feed none
 
-    joined : (more : List ℕ) → is.tail ++ (fed ++ more) ≡ bytes_all ++ 10 ∷ more
-    joined more =
-        ap (λ t. is.tail ++ t) (append_assoc piece (10 ∷ []) more)
-        ∙ sym (append_assoc is.tail piece (10 ∷ more))
-
-    one-more : ended_lines_of (past.fed ++ fed) ≡ with_next (ended_lines_of past.fed) line
-    one-more =
-        is.cut_ended fed ∙ ap (λ t. ended_lines_of past.fed ++ ended_lines_of t)
-        (ap (λ t. is.tail ++ t) (sym (append-nil fed)) ∙ joined [])
-        ∙ ap (λ ls. ended_lines_of past.fed ++ ls) (ended_lines-first bytes_all [] whole)
-
-    pub line-first : (more : List ℕ) → lines_of (past.fed ++ (fed ++ more)) ≡ with_next
-        (ended_lines_of past.fed) line ++ lines_of more
-    line-first more =
-        is.cut (fed ++ more) ∙ ap (λ t. ended_lines_of past.fed ++ lines_of t) (joined more)
-        ∙ ap (λ ls. ended_lines_of past.fed ++ ls) (lines-first bytes_all more whole)
-        ∙ sym (append_assoc (ended_lines_of past.fed) (line ∷ []) (lines_of more))
-
-    ended-first : (more : List ℕ)
-        → ended_lines_of (past.fed ++ (fed ++ more)) ≡ with_next (ended_lines_of past.fed) line
-        ++ ended_lines_of more
-    ended-first more =
-        is.cut_ended (fed ++ more) ∙ ap (λ t. ended_lines_of past.fed ++ ended_lines_of t) (joined more)
-        ∙ ap (λ ls. ended_lines_of past.fed ++ ls) (ended_lines-first bytes_all more whole)
-        ∙ sym (append_assoc (ended_lines_of past.fed) (line ∷ []) (ended_lines_of more))
+    pub mid-kept : piece.bytes.items ≡ take LINE_ROOM bytes_all
+    mid-kept = kept-more held.tail.bytes.items piece.bytes.items bytes is.tail is.kept added
 
     mid-text : IsText (filter.so_far lines) mid past
-    mid-text = text-kept is.text same.output same.messages
+    mid-text = text-kept is.text refl refl
 
     mid-good : AreUnfailed mid
     mid-good = grind arith
 
+    -- bytes without LF are kept, as far as there is room
+    pub keeps-going : IsGoing filter shows mid (fed_with past bytes)
+    keeps-going =
+        let still = ended-still filter shows held past bytes is none in
+        let over : (F : List ℕ → List InputLine) (more : List ℕ)
+        → ((y : List ℕ) → F (past.fed ++ y) ≡ ended_lines_of past.fed ++ F (is.tail ++ y))
+        → F ((past.fed ++ bytes) ++ more) ≡ ended_lines_of (past.fed ++ bytes) ++ F (bytes_all ++ more) =
+        λ F more so_far. ap F (append_assoc past.fed bytes more) ∙ so_far (bytes ++ more)
+        ∙ ap (λ t. ended_lines_of past.fed ++ F t) (sym (append_assoc is.tail bytes more))
+        ∙ ap (λ ls. ls ++ F (bytes_all ++ more)) (sym still) in
+        record {
+          shown = rw still is.shown;
+          good = rw still is.good;
+          text = rw still (text-fed mid-text);
+          flag = rw still is.flag;
+          number = rw still is.number;
+          tail = bytes_all;
+          kept = mid-kept;
+          no_feed = whole;
+          cut = λ more. over lines_of more is.cut;
+          cut_ended = λ more. over ended_lines_of more is.cut_ended;
+          counted = omega (arith, is.counted, length-append is.tail bytes, length-append past.fed bytes);
+          left = rw still is.left;
+          unfailed = mid-good;
+        }
+
+    -- those bytes, and an LF
+    abbrev line : InputLine
+    line = piece_line bytes_all true
+
+    abbrev fed : List ℕ
+    fed = bytes ++ 10 ∷ []
+
+    joined : (more : List ℕ) → is.tail ++ (fed ++ more) ≡ bytes_all ++ 10 ∷ more
+    joined more = grind (arith, common_steps)
+
+    first-by : (F : List ℕ → List InputLine) →
+        ((more : List ℕ) → F (past.fed ++ more) ≡ lines ++ F (is.tail ++ more))
+        → ((more : List ℕ) → F (bytes_all ++ 10 ∷ more) ≡ line ∷ F more)
+        → (more : List ℕ) → F (past.fed ++ (fed ++ more)) ≡ with_next lines line ++ F more
+    first-by F so_far first more = grind (arith, common_steps, joined)
+
+    line-first : (more : List ℕ)
+        → lines_of (past.fed ++ (fed ++ more)) ≡ with_next lines line ++ lines_of more
+    line-first = first-by lines_of is.cut (λ more. lines-first bytes_all more whole)
+
+    ended-first : (more : List ℕ)
+        → ended_lines_of (past.fed ++ (fed ++ more)) ≡ with_next lines line ++ ended_lines_of more
+    ended-first = first-by ended_lines_of is.cut_ended (λ more. ended_lines-first bytes_all more whole)
+
+    one-more : ended_lines_of (past.fed ++ fed) ≡ with_next lines line
+    one-more = rw (append-nil fed, append-nil (with_next lines line)) at (ended-first [])
+
     pub goes-on : (then : List InputLine → List Awaited → Type 0) (new : Held)
-        → MovesWithin (filter.so_far lines) (filter.so_far (with_next lines line)) (then (with_next lines
-        line) [])
-        mid new → new.number ≡ mid.number + 1 → new.tail.bytes.items ≡ []
+        → MovesWithin (filter.so_far lines) (filter.so_far (with_next lines line))
+        (then (with_next lines line) []) mid new → new.number ≡ mid.number + 1 → new.tail.bytes.items ≡ []
         → IsGoing filter then new (fed_with past fed)
     goes-on then new within number empty =
         let moved = within.moved in
-        let kept = moved.kept in
-        let over : (F : List ℕ → List InputLine) (more : List ℕ)
-        → F (past.fed ++ (fed ++ more)) ≡ with_next lines line ++ F more
-        → F ((past.fed ++ fed) ++ more) ≡ ended_lines_of (past.fed ++ fed) ++ F more =
-        λ F more first. ap F (append_assoc past.fed fed more) ∙ first ∙ ap (λ ls. ls ++ F more) (sym one-more)
-        in
         record {
-          shown = subst (λ ls. then ls []) (sym one-more) kept.is_shown;
-          good = subst (λ ls. (filter.so_far ls).fault ≡ None) (sym one-more) kept.good;
-          text = subst (λ ls. IsText (filter.so_far ls) new (fed_with past fed)) (sym one-more)
-              (text-fed (text-grows _ _ _ mid new past mid-text moved));
-          flag = flag-grows _ _ _ mid new (same.warned ∙ is.flag) moved
-              ∙ ap (λ ls. are_some (filter.so_far ls).warnings) (sym one-more);
-          number = number ∙ ap (λ n. n + 1) (same.number ∙ is.number)
-              ∙ sym (length-append lines (line ∷ [])) ∙ ap length (sym one-more);
+          shown = rw one-more moved.kept.is_shown;
+          good = rw one-more moved.kept.good;
+          text = rw one-more (text-fed (text-grows _ _ _ mid new past mid-text moved));
+          flag = rw one-more (flag-grows _ _ _ mid new is.flag moved);
+          number = rw one-more (omega (arith, number, is.number, length-append lines (line ∷ [])));
           tail = [];
           kept = empty;
           no_feed = λ k d h. absurd (omega (arith, h));
-          cut = λ more. over lines_of more (line-first more);
-          cut_ended = λ more. over ended_lines_of more (ended-first more);
-          counted = omega (
-            arith,
-            is.counted,
-            same.number,
-            number,
-            length-append past.fed fed,
-            length-append piece (10 ∷ []),
-          );
-          left = λ limited.
-              let there : 0 < mid.limit = subst (λ (n : ℕ). 0 < n) within.limit limited in
-              let before : 0 < held.limit = subst (λ (n : ℕ). 0 < n) same.limit there in
-              omega (
-                arith,
-                is.left before,
-                within.left there,
-                within.limit,
-                same.limit,
-                same.left,
-                ap (λ ls. length (filter.so_far ls).output) one-more,
-              );
-          unfailed = record {
-            output = kept.output_good ∙ mid-good.output;
-            messages = kept.messages_good ∙ mid-good.messages;
-          };
+          cut = λ more. rw (append_assoc past.fed fed more, one-more) (line-first more);
+          cut_ended = λ more. rw (append_assoc past.fed fed more, one-more) (ended-first more);
+          counted =
+              omega (arith, is.counted, number, length-append past.fed fed, length-append bytes (10 ∷ []));
+          left = rw one-more (λ limited. omega (arith, limited, is.left, within.left, within.limit));
+          unfailed = grind (arith, moved.kept, mid-good);
         }
 
     abbrev then-fed : List ℕ → HandlePast
-    then-fed rest = fed_with past (piece ++ 10 ∷ rest)
+    then-fed rest = fed_with past (bytes ++ 10 ∷ rest)
 
     line-then : (rest more : List ℕ) → (others : List InputLine)
         × (lines_of ((then-fed rest).fed ++ more) ≡ with_next lines line ++ others)
     line-then rest more = (
       lines_of (rest ++ more),
-      ap lines_of (append_assoc past.fed (piece ++ 10 ∷ rest) more ∙ ap (λ t. past.fed ++ t)
-          (append_assoc piece (10 ∷ rest) more ∙ sym (append_assoc piece (10 ∷ []) (rest ++ more))))
+      ap lines_of (append_assoc past.fed (bytes ++ 10 ∷ rest) more ∙ ap (λ t. past.fed ++ t)
+          (append_assoc bytes (10 ∷ rest) more ∙ sym (append_assoc bytes (10 ∷ []) (rest ++ more))))
           ∙ line-first (rest ++ more),
     )
 
     line-after : (rest more : List ℕ) → (others : List InputLine)
         × (lines_of ((then-fed rest).fed ++ more) ≡ lines ++ line ∷ others)
-    line-after rest more =
-        let all = line-then rest more in
-        (all.0, all.1 ∙ append_assoc lines (line ∷ []) all.0)
+    line-after rest more = grind (arith, common_steps, line-then rest more)
 
     -- the output would be longer than it may be
     passes-there : (new : Held) (rest : List ℕ)
         → PassesLimit (filter.so_far lines) (filter.so_far (with_next lines line)) mid new
         → IsPastLimit filter new (then-fed rest)
     passes-there new rest passes =
-        let there : 0 < held.limit = subst (λ (n : ℕ). 0 < n) same.limit passes.limited in
-        let all : held.left + length (filter.so_far lines).output ≡ held.limit = is.left there in
+        let all : held.left + length (filter.so_far lines).output ≡ held.limit = is.left passes.limited in
         record {
           lines = lines;
           line = line;
           first = line-after rest;
           good = is.good;
-          limited = omega (arith, there, passes.limit, same.limit);
-          within = omega (arith, all, passes.limit, same.limit);
-          over = omega (arith, all, passes.over, passes.limit, same.limit, same.left);
+          limited = omega (arith, passes.limited, passes.limit);
+          within = omega (arith, all, passes.limit);
+          over = omega (arith, all, passes.over, passes.limit);
           text = text-fed (text-kept mid-text passes.output_is passes.messages_are);
         }
 
@@ -392,20 +298,11 @@ module _ (filter : Filter) (shows : List InputLine → List Awaited → Type 0)
         (filter.so_far (with_next lines line)) mid new → RunsShort past.fed filter new (then-fed rest) at
     breaks-short new rest at memory short =
         let more : ended_lines_of (then-fed rest).fed ≡ with_next lines line ++ ended_lines_of rest =
-        ap (λ t. ended_lines_of (past.fed ++ t)) (sym (append_assoc piece (10 ∷ []) rest))
+        ap (λ t. ended_lines_of (past.fed ++ t)) (sym (append_assoc bytes (10 ∷ []) rest))
         ∙ ended-first rest in
         record {
           fault = memory.0;
-          there = (
-            omega (arith, memory.1),
-            omega (
-              arith,
-              memory.1,
-              ap length more,
-              length-append (with_next lines line) (ended_lines_of rest),
-              length-append lines (line ∷ []),
-            ),
-          );
+          there = (grind (arith, common_steps, memory.1, more));
           lines = lines;
           line = line;
           first = line-after rest;
@@ -415,22 +312,13 @@ module _ (filter : Filter) (shows : List InputLine → List Awaited → Type 0)
         }
 
     breaks-kept : (new : Held) → AddsWithin mid new → IsKeptWithin new past
-    breaks-kept new adds = adds-kept (filter.so_far lines) mid new past mid-text.wrote
-        (λ limited. omega (
-          arith,
-          is.left (subst (λ (n : ℕ). 0 < n) same.limit limited),
-          same.left,
-          same.limit,
-        )) adds
+    breaks-kept new adds = adds-kept (filter.so_far lines) mid new past mid-text.wrote is.left adds
 
     pub breaks : (new : Held) (rest : List ℕ) (stop : Stop)
         → StepStops (length lines + 1) (filter.memory_after lines line) (filter.so_far lines)
-        (filter.so_far (with_next lines line)) mid new stop → RunBreaks past.fed filter new (then-fed rest)
-        stop
-    breaks new rest (Fault at) (inl memory, adds) =
-        (inl (breaks-short new rest at memory.0 memory.1), breaks-kept new adds)
-    breaks new rest (Fault at) (inr ends, adds) = (inr (breaks-there new rest at ends), breaks-kept new adds)
-    breaks new rest Limit passes = passes-there new rest passes
+        (filter.so_far (with_next lines line)) mid new stop
+        → RunBreaks past.fed filter new (then-fed rest) stop
+    breaks = grind (arith, common_steps, breaks-short, breaks-kept, breaks-there, passes-there)
 
 -- what ended a run in bytes that came after some ended it in those that came after fewer
 pub breaks-after : (filter : Filter) (before then : List ℕ) (held : Held) (past : HandlePast) (stop : Stop)
@@ -473,9 +361,7 @@ module _ {filter : Filter} {mid : Held} {past : HandlePast} {lines : List InputL
         good = moved.kept.good;
         text = grown;
         flag = flag-grows _ _ shown mid new is.flag moved;
-        within = λ limited.
-            let before : 0 < mid.limit = subst (λ (n : ℕ). 0 < n) within.limit limited in
-            omega (arith, is.left before, within.left before, within.limit, ap length grown.wrote);
+        within = grind (arith, common_steps, within.limit, is.left, within.left, grown.wrote);
       })
 
   -- the next line, or the end, ended the run
@@ -483,8 +369,7 @@ module _ {filter : Filter} {mid : Held} {past : HandlePast} {lines : List InputL
       → ((at : At) → (with_one_more filter lines others).fault ≡ Some at
       → filter.whole (lines_of past.fed) ≡ with_one_more filter lines others)
       → (number : ℕ) → number ≡ line_reached lines others → number ≡ length (lines_of past.fed) → (stop :
-      Stop)
-      → StepStops number (memory_next filter lines others) (filter.so_far lines)
+      Stop) → StepStops number (memory_next filter lines others) (filter.so_far lines)
       (with_one_more filter lines others) mid new stop → RunFails filter new past stop
   stopped-after others first decided number reached last (Fault at) (inl memory, adds) = (
     inl (record {
@@ -510,8 +395,7 @@ module _ {filter : Filter} {mid : Held} {past : HandlePast} {lines : List InputL
   pub ends-stopped : lines_of past.fed ≡ lines → (stop : Stop)
       → StepStops mid.number None (filter.so_far lines) (filter.whole lines) mid new stop
       → RunFails filter new past stop
-  ends-stopped whole stop stops = stopped-after [] (whole ∙ sym (append-nil lines))
-      (λ at fault. ap filter.whole whole) mid.number is.number (is.number ∙ ap length (sym whole)) stop stops
+  ends-stopped whole stop stops = grind (arith, common_steps, stopped-after, append-nil lines, is.number)
 
 module _ (filter : Filter) (shows : List InputLine → List Awaited → Type 0)
     (held : Held) (past : HandlePast) (is : IsGoing filter shows held past) where
@@ -519,14 +403,11 @@ module _ (filter : Filter) (shows : List InputLine → List Awaited → Type 0)
   ended = ended_lines_of past.fed
 
   all-cut : lines_of past.fed ≡ ended ++ lines_of is.tail
-  all-cut =
-      ap lines_of (sym (append-nil past.fed)) ∙ is.cut [] ∙ ap (λ t. ended ++ lines_of t) (append-nil is.tail)
+  all-cut = grind (arith, common_steps, is.cut [])
 
   -- nothing is after the last LF
   pub all-ended : held.tail.bytes.items ≡ [] → lines_of past.fed ≡ ended
-  all-ended none =
-      all-cut ∙ ap (λ t. ended ++ lines_of t) (none-where_none is.tail (sym is.kept ∙ none))
-      ∙ append-nil ended
+  all-ended none = grind (arith, common_steps, all-cut, none-where_none)
 
   pub held-going : IsHeldAfter filter held past ended
   held-going = grind arith
@@ -536,9 +417,7 @@ module _ (filter : Filter) (shows : List InputLine → List Awaited → Type 0)
 
   -- a line without LF is there
   pub all-but_last : 0 < length held.tail.bytes.items → lines_of past.fed ≡ last
-  all-but_last some =
-      all-cut ∙ ap (λ ls. ended ++ ls) (lines-last is.tail is.no_feed
-      (omega (arith, some, ap length is.kept, length-take LINE_ROOM is.tail)))
+  all-but_last some = search (rules, all-cut, lines-last, length-take)
 
   -- that line was taken
   pub held-last : (mid : Held) (shown : Type 0)
@@ -554,9 +433,7 @@ module _ (filter : Filter) (shows : List InputLine → List Awaited → Type 0)
           output = moved.kept.output_good ∙ is.unfailed.output;
           messages = moved.kept.messages_good ∙ is.unfailed.messages;
         };
-        left = λ limited.
-            let before : 0 < held.limit = subst (λ (n : ℕ). 0 < n) within.limit limited in
-            omega (arith, is.left before, within.left before, within.limit);
+        left = grind (arith, common_steps, within.limit, is.left, within.left);
         number = number ∙ ap (λ n. n + 1) is.number ∙ sym (length-append ended (piece_line is.tail false ∷
             []));
       }
@@ -564,12 +441,10 @@ module _ (filter : Filter) (shows : List InputLine → List Awaited → Type 0)
   -- it ended the run
   pub last-stopped : (mid : Held) → 0 < length held.tail.bytes.items → IsLawful filter → (stop : Stop)
       → StepStops (length ended + 1) (filter.memory_after ended (piece_line is.tail false)) (filter.so_far
-      ended)
-      (filter.so_far last) held mid stop → RunFails filter mid past stop
+      ended) (filter.so_far last) held mid stop → RunFails filter mid past stop
   last-stopped mid some lawful stop stops =
       let whole : lines_of past.fed ≡ last = all-but_last some in
       stopped-after held-going mid (piece_line is.tail false ∷ []) whole
       (λ at fault. ap filter.whole (whole ∙ sym (append-nil last)) ∙ lawful.decided last [] at fault)
       (length ended + 1) refl (sym (ap length whole ∙ length-append ended (piece_line is.tail false ∷ [])))
-      stop
-      stops
+      stop stops

@@ -1,14 +1,13 @@
 -- The machine values of a `Loose` and of a `OnceBox`. Assumes `Logic`.
-use Rattle.std.proofs.Common.{arith, ℕ}
-use Rattle.rnxcmp_c.proofs.RawWords.{◌≡◌, List, [], ◌∷◌, ◌++◌, refl, subst, Ura, Val, vstruct, vcons, vnil}
-use Rattle.rnxcmp_c.proofs.RawWords.{Logic, Item, Goal, Step, step, ‵, ◌$◌, fjoin, fpack, feq_i, Valss}
-use Rattle.rnxcmp_c.proofs.RawWords.{RawPtr, ptr_val, nothing, within, shape, dnil, vptr, of_list, fst∗, sem}
-use Rattle.rnxcmp_c.proofs.RawWords.{move, drop, fsplit, fpick, feq_l, RattleType, block_ptr, in_a_block}
-use Rattle.rnxcmp_c.proofs.RawWords.{layout, Al, handle_tells, Good, box_owns}
+use Rattle.std.proofs.{Common.{arith, ℕ}, lemmas.Grind.common_steps}
+use Rattle.rnxcmp_c.proofs.RawWords.{◌≡◌, List, [], ◌∷◌, refl, Ura, Val, vstruct, vcons, vnil, Logic, Item}
+use Rattle.rnxcmp_c.proofs.RawWords.{Goal, Step, step, ‵, ◌$◌, fjoin, fpack, feq_i, Valss, RawPtr, nothing}
+use Rattle.rnxcmp_c.proofs.RawWords.{within, shape, dnil, vptr, fst∗, sem, move, drop, fsplit, fpick, feq_l}
+use Rattle.rnxcmp_c.proofs.RawWords.{RattleType, block_ptr, in_a_block, layout, Al, handle_tells, Good}
+use Rattle.rnxcmp_c.proofs.RawWords.{box_owns}
 use mathlib.Core.Bool.{true, ◌&&◌}
 use lib.Dec.{T}
-use mir.Syntax.{impl, tnil}
-use mir.Val.{has_ty, WT}
+use mir.{Syntax.{impl, tnil}, Val.{has_ty, WT}}
 use types.Kit.{Seq}
 use denote.Param.Laws.{Laws}
 use Rattle.core.specs.declared.alloc.Allocator.{Ghosts}
@@ -38,9 +37,7 @@ module _ (R Z : RattleType) (L : Laws Z) (g : Ghosts Z.Denot) where
         (λ ev. fsplit t $ feq_l t (λ ep. fsplit t $ handle_tells al t d.alloc vss.1.0
         (λ h ea fits. move t (1 ∷ []) $ drop t $ move t (1 ∷ []) $ in_a_block t d.at
         (λ p. box_owns (g.dealloc_token d.alloc) R p d.value) (fst∗ 𝓤 _ (sem 𝓛 (g.dealloc_token d.alloc _ _)))
-        (λ b o e. k b o h e (subst (λ p. vs ≡ vstruct (of_list (ptr_val p ∷ h ∷ [])) ∷ []) e
-        (subst (λ ws. vs ≡ vstruct (of_list (ptr_val d.at ∷ (ws ++ []))) ∷ []) ea
-        (subst (λ ps. vs ≡ vstruct (of_list (ps ++ (vss.1.0 ++ []))) ∷ []) ep ev))) fits)))))
+        (λ b o e. k b o h e (grind (arith, common_steps)) fits)))))
 
     pub loose_in : K → (b o : ℕ) (h : Val) (a : Z.Denot) (x : R.Denot)
         → Step K 𝓛 (‵ (Loose.own_val (record { at = block_ptr b o; alloc = a; value = x })

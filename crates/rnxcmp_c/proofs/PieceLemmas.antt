@@ -1,12 +1,12 @@
 -- What is kept of a line says of the whole line all that counts: whether it is too long, and else its bytes.
-use Rattle.rnxcmp_c.proofs.Words.{◌≡◌, ◌⊎◌, inl, inr, ⊎_elim, ℕ, ◌<◌, ◌≤◌, Bool, true, false, List, []}
-use Rattle.rnxcmp_c.proofs.Words.{length, take, refl, ap, ◌∙◌, subst, arith, length-take, take_all}
-use Rattle.rnxcmp_c.proofs.Words.{LINE_LIMIT, without_return, LINE_ROOM}
+use Rattle.std.proofs.lemmas.Grind.{common_steps}
+use Rattle.rnxcmp_c.proofs.Words.{◌≡◌, ◌⊎◌, ⊎_elim, ℕ, ◌<◌, ◌≤◌, Bool, true, false, List, [], length, take}
+use Rattle.rnxcmp_c.proofs.Words.{ap, ◌∙◌, subst, arith, length-take, take_all, LINE_LIMIT, without_return}
+use Rattle.rnxcmp_c.proofs.Words.{LINE_ROOM}
 use Rattle.crx_lines.proofs.ReturnLemmas.{length-without_return}
 
 either : (b : Bool) → (b ≡ true) ⊎ (b ≡ false)
-either true = inl refl
-either false = inr refl
+either = grind (arith, common_steps)
 
 pub within-or : (n m : ℕ) → (n ≤ m) ⊎ (m < n)
 within-or n m = grind arith

@@ -1,30 +1,28 @@
 -- What the state of a reader says of its run, in the words of the promise.
-use Rattle.rnxcmp_c.proofs.{Cut.begins-next, GoingLemmas.{begins-then, notices-both}}
-use Rattle.rnxcmp_c.proofs.{HandleLemmas.{ends-stands, feeds-stands, none-fed}, PieceLemmas.none-or}
-use Rattle.rnxcmp_c.proofs.{ReaderLemmas.{fault-at, faulty-status, lawful-for, output-for}, Words.{◌≡◌, ◌⊎◌}}
-use Rattle.rnxcmp_c.proofs.Words.{inl, inr, ⊎_elim, ℕ, ◌-◌, ◌<◌, ◌≤◌, List, [], ◌∷◌, ◌++◌, length, map, take}
-use Rattle.rnxcmp_c.proofs.Words.{drop, append_assoc, Option, Some, None, is_some, true, false, arith, refl}
-use Rattle.rnxcmp_c.proofs.Words.{sym, ap, ◌∙◌, subst, append-nil, length-append, InputLine, lines_of}
-use Rattle.rnxcmp_c.proofs.Words.{ended_lines_of, seen, At, OutOfMemory, whole_compact, Filter, with_next}
-use Rattle.rnxcmp_c.proofs.Words.{error_text, notices_text, Begins, Course, FilterResult, result_of_course}
-use Rattle.rnxcmp_c.proofs.Words.{AreNext, Outcome, IsLineEnded, IsLastLine, IsLineReached, ReaderIsOver}
-use Rattle.rnxcmp_c.proofs.Words.{ReaderRuns, ReaderStands, RunIsOutOfMemory, RunIsOverLimit, RunIsTooLong}
-use Rattle.rnxcmp_c.proofs.Words.{StandsBy, answer_now, FeedsBy, FeedsBytes, HasEndedBy, HasFedBy}
-use Rattle.rnxcmp_c.proofs.Words.{HasPassedBy, ReaderHasEnded, texts_of_held, Holds, have_ended, Handle}
+use Rattle.std.proofs.{Common.{rules, reverse}, lemmas.{Grind.common_steps, List.map-append}}
+use Rattle.std.proofs.lemmas.List.{reverse-append}
+use Rattle.rnxcmp_c.proofs.{Cut.begins-next, GoingLemmas.{begins-then, notices-both}, HandleLemmas.either-fed}
+use Rattle.rnxcmp_c.proofs.{HandleLemmas.{ends-stands, feeds-stands, none-fed}, ReaderLemmas.fault-at}
+use Rattle.rnxcmp_c.proofs.{ReaderLemmas.{faulty-status, lawful-for, output-for}, Words.{◌≡◌, ◌⊎◌, inl, inr}}
+use Rattle.rnxcmp_c.proofs.Words.{⊎_elim, ℕ, ◌-◌, ◌<◌, ◌≤◌, List, [], ◌∷◌, ◌++◌, length, take, drop}
+use Rattle.rnxcmp_c.proofs.Words.{append_assoc, Option, Some, None, is_some, true, false, arith, refl, sym}
+use Rattle.rnxcmp_c.proofs.Words.{ap, ◌∙◌, subst, append-nil, InputLine, lines_of, At, OutOfMemory, Filter}
+use Rattle.rnxcmp_c.proofs.Words.{with_next, error_text, notices_text, Begins, Course, FilterResult}
+use Rattle.rnxcmp_c.proofs.Words.{result_of_course, AreNext, Outcome, IsLineEnded, IsLastLine, IsLineReached}
+use Rattle.rnxcmp_c.proofs.Words.{ReaderIsOver, ReaderRuns, ReaderStands, RunIsOutOfMemory, RunIsOverLimit}
+use Rattle.rnxcmp_c.proofs.Words.{RunIsTooLong, StandsBy, answer_now, FeedsBy, FeedsBytes, HasEndedBy}
+use Rattle.rnxcmp_c.proofs.Words.{HasFedBy, HasPassedBy, ReaderHasEnded, texts_of_held, Holds, Handle}
 use Rattle.rnxcmp_c.proofs.Words.{HandlePast, allowed_after, fed_with, filter_for, limit_for, memory_next}
-use Rattle.rnxcmp_c.proofs.Words.{past_of, result_for, texts_made, waiting, Answer, OUTPUT_LIMIT, Held}
-use Rattle.rnxcmp_c.proofs.Words.{READY_LIMIT, Reader, BothTexts, line_in, RunHasEnded, StopsAtLimit}
-use Rattle.rnxcmp_c.proofs.Words.{StopsForMemory, StopsWhenFull, Task, Compact, Expand, Check, handle_answer}
-use Rattle.rnxcmp_c.{proofs.Words.{run_for, with_one_more, bare_answer, MISUSED}, specs.Handles.fault_now}
+use Rattle.rnxcmp_c.proofs.Words.{past_of, result_for, texts_made, waiting, Answer, OUTPUT_LIMIT, READY_LIMIT}
+use Rattle.rnxcmp_c.proofs.Words.{Reader, BothTexts, line_in, RunHasEnded, StopsAtLimit, StopsForMemory}
+use Rattle.rnxcmp_c.proofs.Words.{StopsWhenFull, Task, Compact, Expand, Check, handle_answer, run_for}
+use Rattle.rnxcmp_c.{proofs.Words.{with_one_more, bare_answer, MISUSED}, specs.Handles.fault_now}
 use Rattle.rnxcmp_c.specs.{Handles.{status_now, Feeds, Ends}, Opened.{EndsHandle, FeedsHandle, HandleStands}}
-use Rattle.rnxcmp_c.specs.{Opened.{has_ended, run_in, run_state, texts_in, texts_kept}, Past.AsksMemory}
+use Rattle.rnxcmp_c.specs.{Opened.{has_ended, run_state, texts_kept}, Past.AsksMemory}
 use Rattle.rnxcmp_c.specs.meaning.Handles.{HandlePromise, RunWasEnded, TakesBytes, joined_texts}
-use Rattle.std.proofs.{Common.reverse, lemmas.List.{map-append, reverse-append}}
-use Rattle.crx_base.specs.meaning.Seen.{ReadLine}
 use Rattle.crx_filter.proofs.reading.{CompactPrefixes.whole-more, Forward.rinex-forward, Prefixes.AreMore}
-use Rattle.crx_filter.{proofs.reading.Prefixes.whole-items, specs.meaning.Compacted.rinex_place}
-use Rattle.crx_filter.specs.meaning.{Compacted.whole_rinex, Directions.{compact_reading, rinex_reading}}
-use Rattle.crx_filter.specs.meaning.{Items.{Item, Accepted, Warned}, Written.warnings_in}
+use Rattle.crx_filter.{proofs.reading.Prefixes.whole-items, specs.meaning.Items.{Item, Accepted, Warned}}
+use Rattle.crx_filter.specs.meaning.Written.{warnings_in}
 
 -- ---- warnings
 
@@ -49,19 +47,7 @@ items-warned items all more = record {
 pub warned-first : (task : Task) (lines more : List InputLine)
     → Begins (notices_text ((filter_for task).whole (lines ++ more)).warnings)
     (notices_text ((filter_for task).so_far lines).warnings)
-warned-first (Compact choices limit) lines more =
-    subst (λ (ls : List ReadLine). Begins
-    (notices_text (reverse (warnings_in (whole_rinex choices.skip ls).items)))
-    (notices_text (reverse (warnings_in (rinex_reading choices.skip (map seen lines)).items))))
-    (sym (map-append seen lines more))
-    (items-warned _ _ (whole-items rinex_place rinex-forward choices.skip 1 (map seen lines) (map seen more)))
-warned-first (Expand choices limit) lines more =
-    subst (λ (ls : List ReadLine). Begins
-    (notices_text (reverse (warnings_in (whole_compact choices.skip ls).items)))
-    (notices_text (reverse (warnings_in (compact_reading choices.skip (map seen lines)).items))))
-    (sym (map-append seen lines more))
-    (items-warned _ _ (whole-more choices.skip (map seen lines) (map seen more) _ refl))
-warned-first Check lines more = record { rest = []; same = refl }
+warned-first = search (rules, reverse, map-append, items-warned, whole-items, rinex-forward, whole-more)
 
 -- the messages of a result begin with the warnings
 pub messages-for : (task : Task) (input : List ℕ) → Begins (result_for task input).messages
@@ -74,26 +60,18 @@ messages-for Check input = record { rest = _; same = refl }
 module _ (task : Task) (input : List ℕ) (lines others : List InputLine)
     (first : lines_of input ≡ lines ++ others) where
   pub output-first : Begins (result_for task input).output ((filter_for task).so_far lines).output
-  output-first =
-      subst (λ t. Begins t ((filter_for task).so_far lines).output)
-      (sym (output-for task input ∙ ap (λ ls. ((filter_for task).whole ls).output) first))
-      ((lawful-for task).goes_on lines others)
+  output-first = grind (arith, common_steps, output-for, lawful-for)
 
   pub messages-first : Begins (result_for task input).messages
       (notices_text ((filter_for task).so_far lines).warnings)
-  messages-first =
-      begins-then _ _ _ (messages-for task input)
-      (subst (λ ls. Begins (notices_text ((filter_for task).whole ls).warnings)
-      (notices_text ((filter_for task).so_far lines).warnings)) (sym first) (warned-first task lines others))
+  messages-first = begins-then _ _ _ (messages-for task input) (rw first (warned-first task lines others))
 
 -- so are the warnings of the next one, or of the end
 module _ (task : Task) (input : List ℕ) (lines : List InputLine) where
   messages-next : (others : List InputLine) → lines_of input ≡ lines ++ others
       → Begins (result_for task input).messages
       (notices_text (with_one_more (filter_for task) lines others).warnings)
-  messages-next [] first =
-      subst (λ ls. Begins (result_for task input).messages (notices_text
-      ((filter_for task).whole ls).warnings)) (first ∙ append-nil lines) (messages-for task input)
+  messages-next [] first = grind (arith, common_steps, messages-for)
   messages-next (line ∷ others) first =
       messages-first task input (with_next lines line) others (first ∙ sym (append_assoc lines
       (line ∷ []) others))
@@ -178,8 +156,7 @@ module _ (task : Task) (reader : Reader) (past : HandlePast) where
   short-of_memory : (is_line : ℕ → Type 0) (outcome : Outcome) (input : List ℕ)
       → RunIsOutOfMemory task is_line input reader outcome past
       → Ended (λ result. Failed input result ⊎ Short is_line input result) (Some outcome)
-  short-of_memory is_line outcome input ran = ⊎_elim
-      (λ out.
+  short-of_memory is_line outcome input ran = ⊎_elim (λ out.
       let by = out.made in
       let at : At = record { line = line_in outcome.fault; fault = OutOfMemory } in
       let before : Course = (filter_for task).so_far by.lines in
@@ -225,10 +202,8 @@ module _ (task : Task) (reader : Reader) (past : HandlePast) where
               messages = ap (λ t. t ++ error_text (Some at)) (notices-both before.warnings by.notices)
                   ∙ append_assoc warned own (error_text (Some at)) ∙ ap (λ t. warned ++ (own ++ t)) (sym said)
                   ∙ by.made.messages;
-            }))
-            by.last_is;
-      })
-      (λ hidden.
+            })) by.last_is;
+      }) (λ hidden.
       let found = some-at (result_for task input).fault hidden.faulty in
       record {
         result = result_for task input;
@@ -242,8 +217,7 @@ module _ (task : Task) (reader : Reader) (past : HandlePast) where
           output = hidden.output_is;
           messages = hidden.messages_are ∙ ap (λ f. made.messages ++ error_text f) found.1;
         });
-      })
-      ran.made
+      }) ran.made
 
   is-full : (outcome : Outcome) → RunIsTooLong task reader outcome past
       → Ended (StopsWhenFull (run_for task) past.fed) (Some outcome)
@@ -378,16 +352,9 @@ module _ (task : Task) (old new : Reader) (fed : List ℕ) (taken : BothTexts) (
       → FeedsBy task old new past bytes used answer outcome
       → BytesEnded (fed_with past (take used bytes)) used
   feeds-ended None runs ended feeds =
-      let goes_on : (0 < length bytes → 0 < length (allowed_after past bytes))
-      → BytesEnded (fed_with past (take used bytes)) used =
-      λ some. fed-ended task new (fed_with past (take used bytes)) fed (drop used bytes) new.outcome ended
-      (feeds.fed some) in
-      ⊎_elim (λ none. goes_on (λ h. absurd (omega (arith, h, none)))) (λ more. ⊎_elim
-      (λ none. subst (λ (then : HandlePast). BytesEnded then used)
-      (none-fed past bytes used (feeds.over more none).0)
-      (subst (BytesEnded past) (sym (feeds.over more none).0)
-      (passed-ended task new past bytes more new.outcome (feeds.over more none).1)))
-      (λ some. goes_on (λ h. some)) (none-or (length (allowed_after past bytes)))) (none-or (length bytes))
+      ⊎_elim (fed-ended task new (fed_with past (take used bytes)) fed (drop used bytes) new.outcome ended)
+      (λ passed. subst (λ (then : HandlePast). BytesEnded then used) (none-fed past bytes used passed.1)
+      (rw passed.1 (passed-ended task new past bytes passed.0 new.outcome passed.2))) (either-fed feeds)
   feeds-ended (Some outcome) runs ended feeds = absurd (cc)
 
   -- all were taken, or much is ready
@@ -395,11 +362,7 @@ module _ (task : Task) (old new : Reader) (fed : List ℕ) (taken : BothTexts) (
       → FeedsBytes task old new past bytes used answer → used < length (allowed_after past bytes)
       → (is_some new.outcome ≡ false) ×
       (READY_LIMIT ≤ length (waiting new.held.output ++ waiting new.held.messages))
-  takes-all None is feeds less = (
-    ap (λ (o : Option Outcome). is_some o) is,
-    omega (arith, feeds.all is less, length-append (waiting new.held.output) (waiting new.held.messages)),
-  )
-  takes-all (Some outcome) is feeds less = grind arith
+  takes-all = grind (arith, common_steps, is_some)
 
   none-is : (outcome : Option Outcome) → is_some outcome ≡ false → outcome ≡ None
   none-is = grind arith
@@ -408,45 +371,9 @@ module _ (task : Task) (old new : Reader) (fed : List ℕ) (taken : BothTexts) (
       → FeedsBy task old new past bytes used answer outcome
       → TakesBytes (run_for task) fed taken bytes used (texts_of_held old.held) (texts_of_held new.held)
       (is_some new.outcome)
-  takes-bytes None runs feeds =
-      let ready = length-append (waiting old.held.output) (waiting old.held.messages) in
-      let less : Course = (filter_for task).so_far
-      (ended_lines_of (fed ++ take (used - 1) (allowed_after past bytes))) in
-      record {
-        allowed = allowed_after past bytes;
-        allowed_is = refl;
-        within = feeds.within;
-        some = λ some few. feeds.some some (omega (arith, few, ready));
-        all = takes-all new.outcome refl feeds;
-        soon = λ goes_on more. omega (
-          arith,
-          (feeds.soon (none-is new.outcome goes_on) more).low,
-          length-append less.output (notices_text less.warnings),
-          length-append taken.output taken.messages,
-        );
-        still = λ some full.
-            let still = feeds.still some (omega (arith, full, ready)) in (
-              still.0,
-              ap (λ (h : Held). let kept : BothTexts = record {
-                output = waiting h.output;
-                messages = waiting h.messages;
-              } in kept) still.1,
-              ap (λ (o : Option Outcome). is_some o) still.2,
-            );
-        over = λ some none. (
-          (feeds.over some none).0,
-          passed-some task new past new.outcome (feeds.over some none).1,
-        );
-      }
-  takes-bytes (Some outcome) runs feeds = absurd (cc)
+  takes-bytes = grind (arith, common_steps, takes-all, none-is, is_some, passed-some)
 
 -- ---- a handle
-
--- what is so of a reader is so of what a handle holds
-held-as : (P : List Reader → Answer → Type 0) (handle : Handle) (reader : Reader) (answer : Answer)
-    → Holds handle reader → answer ≡ answer_now reader → P (reader ∷ []) (answer_now reader)
-    → P handle.place.held answer
-held-as P handle reader answer holds answers here = grind arith
 
 -- a handle stands as the reader does that it holds
 pub stood : {task : Task} {handle : Handle} {fed : List ℕ} {taken : BothTexts} {reader : Reader}
@@ -458,9 +385,7 @@ pub handle-promise : {task : Task} {handle : Handle} {fed : List ℕ} {taken : B
     → HandlePromise (run_state handle) (run_for task) fed (joined_texts taken (texts_kept handle))
     (texts_kept handle) answer
 handle-promise {task} {handle} {fed} {taken} {reader} {answer} stands holds answers =
-    held-as (λ (l : List Reader) (a : Answer). HandlePromise (run_in l) (run_for task) fed
-    (joined_texts taken (texts_in l)) (texts_in l) a) handle reader answer holds answers
-    (reader-promise task reader (past_of fed taken) (stood holds stands))
+    rw (holds, answers) (reader-promise task reader (past_of fed taken) (stood holds stands))
 
 -- a reader was taken out of a handle, was fed or ended, and was put back
 module _ {old new : Handle} {before after : Reader} (held : Holds old before) (holds : Holds new after)
@@ -481,8 +406,7 @@ module _ {old new : Handle} {before after : Reader} (held : Holds old before) (h
 
   pub handle-ends : {answer : Answer}
       → ((task : Task) (past : HandlePast) → ReaderStands task before past → Ends task before after past
-      answer)
-      → (task : Task) (fed : List ℕ) (taken : BothTexts) → HandleStands task old fed taken
+      answer) → (task : Task) (fed : List ℕ) (taken : BothTexts) → HandleStands task old fed taken
       → EndsHandle task old new fed taken answer
   handle-ends ended_by task fed taken stands = record {
     before = before;
@@ -512,7 +436,7 @@ module _ {task : Task} {old new : Handle} {fed : List ℕ} {taken : BothTexts} {
 
   module _ (runs : has_ended old ≡ false) where
     went-on : is_some is.before.outcome ≡ false
-    went-on = sym (ap have_ended is.held) ∙ runs
+    went-on = rw is.held at runs
 
     answered : answer ≡ answer_now is.after
     answered = grind arith
@@ -523,24 +447,14 @@ module _ {task : Task} {old new : Handle} {fed : List ℕ} {taken : BothTexts} {
 
     pub feeds-takes : TakesBytes (run_for task) fed taken bytes used (texts_kept old) (texts_kept new)
         (has_ended new)
-    feeds-takes =
-        subst (λ (l : List Reader). TakesBytes (run_for task) fed taken bytes used (texts_in l) (texts_kept
-        new)
-        (has_ended new)) (sym is.held)
-        (subst (λ (l : List Reader). TakesBytes (run_for task) fed taken bytes used (texts_of_held
-        is.before.held)
-        (texts_in l) (have_ended l)) (sym is.holds)
-        (takes-bytes task is.before is.after fed taken bytes used answer is.before.outcome went-on is.feeds))
+    feeds-takes = grind (arith, common_steps, takes-bytes, went-on)
 
     pub feeds-was_ended : has_ended new ≡ true
         → RunWasEnded (run_for task) fed (fed ++ take used bytes) (drop used bytes)
         (joined_texts taken (texts_kept new)) (texts_kept new) answer
-    feeds-was_ended ended =
-        held-as (λ (l : List Reader) (a : Answer). RunWasEnded (run_for task) fed (fed ++ take used bytes)
-        (drop used bytes) (joined_texts taken (texts_in l)) (texts_in l) a) new is.after answer is.holds
-        answered
+    feeds-was_ended ended = rw (is.holds, answered)
         (feeds-ended task is.before is.after fed taken bytes used answer is.before.outcome went-on
-        (sym (ap have_ended is.holds) ∙ ended) is.feeds)
+        (rw is.holds at ended) is.feeds)
 
 -- and of one whose input has ended
 module _ {task : Task} {old new : Handle} {fed : List ℕ} {taken : BothTexts} {answer : Answer}
@@ -569,8 +483,4 @@ module _ {task : Task} {old new : Handle} {fed : List ℕ} {taken : BothTexts} {
     pub ends-was_ended : (has_ended new ≡ true) × RunHasEnded (Last task is.after (past_of fed taken))
         (joined_texts taken (texts_kept new)) (texts_kept new) answer
     ends-was_ended =
-        held-as (λ (l : List Reader) (a : Answer). (have_ended l ≡ true)
-        × RunHasEnded (Last task is.after (past_of fed taken)) (joined_texts taken (texts_in l)) (texts_in l)
-        a)
-        new is.after answer is.holds came-to-end.1
-        (reader-ended task is.after (past_of fed taken) came-to-end.0)
+        rw (is.holds, came-to-end.1) (reader-ended task is.after (past_of fed taken) came-to-end.0)

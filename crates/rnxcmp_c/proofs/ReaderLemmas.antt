@@ -1,20 +1,19 @@
 -- A reader's run has ended as the whole run of its input does.
-use Rattle.rnxcmp_c.proofs.Words.{◌≡◌, ◌⊎◌, inl, inr, ⊎_elim, ℕ, List, [], ◌++◌, Option, Some, None, refl}
-use Rattle.rnxcmp_c.proofs.Words.{sym, ap, ◌∙◌, subst, ◌<◌, ◌≤◌, ◌+◌, ◌∷◌, is_some, arith, length, append-nil}
+use Rattle.std.proofs.{Common.rules, lemmas.Grind.common_steps}
+use Rattle.rnxcmp_c.proofs.Words.{◌≡◌, ◌⊎◌, inl, inr, ⊎_elim, ℕ, List, [], ◌++◌, Option, Some, None, sym, ap}
+use Rattle.rnxcmp_c.proofs.Words.{◌∙◌, subst, ◌<◌, ◌≤◌, ◌+◌, ◌∷◌, is_some, arith, length, append-nil}
 use Rattle.rnxcmp_c.proofs.Words.{append_assoc, length-append, take, InputLine, lines_of, INPUT_LIMIT, At}
-use Rattle.rnxcmp_c.proofs.Words.{InputTooLong, OutOfMemory, IsLawful, Filter, with_next}
-use Rattle.rnxcmp_c.proofs.Words.{error_text, notices_text, Begins, Course, result_of_course}
-use Rattle.rnxcmp_c.proofs.Words.{check-lawful, compaction-lawful}
-use Rattle.rnxcmp_c.proofs.Words.{expansion-lawful, Outcome, FaultIs, IsMemoryLacking, waiting, IsAll}
-use Rattle.rnxcmp_c.proofs.Words.{IsCutBy, IsGoing, IsText, IsPastLimit, RunBreaks, RunFails, Stop, Fault}
-use Rattle.rnxcmp_c.proofs.Words.{Limit, ReaderIsOver, ReaderRuns, RunIsOutOfMemory, RunIsOverLimit}
-use Rattle.rnxcmp_c.proofs.Words.{RunIsTooLong, shows_of, too_long_after, HasFedBy, HasEndedBy, engine_filter}
-use Rattle.rnxcmp_c.proofs.Words.{has_ended_of, KeepsToLimit, line_in, HandlePast, limit_for, result_for}
-use Rattle.rnxcmp_c.proofs.Words.{Task, Compact, Expand, Check, filter_for, memory_next, with_one_more}
-use Rattle.rnxcmp_c.proofs.Words.{AnyEngine, Compacting, Expanding, Checking, Held, Reader}
-use Rattle.rnxcmp_c.{proofs.Words.{line_reached}, specs.Going.LineFails}
-use Rattle.rnxcmp_c.specs.{Going.{EndsPastLimit, Breaks}, Handles.{IsOf, IsPut, EndsRunBy, EngineGoesOn}}
-use Rattle.rnxcmp_c.specs.Handles.{status_at_end}
+use Rattle.rnxcmp_c.proofs.Words.{InputTooLong, OutOfMemory, IsLawful, Filter, with_next, error_text}
+use Rattle.rnxcmp_c.proofs.Words.{notices_text, Begins, Course, result_of_course, check-lawful}
+use Rattle.rnxcmp_c.proofs.Words.{compaction-lawful, expansion-lawful, Outcome, FaultIs, IsMemoryLacking}
+use Rattle.rnxcmp_c.proofs.Words.{waiting, IsAll, IsCutBy, IsGoing, IsText, IsPastLimit, RunBreaks, RunFails}
+use Rattle.rnxcmp_c.proofs.Words.{Stop, Fault, Limit, ReaderIsOver, ReaderRuns, RunIsOutOfMemory}
+use Rattle.rnxcmp_c.proofs.Words.{RunIsOverLimit, RunIsTooLong, shows_of, too_long_after, HasFedBy}
+use Rattle.rnxcmp_c.proofs.Words.{HasEndedBy, engine_filter, has_ended_of, KeepsToLimit, line_in, HandlePast}
+use Rattle.rnxcmp_c.proofs.Words.{limit_for, result_for, Task, Compact, Expand, Check, filter_for}
+use Rattle.rnxcmp_c.proofs.Words.{memory_next, with_one_more, AnyEngine, Held, Reader, line_reached}
+use Rattle.rnxcmp_c.specs.{Going.{LineFails, EndsPastLimit, Breaks}, Handles.{IsOf, IsPut, EndsRunBy}}
+use Rattle.rnxcmp_c.specs.Handles.{EngineGoesOn, status_at_end}
 use Rattle.crx_runs.specs.meaning.Results.{good_status, status_after}
 
 pub filter-is : (task : Task) (engine : AnyEngine) → IsOf task engine → engine_filter engine ≡ filter_for task
@@ -50,8 +49,7 @@ fault-at = grind arith
 
 -- the line that was reached is the last of those with the next one
 reached-lines : (lines others : List InputLine) → line_reached lines others ≡ length (lines ++ take 1 others)
-reached-lines lines [] = ap length (sym (append-nil lines))
-reached-lines lines (line ∷ others) = sym (length-append lines (line ∷ []))
+reached-lines = grind (arith, common_steps)
 
 -- a fault was put down that ended a run
 module _ (task : Task) (reader : Reader) (mid : Held) (outcome : Outcome) (past : HandlePast) (at : At)
@@ -73,14 +71,7 @@ module _ (task : Task) (reader : Reader) (mid : Held) (outcome : Outcome) (past 
         ⊎ (text ≡ error_text (Some (record { line = line_in outcome.fault; fault = OutOfMemory })))
 
     said-or_not : (text : List ℕ) × Last text × (waiting reader.held.messages ≡ waiting mid.messages ++ text)
-    said-or_not = ⊎_elim
-        (λ down. (
-          error_text outcome.fault,
-          inr (ap error_text (fault-at outcome.fault no-memory)),
-          down.1 ∙ ap (λ f. waiting mid.messages ++ error_text f) (sym down.0),
-        ))
-        (λ silently. ([], inl refl, silently.1 ∙ sym (append-nil (waiting mid.messages))))
-        put.said
+    said-or_not = search (rules, ⊎_elim, fault-at, no-memory, append-nil)
 
     short-at : (is_line : ℕ → Type 0) (input : List ℕ) → is_line at.line
         → (lines others : List InputLine) → lines_of input ≡ lines ++ others
@@ -132,17 +123,7 @@ module _ (task : Task) (reader : Reader) (mid : Held) (outcome : Outcome) (past 
     fault-said : outcome.fault ≡ Some at
         → waiting reader.held.messages ≡ waiting mid.messages ++ error_text (Some at)
         → ReaderIsOver (limit_for task) (result_for task input) reader outcome past
-    fault-said said messages =
-        subst (λ r. ReaderIsOver (limit_for task) r reader outcome past) same-result (record {
-          status = put.status ∙ ap (status_after course.warnings) (sym fault);
-          fault = said ∙ sym fault;
-          output = text.wrote ∙ ap (λ t. past.output ++ t) (sym put.output);
-          messages = ap (λ t. t ++ error_text course.fault) text.reported
-              ∙ ap (λ f. (past.messages ++ waiting mid.messages) ++ error_text f) fault
-              ∙ append_assoc past.messages (waiting mid.messages) (error_text (Some at))
-              ∙ ap (λ t. past.messages ++ t) (sym messages);
-          within = kept;
-        })
+    fault-said said messages = grind (arith, common_steps, same-result)
 
     fault-hidden : (is_line : ℕ → Type 0)
         → outcome.fault ≡ Some (record { line = at.line; fault = OutOfMemory })
@@ -166,12 +147,7 @@ module _ (task : Task) (reader : Reader) (mid : Held) (outcome : Outcome) (past 
       silently.0 silently.1)) put.said
 
   fails-over : LineFails (filter_for task) mid past at → HasEndedBy task reader past (Some outcome)
-  fails-over (inl ran) = inl (short-at ran.ran_out.0 _ past.fed ran.ran_out.1 ran.lines ran.others ran.first
-      ran.number ran.cut ran.lacking)
-  fails-over (inr failed) = ⊎_elim
-      (λ down. inr (inr (fault-said past.fed _ refl failed.fault failed.text down.0 down.1)))
-      (λ silently. inl (fault-hidden past.fed _ refl failed.fault failed.text _ silently.0 silently.1))
-      put.said
+  fails-over = search (rules, short-at, ⊎_elim, fault-said, fault-hidden)
 
 -- ---- the limit of the output
 
@@ -187,8 +163,7 @@ one_more-first filter lawful lines [] = record {
       ∙ sym (append-nil (filter.whole lines).output);
 }
 one_more-first filter lawful lines (line ∷ others) =
-    subst (λ ls. Begins (filter.whole ls).output (filter.so_far (with_next lines line)).output)
-    (append_assoc lines (line ∷ []) others) (lawful.goes_on (with_next lines line) others)
+    rw (← (append_assoc lines (line ∷ []) others)) (lawful.goes_on (with_next lines line) others)
 
 module _ (task : Task) (reader : Reader) (mid : Held) (outcome : Outcome) (past : HandlePast)
     (stopped : EndsRunBy mid reader.held outcome Limit) where
@@ -233,9 +208,7 @@ module _ (task : Task) (reader : Reader) (mid : Held) (outcome : Outcome) (past 
         (omega (arith, passes.over, limit)) passes.good passes.text))
 
     passes-at_end : EndsPastLimit (filter_for task) mid past → HasEndedBy task reader past (Some outcome)
-    passes-at_end passes =
-        inr (inl (is-over_limit past.fed passes.lines passes.others passes.first (limited-by passes.limited)
-        (omega (arith, passes.within, limit)) (omega (arith, passes.over, limit)) passes.good passes.text))
+    passes-at_end passes = grind (arith, common_steps, is-over_limit, limited-by)
 
 -- what stopped a run is how it has ended
 module _ (task : Task) (engine : AnyEngine) (is : IsOf task engine) (reader : Reader) (mid : Held)
@@ -285,12 +258,10 @@ passed-over task before reader outcome past runs full put =
                 ∙ ap (λ t. past.messages ++ t) (sym down.1),
           ))
           (λ silently. inr (
-            silently.0
-                ∙ ap (λ (n : ℕ). let a : At = record { line = n + 1; fault = OutOfMemory } in Some a)
+            silently.0 ∙ ap (λ (n : ℕ). let a : At = record { line = n + 1; fault = OutOfMemory } in Some a)
                 going.number,
             going.text.reported ∙ ap (λ t. past.messages ++ t) (sym silently.1),
-          ))
-          put.said;
+          )) put.said;
       within = λ limited.
           let before : 0 < mid.limit = subst (λ (n : ℕ). 0 < n) (sym runs.limit) limited in
           omega (
@@ -325,18 +296,4 @@ module _ (engine : AnyEngine) (reader : Reader) (outcome : Outcome) (past : Hand
       → IsAll ((engine_filter engine).whole (lines_of past.fed)) reader.held past
       → has_ended_of then (lines_of past.fed)
       → ReaderIsOver (limit_for task) (result_for task past.fed) reader outcome past
-  all-over (Compact choices limit) (Compacting c) is now limited status all ended =
-      course-well limit _ reader outcome past limited none status
-      (subst (λ (f : Filter). IsAll (f.whole (lines_of past.fed)) reader.held past)
-      (filter-is (Compact choices limit) engine is) all)
-  all-over (Compact choices limit) (Expanding c) is now limited status all ended = absurd now
-  all-over (Compact choices limit) (Checking c) is now limited status all ended = absurd now
-  all-over (Expand choices limit) (Compacting c) is now limited status all ended = absurd now
-  all-over (Expand choices limit) (Expanding c) is now limited status all ended =
-      course-well limit _ reader outcome past limited none status
-      (subst (λ (f : Filter). IsAll (f.whole (lines_of past.fed)) reader.held past)
-      (filter-is (Expand choices limit) engine is) all)
-  all-over (Expand choices limit) (Checking c) is now limited status all ended = absurd now
-  all-over Check (Compacting c) is now limited status all ended = absurd now
-  all-over Check (Expanding c) is now limited status all ended = absurd now
-  all-over Check (Checking c) is now limited status all ended = grind arith
+  all-over = grind (arith, common_steps, course-well, filter-is)

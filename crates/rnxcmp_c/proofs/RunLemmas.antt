@@ -1,15 +1,14 @@
 -- What was collected of a whole run is its result, or its output is longer than it may be.
+use Rattle.std.proofs.lemmas.Grind.{common_steps}
 use Rattle.rnxcmp_c.proofs.{GoingLemmas.begins-then, PieceLemmas.within-or, ReaderLemmas.lawful-for}
-use Rattle.rnxcmp_c.proofs.{ReaderLemmas.output-for, Words.{◌≡◌, ⊎_elim, inl, inr, ℕ, ◌<◌, ◌≤◌, List, []}}
-use Rattle.rnxcmp_c.proofs.Words.{◌++◌, length, take, Option, sym, ap, ◌∙◌, subst, arith}
-use Rattle.rnxcmp_c.proofs.Words.{append-nil, length-append, length-take, take_all, lines_of, ended_lines_of}
-use Rattle.rnxcmp_c.proofs.Words.{code_of_fault, At, OutOfMemory, INPUT_LIMIT, ended_lines-come_first}
-use Rattle.rnxcmp_c.proofs.Words.{Outcome, Begins, FilterResult, FaultIs, Device, Answer, NO_ROOM}
-use Rattle.rnxcmp_c.proofs.Words.{AnswersWithin, BothTexts, HasNoMemory, fault_code_in, line_in, placed, Task}
-use Rattle.rnxcmp_c.{proofs.Words.{filter_for, result_for, nat_le}, specs.Collecting.AnswersRun}
-use Rattle.rnxcmp_c.specs.{Collecting.{IsCollected, IsEmpty}, Counting.Took, declared.devices.Counted.Counted}
-use Rattle.rnxcmp_c.specs.meaning.Answers.{AnswersAlone}
-use Rattle.std.{proofs.lemmas.Grind.common_steps, specs.Prelude.if◌then◌else◌}
+use Rattle.rnxcmp_c.proofs.{ReaderLemmas.output-for, Words.{◌≡◌, ⊎_elim, inl, inr, ℕ, ◌≤◌, List, [], ◌++◌}}
+use Rattle.rnxcmp_c.proofs.Words.{length, take, Option, sym, ap, ◌∙◌, subst, arith, append-nil, length-append}
+use Rattle.rnxcmp_c.proofs.Words.{take_all, lines_of, ended_lines_of, code_of_fault, At, OutOfMemory}
+use Rattle.rnxcmp_c.proofs.Words.{INPUT_LIMIT, ended_lines-come_first, Outcome, Begins, FilterResult, FaultIs}
+use Rattle.rnxcmp_c.proofs.Words.{Device, Answer, AnswersWithin, BothTexts, HasNoMemory, fault_code_in}
+use Rattle.rnxcmp_c.proofs.Words.{line_in, placed, Task, filter_for, result_for}
+use Rattle.rnxcmp_c.specs.{Collecting.{AnswersRun, IsCollected, IsEmpty}, Counting.Took}
+use Rattle.rnxcmp_c.specs.{declared.devices.Counted.Counted, meaning.Answers.AnswersAlone}
 use Rattle.crx_runs.specs.meaning.{Interruptions.{IsFrontPart, complete_lines}, Runs.{IsResult, NoneFailed}}
 use Rattle.crx_runs.specs.meaning.{Runs.RunsAs, Spans.Input}
 
@@ -28,8 +27,7 @@ module _ (room most : ℕ) (before after : Counted) (empty : IsEmpty room most b
 
 -- a text was put into a room as far as it fits, and then all of it
 placed-taken : (text room : List ℕ) → placed (take (length room) text) room ≡ placed text room
-placed-taken text room = ⊎_elim (λ fits. ap (λ t. placed t room) (take_all (length room) text fits))
-    (λ more. grind (arith, common_steps, length-take (length room) text)) (within-or _ _)
+placed-taken text room = grind (arith, common_steps, ⊎_elim, within-or)
 
 module _ {outcome : Outcome} {output messages : Counted} {most : ℕ} {answer : Answer} {before after :
     BothTexts} where
@@ -71,10 +69,7 @@ module _ (task : Task) {input : Input} {given : List ℕ} {writer messages : Dev
       let told_count = count-is _ _ messages_before messages_after none_told whole.messages told in
       record {
         within = λ few. record {
-          status = ap (λ (a : Answer). a.status) is.answer_is ∙ ap
-              (λ n. if nat_le n (length before.output) then outcome.status else NO_ROOM) count ∙ ap
-              (λ s. if nat_le (length whole.output) (length before.output) then s else NO_ROOM)
-              made.status_is;
+          status = grind (arith, common_steps, is.answer_is, count, made.status_is);
           code = ap (λ (a : Answer). a.code) is.answer_is ∙ ap fault_code_in made.fault_is;
           line = ap (λ (a : Answer). a.line) is.answer_is ∙ ap line_in made.fault_is;
           output_length = ap (λ (a : Answer). a.output_length) is.answer_is ∙ count;
@@ -113,8 +108,7 @@ module _ (task : Task) {input : Input} {given : List ℕ} {writer messages : Dev
             (sym all) ((lawful-for task).goes_on (ended_lines_of given) (lines_of (first.0 ++ rest))))
             (subst (λ ls. Begins ((filter_for task).so_far ls).output written) complete b)))
             (λ e. to written (subst (λ (l : List ℕ). Begins ((filter_for task).whole (lines_of l)).output
-            written)
-            (sym (same ∙ ap (λ r. given ++ r) (ends e.0) ∙ append-nil given)) e.1)) front.first,
+            written) (sym (same ∙ ap (λ r. given ++ r) (ends e.0) ∙ append-nil given)) e.1)) front.first,
       )
 
   pub answers-within : {most : ℕ} {answer : Answer} → NoneFailed input.start.failures input.counted.failures
@@ -124,19 +118,6 @@ module _ (task : Task) {input : Input} {given : List ℕ} {writer messages : Dev
       → NoneFailed messages.before.failures messages.after.failures)
       → AnswersRun outcome output_after messages_after most answer before after → (HasNoMemory answer → ⊥)
       → AnswersWithin most whole answer before after
-  answers-within {most} read unfailed unfailed_told (inl is) memory = run-placed read unfailed unfailed_told
-      is
+  answers-within {most} read unfailed unfailed_told (inl is) memory = grind (arith, common_steps, run-placed)
   answers-within {most} read unfailed unfailed_told (inr (none, unchanged)) memory =
-      let part = first-written runs.front in
-      ⊎_elim (λ over.
-      let longer : most < length whole.output = omega (
-        arith,
-        over.2,
-        count-is _ _ output_before output_after empty part.0 part.1,
-        ap length part.2.same,
-        length-append part.0 part.2.rest,
-      ) in
-      record {
-        within = λ few. absurd (few (over.1, longer));
-        over = λ more. (over.0, unchanged);
-      }) (λ out. absurd (memory (ap (λ (a : Answer). a.code) out))) none.answer_is
+      grind (arith, common_steps, first-written, ⊎_elim, count-is)

@@ -1,13 +1,12 @@
 -- The output stays within its limit, or what a line made is let go of.
+use Rattle.std.proofs.{Common.{Result, Ok, Err}, lemmas.{Grind.common_steps, Result.IfErr-at_err}}
 use Rattle.rnxcmp_c.proofs.Words.{◌≡◌, ℕ, ◌+◌, ◌<◌, List, [], ◌++◌, length, take, refl, sym, ap, ◌∙◌, subst}
-use Rattle.rnxcmp_c.proofs.Words.{arith, length-append, ◌⊎◌, inl, inr, ⊎_elim, append-nil, Bool}
-use Rattle.rnxcmp_c.proofs.Words.{◌||◌, Option, IfErr, IfOk, At, OutOfMemory, Halt, Unwritten, Unreported}
-use Rattle.rnxcmp_c.proofs.Words.{notices_text, Begins, Course, IsKept, MovesOn, MovesWithin}
-use Rattle.rnxcmp_c.proofs.Words.{PassesLimit, StepStops, StopsBy, StopsShort, StopsCounted}
-use Rattle.rnxcmp_c.{proofs.Words.{waiting, Held, Stop, Fault, Limit, take_at}, specs.Going.LosesText}
-use Rattle.rnxcmp_c.specs.Holding.{AreCutTo, IsCounted, IsCutBack, StaysWithin, IsMark, IsMarkWithin}
-use Rattle.rnxcmp_c.specs.declared.held.Mark.{Mark}
-use Rattle.std.proofs.{Common.{Result, Ok, Err}, lemmas.Result.{IfErr-at_err, IfOk-at_ok}}
+use Rattle.rnxcmp_c.proofs.Words.{arith, length-append, ◌⊎◌, inl, inr, ⊎_elim, append-nil, Bool, ◌||◌, Option}
+use Rattle.rnxcmp_c.proofs.Words.{IfErr, IfOk, At, OutOfMemory, Halt, Unwritten, Unreported, notices_text}
+use Rattle.rnxcmp_c.proofs.Words.{Begins, Course, IsKept, MovesOn, MovesWithin, PassesLimit, StepStops}
+use Rattle.rnxcmp_c.proofs.Words.{StopsBy, StopsShort, StopsCounted, waiting, Held, Stop, Fault, Limit}
+use Rattle.rnxcmp_c.{proofs.Words.take_at, specs.{Going.LosesText, Holding.{AreCutTo, IsCounted, IsCutBack}}}
+use Rattle.rnxcmp_c.specs.{Holding.{StaysWithin, IsMark, IsMarkWithin}, declared.held.Mark.Mark}
 use Rattle.crx_runs.specs.declared.one_line.Halt.TheVariants.{Fault as Faulty}
 
 -- a text that was cut back to where it was
@@ -112,14 +111,7 @@ module _ (number : ℕ) (memory : Option (List At)) (before after : Course) (old
         → LosesText before after old.output mid.output old.messages mid.messages
         → (counted : Held) → StaysWithin mark.output mid counted → AreCutTo mark counted new
         → StepStops number memory before after old new (Fault at)
-    stops-lost at is loses counted stays cut =
-        let short = lost-stops new counted mark marked stays.same cut loses in (
-          inl ((ap (λ a. a.fault) is, ap (λ a. a.line) is), short),
-          record {
-            limit = cut.limit ∙ ap (λ (h : Held). h.limit) stays.same ∙ limit;
-            left = λ limited. omega (arith, ap length short.wrote);
-          },
-        )
+    stops-lost at is loses counted stays cut = grind (arith, common_steps, lost-stops)
 
     stops-over : HasPart before after old mid → IsCutBack mark mid new → PassesLimit before after old new
     stops-over part back = record {
@@ -157,42 +149,24 @@ module _ (number : ℕ) (memory : Option (List At)) (before after : Course) (sho
       halt)
 
   part-either : (taken : Result Bool Halt) → Kept taken → Ended taken → HasPart before after old mid
-  part-either (Ok warned) kept stopped = kept-part before after shown old mid warned kept
-  part-either (Err halt) kept stopped = part-of number memory before after old mid halt stopped
+  part-either = grind (arith, common_steps, kept-part, part-of)
 
   pub marks-within : (mark : Mark) → IsMark mark old → (taken : Result Bool Halt) → Kept taken → Ended taken
       → IsMarkWithin mark mid
-  marks-within mark marked taken kept stopped =
-      let part = part-either taken kept stopped in
-      record {
-        output = omega (arith, marked.output, ap length part.wrote, length-append (waiting old.output) part.text);
-        messages = omega (
-          arith,
-          marked.messages,
-          ap length part.reported,
-          length-append (waiting old.messages) part.told,
-        );
-      }
+  marks-within mark marked taken kept stopped = grind (arith, common_steps, part-either)
 
   module _ (new : Held) (mark : Mark) (marked : IsMark mark old) (limit : mid.limit ≡ old.limit)
       (left : mid.left ≡ old.left) where
     pub step-stays : mid.warned ≡ old.warned → (taken : Result Bool Halt) → Kept taken
         → IsCounted taken mark mid new → MovesWithin before after shown old new
-    step-stays flag taken kept counted =
-        stays-within before after shown old mid counted.warned (IfOk-at_ok
-        (λ warned. IsKept before after shown _ _ _ _ warned) counted.is_taken
-        kept) new mark marked limit left flag counted.same counted.left
+    step-stays flag taken kept counted = grind (arith, common_steps, stays-within)
 
     pub step-stops : (taken : Result Bool Halt) → Kept taken → Ended taken → (stop : Stop)
         → StopsCounted taken mark number mid new stop → StepStops number memory before after old new stop
-    step-stops taken kept stopped Limit back =
-        stops-over number memory before after old mid new mark marked limit left
-        (part-either taken kept stopped) back
+    step-stops taken kept stopped Limit back = grind (arith, common_steps, stops-over, part-either)
     step-stops (Ok warned) kept stopped (Fault at) (inl stays) = grind arith
     step-stops (Ok warned) kept stopped (Fault at) (inr lost) = grind arith
     step-stops (Err halt) kept stopped (Fault at) (inl stays) = grind arith
     step-stops (Err halt) kept stopped (Fault at) (inr lost) =
         stops-lost number memory before after old mid new mark marked limit left at lost.1
-        (⊎_elim (λ e. IfErr-at_err (Stops number memory before after old mid) e stopped)
-        (λ e. IfErr-at_err (Stops number memory before after old mid) e stopped) lost.0)
-        lost.2.0 lost.2.1 lost.2.2
+        (grind (arith, common_steps, IfErr-at_err, lost.0)) lost.2.0 lost.2.1 lost.2.2

@@ -1,5 +1,6 @@
 use Rattle.std.proofs.Common.{rules, arith, ◌≡◌, ◌++◌, ◌∙◌, ◌-◌, ◌%◌, ap, codes, [], List, ℕ, string_bytes}
-use Rattle.std.{proofs.{Common.append_assoc, lemmas.Int.ints}, specs.{List.slice_index_or, Prelude.unsigned_abs}}
+use Rattle.std.proofs.{Common.append_assoc, lemmas.Int.ints}
+use Rattle.std.specs.{List.slice_index_or, Prelude.unsigned_abs}
 use Rattle.jiff.specs.Words.{civil_nanos}
 use Rattle.crx_command.specs.meaning.Dates.{months, two_digits}
 use Rattle.crx_command.proofs.date.date_text.Goals as goal
@@ -19,8 +20,8 @@ returns c =
     let start : string_bytes c.new-text.result ≡ [] = c.new-text.ensures.bytes in
     let first : string_bytes c.push_two_digits.new.text
     ≡ string_bytes c.new-text.result ++ two_digits c.to_datetime-shown.result.date.day = search rules in
-    let day : Adds [] (string_bytes c.push_two_digits.new.text) (two_digits c.to_datetime-shown.result.date.day) =
-    record { is = rw start at first } in
+    let day : Adds [] (string_bytes c.push_two_digits.new.text)
+    (two_digits c.to_datetime-shown.result.date.day) = record { is = rw start at first } in
     let dash : Adds (string_bytes c.push_two_digits.new.text) (string_bytes c.push_str.new.self) (codes "-") =
     record { is = search rules } in
     let month : Adds (string_bytes c.push_str.new.self) (string_bytes c.push_str-2.new.self)
@@ -30,14 +31,12 @@ returns c =
     let year : Adds (string_bytes c.push_str-3.new.self) (string_bytes c.push_two_digits-2.new.text)
     (two_digits (unsigned_abs c.to_datetime-shown.result.date.year % 100)) = record { is = search rules } in
     let blank : Adds (string_bytes c.push_two_digits-2.new.text) (string_bytes c.push_str-4.new.self)
-    (codes " ") =
-    record { is = search rules } in
+    (codes " ") = record { is = search rules } in
     let hour : Adds (string_bytes c.push_str-4.new.self)
     (string_bytes c.push_two_digits-3.new.text) (two_digits c.to_datetime-shown.result.time.hour) =
     record { is = search rules } in
     let colon : Adds (string_bytes c.push_two_digits-3.new.text) (string_bytes c.push_str-5.new.self)
-    (codes ":") =
-    record { is = search rules } in
+    (codes ":") = record { is = search rules } in
     let minute : Adds (string_bytes c.push_str-5.new.self)
     (string_bytes c.push_two_digits-4.new.text) (two_digits c.to_datetime-shown.result.time.minute) =
     record { is = search rules } in

@@ -24,10 +24,8 @@ its_stem : (name ending x : List ℕ) (k : ℕ)
 its_stem name ending x k is parts kept long =
     let size : length _ ≡ length name - k = ap length (sym kept) ∙ omega arith in
     let rest : drop _ name ≡ ending = ap (drop _) parts ∙ drop_at _ ending _ size in
-    let same =
-    ap (λ n. drop (length name - n) name) (sym is) ∙ rest in
-    let found : bytes_eq (drop _ name) ending ≡ true =
-    (bytes_eq-Decides _ ending).1 same in
+    let same = ap (λ n. drop (length name - n) name) (sym is) ∙ rest in
+    let found : bytes_eq (drop _ name) ending ≡ true = (bytes_eq-Decides _ ending).1 same in
     rw found (ap Some (kept ∙ ap (λ n. take (length name - n) name) is))
 
 either : (name ending : List ℕ) (r : Option (Bor (List ℕ)))

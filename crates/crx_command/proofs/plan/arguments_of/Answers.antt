@@ -1,11 +1,11 @@
 use Rattle.std.proofs.Common.{◌≡◌, ◌∙◌, ◌+◌, ◌-◌, ap, codes, count_by, find, map, List, ℕ, Option, Some, None}
-use Rattle.std.proofs.Common.{arith, length, unwrap_or, [], ◌∷◌, Bor, option_and_then, option_map, refl, cond, Bool, true, false, not}
+use Rattle.std.proofs.Common.{arith, length, unwrap_or, [], ◌∷◌, Bor, option_and_then, option_map, refl, cond}
+use Rattle.std.proofs.{Common.{Bool, true, false, not}, lemmas.List.Sums.sum_by-cons}
 use Rattle.std.specs.Str.Parse.{ExplainsUnsignedError, HasUnsignedDigitsIfOk, ParsesUnsigned}
 use Rattle.clap.{proofs.WalkLemmas.{first_value-rows, one_text-rows, raw_values-rows}, specs.Matches.found_of}
 use Rattle.clap.specs.Matches.{one_text}
-use Rattle.crx_command.{proofs.NumberRead.number_read, specs.meaning.Planning.counted_argument}
-use Rattle.crx_command.specs.meaning.Planning.{is_dash, is_file}
-use Rattle.std.proofs.lemmas.List.Sums.{sum_by-cons}
+use Rattle.crx_command.{proofs.NumberRead.number_read, specs.meaning.Planning.{counted_argument, is_dash}}
+use Rattle.crx_command.specs.meaning.Planning.{is_file}
 use Rattle.crx_command.proofs.plan.arguments_of.Goals as goal
 
 abbrev texts : List (Bor (List ℕ)) → List (List ℕ)

@@ -9,8 +9,7 @@ use Rattle.crx_command.proofs.plan.plan.Goals as goal
 pub returns-in-Ok : goal.returns-in-Ok
 returns-in-Ok c =
     let is_program = c.in_ok-command.ensures in
-    let words_are =
-    ap (map _) c.as_slice.ensures.value in
+    let words_are = ap (map _) c.as_slice.ensures.value in
     let none = sym (ap₂ fault_of is_program words_are) ∙ c.in-Ok.ensures.kinds
     (ap is_simple_and_free is_program ∙ program_is_free) in
     let found = (c.in-Ok.ensures.matches (ap is_simple is_program ∙ program_is_simple)).1 ∙ ap₂ subcommand_of

@@ -1,6 +1,5 @@
-use Rattle.std.proofs.{Common.{◌∙◌, ap}, lemmas.Iterator.{items_from_collect, Adapters.YieldsList-from_skip}}
-use Rattle.std.{proofs.lemmas.Iterator.Adapters.YieldsList-from_vec, specs.Vec.Iter.into_iter_items}
-use Rattle.std.specs.Vec.Iter.{into_iter_len}
+use Rattle.std.proofs.{Common.{◌∙◌, ap}, lemmas.Iterator.Adapters.{YieldsList-from_skip, YieldsList-from_vec}}
+use Rattle.std.{specs.Vec.Iter.{into_iter_items, into_iter_len}, proofs.lemmas.Iterator.items_from_collect}
 use Rattle.crx_command.proofs.plan.words_given.Goals as goal
 
 pub returns : goal.returns

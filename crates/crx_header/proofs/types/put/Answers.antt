@@ -1,11 +1,10 @@
+use Rattle.std.proofs.{Common.{◌≡◌, ◌<◌, None, is_none, [], sym, ⊎_elim, ◌∙◌, arith}, lemmas.Bool.false≢true}
 use Rattle.std.proofs.lemmas.Grind.{common_steps}
-use Rattle.std.proofs.Common.{◌≡◌, ◌<◌, None, is_none, [], sym, ⊎_elim, ◌∙◌, arith}
-use Rattle.std.proofs.lemmas.Bool.{false≢true}
 use Rattle.crx_header.proofs.Counts.{lookup_is_count, set_is_with, systems_fewer}
+use Rattle.crx_header.proofs.types.put.Goals.{then-is_empty+in_ok-reserve, else-is_empty}
 use Rattle.crx_header.specs.meaning.ObservationTypes.{count_of}
 use Rattle.indexmap.specs.IndexMap.{spare}
 use Rattle.crx_header.proofs.types.put.Goals as goal
-use Rattle.crx_header.proofs.types.put.Goals.{then-is_empty+in_ok-reserve, else-is_empty}
 
 pub returns-in-Some-clause-entries : goal.returns-in-Some-clause-entries
 returns-in-Some-clause-entries c =

@@ -1,6 +1,5 @@
-use Rattle.std.proofs.lemmas.Grind.{common_steps}
 use Rattle.std.proofs.{Common.{eqb, arith, ⊎_elim}, lemmas.Bool.{eqb-true, eqb-false, cases_lt}}
-use Rattle.std.proofs.lemmas.Simd.{run_in_chunk_fails, run_in_chunk_stops}
+use Rattle.std.proofs.lemmas.{Grind.common_steps, Simd.{run_in_chunk_fails, run_in_chunk_stops}}
 use Rattle.crx_lines.proofs.FeedLemmas.{before_first, none_of_all}
 use Rattle.crx_lines.proofs.feed.feed_from.Goals as goal
 

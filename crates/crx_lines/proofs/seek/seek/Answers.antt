@@ -36,14 +36,13 @@ pub returns-in-Ok-true-clause-over : goal.returns-in-Ok-true-clause-over
 returns-in-Ok-true-clause-over g c =
     let old = c.args.reader.now in
     let now = c.seeking.reader in
-    let new = c.has_more.new.reader in
     let s = Seeking-step (λ given. g.R.Source.gave old given now) _ _ _ _ _ _ _ _ _ c.seeking.invariant.0
     c.as_slice.ensures.value c.in_default.ensures.none c.discarded.ensures.count in
     let more = c.in-Ok-true.ensures.some (ap Ok c.in-Ok-true.field-0-test) in
-    let then = λ (given : List ℕ). g.R.Source.gave old (given ++ more.0 ∷ []) new in
+    let then = λ (given : List ℕ). g.R.Source.gave old (given ++ more.0 ∷ []) c.has_more.new.reader in
     let goes = λ (given : List ℕ) (lead : g.R.Source.gave old given now). subst
-    (λ l. g.R.Source.gave old (l ++ more.0 ∷ []) new) (sym (append-nil
-    given)) (g.met.R.Source.gave_both old now new given (more.0 ∷ []) lead more.1) in
+    (λ l. g.R.Source.gave old (l ++ more.0 ∷ []) c.has_more.new.reader) (sym (append-nil
+    given)) (g.met.R.Source.gave_both old now c.has_more.new.reader given (more.0 ∷ []) lead more.1) in
     λ _. (
       more.0,
       _,

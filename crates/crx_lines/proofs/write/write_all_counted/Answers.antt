@@ -1,6 +1,6 @@
-use Rattle.std.proofs.lemmas.Grind.{common_steps}
-use Rattle.std.proofs.Common.{◌≡◌, ◌≤◌, ℕ, ◌+◌, ◌-◌, List, ◌++◌, length-take, length-drop, take, drop}
-use Rattle.std.proofs.{Common.{◌∙◌, subst, arith, append-nil}, Math.Seq.take-add, lemmas.List.take-take}
+use Rattle.std.proofs.Common.{◌≡◌, ◌≤◌, ℕ, ◌+◌, ◌-◌, List, ◌++◌, length-take, length-drop, take, drop, ◌∙◌}
+use Rattle.std.proofs.{Common.{subst, arith, append-nil}, Math.Seq.take-add, lemmas.Grind.common_steps}
+use Rattle.std.proofs.lemmas.List.{take-take}
 use Rattle.crx_lines.proofs.write.write_all_counted.Goals as goal
 
 -- what went out so far, and the next bytes after it

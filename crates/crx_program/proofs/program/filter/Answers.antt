@@ -1,10 +1,7 @@
-use Rattle.std.proofs.Common.{arith, subst, sym}
+use Rattle.std.proofs.Common.{subst, sym}
 use Rattle.crx_program.specs.meaning.Jobs.{IsFiltered}
 use Rattle.crx_runs.specs.meaning.Spans.{span, reader_span}
 use Rattle.crx_program.proofs.program.filter.Goals as goal
-
-pub returns-in-Compact : goal.returns-in-Compact
-returns-in-Compact g c = grind arith
 
 pub returns-in-Expand : goal.returns-in-Expand
 returns-in-Expand g c =
@@ -13,6 +10,3 @@ returns-in-Expand g c =
     (span g.W.Sink c.args.writer.now c.expand.new.writer)
     (span g.M.Sink c.args.messages.now c.expand.new.messages) c.expand.result.status) (sym c.in-Expand.is)
     (c.expand.result.fault, c.expand.ensures.runs.0, c.expand.ensures.runs.1, c.expand.ensures.runs.2)
-
-pub returns-in-Check : goal.returns-in-Check
-returns-in-Check g c = grind arith

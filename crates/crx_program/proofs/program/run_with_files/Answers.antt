@@ -1,13 +1,9 @@
 use Rattle.std.proofs.Common.{◌≡◌, ◌∙◌, map, None, inl, inr, refl, string_bytes, subst, sym}
-use Rattle.crx_command.specs.meaning.Planning.{Help, Refused, Refusal, Run, plan_of}
-use Rattle.crx_program.specs.Devices.{LeavesDevices}
-use Rattle.crx_program.specs.meaning.Jobs.{NoMemory}
-use Rattle.crx_program.specs.meaning.Program.{IsRefused}
+use Rattle.crx_command.{proofs.JobFits.job_fits, specs.{declared.job.Job.Job, meaning.Planning.Help}}
+use Rattle.crx_command.specs.meaning.Planning.{Refused, Refusal, Run, plan_of}
+use Rattle.crx_program.proofs.{FilterEnds.done_for, Refusals.{not_run, refused_by}}
+use Rattle.crx_program.specs.{Devices.LeavesDevices, meaning.{Jobs.NoMemory, Program.IsRefused}}
 use Rattle.crx_runs.specs.meaning.Spans.{span, reader_span}
-use Rattle.crx_command.specs.declared.job.Job.{Job}
-use Rattle.crx_program.proofs.FilterEnds.{done_for}
-use Rattle.crx_command.proofs.JobFits.{job_fits}
-use Rattle.crx_program.proofs.Refusals.{not_run, refused_by}
 use Rattle.crx_program.proofs.program.run_with_files.Goals as goal
 
 -- a run is of one job
@@ -52,8 +48,7 @@ returns-in-Ok-Run-clause-done g c = λ job e.
     (span g.W.Sink c.args.output.now c.run_job.new.output)
     (span g.M.Sink c.args.messages.now c.run_job.new.messages) c.run_job.result.status
     ((c.run_job.new.input ≡ c.args.input.now) × (c.run_job.new.output ≡ c.args.output.now)
-    × (c.run_job.result.target ≡ None))
-    (same_job c.in-Ok-Run.job job (planned ∙ e)) c.run_job.ensures.done
+    × (c.run_job.result.target ≡ None)) (same_job c.in-Ok-Run.job job (planned ∙ e)) c.run_job.ensures.done
 
 -- help is no run and no refusal, and a run is neither help nor a refusal
 help_not_run : (job : Job) → Help ≡ Run job → ⊥

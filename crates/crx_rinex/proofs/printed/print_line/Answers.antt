@@ -1,5 +1,4 @@
-use Rattle.std.proofs.lemmas.Grind.{common_steps}
-use Rattle.std.proofs.{Common.{option_map, arith}, lemmas.Option.slice_get-map}
+use Rattle.std.proofs.{Common.{option_map, arith}, lemmas.{Grind.common_steps, Option.slice_get-map}}
 use Rattle.std.proofs.lemmas.Option.{slice_get_within}
 use Rattle.crx_rinex.{proofs.Lines.after_first, specs.meaning.Printing.printed_row}
 use Rattle.crx_rinex.proofs.printed.print_line.Goals as goal

@@ -1,6 +1,4 @@
-use Rattle.std.proofs.lemmas.Grind.{common_steps}
-use Rattle.std.proofs.Common.{arith}
-use Rattle.std.proofs.{lemmas.List.{append-nil, drop_all}}
+use Rattle.std.proofs.{Common.arith, lemmas.{Grind.common_steps, List.{append-nil, drop_all}}}
 use Rattle.crx_text.specs.meaning.PrintedCells.{printed_cells}
 use Rattle.crx_rinex.proofs.satellite_row.print_cells.Goals as goal
 

@@ -1,6 +1,4 @@
-use Rattle.std.proofs.lemmas.Grind.{common_steps}
-use Rattle.std.proofs.Common.{◌+◌, ◌*◌, None, sym, arith}
-use Rattle.std.specs.List.{list_all}
+use Rattle.std.{proofs.{Common.{◌+◌, ◌*◌, None, sym, arith}, lemmas.Grind.common_steps}, specs.List.list_all}
 use Rattle.crx_text.specs.meaning.Columns.{is_blank}
 use Rattle.crx_rinex.proofs.Cells.{cells_end, cells_more, cells_none, field_past, past}
 use Rattle.crx_rinex.proofs.satellite_row.read_other_cells.Goals as goal

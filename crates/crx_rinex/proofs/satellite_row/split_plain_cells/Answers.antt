@@ -1,5 +1,4 @@
-use Rattle.std.proofs.lemmas.Grind.{common_steps}
-use Rattle.std.proofs.Common.{◌+◌, ◌*◌, ◌≤◌, length, ap, sym, ◌∙◌, arith}
+use Rattle.std.proofs.{Common.{◌+◌, ◌*◌, ◌≤◌, length, ap, sym, ◌∙◌, arith}, lemmas.Grind.common_steps}
 use Rattle.crx_text.specs.meaning.Numbers.{observation_of}
 use Rattle.crx_rinex.proofs.Cells.{cells_kept, cells_more, inside, read_inside}
 use Rattle.crx_rinex.proofs.satellite_row.split_plain_cells.Goals as goal

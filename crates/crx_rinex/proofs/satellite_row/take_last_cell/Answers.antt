@@ -1,7 +1,6 @@
-use Rattle.std.proofs.lemmas.Grind.{common_steps}
-use Rattle.std.proofs.Common.{◌≡◌, ℕ, ◌+◌, ◌*◌, ◌-◌, ◌≤◌, List, length, take, drop, ap, sym, ◌∙◌, arith, Bool}
-use Rattle.std.proofs.{Common.{true, false, refl}, lemmas.{Bool.leb-true, List.{length-set, set-get_or}}}
-use Rattle.std.{proofs.lemmas.List.drop_all, specs.{Bool.OnTrue, List.list_all, Prelude.slice_set}}
+use Rattle.std.{specs.{Bool.OnTrue, List.list_all}, proofs.Common.{◌≡◌, ℕ, ◌+◌, ◌*◌, ◌-◌, ◌≤◌, List, length}}
+use Rattle.std.{proofs.Common.{take, drop, ap, sym, ◌∙◌, arith, Bool, true, false}, specs.Prelude.slice_set}
+use Rattle.std.proofs.lemmas.{Bool.leb-true, List.{length-set, set-get_or, drop_all}, Grind.common_steps}
 use Rattle.crx_text.specs.meaning.{Columns.is_blank, Numbers.observation_of}
 use Rattle.crx_rinex.proofs.Cells.{cells_more, cells_whole, past, read_inside}
 use Rattle.crx_rinex.specs.meaning.SatelliteLines.{field}
@@ -32,8 +31,7 @@ returns-clause-read c =
 -- ---- where all cells have been read
 
 on-true : (b : Bool) (X : Type 0) → (b ≡ true → X) → OnTrue b X
-on-true true X h = h refl
-on-true false X h = tt
+on-true = grind (arith, common_steps)
 
 pub returns-then-first-values-clause-read : goal.returns-then-first-values-clause-read
 returns-then-first-values-clause-read c =

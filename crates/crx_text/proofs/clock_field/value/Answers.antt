@@ -1,16 +1,12 @@
-use Rattle.std.proofs.Common.{◌*◌, ◌+◌, ◌^◌, ◌<◌, ℕ, get_or, Fits, w8, w64, rules, arith, ◌∙◌}
+use Rattle.std.proofs.Common.{◌*◌, ◌+◌, ◌^◌, ◌<◌, ℕ, get_or, w8, w64, rules, arith, ◌∙◌}
 use Rattle.std.proofs.lemmas.Int.{to_z-of_z}
-use lib.Lanes.{Each1}
 use mir.Val.{SFits}
 use Rattle.crx_text.proofs.ClockColumns.{clock_range, digit_row, fraction_digits, fraction_small}
 use Rattle.crx_text.proofs.{ClockColumns.{fraction_value, decimal_columns}, DigitRows.pairs_small}
-use Rattle.crx_text.specs.declared.field.TheConstants.{WEIGHTS}
 use Rattle.crx_text.proofs.clock_field.value.Goals as goal
 
 pub dot4 : goal.dot4
-dot4 c =
-    let bytes : Each1 (Fits w8) (digit_row c.args.field.now) = search rules in
-    (pairs_small (digit_row c.args.field.now) WEIGHTS bytes tt, tt)
+dot4 c = search (rules, w8, digit_row, pairs_small)
 
 pub returns-clause-value : goal.returns-clause-value
 returns-clause-value c =

@@ -1,5 +1,4 @@
-use Rattle.std.proofs.lemmas.Grind.{common_steps}
-use Rattle.std.proofs.Common.{arith}
+use Rattle.std.proofs.{Common.arith, lemmas.Grind.common_steps}
 use Rattle.itoa.proofs.Decimal.{length_four}
 use Rattle.crx_text.proofs.code_digits.+write_long.Goals as goal
 

@@ -1,5 +1,4 @@
-use Rattle.std.proofs.lemmas.Grind.{common_steps}
-use Rattle.std.{proofs.Common.{get_or, arith}, specs.Char.is_ascii_digit}
+use Rattle.std.{proofs.{Common.{get_or, arith}, lemmas.Grind.common_steps}, specs.Char.is_ascii_digit}
 use Rattle.crx_text.proofs.CellNumbers.{no_first_digit}
 use Rattle.crx_text.proofs.code_digits.digits_before_blank.Goals as goal
 

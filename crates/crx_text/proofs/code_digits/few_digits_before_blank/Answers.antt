@@ -1,5 +1,5 @@
-use Rattle.std.proofs.Common.{◌≡◌, ◌-◌, ◌++◌, ℕ, length, length-append, take, drop, replicate, ap, ◌∙◌, arith}
-use Rattle.std.{proofs.lemmas.List.{drop-replicate, length-replicate, take_all}, specs.List.prefix_len}
+use Rattle.std.proofs.Common.{◌≡◌, ◌-◌, ◌++◌, ℕ, length, take, drop, replicate, ap, ◌∙◌, arith}
+use Rattle.std.{proofs.lemmas.{Grind.common_steps, List.{drop-replicate, take_all}}, specs.List.prefix_len}
 use Rattle.std.specs.Str.Parse.{digits_value}
 use Rattle.crx_text.proofs.DigitRows.{few_digits_of, first_digits_of}
 use Rattle.crx_text.proofs.code_digits.few_digits_before_blank.Goals as goal
@@ -15,12 +15,7 @@ ended_digits-requires-2-clause-digits c =
     let text = c.args.text.now in
     let read = c.in_ok-size-2 in
     let more : ℕ = 8 - length text in
-    let long : length (text ++ replicate more 0) ≡ 8 = omega (
-      arith,
-      length-append text (replicate more 0),
-      length-replicate {A = ℕ} more 0,
-      c.if-text-ge-ROW.false,
-    ) in
+    let long : length (text ++ replicate more 0) ≡ 8 = grind (arith, common_steps) in
     let row : take 8 (c.copy_text.new.to ++ drop (length text) (replicate 8 0)) ≡ text ++ replicate more 0 =
     ap (λ t. take 8 (t ++ drop (length text) (replicate 8 0))) c.copy_text.ensures.copied
     ∙ ap (λ t. take 8 (text ++ t)) (drop-replicate (length text) 8 0)

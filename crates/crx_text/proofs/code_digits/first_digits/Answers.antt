@@ -12,7 +12,6 @@ pub overflow_add-size : goal.overflow_add-size
 overflow_add-size c =
     let small = small_number _ _ 18
     (omega (arith, c.loop-count-test.true, c.min-limit.ensures)) c.loop-count.invariant.small in
-    let is_digit =
-    sym c.is_ascii_digit.ensures.value ∙ c.if-not-is_ascii_digit.false in
-    let range = digit_range (get_or c.args.text.now c.loop-count.count 0) is_digit in
+    let range = digit_range (get_or c.args.text.now c.loop-count.count 0)
+    (sym c.is_ascii_digit.ensures.value ∙ c.if-not-is_ascii_digit.false) in
     omega (arith, small, range, c.from.ensures)

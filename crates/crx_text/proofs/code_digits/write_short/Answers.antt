@@ -1,5 +1,5 @@
 use Rattle.std.proofs.Common.{rules, ◌<◌, ◌^◌, ◌+◌, ◌/◌, ◌++◌, ◌-◌, ◌≡◌, bit_or, ℕ, List, take, drop, ap, ◌∙◌}
-use Rattle.std.proofs.Common.{arith}
+use Rattle.std.proofs.{Common.arith, lemmas.Grind.common_steps}
 use lib.Count.{count_trailing_zeros}
 use Rattle.crx_text.proofs.DigitPairs.{bytes_shifted, digits_last, few_zeros, first_written, zeros_counted}
 use Rattle.crx_text.proofs.DigitPairs.{zeros_found, zeros_of}
@@ -7,15 +7,15 @@ use Rattle.crx_text.proofs.code_digits.write_short.Goals as goal
 
 pub overflow_shr-columns : goal.overflow_shr-columns
 overflow_shr-columns c =
-    let zeros = zeros_found _ _ c.requires.small
-    c.four_digits-columns.type_inv c.four_digits-columns.ensures in
-    rw c.from_le_bytes.ensures (omega (arith, zeros, few_zeros c.args.size))
+    grind (arith, common_steps, zeros_found, c.from_le_bytes.ensures, few_zeros c.args.size)
 
 pub returns-clause-within : goal.returns-clause-within
 returns-clause-within c =
-    let zeros = zeros_found _ _ c.requires.small c.four_digits-columns.type_inv c.four_digits-columns.ensures
-    in
-    rw c.from_le_bytes.ensures (omega (arith, zeros, few_zeros c.args.size, zeros_counted _ c.requires.small))
+    rw c.from_le_bytes.ensures (omega (
+      arith,
+      zeros_found _ _ c.requires.small c.four_digits-columns.type_inv c.four_digits-columns.ensures,
+      zeros_counted _ c.requires.small,
+    ))
 
 pub returns-clause-written : goal.returns-clause-written
 returns-clause-written c =

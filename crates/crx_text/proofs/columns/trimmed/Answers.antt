@@ -1,5 +1,4 @@
-use Rattle.std.proofs.lemmas.Grind.{common_steps}
-use Rattle.std.proofs.{Common.{arith}, lemmas.List.length-take}
+use Rattle.std.proofs.{Common.arith, lemmas.{Grind.common_steps, List.length-take}}
 use Rattle.crx_text.proofs.EndBlanks.{few_kept}
 use Rattle.crx_text.proofs.columns.trimmed.Goals as goal
 

@@ -1,6 +1,5 @@
-use Rattle.std.proofs.lemmas.Grind.{common_steps}
 use Rattle.std.proofs.Common.{◌≡◌, ◌+◌, ◌-◌, ◌≤◌, ◌++◌, ℕ, List, length, take, arith, ◌∙◌}
-use Rattle.std.proofs.lemmas.Simd.{length-chunk, length-put_chunk, take_more_put_chunk}
+use Rattle.std.proofs.lemmas.{Grind.common_steps, Simd.{length-chunk, length-put_chunk, take_more_put_chunk}}
 use Rattle.std.specs.Simd.Lanes.{chunk, put_chunk}
 use Rattle.crx_text.proofs.{CopiedTexts.copied_ends, LaneTexts.{piece_written, last_written}}
 use Rattle.crx_text.proofs.copies.copy_text.Goals as goal
@@ -15,14 +14,13 @@ loop-at-preserved c = grind (arith, common_steps, length-put_chunk, piece_writte
 
 pub returns-then-count-ge-LANES : goal.returns-then-count-ge-LANES
 returns-then-count-ge-LANES c =
-    let from = c.args.from.now in
     let same = c.loop-at.invariant.1 in
-    let m : ℕ = length from - 16 in
+    let m : ℕ = length c.args.from.now - 16 in
     record {
       copied =
-          last_written m 16 _ from _ _ (omega (arith, c.if-count-ge-LANES.true))
+          last_written m 16 _ c.args.from.now _ _ (omega (arith, c.if-count-ge-LANES.true))
           (omega (arith, c.loop-at-test.false)) c.loop-at.invariant.2 (length-put_chunk m _ _ ∙ same)
-          (copied_more m from _ (omega (arith, c.if-count-ge-LANES.true)) same);
+          (copied_more m c.args.from.now _ (omega (arith, c.if-count-ge-LANES.true)) same);
     }
 
 pub returns-then-count-ge8 : goal.returns-then-count-ge8

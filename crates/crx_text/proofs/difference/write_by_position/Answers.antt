@@ -1,5 +1,4 @@
-use Rattle.std.proofs.lemmas.Grind.{common_steps}
-use Rattle.std.proofs.Common.{arith}
+use Rattle.std.proofs.{Common.arith, lemmas.Grind.common_steps}
 use Rattle.crx_text.proofs.PositionParts.{both_end, old_is_longer, other_is_longer}
 use Rattle.crx_text.proofs.difference.write_by_position.Goals as goal
 

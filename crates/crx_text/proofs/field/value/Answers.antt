@@ -1,15 +1,12 @@
 use Rattle.std.proofs.{Common.{◌^◌, ◌<◌, w64, rules, ◌∙◌}, lemmas.Int.to_z-of_z}
 use mir.Val.{SFits}
 use Rattle.crx_text.proofs.{LaneBits.some_of_field, PlainSizes.{plain_size_is_small, signed_in_range}}
-use Rattle.crx_text.{proofs.PlainSizes.size_from_parts, specs.meaning.Numbers.signed_number}
+use Rattle.crx_text.proofs.PlainSizes.{size_from_parts}
 use Rattle.crx_text.proofs.field.value.Goals as goal
 
 pub returns-clause-value : goal.returns-clause-value
 returns-clause-value c =
-    let minus = some_of_field 45 c.args.columns c.fits-columns.0 in
-    let size = c.of_groups-size.ensures ∙ size_from_parts _ c.fits-columns.0 c.fits-columns.1 in
-    let fits : SFits w64 c.signed.result = search rules in
-    rw (to_z-of_z w64 _ fits) (c.signed.ensures ∙ (λ k. signed_number (minus k) (size k)))
+    search (rules, some_of_field, c.of_groups-size.ensures, size_from_parts, w64, to_z-of_z, c.signed.ensures)
 
 pub returns-clause-in_range : goal.returns-clause-in_range
 returns-clause-in_range c =

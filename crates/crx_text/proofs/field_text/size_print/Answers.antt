@@ -1,9 +1,7 @@
-use Rattle.std.proofs.lemmas.Grind.{common_steps}
 use Rattle.std.proofs.Common.{◌≡◌, ◌+◌, ◌-◌, ◌/◌, ◌%◌, ◌^◌, ◌≤◌, ◌++◌, ◌∷◌, [], ℕ, List, length, replicate}
-use Rattle.std.proofs.{Common.{take, drop, ap, refl, sym, ◌∙◌, arith}, lemmas.List.{length-drop, length-take}}
-use Rattle.std.proofs.lemmas.Simd.{length-chunk, length-zip2, put_chunk_whole}
-use lib.Count.{count_trailing_zeros}
-use lib.Lanes.{chunk, mask_l, pick_l}
+use Rattle.std.proofs.{Common.{take, drop, ap, refl, sym, ◌∙◌, arith}, lemmas.Grind.common_steps}
+use Rattle.std.proofs.lemmas.{List.length-take, Simd.{length-chunk, length-zip2, put_chunk_whole}}
+use lib.{Count.count_trailing_zeros, Lanes.{chunk, mask_l, pick_l}}
 use Rattle.crx_text.proofs.{PrintedDigits.{leading_zeros, zeros_few}, PrintedLanes.{base_row, begin_is}}
 use Rattle.crx_text.proofs.{PrintedLanes.begin_lanes, PrintedTexts.{nine_in, plus, row_of, three_in}}
 use Rattle.crx_text.proofs.PrintedTexts.{text_length, text_before, text_written}
@@ -38,27 +36,20 @@ overflow_sub-text c = grind (arith, common_steps, start_few)
 pub returns : goal.returns
 returns c =
     let size = c.args.size in
-    let small = c.requires.short in
-    let is = c.digits.ensures in
     let columns : List ℕ = in_columns c.digits.result in
     let start : ℕ = start_of columns in
-    let at = start_is size c.digits.result is in
-    let few = start_few size c.digits.result is in
+    let at = start_is size c.digits.result c.digits.ensures in
+    let few = start_few size c.digits.result c.digits.ensures in
     let base : List ℕ = bases_at start in
     let sixteen : length base ≡ 16 = length-chunk 0 16 (take (32 - (16 - start)) (drop (16 - start) BASES))
-    (omega (
-      arith,
-      length-take (32 - (16 - start)) (drop (16 - start) BASES),
-      length-drop (16 - start) BASES,
-      few,
-    )) in
+    (omega (arith, length-take (32 - (16 - start)) (drop (16 - start) BASES))) in
     let long : length (plus columns base)
     ≡ 16 = length-zip2 (λ a b. (a + b) % 256) columns base (sym sixteen) in
     let cell = put_chunk_whole c.args.cell.now (plus columns base) (c.requires.width ∙ sym long)
-    ∙ (λ k. plus (columns_are size c.digits.result is k) (base_row start few k)) in
+    ∙ (λ k. plus (columns_are size c.digits.result c.digits.ensures k) (base_row start few k)) in
     record {
-      start = text_length size start _ small at cell;
+      start = text_length size start _ c.requires.short at cell;
       room = omega (arith, at);
-      written = text_written size start _ small at cell;
-      before = text_before size start _ small at cell;
+      written = text_written size start _ c.requires.short at cell;
+      before = text_before size start _ c.requires.short at cell;
     }

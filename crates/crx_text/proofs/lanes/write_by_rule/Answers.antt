@@ -1,8 +1,7 @@
-use Rattle.std.proofs.lemmas.Grind.{common_steps}
-use Rattle.std.proofs.{Common.{get_or, ap, sym, ◌∙◌, arith}, lemmas.List.take_all}
+use Rattle.std.proofs.{Common.{get_or, sym, ◌∙◌, arith}, lemmas.{Grind.common_steps, List.take_all}}
 use Rattle.std.proofs.lemmas.{List.{take_more, take_more_set, length-set}, Simd.{get_or-zip2, length-zip2}}
 use Rattle.std.specs.Simd.Lanes.{zip2}
-use Rattle.crx_text.proofs.{LaneTexts.{piece_written, last_written}, TextEnds.{ends, stored_ends}}
+use Rattle.crx_text.proofs.{LaneTexts.{piece_written, last_written}, TextEnds.stored_ends}
 use Rattle.crx_text.proofs.lanes.write_by_rule.Goals as goal
 
 pub loop-at-preserved : goal.loop-at-preserved
@@ -10,9 +9,8 @@ loop-at-preserved g c = grind (arith, common_steps, piece_written, zip2)
 
 pub returns-then-count-ge-LANES : goal.returns-then-count-ge-LANES
 returns-then-count-ge-LANES g c =
-    let whole = zip2 _ _ _ in
     let all = length-zip2 _ _ _ (sym c.requires.0) in
-    last_written _ 16 _ whole _ _
+    last_written _ 16 _ (zip2 _ _ _) _ _
     (omega (arith, all, c.if-count-ge-LANES.true)) (omega (arith, c.loop-at-test.false)) c.loop-at.invariant.2
     (c.write_lanes-then-count-ge-LANES.ensures.long ∙ c.loop-at.invariant.1 ∙ sym all)
     c.write_lanes-then-count-ge-LANES.ensures.written
@@ -22,8 +20,7 @@ returns-then-count-ge8 g c =
     let rule = g.R.Rule.rule in
     stored_ends rule 8 _ _ _ c.if-count-ge8.true (omega (arith, c.if-count-ge-LANES.false)) c.requires.0
     c.requires.1 _ (c.apply_to-made.ensures.value
-    ∙ (ap (λ t. zip2 rule t c.ends_of_eight-then-count-ge8.result) c.ends_of_eight.ensures ∙ ap
-    (λ t. zip2 rule (ends 8 c.args.old.now) t) c.ends_of_eight-then-count-ge8.ensures))
+    ∙ (grind (arith, common_steps, c.ends_of_eight.ensures, c.ends_of_eight-then-count-ge8.ensures)))
 
 pub loop-column-preserved : goal.loop-column-preserved
 loop-column-preserved g c =

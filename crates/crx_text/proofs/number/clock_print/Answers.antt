@@ -1,5 +1,5 @@
-use Rattle.std.proofs.lemmas.Grind.{common_steps}
-use Rattle.std.proofs.{Common.{drop, take, w64, arith, rules, ap, ◌∙◌}, lemmas.Int.to_z-of_z}
+use Rattle.std.proofs.{Common.{drop, take, w64, arith, rules, ap, ◌∙◌}, lemmas.Grind.common_steps}
+use Rattle.std.proofs.lemmas.Int.{to_z-of_z}
 use Rattle.crx_text.proofs.{ClockTexts.text_long, Spellings.{printed_number, printed_number_below}}
 use Rattle.crx_text.proofs.Spellings.{printed_blank}
 use Rattle.crx_text.proofs.number.clock_print.Goals as goal

@@ -1,22 +1,12 @@
-use Rattle.std.proofs.lemmas.Grind.{common_steps}
-use Rattle.std.proofs.Common.{◌≡◌, ◌-◌, ◌<◌, ◌^◌, length, ℕ, pos, take, replicate, true, w64, arith, rules}
-use Rattle.std.proofs.{Common.{ap, sym, ◌∙◌}, lemmas.Int.to_z-of_z}
+use Rattle.std.proofs.Common.{◌≡◌, ◌-◌, ◌<◌, ◌^◌, length, ℕ, take, replicate, true, w64, arith, rules, ap}
+use Rattle.std.proofs.{Common.◌∙◌, lemmas.{Grind.common_steps, Int.to_z-of_z}}
 use lib.IntN.{nat_abs}
-use lib.Signed.{lt_z}
 use Rattle.crx_text.proofs.Spellings.{size_text_fits, abs_within, abs_within_below, printed_number}
 use Rattle.crx_text.proofs.Spellings.{printed_number_below, printed_blank}
 use Rattle.crx_text.proofs.number.number_print.Goals as goal
 
 pub size_print-start-requires-clause-room : goal.size_print-start-requires-clause-room
-size_print-start-requires-clause-room c =
-    let number = c.in-Some.number in
-    let width : ℕ = length c.args.field.now in
-    let size_is : c.unsigned_abs.result ≡ nat_abs number =
-    c.unsigned_abs.ensures.value ∙ ap nat_abs (to_z-of_z w64 number (search rules)) in
-    let small : c.unsigned_abs.result < 10 ^ (width - 1) =
-    rw size_is (abs_within width number (c.requires.in_range number c.in-Some.is)) in
-    rw c.fill.ensures.len (size_text_fits c.args.decimals c.unsigned_abs.result width c.requires.shape.0
-    (omega (arith, c.requires.shape.1)) c.requires.shape.2 small)
+size_print-start-requires-clause-room c = grind (arith, common_steps, w64, abs_within, size_text_fits)
 
 pub overflow_sub-field : goal.overflow_sub-field
 overflow_sub-field c =
@@ -24,9 +14,8 @@ overflow_sub-field c =
     let width : ℕ = length c.args.field.now in
     let held = to_z-of_z w64 number (search rules) in
     let size_is : c.unsigned_abs.result ≡ nat_abs number = c.unsigned_abs.ensures.value ∙ ap nat_abs held in
-    let below : lt_z number (pos 0) ≡ true = ap (λ z. lt_z z (pos 0)) (sym held) ∙ c.if-number-lt0.true in
-    let small : c.unsigned_abs.result < 10 ^ (width - 1 - 1) =
-    rw size_is (abs_within_below width number below (c.requires.in_range number c.in-Some.is)) in
+    let small : c.unsigned_abs.result < 10 ^ (width - 1 - 1) = rw size_is
+    (grind (arith, common_steps, abs_within_below, c.requires.in_range number c.in-Some.is)) in
     let short = size_text_fits c.args.decimals c.unsigned_abs.result (width - 1) c.requires.shape.0
     (omega (arith, c.requires.shape.1)) (omega (arith, c.requires.shape.2)) small in
     omega (arith, short, c.size_print-start.ensures.start, c.fill.ensures.len, c.requires.shape.1)
@@ -43,15 +32,7 @@ returns-then-number-lt0 c =
     (printed.ensures.before ∙ ap (take _) blank))
 
 pub returns-else-number-lt0 : goal.returns-else-number-lt0
-returns-else-number-lt0 c =
-    let number = c.in-Some.number in
-    let width : ℕ = length c.args.field.now in
-    let printed = c.size_print-start in
-    let blank : c.fill.new.self ≡ replicate {A = ℕ} width 32 = search rules in
-    rw c.in-Some.is (printed_number width _ _ _ _ number
-    printed.new.field (to_z-of_z w64 number (search rules)) c.if-number-lt0.false c.unsigned_abs.ensures.value
-    (printed.ensures.start ∙ c.fill.ensures.len) printed.ensures.written
-    (printed.ensures.before ∙ ap (take _) blank))
+returns-else-number-lt0 c = grind (arith, common_steps, printed_number, w64)
 
 pub returns-in_default : goal.returns-in_default
 returns-in_default c = grind (arith, common_steps, replicate, printed_blank)

@@ -1,7 +1,6 @@
-use Rattle.std.proofs.lemmas.Grind.{common_steps}
-use Rattle.std.proofs.Common.{◌≡◌, ◌≤◌, ℕ, ◌+◌, List, [], ◌∷◌, ◌++◌, length, take, drop, set, refl, sym}
-use Rattle.std.proofs.{Common.{ap, ◌∙◌, get_or, append_assoc, arith}, lemmas.Grind.take-set_at}
-use Rattle.std.proofs.lemmas.{List.{length-set, length-take-le, length-drop, take-take}, Slice.take-put_mid}
+use Rattle.std.proofs.Common.{◌≡◌, ◌≤◌, ℕ, ◌+◌, List, [], ◌∷◌, ◌++◌, length, take, set, get_or, arith}
+use Rattle.std.proofs.lemmas.{Grind.common_steps, List.{length-take-le, length-drop, take-take}}
+use Rattle.std.proofs.lemmas.Slice.{take-put_mid}
 use lib.Seq.{take-append-add}
 use borrow.Rule.Slice.PartMut.{put_mid, same_len_mid}
 use Rattle.crx_text.proofs.number.obs_print_cell.Goals as goal
@@ -17,16 +16,7 @@ cell_written : (bytes part : List ℕ) (at k one two : ℕ) → length part ≡ 
     → take (at + 14 + 2) (set (set (put_mid at k bytes part) (at + 14) one) (at + 14 + 1) two)
     ≡ take at bytes ++ (take 14 part ++ one ∷ two ∷ [])
 cell_written bytes part at k one two long sixteen room =
-    let made = put_mid at k bytes part in
-    let cut =
-    length-take-le k (drop at bytes) (omega (arith, length-drop at bytes, sixteen, room)) in
-    let same = same_len_mid at k bytes part (long ∙ sym sixteen ∙ sym cut) in
-    let first = take-set_at made (at + 14) (at + 14 + 1) one refl (omega (arith, same, room)) in
-    let second = take-set_at (set made (at + 14) one) (at + 14 + 1) (at + 14 + 2) two (omega arith)
-    (omega (arith, same, room, length-set made (at + 14) one)) in
-    second ∙ ap (λ t. t ++ two ∷ []) (first ∙ ap (λ t. t ++ one ∷ [])
-    (field_written bytes part at k long sixteen room)) ∙ append_assoc (take at bytes ++ take 14 part)
-    (one ∷ []) (two ∷ []) ∙ append_assoc (take at bytes) (take 14 part) (one ∷ two ∷ [])
+    grind (arith, common_steps, put_mid, length-take-le, same_len_mid, field_written)
 
 pub returns : goal.returns
 returns c = grind (arith, common_steps, length-take-le, length-drop, get_or, set, cell_written)

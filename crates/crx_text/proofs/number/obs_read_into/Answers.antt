@@ -20,8 +20,7 @@ returns-then-columns-eq-FIELD-clause-value c =
     ] in
     blank_number 14 3 _ [] (length-take-le 14 text front.1)
     (ap (list_all (λ c. eqb c 32)) (append-nil _ ∙ sym front.0) ∙ sym (each_of_field 32 _
-    c.match-text.auto.columns.0)
-    ∙ eq-eqb _ 16383 c.if-columns-eq-FIELD.true)
+    c.match-text.auto.columns.0) ∙ eq-eqb _ 16383 c.if-columns-eq-FIELD.true)
 
 pub returns-then-is_plain-clause-value : goal.returns-then-is_plain-clause-value
 returns-then-is_plain-clause-value c =
@@ -35,9 +34,8 @@ returns-then-is_plain-clause-value c =
       )
       | in-16 w ↦ (ap (take 14) w.columns-is ∙ take-take 14 16 text (omega arith), omega (arith, w.in-16.is))
     ] in
-    let are : lanes ≡ take 14 text ++ drop 14 lanes =
-    sym (take-append-drop 14 lanes) ∙ ap (λ (t : List ℕ). t ++ drop 14 lanes) front.0 in
+    let are : lanes ≡ take 14 text ++ drop 14 lanes = sym (take-append-drop 14 lanes) ∙ ap
+    (λ (t : List ℕ). t ++ drop 14 lanes) front.0 in
     let number = plain_number (take 14 text) (drop 14 lanes) (length-take-le 14 text front.1)
     (subst IsPlain are (c.is_plain.ensures c.if-is_plain.true)) in
-    let held = to_z-of_z w64 c.value.result (search rules) in
-    rw (held, c.value.ensures.value ∙ ap number_in are) number
+    rw ((to_z-of_z w64 c.value.result (search rules)), c.value.ensures.value ∙ ap number_in are) number

@@ -1,12 +1,9 @@
-use Rattle.std.proofs.lemmas.Grind.{common_steps}
-use Rattle.std.proofs.Common.{decimal, arith}
-use Rattle.std.proofs.lemmas.List.{length-take, length-drop, length-append}
+use Rattle.std.proofs.{Common.{rules, decimal, arith}, lemmas.List.{length-take, length-drop, length-append}}
 use Rattle.crx_text.proofs.Spellings.{fraction_short, length-size_text}
 use Rattle.crx_text.proofs.number.size_print.Goals as goal
 
 pub padded_print-requires : goal.padded_print-requires
-padded_print-requires c =
-    grind (arith, common_steps, decimal, fraction_short, length-size_text, length-take, length-drop)
+padded_print-requires c = search (rules, decimal, fraction_short, length-size_text, length-take, length-drop)
 
 pub bounds-field-point : goal.bounds-field-point
 bounds-field-point c =

@@ -1,7 +1,6 @@
-use Rattle.std.proofs.lemmas.Grind.{common_steps}
-use Rattle.std.proofs.Common.{◌+◌, ◌-◌, ◌≤◌, length, take, drop, ℕ, arith}
-use Rattle.std.proofs.lemmas.{List.{length-take, length-drop, take_rest}}
-use Rattle.std.specs.Str.{all_ascii_digits, Parse.digits_value_after}
+use Rattle.std.proofs.{Common.{◌+◌, ◌-◌, ◌≤◌, length, take, drop, ℕ, arith}, lemmas.Grind.common_steps}
+use Rattle.std.{proofs.lemmas.List.{length-take, length-drop, take_rest}, specs.Str.all_ascii_digits}
+use Rattle.std.specs.Str.Parse.{digits_value_after}
 use Rattle.crx_text.proofs.{PowersOfTen.more_digits_fit, Sizes.{size_of_parts, neither, first_passed}}
 use Rattle.crx_text.proofs.number.size_read.Goals as goal
 
@@ -20,13 +19,7 @@ digits_read-requires-2 c =
     let text = c.args.text.now in
     let point : ℕ = length text - c.args.decimals - 1 in
     let fraction = take (length text - (point + 1)) (drop (point + 1) text) in
-    more_digits_fit _ _ _ 18 c.in_ok-whole.ensures.fits (omega (
-      arith,
-      c.requires,
-      length-take point text,
-      length-take (length text - (point + 1)) (drop (point + 1) text),
-      length-drop (point + 1) text,
-    ))
+    more_digits_fit _ _ _ 18 c.in_ok-whole.ensures.fits (omega (arith, c.requires, length-take point text))
 
 pub returns-clause-value : goal.returns-clause-value
 returns-clause-value c =

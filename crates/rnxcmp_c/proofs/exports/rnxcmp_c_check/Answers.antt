@@ -1,3 +1,4 @@
+use Rattle.std.proofs.lemmas.Grind.{common_steps}
 use Rattle.rnxcmp_c.proofs.{Lossless.says-so, RunLemmas.{answers-alone, answers-within}, Words.{refl, sym}}
 use Rattle.rnxcmp_c.proofs.Words.{◌∙◌, arith, rooms, Check}
 use Rattle.rnxcmp_c.proofs.exports.rnxcmp_c_check.Goals as goal
@@ -16,8 +17,4 @@ returns-clause-runs c within memory =
     (λ over. omega (arith, over.0))
 
 pub returns-clause-lossless : goal.returns-clause-lossless
-returns-clause-lossless c within memory =
-    says-so _ c.answer_of.result (rooms _ _) (rooms _ _) (returns-clause-runs c within memory)
-
-pub returns-clause-standard : goal.returns-clause-standard
-returns-clause-standard c within memory fits = grind arith
+returns-clause-lossless c within memory = grind (arith, common_steps, says-so, returns-clause-runs)

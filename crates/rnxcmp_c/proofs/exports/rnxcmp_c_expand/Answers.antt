@@ -19,8 +19,7 @@ promised c within memory =
     let before = rooms c.args.output.now c.args.messages.now in
     let after = rooms c.answer_of.new.output_room c.answer_of.new.messages_room in
     keeps-promises (λ (whole : FilterResult). AnswersWithin c.args.max_output whole c.answer_of.result before
-    after)
-    _ _ (answers-within (Expand c.expansion_options.result 0) run.ensures.runs.2
+    after) _ _ (answers-within (Expand c.expansion_options.result 0) run.ensures.runs.2
     (sym c.new-reader.ensures ∙ run.ensures.runs.1) (λ ended. ended) within before after c.new-written.ensures
     c.new-reported.ensures (λ t took. took) (λ t took. took) (refl, omega arith) (λ none. none) (λ none. none)
     c.answer_of.ensures memory)
@@ -32,8 +31,7 @@ returns-clause-runs c choices same within memory =
     (whole_compact skip (map seen (lines_of c.args.input.now)))) c.answer_of.result
     (rooms c.args.output.now c.args.messages.now)
     (rooms c.answer_of.new.output_room c.answer_of.new.messages_room)) (c.expansion_options.ensures ∙ sym
-    same)
-    (promised (goal.at.returns-clause-runs c).After-answer_of within memory).whole
+    same) (promised (goal.at.returns-clause-runs c).After-answer_of within memory).whole
 
 pub returns-clause-lossless : goal.returns-clause-lossless
 returns-clause-lossless c within memory =

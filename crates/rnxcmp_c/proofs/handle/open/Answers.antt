@@ -1,16 +1,7 @@
-use Rattle.std.proofs.Common.{arith}
-use Rattle.rnxcmp_c.proofs.{HandleLemmas.fresh-stands, Words.{refl, sym, subst, ReaderStands, nothing_fed}}
+use Rattle.std.proofs.Common.{rules}
+use Rattle.rnxcmp_c.proofs.HandleLemmas.{fresh-stands}
 use Rattle.rnxcmp_c.proofs.handle.open.Goals as goal
 
 pub returns-in-Some-clause-opened : goal.returns-in-Some-clause-opened
-returns-in-Some-clause-opened c = λ task fresh nothing zero.
-    record {
-      reader = c.in-Some.reader.value;
-      is_open = c.put_in.ensures.opened;
-      holds = c.put_in.ensures.reader;
-      stands = subst (λ r. ReaderStands task r nothing_fed) (sym c.in-Some.ensures)
-          (fresh-stands task _ _ _ fresh refl nothing);
-    }
-
-pub returns-in-Some-clause-running : goal.returns-in-Some-clause-running
-returns-in-Some-clause-running c = grind arith
+returns-in-Some-clause-opened c =
+    search (rules, c.put_in.ensures.opened, c.put_in.ensures.reader, c.in-Some.ensures, fresh-stands)

@@ -15,7 +15,8 @@ held c = grind arith
 pub take_end-answer-requires : goal.take_end-answer-requires
 take_end-answer-requires c =
     let sound = c.requires.sound c.if-not-handle.false in
-    (sound.0, past_of sound.1 sound.2, stood (held (goal.at.take_end-answer-requires c).After-deref_mut) sound.3)
+    let holds = held (goal.at.take_end-answer-requires c).After-deref_mut in
+    (sound.0, past_of sound.1 sound.2, stood holds sound.3)
 
 pub returns-clause-ends : goal.returns-clause-ends
 returns-clause-ends c = λ task fed taken stands.
@@ -23,8 +24,7 @@ returns-clause-ends c = λ task fed taken stands.
     c.put_in.ensures.opened c.take_end-answer.ensures task fed taken stands
 
 pub returns-clause-stands : goal.returns-clause-stands
-returns-clause-stands c = λ task fed taken stands.
-    ends-on (returns-clause-ends c task fed taken stands) stands
+returns-clause-stands c task fed taken stands = ends-on (returns-clause-ends c task fed taken stands) stands
 
 pub returns-clause-misused : goal.returns-clause-misused
 returns-clause-misused c = λ task fed taken stands ended.

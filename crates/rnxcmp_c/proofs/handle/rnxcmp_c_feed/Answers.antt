@@ -15,7 +15,8 @@ held c = grind arith
 pub take_in-count-requires : goal.take_in-count-requires
 take_in-count-requires c =
     let sound = c.requires.sound c.if-not-handle.false in
-    (sound.0, past_of sound.1 sound.2, stood (held (goal.at.take_in-count-requires c).After-deref_mut) sound.3)
+    let holds = held (goal.at.take_in-count-requires c).After-deref_mut in
+    (sound.0, past_of sound.1 sound.2, stood holds sound.3)
 
 pub returns-clause-feeds : goal.returns-clause-feeds
 returns-clause-feeds c = λ task fed taken stands.

@@ -5,8 +5,7 @@ use Rattle.rnxcmp_c.proofs.handle.rnxcmp_c_open_compact.Goals as goal
 pub returns-in-Ok-new-2-clause-opened : goal.returns-in-Ok-new-2-clause-opened
 returns-in-Ok-new-2-clause-opened c =
     let seen = c.in-Ok-new-2.ensures.seen in
-    let same =
-    ap (λ s. s.choices) seen in
+    let same = ap (λ s. s.choices) seen in
     c.open.ensures.opened _ (record {
       is_of = ap compaction_filter (same ∙ c.in-Ok.ensures.value.0);
       drained = c.in-Ok-new-2.ensures.drained;

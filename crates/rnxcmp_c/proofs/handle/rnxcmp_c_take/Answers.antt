@@ -1,9 +1,8 @@
-use Rattle.std.proofs.Common.{arith}
+use Rattle.std.proofs.{Common.arith, lemmas.Grind.common_steps}
 use Rattle.rnxcmp_c.proofs.EndedLemmas.{ended-where, result-where, run-check, run-expansion}
-use Rattle.rnxcmp_c.proofs.{PromiseLemmas.{handle-promise, stood}, Words.{ℕ, List, length, take, sym, subst}}
-use Rattle.rnxcmp_c.proofs.Words.{ReaderStands, Holds, past_of, taken_with, BothTexts, rooms, Task, Expand}
-use Rattle.rnxcmp_c.proofs.{Words.{Check, Reader}, handle.rnxcmp_c_take.Goals.{After-deref_mut, After-put_in}}
-use Rattle.rnxcmp_c.specs.Opened.{HandsOut, messages_kept, output_kept}
+use Rattle.rnxcmp_c.proofs.{PromiseLemmas.{handle-promise, stood}, Words.{ℕ, List, Holds, past_of, BothTexts}}
+use Rattle.rnxcmp_c.proofs.{Words.{rooms, Task, Expand, Check}, handle.rnxcmp_c_take.Goals.After-deref_mut}
+use Rattle.rnxcmp_c.{proofs.handle.rnxcmp_c_take.Goals.After-put_in, specs.Opened.HandsOut}
 use Rattle.rnxcmp_c.proofs.handle.rnxcmp_c_take.Goals as goal
 
 pub take_out-reader-requires : goal.take_out-reader-requires
@@ -19,18 +18,6 @@ given : (c : After-put_in) → HandsOut c.args.handle.now.place.held c.put_in.ne
     (rooms c.hand_out-answer.new.output c.hand_out-answer.new.messages) c.hand_out-answer.result
 given c = grind arith
 
-pub returns-clause-output : goal.returns-clause-output
-returns-clause-output c = grind arith
-
-pub returns-clause-messages : goal.returns-clause-messages
-returns-clause-messages c = grind arith
-
-pub returns-clause-output_left : goal.returns-clause-output_left
-returns-clause-output_left c = grind arith
-
-pub returns-clause-messages_left : goal.returns-clause-messages_left
-returns-clause-messages_left c = grind arith
-
 pub returns-clause-still : goal.returns-clause-still
 returns-clause-still c = grind arith
 
@@ -41,10 +28,7 @@ returns-clause-stands c = λ (task : Task) (fed : List ℕ) (taken : BothTexts) 
       reader = c.hand_out-answer.new.self;
       is_open = c.put_in.ensures.opened;
       holds = c.put_in.ensures.reader;
-      stands = subst (λ (l : List Reader). ReaderStands task c.hand_out-answer.new.self
-          (taken_with (past_of fed taken) (take (length c.args.output.now) (output_kept l))
-          (take (length c.args.messages.now) (messages_kept l)))) (sym holds)
-          (c.hand_out-answer.ensures.stands task (past_of fed taken) (stood holds stands));
+      stands = rw holds (c.hand_out-answer.ensures.stands task (past_of fed taken) (stood holds stands));
     }
 
 pub returns-clause-promise : goal.returns-clause-promise
@@ -56,9 +40,7 @@ returns-clause-promise c = λ (task : Task) (fed : List ℕ) (taken : BothTexts)
 
 pub returns-clause-expansion : goal.returns-clause-expansion
 returns-clause-expansion c = λ choices limit fed taken stands ended memory few long. run-expansion fed _ _ _
-    choices (result-where fed _ _ _ _ (Expand choices limit) memory few
-    (ended-where fed _ _ _ _ (Expand choices limit) memory long
-    ((handle-promise stands c.put_in.ensures.reader c.hand_out-answer.ensures.taken.answered).ended ended)))
+    choices (grind (arith, common_steps, result-where, Expand choices limit, ended-where))
 
 pub returns-clause-check : goal.returns-clause-check
 returns-clause-check c = λ fed taken stands ended memory few long. run-check fed _ _ _

@@ -1,8 +1,8 @@
+use Rattle.std.proofs.Common.{rules}
 use Rattle.rnxcmp_c.proofs.{ReaderLemmas.{lawful-for, length-begins, one_more-first, output-for}, Words.◌≡◌}
-use Rattle.rnxcmp_c.proofs.Words.{⊎_elim, ℕ, List, length, arith, refl, sym, ap, ◌∙◌, subst, InputLine}
-use Rattle.rnxcmp_c.proofs.Words.{Begins, Course, FilterResult, filter_for, result_for, Answer, BothTexts}
-use Rattle.rnxcmp_c.proofs.Words.{fault_code_in, line_in, placed, rooms, status_in, LacksLastMessage}
-use Rattle.rnxcmp_c.proofs.Words.{StopsAtLimit, Task, handle_answer, run_for, with_one_more}
+use Rattle.rnxcmp_c.proofs.Words.{⊎_elim, ℕ, List, length, arith, refl, sym, ap, ◌∙◌, FilterResult}
+use Rattle.rnxcmp_c.proofs.Words.{result_for, Answer, BothTexts, fault_code_in, line_in, placed, rooms}
+use Rattle.rnxcmp_c.proofs.Words.{status_in, LacksLastMessage, StopsAtLimit, Task, handle_answer, run_for}
 use Rattle.rnxcmp_c.specs.meaning.Answers.{ExceedsLimit}
 use Rattle.rnxcmp_c.proofs.laws.a_handle_answers_as_a_call.Goals as goal
 
@@ -17,21 +17,10 @@ answer-is : (one other : Answer) (made : BothTexts) → one.status ≡ other.sta
     → one ≡ record other { output_length = length made.output; messages_length = length made.messages }
 answer-is one other made status line code output messages = grind arith
 
-pub returns-clause-same : goal.returns-clause-same
-returns-clause-same c = grind arith
-
 -- what is made with one line more, or with the end, is first in the output of all
 exceeds : (task : Task) (fed : List ℕ) (result : FilterResult) → StopsAtLimit (run_for task) fed result
     → ExceedsLimit (run_for task).limit (result_for task fed).output
-exceeds task fed result stops =
-    let filter = filter_for task in
-    let whole : Begins (result_for task fed).output (with_one_more filter stops.lines stops.others).output =
-    subst (λ t. Begins t (with_one_more filter stops.lines stops.others).output)
-    (sym (output-for task fed ∙ ap (λ (ls : List InputLine). (filter.whole ls).output) stops.first))
-    (one_more-first filter (lawful-for task) stops.lines stops.others) in (
-      stops.limited,
-      omega (arith, stops.over, ap (λ (c : Course). length c.output) stops.after_is, length-begins _ _ whole),
-    )
+exceeds task fed result stops = search (rules, output-for, one_more-first, lawful-for, length-begins)
 
 pub returns-clause-limit : goal.returns-clause-limit
 returns-clause-limit c = λ task fed made kept answer call before after ended answers.
@@ -49,9 +38,6 @@ returns-clause-limit c = λ task fed made kept answer call before after ended an
       ap (λ a. a.line) over ∙ sym (ap (λ (a : Answer). a.line) answered ∙ ap
           (λ (r : FilterResult). line_in r.fault) ended.is.result_is),
     )
-
-pub returns-clause-long : goal.returns-clause-long
-returns-clause-long c = grind arith
 
 pub returns-clause-instance : goal.returns-clause-instance
 returns-clause-instance c = λ task fed within.

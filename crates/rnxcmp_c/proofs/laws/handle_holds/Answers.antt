@@ -1,5 +1,4 @@
-use Rattle.rnxcmp_c.proofs.Words.{◌≡◌, refl, ap, arith, AnyEngine, Compacting, Expanding, Checking}
-use Rattle.std.proofs.lemmas.List.{length-drop}
+use Rattle.rnxcmp_c.proofs.Words.{◌≡◌, refl, ap, AnyEngine, Compacting, Expanding, Checking}
 use Rattle.rnxcmp_c.specs.Holdings.{engine_with}
 use Rattle.rnxcmp_c.proofs.laws.handle_holds.Goals as goal
 
@@ -17,15 +16,3 @@ engine-is (Checking one) (Checking other) = refl
 
 pub returns-clause-parts : goal.returns-clause-parts
 returns-clause-parts c = λ one other. ap (λ e. let r = record other { engine = e } in r) (engine-is _ _)
-
-pub returns-clause-bounded : goal.returns-clause-bounded
-returns-clause-bounded c = λ held.
-    let output = held.output in
-    let messages = held.messages in
-    record {
-      line = held.tail.within;
-      output_waits = omega (arith, output.bounded, length-drop output.passed output.bytes.items);
-      output = omega (arith, output.bounded, output.half);
-      messages_wait = omega (arith, messages.bounded, length-drop messages.passed messages.bytes.items);
-      messages = omega (arith, messages.bounded, messages.half);
-    }

@@ -1,5 +1,5 @@
-use Rattle.rnxcmp_c.proofs.Words.{◌++◌, lines_of, ended_lines-come_first}
-use Rattle.rnxcmp_c.proofs.PromiseLemmas.{messages-own, output-first}
+use Rattle.rnxcmp_c.proofs.{PromiseLemmas.{messages-own, output-first}, Words.{◌++◌, lines_of}}
+use Rattle.rnxcmp_c.proofs.Words.{ended_lines-come_first}
 use Rattle.rnxcmp_c.proofs.laws.what_lines_make_comes_first.Goals as goal
 
 pub returns-clause-begun : goal.returns-clause-begun

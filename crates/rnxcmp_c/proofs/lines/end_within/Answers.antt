@@ -1,3 +1,4 @@
+use Rattle.std.proofs.{Common.arith, lemmas.Grind.common_steps}
 use Rattle.rnxcmp_c.proofs.{Cut.{halted-stops, kept-where_done}, WithinLemmas.{Ended, Kept, marks-within}}
 use Rattle.rnxcmp_c.proofs.{WithinLemmas.{step-stays, step-stops}, Words.{List, [], None, refl, IfErr-weaker}}
 use Rattle.rnxcmp_c.proofs.{Words.{IfOk-weaker, on_ok_weaker, InputLine, Held}, lines.end_within.Given.Over}
@@ -21,18 +22,14 @@ came g c lines shown =
     let held = c.args.held.now in
     let taken = c.take_end-taken in (
       IfOk-weaker taken.result _ _
-          (λ warned done. kept-where_done _ _ held.output taken.new.writer held.messages taken.new.messages _
-          warned done) (taken.ensures.done lines shown),
+          (grind (arith, common_steps, kept-where_done)) (taken.ensures.done lines shown),
       IfErr-weaker taken.result _ _
           (λ halt cut. halted-stops _ _ held.output taken.new.writer held.messages taken.new.messages
           held.number _ halt cut.0) (taken.ensures.cut lines shown),
     )
 
 pub counted-requires : goal.counted-requires
-counted-requires g c =
-    let at = (goal.at.counted-requires g c).After-take_end-taken in
-    let step = came g at c.requires.shown.0 c.requires.shown.1 in
-    marks-within _ _ _ _ _ _ _ _ c.mark-mark.ensures _ step.0 step.1
+counted-requires g c = grind (arith, common_steps, came, marks-within)
 
 pub returns-clause-step : goal.returns-clause-step
 returns-clause-step g c = λ (lines : List _) shown.

@@ -12,7 +12,8 @@ returns-then-content-gt-LINE_LIMIT-clause-step g c = λ lines whole shown kept.
     let output = c.args.output.now in
     let messages = c.args.messages.now in
     let long = lt-ltb _ _ (long-where_long _ whole kept
-    (subst (λ bs. LINE_LIMIT < length bs) c.content_of-has_return.ensures.content c.if-content-gt-LINE_LIMIT.true)) in (
+    (subst (λ bs. LINE_LIMIT < length bs) c.content_of-has_return.ensures.content
+    c.if-content-gt-LINE_LIMIT.true)) in (
       IfOk-weaker _ _ _ (λ warned done. kept-where_done _ _ output _ _ _ _ warned done)
           (taken.ensures.taken.done lines _ shown long),
       IfErr-weaker taken.result _ _
@@ -26,7 +27,8 @@ returns-clause-step g c = λ lines whole shown kept.
     let output = c.args.output.now in
     let messages = c.args.messages.now in
     let all = whole-where_not_long c.args.bytes.now whole kept
-    (subst (λ bs. length bs ≤ LINE_LIMIT) c.content_of-has_return.ensures.content c.if-content-gt-LINE_LIMIT.false) in
+    (subst (λ bs. length bs ≤ LINE_LIMIT) c.content_of-has_return.ensures.content
+    c.if-content-gt-LINE_LIMIT.false) in
     let same : line_shown c.of.result ≡ piece_line c.args.bytes.now c.args.is_ended =
     elim c.if-is_ended.branch [ then-is_ended w ↦ search rules | else-is_ended w ↦ search rules ] in
     subst (λ (line : InputLine). LineIsGiven taken.result (g.E.Engine.filter c.args.engine.now)
@@ -34,8 +36,7 @@ returns-clause-step g c = λ lines whole shown kept.
     (same ∙ ap (λ bs. piece_line bs c.args.is_ended) all) (
       IfOk-weaker _ _ _
           (λ warned done. kept-where_done _ _ output taken.new.writer messages taken.new.messages _ warned
-          done)
-          (taken.ensures.taken.done lines _ shown refl),
+          done) (taken.ensures.taken.done lines _ shown refl),
       IfErr-weaker taken.result _ _
           (λ halt cut. cut-stops _ _ output taken.new.writer messages taken.new.messages _ _ halt cut)
           (taken.ensures.taken.cut lines _ shown refl),

@@ -26,8 +26,7 @@ returns-clause-step g c = λ lines whole shown kept.
       output = taken.new.output;
       messages = taken.new.messages;
     } in
-    let number =
-    c.requires.next ∙ g.met.E.Engine.counted _ lines [] shown in
+    let number = c.requires.next ∙ g.met.E.Engine.counted _ lines [] shown in
     let step = taken.ensures.step lines whole shown (c.as_slice.ensures ∙ kept) in (
       on_ok_weaker _ (λ counted. step-stays 0 None _ _ _ _ mid _ _ c.mark-mark.ensures refl refl refl _ step.0
           counted) c.counted.ensures.good,

@@ -1,23 +1,16 @@
+use Rattle.std.proofs.Common.{◌≡◌, ◌≤◌, ◌+◌, sym, subst, inr, length, arith, rules}
 use Rattle.std.proofs.lemmas.Grind.{common_steps}
-use Rattle.std.proofs.Common.{◌≡◌, ◌≤◌, ◌+◌, ℕ, List, Some, true, sym, subst, inr, length}
-use Rattle.std.proofs.Common.{arith, rules}
 use Rattle.crx_header.proofs.Counts.{types_of-push, with_line-other, count_in_allowed, AreCounts-with_count}
 use Rattle.crx_header.{proofs.Counts.AreByLetter-with_count, specs.ObservationTypes.{with_line, with_count}}
-use Rattle.crx_header.specs.ObservationTypes.{AreCounts, AreByLetter}
-use Rattle.crx_header.specs.declared.types.TheConstants.{LETTERS, SYSTEMS}
-use Rattle.crx_header.specs.meaning.ObservationTypes.{Count, is_types_line, count_in, types_of}
+use Rattle.crx_header.specs.{ObservationTypes.{AreCounts, AreByLetter}, declared.types.TheConstants.LETTERS}
+use Rattle.crx_header.specs.{declared.types.TheConstants.SYSTEMS, meaning.ObservationTypes.is_types_line}
+use Rattle.crx_header.specs.meaning.ObservationTypes.{types_of}
 use Rattle.indexmap.specs.IndexMap.{spare}
 use Rattle.crx_header.proofs.types.Types.accept_line.Goals as goal
 
 pub returns-then-not-is_types-clause-declared : goal.returns-then-not-is_types-clause-declared
 returns-then-not-is_types-clause-declared c =
     grind (arith, common_steps, is_types_line, types_of-push, with_line-other, types_of)
-
--- the map after the insert is the counts after the line
-inserted : (es now old : List Count) (line : List ℕ) (letter count : ℕ)
-    → is_types_line line ≡ true → Some (letter, count) ≡ count_in line
-    → es ≡ now → (new : List Count) → new ≡ with_count es letter count → new ≡ with_line now line
-inserted es now old line letter count t h v new e = grind arith
 
 pub returns-clause-ok : goal.returns-clause-ok
 returns-clause-ok c = grind arith

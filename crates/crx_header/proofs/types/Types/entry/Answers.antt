@@ -1,10 +1,6 @@
-use Rattle.std.proofs.{Common.{arith, List, subst, sym}, lemmas.Option.get_or_from_slice_get}
-use Rattle.std.proofs.lemmas.Option.{slice_get_within}
+use Rattle.std.proofs.{Common.{List, subst, sym}, lemmas.Option.{get_or_from_slice_get, slice_get_within}}
 use Rattle.crx_header.specs.{ObservationTypes.IsCount, meaning.ObservationTypes.Count}
 use Rattle.crx_header.proofs.types.Types.entry.Goals as goal
-
-pub returns-clause-value : goal.returns-clause-value
-returns-clause-value c = grind arith
 
 pub returns-clause-allowed : goal.returns-clause-allowed
 returns-clause-allowed c =

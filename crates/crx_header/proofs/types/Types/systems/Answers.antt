@@ -1,5 +1,4 @@
-use Rattle.std.proofs.lemmas.Grind.{common_steps}
-use Rattle.std.proofs.Common.{arith}
+use Rattle.std.proofs.{Common.arith, lemmas.Grind.common_steps}
 use Rattle.crx_header.proofs.Counts.{systems_few}
 use Rattle.crx_header.proofs.types.Types.systems.Goals as goal
 

@@ -1,12 +1,9 @@
-use Rattle.std.proofs.lemmas.Grind.{common_steps}
-use Rattle.std.proofs.Common.{◌≡◌, ℕ, ◌+◌, ◌-◌, ◌≤◌, ⊎_elim, inl, inr, List, [], ◌∷◌, ◌++◌, Err}
-use Rattle.std.proofs.Common.{length, take, drop, slice_range, sym, ap, ◌∙◌, refl, arith, rules}
-use Rattle.std.proofs.lemmas.List.{length-drop}
-use Rattle.crx_lines.proofs.AdvanceLemmas.{piece_at, passed-within, takes, some-byte, whole-piece}
-use Rattle.crx_lines.proofs.AdvanceLemmas.{held-is, some-read, too-long, none-passed}
-use Rattle.crx_lines.proofs.AdvanceLemmas.{content-long, over-fault, read-fault, shown-line}
-use Rattle.crx_lines.proofs.{DeviceLemmas.{tally-same, tally-line}, SeekLemmas.Seeking-sum}
-use Rattle.crx_lines.specs.{Readers.reading, Window.kept}
+use Rattle.std.proofs.Common.{◌≡◌, ℕ, ◌+◌, ◌-◌, ◌≤◌, ⊎_elim, inl, inr, List, [], ◌∷◌, ◌++◌, Err, length, take}
+use Rattle.std.proofs.{Common.{drop, slice_range, sym, ap, ◌∙◌, refl, arith, rules}, lemmas.List.length-drop}
+use Rattle.crx_lines.proofs.AdvanceLemmas.{piece_at, passed-within, takes, some-byte, whole-piece, held-is}
+use Rattle.crx_lines.proofs.AdvanceLemmas.{some-read, too-long, none-passed, content-long, over-fault}
+use Rattle.crx_lines.proofs.{AdvanceLemmas.{read-fault, shown-line}, DeviceLemmas.{tally-same, tally-line}}
+use Rattle.crx_lines.{proofs.SeekLemmas.Seeking-sum, specs.{Readers.reading, Window.kept}}
 use Rattle.crx_base.specs.declared.fault.Fault.TheVariants.{InputTooLong, ReadFailed}
 use Rattle.crx_base.specs.{declared.limits.TheConstants.INPUT_LIMIT, meaning.Lines.without_return}
 use Rattle.crx_base.specs.meaning.Lines.{ends_with_return}
@@ -55,35 +52,24 @@ returns-in-Err-clause-answers g c =
           (tally-same _ _ _ _ (c.in-Err.ensures.counted (ap Err e)) c.in-Err.ensures.no_end),
     )) c.in-Err.ensures.faults
 
-pub returns-then-found-clause-answers : goal.returns-then-found-clause-answers
-returns-then-found-clause-answers g c = grind (arith, common_steps)
-
 pub overflow_add-self : goal.overflow_add-self
 overflow_add-self g c =
-    let old = c.args.self.now in
-    let same = ap kept c.deref_mut.ensures.value in
     let shown = c.as_slice.ensures.value ∙ ap kept c.deref.ensures in
-    let found = c.in-Ok.found in
     let bound = passed-within _ _ _ _ c.in-Ok.ensures.ok.0 _ _ _ c.in-Ok.ensures.ok.1 _ _ c.in-Ok.ensures.end
-    (held-is found.len _ _ c.from.ensures) old.passed
-    (omega (arith, ap length same, ap length shown, old.limit)) in
+    (held-is c.in-Ok.found.len _ _ c.from.ensures) c.args.self.now.passed
+    (omega (arith, ap length (ap kept c.deref_mut.ensures.value), ap length shown, c.args.self.now.limit)) in
     omega (arith, bound)
 
 pub overflow_add-self-2 : goal.overflow_add-self-2
 overflow_add-self-2 g c =
-    let old = c.args.self.now in
-    let same = ap kept c.deref_mut.ensures.value in
     let shown = c.as_slice.ensures.value ∙ ap kept c.deref.ensures in
-    let found = c.in-Ok.found in
     let bound = passed-within _ _ _ _ c.in-Ok.ensures.ok.0 _ _ _ c.in-Ok.ensures.ok.1 _ _ c.in-Ok.ensures.end
-    (held-is found.len _ _ c.from.ensures) old.passed
-    (omega (arith, ap length same, ap length shown, old.limit)) in
+    (held-is c.in-Ok.found.len _ _ c.from.ensures) c.args.self.now.passed
+    (omega (arith, ap length (ap kept c.deref_mut.ensures.value), ap length shown, c.args.self.now.limit)) in
     omega (arith, bound)
 
 pub invariant_of-self-2 : goal.invariant_of-self-2
 invariant_of-self-2 g c =
-    let old = c.args.self.now in
-    let same = ap kept c.deref_mut.ensures.value in
     let shown = c.as_slice.ensures.value ∙ ap kept c.deref.ensures in
     let gave = λ (given : List ℕ). g.R.Source.gave _ given c.seek.new.reader in
     let start = kept c.deref_mut.result.now in
@@ -95,12 +81,12 @@ invariant_of-self-2 g c =
     let byte = some-byte gave start held _ taken found.passed found.len at_end s found.is_ended _
     (some-read found.passed found.len _ c.if-found.false) (held-is found.len _ _ c.from.ensures) in
     let bound = passed-within gave start held _ taken found.passed found.len at_end s found.is_ended
-    _ c.in-Ok.ensures.end (held-is found.len _ _ c.from.ensures) old.passed
-    (omega (arith, ap length same, ap length shown, old.limit)) in
+    _ c.in-Ok.ensures.end (held-is found.len _ _ c.from.ensures) c.args.self.now.passed
+    (omega (arith, ap length (ap kept c.deref_mut.ensures.value), ap length shown, c.args.self.now.limit)) in
     let now = c.skip.ensures.kept
     ∙ ap (λ w. drop (found.len + c.from.result) (kept w)) c.deref_mut-2.ensures.value in
     record {
-      counted = omega (arith, byte, old.counted);
+      counted = omega (arith, byte, c.args.self.now.counted);
       limit = omega (arith, bound, ap length now, length-drop (found.len + c.from.result) held);
     }
 

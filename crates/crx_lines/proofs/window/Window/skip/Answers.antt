@@ -1,5 +1,4 @@
-use Rattle.std.proofs.lemmas.Grind.{common_steps}
-use Rattle.std.proofs.{Common.{arith}, lemmas.List.{length-take, length-drop}}
+use Rattle.std.proofs.{Common.arith, lemmas.{Grind.common_steps, List.{length-take, length-drop}}}
 use Rattle.crx_lines.proofs.WindowLemmas.{passed}
 use Rattle.crx_lines.proofs.window.Window.skip.Goals as goal
 

@@ -1,34 +1,20 @@
 -- An empty body. The borrow is opened and closed at another ghost value.
 use Rattle.std.proofs.Common.{ℕ, List, [], ◌∷◌, ◌++◌, refl, MutBor, ◌<◌, ◌^◌, length}
 use seplogic.Ra.Ura.{Ura}
-use mir.Syntax.{named}
-use mir.Val.{Val, vunit, vptr}
-use base.Logic.{SProp, ent, sep, emp, via, fst∗, id⊢}
-use base.Fml.{GName, Lft, Share, ftrue, flft, fobs, fbor}
-use prog.Memory.{Memory}
-use prog.Routine.{Routine}
-use prog.Wp.{Calls, Loops, WpFn, Tables}
-use types.Logic.{Logic}
-use contract.Monad.{Fun}
-use contract.Running.{tables, tables_of}
-use types.Kit.{‵, ◌⊛◌, ◌$◌, ◌∵◌, !, qed, by, move, keep, drop, use1, split, join, fsplit, fsplit3, fjoin}
-use types.Kit.{fjoin3, feq_i, suffices, frame, done}
-use types.Run.{unit_lit, of_opd, returns, enter}
-use types.SemTy.{Body}
-use types.ByLocal.{alloc_all, pass_all, free_all, look_at, sets}
+use mir.{Syntax.named, Val.{Val, vunit, vptr}}
+use base.{Fml.{GName, Lft, Share, ftrue, flft, fobs, fbor}, Logic.{SProp, ent, sep, emp, via, fst∗, id⊢}}
+use prog.{Memory.Memory, Routine.Routine, Wp.{Calls, Loops, WpFn, Tables}}
+use types.{ByLocal.{alloc_all, pass_all, free_all, look_at, sets}, Kit.{‵, ◌⊛◌, ◌$◌, ◌∵◌, !, qed, by, move}}
+use types.Kit.{keep, drop, use1, split, join, fsplit, fsplit3, fjoin, fjoin3, feq_i, suffices, frame, done}
+use types.{Logic.Logic, Run.{unit_lit, of_opd, returns, enter}, SemTy.Body}
+use contract.{Monad.Fun, Running.{tables, tables_of}}
 use sound.WpLaws.{WpFn-mono}
-use denote.RattleType.{owns}
-use denote.Memory.{mem}
-use denote.Ref.{MutRef, mut_vals, mut_Tells, Bor}
-use denote.Signature.{plain}
-use denote.Steps.{opens, closes}
-use denote.Triple.{Entry.on_entry, Spec.{Meets, triple_of}, Table.entered, Walked.{says, Stays, stay_ref}}
-use denote.Triple.Walked.{walk_of, AllGo, Goes-ref, Walks, ends_at, walked, walk_Meets, stay_none_slice}
-use denote.Triple.Walked.{Goes-none_slice}
+use denote.{Builtin.u8, Exit.yes, Memory.mem, RattleType.owns, Ref.{MutRef, mut_vals, mut_Tells, Bor}}
+use denote.{Signature.plain, Slice.{ShrSlice, slice_val, shr_slice_vals, shr_slice_Tells}, Steps.opens}
+use denote.{Steps.closes, Triple.{Entry.on_entry, Spec.{Meets, triple_of}, Table.entered, Walked.says}}
+use denote.Triple.Walked.{Stays, stay_ref, walk_of, AllGo, Goes-ref, Walks, ends_at, walked, walk_Meets}
+use denote.Triple.Walked.{stay_none_slice, Goes-none_slice}
 use Rattle.crx_program.specs.{contracts.log.Log.add.Key.name as #it, declared.log.Log.Log}
-use denote.Builtin.{u8}
-use denote.Exit.{yes}
-use denote.Slice.{ShrSlice, slice_val, shr_slice_vals, shr_slice_Tells}
 use Rattle.crx_program.specs.contracts.log.Log as T
 use Rattle.crx_program.specs.contracts.log.Log.add as it
 use Rattle.crx_program.proofs.log.Log.add.Statement as stated

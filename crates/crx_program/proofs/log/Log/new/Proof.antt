@@ -3,21 +3,13 @@ use mathlib.Core.{List.{[], ◌∷◌}, Path.refl}
 use seplogic.Ra.Ura.{Ura}
 use mir.Val.{Val, vstruct, vcons, vnil}
 use base.Logic.{SProp}
-use prog.Memory.{Memory}
-use prog.Routine.{Routine}
-use prog.Wp.{WpFn, Tables}
-use types.Logic.{Logic}
-use contract.Monad.{Fun}
-use contract.Running.{tables, tables_of}
+use prog.{Memory.Memory, Routine.Routine, Wp.{WpFn, Tables}}
+use types.{ByLocal.{alloc_all, pass_all, free_all, look_at, get, sets}, Kit.{raw, ◌$◌, ◌∵◌, !, qed, keep}}
+use types.{Kit.{join, suffices, done}, Logic.Logic, Part.agg, Run.{no_more, and_then, returns, enter}}
+use contract.{Monad.Fun, Running.{tables, tables_of}}
 use sound.WpLaws.{WpFn-mono}
-use types.Kit.{raw, ◌$◌, ◌∵◌, !, qed, keep, join, suffices, done}
-use types.Run.{no_more, and_then, returns, enter}
-use types.Part.{agg}
-use types.ByLocal.{alloc_all, pass_all, free_all, look_at, get, sets}
-use denote.Shadow.{pure_i}
-use denote.Steps.{nothing}
-use denote.Triple.{Entry.on_entry, Spec.{Meets, triple_of}, Table.entered, Walked.{says, ends_at, walked}}
-use denote.Triple.Walked.{walk_Meets}
+use denote.{Shadow.pure_i, Steps.nothing, Triple.{Entry.on_entry, Spec.{Meets, triple_of}, Table.entered}}
+use denote.Triple.Walked.{says, ends_at, walked, walk_Meets}
 use Rattle.crx_program.specs.{contracts.log.Log.new.Key.name as #it, declared.log.Log.Log}
 use Rattle.crx_program.specs.contracts.log.Log as T
 use Rattle.crx_program.specs.contracts.log.Log.new as it

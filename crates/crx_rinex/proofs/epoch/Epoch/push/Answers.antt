@@ -1,16 +1,11 @@
-use Rattle.std.proofs.Common.{◌≡◌, ◌≤◌, ◌+◌, ◌++◌, ◌∷◌, [], ℕ, List, length, vec_capacity, arith, rules}
-use Rattle.std.proofs.Common.{sym, ap, ◌∙◌}
-use Rattle.std.proofs.Common.{false, if◌then◌else◌, refl, inl, inr}
-use Rattle.std.specs.List.{list_any}
-use Rattle.std.specs.Str.{bytes_eq}
-use Rattle.std.proofs.lemmas.List.{length_push}
+use Rattle.std.proofs.Common.{◌≡◌, ◌≤◌, ◌+◌, ◌++◌, ◌∷◌, [], ℕ, List, length, vec_capacity, arith, rules, sym}
+use Rattle.std.proofs.{Common.{ap, ◌∙◌, false, if◌then◌else◌, refl, inl, inr}, lemmas.List.length_push}
+use Rattle.std.specs.{List.list_any, Str.bytes_eq}
 use Rattle.indexmap.specs.IndexSet.{spare}
 use Rattle.crx_header.specs.meaning.EpochColumns.{satellites_of}
-use Rattle.crx_rinex.specs.meaning.Epochs.{has_satellite}
+use Rattle.crx_rinex.proofs.{Rows.{among-names, parts-more}, epoch.Epoch.push.Goals.After-contains}
+use Rattle.crx_rinex.specs.{Epochs.{AreEpochParts, is_full_epoch}, meaning.Epochs.has_satellite}
 use Rattle.crx_rinex.specs.meaning.Observations.{Epoch}
-use Rattle.crx_rinex.specs.Epochs.{AreEpochParts, is_full_epoch}
-use Rattle.crx_rinex.proofs.Rows.{among-names, parts-more}
-use Rattle.crx_rinex.proofs.epoch.Epoch.push.Goals.{After-contains}
 use Rattle.crx_rinex.proofs.epoch.Epoch.push.Goals as goal
 
 -- whether the epoch has the satellite
@@ -40,8 +35,7 @@ invariant_of-self-2 c =
     (λ j. list_any (bytes_eq (c.name-2.ensures.value j)) (same j))
     ∙ sym (ap (λ (n : List ℕ). list_any (bytes_eq n) names) c.name.ensures.value)
     ∙ sym c.contains.ensures ∙ c.if-contains.false in
-    let put : c.insert.new.self.keys ≡ names ++ row.name ∷ [] =
-    (rw c.unwrap.ensures at c.insert.ensures.keys)
+    let put : c.insert.new.self.keys ≡ names ++ row.name ∷ [] = (rw c.unwrap.ensures at c.insert.ensures.keys)
     ∙ ap (λ b. if b then c.make_room.new.names.keys
     else c.make_room.new.names.keys ++ c.name-2.result ∷ []) absent
     ∙ (λ j. same j ++ c.name-2.ensures.value j ∷ []) in
@@ -60,5 +54,4 @@ invariant_of-self-2 c =
     )
 
 pub returns-clause-new : goal.returns-clause-new
-returns-clause-new c =
-    known (goal.at.returns-clause-new c).After-contains ∙ c.if-contains.false
+returns-clause-new c = known (goal.at.returns-clause-new c).After-contains ∙ c.if-contains.false

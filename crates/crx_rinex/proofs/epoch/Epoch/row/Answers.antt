@@ -1,7 +1,5 @@
-use Rattle.std.proofs.lemmas.Grind.{common_steps}
-use Rattle.std.proofs.Common.{slice_get, arith}
-use Rattle.crx_rinex.proofs.Copied.{copied-get}
-use Rattle.crx_rinex.proofs.Rows.{satellites_few}
+use Rattle.std.proofs.{Common.{slice_get, arith}, lemmas.Grind.common_steps}
+use Rattle.crx_rinex.proofs.{Copied.copied-get, Rows.satellites_few}
 use Rattle.crx_rinex.proofs.epoch.Epoch.row.Goals as goal
 
 pub returns-clause-within : goal.returns-clause-within

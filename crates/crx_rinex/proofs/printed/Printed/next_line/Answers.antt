@@ -1,6 +1,5 @@
-use Rattle.std.proofs.lemmas.Grind.{common_steps}
-use Rattle.std.proofs.Common.{arith}
-use Rattle.std.proofs.{Common.{Some, drop, slice_get, refl, ap, sym, ◌∙◌}, lemmas.List.drop-drop}
+use Rattle.std.proofs.{Common.{arith, Some, drop, slice_get, refl, ap, sym, ◌∙◌}, lemmas.Grind.common_steps}
+use Rattle.std.proofs.lemmas.List.{drop-drop}
 use Rattle.crx_rinex.{proofs.Lines.{first_of_rest, no_next}, specs.meaning.Printing.printed_epoch}
 use Rattle.crx_rinex.proofs.printed.Printed.next_line.Goals as goal
 

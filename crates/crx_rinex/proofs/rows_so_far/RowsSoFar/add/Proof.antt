@@ -2,33 +2,20 @@
 -- read by contracts alone.
 use Rattle.std.proofs.Common.{ℕ, List, [], ◌∷◌, ◌++◌, refl, MutBor}
 use seplogic.Ra.Ura.{Ura}
-use mir.Syntax.{named}
-use mir.Val.{Val, vunit, vptr}
-use base.Logic.{SProp, ent, sep, emp, via, fst∗, id⊢}
-use base.Fml.{GName, Lft, Share, ftrue, flft, fobs, fbor}
-use prog.Memory.{Memory}
-use prog.Routine.{Routine}
-use prog.Wp.{Calls, Loops, WpFn, Tables}
-use types.Logic.{Logic}
-use contract.Monad.{Fun}
-use contract.Running.{tables, tables_of}
-use types.Kit.{‵, ◌⊛◌, ◌$◌, ◌∵◌, !, qed, by, move, keep, drop, use1, split, join, fsplit, fsplit3, fjoin}
-use types.Kit.{fjoin3, feq_i, suffices, frame, done}
-use types.Run.{unit_lit, of_opd, returns, enter}
-use types.SemTy.{Body}
-use types.ByLocal.{alloc_all, pass_all, free_all, look_at, sets}
+use mir.{Syntax.named, Val.{Val, vunit, vptr}}
+use base.{Fml.{GName, Lft, Share, ftrue, flft, fobs, fbor}, Logic.{SProp, ent, sep, emp, via, fst∗, id⊢}}
+use prog.{Memory.Memory, Routine.Routine, Wp.{Calls, Loops, WpFn, Tables}}
+use types.{ByLocal.{alloc_all, pass_all, free_all, look_at, sets}, Kit.{‵, ◌⊛◌, ◌$◌, ◌∵◌, !, qed, by, move}}
+use types.Kit.{keep, drop, use1, split, join, fsplit, fsplit3, fjoin, fjoin3, feq_i, suffices, frame, done}
+use types.{Logic.Logic, Run.{unit_lit, of_opd, returns, enter}, SemTy.Body}
+use contract.{Monad.Fun, Running.{tables, tables_of}}
 use sound.WpLaws.{WpFn-mono}
-use denote.RattleType.{owns}
-use denote.Memory.{mem}
-use denote.Ref.{Bor, MutRef, ShrRef, mut_vals, mut_Tells, shr_vals, shr_Tells}
-use denote.Signature.{plain}
-use denote.Steps.{opens, closes}
-use denote.Triple.{Entry.on_entry, Spec.{Meets, triple_of}, Table.entered, Walked.{says, Stays, stay_ref}}
-use denote.Triple.Walked.{stay_none_ref, walk_of, AllGo, Goes-ref, Goes-none_ref, Walks, ends_at, walked}
-use denote.Triple.Walked.{walk_Meets}
-use Rattle.crx_rinex.specs.contracts.rows_so_far.RowsSoFar.add.Key.{name as #it}
+use denote.{Exit.yes, Memory.mem, RattleType.owns, Ref.{Bor, MutRef, ShrRef, mut_vals, mut_Tells, shr_vals}}
+use denote.{Ref.shr_Tells, Signature.plain, Steps.{opens, closes}, Triple.{Entry.on_entry, Spec.Meets}}
+use denote.Triple.{Spec.triple_of, Table.entered, Walked.{says, Stays, stay_ref, stay_none_ref, walk_of}}
+use denote.Triple.Walked.{AllGo, Goes-ref, Goes-none_ref, Walks, ends_at, walked, walk_Meets}
 use Rattle.crx_rinex.specs.{declared.rows_so_far.RowsSoFar.RowsSoFar, meaning.Observations.Row}
-use denote.Exit.{yes}
+use Rattle.crx_rinex.specs.contracts.rows_so_far.RowsSoFar.add.Key.{name as #it}
 use Rattle.crx_rinex.specs.contracts.rows_so_far.RowsSoFar as T
 use Rattle.crx_rinex.specs.contracts.row_buffer.RowBuffer as R
 use Rattle.crx_rinex.specs.contracts.rows_so_far.RowsSoFar.add as it

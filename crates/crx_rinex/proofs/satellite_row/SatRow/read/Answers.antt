@@ -1,6 +1,5 @@
-use Rattle.std.proofs.lemmas.Grind.{common_steps}
-use Rattle.std.proofs.{Common.{◌≡◌, ◌*◌, length, ap, ◌∙◌, arith}, lemmas.List.with_items_is}
-use Rattle.std.proofs.lemmas.Result.{IfOk-from_err}
+use Rattle.std.proofs.{Common.{◌≡◌, ◌*◌, length, ap, ◌∙◌, arith}, lemmas.Grind.common_steps}
+use Rattle.std.proofs.lemmas.{List.with_items_is, Result.IfOk-from_err}
 use Rattle.crx_header.specs.meaning.Satellites.{is_identifier}
 use Rattle.crx_rinex.{proofs.Cells.sound-written, specs.meaning.SatelliteLines.{row_of_types, row_with}}
 use Rattle.crx_rinex.specs.meaning.SatelliteLines.{values_in}
@@ -22,26 +21,11 @@ invariant_of-result c =
 pub returns-clause-sound : goal.returns-clause-sound
 returns-clause-sound c = invariant_of-result c
 
-pub read_cells-requires : goal.read_cells-requires
-read_cells-requires c = grind (arith, common_steps)
-
-pub returns-in_default-vec-clause-err : goal.returns-in_default-vec-clause-err
-returns-in_default-vec-clause-err c = grind arith
-
-pub returns-in_default-vec-2-clause-err : goal.returns-in_default-vec-2-clause-err
-returns-in_default-vec-2-clause-err c = grind arith
-
 pub returns-in_err-read_cells-clause-ok : goal.returns-in_err-read_cells-clause-ok
 returns-in_err-read_cells-clause-ok c = IfOk-from_err _ _ c.from_residual.ensures.0
 
 pub returns-in_err-read_cells-clause-sound : goal.returns-in_err-read_cells-clause-sound
 returns-in_err-read_cells-clause-sound c = IfOk-from_err _ _ c.from_residual.ensures.0
-
-pub returns-in_default-clause-err : goal.returns-in_default-clause-err
-returns-in_default-clause-err c = grind arith
-
-pub returns-in_err-read_cells-clause-err : goal.returns-in_err-read_cells-clause-err
-returns-in_err-read_cells-clause-err c = grind arith
 
 pub returns-clause-ok : goal.returns-clause-ok
 returns-clause-ok c = grind (arith, common_steps, with_items_is, row_of_types, row_with, values_in)

@@ -1,16 +1,14 @@
-use Rattle.std.proofs.lemmas.Grind.{common_steps}
 use Rattle.std.proofs.Common.{◌≡◌, ◌++◌, ◌-◌, ◌*◌, length, take, drop, replicate, arith}
-use Rattle.std.proofs.lemmas.List.{take_at}
+use Rattle.std.proofs.lemmas.{Grind.common_steps, List.take_at}
 use Rattle.crx_rinex.{proofs.Cells.sound-with_flags, specs.SatelliteLines.with_flags}
-use Rattle.crx_rinex.specs.meaning.{Observations.Row}
+use Rattle.crx_rinex.specs.meaning.Observations.{Row}
 use Rattle.crx_rinex.proofs.satellite_row.SatRow.set_flags.Goals as goal
 
 abbrev before : (c : goal.After-self-1) → Row
 before c = record {
   name = c.self.inside.name;
   values = c.self.inside.values.items;
-  flags =
-      c.self.inside.flags.items;
+  flags = c.self.inside.flags.items;
 }
 
 -- the indicators are those that were given, and blanks

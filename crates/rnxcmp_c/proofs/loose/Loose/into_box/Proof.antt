@@ -10,9 +10,7 @@ use Rattle.rnxcmp_c.proofs.RawWords.{plain, block_ptr, nothing, only, param, lay
 use Rattle.rnxcmp_c.proofs.RawWords.{triple_of, Stays, stay_dropped, walk_of, Goes-blank, fm, Good, box_out}
 use Rattle.rnxcmp_c.proofs.{RawWords.{box_in, proved_at, leaves}, loose.Loose.into_box.Statement.statement}
 use Rattle.rnxcmp_c.specs.contracts.loose.Loose.into_box.{ended, clauses, Key.name as #self}
-use types.Kit.{at_ret}
-use types.Run.{first, blocks, exec}
-use types.ByLocal.{lands_last, env}
+use types.{ByLocal.{lands_last, env}, Kit.at_ret, Run.{first, blocks, exec}}
 use contract.BorrowLft.{◌⊑◌}
 use denote.Triple.{Call.calls_at_last, Clauses.{Lasts, lasts}}
 use Rattle.core.proofs.alloc.Shapes.{after}

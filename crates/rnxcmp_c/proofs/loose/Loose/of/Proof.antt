@@ -12,11 +12,10 @@ use Rattle.rnxcmp_c.proofs.RawWords.{nothing, only, heard, param, layout, bounde
 use Rattle.rnxcmp_c.proofs.RawWords.{Stays, stay_dropped, walk_of, Goes-blank, handle_tells, fm, box_owns}
 use Rattle.rnxcmp_c.proofs.{RawWords.{box_out, box_in, proved_at, leaves}, loose.Loose.of.Statement.statement}
 use Rattle.rnxcmp_c.specs.contracts.loose.Loose.of.{ended, clauses, Key.name as #self}
-use mir.Raw.{raw as bare}
 use types.ByLocal.{lands_as}
-use denote.Struct.Tuple.{Tuple}
-use denote.Triple.Call.{calls_at}
+use denote.{Struct.Tuple.Tuple, Triple.Call.calls_at}
 use Rattle.std_alloc.proofs.boxed.Box.into_raw_with_allocator.Met.{met}
+use mir.Raw.{raw as bare}
 use Rattle.std_alloc.proofs.BoxSteps.Form as box
 use Rattle.std_alloc.specs.contracts.boxed.Box.into_raw_with_allocator as callee
 use Rattle.rnxcmp_c.proofs.loose.Loose.of.Code as code

@@ -1,4 +1,5 @@
 -- `of` moves the pointer, and what the parts owned goes with it.
+use Rattle.std.proofs.{Common.arith, lemmas.Grind.common_steps}
 use Rattle.rnxcmp_c.proofs.{LooseValues.{both, Loose, loose_good, loose_out}, PlaceValues.{word, place_in}}
 use Rattle.rnxcmp_c.proofs.RawWords.{List, [], ◌∷◌, ◌++◌, refl, sym, subst, Val, vptr, SProp, ent, emp, id⊢}
 use Rattle.rnxcmp_c.proofs.RawWords.{ftrue, fsep, WpFn, ‵, raw, ◌⊛◌, ◌$◌, ◌∵◌, !, qed, move, keep, drop}
@@ -19,10 +20,8 @@ of_spec 𝓤 𝓛 𝓜 𝓡 wired =
     let R : RattleType = reader.the_row in let Z : RattleType = heap.the_row in let LZ =
     heap_laws.the_row_laws in let From : RattleType = Loose R Z LZ ghosts in
     let hs : Stays ended.signature.params ended.kept = (stay_dropped (plain (λ _. From)) yes, tt) in
-    proved_at 𝓛 ended hs c 𝓜 𝓡 (
-      Goes-dropped 𝓛 0 (plain (λ _. From)) yes (λ κs x f. refl),
-      tt,
-    ) #self code.function (code.unfolded 𝓤 H 𝓜 𝓡 wired) (λ z are.
+    proved_at 𝓛 ended hs c 𝓜 𝓡 (grind (arith, common_steps, Goes-dropped, From)) #self code.function
+    (code.unfolded 𝓤 H 𝓜 𝓡 wired) (λ z are.
     let v = z.0.3.0 in let Post : Val → SProp 𝓤 =
     (walk_of 𝓛 ended hs c).post z in let Run : List Val → SProp 𝓤 =
     λ ws. WpFn 𝓤 H 𝓣.C 𝓣.Λ code.function ws Post in

@@ -13,6 +13,3 @@ returns-in-Err-clause-fed c = λ task past is.
     subst (λ fed. HasFed past.fed task new (fed_with past fed)) (sym (take_all (length bytes) bytes
     (omega arith))) (stops-over task c.args.self.now.engine is.is_of new _ (c.in-Err.ensures.limit ∙ is.limit)
     _ _ _ _ (c.in-Err.ensures.breaks past is.going) c.outcome_of.ensures)
-
-pub returns-in-Ok-clause-soon : goal.returns-in-Ok-clause-soon
-returns-in-Ok-clause-soon c = grind arith

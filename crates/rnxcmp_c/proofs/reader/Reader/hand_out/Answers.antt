@@ -1,5 +1,5 @@
-use Rattle.rnxcmp_c.proofs.Words.{take, rules, sym, ap, ◌∙◌, ◌++◌, take-append-drop}
-use Rattle.rnxcmp_c.proofs.TakenLemmas.{taken-stands}
+use Rattle.rnxcmp_c.proofs.{TakenLemmas.taken-stands, Words.{take, rules, sym, ap, ◌∙◌, ◌++◌}}
+use Rattle.rnxcmp_c.proofs.Words.{take-append-drop}
 use Rattle.rnxcmp_c.proofs.reader.Reader.hand_out.Goals as goal
 
 pub returns-clause-taken : goal.returns-clause-taken

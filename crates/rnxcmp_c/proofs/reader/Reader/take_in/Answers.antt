@@ -1,7 +1,7 @@
-use Rattle.rnxcmp_c.proofs.Words.{◌-◌, refl, sym, ap, ◌∙◌, arith, length, length-take, INPUT_LIMIT}
+use Rattle.std.proofs.lemmas.Grind.{common_steps}
 use Rattle.rnxcmp_c.proofs.FedLemmas.{fed-by, fed-bytes, passed-bytes, runs-where_none}
+use Rattle.rnxcmp_c.proofs.{ReaderLemmas.passed-over, Words.{◌-◌, refl, sym, ◌∙◌, arith, length, ◌≡◌, ◌<◌}}
 use Rattle.rnxcmp_c.proofs.reader.Reader.take_in.Goals.{Then-not-is_empty}
-use Rattle.rnxcmp_c.proofs.{ReaderLemmas.passed-over, Words.{◌≡◌, ◌<◌}}
 use Rattle.rnxcmp_c.proofs.reader.Reader.take_in.Goals as goal
 
 pub feed-used-requires-clause-running : goal.feed-used-requires-clause-running
@@ -12,13 +12,7 @@ feed-used-requires-clause-running c =
       c.requires.0,
       c.requires.1,
       runs,
-      omega (
-        arith,
-        runs.counted,
-        runs.within,
-        ap length c.allowed-allowed.ensures,
-        length-take (INPUT_LIMIT - old.fed) c.args.bytes.now,
-      ),
+      grind (arith, common_steps),
     )
 
 -- there are bytes, and an input may have none of them
@@ -32,15 +26,8 @@ returns-then-not-is_empty c = λ task past stands.
     let runs = runs-where_none task old past _ none stands in
     let is_full = full (goal.at.returns-then-not-is_empty c).Then-not-is_empty in
     fed-by task old _ past _ 0 _ _ none (passed-bytes task old _ past _ _ 0 _ c.allowed-allowed.ensures
-    c.answer.ensures runs is_full.1 is_full.0 refl (passed-over task old _ _ past runs (omega (
-      arith,
-      runs.counted,
-      runs.within,
-      is_full.0,
-      is_full.1,
-      ap length c.allowed-allowed.ensures,
-      length-take (INPUT_LIMIT - old.fed) c.args.bytes.now,
-    )) c.put_down.ensures))
+    c.answer.ensures runs is_full.1 is_full.0 refl (passed-over task old _ _ past runs
+    (grind (arith, common_steps)) c.put_down.ensures))
 
 pub returns : goal.returns
 returns c = λ task past stands.
