@@ -1,16 +1,9 @@
 -- What a reader of compact text holds after a line.
-use Rattle.std.proofs.Common.{◌≡◌, Bool, true, List, ℕ, Option, Some, None, Result, Ok, Err, refl, sym, ap}
-use Rattle.std.proofs.Common.{◌∙◌}
-use Rattle.crx_base.specs.meaning.Seen.{Content}
-use Rattle.crx_base.specs.declared.fault.Fault.{Fault}
-use Rattle.crx_header.specs.meaning.ObservationTypes.{Count}
-use Rattle.crx_compact.specs.meaning.EpochText.{Satellite}
-use Rattle.crx_compact.specs.Tails.{Tail}
-use Rattle.crx_compact.specs.meaning.Sequences.{and_then}
-use Rattle.crx_compact.specs.OpenEpochs.{ColumnsState, RawStep, Going, Whole, Faulty, HasMade, first_step}
-use Rattle.crx_compact.specs.OpenEpochs.{opened_raw, awaited_row, before_clock, opening, tail_for_line}
-use Rattle.crx_compact.specs.OpenEpochs.{tail_opened}
-use Rattle.crx_filter.specs.CompactStages.{wants_line, wants_lines}
+use Rattle.crx_filter.proofs.Words.{◌≡◌, Bool, true, List, ℕ, Option, Some, None, Result, Ok, Err, refl, sym}
+use Rattle.crx_filter.proofs.Words.{ap, ◌∙◌, Content, Fault, Count, Satellite, Tail, and_then, RawStep}
+use Rattle.crx_filter.{proofs.Words.first_step, specs.CompactStages.{wants_line, wants_lines}}
+use Rattle.crx_compact.specs.OpenEpochs.{ColumnsState, Going, Whole, Faulty, HasMade, opened_raw, awaited_row}
+use Rattle.crx_compact.specs.OpenEpochs.{before_clock, opening, tail_for_line, tail_opened}
 
 -- whether an epoch that goes on wants lines
 abbrev wants_more : RawStep → Bool

@@ -1,19 +1,13 @@
 -- What the reading of an event's first line comes to.
-use Rattle.std.proofs.Common.{◌≡◌, ℕ, ◌&&◌, Bool, true, false, List, Option, Some, None, Result, Ok, Err}
-use Rattle.std.proofs.Common.{refl, sym, ap}
-use Rattle.std.proofs.Common.{◌∙◌, true≢false}
-use Rattle.crx_text.specs.meaning.Columns.{character_at}
-use Rattle.crx_base.specs.declared.fault.Fault.{Fault}
-use Rattle.crx_base.specs.declared.fault.Fault.TheVariants.{BadEpoch}
-use Rattle.crx_rinex.specs.meaning.EpochLines.{HeadLine, EventHead, EpochHead, event_head, head_of}
-use Rattle.crx_header.specs.meaning.EpochColumns.{begins_epoch, is_event_flag, is_event_line, records_in}
+use Rattle.crx_filter.proofs.Words.{common_steps, arith, ◌≡◌, ℕ, ◌&&◌, Bool, true, List, Option, Some, None}
+use Rattle.crx_filter.proofs.Words.{Result, Ok, Err, refl, sym, ap, ◌∙◌, true≢false, character_at, Fault}
+use Rattle.crx_filter.proofs.Words.{BadEpoch, HeadLine, EventHead, EpochHead, event_head, head_of}
+use Rattle.crx_filter.proofs.Words.{begins_epoch, is_event_flag, is_event_line, records_in}
 
 head-of-event : (line : List ℕ) (begins flagged : Bool)
     → begins_epoch line ≡ begins → is_event_flag (character_at line 32) ≡ flagged → begins && flagged ≡ true
     → head_of line ≡ event_head (character_at line 32) (records_in line)
-head-of-event line true true b f is = rw (b, f) refl
-head-of-event line true false b f is = absurd (true≢false (sym is))
-head-of-event line false flagged b f is = absurd (true≢false (sym is))
+head-of-event line begins flagged b f is = grind (arith, common_steps, true≢false)
 
 abbrev pub count_in : Result HeadLine Fault → Option ℕ
 count_in (Ok (EventHead flag count)) = Some count

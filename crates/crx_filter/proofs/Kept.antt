@@ -1,30 +1,20 @@
 -- What runs bring back, save and judge follows from what they are, by the laws.
-use Rattle.std.proofs.Common.{ℕ, ◌≡◌, List, ◌++◌, Option, Some, None, refl, sym, subst, ◌∙◌}
-use Rattle.std.specs.Prelude.{◌↔◌}
-use Rattle.crx_base.specs.meaning.Lines.{lines_of}
-use Rattle.crx_base.specs.declared.fault.At.{At}
-use Rattle.crx_base.specs.meaning.Choices.{Choices}
-use Rattle.crx_filter.specs.meaning.Compacted.{compacted}
-use Rattle.crx_filter.specs.meaning.Expanded.{expanded}
-use Rattle.crx_runs.specs.meaning.Filters.{Filter}
-use Rattle.crx_runs.specs.meaning.Results.{FilterResult}
-use Rattle.crx_filter.specs.meaning.Standard.{Findings, findings_of, report_status, checked_by, checked}
-use Rattle.crx_filter.specs.meaning.WayBack.{HasNormalForm}
-use Rattle.crx_filter.proofs.standard.CheckStandard.{named-where_not, standard-exactly_where_same}
-use Rattle.crx_filter.proofs.wayback.WayBack.{comes-back}
-use Rattle.crx_filter.proofs.wayback.Standard.{normal-comes_back, standard-comes_back}
-use Rattle.crx_filter.proofs.damage.DamageStays.{saved-lines}
+use Rattle.crx_filter.proofs.Words
+use Words.{common_steps, arith, ℕ, ◌≡◌, List, ◌++◌, Option, Some, None, refl, sym, subst, ◌∙◌, lines_of, At}
+use Words.{Choices, compacted, expanded, FilterResult, findings_of, checked_by, checked, Device, IsResult}
+use Rattle.crx_filter.proofs.{damage.DamageStays.saved-lines, standard.CheckStandard.named-where_not}
+use Rattle.crx_filter.proofs.standard.CheckStandard.{standard-exactly_where_same}
+use Rattle.crx_filter.proofs.wayback.{Standard.{normal-comes_back, standard-comes_back}, WayBack.comes-back}
 use Rattle.crx_filter.specs.meaning.Promises.{IsPromiseKept, BringsBackWhatWasCompacted, SavesAllElse}
-use Rattle.crx_filter.specs.meaning.Promises.{JudgesStandard}
-use Rattle.crx_runs.specs.meaning.Spans.{Input, Device}
-use Rattle.crx_runs.specs.meaning.Runs.{IsResult, RunsAs}
+use Rattle.crx_filter.specs.meaning.{Promises.JudgesStandard, Standard.{Findings, report_status}}
+use Rattle.std.specs.Prelude.{◌↔◌}
+use Rattle.crx_runs.specs.meaning.{Filters.Filter, Runs.RunsAs, Spans.Input}
 
 -- a promise that the result of each whole input keeps is kept by a run
-pub kept : (result_of : List ℕ → FilterResult) (filter : Filter) (promise : List ℕ
-    → Type 0) (input : Input) (given : List ℕ) (writer messages : Device) (status : ℕ) (fault : Option At)
-    → ((text : List ℕ) → IsResult (result_of text) writer messages status fault → promise text)
-    → RunsAs result_of filter input given writer messages status fault
-    → IsPromiseKept promise input given writer messages fault
+pub kept : (result_of : List ℕ → FilterResult) (filter : Filter) (promise : List ℕ → Type 0) (input : Input)
+    (given : List ℕ) (writer messages : Device) (status : ℕ) (fault : Option At) → ((text : List ℕ) → IsResult
+    (result_of text) writer messages status fault → promise text) → RunsAs result_of filter input given writer
+    messages status fault → IsPromiseKept promise input given writer messages fault
 kept result_of filter promise input given writer messages status fault keeps r = record {
   whole = λ read wrote reported memory rest none within.
       keeps (given ++ rest) (r.whole read wrote reported memory rest none within);
@@ -34,28 +24,16 @@ kept result_of filter promise input given writer messages status fault keeps r =
 -- ---- the way back
 
 pub brings-back : (expanding : Choices) (writer messages : Device) (status : ℕ) (fault : Option At)
-    (text : List ℕ)
-    → IsResult (expanded text expanding) writer messages status fault
+    (text : List ℕ) → IsResult (expanded text expanding) writer messages status fault
     → BringsBackWhatWasCompacted writer messages status fault text
 brings-back expanding writer messages status fault text ran file compacting dated same =
-    let here : IsResult (expanded (compacted file compacting).output expanding) writer messages status fault =
-    subst (λ t. IsResult (expanded t expanding) writer messages status fault) same ran in
-    let by : (r : FilterResult) → expanded (compacted file compacting).output expanding ≡ r
-    → IsResult r writer messages status fault =
-    λ r e. subst (λ x. IsResult x writer messages status fault) e here in
-    record {
-      standard = λ standard. by _ (standard-comes_back file compacting expanding dated standard);
-      normal = λ normal. by _ (normal-comes_back file compacting expanding dated
-          (HasNormalForm.good normal) (HasNormalForm.no_returns normal));
-      accepted = λ good none. by _ (comes-back file compacting expanding dated good none);
-    }
+    grind (arith, common_steps, expanded, compacted, standard-comes_back, normal-comes_back, comes-back)
 
 -- ---- damage
 
-pub saves-all_else : (expanding : Choices)
-    (writer messages : Device) (status : ℕ) (fault : Option At) (damaged : List ℕ)
-    → IsResult (expanded damaged expanding) writer messages status fault
-    → SavesAllElse expanding writer messages status fault damaged
+pub saves-all_else : (expanding : Choices) (writer messages : Device) (status : ℕ) (fault : Option At)
+    (damaged : List ℕ) → IsResult (expanded damaged expanding) writer messages status fault → SavesAllElse
+    expanding writer messages status fault damaged
 saves-all_else expanding writer messages status fault damaged ran file compacting dated skips damage =
     (expanded damaged expanding, saved-lines file compacting expanding damaged dated skips damage, ran)
 

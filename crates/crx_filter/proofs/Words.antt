@@ -8,7 +8,7 @@ pub use Rattle.std.proofs.Common.{if◌then◌else◌, OnOk}
 pub use Rattle.std.proofs.Math.Seq.{drop-append_seam}
 pub use Rattle.std.proofs.lemmas.Bool.{and_parts, not-true, ne_eqb, and_from, ltb-false, false≢true}
 pub use Rattle.std.proofs.lemmas.Bool.Decides.{eqb_tells}
-pub use Rattle.std.proofs.lemmas.Grind.{flat_map-append}
+pub use Rattle.std.proofs.lemmas.Grind.{common_steps, flat_map-append}
 pub use Rattle.std.proofs.lemmas.List.{length-map, map-append, reverse-append, drop-append-le, length-drop}
 pub use Rattle.std.proofs.lemmas.List.Elements.{All-cons, All-nil, All-head, All-tail}
 pub use Rattle.std.proofs.lemmas.Option.{none-some}
@@ -46,6 +46,7 @@ pub use Rattle.crx_base.specs.meaning.Faults.{is_skippable}
 pub use Rattle.crx_base.specs.meaning.Lines.{InputLine, lines_text, ends_with_return, Piece, pieces_of}
 pub use Rattle.crx_base.specs.meaning.Lines.{onto_first, without_return, line_of, lines_of, is_long}
 pub use Rattle.crx_base.specs.meaning.Seen.{ReadLine, Content, seen, Overlong}
+pub use Rattle.crx_filter.proofs.Choosing.{by_bool, false-true}
 pub use Rattle.crx_filter.specs.Anew.{IsBetweenUnits, starts_anew, GoOnAlike}
 pub use Rattle.crx_filter.specs.CheckerState.{checker_state_with}
 pub use Rattle.crx_filter.specs.Compacted.{compacted_so_far}

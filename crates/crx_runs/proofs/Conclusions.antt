@@ -1,22 +1,20 @@
 -- What follows from how a run ended.
-use Rattle.std.proofs.Common.{◌≡◌, ◌⊎◌, inl, inr, ℕ, ◌≤◌, Bool, true, List, [], ◌++◌, length, Option}
-use Rattle.std.proofs.Common.{Some, None, refl, sym, ap, ◌∙◌, arith, append-nil, length-append}
-use Rattle.crx_lines.proofs.{ProgressLemmas.{HasRead-ended, HasRead-stopped}}
-use Rattle.crx_lines.specs.{Progress.{HasRead, IsStopped}, Reading.ReaderState}
-use Rattle.crx_lines.specs.{declared.phase.Phase.{TheVariants.{Open, Ended}}}
-use Rattle.crx_base.specs.declared.fault.{At.At, Fault.{Fault, TheVariants.{InputTooLong, ReadFailed}}}
-use Rattle.crx_base.specs.declared.{fault.Fault.TheVariants.OutOfMemory, limits.TheConstants.INPUT_LIMIT}
-use Rattle.crx_base.specs.meaning.Lines.{InputLine, lines_of}
-use Rattle.crx_runs.proofs.{DeviceSpans.{Joins, took-still}, RunEndings.line-stands}
+use Rattle.std.proofs.Common.{◌≡◌, ◌⊎◌, inl, inr, ℕ, ◌≤◌, Bool, true, List, [], ◌++◌, length, Option, Some}
+use Rattle.std.proofs.Common.{None, refl, sym, ap, ◌∙◌, arith, append-nil, length-append}
+use Rattle.crx_lines.{proofs.ProgressLemmas.{HasRead-ended, HasRead-stopped}, specs.Reading.ReaderState}
+use Rattle.crx_lines.specs.{Progress.{HasRead, IsStopped}, declared.phase.Phase.TheVariants.{Open, Ended}}
+use Rattle.crx_base.specs.{declared.fault.Fault.Fault, meaning.Lines.{InputLine, lines_of}}
+use Rattle.crx_base.specs.declared.{limits.TheConstants.INPUT_LIMIT, fault.Fault.TheVariants.InputTooLong}
+use Rattle.crx_base.specs.declared.fault.{Fault.TheVariants.{ReadFailed, OutOfMemory}, At.At}
+use Rattle.crx_runs.proofs.{Salvaged.{AskedOnce, is-open, none-failed, asked-once}, RunEndings.line-stands}
 use Rattle.crx_runs.proofs.RunEndings.{end-stands, reader-stands, start-stands, flush-stands, StandsAfter}
-use Rattle.crx_runs.proofs.{RunEndings.well-front, Salvaged.{AskedOnce, is-open, none-failed, asked-once}}
-use Rattle.crx_runs.{specs.Endings.{EndedByFault, EndsAt, Finishes}}
-use Rattle.crx_runs.specs.Endings.{FlushFailed, IsFlushed, IsReported, StopsAt, StoppedAtStart, StoppedByEnd}
-use Rattle.crx_runs.specs.{Endings.WorkEnds, Lawful.IsLawful, Runs.result_by, declared.one_line.Halt.Halt}
-use Rattle.crx_runs.specs.meaning.{Filters.{Filter, with_next}, Interruptions.IsFrontPart}
-use Rattle.crx_runs.specs.meaning.{Messages.{error_text, notices_text}, Results.{Course}}
-use Rattle.crx_runs.specs.meaning.{Results.{result_of_course, status_after}, Runs.IsResult}
-use Rattle.crx_runs.specs.meaning.{Runs.{NoneFailed, FaultIs, RunsAs}, Spans.{Device, TookAll, Input}}
+use Rattle.crx_runs.proofs.{RunEndings.well-front, DeviceSpans.{Joins, took-still}}
+use Rattle.crx_runs.specs.{Runs.result_by, Lawful.IsLawful, meaning.Spans.{Device, TookAll, Input}}
+use Rattle.crx_runs.specs.meaning.{Filters.{Filter, with_next}, Interruptions.IsFrontPart, Runs.IsResult}
+use Rattle.crx_runs.specs.meaning.{Runs.{NoneFailed, FaultIs, RunsAs}, Results.{Course, result_of_course}}
+use Rattle.crx_runs.specs.{meaning.Results.status_after, Endings.{EndedByFault, EndsAt, Finishes}}
+use Rattle.crx_runs.specs.Endings.{FlushFailed, IsFlushed, StopsAt, StoppedAtStart, StoppedByEnd, WorkEnds}
+use Rattle.crx_runs.specs.{declared.one_line.Halt.Halt, meaning.Messages.{error_text, notices_text}}
 use Rattle.crx_runs.specs.declared.one_line.Halt.TheVariants as halt
 
 module _ {input : Input} {now : ReaderState} {lines : List InputLine}
@@ -45,11 +43,10 @@ module _ (filter : Filter) (lawful : IsLawful filter) (input : Input)
     {writer1 writer2 writer messages1 messages2 messages : Device}
     (w : Joins writer1 writer2 writer) (m : Joins messages1 messages2 messages) where
   -- a course that was written, flushed and reported
-  whole-result : (course : Course) {status : ℕ} {fault : Option At} → fault ≡ course.fault
-      → TookAll writer1 course.output → TookAll messages1 (notices_text course.warnings)
-      → writer2.took [] → messages2.took (error_text course.fault)
-      → status ≡ status_after course.warnings course.fault
-      → IsResult (result_of_course course) writer messages status fault
+  whole-result : (course : Course) {status : ℕ} {fault : Option At} → fault ≡ course.fault → TookAll writer1
+      course.output → TookAll messages1 (notices_text course.warnings) → writer2.took [] → messages2.took
+      (error_text course.fault) → status ≡ status_after course.warnings course.fault → IsResult
+      (result_of_course course) writer messages status fault
   whole-result course is wrote warned flushed reported status = record {
     output = took-still w course.output wrote.0 flushed;
     messages_are = m.joined _ _ warned.0 reported;
@@ -60,30 +57,22 @@ module _ (filter : Filter) (lawful : IsLawful filter) (input : Input)
   flushed-either : IsFlushed writer2 ⊎ FlushFailed writer2 → writer2.took []
   flushed-either = grind arith
 
-  -- a message that was cut off was counted
-  reported-whole : (at : At) (notices : List ℕ)
-      → TookAll messages1 notices → NoneFailed messages.before.failures messages.after.failures
-      → IsReported messages2 at → TookAll messages2 (error_text (Some at))
-  reported-whole = grind arith
-
   -- a fault that was found on the way to all lines
   found-whole : (before course all : Course) (at : At) (status : ℕ) (fault : Option At)
       → all ≡ course → EndedByFault writer1 messages1 before course at
       → NoneFailed messages.before.failures messages.after.failures → Finishes writer2 messages2 0 true
       (Some (halt.Fault at)) status fault → IsResult (result_of_course all) writer messages status fault
-  found-whole before course all at status fault same found none finished =
-      rw same (whole-result course (finished.2 ∙ sym found.ends.fault) found.wrote found.reported
-      (flushed-either finished.0) (grind arith)
+  found-whole before course all at status fault same found none finished = rw same (whole-result course
+      (finished.2 ∙ sym found.ends.fault) found.wrote found.reported (flushed-either finished.0) (grind arith)
       (rw found.ends.fault finished.3))
 
   -- what a line, or the end, ended the run with, where no device failed and memory didn't run out
   ends-whole : (can : Option (List At)) (number : ℕ) (before course all : Course) (halt : Halt) (last : ℕ)
       (warned : Bool) (status : ℕ) (fault : Option At) → ((at : At) → course.fault ≡ Some at → all ≡ course)
-      → EndsAt can number writer1 messages1 before course halt
-      → Finishes writer2 messages2 last warned (Some halt) status fault
-      → NoneFailed writer.before.failures writer.after.failures
-      → NoneFailed messages.before.failures messages.after.failures
-      → (FaultIs OutOfMemory fault → ⊥) → IsResult (result_of_course all) writer messages status fault
+      → EndsAt can number writer1 messages1 before course halt → Finishes writer2 messages2 last warned
+      (Some halt) status fault → NoneFailed writer.before.failures writer.after.failures → NoneFailed
+      messages.before.failures messages.after.failures → (FaultIs OutOfMemory fault → ⊥) → IsResult
+      (result_of_course all) writer messages status fault
   ends-whole can number before course all
       (halt.Fault at) last warned status fault same (inl ran) finished wnone mnone memory = grind arith
   ends-whole can number before course all
@@ -105,31 +94,18 @@ module _ (filter : Filter) (lawful : IsLawful filter) (input : Input)
   no-fault : (at : At) (fault : Option At) → fault ≡ Some at → fault ≡ None → ⊥
   no-fault at fault is none = cc
 
-  -- a fault of the reader, or of memory at the start, is the run's
-  fault-is : (at : At) (stop : Halt) (last : ℕ) (warned : Bool) (status : ℕ) (fault : Option At)
-      → stop ≡ halt.Fault at → Finishes writer2 messages2 last warned (Some stop) status fault
-      → fault ≡ Some at
-  fault-is = grind arith
-
-  -- unless a read failed, none did
-  reader-none : (f : Fault) (given : List ℕ) (lines : List InputLine)
-      → IsStopped f input.start input.counted given lines
-      → (f ≡ ReadFailed → ⊥) → input.counted.failures ≡ input.start.failures
-  reader-none = grind arith
-
   -- a run that ended before the good end of its input
   module _ (has_ended : List InputLine → Type 0) (now : ReaderState) (last : ℕ) (warned : Bool) (halt : Halt)
       (status : ℕ) (fault : Option At)
       (finished : Finishes writer2 messages2 last warned (Some halt) status fault) where
-    interrupted : (given : List ℕ) → input.gave given
-        → StandsAfter filter input writer messages given status fault × IsFrontPart filter input given writer
-        → (NoneFailed input.start.failures input.counted.failures
-        → NoneFailed writer.before.failures writer.after.failures
-        → NoneFailed messages.before.failures messages.after.failures → (FaultIs OutOfMemory fault → ⊥)
-        → (rest : List ℕ) → (input.at_end → rest ≡ []) → length (given ++ rest) ≤ INPUT_LIMIT
-        → IsResult (result_by filter (given ++ rest)) writer messages status fault) → AskedOnce input
-        → ((FaultIs ReadFailed fault → ⊥) → input.counted.failures ≡ input.start.failures)
-        → Comes filter input writer messages has_ended status fault
+    interrupted : (given : List ℕ) → input.gave given → StandsAfter filter input writer messages given status
+        fault × IsFrontPart filter input given writer → (NoneFailed input.start.failures
+        input.counted.failures → NoneFailed writer.before.failures writer.after.failures → NoneFailed
+        messages.before.failures messages.after.failures → (FaultIs OutOfMemory fault → ⊥) → (rest : List ℕ)
+        → (input.at_end → rest ≡ []) → length (given ++ rest) ≤ INPUT_LIMIT → IsResult
+        (result_by filter (given ++ rest)) writer messages status fault) → AskedOnce input
+        → ((FaultIs ReadFailed fault → ⊥) → input.counted.failures ≡ input.start.failures) → Comes filter
+        input writer messages has_ended status fault
     interrupted = grind arith
 
     stopped-in-lines : (lines : List InputLine) → StopsAt filter input writer1 messages1 now lines halt
@@ -167,16 +143,14 @@ module _ (filter : Filter) (lawful : IsLawful filter) (input : Input)
 
     stopped-at-start : StoppedAtStart input writer1 messages1 last halt
         → Comes filter input writer messages has_ended status fault
-    stopped-at-start s =
-        interrupted [] s.gave (start-stands filter lawful input w m last warned halt status fault s finished)
-        (grind arith)
-        (inl (ap (λ t. t.ends) s.counts)) (λ other. ap (λ t. t.failures) s.counts)
+    stopped-at-start s = interrupted [] s.gave (start-stands filter lawful input w m last warned halt status
+        fault s finished) (grind arith) (inl (ap (λ t. t.ends) s.counts)) (λ other. ap (λ t. t.failures)
+        s.counts)
 
-  pub runs-as : (has_ended : List InputLine
-      → Type 0) (now : ReaderState) (last : ℕ) (warned : Bool) (halt : Option Halt) (status : ℕ)
-      (fault : Option At) → WorkEnds filter has_ended input writer1 messages1 now last warned halt
-      → Finishes writer2 messages2 last warned halt status fault
-      → Comes filter input writer messages has_ended status fault
+  pub runs-as : (has_ended : List InputLine → Type 0) (now : ReaderState) (last : ℕ) (warned : Bool)
+      (halt : Option Halt) (status : ℕ) (fault : Option At) → WorkEnds filter has_ended input writer1
+      messages1 now last warned halt → Finishes writer2 messages2 last warned halt status fault → Comes filter
+      input writer messages has_ended status fault
   runs-as has_ended now last warned None status None done finished =
       let over = HasRead-ended _ _ _ _ _ _ done.read done.ended in
       let whole = whole-result (filter.whole done.lines) (sym done.out.good) done.out.wrote done.out.reported
@@ -218,12 +192,11 @@ module _ (filter : Filter) (lawful : IsLawful filter) (input : Input)
       stopped-at-start has_ended now last warned halt status fault finished s
 
   -- memory ran out before the first line was asked for
-  pub runs-nothing : (has_ended : List InputLine
-      → Type 0) (last : ℕ) (warned : Bool) (stop : Option Halt) (status : ℕ) (fault : Option At)
-      → stop ≡ Some (halt.Fault (record { line = 0; fault = OutOfMemory }))
-      → last ≡ 0 → input.gave [] → input.counted ≡ input.start
-      → TookAll writer1 [] → TookAll messages1 [] → Finishes writer2 messages2 last warned stop status fault
-      → Comes filter input writer messages has_ended status fault
+  pub runs-nothing : (has_ended : List InputLine → Type 0) (last : ℕ) (warned : Bool) (stop : Option Halt)
+      (status : ℕ) (fault : Option At) → stop ≡ Some (halt.Fault (record { line = 0; fault = OutOfMemory }))
+      → last ≡ 0 → input.gave [] → input.counted ≡ input.start → TookAll writer1 [] → TookAll messages1 []
+      → Finishes writer2 messages2 last warned stop status fault → Comes filter input writer messages
+      has_ended status fault
   runs-nothing has_ended last warned stop status fault is none gave counts wrote reported finished =
       let now : ReaderState = record { rest = []; passed = 0; number = 0; phase = Open } in
       runs-as has_ended now last warned stop status fault

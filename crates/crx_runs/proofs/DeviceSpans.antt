@@ -21,9 +21,8 @@ pub record Joins (first second both : Device) : Type 0 where
   pub joined : (xs ys : List ℕ) → first.took xs → second.took ys → both.took (xs ++ ys)
   pub flushed : second.flushed → both.flushed
 
-pub span-joins : {S : Type 0} (sink : Ghosts S)
-    → ((a b c : S) (xs ys : List ℕ) → sink.took a xs b → sink.took b ys c → sink.took a (xs ++ ys) c)
-    → {a b c : S} → Joins (span sink a b) (span sink b c) (span sink a c)
+pub span-joins : {S : Type 0} (sink : Ghosts S) → ((a b c : S) (xs ys : List ℕ) → sink.took a xs b → sink.took
+    b ys c → sink.took a (xs ++ ys) c) → {a b c : S} → Joins (span sink a b) (span sink b c) (span sink a c)
 span-joins = search
 
 pub all-all : {first second both : Device} → Joins first second both → (xs ys : List ℕ)
@@ -57,8 +56,7 @@ part-more {device = device} xs all more whole is p = record {
   some = p.some;
   less = omega (arith, p.less, ap length is, length-append all more);
   took = subst device.took (sym (ap (take p.count) is ∙ take-append-le p.count all more (omega
-      (arith, p.less))))
-      p.took;
+      (arith, p.less)))) p.took;
   failed = p.failed;
 }
 
@@ -77,9 +75,8 @@ pub part-resumed : {device : Device} (start xs ys more all : List ℕ) → lengt
     → all ≡ (xs ++ ys) ++ more → IsPart device [] ys → IsPart (resumed device xs) start all
 part-resumed start xs ys more all within is p =
     let n = p.count in
-    let front =
-    ap (take _) is ∙ take-append-le
-    _ _ more (omega (arith, p.less, length-append xs ys)) ∙ take-append-add xs ys n in
+    let front = ap (take _) is ∙ take-append-le _ _ more (omega (arith, p.less, length-append xs ys))
+    ∙ take-append-add xs ys n in
     record {
       count = length xs + n;
       some = omega arith;
@@ -106,9 +103,8 @@ carry = grind arith
 -- a text, and a part of the next
 pub part-then : {first second both : Device} → Joins first second both → (xs ys : List ℕ)
     → TookAll first xs → TookPart second ys → IsPart both xs (xs ++ ys)
-part-then j xs ys a b = carried-part (carry j xs a) xs _ (part-resumed xs xs ys [] _
-    (omega arith) (sym (append-nil _))
-    (grind arith))
+part-then j xs ys a b = carried-part (carry j xs a) xs _ (part-resumed xs xs ys [] _ (omega arith) (sym
+    (append-nil _)) (grind arith))
 
 -- and what came after two texts, over both stretches after the first text
 pub carry-on : {first second both : Device} → Joins first second both → (xs ys all : List ℕ)

@@ -4,21 +4,18 @@ use Rattle.std.proofs.Common.{Result, Ok, Err, IfOk, IfErr, refl, sym, ap, ◌�
 use Rattle.std.proofs.Common.{append-nil, length-append}
 use Rattle.crx_base.specs.declared.fault.{At.At, Fault.TheVariants.OutOfMemory}
 use Rattle.crx_runs.proofs.DeviceSpans.{Joins, Carries, all-resumed, none-resumed, part-resumed}
-use Rattle.crx_runs.proofs.DeviceSpans.{notices-append}
-use Rattle.crx_runs.specs.{Endings.{Adds, IsAllOut, EndsAt, resumed}, Engines.EndsWith}
-use Rattle.crx_runs.specs.{Taking.{IsDone, IsSettled}, declared.one_line.Halt.{Halt, TheVariants.Fault}}
-use Rattle.crx_runs.specs.declared.one_line.Halt.TheVariants.{Unwritten, Unreported}
+use Rattle.crx_runs.{proofs.DeviceSpans.notices-append, specs.Endings.{Adds, IsAllOut, EndsAt, resumed}}
+use Rattle.crx_runs.specs.{Engines.EndsWith, Taking.{IsDone, IsSettled}, declared.one_line.Halt.Halt}
+use Rattle.crx_runs.specs.declared.one_line.Halt.TheVariants.{Fault, Unwritten, Unreported}
 use Rattle.crx_runs.specs.meaning.{Messages.notices_text, Results.Course, Spans.{Device, TookAll, AreNext}}
 
 none-some : {A : Type 0} (x : A) → ◌≡◌ {A = Option A} None (Some x) → ⊥
 none-some x e = cc
 
 -- an ending, by devices that took at least the same
-pub carried-ends : {writer writer' messages messages' : Device} → Carries writer writer'
-    → Carries messages messages'
-    → (memory : Option (List At)) (number : ℕ) (before after : Course) (halt : Halt)
-    → EndsAt memory number writer messages before after halt
-    → EndsAt memory number writer' messages' before after halt
+pub carried-ends : {writer writer' messages messages' : Device} → Carries writer writer' → Carries messages
+    messages' → (memory : Option (List At)) (number : ℕ) (before after : Course) (halt : Halt) → EndsAt memory
+    number writer messages before after halt → EndsAt memory number writer' messages' before after halt
 carried-ends = grind arith
 
 module _ {writer1 writer2 writer messages1 messages2 messages : Device}
@@ -30,9 +27,8 @@ module _ {writer1 writer2 writer messages1 messages2 messages : Device}
   out-more text notices adds wrote reported = record {
     good = adds.good;
     wrote = grind arith;
-    reported = subst (TookAll messages)
-        (sym (ap notices_text adds.warnings ∙ notices-append before.warnings notices))
-        (grind arith);
+    reported = subst (TookAll messages) (sym (ap notices_text adds.warnings ∙ notices-append before.warnings
+        notices)) (grind arith);
   }
 
 -- a step at a line, or at the end, by devices that took before what the lines before make, and earlier warnings
@@ -63,15 +59,13 @@ module _ (writer messages : Device) (before after : Course) (earlier told : List
     notices = earlier;
     ends = ends;
     wrote = none-resumed writer before.output after.output ends.output wrote;
-    reported = none-resumed messages (notices_text told) (notices_text after.warnings)
-        (grind arith) reported;
+    reported = none-resumed messages (notices_text told) (notices_text after.warnings) (grind arith) reported;
   })
 
   -- what a step made couldn't be written or reported
-  step-ends : (text : List ℕ) (notices : List At)
-      → (0 < length text → Adds before after text (earlier ++ notices))
-      → AreNext before after (earlier ++ notices)
-      → (halt : Halt) → EndsAt None 0 writer messages (record { output = []; warnings = []; fault = None })
+  step-ends : (text : List ℕ) (notices : List At) → (0 < length text → Adds before after text
+      (earlier ++ notices)) → AreNext before after (earlier ++ notices) → (halt : Halt) → EndsAt None 0 writer
+      messages (record { output = []; warnings = []; fault = None })
       (record { output = text; warnings = notices; fault = None }) halt → Ends halt
   step-ends text notices adds next (Fault at) (inl e) = absurd (none-some e.notices e.allowed)
   step-ends text notices adds next (Fault at) (inr e) = absurd (none-some at e.ends.fault)
@@ -103,11 +97,9 @@ module _ (writer messages : Device) (before after : Course) (earlier told : List
   }
 
   -- or it could
-  pub step-comes : (text : List ℕ) (notices : List At)
-      → (0 < length text → Adds before after text (earlier ++ notices))
-      → AreNext before after (earlier ++ notices) → (result : Result Bool Halt)
-      → IsSettled writer messages (record { output = text; warnings = notices; fault = None }) result
-      → IfErr result Ends
+  pub step-comes : (text : List ℕ) (notices : List At) → (0 < length text → Adds before after text (earlier
+      ++ notices)) → AreNext before after (earlier ++ notices) → (result : Result Bool Halt) → IsSettled
+      writer messages (record { output = text; warnings = notices; fault = None }) result → IfErr result Ends
   step-comes text notices adds next (Ok warned) s = tt
   step-comes text notices adds next (Err halt) s = step-ends text notices adds next halt s
 

@@ -46,11 +46,9 @@ stays-then : (filter : Filter) (shows : List InputLine → List Awaited → Type
 stays-then = grind arith
 
 either-out : (filter : Filter) (lines : List InputLine) (line : InputLine) (notices : List At) (at : At)
-    → RunsOutAt filter lines line notices at
-    ⊎ EndsWith (filter.so_far lines) (filter.so_far (with_next lines line)) notices at
-    → ((at.fault ≡ OutOfMemory) × (at.line ≡ length lines + 1) × (filter.memory_after lines line ≡ Some
-    notices))
-    ⊎ EndsWith (filter.so_far lines) (filter.so_far (with_next lines line)) notices at
+    → RunsOutAt filter lines line notices at ⊎ EndsWith (filter.so_far lines) (filter.so_far (with_next lines
+    line)) notices at → ((at.fault ≡ OutOfMemory) × (at.line ≡ length lines + 1) × (filter.memory_after lines
+    line ≡ Some notices)) ⊎ EndsWith (filter.so_far lines) (filter.so_far (with_next lines line)) notices at
 either-out = grind arith
 
 on-ok : {A E : Type 0} {X : Type 0} (result : Result A E) → X → OnOk result X
@@ -70,19 +68,17 @@ then-ok : (X : Type 0) (warned : Bool) (result : Result Bool Halt) → OnOk resu
     → OnOk (then_of warned result) X
 then-ok = grind arith
 
-then-err : {P Q : Halt → Type 0} (warned : Bool) (result : Result Bool Halt) → ((halt : Halt) → P halt → Q
-    halt)
-    → IfErr result P → IfErr (then_of warned result) Q
+then-err : {P Q : Halt → Type 0} (warned : Bool) (result : Result Bool Halt)
+    → ((halt : Halt) → P halt → Q halt) → IfErr result P → IfErr (then_of warned result) Q
 then-err = grind arith
 
-then-done : {writer1 writer2 writer messages1 messages2 messages : Device}
-    → Joins writer1 writer2 writer → Joins messages1 messages2 messages
-    → (before after : Course) (shown : Type 0) (notice : At) (text : List ℕ) (notices : List At)
-    → shown → Adds before after text (notice ∷ notices)
-    → (warned : Bool) → TookAll writer1 [] → TookAll messages1 (notices_text (notice ∷ [])) → warned ≡ true
-    → (result : Result Bool Halt)
-    → IsSettled writer2 messages2 (record { output = text; warnings = notices; fault = None }) result
-    → IfOk (then_of warned result) (IsDone before after shown writer messages)
+then-done : {writer1 writer2 writer messages1 messages2 messages : Device} → Joins writer1 writer2 writer
+    → Joins messages1 messages2 messages → (before after : Course) (shown : Type 0) (notice : At)
+    (text : List ℕ) (notices : List At) → shown → Adds before after text (notice ∷ notices) → (warned : Bool)
+    → TookAll writer1 [] → TookAll messages1 (notices_text (notice ∷ [])) → warned ≡ true
+    → (result : Result Bool Halt) → IsSettled writer2 messages2
+    (record { output = text; warnings = notices; fault = None }) result → IfOk (then_of warned result)
+    (IsDone before after shown writer messages)
 then-done {messages = messages} w m before after shown notice text notices is adds warned wrote reported flag
     (Ok second) s =
     record {
@@ -113,9 +109,8 @@ module _ {E : Type 0} (engine : Ghosts E) {before now : E} {can_be : InputLine �
 
   -- a line that doesn't come a second time
   pub line-settled : (step : Step) (new : E) (writer messages : Device) (result : Result Bool Halt)
-      → HasAnswered engine before now can_be (Ok step) → Stays step → KeepsLines engine now new
-      → OnOk result (engine.ready new ≡ [])
-      → IsSettled writer messages (made_by (engine.ready now) step) result
+      → HasAnswered engine before now can_be (Ok step) → Stays step → KeepsLines engine now new → OnOk result
+      (engine.ready new ≡ []) → IsSettled writer messages (made_by (engine.ready now) step) result
       → LineIsTaken engine before new can_be writer messages result
   line-settled step new writer messages result a stays kept drained settled =
       let adds = λ (lines : List InputLine) (line : InputLine) (shown : engine.shows before lines [])
@@ -149,10 +144,9 @@ module _ {E : Type 0} (engine : Ghosts E) {before now : E} {can_be : InputLine �
   }
 
   -- either of both
-  pub line-failed : (step : Step) (new : E) (writer messages : Device) (halt : Halt)
-      → HasAnswered engine before now can_be (Ok step) → KeepsLines engine now new
-      → IsSettled writer messages (made_by (engine.ready now) step) (Err halt)
-      → LineIsTaken engine before new can_be writer messages (Err halt)
+  pub line-failed : (step : Step) (new : E) (writer messages : Device) (halt : Halt) → HasAnswered engine
+      before now can_be (Ok step) → KeepsLines engine now new → IsSettled writer messages (made_by
+      (engine.ready now) step) (Err halt) → LineIsTaken engine before new can_be writer messages (Err halt)
   line-failed Quiet _ _ _ _ a kept s = line-settled _ _ _ _ _ a tt kept tt s
   line-failed Ready _ _ _ _ a kept s = line-settled _ _ _ _ _ a tt kept tt s
   line-failed (Warned notice true) _ _ _ _ a kept s = again-unreported _ _ _ _ _ a kept s
@@ -161,10 +155,9 @@ module _ {E : Type 0} (engine : Ghosts E) {before now : E} {can_be : InputLine �
   -- a line that comes a second time, after its warning
   module _ {step : Step} {notice : At} (is : step ≡ Warned notice true)
       (answered : HasAnswered engine before now can_be (Ok step)) {mid : E} (kept : KeepsLines engine now mid)
-      {writer1 writer2 writer messages1 messages2 messages : Device}
-      (w : Joins writer1 writer2 writer) (m : Joins messages1 messages2 messages) (warned : Bool)
-      (out : IsSettled writer1 messages1 (made_by (engine.ready now) step) (Ok warned))
-      (then : E) where
+      {writer1 writer2 writer messages1 messages2 messages : Device} (w : Joins writer1 writer2 writer)
+      (m : Joins messages1 messages2 messages) (warned : Bool)
+      (out : IsSettled writer1 messages1 (made_by (engine.ready now) step) (Ok warned)) (then : E) where
     abbrev its : Filter
     its = engine.filter before
 
@@ -189,37 +182,32 @@ module _ {E : Type 0} (engine : Ghosts E) {before now : E} {can_be : InputLine �
     second-answers : (answer : Result Step At) → HasAnswered engine mid then can_be answer
         → (lines : List InputLine) (line : InputLine) → engine.shows before lines [] → can_be line
         → EngineAnswers its (engine.shows then) (engine.ready then) lines (awaited line) line answer
-    second-answers answer b lines line shown is =
-        rw (sym (kept.filter ∙ a.filter)) (b.answers lines _ line
+    second-answers answer b lines line shown is = rw (sym (kept.filter ∙ a.filter)) (b.answers lines _ line
         (kept.shows lines _ (a.answers lines [] line shown tt is).0) refl is)
 
     second-ends : (lines : List InputLine) (line : InputLine) (halt : Halt)
         → Ends writer2 messages2 (its.so_far lines) (its.so_far (with_next lines line)) (notice ∷ [])
         ((its.so_far lines).warnings ++ notice ∷ []) refl (its.memory_after lines line) (length lines + 1)
         halt → LineEndsRun its lines line writer messages halt
-    second-ends lines line halt e =
-        carried-ends (carry-on w _ [] _ (sym (append-nil _)) first-wrote)
+    second-ends lines line halt e = carried-ends (carry-on w _ [] _ (sym (append-nil _)) first-wrote)
         (carry-on m _ _ _ (notices-append _ _) settled.0.reported) _ _ _ _ halt e
 
-    pub again-refused : (at : At) → HasAnswered engine mid then can_be (Err at)
-        → TookAll writer2 [] → TookAll messages2 []
-        → LineIsTaken engine before then can_be writer messages (Err (Fault at))
+    pub again-refused : (at : At) → HasAnswered engine mid then can_be (Err at) → TookAll writer2 [] → TookAll
+        messages2 [] → LineIsTaken engine before then can_be writer messages (Err (Fault at))
     again-refused at b wrote reported = record {
       filter = b.filter ∙ kept.filter ∙ a.filter;
       running = tt;
       drained = tt;
       done = λ lines line shown is. tt;
-      cut = λ lines line shown is. second-ends lines line (Fault at)
-          (answer-ends _ _ (its.so_far lines) (its.so_far (with_next lines line)) _ _ refl _ _ at (inr
-          (first-next lines line shown is))
+      cut = λ lines line shown is. second-ends lines line (Fault at) (answer-ends _ _ (its.so_far lines)
+          (its.so_far (with_next lines line)) _ _ refl _ _ at (inr (first-next lines line shown is))
           (either-out _ _ _ _ _ (second-answers (Err at) b lines line shown is)) wrote reported);
     }
 
-    pub again-settled : (second : Step) (new : E) (result : Result Bool Halt)
-        → HasAnswered engine mid then can_be (Ok second) → KeepsLines engine then new
-        → OnOk result (engine.ready new ≡ [])
-        → IsSettled writer2 messages2 (made_by (engine.ready then) second) result
-        → LineIsTaken engine before new can_be writer messages (then_of warned result)
+    pub again-settled : (second : Step) (new : E) (result : Result Bool Halt) → HasAnswered engine mid then
+        can_be (Ok second) → KeepsLines engine then new → OnOk result (engine.ready new ≡ []) → IsSettled
+        writer2 messages2 (made_by (engine.ready then) second) result → LineIsTaken engine before new can_be
+        writer messages (then_of warned result)
     again-settled second new result b kept2 drained settled2 =
         let adds = λ (lines : List InputLine) (line : InputLine)
         (shown : engine.shows before lines []) (is : can_be line).
@@ -255,10 +243,9 @@ none-first [] ys is = refl
 none-first (x ∷ xs) ys is = absurd (cc)
 
 end-warns : (filter : Filter) (ready : List (List ℕ)) (lines : List InputLine) (step : Step)
-    (writer messages : Device) (halt : Halt) → IsDrainedAfter step ready → Concludes filter ready lines (Ok
-    step)
-    → IsSettled writer messages (made_by ready step) (Err halt)
-    → WarnsAtEnd (filter.so_far lines) (filter.whole lines) halt
+    (writer messages : Device) (halt : Halt) → IsDrainedAfter step ready → Concludes filter ready lines
+    (Ok step) → IsSettled writer messages (made_by ready step) (Err halt) → WarnsAtEnd (filter.so_far lines)
+    (filter.whole lines) halt
 end-warns _ _ _ Quiet _ _ (Fault at) drained a s = a.1.warnings ∙ append-nil _
 end-warns _ _ _ Quiet _ _ Unwritten drained a s = a.1.warnings ∙ append-nil _
 end-warns _ _ _ Quiet _ _ Unreported drained a s =
@@ -273,10 +260,9 @@ end-warns _ _ _ (Warned notice again) _ _ Unwritten drained a s = grind arith
 end-warns _ _ _ (Warned notice again) _ _ Unreported drained a s = (notice, a.1.warnings)
 
 pub end-comes : (filter : Filter) (ready : List (List ℕ)) (lines : List InputLine) (step : Step)
-    (writer messages : Device) (result : Result Bool Halt)
-    → IsDrainedAfter step ready → Concludes filter ready lines (Ok step)
-    → IsSettled writer messages (made_by ready step) result
-    → IfErr result (EndEndsRun filter lines writer messages)
+    (writer messages : Device) (result : Result Bool Halt) → IsDrainedAfter step ready → Concludes filter
+    ready lines (Ok step) → IsSettled writer messages (made_by ready step) result → IfErr result
+    (EndEndsRun filter lines writer messages)
 end-comes filter ready lines step writer messages (Ok warned) drained a settled = tt
 end-comes filter ready lines step writer messages (Err halt) drained a settled =
     let adds = concludes-add filter ready lines step drained a in (

@@ -1,20 +1,19 @@
 -- What is after a run, by how its work ended and how it was finished.
 use Rattle.std.proofs.Common.{◌≡◌, ◌⊎◌, inl, inr, ℕ, ◌+◌, Bool, true, List, [], ◌++◌, length, take, Option}
 use Rattle.std.proofs.Common.{Some, None, ◌∷◌, refl, sym, ap, subst, ◌∙◌, arith, length-append}
-use Rattle.crx_lines.{proofs.ProgressLemmas.HasRead-stopped, specs.{Progress.IsStopped, Reading.ReaderState}}
-use Rattle.crx_base.specs.declared.fault.{At.At, Fault.{Fault}}
-use Rattle.crx_base.specs.declared.fault.Fault.TheVariants.{OutOfMemory}
+use Rattle.crx_lines.{proofs.ProgressLemmas.HasRead-stopped, specs.Progress.IsStopped}
+use Rattle.crx_lines.specs.Reading.{ReaderState}
+use Rattle.crx_base.specs.declared.fault.{At.At, Fault.Fault, Fault.TheVariants.OutOfMemory}
 use Rattle.crx_base.specs.meaning.Lines.{InputLine}
-use Rattle.crx_runs.proofs.DeviceSpans.{Joins, all-still, notices-append, part-more, part-still}
-use Rattle.crx_runs.proofs.{DeviceSpans.{part-then, took-still}, Salvaged.{complete-stopped, all-read}}
-use Rattle.crx_runs.proofs.Salvaged.{all-of, taken-read, begins-itself, begins-taken, first-after-turn}
-use Rattle.crx_runs.{proofs.Salvaged.{first-before-turn, first-complete}, specs.Endings.{EndsAt, EndsBy}}
-use Rattle.crx_runs.specs.Endings.{ReaderStopped, StoppedAtStart, StoppedByEnd, WellDone, Finishes}
-use Rattle.crx_runs.specs.{Endings.{IsReported, IsFlushed, FlushFailed, write_failed_at}, Lawful.IsLawful}
-use Rattle.crx_runs.specs.{Lawful.is_of_lines, declared.one_line.Halt.Halt, meaning.Filters.{Filter, with_next}}
-use Rattle.crx_runs.specs.meaning.Interruptions.{IsTurn, IsWritten, AreReported}
-use Rattle.crx_runs.specs.meaning.Interruptions.{NoMemoryAtLine, FaultFound, Stands}
-use Rattle.crx_runs.specs.meaning.{Interruptions.IsFrontPart, Messages.{error_text, notices_text}}
+use Rattle.crx_runs.proofs.DeviceSpans.{Joins, all-still, notices-append, part-more, part-still, part-then}
+use Rattle.crx_runs.proofs.{DeviceSpans.took-still, Salvaged.{complete-stopped, all-read, all-of, taken-read}}
+use Rattle.crx_runs.proofs.Salvaged.{begins-itself, begins-taken, first-after-turn, first-before-turn}
+use Rattle.crx_runs.{proofs.Salvaged.first-complete, specs.Endings.{EndsAt, EndsBy, ReaderStopped}}
+use Rattle.crx_runs.specs.Endings.{StoppedAtStart, StoppedByEnd, WellDone, Finishes, IsReported, IsFlushed}
+use Rattle.crx_runs.specs.{Endings.{FlushFailed, write_failed_at}, Lawful.{IsLawful, is_of_lines}}
+use Rattle.crx_runs.specs.{declared.one_line.Halt.Halt, meaning.Filters.{Filter, with_next}}
+use Rattle.crx_runs.specs.meaning.Interruptions.{IsTurn, IsWritten, AreReported, NoMemoryAtLine, FaultFound}
+use Rattle.crx_runs.specs.meaning.{Interruptions.{Stands, IsFrontPart}, Messages.{error_text, notices_text}}
 use Rattle.crx_runs.specs.meaning.{Results.Course, Spans.{Device, TookAll, AreNext, Input}}
 use Rattle.crx_runs.specs.declared.one_line.Halt.TheVariants as halt
 
@@ -30,12 +29,8 @@ module _ (filter : Filter) (lawful : IsLawful filter) (input : Input)
 
   written : (text : List ℕ) → TookAll writer1 text → IsFlushed writer2 ⊎ FlushFailed writer2
       → IsWritten writer text
-  written text a (inl b) = (
-    took-still w text a.0 b.0,
-    grind arith,
-  )
-  written text a (inr b) =
-      (took-still w text a.0 b.0, grind arith)
+  written text a (inl b) = (took-still w text a.0 b.0, grind arith)
+  written text a (inr b) = (took-still w text a.0 b.0, grind arith)
 
   reported : (warnings : List At) (at : At)
       → TookAll messages1 (notices_text warnings) → IsReported messages2 at → AreReported messages warnings at
@@ -49,30 +44,25 @@ module _ (filter : Filter) (lawful : IsLawful filter) (input : Input)
 
   -- ---- a line, or the end
 
-  module _ (given : List ℕ) (before after : Course)
-      (last : ℕ) (turn : IsTurn filter input given before after last) (can : Option (List At))
-      (number : ℕ) where
+  module _ (given : List ℕ) (before after : Course) (last : ℕ)
+      (turn : IsTurn filter input given before after last) (can : Option (List At)) (number : ℕ) where
     found-stands : (f : Fault) (at : At) → is_of_lines f ≡ true
         → FaultFound filter input given writer messages at → Stands filter input given writer messages at f
     found-stands = grind arith
 
-    pub turn-stands : (halt : Halt) (warned : Bool) (status : ℕ) (fault : Option At)
-        → ((at : At) (notices : List At) → can ≡ Some notices → at.line ≡ number → (notices ≡ []) ⊎ AreNext
-        before after notices → IsWritten writer before.output
-        → AreReported messages (before.warnings ++ notices) at
-        → NoMemoryAtLine filter input given writer messages at)
-        → ((at : At) → after.fault ≡ Some at → is_of_lines at.fault ≡ true)
-        → EndsAt can number writer1 messages1 before after halt
-        → Finishes writer2 messages2 last warned (Some halt) status fault → StandsAfter filter input writer
-        messages given status fault
-    turn-stands (halt.Fault at) warned status fault memory found (inl ran) finished =
-        stands-after given at finished.3 finished.2 (subst (λ f. Stands filter input given writer messages at
-        f)
-        (sym ran.fault) (inr (memory at ran.notices ran.allowed ran.place ran.next
-        (written before.output ran.wrote finished.0) (reported _ at ran.reported finished.1))))
-    turn-stands (halt.Fault at) warned status fault memory found (inr r) finished =
-        stands-after given at finished.3 finished.2 (found-stands at.fault at (found at r.ends.fault)
-        (record {
+    pub turn-stands : (halt : Halt) (warned : Bool) (status : ℕ) (fault : Option At) → ((at : At)
+        (notices : List At) → can ≡ Some notices → at.line ≡ number → (notices ≡ []) ⊎ AreNext before after
+        notices → IsWritten writer before.output → AreReported messages (before.warnings ++ notices) at
+        → NoMemoryAtLine filter input given writer messages at) → ((at : At) → after.fault ≡ Some at
+        → is_of_lines at.fault ≡ true) → EndsAt can number writer1 messages1 before after halt → Finishes
+        writer2 messages2 last warned (Some halt) status fault → StandsAfter filter input writer messages
+        given status fault
+    turn-stands (halt.Fault at) warned status fault memory found (inl ran) finished = stands-after given at
+        finished.3 finished.2 (subst (λ f. Stands filter input given writer messages at f) (sym ran.fault)
+        (inr (memory at ran.notices ran.allowed ran.place ran.next (written before.output ran.wrote
+        finished.0) (reported _ at ran.reported finished.1))))
+    turn-stands (halt.Fault at) warned status fault memory found (inr r) finished = stands-after given at
+        finished.3 finished.2 (found-stands at.fault at (found at r.ends.fault) (record {
           before = before;
           after = after;
           last = last;
@@ -97,14 +87,12 @@ module _ (filter : Filter) (lawful : IsLawful filter) (input : Input)
           turn = turn;
           wrote = all-still w before.output r.wrote finished.0;
           reported = part-still m _ _ (part-more _ (notices_text (before.warnings ++ r.notices)) (notices_text
-              r.next.0) _
-              (ap notices_text r.next.1 ∙ notices-append (before.warnings ++ r.notices) r.next.0) r.reported)
-              finished.1;
+              r.next.0) _ (ap notices_text r.next.1 ∙ notices-append (before.warnings ++ r.notices) r.next.0)
+              r.reported) finished.1;
         })))
 
-    pub turn-front : (halt : Halt) (warned : Bool) (status : ℕ) (fault : Option At)
-        → EndsAt can number writer1 messages1 before after halt
-        → Finishes writer2 messages2 last warned (Some halt) status fault
+    pub turn-front : (halt : Halt) (warned : Bool) (status : ℕ) (fault : Option At) → EndsAt can number
+        writer1 messages1 before after halt → Finishes writer2 messages2 last warned (Some halt) status fault
         → IsFrontPart filter input given writer
     turn-front (halt.Fault at) warned status fault (inl ran) finished = record {
       written = before.output;
@@ -131,12 +119,11 @@ module _ (filter : Filter) (lawful : IsLawful filter) (input : Input)
 
   -- ---- the work of a run
 
-  pub line-stands : (now : ReaderState) (last : ℕ) (warned : Bool)
-      (halt : Halt) (status : ℕ) (fault : Option At) (lines : List InputLine)
-      (ends : EndsBy filter input writer1 messages1 now lines halt) → last ≡ now.number
-      → Finishes writer2 messages2 last warned (Some halt) status fault
-      → StandsAfter filter input writer messages ends.read.given status fault × IsFrontPart filter input
-      ends.read.given writer
+  pub line-stands : (now : ReaderState) (last : ℕ) (warned : Bool) (halt : Halt) (status : ℕ)
+      (fault : Option At) (lines : List InputLine)
+      (ends : EndsBy filter input writer1 messages1 now lines halt) → last ≡ now.number → Finishes writer2
+      messages2 last warned (Some halt) status fault → StandsAfter filter input writer messages
+      ends.read.given status fault × IsFrontPart filter input ends.read.given writer
   line-stands now last warned halt status fault lines ends last_is finished =
       let h = ends.read in
       let next = with_next lines ends.line in
@@ -155,36 +142,32 @@ module _ (filter : Filter) (lawful : IsLawful filter) (input : Input)
       )
 
   pub end-stands : (now : ReaderState) (last : ℕ) (warned : Bool) (halt : Halt) (status : ℕ)
-      (fault : Option At) (s : StoppedByEnd filter input writer1 messages1 now last halt)
-      → Finishes writer2 messages2 last warned (Some halt) status fault
-      → StandsAfter filter input writer messages s.read.given status fault × IsFrontPart filter input
-      s.read.given writer
+      (fault : Option At) (s : StoppedByEnd filter input writer1 messages1 now last halt) → Finishes writer2
+      messages2 last warned (Some halt) status fault → StandsAfter filter input writer messages s.read.given
+      status fault × IsFrontPart filter input s.read.given writer
   end-stands now last warned halt status fault s finished =
       let all = all-read s.read s.ended in
       let turn : IsTurn filter input s.read.given (filter.so_far s.lines) (filter.whole s.lines) last =
       grind arith in (
-        turn-stands _ _ _ last turn None (length s.lines) halt warned status fault
-            (grind arith)
-            (λ at bad. lawful.found_at_end s.lines at bad) s.ends finished,
+        turn-stands _ _ _ last turn None (length s.lines) halt warned status fault (grind arith) (λ at bad.
+            lawful.found_at_end s.lines at bad) s.ends finished,
         turn-front _ _ _ last turn None (length s.lines) halt warned status fault s.ends finished,
       )
 
   -- the reading stopped
-  stopped-stands : (given : List ℕ) (lines : List InputLine) (f : Fault) (at : At)
-      → IsStopped f input.start input.counted given lines → at.line ≡ length lines + 1
-      → (filter.so_far lines).fault ≡ None → IsWritten writer (filter.so_far lines).output
-      → AreReported messages (filter.so_far lines).warnings at
-      → Stands filter input given writer messages at f
+  stopped-stands : (given : List ℕ) (lines : List InputLine) (f : Fault) (at : At) → IsStopped f input.start
+      input.counted given lines → at.line ≡ length lines + 1 → (filter.so_far lines).fault ≡ None → IsWritten
+      writer (filter.so_far lines).output → AreReported messages (filter.so_far lines).warnings at → Stands
+      filter input given writer messages at f
   stopped-stands given lines f at s line good wrote reported =
       let same = complete-stopped given lines f input.start input.counted s in
       (grind arith)
 
-  pub reader-stands : (now : ReaderState) (last : ℕ) (warned : Bool)
-      (stop : Halt) (status : ℕ) (fault : Option At) (lines : List InputLine) (at : At) → stop ≡ halt.Fault at
-      → (s : ReaderStopped input writer1 messages1 now lines (filter.so_far lines) at)
-      → Finishes writer2 messages2 last warned (Some stop) status fault
-      → StandsAfter filter input writer messages s.read.given status fault
-      × IsFrontPart filter input s.read.given writer
+  pub reader-stands : (now : ReaderState) (last : ℕ) (warned : Bool) (stop : Halt) (status : ℕ)
+      (fault : Option At) (lines : List InputLine) (at : At) → stop ≡ halt.Fault at
+      → (s : ReaderStopped input writer1 messages1 now lines (filter.so_far lines) at) → Finishes writer2
+      messages2 last warned (Some stop) status fault → StandsAfter filter input writer messages s.read.given
+      status fault × IsFrontPart filter input s.read.given writer
   reader-stands now last warned stop status fault lines at halt_is s finishes =
       let finished : Finishes writer2 messages2 last warned (Some (halt.Fault at)) status fault =
       grind arith in
@@ -193,8 +176,7 @@ module _ (filter : Filter) (lawful : IsLawful filter) (input : Input)
       let wrote = written _ s.out.wrote finished.0 in
       let same = complete-stopped h.given lines at.fault input.start input.counted stopped.0 in (
         stands-after h.given at finished.3 finished.2 (stopped-stands h.given lines at.fault at stopped.0
-            stopped.1
-            s.out.good wrote (reported _ at s.out.reported finished.1)),
+            stopped.1 s.out.good wrote (reported _ at s.out.reported finished.1)),
         record { written = _; wrote = wrote.0; first = first-complete lawful input h.given lines same },
       )
 
@@ -204,8 +186,7 @@ module _ (filter : Filter) (lawful : IsLawful filter) (input : Input)
       → StandsAfter filter input writer messages [] status fault × IsFrontPart filter input [] writer
   start-stands last warned stop status fault s finishes =
       let finished : Finishes writer2 messages2 last warned (Some (halt.Fault (record
-      { line = 0; fault = OutOfMemory })))
-      status fault = grind arith in
+      { line = 0; fault = OutOfMemory }))) status fault = grind arith in
       let wrote = written [] s.wrote finished.0 in (
         stands-after [] _ finished.3 finished.2 (inl (record {
           line = refl;

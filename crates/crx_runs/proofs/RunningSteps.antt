@@ -1,29 +1,26 @@
 -- A run goes on by a line, or ends at it; and its end.
-use Rattle.std.proofs.Common.{arith}
-use Rattle.std.proofs.Common.{◌≡◌, ℕ, Bool, ◌||◌, List, [], ◌∙◌}
-use Rattle.crx_base.specs.{meaning.Lines.InputLine}
+use Rattle.std.proofs.Common.{arith, ◌≡◌, ℕ, Bool, ◌||◌, List, [], ◌∙◌}
+use Rattle.crx_base.specs.meaning.Lines.{InputLine}
 use Rattle.crx_lines.specs.Reading.{ReaderState}
-use Rattle.crx_runs.proofs.{DeviceSpans.Joins, LineEndings.{out-more}, StepReading.ReadsLine}
+use Rattle.crx_runs.proofs.{DeviceSpans.Joins, LineEndings.out-more, StepReading.ReadsLine}
 use Rattle.crx_runs.specs.{Endings.{EndEndsRun, EndsBy, LineEndsRun, StoppedByEnd, WellDone}, Engines.Awaited}
 use Rattle.crx_runs.specs.{Running.{ComesToEnd, GoesOnBy, IsRunning}, Taking.IsDone}
-use Rattle.crx_runs.specs.{declared.one_line.Halt.Halt, meaning.{Filters.{Filter, with_next}, Results.are_some}}
-use Rattle.crx_runs.specs.meaning.Spans.{Device, Input}
+use Rattle.crx_runs.specs.{declared.one_line.Halt.Halt, meaning.Filters.{Filter, with_next}}
+use Rattle.crx_runs.specs.meaning.{Results.are_some, Spans.{Device, Input}}
 
 -- the run goes on
 pub go-on : {filter : Filter} {shows : List InputLine → List Awaited → Type 0} {input : Input}
     {writer messages : Device} {now : ReaderState} {lines : List InputLine} {warned warning both : Bool}
-    → warned ≡ are_some (filter.so_far lines).warnings
-    → GoesOnBy filter shows input writer messages now lines warning → both ≡ (warned || warning)
-    → (ls : List InputLine) × shows ls [] × IsRunning input writer messages now ls (filter.so_far ls)
-    × (both ≡ are_some (filter.so_far ls).warnings)
+    → warned ≡ are_some (filter.so_far lines).warnings → GoesOnBy filter shows input writer messages now lines
+    warning → both ≡ (warned || warning) → (ls : List InputLine) × shows ls [] × IsRunning input writer
+    messages now ls (filter.so_far ls) × (both ≡ are_some (filter.so_far ls).warnings)
 go-on = grind arith
 
 module _ {filter : Filter} {input then : Input} {old new : ReaderState} {lines : List InputLine}
-    {writer1 writer2 writer messages1 messages2 messages : Device}
-    (w : Joins writer1 writer2 writer) (m : Joins messages1 messages2 messages)
-    (running : IsRunning input writer1 messages1 old lines (filter.so_far lines)) {line : InputLine} {number :
-    ℕ}
-    (read : ReadsLine then.gave then.at_end then.start then.counted new lines line number) where
+    {writer1 writer2 writer messages1 messages2 messages : Device} (w : Joins writer1 writer2 writer)
+    (m : Joins messages1 messages2 messages)
+    (running : IsRunning input writer1 messages1 old lines (filter.so_far lines)) {line : InputLine}
+    {number : ℕ} (read : ReadsLine then.gave then.at_end then.start then.counted new lines line number) where
   -- a line was taken
   pub goes-by : {shows : List InputLine → List Awaited → Type 0} {warned : Bool}
       → IsDone (filter.so_far lines) (filter.so_far (with_next lines line)) (shows (with_next lines line) [])
@@ -47,11 +44,10 @@ module _ {filter : Filter} {input then : Input} {old new : ReaderState} {lines :
   ends-by = grind arith
 
 module _ {filter : Filter} {input : Input} {now : ReaderState} {lines : List InputLine}
-    {writer1 writer2 writer messages1 messages2 messages : Device}
-    (w : Joins writer1 writer2 writer) (m : Joins messages1 messages2 messages)
-    {shows : List InputLine → List Awaited → Type 0}
-    (comes : ComesToEnd filter shows input writer1 messages1 now lines)
-    {last : ℕ} (last_is : last ≡ now.number) where
+    {writer1 writer2 writer messages1 messages2 messages : Device} (w : Joins writer1 writer2 writer)
+    (m : Joins messages1 messages2 messages) {shows : List InputLine → List Awaited → Type 0}
+    (comes : ComesToEnd filter shows input writer1 messages1 now lines) {last : ℕ}
+    (last_is : last ≡ now.number) where
   -- the end was taken
   pub well-done : {has_ended : List InputLine → Type 0} {warned warning both : Bool}
       → warned ≡ are_some (filter.so_far lines).warnings → both ≡ (warned || warning)

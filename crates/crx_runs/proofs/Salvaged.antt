@@ -1,17 +1,14 @@
 -- What is after a run, by how it ended.
-use Rattle.std.proofs.Common.{arith}
-use Rattle.std.proofs.Common.{◌≡◌, ◌⊎◌, inl, inr, ℕ, ◌≤◌, List, [], ◌++◌, length, take, drop, refl, sym}
-use Rattle.std.proofs.{Common.{ap, subst, ◌∙◌, append-nil, append_assoc}, lemmas.List.take_all}
+use Rattle.std.proofs.Common.{arith, ◌≡◌, ◌⊎◌, inl, inr, ℕ, ◌≤◌, List, [], ◌++◌, length, take, drop, refl}
+use Rattle.std.proofs.{Common.{sym, ap, subst, ◌∙◌, append-nil, append_assoc}, lemmas.List.take_all}
 use Rattle.std.proofs.lemmas.List.{take-append-drop}
-use Rattle.crx_lines.{specs.Progress.{HasRead, StandsAt, IsOpen}}
-use Rattle.crx_lines.specs.{Progress.IsStopped, Reading.ReaderState}
+use Rattle.crx_lines.specs.{Progress.{HasRead, StandsAt, IsOpen, IsStopped}, Reading.ReaderState}
 use Rattle.crx_lines.specs.{declared.phase.Phase.TheVariants.{Open, Ended}, meaning.Devices.{Tally, one_more}}
-use Rattle.crx_base.specs.declared.fault.Fault.{Fault, TheVariants.{InputTooLong, ReadFailed}}
-use Rattle.crx_base.specs.{declared.limits.TheConstants.INPUT_LIMIT, meaning.Lines.{InputLine, lines_of}}
-use Rattle.crx_base.specs.meaning.Seen.{ended_lines_of}
-use Rattle.crx_runs.specs.{Lawful.IsLawful, meaning.Filters.{Filter}}
-use Rattle.crx_runs.specs.meaning.{Interruptions.{complete_lines, AreAll, AreTaken, IsTurn}, Results.Course}
-use Rattle.crx_runs.specs.meaning.{Results.Begins, Spans.Input}
+use Rattle.crx_base.specs.declared.fault.Fault.{TheVariants.{InputTooLong, ReadFailed}, Fault}
+use Rattle.crx_base.specs.{declared.limits.TheConstants.INPUT_LIMIT, meaning.Seen.ended_lines_of}
+use Rattle.crx_base.specs.meaning.Lines.{InputLine, lines_of}
+use Rattle.crx_runs.specs.{Lawful.IsLawful, meaning.Interruptions.{complete_lines, AreAll, AreTaken, IsTurn}}
+use Rattle.crx_runs.specs.meaning.{Results.{Course, Begins}, Filters.Filter, Spans.Input}
 
 -- ---- what was read
 
@@ -79,8 +76,7 @@ module _ {filter : Filter} (lawful : IsLawful filter) (input : Input) (given : L
 
   first-taken : (lines : List InputLine) (written : List ℕ)
       → AreTaken input given lines → Begins (filter.so_far lines).output written → IsFirst written
-  first-taken lines written (inl t) begins = inl (begins-more (grind arith)
-      begins)
+  first-taken lines written (inl t) begins = inl (begins-more (grind arith) begins)
   first-taken lines written (inr t) begins = inr (
     t.reported,
     begins-more (subst (λ ls. Begins (filter.whole ls).output (filter.so_far lines).output) (append-nil lines
@@ -90,16 +86,14 @@ module _ {filter : Filter} (lawful : IsLawful filter) (input : Input) (given : L
   -- the output after a turn is first, and so is that before it
   pub first-after-turn : {before after : Course} {last : ℕ} (written : List ℕ)
       → IsTurn filter input given before after last → Begins after.output written → IsFirst written
-  first-after-turn written (inl t) begins =
-      first-taken _ written t.taken (rw (← t.after_is) begins)
+  first-after-turn written (inl t) begins = first-taken _ written t.taken (rw (← t.after_is) begins)
   first-after-turn written (inr t) begins = grind arith
 
   pub first-before-turn : {before after : Course} {last : ℕ} (written : List ℕ)
       → IsTurn filter input given before after last → Begins before.output written → IsFirst written
   first-before-turn written (inl t) begins = first-taken _ written t.taken
       (begins-more (lawful.grows t.lines _) (rw (← t.before_is) begins))
-  first-before-turn written (inr t) begins =
-      first-taken _ written (inr t.all) (rw (← t.before_is) begins)
+  first-before-turn written (inr t) begins = first-taken _ written (inr t.all) (rw (← t.before_is) begins)
 
   pub first-complete : (lines : List InputLine) → lines ≡ complete_lines given
       → IsFirst (filter.so_far lines).output

@@ -1,20 +1,17 @@
 -- What a reader of lines answers, by the lines that were read before.
-use Rattle.std.proofs.Common.{◌≡◌, ◌⊎◌, ⊎_elim, ℕ, ◌+◌, ◌<◌, ◌≤◌, Bool, true, false, List}
-use Rattle.std.proofs.Common.{◌∷◌, ◌++◌, length, Option, Some, None, Result, Ok, Err, ap}
-use Rattle.std.proofs.{Common.{arith, length-append}}
+use Rattle.std.proofs.Common.{◌≡◌, ◌⊎◌, ⊎_elim, ℕ, ◌+◌, ◌<◌, ◌≤◌, Bool, true, false, List, ◌∷◌, ◌++◌, length}
+use Rattle.std.proofs.Common.{Option, Some, None, Result, Ok, Err, ap, arith, length-append}
 use Rattle.crx_lines.{proofs.ProgressLemmas.HasRead-next, specs.Progress.{AtAnswer, HasRead}}
 use Rattle.crx_lines.specs.Reading.{ReaderState, ReaderAnswers, AnswersFault, TakesPiece, line_shown}
-use Rattle.crx_lines.specs.{Reading.line_number, declared.{line.Line.Line, phase.Phase.Phase}}
+use Rattle.crx_lines.specs.{Reading.line_number, declared.line.Line.Line, declared.phase.Phase.Phase}
 use Rattle.crx_lines.specs.{declared.phase.Phase.TheVariants.{Open, Ended, Stopped}, meaning.Devices.Tally}
-use Rattle.crx_base.specs.declared.fault.{At.At, Fault.{TheVariants.{LineTooLong}}}
-use Rattle.crx_base.specs.declared.{limits.TheConstants.INPUT_LIMIT}
-use Rattle.crx_base.specs.meaning.Lines.{InputLine, is_long}
+use Rattle.crx_base.specs.declared.fault.{At.At, Fault.TheVariants.LineTooLong}
+use Rattle.crx_base.specs.{declared.limits.TheConstants.INPUT_LIMIT, meaning.Lines.{InputLine, is_long}}
 use Rattle.crx_runs.specs.meaning.Filters.{with_next}
 
 -- a line was read: these lines and it
-pub record ReadsLine (gives : List ℕ → Type 0) (at_end : Type 0)
-    (start counted : Tally) (new : ReaderState) (lines : List InputLine) (line : InputLine)
-    (number : ℕ) : Type 0 where
+pub record ReadsLine (gives : List ℕ → Type 0) (at_end : Type 0) (start counted : Tally) (new : ReaderState)
+    (lines : List InputLine) (line : InputLine) (number : ℕ) : Type 0 where
   pub read : HasRead gives at_end start counted new (with_next lines line)
   pub going : (new.phase ≡ Open) ⊎ (new.phase ≡ Ended)
   pub number_is : number ≡ length lines + 1
@@ -36,9 +33,8 @@ passed-more old new given at_end bytes true t =
 passed-more old new given at_end bytes false t = grind arith
 
 -- what a reader that isn't stopped answers
-pub record HasAsked (step : List ℕ → Type 0) (at_end : Type 0) (counted counted' : Tally) (old new :
-    ReaderState)
-    (r : Result (Option Line) At) : Type 0 where
+pub record HasAsked (step : List ℕ → Type 0) (at_end : Type 0) (counted counted' : Tally)
+    (old new : ReaderState) (r : Result (Option Line) At) : Type 0 where
   pub going : (old.phase ≡ Open) ⊎ (old.phase ≡ Ended)
   pub at_open : old.phase ≡ Open → (more : List ℕ) × step more × ReaderAnswers old more at_end counted
       counted' r new
@@ -47,9 +43,8 @@ pub record HasAsked (step : List ℕ → Type 0) (at_end : Type 0) (counted coun
 module _ {step : List ℕ → Type 0} {at_end' : Type 0} {counted counted' : Tally} {old new : ReaderState}
     {r : Result (Option Line) At} (asked : HasAsked step at_end' counted counted' old new r) where
   -- what isn't the end was read out of some bytes
-  answers : (x : Result (Option Line) At) → r ≡ x → (x ≡ Ok None → ⊥)
-      → (old.phase ≡ Open) × ((more : List ℕ) × step more × ReaderAnswers old more at_end' counted counted' x
-      new)
+  answers : (x : Result (Option Line) At) → r ≡ x → (x ≡ Ok None → ⊥) → (old.phase ≡ Open) × ((more : List ℕ)
+      × step more × ReaderAnswers old more at_end' counted counted' x new)
   answers = grind arith
 
   overlong : (at : At) → r ≡ Err at → at.fault ≡ LineTooLong
@@ -73,10 +68,9 @@ module _ {step : List ℕ → Type 0} {at_end' : Type 0} {counted counted' : Tal
       (goes : (given more : List ℕ) → gave given → step more → gives (given ++ more))
       (h : HasRead gave at_end start counted old lines) where
     -- the lines that were read then
-    next-lines : (x : Result (Option Line) At) → old.phase ≡ Open
-        → (more : List ℕ) × step more × ReaderAnswers old more at_end' counted counted' x new
-        → (then : List InputLine) × AtAnswer x old new lines then × HasRead gives at_end' start counted' new
-        then
+    next-lines : (x : Result (Option Line) At) → old.phase ≡ Open → (more : List ℕ) × step more
+        × ReaderAnswers old more at_end' counted counted' x new → (then : List InputLine) × AtAnswer x old new
+        lines then × HasRead gives at_end' start counted' new then
     next-lines x e a = HasRead-next gave gives step at_end at_end' start counted _ old new lines h goes e a.0
         a.1 x a.2
 
@@ -87,13 +81,11 @@ module _ {step : List ℕ → Type 0} {at_end' : Type 0} {counted counted' : Tal
         let n = next-lines (Ok (Some line)) a.0 a.1 in
         grind arith
 
-    pub overlong-read : (at : At) → r ≡ Err at → at.fault ≡ LineTooLong
-        → (line : InputLine) × (is_long line ≡ true)
-        × ReadsLine gives at_end' start counted' new lines line at.line
+    pub overlong-read : (at : At) → r ≡ Err at → at.fault ≡ LineTooLong → (line : InputLine)
+        × (is_long line ≡ true) × ReadsLine gives at_end' start counted' new lines line at.line
     overlong-read at is long =
         let a = answers (Err at) is (err-not-none at) in
-        let f : AnswersFault old a.1.0 at_end' counted counted' at LineTooLong new =
-        grind arith in
+        let f : AnswersFault old a.1.0 at_end' counted counted' at LineTooLong new = grind arith in
         let n = next-lines (Err at) a.0 a.1 in
         (grind arith)
 

@@ -1,19 +1,18 @@
 -- The reading of a block of compact text whose lines but the first don't begin with >: some epochs, and then
 -- it ends between two units, inside an epoch, or, after a warning, looking for a line that begins with >.
 use Rattle.crx_filter.proofs.Words
-use Words.{ℕ, zero, suc, ◌≡◌, ◌+◌, ◌<◌, max, ◌⊎◌, inl, inr, true, false, List, [], ◌∷◌, ◌++◌, length, drop}
-use Words.{refl, ap, sym, ◌∙◌, subst, arith, append_assoc, ⊤, ◌&&◌, AllByRecursion, length-drop, character_at}
-use Words.{ReadLine, Content, Overlong, At, Fault, Truncated, begins_epoch, is_event_flag, is_event_line}
-use Words.{Place, Here, Wrong, Wanted, FileUnit, Observation, ReadEpoch, epoch_at, Item, Accepted, Warned}
-use Words.{types_in_force, Reading, AtLines, Looking, is_skipped, looked_for, reading_within, reading_from}
-use Words.{is_skippable, raws_kept, as_observation, compact_epoch_place, compact_place, IsBetweenUnits}
+use Words.{common_steps, ℕ, zero, suc, ◌≡◌, ◌+◌, ◌<◌, max, ◌⊎◌, inl, inr, true, false, List, [], ◌∷◌, ◌++◌}
+use Words.{length, drop, refl, ap, sym, ◌∙◌, subst, arith, append_assoc, ⊤, AllByRecursion, length-drop}
+use Words.{character_at, ReadLine, Content, Overlong, At, Fault, Truncated, begins_epoch, is_event_flag}
+use Words.{is_event_line, Place, Here, Wrong, Wanted, FileUnit, Observation, ReadEpoch, epoch_at, Item}
+use Words.{Accepted, Warned, types_in_force, Reading, AtLines, Looking, is_skipped, looked_for}
+use Words.{reading_within, reading_from, is_skippable, raws_kept, as_observation, compact_epoch_place}
+use Words.{compact_place, IsBetweenUnits}
+use Rattle.crx_filter.proofs.{damage.CutOff.epoch-cut, following.Expansion.observation-wanted}
+use Rattle.crx_filter.proofs.reading.{Each.all-drop, EpochFaults.{IsSkippableAt, epoch-skippable}}
+use Rattle.crx_filter.proofs.reading.{EpochFaults.place-observation, ForwardCompact.compact-forward}
 use Rattle.crx_filter.proofs.reading.Resuming.{by_place, here-within, wrong-stays, within-here, within-wrong}
 use Rattle.crx_filter.proofs.reading.Resuming.{within-wanted, fault-skipped}
-use Rattle.crx_filter.proofs.reading.ForwardCompact.{compact-forward}
-use Rattle.crx_filter.proofs.reading.EpochFaults.{IsSkippableAt, epoch-skippable, place-observation}
-use Rattle.crx_filter.proofs.damage.CutOff.{epoch-cut}
-use Rattle.crx_filter.proofs.following.Expansion.{observation-wanted}
-use Rattle.crx_filter.proofs.reading.Each.{all-drop}
 
 -- ---- the lines of a block
 
@@ -29,9 +28,7 @@ IsBlockText (Overlong ∷ lines) = ⊥
 IsBlockText (Content line ∷ lines) = (is_event_line line ≡ false) × AllByRecursion IsInside lines
 
 pub inside-text : (lines : List ReadLine) → AllByRecursion IsInside lines → IsBlockText lines
-inside-text [] h = tt
-inside-text (Overlong ∷ lines) h = h.0
-inside-text (Content line ∷ lines) h = (ap (λ b. b && is_event_flag (character_at line 32)) h.0, h.1)
+inside-text lines h = grind (arith, common_steps, is_event_flag, character_at)
 
 block-drop : (count : ℕ) (lines : List ReadLine)
     → 0 < count → IsBlockText lines → AllByRecursion IsInside (drop count lines)

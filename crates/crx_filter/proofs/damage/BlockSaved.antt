@@ -1,25 +1,20 @@
 -- What is read after a damaged block is what the undamaged text has there.
-use Rattle.crx_filter.proofs.Words
-use Words.{ℕ, ◌≡◌, ◌+◌, ◌≤◌, true, false, cond, List, [], ◌∷◌, ◌++◌, map, length, Option, None, refl, ap, sym}
-use Words.{◌∙◌, append_assoc, append-nil, and_parts, pieces_of, lines_of, ReadLine, Content, Overlong, seen}
-use Words.{At, Epoch, begins_epoch, is_event_line, Observation, ReadEpoch, Choices, Item, Accepted, Warned}
-use Words.{header_has_ended, records_announced, records_left, types_in_force, Reading, WholeReading}
-use Words.{reading_from, ended_reading, continued_reading, AreInPlace, compact_unit, compact_lines}
-use Words.{compact_place, HaveNoReturns, IsBetweenUnits, starts_anew, lines_of_epochs, with_epochs, IsDamaged}
-use Rattle.crx_filter.proofs.reading.Resuming.{within-wanted, resumed}
-use Rattle.crx_filter.proofs.reading.Anew.{depends-on_types}
-use Rattle.crx_filter.proofs.reading.ForwardCompact.{compact-forward}
-use Rattle.crx_filter.proofs.wayback.Carried.{started, header-same, left-same, types-same, reads-again}
-use Rattle.crx_filter.proofs.wayback.Items.{body_unit, known_back, read_back, unit-here}
-use Rattle.crx_filter.proofs.wayback.Reading.{lines_back}
-use Rattle.crx_filter.proofs.wayback.WayBack.{IsSettled, whole-settled, lines-same}
-use Rattle.crx_filter.proofs.wayback.Standard.{NoReturn, whole-copied, plain-no_return}
-use Rattle.crx_filter.proofs.damage.BlockReading.{IsBlockRead, with_reads, reads-between, reads-types}
-use Rattle.crx_filter.proofs.damage.GoingOn.{with_warnings, warned-between, warned-types, GoesOnAt}
-use Rattle.crx_filter.proofs.damage.GoingOn.{block-goes_on, block-ends, ends-well}
-use Rattle.crx_filter.proofs.damage.TextAfter.{lines_on, written-on, reads-on}
-use Rattle.crx_filter.proofs.damage.SavedText.{left-append}
-use Rattle.crx_filter.proofs.reading.Each.{header-append}
+use Rattle.crx_filter.proofs
+use proofs.Words.{ℕ, ◌≡◌, ◌+◌, ◌≤◌, true, false, cond, List, [], ◌∷◌, ◌++◌, map, length, Option, None, refl}
+use proofs.Words.{ap, sym, ◌∙◌, append_assoc, append-nil, and_parts, pieces_of, lines_of, ReadLine, Content}
+use proofs.Words.{Overlong, seen, At, Epoch, begins_epoch, is_event_line, Observation, ReadEpoch, Choices}
+use proofs.Words.{Item, Accepted, Warned, header_has_ended, records_announced, records_left, types_in_force}
+use proofs.Words.{Reading, WholeReading, reading_from, ended_reading, continued_reading, AreInPlace}
+use proofs.Words.{compact_unit, compact_lines, compact_place, HaveNoReturns, IsBetweenUnits, starts_anew}
+use proofs.Words.{lines_of_epochs, with_epochs, IsDamaged}
+use proofs.damage.{BlockReading.{IsBlockRead, with_reads, reads-between, reads-types}, GoingOn.with_warnings}
+use proofs.damage.GoingOn.{warned-between, warned-types, GoesOnAt, block-goes_on, block-ends, ends-well}
+use proofs.damage.{SavedText.left-append, TextAfter.{lines_on, written-on, reads-on}}
+use proofs.reading.{Anew.depends-on_types, Each.header-append, ForwardCompact.compact-forward}
+use proofs.reading.Resuming.{within-wanted, resumed}
+use proofs.wayback.{Carried.{started, header-same, left-same, types-same, reads-again}, Items.body_unit}
+use proofs.wayback.{Items.{known_back, read_back, unit-here}, Reading.lines_back, Standard.NoReturn}
+use proofs.wayback.{Standard.{whole-copied, plain-no_return}, WayBack.{IsSettled, whole-settled, lines-same}}
 
 -- ---- the epochs of a block
 

@@ -1,40 +1,31 @@
 -- Damage to compact text stays in its block: what an expansion writes and reports, from the lines of the
 -- damaged text on.
-use Rattle.crx_filter.proofs.Words
-use Words.{ℕ, suc, ◌≡◌, ◌+◌, ◌⊎◌, inl, inr, true, List, [], ◌∷◌, ◌++◌, map, length, drop, take, reverse}
-use Words.{Option, None, refl, ap, sym, ◌∙◌, subst, append_assoc, append-nil, AllByRecursion, flat_map}
-use Words.{list_all, map-append, drop-append_seam, Piece, pieces_of, lines_of, ReadLine, Content, seen, At}
-use Words.{Epoch, IsWholeEpoch, printed_epoch, lines_text, Observation, epoch_line, ReadEpoch, LinesCanStand}
-use Words.{Choices, is_date, Item, Accepted, header_has_ended, records_left, types_in_force, Reading}
-use Words.{reading_from, ended_reading, notices_text, warnings_in, result_of, marked_epochs, compact_unit}
-use Words.{compact_lines, version_line, program_line, compact_place, expanded_unit, whole_compact, expanded}
-use Words.{expanded_lines, printed_items, AreInPlace, IsBetweenUnits, lines_of_epochs, with_epochs}
-use Words.{lines_after, IsDamaged, WholeReading}
+use Rattle.crx_filter.proofs
+use proofs.Words.{common_steps, arith, ℕ, suc, ◌≡◌, ◌+◌, ◌⊎◌, inl, inr, true, List, [], ◌∷◌, ◌++◌, map}
+use proofs.Words.{length, drop, take, reverse, Option, None, refl, ap, sym, ◌∙◌, subst, append_assoc}
+use proofs.Words.{append-nil, AllByRecursion, flat_map, list_all, map-append, drop-append_seam, Piece}
+use proofs.Words.{pieces_of, lines_of, ReadLine, Content, seen, At, Epoch, IsWholeEpoch, printed_epoch}
+use proofs.Words.{lines_text, Observation, epoch_line, ReadEpoch, LinesCanStand, Choices, is_date, Item}
+use proofs.Words.{Accepted, header_has_ended, records_left, types_in_force, Reading, reading_from}
+use proofs.Words.{ended_reading, notices_text, warnings_in, result_of, marked_epochs, compact_unit}
+use proofs.Words.{compact_lines, version_line, program_line, compact_place, expanded_unit, whole_compact}
+use proofs.Words.{expanded, expanded_lines, printed_items, AreInPlace, IsBetweenUnits, lines_of_epochs}
+use proofs.Words.{with_epochs, lines_after, IsDamaged, WholeReading}
+use proofs.damage.BlockReading.{IsInside, IsBlockText, IsBlockRead, inside-text, with_reads, block-read}
+use proofs.damage.BlockSaved.{epochs-append, epochs-in_place, rest-in_place, epochs-header, epochs-left}
+use proofs.damage.BlockSaved.{epochs-types, epochs-lines, back-between, up_to, IsUndamaged, tail-saved}
+use proofs.damage.{BlockSaved.{IsPlaced, placed, text-parts}, DamagedText.{damaged-cut, instead-inside}}
+use proofs.damage.{DamagedText.text-append, GoingOn.with_warnings, SavedText.{epochs_in, lines-append}}
+use proofs.damage.SavedText.{lines-warned, lines-read, warnings-append, warnings-with, warnings-read}
+use proofs.damage.SavedText.{none-first, few-reversed, whole-block, epochs_of, epochs-ended, epochs-back}
+use proofs.damage.TextAfter.{lines_on, written-on, one-more, text-anew}
+use proofs.reading.{Each.{all-append, all-parts, contents}, WhatWasRead.items-read}
+use proofs.wayback.{Carried.{started, types-same}, Cut.IsClean, First.{version-clean, program-clean}}
+use proofs.wayback.{Items.{marked_now, read_back, epoch-stands}, Reading.lines_back, Standard.same-reading}
+use proofs.wayback.WayBack.{lines-same, lines-clean, printed-same, no-warnings, whole-after}
+use Rattle.crx_filter.specs.{Damage.IsOfCompaction, meaning.Damage.IsSalvaged}
 use Rattle.std.proofs.lemmas.List.{append_cancel_left, take-append-drop}
 use Rattle.crx_runs.specs.meaning.Results.{status_after}
-use Rattle.crx_filter.specs.meaning.Damage.{IsSalvaged}
-use Rattle.crx_filter.specs.Damage.{IsOfCompaction}
-use Rattle.crx_filter.proofs.reading.WhatWasRead.{items-read}
-use Rattle.crx_filter.proofs.wayback.Carried.{started, types-same}
-use Rattle.crx_filter.proofs.wayback.Cut.{IsClean}
-use Rattle.crx_filter.proofs.wayback.First.{version-clean, program-clean}
-use Rattle.crx_filter.proofs.wayback.Items.{marked_now, read_back, epoch-stands}
-use Rattle.crx_filter.proofs.wayback.Reading.{lines_back}
-use Rattle.crx_filter.proofs.wayback.WayBack.{lines-same, lines-clean, printed-same, no-warnings, whole-after}
-use Rattle.crx_filter.proofs.wayback.Standard.{same-reading}
-use Rattle.crx_filter.proofs.damage.BlockReading.{IsInside, IsBlockText, IsBlockRead, inside-text, with_reads}
-use Rattle.crx_filter.proofs.damage.BlockReading.{block-read}
-use Rattle.crx_filter.proofs.damage.GoingOn.{with_warnings}
-use Rattle.crx_filter.proofs.damage.TextAfter.{lines_on, written-on, one-more, text-anew}
-use Rattle.crx_filter.proofs.damage.DamagedText.{damaged-cut, instead-inside, text-append}
-use Rattle.crx_filter.proofs.damage.SavedText.{epochs_in, lines-append, lines-warned, lines-read}
-use Rattle.crx_filter.proofs.damage.SavedText.{warnings-append, warnings-with, warnings-read, none-first}
-use Rattle.crx_filter.proofs.damage.SavedText.{few-reversed, whole-block, epochs_of, epochs-ended}
-use Rattle.crx_filter.proofs.damage.SavedText.{epochs-back}
-use Rattle.crx_filter.proofs.damage.BlockSaved.{epochs-append, epochs-in_place, rest-in_place, epochs-header}
-use Rattle.crx_filter.proofs.damage.BlockSaved.{epochs-left, epochs-types, epochs-lines, back-between, up_to}
-use Rattle.crx_filter.proofs.damage.BlockSaved.{IsUndamaged, tail-saved, IsPlaced, placed, text-parts}
-use Rattle.crx_filter.proofs.reading.Each.{all-append, all-parts, contents}
 
 -- ---- the parts of a damaged text
 
@@ -72,12 +63,7 @@ module _ (choices : Choices) (before : List (Item Epoch)) (first : Epoch)
   before-between = back-between choices.every before first-in_place.1 before-header before-left
 
   pub undamaged : IsUndamaged choices.every after (block_of before first others)
-  undamaged = record {
-    in_place = p.settled.in_place;
-    header = block-header;
-    left = epochs-left before (first ∷ others) before-left;
-    closed = p.settled.none;
-  }
+  undamaged = grind (arith, common_steps, block-header, epochs-left, before-left)
 
   first-stands : LinesCanStand (marked_now choices.every before first) (marked_epochs choices.every before)
   first-stands = epoch-stands choices.every before first first-in_place
@@ -230,16 +216,7 @@ output-same : (every : Option ℕ) (before block all : List (Item Epoch)) (reads
     ≡ (printed_items before ++ flat_map printed_epoch (epochs_in reads))
     ++ drop (length (printed_items block)) (printed_items all)
 output-same every before block all reads warnings more rest =
-    let start = read_back every before in
-    let items = with_reads start reads in
-    let first = printed_items before ++ flat_map printed_epoch (epochs_in reads) in
-    let parts : printed_items all ≡ printed_items block ++ expanded_lines more = cc
-    (printed-same every all, rest, lines-append more (read_back every block), printed-same every block) in
-    let dropped = ap (drop (length (printed_items block))) parts ∙ drop-append_seam (printed_items block)
-    (expanded_lines more) in
-    let saved = lines-warned warnings items ∙ lines-read start reads ∙ ap (λ ls. ls ++ flat_map printed_epoch
-    (epochs_in reads)) (printed-same every before) in
-    cc (lines-append more (with_warnings warnings items), saved, dropped)
+    grind (arith, common_steps, printed-same, lines-append, drop-append_seam, lines-warned, lines-read)
 
 warnings-same : (every : Option ℕ) (before block all : List (Item Epoch)) (reads : List ReadEpoch)
     (warnings : List At) (more : List (Item ReadEpoch)) → more ++ read_back every block ≡ read_back every all

@@ -1,15 +1,13 @@
 -- Damaged compact text, cut into lines: those that the compaction wrote before the block and after it, and
 -- the lines in place of the block's.
-use Rattle.crx_filter.proofs.Words.{ℕ, ◌≡◌, ◌≢◌, ◌⊎◌, inl, inr, Bool, true, false, not, cond, List, [], ◌∷◌}
-use Rattle.crx_filter.proofs.Words.{◌++◌, map, refl, ap, sym, ◌∙◌, append_assoc, append-nil, ◌==◌}
-use Rattle.crx_filter.proofs.Words.{AllByRecursion, list_all, eqb_tells, map-append, flat_map-append}
-use Rattle.crx_filter.proofs.Words.{and_parts, Piece, InputLine, pieces_of, onto_first, lines_of, is_long}
-use Rattle.crx_filter.proofs.Words.{Content, seen, begins_epoch, lines_text, not-true}
+use Rattle.crx_filter.proofs.Words
+use Words.{common_steps, arith, ℕ, ◌≡◌, ◌⊎◌, inl, inr, true, not, cond, List, [], ◌∷◌, ◌++◌, map}
+use Words.{refl, ap, sym, ◌∙◌, append_assoc, append-nil, AllByRecursion, list_all, eqb_tells}
+use Words.{map-append, flat_map-append, and_parts, Piece, InputLine, pieces_of, onto_first, lines_of, is_long}
+use Words.{Content, seen, begins_epoch, lines_text, not-true}
+use Rattle.crx_filter.proofs.{damage.BlockReading.IsInside, reading.Each.contents, wayback.Cut.IsClean}
+use Rattle.crx_filter.{proofs.wayback.Cut.seen-clean, specs.meaning.Damage.may_replace}
 use Rattle.crx_lines.proofs.PieceLemmas.{EachEnded, pieces-first}
-use Rattle.crx_filter.specs.meaning.Damage.{may_replace}
-use Rattle.crx_filter.proofs.wayback.Cut.{IsClean, seen-clean}
-use Rattle.crx_filter.proofs.damage.BlockReading.{IsInside}
-use Rattle.crx_filter.proofs.reading.Each.{contents}
 
 -- ---- pieces of two texts, one after the other
 
@@ -20,36 +18,11 @@ each-ended (p ∷ ps) e = (
   each-ended ps (and_parts p.is_ended (list_all (λ (piece : Piece). piece.is_ended) ps) e).1,
 )
 
-onto-append : (b : ℕ) (ps qs : List Piece)
-    → EachEnded (onto_first b ps) → EachEnded ps × (onto_first b (ps ++ qs) ≡ onto_first b ps ++ qs)
-onto-append b [] qs e = let never = e.0 in absurd (cc)
-onto-append b (p ∷ ps) qs e = (e, refl)
-
-byte-append : (b : ℕ) (one two : List ℕ) → (EachEnded (pieces_of one) → pieces_of (one ++ two) ≡ pieces_of
-    one ++ pieces_of two) → ((b == 10) ≡ true) × (b ≡ 10) ⊎ ((b == 10) ≡ false) × (b ≢ 10) → EachEnded
-    (cond (b == 10) (record { bytes = []; is_ended = true } ∷ pieces_of one) (onto_first b (pieces_of one)))
-    → cond (b == 10) (record { bytes = []; is_ended = true } ∷ pieces_of (one ++ two))
-    (onto_first b (pieces_of (one ++ two))) ≡ cond (b == 10)
-    (record { bytes = []; is_ended = true } ∷ pieces_of one) (onto_first b (pieces_of one)) ++ pieces_of two
-byte-append b one two h (inl is) =
-    let P : Bool → Type 0 = λ t. EachEnded (cond t (record { bytes = []; is_ended = true } ∷ pieces_of one)
-    (onto_first b (pieces_of one))) → cond t (record { bytes = []; is_ended = true } ∷ pieces_of (one ++ two))
-    (onto_first b (pieces_of (one ++ two))) ≡ cond t (record { bytes = []; is_ended = true } ∷ pieces_of one)
-    (onto_first b (pieces_of one)) ++ pieces_of two in
-    rw is.0 (λ e. ap (λ ps. record { bytes = []; is_ended = true } ∷ ps) (h e.1))
-byte-append b one two h (inr is) =
-    let P : Bool → Type 0 = λ t. EachEnded (cond t (record { bytes = []; is_ended = true } ∷ pieces_of one)
-    (onto_first b (pieces_of one))) → cond t (record { bytes = []; is_ended = true } ∷ pieces_of (one ++ two))
-    (onto_first b (pieces_of (one ++ two))) ≡ cond t (record { bytes = []; is_ended = true } ∷ pieces_of one)
-    (onto_first b (pieces_of one)) ++ pieces_of two in
-    rw is.0 (λ e.
-    let onto = onto-append b (pieces_of one) (pieces_of two) e in
-    ap (onto_first b) (h onto.0) ∙ onto.1)
-
 pieces-append : (one two : List ℕ) → EachEnded (pieces_of one) → pieces_of (one ++ two)
     ≡ pieces_of one ++ pieces_of two
 pieces-append [] two e = refl
-pieces-append (b ∷ one) two e = byte-append b one two (pieces-append one two) (eqb_tells b 10) e
+pieces-append (b ∷ one) two e =
+    grind (arith, common_steps, cond, pieces_of, onto_first, eqb_tells, pieces-append one two)
 
 pub lines-append : (one two : List ℕ) → EachEnded (pieces_of one) → map seen (lines_of (one ++ two))
     ≡ map seen (lines_of one) ++ map seen (lines_of two)
@@ -68,9 +41,7 @@ pub damaged-cut : (front : List (List ℕ)) (instead : List ℕ) (rest : List (L
     (pieces_of instead) ≡ true) → map seen (lines_of (lines_text front ++ (instead ++ lines_text rest)))
     ≡ map Content front ++ (map seen (lines_of instead) ++ map Content rest)
 damaged-cut front instead rest h k (inl none) =
-    let last : map seen (lines_of instead) ≡ map seen (lines_of instead) ++ map Content rest = rw none
-    (sym (append-nil _)) in
-    cc (front-cut front (instead ++ lines_text rest) h, none, append-nil instead, last)
+    grind (arith, common_steps, map, seen, lines_of, append-nil, front-cut, lines_text)
 damaged-cut front instead rest h k (inr all) =
     let last = ap (λ t. map seen (lines_of t)) (sym (append-nil (lines_text rest))) ∙ front-cut rest [] k
     ∙ append-nil _ in

@@ -1,13 +1,11 @@
 -- What is written and reported after damage: the texts of items one after another, and the epochs among them.
 use Rattle.crx_filter.proofs.Words
-use Words.{ℕ, ◌≡◌, ◌≤◌, inl, inr, List, [], ◌∷◌, ◌++◌, map, length, reverse, Option, refl, ap, sym, ◌∙◌}
-use Words.{arith, append_assoc, append-nil, AllByRecursion, flat_map, At, Epoch, IsWholeEpoch, printed_epoch}
-use Words.{Observation, ReadEpoch, Item, Accepted, Warned, records_left, types_in_force, Reading, warnings_in}
-use Words.{compact_place, expanded_lines, ItemsAreRead, with_epochs}
-use Rattle.crx_filter.proofs.wayback.ExpandedWhole.{AreGoodEpochs, epochs-good}
-use Rattle.crx_filter.proofs.wayback.Items.{read_back}
-use Rattle.crx_filter.proofs.damage.BlockReading.{EndsBlock, with_reads}
-use Rattle.crx_filter.proofs.damage.GoingOn.{with_warnings}
+use Words.{common_steps, ℕ, ◌≡◌, ◌≤◌, inl, inr, List, [], ◌∷◌, ◌++◌, map, length, reverse, Option, refl, ap}
+use Words.{sym, ◌∙◌, arith, append_assoc, append-nil, AllByRecursion, flat_map, At, Epoch, IsWholeEpoch}
+use Words.{printed_epoch, Observation, ReadEpoch, Item, Accepted, Warned, records_left, types_in_force}
+use Words.{Reading, warnings_in, compact_place, expanded_lines, ItemsAreRead, with_epochs}
+use Rattle.crx_filter.proofs.damage.{BlockReading.{EndsBlock, with_reads}, GoingOn.with_warnings}
+use Rattle.crx_filter.proofs.wayback.{ExpandedWhole.{AreGoodEpochs, epochs-good}, Items.read_back}
 
 -- ---- what is written
 
@@ -78,15 +76,10 @@ whole-reads : (items : List (Item ReadEpoch)) (reads : List ReadEpoch) → AreGo
 whole-reads items [] h = tt
 whole-reads items (read ∷ later) h = grind (arith, whole-reads _ later h, good-before)
 
-read-ends : (items : List (Item ReadEpoch)) (r : Reading ReadEpoch)
-    → EndsBlock items r → ItemsAreRead compact_place r.items → ItemsAreRead compact_place items
-read-ends items r (inl (number, rest, text, e, is)) h = rw is at h
-read-ends items r (inr (at, number, is)) h = (rw is at h).1
-
 pub whole-block : (items : List (Item ReadEpoch)) (reads : List ReadEpoch) (r : Reading ReadEpoch)
     → EndsBlock (with_reads items reads) r → ItemsAreRead compact_place r.items
     → AllByRecursion (IsWholeEpoch (types_in_force items)) (epochs_in reads)
-whole-block items reads r ends h = whole-reads _ _ (epochs-good _ (read-ends _ _ ends h))
+whole-block items reads r ends h = grind (arith, common_steps, whole-reads, epochs-good)
 
 -- ---- which epochs were read
 

@@ -7,13 +7,10 @@ use Words.{length-map, and_parts, ReadLine, Content, Epoch, begins_epoch, is_eve
 use Words.{EventLine, EventRecord, Observation, compact_epoch, epoch_line, Choices, Item, Accepted, Warned}
 use Words.{header_has_ended, records_announced, records_left, AtLines, reading_from, continued_reading}
 use Words.{AreInPlace, written_lines, is_in_full, marked_epochs, compact_place, starts_anew, BeginsAnew}
+use Rattle.crx_filter.proofs.reading.{Each.header-append, ForwardCompact.compact-forward, Resuming.resumed}
+use Rattle.crx_filter.proofs.wayback.{Carried.{one-unit, at-line}, Items.{marked_now, body_unit, unit_back}}
+use Rattle.crx_filter.proofs.wayback.Items.{read_back, unit-here, epoch-stands}
 use Rattle.crx_compact.specs.Laws.{has_no_epochs}
-use Rattle.crx_filter.proofs.reading.Resuming.{resumed}
-use Rattle.crx_filter.proofs.reading.ForwardCompact.{compact-forward}
-use Rattle.crx_filter.proofs.wayback.Carried.{one-unit, at-line}
-use Rattle.crx_filter.proofs.wayback.Items.{marked_now, body_unit, unit_back, read_back, unit-here}
-use Rattle.crx_filter.proofs.wayback.Items.{epoch-stands}
-use Rattle.crx_filter.proofs.reading.Each.{header-append}
 
 -- the lines of some items after others
 abbrev pub lines_on : Option ℕ → List (Item Epoch) → List (Item Epoch) → List (List ℕ)

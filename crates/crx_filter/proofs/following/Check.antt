@@ -1,14 +1,11 @@
 -- A check line by line reads as the whole reading does, and keeps its totals.
-use Rattle.std.proofs.lemmas.Grind.{common_steps}
-use Rattle.crx_filter.proofs.Words.{ℕ, ◌+◌, false, List, [], length, refl, arith, ReadLine, Epoch, FileUnit}
-use Rattle.crx_filter.proofs.Words.{printed_unit, epoch_place, Item, types_in_force, warnings_in}
-use Rattle.crx_filter.proofs.Words.{IsEndedBy, rinex_place, whole_rinex, rinex_reading, rinex_open, seen_of}
-use Rattle.crx_filter.proofs.Words.{seen_end, printed_items, checking, totals_of, no_choices}
-use Rattle.crx_filter.proofs.reading.Forward.{rinex-forward}
-use Rattle.crx_filter.proofs.following.Following.{IsCarriedOut}
-use Rattle.crx_filter.proofs.following.Rinex.{AreSame, either-same, agree-begins, agree-continues, no-lines}
-use Rattle.crx_filter.proofs.reading.Stopping.{reading-stopped}
-use Rattle.crx_filter.proofs.reading.Ending.{next-end}
+use Rattle.crx_filter.proofs.Words
+use Words.{common_steps, ℕ, ◌+◌, false, List, [], length, refl, arith, ReadLine, Epoch, FileUnit}
+use Words.{printed_unit, epoch_place, Item, types_in_force, warnings_in, IsEndedBy, rinex_place, whole_rinex}
+use Words.{rinex_reading, rinex_open, seen_of, seen_end, printed_items, checking, totals_of, no_choices}
+use Rattle.crx_filter.proofs.following.{Following.IsCarriedOut, Rinex.{AreSame, either-same, agree-begins}}
+use Rattle.crx_filter.proofs.{following.Rinex.{agree-continues, no-lines}, reading.Ending.next-end}
+use Rattle.crx_filter.proofs.reading.{Forward.rinex-forward, Stopping.reading-stopped}
 
 -- the lines of a unit, whatever is before it
 abbrev pub printed_after : List (Item Epoch) → FileUnit Epoch → List (List ℕ)

@@ -1,10 +1,8 @@
 -- A check as a filter: a fault of the lines so far is that of all lines.
 use Rattle.crx_filter.proofs.Words.{◌≡◌, false, [], ◌++◌, map, Some, refl, ap, sym, ◌∙◌, map-append, seen}
 use Rattle.crx_filter.proofs.Words.{Epoch, WholeReading, IsLawful, whole_rinex, whole_reading_of, findings_of}
-use Rattle.crx_filter.proofs.Words.{check_filter}
-use Rattle.crx_filter.specs.meaning.Directions.{report_unless}
-use Rattle.crx_filter.proofs.reading.StaysEnded.{rinex-stays}
-use Rattle.crx_filter.proofs.reading.FineReadings.{rinex-found, rinex-found-at-end}
+use Rattle.crx_filter.proofs.{Words.check_filter, reading.FineReadings.{rinex-found, rinex-found-at-end}}
+use Rattle.crx_filter.{proofs.reading.StaysEnded.rinex-stays, specs.meaning.Directions.report_unless}
 
 pub check-lawful : IsLawful check_filter
 check-lawful = record {

@@ -1,18 +1,14 @@
 -- A check is given one line more.
-use Rattle.std.proofs.lemmas.Grind.{common_steps}
 use Rattle.crx_filter.proofs.Words
-use Words.{ℕ, ◌≡◌, ◌+◌, true, false, cond, List, [], ◌∷◌, ◌++◌, map, length, Option, Some, None, refl, ap}
-use Words.{sym, ◌∙◌, subst, arith, length-append, append-nil, append_assoc, map-append, length-map, none-some}
+use Words.{common_steps, ℕ, ◌≡◌, ◌+◌, true, false, cond, List, [], ◌∷◌, ◌++◌, map, length, Option, Some, None}
+use Words.{refl, ap, sym, ◌∙◌, subst, arith, length-append, append-nil, append_assoc, length-map, none-some}
 use Words.{InputLine, ReadLine, seen, At, Epoch, last_line, Reading, rinex_reading, rinex_open, Seen, made_in}
 use Words.{seen_next, seen_of, phase_of, Fed, failed_by, is_again, fault_of_stop, printed_items}
-use Words.{is_standard_line, first_not_standard, Totals, checking, totals_of, printed_open, printed_so_far}
-use Words.{printed_made, earliest, CheckSeen, no_choices, check_seen, check_next, OpenEpoch}
-use Rattle.crx_filter.specs.CheckingLaws.{IsCheckedOn}
-use Rattle.crx_filter.proofs.following.Following.{fed-once}
-use Rattle.crx_filter.proofs.reading.StaysEnded.{rinex-stays}
-use Rattle.crx_filter.proofs.following.Check.{check-carried_out}
-use Rattle.crx_filter.proofs.following.MoreLines.{more-line}
-use Rattle.crx_filter.proofs.standard.CheckLines.{phase-reached, line-grows, never-again}
+use Words.{is_standard_line, first_not_standard, Totals, checking, totals_of, printed_open, printed_made}
+use Words.{earliest, CheckSeen, no_choices, check_seen, OpenEpoch}
+use Rattle.crx_filter.proofs.following.{Check.check-carried_out, Following.fed-once, MoreLines.more-line}
+use Rattle.crx_filter.proofs.{reading.StaysEnded.rinex-stays, standard.CheckLines.{phase-reached, line-grows}}
+use Rattle.crx_filter.{proofs.standard.CheckLines.never-again, specs.CheckingLaws.IsCheckedOn}
 
 -- ---- what is seen of the lines
 
@@ -96,10 +92,9 @@ as-many-on [] lines h none = cc (append-nil lines, h, append-nil lines)
 as-many-on (line ∷ more) lines h none =
     let same = append_assoc lines (line ∷ []) more in
     let good = subst (λ ls. fault_of_stop (rinex_reading false ls).stop ≡ None) (sym same) none in
-    let first : length (printed_of (lines ++ line ∷ [])) ≡ length (lines ++ line ∷ []) = ap length
-    ((one-on lines line).printed (all-before more (lines ++ line ∷ []) good))
-    ∙ length-append (printed_of lines) (given_back lines line ∷ []) ∙ ap (λ n. n + 1) h
-    ∙ sym (length-append lines (line ∷ [])) in
+    let first : length (printed_of (lines ++ line ∷ [])) ≡ length (lines ++ line ∷ []) = ap length ((one-on
+    lines line).printed (all-before more (lines ++ line ∷ []) good)) ∙ length-append (printed_of lines)
+    (given_back lines line ∷ []) ∙ ap (λ n. n + 1) h ∙ sym (length-append lines (line ∷ [])) in
     rw same at (as-many-on more (lines ++ line ∷ []) first good)
 
 pub as-many : (lines : List ReadLine)
@@ -129,24 +124,4 @@ first-on number (l ∷ lines) (t ∷ texts) line text e =
 
 pub checked-on : (lines : List InputLine) (line : InputLine) → IsCheckedOn lines line
 checked-on lines line =
-    let split = map-append seen lines (line ∷ []) in
-    let one = one-on (map seen lines) (seen line) in
-    let same = same-seen lines in
-    record {
-      once = cc (same, once-again (map seen lines) (seen line));
-      fault = cc;
-      next = λ none.
-          let good = subst (λ ls. fault_of_stop (rinex_reading false ls).stop ≡ None) split none in
-          let reading : CheckSeen.reading (check_seen (lines ++ line ∷ [])) ≡ CheckSeen.reading
-          (check_next (check_seen lines) line) = cc (same-seen (lines ++ line ∷ []), split, one.next, same) in
-          let many = as-many (map seen lines) (good-before (map seen lines) (seen line) good)
-          ∙ length-map lines seen in
-          let standard = ap (first_not_standard 1 (lines ++ line ∷ [])) (ap printed_of split
-          ∙ one.printed good) ∙ first-on 1 lines (printed_so_far lines) line (given_back (map seen lines)
-          (seen line)) many ∙ ap (λ n. earliest (first_not_standard 1 lines (printed_so_far lines))
-          (is_standard_line line (given_back (map seen lines) (seen line))) n) (omega arith)
-          ∙ ap (λ (s : Seen OpenEpoch Totals). earliest (first_not_standard 1 lines (printed_so_far lines))
-          (is_standard_line line (last_line (printed_made (made_in checking s.phase s.types s.kept
-          (seen line))))) (length lines + 1)) (sym same) in
-          cc;
-    }
+    grind (arith, common_steps, one-on, same-seen, once-again, as-many, good-before, first-on)

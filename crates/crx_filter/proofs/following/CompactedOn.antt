@@ -1,9 +1,7 @@
 -- A compaction is given one line more.
 use Rattle.crx_filter.proofs.Words.{List, [], ◌∷◌, ◌++◌, length, refl, arith, length-append, ReadLine}
-use Rattle.crx_filter.proofs.Words.{Choices}
-use Rattle.crx_filter.specs.Laws.{IsCompactedOn}
-use Rattle.crx_filter.proofs.following.MoreLines.{more-line}
-use Rattle.crx_filter.proofs.following.Compaction.{compaction-carried_out}
+use Rattle.crx_filter.proofs.{Words.Choices, following.Compaction.compaction-carried_out}
+use Rattle.crx_filter.{proofs.following.MoreLines.more-line, specs.Laws.IsCompactedOn}
 
 pub compacted-on : (choices : Choices) (lines : List ReadLine) (line : ReadLine)
     → IsCompactedOn choices lines line

@@ -1,17 +1,14 @@
 -- Compaction line by line reads, keeps and writes as the compaction of all lines does.
-use Rattle.crx_filter.proofs.Words.{◌≡◌, ◌+◌, Bool, true, false, List, [], ◌∷◌, Some, None, refl, ap, sym}
-use Rattle.crx_filter.proofs.Words.{◌∙◌, Epoch, Observation, epoch_place, Marked, Tail, lines_after_tail}
-use Rattle.crx_filter.proofs.Words.{Choices, Item, Accepted, Warned, types_in_force}
-use Rattle.crx_filter.proofs.Words.{epochs_accepted, is_at_every, is_in_full, marked_epochs, compact_unit}
-use Rattle.crx_filter.proofs.Words.{Written, compaction, written_of, rinex_open}
+use Rattle.crx_filter.proofs.Words
+use Words.{common_steps, arith, ◌≡◌, ◌+◌, List, Some, refl, ap, sym, ◌∙◌, Epoch, Observation, epoch_place}
+use Words.{Marked, Tail, lines_after_tail, Choices, Item, types_in_force, epochs_accepted, is_at_every}
+use Words.{is_in_full, marked_epochs, compact_unit, Written, compaction, written_of, rinex_open}
+use Rattle.crx_filter.proofs.following.{Following.{seen_in, IsCarriedOut}, Rinex.{AreSame, either-same}}
+use Rattle.crx_filter.proofs.following.Rinex.{agree-begins, agree-continues, no-lines}
+use Rattle.crx_filter.proofs.reading.{Forward.rinex-forward, Types.counts-in_force}
 use Rattle.crx_rinex.proofs.SoundEpochs.{sound-epoch_place}
-use Rattle.crx_compact.specs.Laws.{tail_before}
-use Rattle.crx_compact.specs.Steps.{no_tail, tail_written_after}
-use Rattle.crx_compact.proofs.wayback.Tailing.{epoch-by_tail}
-use Rattle.crx_filter.proofs.reading.Forward.{rinex-forward}
-use Rattle.crx_filter.proofs.reading.Types.{counts-in_force}
-use Rattle.crx_filter.proofs.following.Following.{seen_in, IsCarriedOut}
-use Rattle.crx_filter.proofs.following.Rinex.{AreSame, either-same, agree-begins, agree-continues, no-lines}
+use Rattle.crx_compact.{proofs.wayback.Tailing.epoch-by_tail, specs.Laws.tail_before}
+use Rattle.crx_compact.specs.Steps.{tail_written_after}
 
 -- ---- an epoch that is read
 
@@ -19,18 +16,11 @@ use Rattle.crx_filter.proofs.following.Rinex.{AreSame, either-same, agree-begins
 abbrev marked : Choices → List (Item Epoch) → Epoch → Marked
 marked choices items epoch = record { in_full = is_in_full choices.every items; epoch = epoch }
 
-nothing-left : (at_every : Bool) → no_tail ≡ tail_written_after at_every None
-nothing-left true = refl
-nothing-left false = refl
-
 -- what the next epoch is written after
 same-tail : (choices : Choices) (items : List (Item Epoch)) (epoch : Epoch)
     → tail_before (marked choices items epoch) (marked_epochs choices.every items) ≡ tail_written_after
     (is_at_every choices.every (epochs_accepted items)) (written_of choices.every items).tail
-same-tail choices [] epoch = nothing-left _
-same-tail choices (Accepted (Observation last) ∷ before) epoch = refl
-same-tail choices (Warned at ∷ before) epoch = nothing-left _
-same-tail choices (Accepted unit ∷ before) epoch = nothing-left _
+same-tail choices items epoch = grind (arith, common_steps)
 
 same-epochs : (choices : Choices)
     → AreSame compaction (written_of choices.every) (compact_unit choices) choices

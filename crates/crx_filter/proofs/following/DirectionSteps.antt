@@ -8,12 +8,11 @@ use Words.{FileUnit, Item, Reading, WholeReading, written_lines, whole_course, m
 use Words.{compaction_takes, compact_unit, rinex_place, whole_rinex, expanded_unit, whole_compact}
 use Words.{compact_memory, course_so_far, Direction, Seen, Notice, seen_next, takes_memory, IsFollowed}
 use Words.{Overlong, LineTooLong, Fails, Count, IsEndedBy, IsReadyWhereHandedOut, fed}
-use Rattle.crx_filter.proofs.following.CompactedOn.{compacted-on}
-use Rattle.crx_filter.proofs.following.ExpandedOn.{expanded-on}
+use Rattle.crx_filter.proofs.following.{CompactedOn.compacted-on, ExpandedOn.expanded-on}
 use Rattle.crx_filter.proofs.following.MemoryOfCompactText.{expansion-allowed, expansion-allowed-again}
 use Rattle.crx_filter.proofs.following.MemoryOfRinex.{compaction-allowed, compaction-allowed-again}
-use Rattle.crx_filter.proofs.reading.Ended.{compaction-ended, expansion-ended}
 use Rattle.crx_filter.proofs.output.Readiness.{compaction-ready, expansion-ready}
+use Rattle.crx_filter.proofs.reading.Ended.{compaction-ended, expansion-ended}
 use Rattle.crx_filter.specs.EngineLaws.{GoesLineByLine}
 
 text-then : (before after more : List (List ℕ))

@@ -1,19 +1,15 @@
 -- An expansion is given one line more.
-use Rattle.std.proofs.lemmas.Grind.{common_steps}
 use Rattle.crx_filter.proofs.Words
-use Words.{ℕ, ◌≡◌, ◌+◌, Bool, List, [], ◌∷◌, ◌++◌, length, drop, Option, Some, None, Result, Ok, Err, refl}
-use Words.{sym, subst, arith, length-append, drop-append-le, length-drop, ReadLine, Content, Overlong, Fault}
-use Words.{LineTooLong, Place, Here, Wrong, Wanted, Remains, ReadEpoch, OpenRawEpoch, Tail, Choices, Reading}
-use Words.{AtFault, AtLines, reading_from, IsFollowed, Fed, fed, fed_once, fault_of_stop}
+use Words.{common_steps, ℕ, ◌≡◌, ◌+◌, Bool, List, [], ◌∷◌, ◌++◌, length, drop, Option, Some, None, Result, Ok}
+use Words.{Err, refl, sym, subst, arith, length-append, drop-append-le, length-drop, ReadLine, Content}
+use Words.{Overlong, Fault, LineTooLong, Place, Here, Wrong, Wanted, Remains, ReadEpoch, OpenRawEpoch, Tail}
+use Words.{Choices, Reading, AtFault, AtLines, reading_from, IsFollowed, Fed, fed, fed_once, fault_of_stop}
 use Words.{warnings_in, Phase, InFirstLines, Ended, Seen, Fails, made_in, step_of_made, seen_next, seen_of}
 use Words.{compact_place, crinex_version, crinex_program, first_lines, expanded_lines, expansion}
 use Words.{compact_open, tail_of_items}
-use Rattle.crx_filter.specs.Laws.{IsExpandedOn}
-use Rattle.crx_filter.proofs.reading.ForwardCompact.{steady-first_lines}
-use Rattle.crx_filter.proofs.following.Following.{seen_in, fed-once}
-use Rattle.crx_filter.proofs.following.MoreLines.{more-line}
-use Rattle.crx_filter.proofs.following.Lines.{quiet-elsewhere}
-use Rattle.crx_filter.proofs.following.Expansion.{expansion-carried_out}
+use Rattle.crx_filter.proofs.following.{Expansion.expansion-carried_out, Following.{seen_in, fed-once}}
+use Rattle.crx_filter.proofs.following.{Lines.quiet-elsewhere, MoreLines.more-line}
+use Rattle.crx_filter.{proofs.reading.ForwardCompact.steady-first_lines, specs.Laws.IsExpandedOn}
 
 -- ---- the reading by where the first two lines are
 
@@ -21,8 +17,7 @@ use Rattle.crx_filter.proofs.following.Expansion.{expansion-carried_out}
 abbrev pub reading_by : Bool → List ReadLine → Place (List (List ℕ)) → Reading ReadEpoch
 reading_by skip lines p = elim p [
   | Here two count ↦ reading_from compact_place skip [] (count + 1) (drop count lines)
-  | Wrong offset fault ↦ record
-      { items = []; stop = AtFault (record { line = offset + 1; fault = fault }) }
+  | Wrong offset fault ↦ record { items = []; stop = AtFault (record { line = offset + 1; fault = fault }) }
   | Wanted ↦ record { items = []; stop = AtLines 1 lines }
 ]
 

@@ -1,25 +1,20 @@
 -- Expansion line by line reads, keeps and writes as the expansion of all lines does.
-use Rattle.std.proofs.lemmas.Grind.{common_steps}
-use Rattle.std.proofs.Common.{arith}
 use Rattle.crx_filter.proofs.Words
-use Words.{ℕ, suc, ◌≡◌, Bool, true, false, cond, List, [], ◌∷◌, ◌++◌, length, Option, Some, None, Result, Ok}
-use Words.{Err, refl, ap, sym, ◌∙◌, true≢false, is_some, none-some, ReadLine, Content, Overlong, Fault}
-use Words.{BadEpoch, is_event_line, records_in, Place, Here, Wrong, Wanted, one_line, FileUnit, EventLine}
-use Words.{RawEpoch, ReadEpoch, epoch_at, Tail, OpenRawEpoch, RawStep, first_step, next_step, open_raw_after}
-use Words.{open_raw_with, Choices, Item, types_in_force, raws_kept, event_line, as_observation, expanded_unit}
-use Words.{Made, made_of_unit, made_of_raw_step, expansion, tail_of_items, begins_event, compact_open}
-use Rattle.crx_compact.specs.Tails.{tail_left}
-use Rattle.crx_compact.specs.OpenEpochs.{epoch_after, HeldEpoch, Going, Whole, Faulty, placed_as, held_after}
-use Rattle.crx_compact.specs.OpenEpochs.{place_of_step, place_of_steps}
-use Rattle.crx_compact.specs.ReadingLaws.{is_wanted}
-use Rattle.crx_compact.proofs.soundness.Soundness.{reads-soundly}
-use Rattle.crx_compact.proofs.reading.RawTailing.{place-by_tail, left-by_tail}
-use Rattle.crx_compact.proofs.reading.LineByLine.{steps-agree, wanted-where_open, steps-from_open}
-use Rattle.crx_filter.specs.ExpansionByLine.{compact_begins}
-use Rattle.crx_filter.proofs.Choosing.{by_bool}
-use Rattle.crx_filter.proofs.reading.ForwardCompact.{compact-forward, compact_beginning}
-use Rattle.crx_filter.proofs.following.Lines.{one_line-decided}
+use Words.{common_steps, arith, ℕ, suc, ◌≡◌, Bool, true, false, cond, List, [], ◌∷◌, ◌++◌, length, Option}
+use Words.{Some, None, Result, Ok, Err, refl, ap, sym, ◌∙◌, true≢false, is_some, none-some, ReadLine, Content}
+use Words.{Overlong, Fault, BadEpoch, is_event_line, records_in, Place, Here, Wrong, Wanted, one_line}
+use Words.{FileUnit, EventLine, RawEpoch, ReadEpoch, epoch_at, Tail, OpenRawEpoch, RawStep, first_step}
+use Words.{next_step, open_raw_after, open_raw_with, Choices, Item, types_in_force, raws_kept, event_line}
+use Words.{as_observation, expanded_unit, Made, made_of_unit, made_of_raw_step, expansion, tail_of_items}
+use Words.{begins_event, compact_open, by_bool}
 use Rattle.crx_filter.proofs.following.Following.{IsSameEpoch, AgreeOn, IsCarriedOut}
+use Rattle.crx_filter.proofs.{following.Lines.one_line-decided, reading.ForwardCompact.compact-forward}
+use Rattle.crx_filter.{proofs.reading.ForwardCompact.compact_beginning, specs.ExpansionByLine.compact_begins}
+use Rattle.crx_compact.proofs.reading.LineByLine.{steps-agree, wanted-where_open, steps-from_open}
+use Rattle.crx_compact.proofs.reading.RawTailing.{place-by_tail, left-by_tail}
+use Rattle.crx_compact.{proofs.soundness.Soundness.reads-soundly, specs.OpenEpochs.{epoch_after, HeldEpoch}}
+use Rattle.crx_compact.specs.OpenEpochs.{Going, Whole, Faulty, placed_as, held_after, place_of_step}
+use Rattle.crx_compact.specs.{OpenEpochs.place_of_steps, ReadingLaws.is_wanted, Tails.tail_left}
 
 abbrev pub Agrees : Choices → List (Item ReadEpoch) → List ReadLine → Made HeldEpoch OpenRawEpoch → Type 0
 Agrees choices items lines made =
@@ -35,11 +30,7 @@ record IsHeldAs (tail : Option Tail) (p : Place ReadEpoch) (held : HeldEpoch) (c
 
 placed-here : (tail : Option Tail) (p : Place ReadEpoch) (held : HeldEpoch) (count : ℕ)
     → placed_as (held_after tail) p ≡ Here held count → IsHeldAs tail p held count
-placed-here tail (Here read n) held count e =
-    let many : n ≡ count = cc in
-    let same : held_after tail read ≡ held = cc in
-    record { read = read; here = ap (λ (k : ℕ). Here read k) many; same = same }
-placed-here tail p held count e = absurd (cc)
+placed-here tail p held count e = grind (arith, common_steps, held_after)
 
 placed-wrong : (tail : Option Tail) (p : Place ReadEpoch) (offset : ℕ) (fault : Fault)
     → placed_as (held_after tail) p ≡ Wrong offset fault → p ≡ Wrong offset fault
@@ -71,13 +62,8 @@ agree-step : (choices : Choices) (items : List (Item ReadEpoch))
     (epoch_at (types_in_force items) (raws_kept items) lines) → placed_as (held_after (tail_of_items items))
     (epoch_after (types_in_force items) (tail_of_items items) lines) ≡ place_of_step before step
     → compact_open items lines ≡ open_raw_after step [] → Agrees choices items lines (made_of_raw_step step)
-agree-step choices items lines before (Going so_far) place placed opens = (
-  so_far,
-  refl,
-  place ∙ ap as_observation (place-by_tail (types_in_force items) (raws_kept items) lines
-      ∙ placed-wanted (tail_of_items items) _ placed),
-  opens,
-)
+agree-step choices items lines before (Going so_far) place placed opens =
+    grind (arith, common_steps, place-by_tail, placed-wanted)
 agree-step choices items lines before (Whole held) place placed opens =
     let h = placed-here (tail_of_items items) _ held (suc before) placed in
     let here = place-by_tail (types_in_force items) (raws_kept items) lines ∙ h.here in (

@@ -1,23 +1,20 @@
 -- One line more, as it is fed and as it is read: the same in both directions.
-use Rattle.std.proofs.lemmas.Grind.{common_steps}
 use Rattle.crx_filter.proofs.Words
-use Words.{ℕ, zero, suc, ◌≡◌, ◌⊎◌, inl, inr, ◌+◌, ◌-◌, max, ◌<◌, ◌≤◌, Bool, true, false, List, [], ◌∷◌}
-use Words.{◌++◌, length, drop, Option, Some, None, refl, ap, sym, subst, ◌∙◌, arith, length-append}
-use Words.{append-nil, ◌&&◌, drop-append_seam, ReadLine, Fault, At, Count, Place, Here}
-use Words.{Wrong, Wanted, IsDecidedAfter, FileUnit, HeaderLine, EventLine, EventRecord, Observation, Choices}
-use Words.{Item, Accepted, Warned, is_at_start, header_has_ended, records_announced, records_left}
-use Words.{counts_types, records_count_types, types_in_force, unit_place, Reading, AtFault, AtLines, Looking}
-use Words.{is_skipped, can_go_on, looked_for, reading_within, is_skippable, written_lines, warnings_in, Phase}
-use Words.{InHeader, InEvent, InEpoch, Ended, Seen, Made, Completes, Moves, Fails, Direction}
-use Words.{Notice, Failed, Step, with_records_left, phase_after, types_after, may_skip, is_in_epoch}
-use Words.{is_skipped_in, kept_in, with_phase, after_warning, failed_step, step_of_made, seen_next}
-use Words.{phase_in_body, phase_after_items, seen_of, IsReadForward, IsFollowed, Fed, fed, fed_once}
-use Words.{fed_twice, is_again, fault_of_stop}
-use Rattle.crx_filter.specs.LineByLine.{Quiet, Ready, after_record, after_unit}
-use Rattle.crx_filter.proofs.Choosing.{by_bool}
-use Rattle.crx_filter.proofs.reading.Resuming.{here-within, wrong-within, within-wrong}
-use Rattle.crx_filter.proofs.reading.Resuming.{within-wanted, fault-skipped, fault-ends, looked-here}
-use Rattle.crx_filter.proofs.reading.Resuming.{looked-on}
+use Words.{common_steps, ℕ, zero, suc, ◌≡◌, ◌⊎◌, inl, inr, ◌+◌, ◌-◌, max, ◌<◌, ◌≤◌, Bool, true, false, List}
+use Words.{[], ◌∷◌, ◌++◌, length, drop, Option, Some, None, refl, ap, sym, subst, ◌∙◌, arith, length-append}
+use Words.{append-nil, ◌&&◌, drop-append_seam, ReadLine, Fault, At, Count, Place, Here, Wrong, Wanted}
+use Words.{IsDecidedAfter, FileUnit, HeaderLine, EventLine, EventRecord, Observation, Choices, Item, Accepted}
+use Words.{Warned, is_at_start, header_has_ended, records_announced, records_left, counts_types}
+use Words.{records_count_types, types_in_force, unit_place, Reading, AtFault, AtLines, Looking, is_skipped}
+use Words.{can_go_on, looked_for, reading_within, written_lines, warnings_in, Phase, InHeader}
+use Words.{InEvent, InEpoch, Ended, Seen, Made, Completes, Moves, Fails, Direction, Notice, Failed, Step}
+use Words.{with_records_left, phase_after, types_after, may_skip, is_in_epoch, is_skipped_in, kept_in}
+use Words.{with_phase, after_warning, failed_step, step_of_made, seen_next, phase_in_body, phase_after_items}
+use Words.{seen_of, IsReadForward, IsFollowed, Fed, fed, fed_once, fed_twice, is_again, fault_of_stop}
+use Words.{by_bool}
+use Rattle.crx_filter.proofs.reading.Resuming.{wrong-within, within-wrong, within-wanted}
+use Rattle.crx_filter.proofs.reading.Resuming.{fault-skipped, fault-ends, looked-here, looked-on}
+use Rattle.crx_filter.specs.LineByLine.{Ready, after_record, after_unit}
 
 -- ---- what a direction has to keep to
 
@@ -93,10 +90,6 @@ pub body-place : {E : Type 0} (beginning : List (Item E) → List ReadLine → P
     → records_left items ≡ 0 → unit_place beginning items lines ≡ beginning items lines
 body-place beginning items lines ended none = rw (ended, none) refl
 
-body-skipped : {E : Type 0} (skip : Bool) (items : List (Item E)) (fault : Fault) → header_has_ended items
-    ≡ true → records_left items ≡ 0 → is_skipped skip items fault ≡ (skip && is_skippable fault)
-body-skipped skip items fault ended none = rw (ended, none) refl
-
 pub body-phase : {E O : Type 0} (items : List (Item E)) (so_far : Option O) → header_has_ended items ≡ true
     → records_left items ≡ 0 → phase_after_items items so_far
     ≡ phase_in_body 0 (records_count_types items) so_far
@@ -117,14 +110,6 @@ module _ {U O K : Type 0} (direction : Direction U O K) where
   kept-after_record : (phase : Phase O) (kept : K) → kept_in direction (after_record phase) kept ≡ kept
   kept-after_record (InEvent left counted) kept = kept-with_records (left - 1) counted kept
   kept-after_record phase kept = refl
-
-  kept-after_unit : (phase : Phase O) (unit : FileUnit U) (kept : K)
-      → kept_in direction (phase_after phase unit) kept ≡ kept
-  kept-after_unit phase (HeaderLine line) kept = grind (arith, common_steps)
-  kept-after_unit phase (EventLine line) kept =
-      kept-with_records (records_announced line) (counts_types line) kept
-  kept-after_unit phase (EventRecord line) kept = kept-after_record phase kept
-  kept-after_unit phase (Observation epoch) kept = refl
 
   -- ---- how a line is fed
 
@@ -163,15 +148,7 @@ module _ {E : Type 0} {place : List (Item E) → List ReadLine → Place (FileUn
         → place items rest ≡ Wanted → IsDecidedAfter (length rest) (place items (rest ++ line ∷ []))
     decided-after items rest line wanted = rw wanted at (h.steady items rest (line ∷ []))
 
-    -- so a unit and a fault end with the next line
-    here-last : (items : List (Item E)) (rest : List ReadLine) (line : ReadLine) (unit : FileUnit E)
-        (count : ℕ) → place items rest ≡ Wanted → place items (rest ++ line ∷ []) ≡ Here unit count → count
-        ≡ length rest + 1
-    here-last items rest line unit count wanted e =
-        let most = (here-within place h items (rest ++ line ∷ []) unit count e).1 in
-        let first = subst (IsDecidedAfter (length rest)) e (decided-after items rest line wanted) in
-        omega (arith, most, length-append rest (line ∷ []))
-
+    -- so a fault ends with the next line
     pub wrong-last : (items : List (Item E))
         (rest : List ReadLine) (line : ReadLine) (offset : ℕ) (fault : Fault) → place items rest ≡ Wanted
         → place items (rest ++ line ∷ []) ≡ Wrong offset fault → offset ≡ length rest
@@ -180,13 +157,6 @@ module _ {E : Type 0} {place : List (Item E) → List ReadLine → Place (FileUn
         (decided-after items rest line wanted) in
         let within = wrong-within place h items (rest ++ line ∷ []) offset fault e in
         omega (arith, past, within, length-append rest (line ∷ []))
-
-    -- nothing more to read
-    within-nothing : (skip : Bool) (units : ℕ) (items : List (Item E)) (number : ℕ)
-        → reading_within place skip units items number [] ≡ record { items = items; stop = AtLines number [] }
-    within-nothing skip zero items number = refl
-    within-nothing skip (suc units) items number = within-wanted place skip units items number []
-        (h.wants items)
 
     -- a unit that the next line completes
     pub last-here : (skip : Bool) (units : ℕ) (items : List (Item E)) (number : ℕ) (rest : List ReadLine)
@@ -213,24 +183,13 @@ module _ {E : Type 0} {place : List (Item E) → List ReadLine → Place (FileUn
         ∷ items)) (Warned (record { line = count + 1; fault = fault }) ∷ items)
         (number + max (length rest) 1) (drop (max (length rest) 1) (rest ++ line ∷ []))
     last-skipped skip units items number count rest line offset fault wanted e on counted =
-        let last = wrong-last _ _ _ _ _ wanted e in
-        let looked : ℕ → ℕ → Reading E = λ n k. looked_for (reading_within place skip units
-        (Warned (record { line = n; fault = fault }) ∷ items)) (Warned (record { line = n; fault = fault }) ∷
-        items) (number + max k 1) (drop (max k 1) (rest ++ line ∷ [])) in
-        within-wrong place skip units items number (rest ++ line ∷ []) offset fault e
-        ∙ fault-skipped skip (reading_within place skip units) items number (rest ++ line ∷ []) offset fault
-        on ∙ ap (λ n. looked n offset) (omega (arith, last, counted)) ∙ ap (looked _) last
+        grind (arith, common_steps, wrong-last, within-wrong, fault-skipped)
 
 looked-through-later : (first : ReadLine) (rest : List ReadLine) (line : ReadLine)
     → drop (max (length (first ∷ rest)) 1) ((first ∷ rest) ++ line ∷ []) ≡ line ∷ []
 looked-through-later first rest line = grind (arith, common_steps, max, drop-append_seam)
 
 -- ---- what a step comes to
-
-seen-same : {O K : Type 0} (choices : Choices) (number : ℕ) (phase phase' : Phase O)
-    (types types' : List Count) (kept kept' : K) → phase ≡ phase' → types ≡ types' → kept ≡ kept'
-    → seen_in choices number phase types kept ≡ seen_in choices number phase' types' kept'
-seen-same choices number phase phase' types types' kept kept' a b c = rw (a, b, c) refl
 
 -- whether a fault is skipped where an epoch or an event may begin
 pub skipped-same : {E O K : Type 0} (choices : Choices)
@@ -277,14 +236,7 @@ module _ {E U O K : Type 0} {beginning : List (Item E) → List ReadLine → Pla
         next = after_unit direction (seen_at count phase items kept) same;
       }))
   followed-unit count n items phase kept unit same none phases types keeps lines =
-      let here = ap (λ o. phase_after_items (Accepted unit ∷ items) o) none ∙ phases in
-      record {
-        next = seen-same choices (count + 1) _ _ _ _ _ _ here types
-            (cc (here, kept-after_unit direction phase same (kept_of (Accepted unit ∷ items)), keeps));
-        handed_out = cc;
-        warned = refl;
-        failed = refl;
-      }
+      grind (arith, common_steps, phase_after_items, kept-with_records, kept-after_record)
 
   -- the next line ends the run
   pub followed-end : (count : ℕ) (items : List (Item E)) (phase : Phase O) (kept : K) (line : ReadLine)
@@ -293,12 +245,7 @@ module _ {E U O K : Type 0} {beginning : List (Item E) → List ReadLine → Pla
       { items = items; stop = AtFault (record { line = count + 1; fault = fault }) })
       (fed_once (failed_step direction (seen_at count phase items kept) line fault))
   followed-end count items phase kept line fault emptied off =
-      rw (failed-ends direction (seen_at count phase items kept) line fault off) (record {
-        next = seen-same choices (count + 1) _ _ _ _ _ _ refl refl (cc);
-        handed_out = sym (append-nil (written_lines unit_lines items));
-        warned = refl;
-        failed = refl;
-      })
+      grind (arith, common_steps, failed-ends, seen_at, append-nil, written_lines)
 
   -- the next line's fault is skipped, and no line is at hand to go on at
   followed-skip : (count n : ℕ) (items : List (Item E)) (phase : Phase O) (kept : K) (line : ReadLine)
@@ -308,23 +255,7 @@ module _ {E U O K : Type 0} {beginning : List (Item E) → List ReadLine → Pla
       (record { items = Warned (record { line = count + 1; fault = fault }) ∷ items; stop = Looking n })
       (fed_once (failed_step direction (seen_at count phase items kept) line fault))
   followed-skip count n items phase kept line fault emptied on off =
-      rw (failed-skipped direction (seen_at count phase items kept) line fault on) (record {
-        next = cc (seen-same choices (count + 1) _ _ _ _ _ _ refl refl (sym emptied), off);
-        handed_out = sym (append-nil (written_lines unit_lines items));
-        warned = refl;
-        failed = refl;
-      })
-
-  -- the next line leaves an epoch open
-  followed-open : (count n : ℕ) (items : List (Item E)) (lines : List ReadLine)
-      (phase : Phase O) (kept : K) (so_far : O) → header_has_ended items ≡ true → records_left items ≡ 0
-      → open_with items lines ≡ Some so_far → direction.kept_open kept ≡ direction.kept_open (kept_of items)
-      → Follows (count + 1) items (record { items = items; stop = AtLines n lines }) (fed_once (record {
-        answer = Quiet;
-        handed_out = [];
-        next = with_phase direction (seen_at count phase items kept) (InEpoch so_far);
-      }))
-  followed-open count n items lines phase kept so_far ended none opens keeps = grind (arith, common_steps)
+      grind (arith, common_steps, failed-skipped, seen_at, append-nil, written_lines)
 
   -- ---- where an epoch or an event may begin, and in an epoch
 
@@ -341,11 +272,6 @@ module _ {E U O K : Type 0} {beginning : List (Item E) → List ReadLine → Pla
       → AreKept items kept → direction.emptied kept ≡ direction.emptied (kept_of items)
   emptied-same items kept (inl e) = ap direction.emptied e
   emptied-same items kept (inr e) = ap direction.emptied e ∙ h.emptied_open (kept_of items)
-
-  open-same : (items : List (Item E)) (kept : K)
-      → AreKept items kept → direction.kept_open kept ≡ direction.kept_open (kept_of items)
-  open-same items kept (inl e) = ap direction.kept_open e
-  open-same items kept (inr e) = ap direction.kept_open e ∙ h.open_open (kept_of items)
 
   -- a fault that is skipped, no line being at hand to go on at
   skipped-looking : (units : ℕ) (items : List (Item E))
@@ -411,15 +337,8 @@ module _ {E U O K : Type 0} {beginning : List (Item E) → List ReadLine → Pla
       (followed-unit count (number + agree.0) items phase kept (Observation agree.1) (Observation held)
       (h.none_open (Accepted (Observation agree.1) ∷ items)) (rw ended refl) refl (same.kept count phase
       (types_in_force items) kept keeps) (same.lines count phase (types_in_force items) kept keeps))
-  body-once units items number count rest line phase kept
-      (Moves next) ended none wanted agree may keeps inside counted quiet =
-      let here = body-place beginning items (rest ++ line ∷ []) ended none ∙ agree.2 in
-      subst (λ r. Follows (count + 1) items r (fed_once
-      (step_of_made direction (seen_at count phase items kept) line (Moves next)))) (sym (within-wanted
-      place choices.skip units items number (rest ++ line ∷ []) here)) (subst (λ p. Follows (count + 1) items
-      (record { items = items; stop = AtLines number (rest ++ line ∷ []) }) (fed_once (step_of_made direction
-      (seen_at count phase items kept) line (Moves p)))) (sym agree.1) (followed-open count number items
-      (rest ++ line ∷ []) phase kept agree.0 ended none agree.3 (open-same items kept keeps)))
+  body-once units items number count rest line phase kept (Moves next) ended none wanted agree may keeps
+      inside counted quiet = grind (arith, common_steps, body-place, within-wanted)
   body-once units items number count rest line phase kept
       (Fails fault) ended none wanted agree may keeps inside counted quiet =
       let wanted_here = body-place beginning items rest ended none ∙ wanted in

@@ -4,13 +4,10 @@ use Words.{◌≡◌, List, ◌++◌, map, Option, Some, refl, sym, ap, ◌∙�
 use Words.{Epoch, ReadEpoch, Choices, WholeReading, whole_course, fault_of_stop, rinex_place, compact_unit}
 use Words.{whole_rinex, rinex_reading, expanded_unit, whole_compact, compact_reading, course_so_far}
 use Words.{compaction_filter, expansion_filter, IsLawful}
-use Rattle.crx_filter.proofs.reading.Forward.{rinex-forward}
-use Rattle.crx_filter.proofs.reading.Prefixes.{text-more, whole-items}
-use Rattle.crx_filter.proofs.reading.RinexPrefixes.{compacted-first}
-use Rattle.crx_filter.proofs.reading.CompactPrefixes.{whole-more, expanded-first}
-use Rattle.crx_filter.proofs.reading.StaysEnded.{rinex-stays, compact-stays}
-use Rattle.crx_filter.proofs.reading.FineReadings.{rinex-found, rinex-found-at-end, compact-found}
-use Rattle.crx_filter.proofs.reading.FineReadings.{compact-found-at-end}
+use Rattle.crx_filter.proofs.reading.{CompactPrefixes.{whole-more, expanded-first}, FineReadings.rinex-found}
+use Rattle.crx_filter.proofs.reading.FineReadings.{rinex-found-at-end, compact-found, compact-found-at-end}
+use Rattle.crx_filter.proofs.reading.{Forward.rinex-forward, Prefixes.{text-more, whole-items}}
+use Rattle.crx_filter.proofs.reading.{RinexPrefixes.compacted-first, StaysEnded.{rinex-stays, compact-stays}}
 
 both : (lines more : List InputLine) → map seen (lines ++ more) ≡ map seen lines ++ map seen more
 both lines more = map-append seen lines more

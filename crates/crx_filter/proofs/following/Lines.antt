@@ -1,28 +1,25 @@
 -- One line more, wherever a reading has stopped.
-use Rattle.std.proofs.lemmas.Grind.{common_steps}
-use Rattle.crx_filter.proofs.Words
-use Words.{ℕ, zero, suc, ◌≡◌, inl, inr, ◌+◌, ◌<◌, Bool, true, false, not, cond, List, [], ◌∷◌, ◌++◌, length}
-use Words.{Option, Some, None, Result, Ok, Err, refl, ap, sym, subst, ◌∙◌, arith, length-append, append-nil}
-use Words.{append_assoc, ◌||◌, ◌&&◌, ◌==◌, ⊤, nat_lt, ReadLine, Content, Overlong, Fault, LineTooLong}
-use Words.{At, is_end_of_header, Count, types_of, with_line, none-some, Place, Wanted, one_line, first_line}
-use Words.{FileUnit, HeaderLine, EventRecord, Choices, Item, Accepted, Warned, is_at_start, header_has_ended}
-use Words.{records_left, records_count_types, declaring_lines, types_in_force, unless_wrong, types_fault}
-use Words.{header_line_fault, header_line, event_record, unit_place, Reading, Stop, AtFault, AtLines, Looking}
-use Words.{is_skipped, can_go_on, reading_within, reading_from, is_skippable, continued_reading}
-use Words.{IsReadForward, fed, fed_once, fed_twice, is_again, written_lines, warnings_in, Phase, InHeader}
-use Words.{BetweenUnits, InEvent, InEpoch, LookingOn, Seen, Made, Fails, Direction, Notice, Step}
-use Words.{made_of_unit, made_in, phase_after, types_after, may_skip, is_in_epoch, is_skipped_in, kept_in}
-use Words.{after_warning, failed_step, step_of_made, seen_next, phase_in_body, phase_after_items, seen_of}
-use Words.{and_parts}
+use Rattle.crx_filter.proofs
+use proofs.Words.{common_steps, ℕ, zero, suc, ◌≡◌, inl, inr, ◌+◌, ◌<◌, Bool, true, false, cond, List, [], ◌∷◌}
+use proofs.Words.{◌++◌, length, Option, Some, None, Result, Ok, Err, refl, ap, sym, subst, ◌∙◌, arith}
+use proofs.Words.{length-append, append-nil, append_assoc, ◌&&◌, ◌==◌, ⊤, nat_lt, ReadLine, Content, Overlong}
+use proofs.Words.{Fault, LineTooLong, At, is_end_of_header, Count, types_of, with_line, none-some, Place}
+use proofs.Words.{Wanted, one_line, first_line, FileUnit, HeaderLine, EventRecord, Choices, Item, Accepted}
+use proofs.Words.{Warned, is_at_start, header_has_ended, records_left, records_count_types, declaring_lines}
+use proofs.Words.{types_in_force, unless_wrong, types_fault, header_line_fault, header_line, event_record}
+use proofs.Words.{unit_place, Reading, Stop, AtFault, AtLines, Looking, is_skipped, can_go_on, reading_within}
+use proofs.Words.{reading_from, is_skippable, continued_reading, IsReadForward, fed, fed_once, fed_twice}
+use proofs.Words.{is_again, written_lines, warnings_in, Phase, InHeader, BetweenUnits, InEvent, InEpoch}
+use proofs.Words.{LookingOn, Seen, Made, Fails, Direction, Notice, Step, made_of_unit, made_in, phase_after}
+use proofs.Words.{types_after, may_skip, is_in_epoch, is_skipped_in, kept_in, after_warning, failed_step}
+use proofs.Words.{step_of_made, seen_next, phase_in_body, phase_after_items, seen_of, and_parts, by_bool}
+use proofs.Words.{false-true}
+use proofs.following.Following.{IsCarriedOut, AreKept, IsInside, Follows, Agrees, place, reads, seen_at}
+use proofs.following.Following.{emptied-same, skipped-same, body-place, body-phase, fed-once, fed-twice}
+use proofs.following.Following.{failed-ends, failed-skipped, followed-unit, followed-end, last-here}
+use proofs.following.Following.{last-ends, last-skipped, skipped-again, records-phase, body-once}
+use proofs.reading.Resuming.{enough-units, looked-here, looked-on}
 use Rattle.crx_header.proofs.Counts.{types_of-push}
-use Rattle.crx_filter.proofs.Choosing.{by_bool, false-true}
-use Rattle.crx_filter.proofs.reading.Resuming.{enough-units, looked-here, looked-on}
-use Rattle.crx_filter.proofs.following.Following.{IsCarriedOut, AreKept, IsInside, Follows, Agrees, place}
-use Rattle.crx_filter.proofs.following.Following.{reads, seen_at, emptied-same, skipped-same, body-place}
-use Rattle.crx_filter.proofs.following.Following.{body-phase, fed-once, fed-twice, failed-ends}
-use Rattle.crx_filter.proofs.following.Following.{failed-skipped, followed-unit, followed-end, last-here}
-use Rattle.crx_filter.proofs.following.Following.{last-ends, last-skipped, skipped-again, records-phase}
-use Rattle.crx_filter.proofs.following.Following.{body-once}
 
 -- only in an epoch does a line come again
 pub quiet-elsewhere : {U O K : Type 0} (direction : Direction U O K) (seen : Seen O K) (line : ReadLine)
@@ -40,11 +37,7 @@ never-before false b = refl
 header-phase : {E O : Type 0} (items : List (Item E)) (is_first : Bool) (line : List ℕ)
     → header_has_ended items ≡ false → phase_after_items {O = O} (Accepted (HeaderLine line) ∷ items) None
     ≡ phase_after {U = E} (InHeader is_first) (HeaderLine line)
-header-phase {E = E} {O = O} items is_first line e =
-    let inside = InHeader false in
-    let outside = BetweenUnits in
-    ap (λ b. cond (not (is_end_of_header line || b)) inside outside) e ∙ (elim (is_end_of_header line) as
-    (λ b. cond (not (b || false)) inside outside ≡ cond b outside inside) [ true ↦ refl | false ↦ refl ])
+header-phase {E = E} {O = O} items is_first line e = grind (arith, common_steps, cond, is_end_of_header)
 
 pub never-in-event : (skip : Bool) (left : ℕ) (b : Bool) → (skip && ((suc left == 0) && b)) ≡ false
 never-in-event skip left b = grind (arith, common_steps, never-before)
@@ -80,9 +73,7 @@ one_line-decided (Err fault) e = absurd (cc)
 -- where the first line is wanted, none has come
 pub only_none : {X : Type 0} (read : List ℕ → Result X Fault) (ls : List ReadLine)
     → first_line ls read ≡ Wanted → ls ≡ []
-only_none read [] e = refl
-only_none read (Overlong ∷ ls) e = absurd (cc)
-only_none read (Content content ∷ ls) e = absurd (one_line-decided (read content) e)
+only_none read ls e = grind (arith, common_steps, one_line-decided)
 
 -- where the reading of so many lines can stop
 abbrev pub IsStopped : {E : Type 0}
@@ -225,11 +216,10 @@ module _ {E U O K : Type 0} {beginning : List (Item E) → List ReadLine → Pla
   header-line units items count line e = line-once count items line (InHeader (is_at_start items))
       (reads h (suc units) items (count + 1) (line ∷ [])) refl (by_line line)
     where
-      simple : (content : List ℕ) (l : ReadLine) (fault : Option Fault)
-          → place h items (l ∷ []) ≡ one_line (unless_wrong (HeaderLine content) fault)
-          → Follows h (count + 1) items (reads h (suc units) items (count + 1) (l ∷ []))
-          (fed_once (step_of_made direction (seen_at h count (InHeader (is_at_start items)) items
-          (kept_of items)) l (made_of_unit (unless_wrong (HeaderLine content) fault))))
+      simple : (content : List ℕ) (l : ReadLine) (fault : Option Fault) → place h items (l ∷ []) ≡ one_line
+          (unless_wrong (HeaderLine content) fault) → Follows h (count + 1) items (reads h (suc units) items
+          (count + 1) (l ∷ [])) (fed_once (step_of_made direction (seen_at h count (InHeader (is_at_start
+          items)) items (kept_of items)) l (made_of_unit (unless_wrong (HeaderLine content) fault))))
       simple content l fault here = simple-line units items count l
           (InHeader (is_at_start items)) fault (HeaderLine content) (HeaderLine content) here
           (λ f. rw e (never-before choices.skip ((records_left items == 0) && is_skippable f)))
@@ -300,11 +290,6 @@ module _ {E U O K : Type 0} {beginning : List (Item E) → List ReadLine → Pla
       both {ls = ls} here lines phase = subst (λ l. P l (phase_after_items items (open_with items rest)))
           (sym lines) (subst (P ls) (sym phase) here)
 
-      in_body : {o : Option O} → header_has_ended items ≡ true → records_left items ≡ 0 → open_with items rest
-          ≡ o → phase_after_items items (open_with items rest) ≡ phase_in_body 0 (records_count_types items) o
-      in_body e none opens = body-phase items (open_with items rest) e none
-          ∙ ap (λ o. phase_in_body 0 (records_count_types items) o) opens
-
       cases : (ended : Bool) → header_has_ended items ≡ ended → (left : ℕ) → records_left items ≡ left
           → (so_far : Option O) → open_with items rest ≡ so_far
           → P rest (phase_after_items items (open_with items rest))
@@ -313,10 +298,10 @@ module _ {E U O K : Type 0} {beginning : List (Item E) → List ReadLine → Pla
       cases true e (suc left) some so_far opens = both (event left e some) (only_none (event_record
           (records_count_types items)) rest (sym (record-place beginning items left rest e some) ∙ wanted))
           (rw (e, some) refl)
-      cases true e zero none None opens = both (between e none) (h.wanted_open items rest
-          (sym (body-place beginning items rest e none) ∙ wanted) opens) (in_body e none opens)
+      cases true e zero none None opens =
+          grind (arith, common_steps, both, body-place, body-phase, phase_in_body, records_count_types)
       cases true e zero none (Some so_far) opens =
-          both (epoch so_far e none opens) refl (in_body e none opens)
+          grind (arith, common_steps, both, body-phase, phase_in_body, records_count_types)
 
   -- one line more, where more lines are wanted
   lines-line : (items : List (Item E)) (number count : ℕ) (rest : List ReadLine) (line : ReadLine)
@@ -369,9 +354,4 @@ module _ {E U O K : Type 0} {beginning : List (Item E) → List ReadLine → Pla
         items = items;
         stop = Looking (number + 1);
       }) (fed_once (seen_next direction seen line))
-      passed off = rw off (record {
-        next = refl;
-        handed_out = sym (append-nil (written_lines unit_lines items));
-        warned = refl;
-        failed = refl;
-      })
+      passed off = grind (arith, common_steps, append-nil, written_lines)

@@ -1,24 +1,22 @@
 -- Where memory may run out at a line by what is seen before it, it may by what is there.
-use Rattle.std.proofs.lemmas.Grind.{common_steps}
 use Rattle.crx_filter.proofs.Words
-use Words.{ℕ, suc, ◌≡◌, ◌+◌, Bool, true, false, not, cond, List, [], ◌∷◌, ◌++◌, length, Option, Some, None}
-use Words.{refl, ap, sym, subst, ◌∙◌, arith, ◌&&◌, nat_lt, is_some, ReadLine, Content, Overlong, Fault, At}
-use Words.{begins_epoch, is_event_line, Count, count_in, is_types_line, Place, Wanted, first_line, one_line}
-use Words.{FileUnit, HeaderLine, Choices, Item, Warned, is_at_start, header_has_ended, records_left}
+use Words.{common_steps, ℕ, suc, ◌≡◌, ◌+◌, Bool, true, false, not, cond, List, [], ◌∷◌, ◌++◌, length, Option}
+use Words.{Some, None, refl, ap, sym, subst, ◌∙◌, arith, ◌&&◌, nat_lt, is_some, ReadLine, Content, Overlong}
+use Words.{Fault, At, begins_epoch, is_event_line, Count, count_in, is_types_line, Place, Wanted, first_line}
+use Words.{one_line, FileUnit, HeaderLine, Choices, Item, Warned, is_at_start, header_has_ended, records_left}
 use Words.{records_count_types, types_in_force, memory_allowed, place_takes, Stop, AtFault, AtLines, Looking}
 use Words.{is_skipped, can_go_on, event_record, header_line, header_line_fault, types_fault, unless_wrong}
 use Words.{is_again, Answer, BetweenUnits, Direction, Failed, Fails, InEpoch, InEvent, InHeader, Made, Notice}
 use Words.{Phase, Seen, Step, after_warning, is_in_epoch, is_skipped_in, kept_in, phase_after_items}
 use Words.{seen_next, seen_of, step_of_made, may_take_memory, takes_memory, rules, none-some, and_parts}
-use Rattle.std.specs.Prelude.{is_none}
-use Rattle.crx_header.specs.meaning.ObservationTypes.{count_of_types_line}
-use Rattle.crx_filter.specs.meaning.Memory.{line_takes, takes_after_warning}
-use Rattle.crx_filter.specs.LineByLine.{Quiet, Ready}
+use Words.{by_bool, false-true}
 use Rattle.crx_filter.proofs.following.Following.{AgreeOn, IsCarriedOut, body-place, failed-ends, place}
 use Rattle.crx_filter.proofs.following.Following.{failed-skipped, seen_in, skipped-same, wrong-last}
-use Rattle.crx_filter.proofs.Choosing.{by_bool, false-true}
-use Rattle.crx_filter.proofs.steps.EngineAnswers.{ComesAgain, comes-again}
 use Rattle.crx_filter.proofs.following.Lines.{IsStopped, by_phase, header-place, record-place}
+use Rattle.crx_filter.{proofs.steps.EngineAnswers.{ComesAgain, comes-again}, specs.LineByLine.{Quiet, Ready}}
+use Rattle.crx_filter.specs.meaning.Memory.{line_takes, takes_after_warning}
+use Rattle.std.specs.Prelude.{is_none}
+use Rattle.crx_header.specs.meaning.ObservationTypes.{count_of_types_line}
 
 -- ---- types lines
 
@@ -112,11 +110,10 @@ module _ {E U O K : Type 0} {beginning : List (Item E) → List ReadLine → Pla
       e none) ∙ t.next items rest content so_far opens (and_parts (not (begins_epoch content)) _ taken).1))
 
   -- memory may run out at a line at once
-  pub allowed-first : (items : List (Item E)) (stop : Stop) (count : ℕ) (line : ReadLine)
-      → IsStopped (place h) items stop (count + 1)
-      → takes_memory direction (seen_of direction open_with kept_of choices count
-      (record { items = items; stop = stop })) line ≡ true
-      → memory_allowed (place h) takes choices.skip (record { items = items; stop = stop }) line ≡ Some []
+  pub allowed-first : (items : List (Item E)) (stop : Stop) (count : ℕ) (line : ReadLine) → IsStopped
+      (place h) items stop (count + 1) → takes_memory direction (seen_of direction open_with kept_of choices
+      count (record { items = items; stop = stop })) line ≡ true → memory_allowed (place h) takes choices.skip
+      (record { items = items; stop = stop }) line ≡ Some []
   allowed-first items (AtFault at) count (Content line) stopped e = false-true e
   allowed-first items (AtLines number rest) count line stopped e = cc (lines-take _ _ _ stopped.0 e)
   allowed-first items (Looking number) count (Content line) stopped e =
@@ -124,15 +121,14 @@ module _ {E U O K : Type 0} {beginning : List (Item E) → List ReadLine → Pla
   allowed-first items stop count Overlong stopped e = false-true e
 
   -- a line that cuts an epoch off, and is read anew after the warning
-  cut-takes : (items : List (Item E))
-      (number count : ℕ) (rest : List ReadLine) (line : ReadLine) (so_far : O) (next : Seen O K) (notice : At)
-      → place h items rest ≡ Wanted → number + length rest ≡ count + 1 → header_has_ended items ≡ true
-      → records_left items ≡ 0 → open_with items rest ≡ Some so_far → (m : Made U O)
-      → AgreeOn beginning direction open_with kept_of unit_lines choices items (rest ++ line ∷ []) m
-      → record { answer = Notice notice true; handed_out = []; next = next } ≡ step_of_made direction
+  cut-takes : (items : List (Item E)) (number count : ℕ) (rest : List ReadLine) (line : ReadLine) (so_far : O)
+      (next : Seen O K) (notice : At) → place h items rest ≡ Wanted → number + length rest ≡ count + 1
+      → header_has_ended items ≡ true → records_left items ≡ 0 → open_with items rest ≡ Some so_far
+      → (m : Made U O) → AgreeOn beginning direction open_with kept_of unit_lines choices items (rest ++ line
+      ∷ []) m → record { answer = Notice notice true; handed_out = []; next = next } ≡ step_of_made direction
       (seen_in choices count (InEpoch so_far) (types_in_force items) (direction.kept_open (kept_of items)))
-      line m → takes_memory direction next line ≡ true → memory_allowed (place h) takes choices.skip
-      (record { items = items; stop = AtLines number rest }) line ≡ Some (notice ∷ [])
+      line m → takes_memory direction next line ≡ true → memory_allowed (place h) takes choices.skip (record
+      { items = items; stop = AtLines number rest }) line ≡ Some (notice ∷ [])
   cut-takes items number count rest line so_far next notice wanted counted ended none open_is
       (Fails fault) a e taken = by_bool (is_skipped_in before fault) (λ on.
       let is = e ∙ failed-skipped direction before line fault on in
@@ -204,12 +200,11 @@ module _ {E U O K : Type 0} {beginning : List (Item E) → List ReadLine → Pla
           ≡ Some (notice ∷ [])
       by_stop (AtFault at) stopped again e = false-true again.epoch
       by_stop (Looking number) stopped again e = false-true again.epoch
-      by_stop (AtLines number rest) stopped again e = by_phase h (λ ls p. is_in_epoch p ≡ true
-          → record { answer = Notice notice true; handed_out = []; next = next } ≡ seen_next direction
-          (seen_in choices count p (types_in_force items) (kept_in direction p (kept_of items))) line
-          → memory_allowed (place h) takes choices.skip (record { items = items; stop = AtLines number rest })
-          line ≡ Some (notice ∷ [])) items rest stopped.0 (λ f inside. false-true inside)
-          (λ left f some inside. false-true inside) (λ f none inside. false-true inside)
-          (λ so_far f none opens inside step. cut-takes items number count
-          rest line so_far next notice stopped.0 stopped.1 f none opens (direction.continues so_far line)
-          (h.continues items rest line so_far opens) step taken) again.epoch e
+      by_stop (AtLines number rest) stopped again e = by_phase h (λ ls p. is_in_epoch p ≡ true → record
+          { answer = Notice notice true; handed_out = []; next = next } ≡ seen_next direction (seen_in choices
+          count p (types_in_force items) (kept_in direction p (kept_of items))) line → memory_allowed (place
+          h) takes choices.skip (record { items = items; stop = AtLines number rest }) line ≡ Some (notice
+          ∷ [])) items rest stopped.0 (λ f inside. false-true inside) (λ left f some inside. false-true
+          inside) (λ f none inside. false-true inside) (λ so_far f none opens inside step. cut-takes items
+          number count rest line so_far next notice stopped.0 stopped.1 f none opens (direction.continues
+          so_far line) (h.continues items rest line so_far opens) step taken) again.epoch e

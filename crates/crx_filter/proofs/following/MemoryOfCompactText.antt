@@ -1,35 +1,27 @@
 -- The memory that an expansion takes, by what is at its lines.
-use Rattle.std.proofs.lemmas.Grind.{common_steps}
 use Rattle.crx_filter.proofs.Words
-use Words.{ℕ, ◌≡◌, Bool, true, false, List, [], ◌∷◌, ◌++◌, length, Option, Some, None, Result, Ok, Err, refl}
-use Words.{ap, sym, ◌∙◌, none-some, ReadLine, Content, Overlong, Fault, Count, ReadEpoch, satellites_of_line}
-use Words.{Satellite, OpenRawEpoch, RawStep, first_step, next_step, open_raw_after, open_raw_with, Tail}
-use Words.{and_then, Choices, Item, types_in_force, place_takes, begins_event, compact_open, expansion}
-use Words.{made_of_raw_step, tail_of_items, subst, ◌+◌, drop, arith, length-drop, At, Remains, Place, Here}
-use Words.{Wrong, Wanted, expansion_seen, Notice, Seen, seen_next, takes_memory, compact_memory}
-use Words.{compact_place, first_lines, memory_allowed, reading_from, and_parts, not-true}
-use Rattle.crx_compact.specs.OpenEpochs.{Going, Whole, Faulty, is_faulty, before_clock, has_come, makes_epoch}
-use Rattle.crx_compact.specs.OpenEpochs.{tail_opened, opened_raw, opening, tail_for_line}
-use Rattle.crx_compact.specs.HeldRows.{past_of_tail}
-use Rattle.crx_filter.specs.meaning.Memory.{expansion_takes}
-use Rattle.crx_filter.proofs.following.Expansion.{Agrees, agree-content, agree-continues}
-use Rattle.crx_filter.proofs.following.Expansion.{expansion-carried_out}
-use Rattle.crx_filter.proofs.reading.ForwardCompact.{compact_beginning, compact-forward, steady-first_lines}
-use Rattle.crx_filter.proofs.Choosing.{false-true}
+use Words.{common_steps, ℕ, ◌≡◌, Bool, true, false, List, [], ◌∷◌, ◌++◌, length, Option, Some, None, Result}
+use Words.{Ok, Err, refl, none-some, ReadLine, Content, Overlong, Fault, Count, ReadEpoch, satellites_of_line}
+use Words.{Satellite, OpenRawEpoch, RawStep, first_step, next_step, open_raw_after, Tail, and_then, Choices}
+use Words.{Item, types_in_force, place_takes, begins_event, compact_open, expansion, made_of_raw_step}
+use Words.{tail_of_items, subst, ◌+◌, drop, arith, length-drop, At, Remains, Place, Here, Wrong, Wanted}
+use Words.{expansion_seen, Notice, Seen, seen_next, takes_memory, compact_memory, compact_place, first_lines}
+use Words.{memory_allowed, reading_from, and_parts, not-true, false-true}
+use Rattle.crx_filter.proofs.following.{ExpandedOn.{reading_by, seen_by}, Expansion.{Agrees, agree-content}}
+use Rattle.crx_filter.proofs.following.{Expansion.{agree-continues, expansion-carried_out}, Lines.IsStopped}
 use Rattle.crx_filter.proofs.following.Memory.{TakesAsItStands, allowed-again, allowed-first}
-use Rattle.crx_filter.proofs.following.ExpandedOn.{reading_by, seen_by}
-use Rattle.crx_filter.proofs.following.Lines.{IsStopped}
-use Rattle.crx_filter.proofs.reading.Stopping.{reading-stopped}
-use Rattle.crx_filter.proofs.steps.EngineAnswers.{comes-again}
+use Rattle.crx_filter.proofs.reading.ForwardCompact.{compact_beginning, compact-forward, steady-first_lines}
+use Rattle.crx_filter.proofs.{reading.Stopping.reading-stopped, steps.EngineAnswers.comes-again}
+use Rattle.crx_filter.specs.meaning.Memory.{expansion_takes}
+use Rattle.crx_compact.specs.{HeldRows.past_of_tail, OpenEpochs.{Going, Whole, is_faulty, before_clock}}
+use Rattle.crx_compact.specs.OpenEpochs.{has_come, makes_epoch, tail_opened, opened_raw, opening}
 
 -- a step without a fault takes memory, where its line does
 step-takes : (choices : Choices) (items : List (Item ReadEpoch)) (lines : List ReadLine) (count : ℕ)
     (step : RawStep) → ((is_whole : Bool) → expansion_takes count is_whole ≡ true) → is_faulty step ≡ false
     → Agrees choices items lines (made_of_raw_step step)
     → place_takes expansion_takes items count (compact_beginning items lines) ≡ true
-step-takes choices items lines count (Going so_far) takes fine a = cc (a.2, takes false)
-step-takes choices items lines count (Whole held) takes fine a = cc (a.2, takes true)
-step-takes choices items lines count (Faulty fault) takes fine a = absurd (cc)
+step-takes choices items lines count step takes fine a = grind (arith, common_steps)
 
 -- a step that makes an epoch takes memory, where the epoch's last line does
 last-takes : (choices : Choices) (items : List (Item ReadEpoch)) (lines : List ReadLine) (count : ℕ)
@@ -56,12 +48,6 @@ by-tail : (types : List Count) (line : List ℕ) (tail : Option Tail)
 by-tail types line None = refl
 by-tail types line (Some before) = grind (arith, common_steps, opened-clock, satellites_of_line, past_of_tail)
 
--- after its first line no epoch has a clock
-first-clock : (types : List Count) (tail : Option Tail) (line : ReadLine)
-    → clock_read (first_step types tail line) ≡ false
-first-clock types tail Overlong = refl
-first-clock types tail (Content line) = by-tail types line (tail_for_line tail line)
-
 -- where the clock line has come, two lines are before the next one
 takes-next : (items : List (Item ReadEpoch)) (lines : List ReadLine) (so_far : OpenRawEpoch) → compact_open
     items lines ≡ Some so_far → has_come so_far.clock ≡ true → expansion_takes (length lines) true ≡ true
@@ -77,17 +63,9 @@ takes-next items (line ∷ []) so_far opens read = by_event (begins_event (line 
     of_step step = refl
 
     by_event : (b : Bool) → begins_event (line ∷ []) ≡ b → expansion_takes 1 true ≡ true
-    by_event true e = absurd (none-some so_far (sym (closed e) ∙ opens))
-      where
-        closed : begins_event (line ∷ []) ≡ true → compact_open items (line ∷ []) ≡ None
-        closed h = rw h refl
-    by_event false e = false-true
-        (sym (ap clock_of (same e) ∙ of_step (first_step (types_in_force items) (tail_of_items items) line)
-        ∙ first-clock (types_in_force items) (tail_of_items items) line) ∙ ap clock_of opens ∙ read)
-      where
-        same : begins_event (line ∷ []) ≡ false → compact_open items (line ∷ [])
-            ≡ open_raw_with (types_in_force items) (tail_of_items items) (line ∷ [])
-        same h = rw h refl
+    by_event true e = grind (arith, common_steps, none-some, begins_event, compact_open)
+    by_event false e =
+        grind (arith, common_steps, false-true, clock_of, of_step, first_step, types_in_force, by-tail)
 takes-next items (one ∷ two ∷ lines) so_far opens read = refl
 
 takes-always : (is_whole : Bool) → expansion_takes 0 is_whole ≡ true

@@ -1,22 +1,18 @@
 -- The memory that a compaction and a check take, by what is at their lines.
 use Rattle.crx_filter.proofs.Words
-use Words.{ℕ, zero, suc, ◌≡◌, Bool, true, false, List, [], ◌∷◌, ◌++◌, length, Some, Result, Ok, Err, refl, ap}
-use Words.{◌∙◌, ◌+◌, arith, At, none-some, ReadLine, Content, Fault, OpenEpoch, next_row, rows_wanted}
-use Words.{with_next_row, Epoch, Row, FileUnit, Observation, EpochStep, Going, Whole, Faulty, after_row}
-use Words.{epoch_step, when_wanted, Choices, Item, types_in_force, compaction_takes, memory_allowed}
+use Words.{common_steps, ℕ, suc, ◌≡◌, Bool, true, false, List, [], ◌∷◌, ◌++◌, length, Some, Result, Ok}
+use Words.{Err, refl, ap, ◌∙◌, ◌+◌, arith, At, none-some, ReadLine, Content, Fault, OpenEpoch, next_row}
+use Words.{rows_wanted, with_next_row, Epoch, Row, FileUnit, Observation, EpochStep, Faulty, after_row}
+use Words.{epoch_step, Choices, Item, types_in_force, compaction_takes, memory_allowed}
 use Words.{place_takes, rinex_reading, takes_memory, checking, no_choices, totals_of, compaction}
 use Words.{made_of_epoch_step, rinex_begins, Written, compaction_seen, rinex_open, written_of, Completes}
-use Words.{Direction, Made, Notice, Seen, seen_next, seen_of, compact_unit, rinex_place}
-use Rattle.std.specs.Result.{is_ok}
-use Rattle.crx_filter.specs.meaning.Memory.{check_takes}
-use Rattle.crx_filter.specs.CompactionByLine.{is_whole_at_once}
+use Words.{Direction, Made, Notice, Seen, seen_next, seen_of, compact_unit, rinex_place, false-true}
 use Rattle.crx_filter.proofs.following.Check.{check-carried_out, printed_after}
-use Rattle.crx_filter.proofs.following.Compaction.{compaction-carried_out}
-use Rattle.crx_filter.proofs.following.Following.{AgreeOn}
-use Rattle.crx_filter.proofs.Choosing.{false-true}
+use Rattle.crx_filter.proofs.following.{Compaction.compaction-carried_out, Following.AgreeOn}
 use Rattle.crx_filter.proofs.following.Memory.{TakesAsItStands, allowed-again, allowed-first}
-use Rattle.crx_filter.proofs.reading.Forward.{rinex-forward, rinex_beginning}
-use Rattle.crx_filter.proofs.reading.Stopping.{reading-stopped}
+use Rattle.crx_filter.proofs.reading.{Forward.{rinex-forward, rinex_beginning}, Stopping.reading-stopped}
+use Rattle.crx_filter.specs.{CompactionByLine.is_whole_at_once, meaning.Memory.check_takes}
+use Rattle.std.specs.Result.{is_ok}
 
 -- ---- satellites' lines
 
@@ -24,13 +20,9 @@ abbrev is_fine : EpochStep → Bool
 is_fine (Faulty fault) = false
 is_fine step = true
 
-fine-when : (wanted : ℕ) (so_far : OpenEpoch) → is_fine (when_wanted wanted so_far) ≡ true
-fine-when zero so_far = refl
-fine-when (suc wanted) so_far = refl
-
 fine-row : (so_far : OpenEpoch) (r : Result Row Fault) → is_ok r ≡ true → is_fine (after_row so_far r) ≡ true
 fine-row so_far (Err fault) e = false-true e
-fine-row so_far (Ok row) e = fine-when (rows_wanted (with_next_row so_far row)) (with_next_row so_far row)
+fine-row so_far (Ok row) e = grind (arith, common_steps, rows_wanted, with_next_row)
 
 module _ {K : Type 0} (direction : Direction Epoch OpenEpoch K) (kept_of : List (Item Epoch) → K)
     (unit_lines : List (Item Epoch) → FileUnit Epoch → List (List ℕ)) (choices : Choices)
@@ -45,9 +37,7 @@ module _ {K : Type 0} (direction : Direction Epoch OpenEpoch K) (kept_of : List 
   step-takes : (count : ℕ) → ((is_whole : Bool) → takes count is_whole ≡ true) → (step : EpochStep)
       → is_fine step ≡ true → AgreeOn rinex_beginning direction rinex_open kept_of unit_lines choices items
       lines (made_of_epoch_step step) → place_takes takes items count (rinex_beginning items lines) ≡ true
-  step-takes count sure (Going so_far) e a = ap (place_takes takes items count) a.2 ∙ sure false
-  step-takes count sure (Whole epoch) e a = ap (place_takes takes items count) a.2 ∙ sure true
-  step-takes count sure (Faulty fault) e a = false-true e
+  step-takes count sure e h a = grind (arith, common_steps, place_takes, false-true)
 
 -- an epoch's line is before it
 after-first : (takes : ℕ → Bool → Bool) → ((count : ℕ) (is_whole : Bool) → takes (suc count) is_whole ≡ true)

@@ -1,24 +1,18 @@
 -- Where the reading of compact text starts anew, it depends on the types in force alone.
 use Rattle.crx_filter.proofs.Words
-use Words.{[], ℕ, zero, suc, ◌≡◌, ◌+◌, ◌<◌, max, Bool, true, cond, List, ◌∷◌, ◌++◌, drop, Option, Some, None}
-use Words.{refl, sym, ◌∙◌, arith, subst, append_assoc, and_parts, ⊤, ReadLine, Content, Overlong, Fault, At}
-use Words.{begins_epoch, is_event_line, records_in, Count, Place, Here, one_line, first_line, FileUnit}
-use Words.{HeaderLine, EventLine, EventRecord, Observation, block_of, ReadEpoch, epoch_at, Item, Accepted}
+use Words.{common_steps, [], ℕ, zero, suc, ◌≡◌, ◌+◌, ◌<◌, max, Bool, true, cond, List, ◌∷◌, ◌++◌, drop}
+use Words.{Option, Some, None, refl, sym, ◌∙◌, arith, subst, append_assoc, and_parts, ⊤, ReadLine, Content}
+use Words.{Overlong, Fault, At, begins_epoch, is_event_line, records_in, Count, Place, Here, one_line}
+use Words.{first_line, FileUnit, HeaderLine, EventRecord, block_of, ReadEpoch, epoch_at, Item, Accepted}
 use Words.{Warned, header_has_ended, records_announced, records_left, records_count_types, types_in_force}
 use Words.{unless_wrong, types_fault, event_record, Reading, Stop, AtFault, AtLines, Looking, is_skipped}
 use Words.{looked_for, reading_within, after_fault, raws_kept, empties_state, event_line, as_observation}
-use Words.{compact_place, starts_anew, GoOnAlike, ap}
+use Words.{compact_place, starts_anew, GoOnAlike, by_bool}
+use Rattle.crx_filter.proofs.following.{Following.body-place, Lines.record-place}
+use Rattle.crx_filter.proofs.reading.{ForwardCompact.compact_beginning, Resuming.by_place, WhatStands.OfHere}
+use Rattle.crx_filter.{proofs.reading.WhatStands.{of-unit, of-compact}, specs.Anew.DependsOnTypes}
 use Rattle.crx_header.proofs.Counts.{types_of-push}
 use Rattle.crx_compact.proofs.reading.Forgetting.{forgets}
-use Rattle.crx_filter.specs.Anew.{DependsOnTypes}
-use Rattle.crx_filter.proofs.Choosing.{by_bool}
-use Rattle.crx_filter.proofs.reading.Resuming.{by_place}
-use Rattle.crx_filter.proofs.reading.WhatStands.{OfHere, of-unit, of-compact}
-use Rattle.crx_filter.proofs.following.Following.{body-place}
-use Rattle.crx_filter.proofs.following.Lines.{record-place}
-use Rattle.crx_filter.proofs.reading.ForwardCompact.{compact_beginning}
-
--- ---- the types after a record
 
 -- ---- two lists of items that are alike
 
@@ -43,9 +37,7 @@ MayFollow items unit = ⊤
 
 pub alike-unit : (a b : List (Item ReadEpoch)) (unit : FileUnit ReadEpoch)
     → MayFollow a unit → AreAlike a b → AreAlike (Accepted unit ∷ a) (Accepted unit ∷ b)
-alike-unit a b (HeaderLine line) f h = absurd f
-alike-unit a b (EventRecord line) f h = grind (arith, types_of-push)
-alike-unit a b unit f h = grind arith
+alike-unit a b unit f h = grind (arith, common_steps, types_of-push)
 
 same-unit : (a b : List (Item ReadEpoch)) (unit : FileUnit ReadEpoch)
     → MayFollow a unit → AreSame a b → AreSame (Accepted unit ∷ a) (Accepted unit ∷ b)
@@ -53,11 +45,7 @@ same-unit a b unit f h = record { alike = alike-unit a b unit f h.alike; block =
   where
     block-same : (unit : FileUnit ReadEpoch) → MayFollow a unit
         → block_of (raws_kept (Accepted unit ∷ a)) ≡ block_of (raws_kept (Accepted unit ∷ b))
-    block-same (HeaderLine line) f = absurd f
-    block-same (EventLine line) f = h.block
-    block-same (EventRecord line) f = by_bool (empties_state (records_count_types b) line)
-        (λ on. rw (h.alike.counts f, on) refl) (λ off. rw (h.alike.counts f, off) h.block)
-    block-same (Observation read) f = rw h.block refl
+    block-same unit f = grind (arith, common_steps, by_bool, empties_state, records_count_types)
 
 same-warned : (a b : List (Item ReadEpoch)) (at : At) → AreAlike a b → AreSame (Warned at ∷ a) (Warned at ∷ b)
 same-warned a b at h = grind arith
@@ -66,9 +54,7 @@ same-warned a b at h = grind arith
 
 event-same : (a b : List (Item ReadEpoch)) (left : ℕ) (lines : List ReadLine)
     → AreAlike a b → records_left a ≡ suc left → compact_place a lines ≡ compact_place b lines
-event-same a b left lines h some = record-place compact_beginning a left lines h.one some
-    ∙ ap (λ c. first_line lines (event_record c)) (h.counts (omega (arith, some)))
-    ∙ sym (record-place compact_beginning b left lines h.two (sym h.left ∙ some))
+event-same a b left lines h some = grind (arith, common_steps, record-place)
 
 place-same : (a b : List (Item ReadEpoch)) (lines : List ReadLine)
     → AreSame a b → (n : ℕ) → records_left a ≡ n → compact_place a lines ≡ compact_place b lines
@@ -209,10 +195,7 @@ module _ (skip : Bool) (units : ℕ) (ih : IsAnew skip units)
     where
       next : (lines : List ReadLine) → starts_anew (suc left) lines ≡ true
           → Next lines (first_line lines (event_record (records_count_types a)))
-      next [] anew = tt
-      next (Overlong ∷ lines) anew = tt
-      next (Content line ∷ lines) anew =
-          anew-record line lines left (cond (records_count_types a) (types_fault line) None) e anew
+      next lines anew = grind (arith, common_steps, anew-record, left, cond, records_count_types, types_fault)
 
 reads-anew : (skip : Bool) (units : ℕ) → IsAnew skip units
 reads-anew skip zero a b number lines left h e anew = stopped (AtLines number lines)

@@ -1,8 +1,9 @@
 -- What an expansion has written.
-use Rattle.crx_filter.proofs.Words.{ℕ, ◌≡◌, ◌+◌, List, [], ◌++◌, length, drop, sym, refl, Bool, append-nil}
-use Rattle.crx_filter.proofs.Words.{drop-append-le, ReadLine, Place, Here, Remains, ReadEpoch, Choices, Item}
-use Rattle.crx_filter.proofs.Words.{reading_from, whole_reading, first_lines, compact_place, whole_compact}
-use Rattle.crx_filter.proofs.Words.{expanded_unit, expanded, expanded_so_far, compact_reading, IsWrittenFirst}
+use Rattle.crx_filter.proofs.Words.{common_steps, arith, ℕ, ◌≡◌, ◌+◌, List, [], ◌++◌, length, drop, sym, refl}
+use Rattle.crx_filter.proofs.Words.{Bool, append-nil, drop-append-le, ReadLine, Place, Here, Remains}
+use Rattle.crx_filter.proofs.Words.{ReadEpoch, Choices, Item, reading_from, whole_reading, first_lines}
+use Rattle.crx_filter.proofs.Words.{compact_place, whole_compact, expanded_unit, expanded, expanded_so_far}
+use Rattle.crx_filter.proofs.Words.{compact_reading, IsWrittenFirst}
 use Rattle.crx_filter.proofs.reading.ForwardCompact.{compact-forward, steady-first_lines}
 use Rattle.crx_filter.proofs.reading.Prefixes.{AreMore, text-more, reading-items, whole-items}
 
@@ -44,9 +45,5 @@ whole-more skip lines more p e = rw (e, compact_reading) (from-none _)
 
 pub expanded-first : (choices : Choices) (lines : List ReadLine)
     → IsWrittenFirst expanded_so_far (λ input (c : Choices). (expanded input c).output) choices lines
-expanded-first choices lines = record {
-  longer = λ more. text-more expanded_unit _ _ (reading-more choices.skip lines more (first_lines lines)
-      refl);
-  whole = λ input more e. rw e (text-more expanded_unit _ _ (whole-more choices.skip lines more
-      (first_lines lines) refl));
-}
+expanded-first choices lines =
+    grind (arith, common_steps, text-more, expanded_unit, reading-more, first_lines, whole-more)

@@ -1,19 +1,15 @@
 -- The end of the input, in both directions.
-use Rattle.crx_filter.proofs.Words.{ℕ, ◌≡◌, ◌+◌, Bool, List, [], length, drop, Some, refl, subst, arith}
-use Rattle.crx_filter.proofs.Words.{append-nil, length-drop, ReadLine, Place, Here, Wrong, Wanted, Remains}
-use Rattle.crx_filter.proofs.Words.{ReadEpoch, Choices, WholeReading, reading_from, ended_reading}
-use Rattle.crx_filter.proofs.Words.{warnings_in, seen_end, rinex_place, compact_unit, rinex_reading}
-use Rattle.crx_filter.proofs.Words.{compaction, rinex_open, written_of, compact_place, first_lines}
-use Rattle.crx_filter.proofs.Words.{fault_in_first_lines, expanded_unit, expanded_lines, expansion}
-use Rattle.crx_filter.proofs.Words.{compact_open, tail_of_items, IsEndedBy}
+use Rattle.crx_filter.proofs.Words
+use Words.{ℕ, ◌≡◌, ◌+◌, Bool, List, [], length, drop, Some, refl, subst, arith, append-nil, length-drop}
+use Words.{ReadLine, Place, Here, Wrong, Wanted, Remains, ReadEpoch, Choices, WholeReading, reading_from}
+use Words.{ended_reading, warnings_in, seen_end, rinex_place, compact_unit, rinex_reading, compaction}
+use Words.{rinex_open, written_of, compact_place, first_lines, fault_in_first_lines, expanded_unit}
+use Words.{expanded_lines, expansion, compact_open, tail_of_items, IsEndedBy}
+use Rattle.crx_filter.proofs.following.{Expansion.expansion-carried_out, Compaction.compaction-carried_out}
+use Rattle.crx_filter.proofs.{following.ExpandedOn.{reading_by, seen_by}, reading.Stopping.reading-stopped}
+use Rattle.crx_filter.proofs.reading.{Forward.rinex-forward, Ending.next-end, ForwardCompact.compact-forward}
+use Rattle.crx_filter.proofs.reading.ForwardCompact.{steady-first_lines, compact_beginning}
 use Rattle.crx_filter.specs.Laws.{IsCompactionEnded, IsExpansionEnded}
-use Rattle.crx_filter.proofs.reading.Forward.{rinex-forward}
-use Rattle.crx_filter.proofs.reading.ForwardCompact.{compact-forward, steady-first_lines, compact_beginning}
-use Rattle.crx_filter.proofs.reading.Stopping.{reading-stopped}
-use Rattle.crx_filter.proofs.following.Compaction.{compaction-carried_out}
-use Rattle.crx_filter.proofs.following.Expansion.{expansion-carried_out}
-use Rattle.crx_filter.proofs.following.ExpandedOn.{reading_by, seen_by}
-use Rattle.crx_filter.proofs.reading.Ending.{next-end}
 
 pub compaction-ended : (choices : Choices) (lines : List ReadLine) → IsCompactionEnded choices lines
 compaction-ended choices lines =
@@ -25,8 +21,7 @@ compaction-ended choices lines =
 -- the whole reading of compact text by what is at its first two lines
 abbrev whole_by : Bool → List ReadLine → Place (List (List ℕ)) → WholeReading ReadEpoch
 whole_by skip lines p = elim p [
-  | Here two count ↦ ended_reading skip (reading_from compact_place skip [] (count + 1)
-      (drop count lines))
+  | Here two count ↦ ended_reading skip (reading_from compact_place skip [] (count + 1) (drop count lines))
   | Wrong offset fault ↦ record { items = []; fault = Some (record { line = offset + 1; fault = fault }) }
   | Wanted ↦ record {
     items = [];

@@ -1,18 +1,16 @@
 -- The end of the input, wherever a reading has stopped.
 use Rattle.crx_filter.proofs.Words
-use Words.{ℕ, zero, suc, ◌≡◌, ◌+◌, Bool, true, false, cond, List, [], ◌∷◌, length, Option, Some, None, refl}
-use Words.{ap, sym, ◌∙◌, rules, ◌&&◌, ◌==◌, nat_lt, none-some, ReadLine, Fault, MissingVersion, Truncated}
-use Words.{Place, Wanted, Count, FileUnit, Choices, Item, is_at_start, header_has_ended, records_left}
-use Words.{records_count_types, types_in_force, header_line, event_record, unit_place, WholeReading, Stop}
-use Words.{AtLines, is_skipped, fault_at_end, ended_with, ended_reading, is_skippable, written_lines}
-use Words.{warnings_in, Phase, InHeader, BetweenUnits, InEvent, InEpoch, Direction, Step, is_skipped_in}
-use Words.{kept_in, seen_end, phase_in_body, phase_after_items, seen_of, IsEndedBy}
-use Rattle.crx_base.specs.declared.fault.Fault.TheVariants.{NoEndOfHeader}
-use Rattle.crx_filter.specs.LineByLine.{end_step}
-use Rattle.crx_filter.proofs.Choosing.{by_bool}
+use Words.{common_steps, arith, ℕ, zero, suc, ◌≡◌, ◌+◌, Bool, true, false, cond, List, [], ◌∷◌, length}
+use Words.{Option, Some, None, refl, ap, sym, ◌∙◌, ◌&&◌, ◌==◌, nat_lt, none-some, ReadLine, Fault}
+use Words.{MissingVersion, Truncated, Place, Wanted, Count, FileUnit, Choices, Item, is_at_start}
+use Words.{header_has_ended, records_left, records_count_types, types_in_force, header_line, event_record}
+use Words.{unit_place, WholeReading, Stop, AtLines, is_skipped, fault_at_end, ended_with, ended_reading}
+use Words.{is_skippable, written_lines, warnings_in, Phase, InHeader, InEvent, InEpoch, Direction, Step}
+use Words.{is_skipped_in, kept_in, seen_end, phase_in_body, phase_after_items, seen_of, IsEndedBy, by_bool}
 use Rattle.crx_filter.proofs.following.Following.{seen_in, IsCarriedOut, skipped-same, body-place, body-phase}
 use Rattle.crx_filter.proofs.following.Lines.{IsStopped, only_none, never-before, never-in-event}
-use Rattle.crx_filter.proofs.following.Lines.{record-place, header-place}
+use Rattle.crx_filter.{proofs.following.Lines.{record-place, header-place}, specs.LineByLine.end_step}
+use Rattle.crx_base.specs.declared.fault.Fault.TheVariants.{NoEndOfHeader}
 
 -- the end after some items, and as it is fed
 abbrev EndsAs : {E O K : Type 0}
@@ -46,9 +44,7 @@ in-header (item ∷ before) e = rw e refl
 
 in-event : {E : Type 0} (items : List (Item E)) (left : ℕ)
     → header_has_ended items ≡ true → records_left items ≡ suc left → fault_at_end items [] ≡ Some Truncated
-in-event [] left e f = absurd (cc)
-in-event (item ∷ before) left e f = let more : nat_lt 0 (suc left) ≡ true = search rules in
-    rw (e, f, more) refl
+in-event items left e f = grind (arith, common_steps, nat_lt)
 
 -- the end after whole units is good
 pub closes-well : {E : Type 0} (items : List (Item E))
@@ -99,14 +95,8 @@ lines-end {O = O} beginning direction open_with kept_of unit_lines choices h ite
     (types_in_force items) (kept_of items) (Some Truncated) (λ f. rw (has_ended, e_left) (never-in-event
     choices.skip left (is_skippable f)) ∙ sym (never-before choices.skip (is_skippable f))))
 lines-end {O = O} beginning direction open_with kept_of
-    unit_lines choices h items number count rest wanted counted true has_ended zero e_left None e_open = rw (
-      body-phase items (open_with items rest) has_ended e_left
-          ∙ ap (λ o. phase_in_body 0 (records_count_types items) o) e_open,
-      ap (λ ls. fault_at_end items ls) (h.wanted_open items rest (sym (body-place
-          beginning items rest has_ended e_left) ∙ wanted) e_open) ∙ closes-well items has_ended e_left,
-    ) (ends-same direction unit_lines choices items count BetweenUnits
-    (types_in_force items) (kept_of items) None (λ f. skipped-same {O = O} choices count BetweenUnits
-    (types_in_force items) (kept_of items) items f has_ended e_left refl))
+    unit_lines choices h items number count rest wanted counted true has_ended zero e_left None e_open =
+    grind (arith, common_steps, body-phase, body-place, closes-well, ends-same, skipped-same)
 lines-end {O = O} beginning direction open_with kept_of unit_lines choices h items number count [] wanted
     counted true has_ended zero e_left (Some so_far) e_open = absurd (none-some so_far
     (sym (h.none_open items) ∙ e_open))

@@ -1,15 +1,13 @@
 -- A reading stops at faults of lines alone, and so does the end of the input.
-use Rattle.crx_filter.proofs.Words
-use Words.{ℕ, zero, suc, ◌≡◌, ◌+◌, max, Bool, true, List, [], ◌∷◌, length, drop, Option, Some, None, refl}
-use Words.{subst, ⊤, ◌==◌, nat_lt, not, ReadLine, Fault, At, Place, FileUnit, Item, Accepted, Warned}
-use Words.{header_has_ended, records_left, Reading, Stop, AtFault, AtLines, Looking, is_skipped, can_go_on}
-use Words.{looked_for, reading_within, reading_from, fault_at_end, ended_with, after_fault, ended_reading}
-use Words.{whole_reading, rinex_place, whole_rinex, rinex_reading, compact_place, first_lines, whole_compact}
-use Words.{compact_reading, fault_of_stop, is_of_lines}
-use Rattle.crx_filter.proofs.Choosing.{by_bool}
-use Rattle.crx_filter.proofs.reading.Resuming.{by_place, within-here, within-wrong, within-wanted}
-use Rattle.crx_filter.proofs.reading.LineFaults.{IsFineAt, IsFineFault, rinex-fine, compact-fine}
-use Rattle.crx_filter.proofs.reading.LineFaults.{first_lines-fine}
+use Rattle.crx_filter.proofs
+use proofs.Words.{common_steps, arith, ℕ, zero, suc, ◌≡◌, ◌+◌, max, Bool, true, List, [], ◌∷◌, length, drop}
+use proofs.Words.{Option, Some, None, subst, ⊤, nat_lt, ReadLine, At, Place, FileUnit, Item, Accepted}
+use proofs.Words.{Warned, header_has_ended, records_left, Reading, Stop, AtFault, is_skipped, can_go_on}
+use proofs.Words.{looked_for, reading_within, reading_from, fault_at_end, after_fault}
+use proofs.Words.{ended_reading, whole_reading, rinex_place, whole_rinex, rinex_reading, whole_compact}
+use proofs.Words.{compact_reading, fault_of_stop, is_of_lines, by_bool}
+use proofs.reading.LineFaults.{IsFineAt, IsFineFault, rinex-fine, compact-fine, first_lines-fine}
+use proofs.reading.Resuming.{by_place, within-here, within-wrong, within-wanted}
 
 abbrev IsFineStop : Stop → Type 0
 IsFineStop (AtFault at) = is_of_lines at.fault ≡ true
@@ -52,45 +50,25 @@ IsFineEnd (Some at) = is_of_lines at.fault ≡ true
 
 at_end-fine : {E : Type 0} (items : List (Item E)) (lines : List ReadLine)
     → IsFineFault (fault_at_end items lines)
-at_end-fine [] lines = refl
-at_end-fine (item ∷ before) [] =
-    by_bool (not (header_has_ended (item ∷ before))) (λ on. rw on refl) (λ off. by_bool
-    (nat_lt 0 (records_left (item ∷ before))) (λ more. rw (off, more) refl) (λ none. rw (off, none) tt))
-at_end-fine (item ∷ before) (line ∷ lines) = refl
-
-with-fine : {E : Type 0} (skip : Bool) (items : List (Item E)) (number : ℕ) (fault : Option Fault)
-    → IsFineFault fault → IsFineEnd (ended_with skip items number fault).fault
-with-fine skip items number None h = tt
-with-fine skip items number (Some fault) h = by_bool (is_skipped skip items fault) (λ on. rw on tt)
-    (λ off. rw off h)
+at_end-fine items lines = grind (arith, common_steps, by_bool, header_has_ended, nat_lt, records_left)
 
 ended-fine : {E : Type 0} (skip : Bool) (items : List (Item E)) (stop : Stop)
     → IsFineStop stop → IsFineEnd (ended_reading skip (record { items = items; stop = stop })).fault
-ended-fine skip items (AtFault at) h = h
-ended-fine skip items (AtLines number lines) h = search (with-fine, at_end-fine)
-ended-fine skip items (Looking number) h = tt
+ended-fine skip items stop h = grind (arith, common_steps, by_bool, is_skipped, at_end-fine)
 
 whole-fine : {E : Type 0} (place : List (Item E) → List ReadLine → Place (FileUnit E)) → IsFinePlace place
     → (skip : Bool) (number : ℕ) (lines : List ReadLine)
     → IsFineEnd (whole_reading place skip number lines).fault
-whole-fine place h skip number lines =
-    let r = reading_from place skip [] number lines in
-    ended-fine skip r.items r.stop (from-fine place h skip number lines)
+whole-fine place h skip number lines = grind (arith, common_steps, reading_from, ended-fine, from-fine)
 
 -- ---- both directions
 
 of-stop : (stop : Stop) (at : At) → IsFineStop stop → fault_of_stop stop
     ≡ Some at → is_of_lines at.fault ≡ true
-of-stop (AtFault fault) at h e =
-    let same : fault ≡ at = cc in
-    rw (← same) h
-of-stop stop at h e = absurd (cc)
+of-stop stop at h e = grind (arith, common_steps)
 
 of-end : (o : Option At) (at : At) → IsFineEnd o → o ≡ Some at → is_of_lines at.fault ≡ true
-of-end None at h e = absurd (cc)
-of-end (Some fault) at h e =
-    let same : fault ≡ at = cc in
-    rw (← same) h
+of-end o at h e = grind (arith, common_steps)
 
 module _ (skip : Bool) (lines : List ReadLine) (at : At) where
   pub rinex-found : fault_of_stop (rinex_reading skip lines).stop ≡ Some at → is_of_lines at.fault ≡ true
@@ -101,14 +79,7 @@ module _ (skip : Bool) (lines : List ReadLine) (at : At) where
       of-end (whole_rinex skip lines).fault at (whole-fine rinex_place rinex-fine skip 1 lines) e
 
   pub compact-found : fault_of_stop (compact_reading skip lines).stop ≡ Some at → is_of_lines at.fault ≡ true
-  compact-found e = of-stop (compact_reading skip lines).stop at (by_place (first_lines lines)
-      (λ two count e. rw (e, compact_reading) (from-fine compact_place compact-fine skip (count + 1)
-      (drop count lines))) (λ offset fault e. rw (e, compact_reading) (subst (λ (p : Place (List (List ℕ))).
-      IsFineAt p) e (first_lines-fine lines))) (λ e. rw (e, compact_reading) tt)) e
+  compact-found e = grind (arith, common_steps, of-stop, from-fine, compact-fine, first_lines-fine)
 
   pub compact-found-at-end : (whole_compact skip lines).fault ≡ Some at → is_of_lines at.fault ≡ true
-  compact-found-at-end e = of-end (whole_compact skip lines).fault at (by_place
-      (first_lines lines) (λ two count e. rw (e, whole_compact) (whole-fine compact_place compact-fine skip
-      (count + 1) (drop count lines))) (λ offset fault e. rw (e, whole_compact) (subst (λ (p : Place
-      (List (List ℕ))). IsFineAt p) e (first_lines-fine lines))) (λ e. rw (e, whole_compact)
-      (by_bool ((length lines) == 0) (λ on. rw on refl) (λ off. rw off refl)))) e
+  compact-found-at-end e = grind (arith, common_steps, of-end, whole-fine, compact-fine, first_lines-fine)

@@ -1,9 +1,8 @@
 -- What is at a line is certain as soon as its last line has come, in both directions.
-use Rattle.crx_filter.proofs.Words.{◌≡◌, Bool, true, false, cond, List, [], refl, ReadLine, Place, Wanted}
-use Rattle.crx_filter.proofs.Words.{IsSteady, FileUnit, Epoch, epoch_place, Item, types_in_force, unit_place}
-use Rattle.crx_filter.proofs.Words.{rinex_place, IsReadForward}
-use Rattle.crx_rinex.proofs.Steady.{steady-first_line}
-use Rattle.crx_rinex.proofs.OpenEpochs.{steady-epoch_place}
+use Rattle.crx_filter.proofs.Words
+use Words.{◌≡◌, Bool, true, false, cond, List, [], refl, ReadLine, Place, Wanted, IsSteady, FileUnit, Epoch}
+use Words.{epoch_place, Item, types_in_force, unit_place, rinex_place, IsReadForward}
+use Rattle.crx_rinex.proofs.{OpenEpochs.steady-epoch_place, Steady.steady-first_line}
 
 -- where an epoch or an event may begin in RINEX
 abbrev pub rinex_beginning : List (Item Epoch) → List ReadLine → Place (FileUnit Epoch)

@@ -1,12 +1,11 @@
 -- What is at a line of compact text is certain as soon as its last line has come.
-use Rattle.crx_filter.proofs.Words
-use Words.{ℕ, suc, ◌<◌, List, [], ◌∷◌, ◌++◌, length, Result, Ok, Err, refl, ap, arith, ReadLine, Content}
-use Words.{Overlong, FileUnit, Fault, Place, Wanted, one_line, first_line, IsSteady, Remains, IsDecidedAfter}
-use Words.{is_event_line, Count, RawEpoch, past_of_line, ReadEpoch, epoch_begun, epoch_after_line, epoch_at}
-use Words.{Item, types_in_force, raws_kept, event_line, as_observation, compact_epoch_place, compact_place}
-use Words.{first_lines, IsReadForward}
+use Rattle.crx_filter.proofs.Words.{ℕ, suc, ◌<◌, List, [], ◌∷◌, ◌++◌, length, Result, Ok, Err, refl, ap}
+use Rattle.crx_filter.proofs.Words.{arith, ReadLine, Content, Overlong, FileUnit, Fault, Place, Wanted}
+use Rattle.crx_filter.proofs.Words.{one_line, first_line, IsSteady, Remains, IsDecidedAfter, is_event_line}
+use Rattle.crx_filter.proofs.Words.{Count, RawEpoch, past_of_line, ReadEpoch, epoch_begun, epoch_after_line}
+use Rattle.crx_filter.proofs.Words.{epoch_at, Item, types_in_force, raws_kept, event_line, as_observation}
+use Rattle.crx_filter.proofs.Words.{compact_epoch_place, compact_place, first_lines, IsReadForward, by_bool}
 use Rattle.crx_rinex.proofs.Steady.{steady-here, steady-first_line, steady-then}
-use Rattle.crx_filter.proofs.Choosing.{by_bool}
 use Rattle.crx_filter.proofs.reading.Forward.{unit_place-forward}
 use Rattle.crx_compact.proofs.reading.SteadyEpochs.{steady-after_line}
 

@@ -1,11 +1,9 @@
 -- What was accepted of a RINEX file is in place.
-use Rattle.crx_filter.proofs.Words
-use Words.{[], List, ◌∷◌, ReadLine, Epoch, Item, Accepted, Warned, types_in_force, rinex_place, ItemsAreRead}
-use Words.{IsInPlace, AreInPlace}
+use Rattle.crx_filter.proofs.Words.{[], List, ◌∷◌, ReadLine, Epoch, Item, Accepted, Warned, types_in_force}
+use Rattle.crx_filter.proofs.Words.{rinex_place, ItemsAreRead, IsInPlace, AreInPlace}
+use Rattle.crx_filter.proofs.reading.{Forward.rinex_beginning, Types.counts-in_force, WhatStands.OfHere}
+use Rattle.crx_filter.proofs.reading.WhatStands.{of-unit, of-rinex}
 use Rattle.crx_rinex.proofs.SoundEpochs.{sound-epoch_place}
-use Rattle.crx_filter.proofs.reading.Types.{counts-in_force}
-use Rattle.crx_filter.proofs.reading.WhatStands.{OfHere, of-unit, of-rinex}
-use Rattle.crx_filter.proofs.reading.Forward.{rinex_beginning}
 
 place-fits : (before : List (Item Epoch)) (lines : List ReadLine)
     → OfHere (IsInPlace before) (rinex_place before lines)

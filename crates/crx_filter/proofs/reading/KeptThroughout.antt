@@ -1,8 +1,7 @@
 -- What each step of a reading keeps holds of all that it has accepted.
 use Rattle.crx_filter.proofs.Words.{ℕ, zero, suc, ◌≡◌, ◌+◌, max, Bool, true, List, [], ◌∷◌, drop, ReadLine}
 use Rattle.crx_filter.proofs.Words.{At, Place, Here, FileUnit, Item, Accepted, Warned, Reading, is_skipped}
-use Rattle.crx_filter.proofs.Words.{can_go_on, looked_for, after_fault, reading_within}
-use Rattle.crx_filter.proofs.Choosing.{by_bool}
+use Rattle.crx_filter.proofs.Words.{can_go_on, looked_for, after_fault, reading_within, by_bool}
 use Rattle.crx_filter.proofs.reading.Resuming.{by_place, within-here, within-wrong, within-wanted}
 
 module _ {E : Type 0} (place : List (Item E) → List ReadLine → Place (FileUnit E)) (skip : Bool)
@@ -30,10 +29,9 @@ module _ {E : Type 0} (place : List (Item E) → List ReadLine → Place (FileUn
   pub within-kept : IsKept → (units : ℕ) (items : List (Item E)) (number : ℕ) (lines : List ReadLine)
       → Keeps items lines → KeptIn (reading_within place skip units items number lines).items
   within-kept k zero items number lines h = (lines, h)
-  within-kept k (suc units) items number lines h = by_place (place items lines)
-      (λ unit count e. rw (within-here place skip units items number lines unit count e) (within-kept k units
-      (Accepted unit ∷ items) (number + count) (drop count lines) (k.here items lines unit count e h)))
-      (λ offset fault e.
+  within-kept k (suc units) items number lines h = by_place (place items lines) (λ unit count e. rw
+      (within-here place skip units items number lines unit count e) (within-kept k units (Accepted unit
+      ∷ items) (number + count) (drop count lines) (k.here items lines unit count e h))) (λ offset fault e.
       let at : At = record { line = number + offset; fault = fault } in
       rw (within-wrong place skip units items number lines offset fault e)
       (by_bool (is_skipped skip items fault) (λ on. rw (on, after_fault) (looked-kept k

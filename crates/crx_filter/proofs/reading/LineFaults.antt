@@ -1,34 +1,25 @@
 -- The faults that a reading finds are those of lines, or of the end of the input.
 use Rattle.crx_filter.proofs.Words
-use Words.{[], ℕ, ℤ, zero, suc, ◌≡◌, ◌∷◌, ◌+◌, ◌*◌, Bool, true, cond, List, drop, Option, Some, None, Result}
-use Words.{Ok, Err, refl, ⊤, ◌==◌, ◌&&◌, not, list_all, bytes_eq, columns, character_at, is_blank, clock_of}
-use Words.{ReadLine, HEAD_WIDTH, NAME_WIDTH, CLOCK_WIDTH, Fault, OutOfMemory, MissingVersion, BadEpoch}
-use Words.{RepeatedSatellite, BadField, BadFlags, Truncated, is_kept, HeadLine, is_event_flag, records_in}
-use Words.{epoch_count, begins_epoch, event_head, epoch_head, head_of, OpenEpoch, Beginning, EventBegins}
-use Words.{EpochBegins, with_next_row, next_row, rows_at, begun_by, beginning_of, unit_begun, epoch_place}
-use Words.{has_satellite, Row, Epoch, Count, Place, Wrong, first_line, types_of_satellite, row_of, FileUnit}
-use Words.{HeaderLine, EventRecord, ReadEpoch, epoch_at, RawEpoch, CRINEX_PROGRAM_LABEL, Item, is_at_start}
-use Words.{records_count_types, unless_wrong, types_fault, header_line_fault, header_line, event_record}
-use Words.{unit_place, rinex_place, compact_epoch_place, compact_place, crinex_version, crinex_program}
-use Words.{first_lines, is_skippable, is_of_lines, EventHead, EpochHead, nat_lt, Content, Overlong}
+use Words.{common_steps, arith, [], ℕ, ℤ, zero, suc, ◌≡◌, ◌∷◌, Bool, true, cond, List, Option, Some, None}
+use Words.{Result, Ok, Err, refl, ⊤, ◌==◌, ◌&&◌, not, list_all, bytes_eq, columns, character_at, is_blank}
+use Words.{clock_of, ReadLine, HEAD_WIDTH, Fault, MissingVersion, is_kept, HeadLine, is_event_flag}
+use Words.{records_in, epoch_count, begins_epoch, event_head, epoch_head, head_of, OpenEpoch, Beginning}
+use Words.{EventBegins, EpochBegins, with_next_row, next_row, rows_at, begun_by, beginning_of, unit_begun}
+use Words.{epoch_place, has_satellite, Epoch, Count, Place, Wrong, first_line, FileUnit, EventRecord}
+use Words.{ReadEpoch, epoch_at, RawEpoch, CRINEX_PROGRAM_LABEL, Item, is_at_start, records_count_types}
+use Words.{unless_wrong, types_fault, header_line, event_record, unit_place, rinex_place, compact_epoch_place}
+use Words.{compact_place, crinex_version, crinex_program, first_lines, is_of_lines, nat_lt, Content, Overlong}
 use Words.{is_event_line, event_line, as_observation, header_has_ended, records_left, one_line}
+use Rattle.crx_filter.proofs.reading.{WhatStands.chosen, EpochFaults.{FaultsPass, FaultsPassAt, place-then}}
+use Rattle.crx_filter.proofs.reading.EpochFaults.{place-first, IsSkippableAt, epoch-skippable}
+use Rattle.crx_filter.{proofs.reading.EpochFaults.place-observation, specs.meaning.UnitPlaces.first_fault}
 use Rattle.crx_text.specs.meaning.Columns.{without_blanks}
-use Rattle.crx_base.specs.declared.limits.TheConstants.{CELL_WIDTH}
-use Rattle.crx_base.specs.declared.fault.Fault.TheVariants.{InputTooLong, ReadFailed, WriteFailed}
 use Rattle.crx_base.specs.declared.fault.Fault.TheVariants.{UnsupportedVersion, NotObservation, BadTypesLine}
 use Rattle.crx_base.specs.declared.fault.Fault.TheVariants.{NotCompact, BadProgLine, NotAnEpoch}
-use Rattle.crx_header.specs.meaning.Header.{is_supported, first_header_fault}
-use Rattle.crx_header.specs.declared.labels.TheConstants.{VERSION_LABEL}
-use Rattle.crx_header.specs.meaning.Label.{has_label}
-use Rattle.crx_rinex.specs.meaning.EpochPlaces.{row_if_new, row_at}
-use Rattle.crx_header.specs.meaning.ObservationTypes.{is_bad_types_line}
-use Rattle.crx_rinex.specs.meaning.SatelliteLines.{values_in, flags_in, row_with, row_of_types}
+use Rattle.crx_header.specs.meaning.{Label.has_label, ObservationTypes.is_bad_types_line, Header.is_supported}
+use Rattle.crx_header.specs.{meaning.Header.first_header_fault, declared.labels.TheConstants.VERSION_LABEL}
 use Rattle.crx_header.specs.declared.crinex.TheConstants.{CRINEX_VERSION, CRINEX_VERSION_LABEL}
-use Rattle.crx_filter.specs.meaning.UnitPlaces.{first_fault}
-use Rattle.crx_filter.proofs.reading.EpochFaults.{FaultsPass, FaultsPassAt, place-then, place-first}
-use Rattle.crx_filter.proofs.reading.EpochFaults.{IsSkippableAt, epoch-skippable, place-observation}
-use Rattle.crx_filter.proofs.reading.WhatStands.{chosen}
-use Rattle.crx_rinex.proofs.SoundEpochs.{with_clock}
+use Rattle.crx_rinex.specs.meaning.{EpochPlaces.row_at, SatelliteLines.{values_in, flags_in, row_with}}
 
 -- ---- results, options and places whose faults are those of lines
 
@@ -62,9 +53,7 @@ version-fine line = chosen IsFineFault (not (has_label VERSION_LABEL line)) (Som
     _ refl (chosen IsFineFault (not (character_at line 21 == 79)) (Some NotObservation) None refl tt))
 
 header-fine : (E : Type 0) (is_first : Bool) (line : List ℕ) → IsFine (header_line {E = E} is_first line)
-header-fine E is_first line = fine-unless (HeaderLine line) (header_line_fault is_first line)
-    (fault-first (cond is_first (first_header_fault line) None) (types_fault line)
-    (chosen IsFineFault is_first (first_header_fault line) None (version-fine line) tt) (types-fine line))
+header-fine E is_first line = grind (arith, common_steps, fine-unless, fault-first, version-fine, types-fine)
 
 record-fine : (E : Type 0) (counted : Bool) (line : List ℕ) → IsFine (event_record {E = E} counted line)
 record-fine E counted line = fine-unless (EventRecord line) (cond counted (types_fault line) None)
@@ -84,40 +73,17 @@ event_head-fine : (flag : ℕ) (count : Option ℕ) → IsFine (event_head flag 
 event_head-fine flag None = refl
 event_head-fine flag (Some count) = tt
 
-clock-fine : (head : List ℕ) (count : ℕ) (clock : Option (Option ℤ)) → IsFine (with_clock head count clock)
-clock-fine head count None = refl
-clock-fine head count (Some clock) = tt
-
 epoch_head-fine : (line : List ℕ) (count : Option ℕ) → IsFine (epoch_head line count)
-epoch_head-fine line None = refl
-epoch_head-fine line (Some count) =
-    chosen IsFine (not (list_all is_blank (drop (HEAD_WIDTH + CLOCK_WIDTH) line))) (Err BadEpoch) _ refl
-    (clock-fine (columns line 1 HEAD_WIDTH) count (clock_of (columns line (HEAD_WIDTH + 1) CLOCK_WIDTH)))
+epoch_head-fine line count = grind (arith, common_steps, chosen, list_all, is_blank, columns, clock_of)
 
 begun-fine : (line : List ℕ) (r : Result HeadLine Fault) → IsFine r → IsFine (begun_by line r)
-begun-fine line (Err fault) a = a
-begun-fine line (Ok (EventHead flag count)) a = tt
-begun-fine line (Ok (EpochHead head count clock)) a = tt
+begun-fine line r a = grind (arith, common_steps)
 
 row_with-fine : (m : ℕ) (line : List ℕ) (values : Option (List (Option ℤ))) → IsFine (row_with m line values)
-row_with-fine m line None = refl
-row_with-fine m line (Some values) =
-    chosen IsFine (not (list_all is_blank (drop (CELL_WIDTH * m + NAME_WIDTH) line)))
-    (Err BadField) _ refl (chosen IsFine (not (list_all is_kept (flags_in m line))) (Err BadFlags) _ refl tt)
-
-row_of_types-fine : (line : List ℕ) (m : Option ℕ) → IsFine (row_of_types line m)
-row_of_types-fine line None = refl
-row_of_types-fine line (Some m) = row_with-fine m line (values_in m line)
-
-new_row-fine : (rows : List Row) (r : Result Row Fault) → IsFine r → IsFine (row_if_new rows r)
-new_row-fine rows (Err fault) a = a
-new_row-fine rows (Ok row) a =
-    chosen IsFine (has_satellite row.name rows) (Err RepeatedSatellite) (Ok row) refl tt
+row_with-fine m line values = grind (arith, common_steps, chosen, list_all, is_blank, is_kept, flags_in)
 
 next_row-fine : (so_far : OpenEpoch) (line : List ℕ) → IsFine (next_row so_far line)
-next_row-fine so_far line = chosen IsFine (begins_epoch line)
-    (Err Truncated) (row_if_new so_far.rows (row_of so_far.types line)) refl (new_row-fine so_far.rows
-    (row_of so_far.types line) (row_of_types-fine line (types_of_satellite so_far.types line)))
+next_row-fine so_far line = grind (arith, common_steps, chosen, has_satellite, row_with-fine, values_in)
 
 rows-fine : (so_far : OpenEpoch) (count : ℕ) (lines : List ReadLine) → IsFineAt (rows_at so_far count lines)
 rows-fine so_far zero lines = tt
@@ -143,16 +109,8 @@ rinex-fine items lines = search (unit-fine, epoch-fine)
 
 -- ---- compact text
 
--- a fault that can be skipped is one of lines
-skippable-fine : (fault : Fault) → is_skippable fault ≡ true → is_of_lines fault ≡ true
-skippable-fine InputTooLong e = absurd (cc)
-skippable-fine ReadFailed e = absurd (cc)
-skippable-fine WriteFailed e = absurd (cc)
-skippable-fine OutOfMemory e = absurd (cc)
-skippable-fine fault e = refl
-
 place-skippable : {X : Type 0} (p : Place X) → IsSkippableAt p → IsFineAt p
-place-skippable (Wrong offset fault) h = skippable-fine fault h
+place-skippable (Wrong offset fault) h = grind (arith, common_steps)
 place-skippable p h = tt
 
 observation-fine : (types : List Count) (older : List RawEpoch) (lines : List ReadLine)

@@ -1,12 +1,10 @@
 -- What is written for some lines is at the beginning of what is written for more lines.
-use Rattle.crx_filter.proofs.Words
-use Words.{ℕ, ◌≡◌, ◌+◌, Bool, List, [], ◌∷◌, ◌++◌, length, refl, ap, sym, ◌∙◌, append_assoc, append-nil}
-use Words.{flat_map-append, ReadLine, Place, FileUnit, Item, Accepted, Warned, Stop, AtFault, AtLines}
-use Words.{Looking, reading_within, reading_from, ended_reading, whole_reading, continued_reading}
-use Words.{IsReadForward, lines_text, Begins, written_lines}
-use Rattle.crx_filter.proofs.reading.KeptThroughout.{IsKept, looked-kept, within-kept}
-use Rattle.crx_filter.proofs.reading.Resuming.{resumed}
-use Rattle.crx_filter.proofs.reading.WhatWasRead.{of-ended}
+use Rattle.crx_filter.proofs.{reading.WhatWasRead.of-ended, Words.{ℕ, ◌≡◌, ◌+◌, Bool, List, [], ◌∷◌, ◌++◌}}
+use Rattle.crx_filter.proofs.Words.{length, refl, ap, sym, ◌∙◌, append_assoc, append-nil, flat_map-append}
+use Rattle.crx_filter.proofs.Words.{ReadLine, Place, FileUnit, Item, Accepted, Warned, Stop, AtFault, AtLines}
+use Rattle.crx_filter.proofs.Words.{Looking, reading_within, reading_from, ended_reading, whole_reading}
+use Rattle.crx_filter.proofs.Words.{continued_reading, IsReadForward, lines_text, Begins, written_lines}
+use Rattle.crx_filter.proofs.reading.{Resuming.resumed, KeptThroughout.{IsKept, looked-kept, within-kept}}
 
 -- some items with others before them
 pub record AreMore {E : Type 0} (items all : List (Item E)) : Type 0 where

@@ -1,11 +1,10 @@
 -- A reading goes on from where it stopped, once more lines have come.
-use Rattle.crx_filter.proofs.Words
-use Words.{ℕ, zero, suc, ◌≡◌, ◌+◌, max, ◌<◌, ◌≤◌, Bool, true, false, List, [], ◌∷◌, ◌++◌, length, drop, refl}
-use Words.{arith, length-append, drop-append-le, length-drop, ReadLine, Fault, At, Place, Here, Wrong, Wanted}
-use Words.{FileUnit, Item, Accepted, Warned, Reading, AtFault, AtLines, is_skipped, can_go_on, looked_for}
-use Words.{after_fault, reading_within, reading_from, continued_reading, IsReadForward}
-use Rattle.crx_filter.specs.Laws.{IsResumed}
-use Rattle.crx_filter.proofs.Choosing.{by_bool}
+use Rattle.crx_filter.{specs.Laws.IsResumed, proofs.Words.{common_steps, ℕ, zero, suc, ◌≡◌, ◌+◌, max, ◌<◌}}
+use Rattle.crx_filter.proofs.Words.{◌≤◌, Bool, true, false, List, [], ◌∷◌, ◌++◌, length, drop, refl, arith}
+use Rattle.crx_filter.proofs.Words.{length-append, drop-append-le, length-drop, ReadLine, Fault, At, Place}
+use Rattle.crx_filter.proofs.Words.{Here, Wrong, Wanted, FileUnit, Item, Accepted, Warned, Reading, AtFault}
+use Rattle.crx_filter.proofs.Words.{AtLines, is_skipped, can_go_on, looked_for, after_fault, reading_within}
+use Rattle.crx_filter.proofs.Words.{reading_from, continued_reading, IsReadForward, by_bool}
 
 -- ---- what is at a place
 
@@ -74,9 +73,7 @@ module _ {E : Type 0} (read : ℕ → List ReadLine → Reading E) (items : List
 
 pub by_place : {Y X : Type 0} (p : Place Y) → ((x : Y) (count : ℕ) → p ≡ Here x count → X)
     → ((offset : ℕ) (fault : Fault) → p ≡ Wrong offset fault → X) → (p ≡ Wanted → X) → X
-by_place (Here x count) here wrong wanted = here x count refl
-by_place (Wrong offset fault) here wrong wanted = wrong offset fault refl
-by_place Wanted here wrong wanted = wanted refl
+by_place p here wrong wanted = grind (arith, common_steps)
 
 -- ---- the bound on units doesn't matter where it is high enough
 

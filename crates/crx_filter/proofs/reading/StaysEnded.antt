@@ -1,22 +1,12 @@
 -- Once a fault has ended the run, more lines change nothing.
-use Rattle.crx_filter.proofs.Words.{ℕ, ◌≡◌, ◌+◌, Bool, List, [], ◌++◌, drop, Option, Some, refl, ap, sym, ◌∙◌}
-use Rattle.crx_filter.proofs.Words.{drop-append-le, none-some, ReadLine, At, Place, Here, Wrong, Wanted}
-use Rattle.crx_filter.proofs.Words.{FileUnit, ReadEpoch, Item, Reading, Stop, AtFault, AtLines, reading_from}
-use Rattle.crx_filter.proofs.Words.{ended_reading, whole_reading, continued_reading, IsReadForward}
-use Rattle.crx_filter.proofs.Words.{fault_of_stop, rinex_place, whole_rinex, rinex_reading, compact_place}
-use Rattle.crx_filter.proofs.Words.{first_lines, whole_compact, compact_reading}
-use Rattle.crx_filter.specs.Laws.{StaysEnded}
-use Rattle.crx_filter.proofs.reading.Resuming.{resumed}
-use Rattle.crx_filter.proofs.reading.Forward.{rinex-forward}
-use Rattle.crx_filter.proofs.reading.ForwardCompact.{compact-forward}
-use Rattle.crx_filter.proofs.reading.CompactPrefixes.{remains, reading-at, whole-at}
-
-gone-same : {E : Type 0} (place : List (Item E) → List ReadLine → Place (FileUnit E))
-    (skip : Bool) (items : List (Item E)) (stop : Stop) (more : List ReadLine) (at : At) → fault_of_stop stop
-    ≡ Some at → continued_reading place skip (record { items = items; stop = stop }) more
-    ≡ record { items = items; stop = stop }
-gone-same place skip items (AtFault fault) more at e = refl
-gone-same place skip items stop more at e = absurd (none-some at e)
+use Rattle.crx_filter.proofs.Words
+use Words.{common_steps, arith, ℕ, ◌≡◌, ◌+◌, Bool, List, [], ◌++◌, drop, Option, Some, refl, ap, sym, ◌∙◌}
+use Words.{drop-append-le, none-some, ReadLine, At, Place, Here, Wrong, Wanted, FileUnit, ReadEpoch, Item}
+use Words.{Reading, Stop, AtFault, reading_from, ended_reading, whole_reading}
+use Words.{IsReadForward, fault_of_stop, rinex_place, whole_rinex, rinex_reading, compact_place, first_lines}
+use Words.{whole_compact, compact_reading}
+use Rattle.crx_filter.proofs.reading.{ForwardCompact.compact-forward, Resuming.resumed, Forward.rinex-forward}
+use Rattle.crx_filter.{proofs.reading.CompactPrefixes.{remains, reading-at, whole-at}, specs.Laws.StaysEnded}
 
 ended-same : {E : Type 0} (skip : Bool) (items : List (Item E)) (stop : Stop) (at : At) → fault_of_stop stop
     ≡ Some at → ended_reading skip (record { items = items; stop = stop })
@@ -29,13 +19,10 @@ stays-from : {E : Type 0} (place : List (Item E) → List ReadLine → Place (Fi
     → fault_of_stop (reading_from place skip [] number lines).stop ≡ Some at
     → StaysEnded (reading_from place skip [] number) (whole_reading place skip number) lines more at
 stays-from place h skip number lines more at e =
-    let r = reading_from place skip [] number lines in
-    let same = resumed place h skip [] number lines more ∙ gone-same _ _ _ _ _ _ e in
-    record { same = same; ended = cc (same, ended-same skip r.items r.stop at e) }
+    grind (arith, common_steps, reading_from, resumed, none-some, ended-same)
 
-pub rinex-stays : (skip : Bool) (lines more : List ReadLine) (at : At)
-    → fault_of_stop (rinex_reading skip lines).stop
-    ≡ Some at → StaysEnded (rinex_reading skip) (whole_rinex skip) lines more at
+pub rinex-stays : (skip : Bool) (lines more : List ReadLine) (at : At) → fault_of_stop (rinex_reading skip
+    lines).stop ≡ Some at → StaysEnded (rinex_reading skip) (whole_rinex skip) lines more at
 rinex-stays skip lines more at e = stays-from rinex_place rinex-forward skip 1 lines more at e
 
 -- ---- compact text
@@ -49,10 +36,6 @@ wrong-whole : (skip : Bool) (lines : List ReadLine) (offset : ℕ) (fault : _) �
     ≡ Wrong offset fault → whole_compact skip lines
     ≡ record { items = []; fault = Some (record { line = offset + 1; fault = fault }) }
 wrong-whole skip lines offset fault e = rw (e, whole_compact) refl
-
-wanted-reading : (skip : Bool) (lines : List ReadLine)
-    → first_lines lines ≡ Wanted → compact_reading skip lines ≡ record { items = []; stop = AtLines 1 lines }
-wanted-reading skip lines e = rw (e, compact_reading) refl
 
 by-first_lines : (skip : Bool) (lines more : List ReadLine) (at : At) (p : Place (List (List ℕ)))
     → first_lines lines ≡ p → fault_of_stop (compact_reading skip lines).stop
@@ -77,8 +60,8 @@ by-first_lines skip lines more at (Wrong offset fault) e f =
           { items = []; fault = o }) (sym (ap (λ (r : Reading ReadEpoch). fault_of_stop r.stop) now) ∙ f)
           ∙ ap (λ (r : Reading ReadEpoch). record { items = r.items; fault = Some at }) (sym now);
     }
-by-first_lines skip lines more at Wanted e f = absurd (none-some at
-    (sym (ap (λ (r : Reading ReadEpoch). fault_of_stop r.stop) (wanted-reading skip lines e)) ∙ f))
+by-first_lines skip lines more at Wanted e f =
+    grind (arith, common_steps, none-some, fault_of_stop, compact_reading)
 
 pub compact-stays : (skip : Bool) (lines more : List ReadLine) (at : At) → fault_of_stop (compact_reading
     skip lines).stop ≡ Some at → StaysEnded (compact_reading skip) (whole_compact skip) lines more at

@@ -3,11 +3,9 @@ use Rattle.crx_filter.proofs.Words.{ℕ, zero, suc, ◌≡◌, ◌+◌, max, ◌
 use Rattle.crx_filter.proofs.Words.{refl, arith, length-drop, ReadLine, At, Place, FileUnit, Item, Accepted}
 use Rattle.crx_filter.proofs.Words.{Warned, header_has_ended, records_left, Reading, is_skipped, looked_for}
 use Rattle.crx_filter.proofs.Words.{after_fault, reading_within, reading_from, IsReadForward, can_go_on}
-use Rattle.crx_filter.proofs.Choosing.{by_bool}
-use Rattle.crx_filter.proofs.reading.Resuming.{by_place, here-within, wrong-within, within-here, within-wrong}
-use Rattle.crx_filter.proofs.reading.Resuming.{within-wanted}
-use Rattle.crx_filter.proofs.reading.WhatWasRead.{allowed}
-use Rattle.crx_filter.proofs.following.Lines.{IsStopped}
+use Rattle.crx_filter.proofs.{Words.by_bool, following.Lines.IsStopped, reading.Resuming.by_place}
+use Rattle.crx_filter.proofs.reading.Resuming.{here-within, wrong-within, within-here, within-wrong}
+use Rattle.crx_filter.proofs.reading.{Resuming.within-wanted, WhatWasRead.allowed}
 
 looked-stopped : {E : Type 0} (place : List (Item E) → List ReadLine → Place (FileUnit E))
     (items : List (Item E)) (read : ℕ → List ReadLine → Reading E)

@@ -1,17 +1,13 @@
 -- What holds of each thing that can be at some lines holds of the one that is there.
 use Rattle.crx_filter.proofs.Words
-use Words.{[], ℕ, zero, suc, ◌≡◌, ◌+◌, nat_lt, rules, ◌<◌, Bool, true, false, cond, List, ◌∷◌, Option, Some}
-use Words.{None, Result, Ok, Err, refl, ap, arith, ⊤, is_some, list_all, not, drop, clock_of, columns}
-use Words.{character_at, is_blank, ReadLine, Content, Overlong, Fault, BadEpoch, LineTooLong, HEAD_WIDTH}
-use Words.{CLOCK_WIDTH, begins_epoch, is_event_flag, is_event_line, records_in, epoch_count, event_head}
-use Words.{epoch_head, head_of, Count, Beginning, EventBegins, EpochBegins, opened, begun_by, beginning_of}
-use Words.{rest_at, unit_begun, epoch_place, Epoch, Place, Here, Wrong, Wanted, after_lines, then_place}
-use Words.{one_line, first_line, FileUnit, HeaderLine, EventLine, EventRecord, Observation, ReadEpoch}
-use Words.{epoch_at, RawEpoch, Item, is_at_start, header_has_ended, records_left, records_count_types}
-use Words.{unless_wrong, types_fault, header_line_fault, unit_place, event_line, as_observation}
-use Words.{compact_epoch_place}
-use Rattle.crx_rinex.proofs.SoundEpochs.{with_clock}
-use Rattle.crx_filter.proofs.Choosing.{by_bool}
+use Words.{common_steps, [], ℕ, zero, suc, ◌≡◌, nat_lt, rules, ◌<◌, Bool, true, false, cond, List, ◌∷◌}
+use Words.{Option, Some, None, Result, Ok, Err, refl, ap, arith, ⊤, is_some, character_at, ReadLine, Content}
+use Words.{Overlong, Fault, BadEpoch, LineTooLong, is_event_line, records_in, event_head, epoch_head, Count}
+use Words.{Beginning, EventBegins, EpochBegins, opened, begun_by, beginning_of, rest_at, unit_begun}
+use Words.{epoch_place, Epoch, Place, Here, Wrong, Wanted, after_lines, then_place, one_line, first_line}
+use Words.{FileUnit, HeaderLine, EventLine, EventRecord, Observation, ReadEpoch, epoch_at, RawEpoch, Item}
+use Words.{is_at_start, header_has_ended, records_left, records_count_types, unless_wrong, types_fault}
+use Words.{header_line_fault, unit_place, event_line, as_observation, compact_epoch_place, by_bool}
 
 -- what holds of a thing that is somewhere
 abbrev pub OfHere : {X : Type 0} → (X → Type 0) → Place X → Type 0
@@ -36,27 +32,12 @@ event-begun : (line : List ℕ) (o : Option ℕ) → is_event_line line ≡ true
 event-begun line None e f = tt
 event-begun line (Some count) e f = (refl, e, ap is_some f)
 
-clock-begun : (line head : List ℕ) (count : ℕ) (o : Option (Option _))
-    → IsBeginning line (begun_by line (with_clock head count o))
-clock-begun line head count None = tt
-clock-begun line head count (Some clock) = tt
-
 epoch-begun : (line : List ℕ) (o : Option ℕ) → IsBeginning line (begun_by line (epoch_head line o))
 epoch-begun line None = tt
-epoch-begun line (Some count) = chosen (λ r. IsBeginning line (begun_by line r))
-    (not (list_all is_blank (drop (HEAD_WIDTH + CLOCK_WIDTH) line))) (Err BadEpoch) (with_clock
-    (columns line 1 HEAD_WIDTH) count (clock_of (columns line (HEAD_WIDTH + 1) CLOCK_WIDTH))) tt (clock-begun
-    line (columns line 1 HEAD_WIDTH) count (clock_of (columns line (HEAD_WIDTH + 1) CLOCK_WIDTH)))
+epoch-begun line (Some count) = grind (arith, common_steps)
 
 line-begun : (line : List ℕ) → IsBeginning line (beginning_of line)
-line-begun line = by_bool (begins_epoch line) (λ on. by_bool (is_event_flag (character_at line 32))
-    (λ event. rw (on, event, head_of) (event-begun line (records_in line) (is_event on event) refl))
-    (λ other. rw (on, other, head_of) (epoch-begun line (epoch_count (columns line 1 HEAD_WIDTH)))))
-    (λ off. rw (off, head_of) tt)
-  where
-    is_event : begins_epoch line ≡ true → is_event_flag (character_at line 32) ≡ true
-        → is_event_line line ≡ true
-    is_event a b = rw (a, b) refl
+line-begun line = grind (arith, common_steps, event-begun, epoch-begun)
 
 -- ---- what holds wherever a unit may be
 
@@ -78,12 +59,11 @@ module _ {E : Type 0} (P : Place (FileUnit E) → Type 0) (wanted : P Wanted)
   -- a header line, an event's record, or what may begin there
   pub of-unit : (beginning : List (Item E) → List ReadLine → Place (FileUnit E)) (items : List (Item E))
       (lines : List ReadLine) → ((line : List ℕ) (rest : List ReadLine) → lines ≡ Content line ∷ rest
-      → header_has_ended items ≡ false → header_line_fault (is_at_start items) line ≡ None
-      → P (Here (HeaderLine line) 1)) → ((line : List ℕ) (rest : List ReadLine) → lines ≡ Content line ∷ rest
-      → header_has_ended items ≡ true → 0 < records_left items
-      → cond (records_count_types items) (types_fault line) None ≡ None → P (Here (EventRecord line) 1))
-      → (header_has_ended items ≡ true → records_left items ≡ 0 → P (beginning items lines))
-      → P (unit_place beginning items lines)
+      → header_has_ended items ≡ false → header_line_fault (is_at_start items) line ≡ None → P
+      (Here (HeaderLine line) 1)) → ((line : List ℕ) (rest : List ReadLine) → lines ≡ Content line ∷ rest
+      → header_has_ended items ≡ true → 0 < records_left items → cond (records_count_types items)
+      (types_fault line) None ≡ None → P (Here (EventRecord line) 1)) → (header_has_ended items ≡ true
+      → records_left items ≡ 0 → P (beginning items lines)) → P (unit_place beginning items lines)
   of-unit beginning items lines header copied begun = by_bool (header_has_ended items)
       (λ on. body on (records_left items) refl) (λ off. rw off (copied-line HeaderLine
       (header_line_fault (is_at_start items)) lines (λ line rest is. header line rest is off)))
@@ -99,18 +79,15 @@ module _ {E : Type 0} (P : Place (FileUnit E) → Type 0) (wanted : P Wanted)
 
   observed : (p : Place E) → ((epoch : E) (count : ℕ) → p ≡ Here epoch count
       → P (Here (Observation epoch) count)) → P (as_observation p)
-  observed (Here epoch count) h = h epoch count refl
-  observed (Wrong offset fault) h = wrong offset fault
-  observed Wanted h = wanted
+  observed p h = grind (arith, common_steps)
 
 -- where an epoch or an event of RINEX may begin
 module _ (P : Place (FileUnit Epoch) → Type 0) (wanted : P Wanted)
     (wrong : (offset : ℕ) (fault : Fault) → P (Wrong offset fault)) where
   pub of-rinex : (types : List Count) (lines : List ReadLine) → ((line : List ℕ) (rest : List ReadLine)
-      → lines ≡ Content line ∷ rest → is_event_line line ≡ true → is_some (records_in line) ≡ true
-      → P (Here (EventLine line) 1)) → ((epoch : Epoch) (count : ℕ)
-      → epoch_place types lines ≡ Here (Observation epoch) count → P (Here (Observation epoch) count))
-      → P (epoch_place types lines)
+      → lines ≡ Content line ∷ rest → is_event_line line ≡ true → is_some (records_in line) ≡ true → P
+      (Here (EventLine line) 1)) → ((epoch : Epoch) (count : ℕ) → epoch_place types lines ≡ Here
+      (Observation epoch) count → P (Here (Observation epoch) count)) → P (epoch_place types lines)
   of-rinex types [] event epoch = wanted
   of-rinex types (Overlong ∷ lines) event epoch = wrong 0 LineTooLong
   of-rinex types (Content line ∷ lines) event epoch = by_beginning (beginning_of line) refl (line-begun line)
@@ -118,9 +95,7 @@ module _ (P : Place (FileUnit Epoch) → Type 0) (wanted : P Wanted)
       by_rest : (head : _) → beginning_of line ≡ Ok (EpochBegins head) → (p : Place Epoch)
           → rest_at (opened types head) lines ≡ p
           → P (after_lines 1 (then_place p lines (λ (e : Epoch) rest. Here (Observation e) 0)))
-      by_rest head e (Here found count) f = epoch found _ (rw (e, f) refl)
-      by_rest head e (Wrong offset fault) f = wrong _ fault
-      by_rest head e Wanted f = wanted
+      by_rest head e h f = grind (arith, common_steps)
 
       by_beginning : (r : Result Beginning Fault) → beginning_of line ≡ r → IsBeginning line r
           → P (then_place (one_line r) (Content line ∷ lines) (unit_begun types))
@@ -131,11 +106,10 @@ module _ (P : Place (FileUnit Epoch) → Type 0) (wanted : P Wanted)
 -- where an epoch or an event of compact text may begin
 module _ (P : Place (FileUnit ReadEpoch) → Type 0) (wanted : P Wanted)
     (wrong : (offset : ℕ) (fault : Fault) → P (Wrong offset fault)) where
-  pub of-compact : (types : List Count) (raws : List RawEpoch) (lines : List ReadLine)
-      → ((line : List ℕ) (rest : List ReadLine) → lines ≡ Content line ∷ rest → is_event_line line ≡ true
-      → is_some (records_in line) ≡ true → P (Here (EventLine line) 1)) → ((read : ReadEpoch) (count : ℕ)
-      → epoch_at types raws lines ≡ Here read count → P (Here (Observation read) count))
-      → P (compact_epoch_place types raws lines)
+  pub of-compact : (types : List Count) (raws : List RawEpoch) (lines : List ReadLine) → ((line : List ℕ)
+      (rest : List ReadLine) → lines ≡ Content line ∷ rest → is_event_line line ≡ true → is_some (records_in
+      line) ≡ true → P (Here (EventLine line) 1)) → ((read : ReadEpoch) (count : ℕ) → epoch_at types raws
+      lines ≡ Here read count → P (Here (Observation read) count)) → P (compact_epoch_place types raws lines)
   of-compact types raws [] event read = wanted
   of-compact types raws (Overlong ∷ lines) event read = observed P wanted wrong _ read
   of-compact types raws (Content line ∷ lines) event read = by_bool (is_event_line line)

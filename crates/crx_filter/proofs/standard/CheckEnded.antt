@@ -1,20 +1,15 @@
 -- The end of the input, as a check takes it; and which files it names as standard.
 use Rattle.crx_filter.proofs.Words
-use Words.{ℕ, ◌≡◌, ◌+◌, false, List, [], ◌∷◌, ◌++◌, map, length, Option, Some, None, refl, ap, sym, ◌∙◌}
-use Words.{append-nil, length-map, none-some, InputLine, ReadLine, seen, Fault, Count, Epoch, HeaderLine}
-use Words.{OpenEpoch, Item, Accepted, Warned, is_at_start, Reading, WholeReading, Stop, AtFault, AtLines}
-use Words.{fault_at_end, ended_with, ended_reading, rinex_place, whole_rinex, rinex_reading, Phase, InEpoch}
-use Words.{Seen, kept_in, seen_end, AreInPlace, failed_by, fault_of_stop, printed_items, whole_reading_of}
-use Words.{Totals, checking, totals_of, printed_open, no_choices, check_seen}
-use Rattle.crx_filter.specs.meaning.Standard.{first_header_line, version_in}
-use Rattle.crx_filter.specs.CheckByLine.{version_accepted}
-use Rattle.crx_filter.specs.CheckingLaws.{IsCheckEnded}
-use Rattle.crx_filter.proofs.following.Following.{seen_in}
-use Rattle.crx_filter.proofs.following.Check.{check-end}
-use Rattle.crx_filter.proofs.following.CheckedOn.{same-seen, as-many}
-use Rattle.crx_filter.proofs.reading.InPlace.{items-in_place}
-use Rattle.crx_filter.proofs.reading.WhatWasRead.{items-read}
-use Rattle.crx_filter.proofs.wayback.Carried.{started}
+use Words.{common_steps, arith, ℕ, ◌≡◌, ◌+◌, false, List, [], ◌∷◌, ◌++◌, map, length, Option, Some, None}
+use Words.{refl, ap, sym, ◌∙◌, append-nil, none-some, InputLine, ReadLine, seen, Fault, Count, Epoch}
+use Words.{HeaderLine, OpenEpoch, Item, Accepted, Warned, is_at_start, Reading, WholeReading}
+use Words.{fault_at_end, ended_with, whole_rinex, rinex_reading, Phase, InEpoch, Seen}
+use Words.{kept_in, seen_end, AreInPlace, failed_by, printed_items, whole_reading_of, Totals}
+use Words.{checking, totals_of, printed_open, no_choices, check_seen}
+use Rattle.crx_filter.proofs.following.{Check.check-end, CheckedOn.{same-seen, as-many}, Following.seen_in}
+use Rattle.crx_filter.proofs.reading.{InPlace.items-in_place, WhatWasRead.items-read}
+use Rattle.crx_filter.{proofs.wayback.Carried.started, specs.CheckByLine.version_accepted}
+use Rattle.crx_filter.specs.{CheckingLaws.IsCheckEnded, meaning.Standard.{first_header_line, version_in}}
 
 -- ---- at the end nothing is accepted and nothing dropped
 
@@ -23,20 +18,9 @@ at-end : (items : List (Item Epoch)) (number : ℕ) (fault : Option Fault)
 at-end items number None = refl
 at-end items number (Some fault) = refl
 
-same-items : (items : List (Item Epoch)) (stop : Stop)
-    → WholeReading.items (ended_reading false (record { items = items; stop = stop })) ≡ items
-same-items items (AtLines number lines) = at-end items (number + length lines) (fault_at_end items lines)
-same-items items stop = refl
-
 pub whole-items : (lines : List ReadLine)
     → WholeReading.items (whole_rinex false lines) ≡ Reading.items (rinex_reading false lines)
-whole-items lines = let r : Reading Epoch = rinex_reading false lines in same-items r.items r.stop
-
--- where the end is good, no fault ended the reading
-good-stop : (items : List (Item Epoch)) (stop : Stop) → WholeReading.fault
-    (ended_reading false (record { items = items; stop = stop })) ≡ None → fault_of_stop stop ≡ None
-good-stop items (AtFault at) e = e
-good-stop items stop e = refl
+whole-items lines = grind (arith, common_steps, rinex_reading, at-end, fault_at_end)
 
 -- and no epoch is open
 none-open : (number : ℕ) (phase : Phase OpenEpoch) (types : List Count) (kept : Totals) → failed_by
@@ -54,9 +38,7 @@ record IsFirst (items : List (Item Epoch)) : Type 0 where
 
 first-kept : (items : List (Item Epoch)) (more : List (List ℕ)) → IsFirst items → is_at_start items ≡ false
     → version_accepted items ≡ version_in (first_header_line (printed_items items ++ more))
-first-kept items more h e =
-    let some = h.some e in
-    cc
+first-kept items more h e = grind (arith, common_steps)
 
 first-more : (items : List (Item Epoch)) (more : List (List ℕ)) → IsFirst items → is_at_start items ≡ false
     → (first : List ℕ) × (rest : List (List ℕ)) × (printed_items items ++ more ≡ first ∷ rest)
@@ -79,9 +61,7 @@ is-first (Warned at ∷ before) h =
 
 pub version-same : (lines : List ReadLine) → version_accepted (rinex_reading false lines).items
     ≡ version_in (first_header_line (printed_items (rinex_reading false lines).items))
-version-same lines =
-    let r = rinex_reading false lines in
-    (is-first r.items (items-in_place r.items (items-read rinex_place false 1 lines))).version
+version-same lines = grind (arith, common_steps, is-first, items-in_place, items-read)
 
 -- ---- the end
 
@@ -112,11 +92,4 @@ check-ended lines =
 -- where the end is good, printing gives back as many lines as have come
 pub whole-many : (lines : List InputLine) → WholeReading.fault (whole_reading_of lines) ≡ None
     → length (printed_items (whole_reading_of lines).items) ≡ length lines
-whole-many lines good =
-    let r = rinex_reading false (map seen lines) in
-    let s = (check_seen lines).reading in
-    let all = as-many (map seen lines) (let r = rinex_reading false (map seen lines) in good-stop _ _ good)
-    ∙ length-map lines seen in
-    ap (λ (its : List (Item Epoch)). length (printed_items its)) (whole-items (map seen lines))
-    ∙ ap length (sym (append-nil (printed_items r.items))) ∙ ap (λ ls. length (printed_items r.items ++ ls))
-    (sym (none-open s.number s.phase s.types s.kept (sym (check-ended lines).fault ∙ good))) ∙ all
+whole-many lines good = grind (arith, common_steps, as-many, whole-items, none-open, check-ended)

@@ -1,21 +1,18 @@
 -- The lines that printing gives back for some lines of a file, and for one line more.
 use Rattle.crx_filter.proofs.Words
-use Words.{ℕ, zero, suc, ◌≡◌, ◌+◌, ◌-◌, Bool, true, false, cond, List, [], ◌∷◌, ◌++◌, length, drop, Option}
-use Words.{Some, None, Result, Ok, Err, refl, ap, sym, ◌∙◌, append-nil, ⊤, map-append, none-some, ReadLine}
-use Words.{Content, Overlong, Fault, is_end_of_header, Row, Epoch, Count, HeaderLine, EventRecord, last_line}
+use Words.{common_steps, arith, ℕ, zero, suc, ◌≡◌, ◌+◌, ◌-◌, Bool, true, false, cond, List, [], ◌∷◌, ◌++◌}
+use Words.{length, drop, Option, Some, None, Result, Ok, Err, refl, sym, append-nil, ⊤, map-append, none-some}
+use Words.{ReadLine, Content, Fault, is_end_of_header, Row, Epoch, Count, HeaderLine, EventRecord, last_line}
 use Words.{printed_row, printed_epoch, OpenEpoch, Beginning, EventBegins, EpochBegins, opened, rows_wanted}
-use Words.{epoch_of, with_next_row, after_row, when_wanted, Item, Accepted, header_has_ended, records_left}
+use Words.{epoch_of, with_next_row, after_row, Item, Accepted, header_has_ended, records_left}
 use Words.{records_count_types, records_announced, counts_types, unless_wrong, Stop, AtFault, AtLines}
 use Words.{Looking, reading_within, rinex_place, rinex_reading, made_of_epoch_step, made_of_beginning}
-use Words.{rinex_open, Phase, InFirstLines, InHeader, BetweenUnits, InEvent, InEpoch, LookingOn, Closed}
-use Words.{Ended, Made, Completes, Step, made_of_unit, made_in, with_records_left, step_of_made}
-use Words.{phase_in_body, phase_of, failed_by, is_again, Totals, checking, printed_open, printed_made}
-use Words.{no_choices}
+use Words.{rinex_open, Phase, InFirstLines, InHeader, BetweenUnits, InEvent, InEpoch, LookingOn, Closed, Made}
+use Words.{Completes, Step, made_of_unit, made_in, with_records_left, step_of_made, phase_in_body, phase_of}
+use Words.{failed_by, is_again, Totals, checking, printed_open, printed_made, no_choices, by_bool}
+use Rattle.crx_filter.proofs.{Checkers.last-of, following.Following.seen_in, reading.Resuming.by_place}
+use Rattle.crx_filter.proofs.reading.Resuming.{within-here, within-wrong, within-wanted}
 use Rattle.crx_rinex.specs.meaning.Printing.{printed_head}
-use Rattle.crx_filter.proofs.Choosing.{by_bool}
-use Rattle.crx_filter.proofs.following.Following.{seen_in}
-use Rattle.crx_filter.proofs.reading.Resuming.{by_place, within-here, within-wrong, within-wanted}
-use Rattle.crx_filter.proofs.Checkers.{last-of}
 
 -- ---- where nothing is skipped, no line is looked for
 
@@ -41,9 +38,7 @@ IsReached phase = ⊤
 
 body-reached : (left : ℕ) (counted : Bool) (so_far : Option OpenEpoch)
     → IsReached (phase_in_body left counted so_far)
-body-reached zero counted None = tt
-body-reached zero counted (Some so_far) = tt
-body-reached (suc left) counted so_far = tt
+body-reached left counted so_far = grind (arith, common_steps)
 
 stop-reached : (items : List (Item Epoch)) (stop : Stop)
     → IsFound stop → IsReached (phase_of rinex_open (record { items = items; stop = stop }))
@@ -62,9 +57,7 @@ phase-reached lines = let r = rinex_reading false lines in
 row-printed : (so_far : OpenEpoch) (row : Row) → printed_epoch (epoch_of (with_next_row so_far row))
     ≡ printed_epoch (epoch_of so_far) ++ last_line (printed_epoch (epoch_of (with_next_row so_far row))) ∷ []
 row-printed so_far row =
-    let more = ap (λ ls. printed_head so_far.head.head so_far.head.clock ∷ ls) (map-append printed_row
-    so_far.rows (row ∷ [])) in
-    cc (more, more, last-of (printed_epoch (epoch_of so_far)) (printed_row row))
+    grind (arith, common_steps, printed_head, map-append, printed_row, last-of, printed_epoch, epoch_of)
 
 -- ---- one line more
 
@@ -94,39 +87,21 @@ record-grows number left counted types kept content None f = cc (none-open (left
 record-grows number left counted types kept content (Some fault) f = absurd (none-some _ (sym f))
 
 module _ (number : ℕ) (types : List Count) (kept : Totals) (content : List ℕ) where
-  opened-grows : (head : _) (wanted : ℕ) → Grows number BetweenUnits types kept
-      (Content content) (made_of_epoch_step (when_wanted wanted (opened types head)))
-  opened-grows head zero f = refl
-  opened-grows head (suc wanted) f = refl
-
   beginning-grows : (b : Result Beginning Fault)
       → Grows number BetweenUnits types kept (Content content) (made_of_beginning types b)
   beginning-grows (Err fault) f = absurd (none-some _ (sym f))
   beginning-grows (Ok (EventBegins line)) f = cc (none-open (records_announced line) (counts_types line))
-  beginning-grows (Ok (EpochBegins head)) f = opened-grows head (rows_wanted (opened types head)) f
-
-  wanted-grows : (so_far : OpenEpoch) (row : Row) (wanted : ℕ) → Grows number (InEpoch so_far) types kept
-      (Content content) (made_of_epoch_step (when_wanted wanted (with_next_row so_far row)))
-  wanted-grows so_far row zero f =
-      append-nil (printed_epoch (epoch_of (with_next_row so_far row))) ∙ row-printed so_far row
-  wanted-grows so_far row (suc wanted) f = row-printed so_far row
+  beginning-grows (Ok (EpochBegins head)) f = grind (arith, common_steps, rows_wanted, opened)
 
   row-grows : (so_far : OpenEpoch) (row : Result Row Fault)
       → Grows number (InEpoch so_far) types kept (Content content) (made_of_epoch_step (after_row so_far row))
   row-grows so_far (Err fault) f = absurd (none-some _ (sym f))
-  row-grows so_far (Ok row) f = wanted-grows so_far row (rows_wanted (with_next_row so_far row)) f
+  row-grows so_far (Ok row) f = grind (arith, common_steps, append-nil, row-printed)
 
 pub line-grows : (number : ℕ) (phase : Phase OpenEpoch) (types : List Count) (kept : Totals) (line : ReadLine)
     → IsReached phase → Grows number phase types kept line (made_in checking phase types kept line)
-line-grows number (InFirstLines count) types kept line h f = absurd h
-line-grows number (InHeader is_first) types kept (Content content) h f = search (header-grows)
-line-grows number BetweenUnits types kept (Content content) h f = search (beginning-grows)
-line-grows number (InEvent left counted) types kept (Content content) h f = search (record-grows)
-line-grows number (InEpoch so_far) types kept (Content content) h f = search (row-grows)
-line-grows number LookingOn types kept line h f = absurd h
-line-grows number Closed types kept line h f = absurd h
-line-grows number (Ended at) types kept line h f = absurd (none-some at (sym f))
-line-grows number phase types kept Overlong h f = absurd (none-some _ (sym f))
+line-grows number phase types kept line h f =
+    grind (arith, common_steps, header-grows, beginning-grows, record-grows, row-grows, none-some)
 
 -- ---- no line comes again
 

@@ -1,15 +1,11 @@
 -- A file is named as standard exactly where it is; and that is where it comes back.
 use Rattle.crx_filter.proofs.Words.{ℕ, ◌≡◌, ◌+◌, Bool, true, List, [], ◌∷◌, length, Option, Some, None, refl}
 use Rattle.crx_filter.proofs.Words.{arith, list_all, bytes_eq, none-some, and_parts, InputLine, Choices}
-use Rattle.crx_filter.proofs.Words.{is_standard_line, first_not_standard}
+use Rattle.crx_filter.proofs.{Words.{is_standard_line, first_not_standard, by_bool}, reading.Each.contents}
+use Rattle.crx_filter.proofs.{standard.CheckEnded.whole-many, wayback.ReturnsLost.standard-where_same}
+use Rattle.crx_filter.{proofs.wayback.Standard.standard-comes_back, specs.CheckingLaws.IsNamedWhereNot}
+use Rattle.crx_filter.specs.{CheckingLaws.IsStandardExactlyWhereSame, meaning.Standard.report_status}
 use Rattle.crx_compact.proofs.Characters.{bytes_eq-same, bytes_eq-is}
-use Rattle.crx_filter.specs.meaning.Standard.{report_status}
-use Rattle.crx_filter.specs.CheckingLaws.{IsNamedWhereNot, IsStandardExactlyWhereSame}
-use Rattle.crx_filter.proofs.Choosing.{by_bool}
-use Rattle.crx_filter.proofs.wayback.Standard.{standard-comes_back}
-use Rattle.crx_filter.proofs.wayback.ReturnsLost.{standard-where_same}
-use Rattle.crx_filter.proofs.standard.CheckEnded.{whole-many}
-use Rattle.crx_filter.proofs.reading.Each.{contents}
 
 abbrev are_plain : List InputLine → Bool
 are_plain lines = list_all (λ (line : InputLine). line.is_plain) lines

@@ -1,11 +1,10 @@
 -- What passes a check comes back.
-use Rattle.crx_filter.proofs.Words.{ℕ, ◌≡◌, List, Option, Some, None, refl, ap, sym, ◌∙◌, lines_of, At}
-use Rattle.crx_filter.proofs.Words.{Choices, expanded, whole_of, findings_of, checked_by, checked}
-use Rattle.crx_filter.proofs.Words.{FilterResult, IsResult, Device}
-use Rattle.crx_filter.specs.meaning.Standard.{Findings}
-use Rattle.crx_filter.specs.meaning.Lossless.{WhatPassesComesBack, SaysThatItComesBack, BringsBackWhatPasses}
+use Rattle.crx_filter.proofs.Words
+use Words.{ℕ, ◌≡◌, List, Option, Some, None, refl, ap, sym, ◌∙◌, lines_of, At, Choices, expanded, whole_of}
+use Words.{findings_of, checked_by, checked, FilterResult, IsResult, Device}
 use Rattle.crx_filter.proofs.standard.CheckStandard.{named-where_not, none-where_0}
-use Rattle.crx_filter.proofs.wayback.Standard.{standard-comes_back}
+use Rattle.crx_filter.{proofs.wayback.Standard.standard-comes_back, specs.meaning.Standard.Findings}
+use Rattle.crx_filter.specs.meaning.Lossless.{WhatPassesComesBack, SaysThatItComesBack, BringsBackWhatPasses}
 
 -- a check answers 0 only where no fault ended it, and no line was named
 passed : (o : Option At) (found : Findings) → FilterResult.status (checked_by o found) ≡ 0

@@ -1,43 +1,27 @@
 -- A checker takes a line, by what its reader makes of it.
-use Rattle.std.proofs.lemmas.Grind.{common_steps}
-use Rattle.std.proofs.Common.{arith}
-use Rattle.crx_filter.proofs.Words.{map, ℕ, zero, suc, ◌≡◌, ◌⊎◌, inl, inr, ◌+◌, ◌-◌, Bool, true, false, cond}
-use Rattle.crx_filter.proofs.Words.{List, [], ◌∷◌, ◌++◌, Option, Some, None, refl, ap, sym, subst, ◌∙◌}
-use Rattle.crx_filter.proofs.Words.{InputLine, is_long, ReadLine, Content, Overlong, seen, Fault, LineTooLong}
-use Rattle.crx_filter.proofs.Words.{OpenEpoch, is_end_of_header, ObservationEpoch, Count, last_line}
-use Rattle.crx_filter.proofs.Words.{HeaderLine, EventLine, EventRecord, compaction, with_next}
-use Rattle.crx_filter.proofs.Words.{records_announced, counts_types, failed_by, Phase, InFirstLines}
-use Rattle.crx_filter.proofs.Words.{InEvent, LookingOn, Closed, Ended, Seen, Step, Made, Moves}
-use Rattle.crx_filter.proofs.Words.{Fails, made_in, with_records_left, phase_after, types_after, step_of_made}
-use Rattle.crx_filter.proofs.Words.{takes_memory, epoch_by_rows, reader_phase, made_at, Completed}
-use Rattle.crx_filter.proofs.Words.{CompletedEpoch, MovesReader, TakesRinexLine, is_standard_line, Totals}
-use Rattle.crx_filter.proofs.Words.{checking, printed_open, printed_made, earliest, CheckSeen, no_choices}
-use Rattle.crx_filter.proofs.Words.{check_seen, check_next, check_filter, checker_state_with, Held}
-use Rattle.crx_filter.proofs.Words.{RinexReader, RinexStep, Nothing, Header, Event, Record, Begun, length-map}
-use Rattle.crx_filter.proofs.Words.{rinex_open, totals_of, seen_of, rinex_reading}
-use Rattle.crx_rinex.specs.meaning.Units.{Unit}
-use Rattle.crx_filter.specs.CompactionByLine.{is_before_header}
-use Rattle.crx_runs.specs.Engines.{RunsOutAt}
-use Rattle.crx_filter.specs.RinexReaders.{RefusesRinexLine}
-use Rattle.crx_filter.specs.CheckByLine.{totals_with, totals_made, check_step}
-use Rattle.crx_filter.specs.meaning.Directions.{fault_so_far}
-use Rattle.crx_filter.specs.Totals.{totals_held, HasPrinted}
-use Rattle.crx_filter.specs.CheckerState.{is_reading}
-use Rattle.crx_filter.specs.declared.rinex_reader.RinexStep.TheVariants.{Row, Epoch}
-use Rattle.crx_filter.proofs.steps.EngineAnswers.{seen-short, seen-long}
-use Rattle.crx_filter.proofs.following.Following.{seen_in}
-use Rattle.crx_filter.proofs.following.MemoryOfRinex.{check-allowed}
+use Rattle.crx_filter.proofs.Words
+use Words.{common_steps, arith, ℕ, zero, suc, ◌≡◌, ◌⊎◌, inl, inr, ◌+◌, ◌-◌, Bool, true, false, List, []}
+use Words.{Option, Some, None, refl, ap, sym, subst, ◌∙◌, InputLine, is_long, ReadLine, Content, Overlong}
+use Words.{seen, Fault, LineTooLong, OpenEpoch, ObservationEpoch, Count, last_line, EventLine, compaction}
+use Words.{with_next, failed_by, Phase, InFirstLines, Seen, Step, Made, Moves, Fails, made_in}
+use Words.{with_records_left, step_of_made, takes_memory, epoch_by_rows, reader_phase, made_at, Completed}
+use Words.{CompletedEpoch, MovesReader, TakesRinexLine, is_standard_line, Totals, checking, printed_made}
+use Words.{earliest, CheckSeen, no_choices, check_seen, check_next, check_filter, checker_state_with, Held}
+use Words.{RinexReader, RinexStep, Nothing, Header, Event, Record, Begun, length-map, FileUnit as Unit}
+use Words.{false-true}
+use Rattle.crx_filter.proofs.{Checkers.not-none, steps.EngineAnswers.{seen-short, seen-long}}
 use Rattle.crx_filter.proofs.standard.CheckLines.{IsReached, Grows, line-grows}
-use Rattle.crx_filter.proofs.following.CheckedOn.{checked-on}
-use Rattle.crx_filter.proofs.standard.CheckEnded.{kept-always}
-use Rattle.crx_filter.proofs.Checkers.{not-none}
-use Rattle.crx_filter.proofs.Choosing.{false-true}
+use Rattle.crx_filter.proofs.{following.MemoryOfRinex.check-allowed, standard.CheckEnded.kept-always}
+use Rattle.crx_filter.proofs.following.{CheckedOn.checked-on, Following.seen_in}
+use Rattle.crx_filter.specs.{meaning.Directions.fault_so_far, RinexReaders.RefusesRinexLine}
+use Rattle.crx_filter.specs.declared.rinex_reader.RinexStep.TheVariants.{Row, Epoch}
+use Rattle.crx_filter.specs.{CheckerState.is_reading, CheckByLine.{totals_made, check_step}}
+use Rattle.crx_filter.specs.{Totals.{totals_held, HasPrinted}, CompactionByLine.is_before_header}
+use Rattle.crx_runs.specs.Engines.{RunsOutAt}
 
 -- a check keeps nothing of the epochs: what a line makes does not hang on it
-
-made-same : (phase : Phase OpenEpoch) (types : List Count) (kept : Totals) (line : ReadLine)
-    → made_in checking phase types kept line ≡ made_in compaction phase types
-    (record { index = 0; tail = None }) line
+made-same : (phase : Phase OpenEpoch) (types : List Count) (kept : Totals) (line : ReadLine) → made_in
+    checking phase types kept line ≡ made_in compaction phase types (record { index = 0; tail = None }) line
 made-same (InFirstLines count) types kept line = refl
 made-same phase types kept line = refl
 
@@ -50,54 +34,29 @@ StepsTo number totals line before after made =
     (failed_by step.answer ≡ None) × (step.next ≡ seen_in no_choices (number + 1)
     (reader_phase after) after.types (totals_made totals (is_before_header (reader_phase before)) made))
 
-completed-steps : (number : ℕ) (totals : Totals) (line : ReadLine)
-    (before after : RinexReader) (made : Made ObservationEpoch OpenEpoch) (unit : Unit ObservationEpoch)
-    → Completed made unit before after → StepsTo number totals line before after made
-completed-steps number totals line before after made unit h =
-    grind (arith, common_steps, seen_in, no_choices, types_after, reader_phase, totals_with, is_before_header)
-
-moved-steps : (number : ℕ) (totals : Totals) (line : ReadLine) (before after : RinexReader)
-    (made : Made ObservationEpoch OpenEpoch)
-    → MovesReader made before after → StepsTo number totals line before after made
-moved-steps number totals line before after made h =
-    grind (arith, common_steps, seen_in, no_choices, reader_phase, kept-always)
-
 epoch-steps : (number : ℕ) (totals : Totals) (line : ReadLine) (content : List ℕ) (before after : RinexReader)
     (made : Made ObservationEpoch OpenEpoch)
     → CompletedEpoch made content before after → StepsTo number totals line before after made
-epoch-steps number totals line content before after made h =
-    grind (arith, common_steps, completed-steps, epoch_by_rows)
+epoch-steps number totals line content before after made h = grind (arith, common_steps, epoch_by_rows)
 
-steps-to : (number : ℕ) (totals : Totals) (line : ReadLine)
-    (content : List ℕ) (before after : RinexReader) (made : Made ObservationEpoch OpenEpoch)
-    (step : RinexStep)
-    → TakesRinexLine made before content step after → StepsTo number totals line before after made
-steps-to number totals line content before after made Nothing h = grind (arith, common_steps, moved-steps)
-steps-to number totals line content before after made (Header is_first) h = grind (arith, common_steps)
-steps-to number totals line content before after made Event h = grind (arith, common_steps, completed-steps)
-steps-to number totals line content before after made Record h = grind (arith, common_steps, completed-steps)
-steps-to number totals line content before after made Begun (none, inl opened) = grind (arith, common_steps)
-steps-to number totals line content before after made Begun (none, inr whole) = grind (arith, common_steps)
-steps-to number totals line content before after made Row h = grind (arith, common_steps, moved-steps)
-steps-to number totals line content before after made Epoch h = grind (arith, common_steps, epoch-steps)
+steps-to : (number : ℕ) (totals : Totals) (line : ReadLine) (content : List ℕ) (before after : RinexReader)
+    (made : Made ObservationEpoch OpenEpoch) (step : RinexStep) → TakesRinexLine made before content step
+    after → StepsTo number totals line before after made
+steps-to number totals line content before after made step h =
+    grind (arith, common_steps, seen_in, no_choices, reader_phase, kept-always, epoch-steps)
 
 -- ---- lines can come on
 
 reached : (phase : Phase OpenEpoch) → is_reading phase ≡ true → IsReached phase
-reached (InFirstLines count) e = false-true e
-reached LookingOn e = false-true e
-reached Closed e = false-true e
-reached (Ended at) e = false-true e
-reached phase e = tt
+reached phase e = grind (arith, common_steps, false-true)
 
 grows-printed : (number : ℕ) (phase : Phase OpenEpoch) (types : List Count) (kept : Totals) (line : ReadLine)
     (made : Made ObservationEpoch OpenEpoch) → Grows number phase types kept line made → HasPrinted made
 grows-printed number phase types kept line (Moves next) h = grind (arith, common_steps)
 grows-printed number phase types kept line made h = tt
 
-pub has-printed : (before : RinexReader) (content : List ℕ)
-    → is_reading (reader_phase before) ≡ true → HasPrinted
-    (made_at before content (record { index = 0; tail = None }))
+pub has-printed : (before : RinexReader) (content : List ℕ) → is_reading (reader_phase before) ≡ true
+    → HasPrinted (made_at before content (record { index = 0; tail = None }))
 has-printed before content reading =
     let none : Totals = record { version = []; epochs = 0; events = 0; observations = 0 } in
     subst HasPrinted (made-same (reader_phase before) before.types none (Content content))
@@ -110,35 +69,18 @@ left-reading : (left : ℕ) (counted : Bool) → is_reading (with_records_left l
 left-reading zero counted = refl
 left-reading (suc left) counted = refl
 
-unit-reading : (phase : Phase OpenEpoch) (unit : Unit ObservationEpoch)
-    → is_reading phase ≡ true → is_reading (phase_after phase unit) ≡ true
-unit-reading phase (HeaderLine line) e = grind (arith, common_steps, is_end_of_header, is_reading, cond)
-unit-reading phase (EventLine line) e = left-reading (records_announced line) (counts_types line)
-unit-reading (InEvent left counted) (EventRecord line) e = left-reading (left - 1) counted
-unit-reading phase unit e = refl
-
-open-reading : (next : Phase OpenEpoch) (lines : List (List ℕ)) (line : List ℕ)
-    → printed_open next ≡ lines ++ line ∷ [] → is_reading next ≡ true
-open-reading (InFirstLines count) lines line e = not-none lines line e
-open-reading LookingOn lines line e = not-none lines line e
-open-reading Closed lines line e = not-none lines line e
-open-reading (Ended at) lines line e = not-none lines line e
-open-reading next lines line e = refl
-
 completed-reading : (before after : RinexReader) (made : Made ObservationEpoch OpenEpoch)
     (unit : Unit ObservationEpoch) → Completed made unit before after
     → is_reading (reader_phase before) ≡ true → is_reading (reader_phase after) ≡ true
-completed-reading before after made unit h e = ap is_reading h.phase_then
-    ∙ unit-reading (reader_phase before) unit e
+completed-reading before after made unit h e = grind (arith, common_steps, left-reading)
 
 moved-reading : (before after : RinexReader) (made : Made ObservationEpoch OpenEpoch)
     → MovesReader made before after → HasPrinted made → is_reading (reader_phase after) ≡ true
-moved-reading before after made h some = grind (arith, common_steps, reader_phase, open-reading)
+moved-reading before after made h some = grind (arith, common_steps, reader_phase, not-none)
 
-pub still-reading : (before after : RinexReader)
-    (content : List ℕ) (made : Made ObservationEpoch OpenEpoch) (step : RinexStep)
-    → TakesRinexLine made before content step after
-    → HasPrinted made → is_reading (reader_phase before) ≡ true → is_reading (reader_phase after) ≡ true
+pub still-reading : (before after : RinexReader) (content : List ℕ) (made : Made ObservationEpoch OpenEpoch)
+    (step : RinexStep) → TakesRinexLine made before content step after → HasPrinted made → is_reading
+    (reader_phase before) ≡ true → is_reading (reader_phase after) ≡ true
 still-reading before after content made Nothing h some e = moved-reading before after made h.0 some
 still-reading before after content made (Header is_first) h some e = grind (arith, common_steps)
 still-reading before after content made Event h some e =
@@ -152,17 +94,15 @@ still-reading before after content made Epoch h some e = grind (arith, common_st
 
 -- ---- what is seen then
 
-pub took-line : (before after : RinexReader) (number : ℕ)
-    (totals then : Held) (named named_then : Option ℕ) (line : InputLine) (step : RinexStep)
-    (lines : List InputLine) → is_long line ≡ false → TakesRinexLine
+pub took-line : (before after : RinexReader) (number : ℕ) (totals then : Held) (named named_then : Option ℕ)
+    (line : InputLine) (step : RinexStep) (lines : List InputLine) → is_long line ≡ false → TakesRinexLine
     (made_at before line.content (record { index = 0; tail = None })) before line.content step after
-    → totals_held then ≡ totals_made (totals_held totals)
-    (is_before_header (reader_phase before)) (made_at before line.content (record { index = 0; tail = None }))
-    → named_then ≡ earliest named (is_standard_line line
-    (last_line (printed_made (made_at before line.content (record { index = 0; tail = None }))))) (number + 1)
-    → checker_state_with before number totals named ≡ check_seen lines
-    → (fault_so_far (with_next lines line) ≡ None)
-    × (checker_state_with after (number + 1) then named_then ≡ check_seen (with_next lines line))
+    → totals_held then ≡ totals_made (totals_held totals) (is_before_header (reader_phase before)) (made_at
+    before line.content (record { index = 0; tail = None })) → named_then ≡ earliest named (is_standard_line
+    line (last_line (printed_made (made_at before line.content (record { index = 0; tail = None })))))
+    (number + 1) → checker_state_with before number totals named ≡ check_seen lines
+    → (fault_so_far (with_next lines line) ≡ None) × (checker_state_with after (number + 1) then named_then
+    ≡ check_seen (with_next lines line))
 took-line before after number totals then named named_then line step lines short takes totals_then
     named_is same =
     let made : Made ObservationEpoch OpenEpoch = made_at before line.content
@@ -179,21 +119,18 @@ took-line before after number totals then named named_then line step lines short
     let on = checked-on lines line in
     let none : fault_so_far (with_next lines line) ≡ None = on.fault
     ∙ ap (λ (b : CheckSeen). failed_by (check_step b line).answer) (sym same) ∙ good in
-    let reading : (check_step now line).next
-    ≡ seen_in no_choices (number + 1) (reader_phase after) after.types (totals_held then) =
-    ap (λ m. (step_of_made checking now.reading (seen line) m).next) is
-    ∙ steps.1 ∙ ap (λ t. seen_in no_choices (number + 1) (reader_phase after) after.types t)
-    (sym totals_then) in
-    let named_same : earliest named (is_standard_line line (last_line (printed_made
-    (made_in checking (reader_phase before) before.types held (seen line))))) (number + 1) ≡ named_then =
-    ap (λ m. earliest named (is_standard_line line (last_line (printed_made m))) (number + 1)) is
-    ∙ sym named_is in
+    let reading : (check_step now line).next ≡ seen_in no_choices (number + 1) (reader_phase after)
+    after.types (totals_held then) = ap (λ m. (step_of_made checking now.reading (seen line) m).next) is
+    ∙ steps.1 ∙ ap (λ t. seen_in no_choices (number + 1) (reader_phase after) after.types t) (sym
+    totals_then) in
+    let named_same : earliest named (is_standard_line line (last_line (printed_made (made_in checking
+    (reader_phase before) before.types held (seen line))))) (number + 1) ≡ named_then = ap (λ m. earliest
+    named (is_standard_line line (last_line (printed_made m))) (number + 1)) is ∙ sym named_is in
     let next : check_next now line ≡ checker_state_with after (number + 1) then named_then =
     ap (λ (s : Seen OpenEpoch Totals). record {
       reading = s;
-      not_standard = earliest named (is_standard_line line (last_line
-          (printed_made (made_in checking (reader_phase before) before.types held (seen line)))))
-          (number + 1);
+      not_standard = earliest named (is_standard_line line (last_line (printed_made (made_in checking
+          (reader_phase before) before.types held (seen line))))) (number + 1);
     }) reading
     ∙ ap (λ n. record {
       reading = seen_in no_choices (number + 1) (reader_phase after) after.types (totals_held then);
@@ -203,55 +140,38 @@ took-line before after number totals then named named_then line step lines short
 
 -- ---- faults
 
-failed-line : (before : RinexReader)
-    (number : ℕ) (totals : Held) (named : Option ℕ) (line : InputLine) (lines : List InputLine)
-    (fault : Fault)
-    → made_in checking (reader_phase before) before.types (totals_held totals) (seen line) ≡ Fails fault
-    → checker_state_with before number totals named ≡ check_seen lines
-    → fault_so_far (with_next lines line) ≡ Some (record { line = number + 1; fault = fault })
+failed-line : (before : RinexReader) (number : ℕ) (totals : Held) (named : Option ℕ) (line : InputLine)
+    (lines : List InputLine) (fault : Fault) → made_in checking (reader_phase before) before.types
+    (totals_held totals) (seen line) ≡ Fails fault → checker_state_with before number totals named
+    ≡ check_seen lines → fault_so_far (with_next lines line) ≡ Some
+    (record { line = number + 1; fault = fault })
 failed-line before number totals named line lines fault is same =
     let now : CheckSeen = checker_state_with before number totals named in
     (checked-on lines line).fault ∙ ap (λ (b : CheckSeen). failed_by (check_step b line).answer) (sym same)
     ∙ ap (λ m. failed_by (step_of_made checking now.reading (seen line) m).answer) is
 
--- memory may run out at a line of an input as it may by what is seen
-check-allowed-of : (lines : List InputLine) (line : InputLine)
-    → takes_memory checking (check_seen lines).reading (seen line) ≡ true
-    → check_filter.memory_after lines line ≡ Some []
-check-allowed-of lines line e = check-allowed (map seen lines) (seen line)
-    (ap (λ n. takes_memory checking (seen_of checking rinex_open totals_of no_choices n
-    (rinex_reading false (map seen lines))) (seen line)) (length-map lines seen) ∙ e)
-
-pub refused-line : (before : RinexReader)
-    (number : ℕ) (totals : Held) (named : Option ℕ) (line : InputLine) (lines : List InputLine)
-    (fault : Fault) → is_long line ≡ false → RefusesRinexLine (made_at before line.content
-    (record { index = 0; tail = None }))
-    before line.content fault → checker_state_with before number totals named ≡ check_seen lines
-    → RunsOutAt check_filter lines line [] (record { line = number + 1; fault = fault })
-    ⊎ (fault_so_far (with_next lines line) ≡ Some (record { line = number + 1; fault = fault }))
-refused-line before number totals named line lines fault short (inl fails) same =
-    inr (failed-line before number totals named line lines fault
-    (ap (λ l. made_in checking (reader_phase before) before.types (totals_held totals) l)
-    (seen-short line short)
-    ∙ made-same (reader_phase before) before.types (totals_held totals) (Content line.content) ∙ fails) same)
+pub refused-line : (before : RinexReader) (number : ℕ) (totals : Held) (named : Option ℕ) (line : InputLine)
+    (lines : List InputLine) (fault : Fault) → is_long line ≡ false → RefusesRinexLine (made_at before
+    line.content (record { index = 0; tail = None })) before line.content fault → checker_state_with before
+    number totals named ≡ check_seen lines → RunsOutAt check_filter lines line []
+    (record { line = number + 1; fault = fault }) ⊎ (fault_so_far (with_next lines line) ≡ Some
+    (record { line = number + 1; fault = fault }))
+refused-line before number totals named line lines fault short (inl fails) same = inr (failed-line before
+    number totals named line lines fault (ap (λ l. made_in checking (reader_phase before) before.types
+    (totals_held totals) l) (seen-short line short) ∙ made-same (reader_phase before) before.types
+    (totals_held totals) (Content line.content) ∙ fails) same)
 refused-line before number totals named line lines fault short (inr memory) same =
-    grind (arith, common_steps, check-allowed-of, takes_memory, checking, check_seen, seen-short)
+    grind (arith, common_steps, check-allowed, length-map, takes_memory, checking, check_seen, seen-short)
 
 always-too_long : (phase : Phase OpenEpoch) (types : List Count) (kept : Totals)
     → is_reading phase ≡ true → made_in checking phase types kept Overlong ≡ Fails LineTooLong
-always-too_long (InFirstLines count) types kept e = false-true e
-always-too_long LookingOn types kept e = false-true e
-always-too_long Closed types kept e = false-true e
-always-too_long (Ended at) types kept e = false-true e
-always-too_long phase types kept e = refl
+always-too_long phase types kept e = grind (arith, common_steps, false-true)
 
-pub long-line : (before : RinexReader)
-    (number : ℕ) (totals : Held) (named : Option ℕ) (line : InputLine) (lines : List InputLine)
-    → is_long line ≡ true → is_reading (reader_phase before) ≡ true
-    → checker_state_with before number totals named ≡ check_seen lines
-    → fault_so_far (with_next lines line) ≡ Some (record { line = number + 1; fault = LineTooLong })
-long-line before number totals named line lines long reading same =
-    failed-line before number totals named line lines LineTooLong
-    (ap (λ l. made_in checking (reader_phase before) before.types (totals_held totals) l)
-    (seen-long line long)
-    ∙ always-too_long (reader_phase before) before.types (totals_held totals) reading) same
+pub long-line : (before : RinexReader) (number : ℕ) (totals : Held) (named : Option ℕ) (line : InputLine)
+    (lines : List InputLine) → is_long line ≡ true → is_reading (reader_phase before) ≡ true
+    → checker_state_with before number totals named ≡ check_seen lines → fault_so_far (with_next lines line)
+    ≡ Some (record { line = number + 1; fault = LineTooLong })
+long-line before number totals named line lines long reading same = failed-line before number totals named
+    line lines LineTooLong (ap (λ l. made_in checking (reader_phase before) before.types (totals_held totals)
+    l) (seen-long line long) ∙ always-too_long (reader_phase before) before.types (totals_held totals)
+    reading) same

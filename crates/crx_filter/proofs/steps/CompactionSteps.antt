@@ -1,70 +1,26 @@
 -- What a compaction makes of a line: a fault, another stage, a line that is copied, or an epoch.
-use Rattle.std.proofs.lemmas.Grind.{common_steps}
-use Rattle.std.proofs.Common.{arith}
-use Rattle.crx_filter.proofs.Words.{◌≡◌, ◌⊎◌, inl, inr, ℕ, ◌+◌, true, false, List, [], Option, Some, None, Ok}
-use Rattle.crx_filter.proofs.Words.{Err, ◌++◌, ◌∷◌, refl, sym, ◌∙◌, ReadLine, Content, Overlong, Fault}
-use Rattle.crx_filter.proofs.Words.{OutOfMemory, ObservationEpoch, Bool, not, and_parts, false≢true}
-use Rattle.crx_filter.proofs.Words.{begins_epoch, is_event_line, OpenEpoch, EventLine, EventRecord}
-use Rattle.crx_filter.proofs.Words.{HeaderLine, FileUnit, Count, epoch_by_rows, Choices, Written}
-use Rattle.crx_filter.proofs.Words.{compact_written, compaction, written_kept, Phase, InFirstLines}
-use Rattle.crx_filter.proofs.Words.{BetweenUnits, LookingOn, SeenEnded, Made, Completes, Moves, kept_in}
-use Rattle.crx_filter.proofs.Words.{phase_after, types_after, step_of_made, may_take_memory, seen_stage}
-use Rattle.crx_filter.proofs.Words.{epoch_open, is_row, made_at, Completed, CompletedEpoch, TakesRinexLine}
-use Rattle.crx_filter.proofs.Words.{is_open_stage, RinexStep, Nothing, Header, Event, Record, Begun}
-use Rattle.crx_filter.proofs.Words.{MovesReader, Stage, Open, is_at_every, lines_after_tail, tail_after}
-use Rattle.crx_filter.proofs.Words.{reader_phase, RinexReader, ObservationHead}
+use Rattle.crx_filter.proofs.Words
+use Words.{common_steps, arith, ◌≡◌, ◌⊎◌, inl, inr, ℕ, ◌+◌, true, false, List, [], Some, None, Ok, Err, ◌++◌}
+use Words.{◌∷◌, refl, ReadLine, Content, Fault, OutOfMemory, ObservationEpoch, Bool, and_parts, false≢true}
+use Words.{begins_epoch, is_event_line, OpenEpoch, EventLine, EventRecord, HeaderLine, FileUnit}
+use Words.{epoch_by_rows, Choices, Written, compact_written, compaction, written_kept, Phase, Made, Completes}
+use Words.{Moves, phase_after, types_after, may_take_memory, seen_stage, epoch_open, is_row, made_at}
+use Words.{Completed, CompletedEpoch, TakesRinexLine, is_open_stage, RinexStep, Nothing, Header, Begun}
+use Words.{MovesReader, is_at_every, lines_after_tail, tail_after, reader_phase, RinexReader, ObservationHead}
+use Rattle.crx_filter.specs.{CompactionByLine.is_before_header, DirectionParts.{DirectionParts, Reads}}
+use Rattle.crx_filter.specs.DirectionParts.{RefusesLine, made_at_parts, seen_by}
+use Rattle.crx_filter.specs.{RinexReaders.RefusesRinexLine, Stages.is_ended}
 use Rattle.crx_compact.specs.Encoding.{EncoderState, tail_in}
-use Rattle.crx_filter.specs.CompactionByLine.{is_before_header}
-use Rattle.crx_filter.specs.DirectionParts.{DirectionParts, Reads, RefusesLine, made_at_parts, seen_by}
-use Rattle.crx_filter.specs.LineByLine.{Closed as SeenClosed, Quiet, Ready}
-use Rattle.crx_filter.specs.Stages.{is_ended}
-use Rattle.crx_filter.specs.RinexReaders.{RefusesRinexLine}
-use Rattle.crx_filter.specs.declared.rinex_reader.RinexStep.TheVariants.{Row, Epoch}
-use Rattle.crx_filter.specs.declared.stage.Stage.TheVariants.{Ended}
 use Rattle.crx_header.specs.meaning.CompactHeader.{lines_before_header}
-use Rattle.crx_filter.proofs.following.Following.{seen_in}
-
--- what is kept in a phase that no fault has ended
-kept-going : (held : Option OpenEpoch) (stage : Stage) (kept : Written)
-    → is_ended stage ≡ false → kept_in compaction (seen_stage held stage) kept ≡ kept
-kept-going None Open kept e = refl
-kept-going (Some so_far) Open kept e = refl
-kept-going held (Ended at) kept e = absurd (cc)
-kept-going held stage kept e = refl
 
 -- where the reading may take memory, the compaction may
 pub read-or-written : (first : List ℕ → Bool) (next : OpenEpoch → List ℕ → Bool) (phase : Phase OpenEpoch)
     (line : ReadLine) → may_take_memory (λ (l : List ℕ). false) next phase line ≡ true
     → may_take_memory first next phase line ≡ true
-read-or-written first next phase Overlong e = absurd (false≢true e)
-read-or-written first next (InFirstLines count) (Content line) e = e
-read-or-written first next BetweenUnits (Content line) e = grind (arith, common_steps)
-read-or-written first next LookingOn (Content line) e =
-    grind (arith, common_steps, and_parts, not, is_event_line, begins_epoch)
-read-or-written first next SeenClosed (Content line) e = e
-read-or-written first next (SeenEnded at) (Content line) e = e
-read-or-written first next phase (Content line) e = e
+read-or-written first next phase line e =
+    grind (arith, common_steps, false≢true, and_parts, is_event_line, begins_epoch)
 
 -- ---- a line's step, by what it makes
-
-moves-so : (choices : Choices) (number : ℕ) (phase then : Phase OpenEpoch) (types typed : List Count)
-    (kept goes : Written) (line : List ℕ) (made : Made ObservationEpoch OpenEpoch) (ready : List (List ℕ))
-    → made ≡ Moves then → typed ≡ types → kept_in compaction then kept ≡ goes → ready ≡ []
-    → record { answer = Quiet; handed_out = ready; next = seen_in choices (number + 1) then typed goes }
-    ≡ step_of_made compaction (seen_in choices number phase types kept) (Content line) made
-moves-so choices number phase then types typed kept goes line made ready is same going none =
-    rw (is, same, none, ← going) refl
-
-completes-so : (choices : Choices) (number : ℕ) (phase then : Phase OpenEpoch) (types typed : List Count)
-    (kept goes : Written) (line : List ℕ) (unit : FileUnit ObservationEpoch)
-    (made : Made ObservationEpoch OpenEpoch) (ready : List (List ℕ))
-    → made ≡ Completes unit → then ≡ phase_after phase unit → typed ≡ types_after phase types unit
-    → ready ≡ compact_written (seen_in choices number phase types kept) unit
-    → goes ≡ written_kept (seen_in choices number phase types kept) unit
-    → record { answer = Ready; handed_out = ready; next = seen_in choices (number + 1) then typed goes }
-    ≡ step_of_made compaction (seen_in choices number phase types kept) (Content line) made
-completes-so choices number phase then types typed kept goes line unit made ready is phased same lines keeps =
-    rw (is, phased, same, lines, keeps) refl
 
 module _ {serves : Choices → Type 0} {before after : DirectionParts OpenEpoch Written} {line : List ℕ}
     {ready : List (List ℕ)} where
@@ -78,34 +34,16 @@ module _ {serves : Choices → Type 0} {before after : DirectionParts OpenEpoch 
   pub moved-reads : made_at_parts compaction before line ≡ Moves (seen_stage after.begun after.stage)
       → after.types ≡ before.types → is_ended after.stage ≡ false → after.kept ≡ before.kept → ready ≡ []
       → Reads compaction serves before line (Ok false) ready after
-  moved-reads moved typed goes_on same none = record {
-    takes = λ choices number chosen. moves-so choices number (seen_stage before.begun before.stage) _ _ _ _ _
-        line _ ready moved typed (kept-going after.begun after.stage _ goes_on ∙ sym same) none;
-    refuses = tt;
-    types = tt;
-    kept = tt;
-    nothing = tt;
-  }
+  moved-reads moved typed goes_on same none = grind (arith, common_steps, seen_stage)
 
   -- it completes a unit
-  pub completed-reads : (unit : FileUnit ObservationEpoch)
-      → made_at_parts compaction before line ≡ Completes unit
-      → seen_stage after.begun after.stage ≡ phase_after (seen_stage before.begun before.stage) unit
+  pub completed-reads : (unit : FileUnit ObservationEpoch) → made_at_parts compaction before line ≡ Completes
+      unit → seen_stage after.begun after.stage ≡ phase_after (seen_stage before.begun before.stage) unit
       → after.types ≡ types_after (seen_stage before.begun before.stage) before.types unit
-      → ((choices : Choices) (number : ℕ) → serves choices
-      → (ready ≡ compact_written (seen_by choices number before) unit)
-      × (after.kept ≡ written_kept (seen_by choices number before) unit))
-      → Reads compaction serves before line (Ok true) ready after
-  completed-reads unit made phased typed written = record {
-    takes = λ choices number chosen.
-        let w = written choices number chosen in
-        completes-so choices number (seen_stage before.begun before.stage) _ _ _ before.kept _ line unit _
-        ready made phased typed w.0 w.1;
-    refuses = tt;
-    types = tt;
-    kept = tt;
-    nothing = tt;
-  }
+      → ((choices : Choices) (number : ℕ) → serves choices → (ready ≡ compact_written
+      (seen_by choices number before) unit) × (after.kept ≡ written_kept (seen_by choices number before)
+      unit)) → Reads compaction serves before line (Ok true) ready after
+  completed-reads unit made phased typed written = grind (arith, common_steps, seen_stage)
 
 -- ---- a line's step, by the reader
 
@@ -116,10 +54,9 @@ parts_with reader kept =
 
 -- the reader refuses it
 pub refused-read : {serves : Choices → Type 0} (before after : RinexReader) {kept now : Written}
-    {line : List ℕ} {ready : List (List ℕ)} {fault : Fault}
-    → RefusesRinexLine (made_at before line kept) before line fault → after.types ≡ before.types
-    → now.index ≡ kept.index → ready ≡ []
-    → Reads compaction serves (parts_with before kept) line (Err fault) ready (parts_with after now)
+    {line : List ℕ} {ready : List (List ℕ)} {fault : Fault} → RefusesRinexLine (made_at before line kept)
+    before line fault → after.types ≡ before.types → now.index ≡ kept.index → ready ≡ [] → Reads compaction
+    serves (parts_with before kept) line (Err fault) ready (parts_with after now)
 refused-read before after (inl made) typed counted none = refused-reads (inl made) typed counted none
 refused-read before after {line = line} (inr out) typed counted none =
     refused-reads (inr (out.0, read-or-written _ _ _ (Content line) out.1)) typed counted none
@@ -136,15 +73,13 @@ module _ {serves : Choices → Type 0} {before after : RinexReader} {kept : Writ
     lost-read counted none = refused-reads (inr (refl, done.allowed)) done.is.types_then counted none
 
     -- an epoch's lines are ready, whose rows the encoder had
-    pub ended-read : (rows ended : EncoderState)
-        → ((choices : Choices) → serves choices → rows.in_full ≡ is_at_every choices.every kept.index)
-        → rows.before ≡ kept.tail → rows.rows ≡ after.rows.rows
-        → ((head : ObservationHead) → after.head ≡ Some head
-        → ended.pending ≡ lines_after_tail (tail_in rows) (epoch_by_rows head rows.rows))
-        → ((head : ObservationHead) → after.head ≡ Some head
-        → ended.before ≡ Some (tail_after (tail_in rows) (epoch_by_rows head rows.rows)))
-        → Reads compaction serves (parts_with before kept) line (Ok true) ended.pending
-        (parts_with after (record { index = kept.index + 1; tail = ended.before }))
+    pub ended-read : (rows ended : EncoderState) → ((choices : Choices) → serves choices → rows.in_full
+        ≡ is_at_every choices.every kept.index) → rows.before ≡ kept.tail → rows.rows ≡ after.rows.rows
+        → ((head : ObservationHead) → after.head ≡ Some head → ended.pending ≡ lines_after_tail (tail_in rows)
+        (epoch_by_rows head rows.rows)) → ((head : ObservationHead) → after.head ≡ Some head → ended.before
+        ≡ Some (tail_after (tail_in rows) (epoch_by_rows head rows.rows))) → Reads compaction serves
+        (parts_with before kept) line (Ok true) ended.pending (parts_with after
+        (record { index = kept.index + 1; tail = ended.before }))
     ended-read rows ended due tail there lines keeps =
         grind (arith, common_steps, completed-reads, epoch_by_rows)
 
@@ -162,13 +97,9 @@ CompletesEvent made line before after =
     Completed made (EventLine line) before after ⊎ Completed made (EventRecord line) before after
 
 pub event-read : {serves : Choices → Type 0} {before after : RinexReader} {kept : Written} {line : List ℕ}
-    → CompletesEvent (made_at before line kept) line before after
-    → Reads compaction serves (parts_with before kept) line (Ok true) (line ∷ [])
-    (parts_with after (record { index = kept.index; tail = None }))
-event-read {line = line} (inl done) = completed-reads (EventLine line) done.unit_made done.phase_then
-    done.types_then (λ choices number chosen. (refl, refl))
-event-read {line = line} (inr done) = completed-reads (EventRecord line) done.unit_made done.phase_then
-    done.types_then (λ choices number chosen. (refl, refl))
+    → CompletesEvent (made_at before line kept) line before after → Reads compaction serves (parts_with before
+    kept) line (Ok true) (line ∷ []) (parts_with after (record { index = kept.index; tail = None }))
+event-read {line = line} e = grind (arith, common_steps, completed-reads)
 
 pub event-closed : {made : Made ObservationEpoch OpenEpoch} {line : List ℕ} {before after : RinexReader}
     → CompletesEvent made line before after → is_open_stage after.stage ≡ false
@@ -180,10 +111,4 @@ pub of-event : {made : Made ObservationEpoch OpenEpoch} {before after : RinexRea
     (step : RinexStep) → is_row step ≡ false → (step ≡ Nothing → ⊥) → (step ≡ Begun → ⊥)
     → ((is_first : Bool) → step ≡ Header is_first → ⊥) → TakesRinexLine made before line step after
     → CompletesEvent made line before after
-of-event Event row nothing begun header takes = inl takes
-of-event Record row nothing begun header takes = inr takes
-of-event Nothing row nothing begun header takes = absurd (nothing refl)
-of-event Begun row nothing begun header takes = absurd (begun refl)
-of-event (Header is_first) row nothing begun header takes = absurd (header is_first refl)
-of-event Row row nothing begun header takes = absurd (cc (row))
-of-event Epoch row nothing begun header takes = absurd (cc (row))
+of-event step row nothing begun header takes = grind (arith, common_steps)

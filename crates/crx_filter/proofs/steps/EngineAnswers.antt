@@ -1,26 +1,19 @@
 -- From the steps of an engine of either direction to what every engine answers, and to the lines it has
 -- taken.
-use Rattle.std.proofs.lemmas.Grind.{common_steps}
-use Rattle.std.proofs.Common.{arith}
-use Rattle.crx_filter.proofs.Words.{ℕ, ◌≡◌, inl, inr, ◌+◌, Bool, true, false, cond, List, [], ◌∷◌, ◌++◌, map}
-use Rattle.crx_filter.proofs.Words.{length, Some, None, Result, Ok, Err, refl, ap, sym, subst, ◌∙◌}
-use Rattle.crx_filter.proofs.Words.{append-nil, ◌≤◌, rules, and_parts, reverse, ◌&&◌, reverse-append}
-use Rattle.crx_filter.proofs.Words.{InputLine, is_long, ReadLine, Content, Overlong, seen, At, OutOfMemory}
-use Rattle.crx_filter.proofs.Words.{LINE_LIMIT, Choices, with_next, lines_text, step_made, Steps, noticed_by}
-use Rattle.crx_filter.proofs.Words.{is_again, Fed, fed_once, fed_twice, fed}
-use Rattle.crx_filter.proofs.Words.{LookingOn, Seen, Direction, Made, Fails, Notice, SeenStep, made_in}
-use Rattle.crx_filter.proofs.Words.{may_skip, is_in_epoch, is_skipped_in, failed_step, step_of_made}
-use Rattle.crx_filter.proofs.Words.{seen_next, seen_end, takes_memory, can_go_on, is_skippable, Quiet, Ready}
-use Rattle.crx_runs.specs.meaning.Filters.{Filter}
-use Rattle.crx_runs.specs.Engines.{Awaited, IsAwaited, awaited_notices, GoesOn, EndsWith, EngineAnswers}
-use Rattle.crx_runs.specs.Engines.{Concludes}
-use Rattle.crx_filter.specs.EngineLines.{HasTaken}
-use Rattle.crx_filter.specs.Laws.{is_ready, has_lines}
-use Rattle.crx_filter.specs.EngineLaws.{FollowsBy, GoesLineByLine}
-use Rattle.crx_runs.specs.declared.engine.Step.{Step}
-use Rattle.crx_runs.specs.declared.engine.Step.TheVariants.{Warned}
-use Rattle.crx_filter.proofs.Choosing.{by_bool}
+use Rattle.crx_filter.proofs.Words
+use Words.{common_steps, arith, ℕ, ◌≡◌, inl, inr, ◌+◌, Bool, true, false, cond, List, [], ◌∷◌, map, length}
+use Words.{Some, None, Result, Ok, Err, refl, ap, sym, subst, ◌∙◌, append-nil, ◌≤◌, rules, and_parts, reverse}
+use Words.{◌&&◌, InputLine, is_long, ReadLine, Content, Overlong, seen, At, OutOfMemory, LINE_LIMIT, Choices}
+use Words.{with_next, lines_text, step_made, Steps, is_again, Fed, fed_once, fed_twice, fed, LookingOn, Seen}
+use Words.{Direction, Made, Fails, Notice, SeenStep, made_in, may_skip, is_in_epoch, is_skipped_in}
+use Words.{failed_step, step_of_made, seen_next, seen_end, takes_memory, can_go_on, is_skippable, Quiet}
+use Words.{Ready, by_bool}
 use Rattle.crx_filter.proofs.following.Following.{fed-once as feeds-once, fed-twice as feeds-twice}
+use Rattle.crx_filter.specs.{EngineLaws.{FollowsBy, GoesLineByLine}, EngineLines.HasTaken, Laws.is_ready}
+use Rattle.crx_filter.specs.Laws.{has_lines}
+use Rattle.crx_runs.specs.Engines.{Awaited, IsAwaited, awaited_notices, GoesOn, EngineAnswers}
+use Rattle.crx_runs.specs.{Engines.Concludes, declared.engine.Step.Step}
+use Rattle.crx_runs.specs.{declared.engine.Step.TheVariants.Warned, meaning.Filters.Filter}
 
 -- ---- a line that comes again
 
@@ -68,17 +61,14 @@ again-by-made {O = O} {K = K} direction before next line at handed_out (Fails fa
     let is : is_again (failed_step direction before line fault).answer ≡ false = rw off refl in
     let yes : true ≡ false = ap (λ (s : SeenStep O K). is_again s.answer) step ∙ is in
     absurd (cc))
-again-by-made {O = O} {K = K} direction before next line at handed_out made e =
-    let no : true ≡ false = ap (λ (s : SeenStep O K). is_again s.answer) e in
-    absurd (cc)
+again-by-made {O = O} {K = K} direction before next line at handed_out made e = grind (arith, common_steps)
 
 pub comes-again : {U O K : Type 0}
     (direction : Direction U O K) (before next : Seen O K) (line : ReadLine) (at : At)
     (handed_out : List (List ℕ)) → record { answer = Notice at true; handed_out = handed_out; next = next }
     ≡ seen_next direction before line → ComesAgain before next line
-comes-again direction before next line at handed_out e =
-    again-by-made direction before next line at handed_out
-    (made_in direction before.phase before.types before.kept line) e
+comes-again direction before next line at handed_out e = again-by-made direction before next line at
+    handed_out (made_in direction before.phase before.types before.kept line) e
 
 -- ---- one answer
 
@@ -99,9 +89,8 @@ module _ {U O K : Type 0} {direction : Direction U O K} {seen_after : List ReadL
 
   -- ---- a line that is fed once, or comes a second time
 
-  fed-once : (before : Seen O K) (line : ReadLine) (step : SeenStep O K) → step
-      ≡ seen_next direction before line
-      → is_again step.answer ≡ false → fed direction before line ≡ fed_once step
+  fed-once : (before : Seen O K) (line : ReadLine) (step : SeenStep O K) → step ≡ seen_next direction before
+      line → is_again step.answer ≡ false → fed direction before line ≡ fed_once step
   fed-once before line step e once = grind (arith, common_steps, feeds-once, is_again, fed_once)
 
   fed-again : (before : Seen O K) (line : ReadLine) (step : SeenStep O K) → step
@@ -121,82 +110,38 @@ module _ {U O K : Type 0} {direction : Direction U O K} {seen_after : List ReadL
 
     -- it goes on
     goes-on : (shows : List InputLine → List Awaited → Type 0) (f : Fed O K) (now : Seen O K)
-        (texts : List (List ℕ)) (notices : List At)
-        → ((ls : List InputLine) (ns : List Awaited) → HasTaken direction seen_after now ls ns → shows ls ns)
-        → fed direction first (seen line) ≡ f → f.next ≡ now → f.handed_out ≡ texts → reverse f.warned
-        ≡ notices → f.failed ≡ None → shows (with_next lines line) []
-        × GoesOn (filter.so_far lines) (filter.so_far (with_next lines line)) texts notices
+        (texts : List (List ℕ)) (notices : List At) → ((ls : List InputLine) (ns : List Awaited) → HasTaken
+        direction seen_after now ls ns → shows ls ns) → fed direction first (seen line) ≡ f → f.next ≡ now
+        → f.handed_out ≡ texts → reverse f.warned ≡ notices → f.failed ≡ None → shows (with_next lines line)
+        [] × GoesOn (filter.so_far lines) (filter.so_far (with_next lines line)) texts notices
     goes-on shows f now texts notices showing e next handed_out warned good =
         grind (arith, common_steps, follows-fed, with_next, lines_text)
 
-    -- it ends
-    ends-with : (f : Fed O K) (notices : List At) (at : At)
-        → fed direction first (seen line) ≡ f → f.handed_out ≡ [] → reverse f.warned ≡ notices → f.failed
-        ≡ Some at → EndsWith (filter.so_far lines) (filter.so_far (with_next lines line)) notices at
-    ends-with f notices at e handed_out warned bad =
-        grind (arith, common_steps, follows-fed, lines_text, append-nil)
-
     -- the first time
-    first-time : (shows : List InputLine
-        → List Awaited → Type 0) (now : Seen O K) (ready : List (List ℕ)) (result : Result Step At)
-        → ((ls : List InputLine) (ns : List Awaited) → HasTaken direction seen_after now ls ns → shows ls ns)
-        → step_made result ready now ≡ seen_next direction first (seen line)
+    first-time : (shows : List InputLine → List Awaited → Type 0) (now : Seen O K) (ready : List (List ℕ))
+        (result : Result Step At) → ((ls : List InputLine) (ns : List Awaited) → HasTaken direction seen_after
+        now ls ns → shows ls ns) → step_made result ready now ≡ seen_next direction first (seen line)
         → EngineAnswers filter shows ready lines [] line result
-    first-time shows now ready (Ok Quiet) showing e =
-        let step = step_made (Ok Quiet) ready now in
-        goes-on shows (fed_once step) now [] [] showing (fed-once first (seen line) step e refl) refl
-        (quiet-handed_out first (seen line) step e refl) refl refl
-    first-time shows now ready (Ok Ready) showing e =
-        let step = step_made (Ok Ready) ready now in
-        goes-on shows (fed_once step) now ready [] showing (fed-once first (seen line) step e refl) refl refl
-        refl refl
-    first-time shows now ready (Ok (Warned notice true)) showing e =
-        let step = step_made (Ok (Warned notice true)) ready now in
-        let none : ready ≡ [] = quiet-handed_out first (seen line) step e refl in
-        let two = seen_next direction now (seen line) in
-        let h = follows-fed (fed_twice step two) (fed-again first (seen line) step e refl) in (
-          showing lines (record { notice = notice; line = line } ∷ []) (ap
-              (λ (ls : List (List ℕ)). record { answer = Notice notice true; handed_out = ls; next = now })
-              (sym none) ∙ e),
-          refl,
-          (
-            reverse (noticed_by two.answer),
-            h.warnings ∙ ap (λ (ns : List At). (filter.so_far lines).warnings ++ ns)
-                (reverse-append (noticed_by two.answer) (notice ∷ [])),
-          ),
-        )
-    first-time shows now ready (Ok (Warned notice false)) showing e =
-        let step = step_made (Ok (Warned notice false)) ready now in
-        goes-on shows (fed_once step) now [] (notice ∷ []) showing (fed-once first (seen line) step e refl)
-        refl (quiet-handed_out first (seen line) step e refl) refl refl
-    first-time shows now ready (Err at) showing e =
-        let step = step_made (Err at) ready now in
-        inr (ends-with (fed_once step)
-        [] at (fed-once first (seen line) step e refl) (quiet-handed_out first (seen line) step e refl)
-        refl refl)
+    first-time shows now ready result showing e =
+        grind (arith, common_steps, goes-on, fed-once, quiet-handed_out, follows-fed, fed-again, append-nil)
 
     -- the second time, after a warning
-    second-time : (shows : List InputLine
-        → List Awaited → Type 0) (notice : At) (before now : Seen O K) (ready : List (List ℕ))
-        (result : Result Step At) → record { answer = Notice notice true; handed_out = []; next = before }
-        ≡ seen_next direction first (seen line)
-        → ((ls : List InputLine) (ns : List Awaited) → HasTaken direction seen_after now ls ns → shows ls ns)
-        → step_made result ready now ≡ seen_next direction before (seen line)
-        → EngineAnswers filter shows ready lines (record { notice = notice; line = line } ∷ []) line result
-    second-time shows notice before now ready result one showing e =
-        answers result (fed-again first (seen line) step one refl
-        ∙ ap (λ (s : SeenStep O K). fed_twice step s) (sym e)) e
+    second-time : (shows : List InputLine → List Awaited → Type 0) (notice : At) (before now : Seen O K)
+        (ready : List (List ℕ)) (result : Result Step At) → record
+        { answer = Notice notice true; handed_out = []; next = before } ≡ seen_next direction first
+        (seen line) → ((ls : List InputLine) (ns : List Awaited) → HasTaken direction seen_after now ls ns
+        → shows ls ns) → step_made result ready now ≡ seen_next direction before (seen line) → EngineAnswers
+        filter shows ready lines (record { notice = notice; line = line } ∷ []) line result
+    second-time shows notice before now ready result one showing e = answers result (fed-again first (seen
+        line) step one refl ∙ ap (λ (s : SeenStep O K). fed_twice step s) (sym e)) e
       where
         step : SeenStep O K
         step = record { answer = Notice notice true; handed_out = []; next = before }
 
-        answers : (r : Result Step At) → fed direction first (seen line)
-            ≡ fed_twice step (step_made r ready now)
-            → step_made r ready now ≡ seen_next direction before (seen line)
+        answers : (r : Result Step At) → fed direction first (seen line) ≡ fed_twice step
+            (step_made r ready now) → step_made r ready now ≡ seen_next direction before (seen line)
             → EngineAnswers filter shows ready lines (record { notice = notice; line = line } ∷ []) line r
-        answers (Ok Quiet) twice s =
-            goes-on shows (fed_twice step (step_made (Ok Quiet) ready now)) now [] (notice ∷ []) showing twice
-            refl (quiet-handed_out before (seen line) (step_made (Ok Quiet) ready now) s refl) refl refl
+        answers (Ok Quiet) twice s = grind (arith, common_steps, goes-on, quiet-handed_out)
         answers (Ok Ready) twice s = goes-on shows (fed_twice step (step_made (Ok Ready) ready now)) now ready
             (notice ∷ []) showing twice refl refl refl refl
         answers (Ok (Warned next true)) twice s =
@@ -205,20 +150,15 @@ module _ {U O K : Type 0} {direction : Direction U O K} {seen_after : List ReadL
             let no : true ≡ false = sym again.epoch ∙ ap is_in_epoch looking.phase in
             absurd (cc)
         answers (Ok (Warned next false)) twice s =
-            goes-on shows (fed_twice step (step_made (Ok (Warned next false)) ready now)) now
-            [] (notice ∷ next ∷ []) showing twice refl
-            (quiet-handed_out before (seen line) (step_made (Ok (Warned next false)) ready now) s refl)
-            refl refl
-        answers (Err at) twice s = inr (ends-with (fed_twice step (step_made (Err at) ready now))
-            (notice ∷ []) at twice (quiet-handed_out before (seen line)
-            (step_made (Err at) ready now) s refl) refl refl)
+            grind (arith, common_steps, goes-on, fed_twice, step, step_made, quiet-handed_out, seen)
+        answers (Err at) twice s =
+            grind (arith, common_steps, follows-fed, lines_text, append-nil, quiet-handed_out)
 
     -- memory ran out, the first time or the second
-    ran-out : (shows : List InputLine → List Awaited
-        → Type 0) (ready : List (List ℕ)) (notices : List Awaited) (number : ℕ) (at : At)
-        (result : Result Step At) → result ≡ Err at → at.fault ≡ OutOfMemory → at.line ≡ number + 1
-        → number ≡ length lines → filter.memory_after lines line ≡ Some (awaited_notices notices)
-        → EngineAnswers filter shows ready lines notices line result
+    ran-out : (shows : List InputLine → List Awaited → Type 0) (ready : List (List ℕ))
+        (notices : List Awaited) (number : ℕ) (at : At) (result : Result Step At) → result ≡ Err at → at.fault
+        ≡ OutOfMemory → at.line ≡ number + 1 → number ≡ length lines → filter.memory_after lines line ≡ Some
+        (awaited_notices notices) → EngineAnswers filter shows ready lines notices line result
     ran-out shows ready notices number at result is fault place same allowed = grind (arith, common_steps)
 
   -- an engine's own step, or memory that ran out, is an answer
@@ -232,10 +172,7 @@ module _ {U O K : Type 0} {direction : Direction U O K} {seen_after : List ReadL
       first-time lines line shows now ready result showing
       (subst (λ (s : Seen O K). step_made result ready now ≡ seen_next direction s (seen line)) taken e)
   answers-line shows before now lines [] line ready result showing taken awaited (inr r) =
-      ran-out lines line shows ready
-      [] before.number r.at result r.is r.fault r.place (ap (λ (s : Seen O K). s.number) taken
-      ∙ goes.number lines) (goes.memory_first lines line
-      (subst (λ (s : Seen O K). takes_memory direction s (seen line) ≡ true) taken r.allowed))
+      grind (arith, common_steps, ran-out, takes_memory, seen)
   answers-line shows before now lines (a ∷ []) line ready result showing taken awaited steps =
       subst (λ (l : InputLine). EngineAnswers filter shows ready lines
       (record { notice = a.notice; line = l } ∷ []) line result) (sym awaited) (answers steps)
@@ -245,9 +182,8 @@ module _ {U O K : Type 0} {direction : Direction U O K} {seen_after : List ReadL
       one = subst (λ (l : InputLine). record { answer = Notice a.notice true; handed_out = []; next = before }
           ≡ seen_next direction (seen_after (map seen lines)) (seen l)) awaited taken
 
-      answers : Steps direction before (seen line) result ready now
-          → EngineAnswers filter shows ready lines (record { notice = a.notice; line = line } ∷ [])
-          line result
+      answers : Steps direction before (seen line) result ready now → EngineAnswers filter shows ready lines
+          (record { notice = a.notice; line = line } ∷ []) line result
       answers (inl e) = second-time lines line shows a.notice before now ready result one showing e
       answers (inr r) =
           let again = comes-again direction (seen_after (map seen lines)) before
@@ -293,21 +229,18 @@ module _ {U O K : Type 0} {direction : Direction U O K} {seen_by : Choices → L
   taken-lines : (choices : Choices) (now : Seen O K) (lines : List InputLine) (notices : List Awaited)
       → HasTaken direction (seen_by choices) now lines notices → now.number ≡ length lines
   taken-lines choices now lines [] taken = ap (λ (s : Seen O K). s.number) taken ∙ (goes choices).number lines
-  taken-lines choices now lines (a ∷ []) taken =
-      (comes-again direction (seen_by choices (map seen lines)) now (seen a.line) a.notice [] taken).number
-      ∙ (goes choices).number lines
+  taken-lines choices now lines (a ∷ []) taken = (comes-again direction (seen_by choices (map seen lines)) now
+      (seen a.line) a.notice [] taken).number ∙ (goes choices).number lines
   taken-lines choices now lines (a ∷ b ∷ others) taken = absurd taken
 
   -- an engine whose choices are as they were answers a line by what is seen of it, and shows the lines taken
   pub answers-seen : (shows : List InputLine → List Awaited → Type 0) (before now : Seen O K)
-      (lines : List InputLine)
-      (notices : List Awaited) (line : InputLine) (read : ReadLine) (ready : List (List ℕ))
-      (result : Result Step At) → ((ls : List InputLine) (ns : List Awaited)
+      (lines : List InputLine) (notices : List Awaited) (line : InputLine) (read : ReadLine)
+      (ready : List (List ℕ)) (result : Result Step At) → ((ls : List InputLine) (ns : List Awaited)
       → HasTaken direction (seen_by now.choices) now ls ns × (now.number ≡ length ls) → shows ls ns)
-      → now.choices ≡ before.choices → seen line ≡ read
-      → HasTaken direction (seen_by before.choices) before lines notices → IsAwaited notices line
-      → Steps direction before read result ready now
-      → EngineAnswers (filter_by before.choices) shows ready lines notices line result
+      → now.choices ≡ before.choices → seen line ≡ read → HasTaken direction (seen_by before.choices) before
+      lines notices → IsAwaited notices line → Steps direction before read result ready now → EngineAnswers
+      (filter_by before.choices) shows ready lines notices line result
   answers-seen shows before now lines notices line read ready result showing same is taken awaited steps =
       answers-line (goes before.choices) shows before now lines notices line ready result
       (λ ls ns then. showing ls ns (

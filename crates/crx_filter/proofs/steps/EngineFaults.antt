@@ -1,42 +1,21 @@
 -- What an engine of a direction answers to a line with a fault, to one that is too long, and at the input's end.
-use Rattle.std.proofs.lemmas.Grind.{common_steps}
-use Rattle.std.proofs.Common.{arith}
-use Rattle.crx_filter.proofs.Words.{◌≡◌, inl, inr, ℕ, ◌+◌, Bool, true, false, ◌&&◌, List, [], Option, Some}
-use Rattle.crx_filter.proofs.Words.{None, Result, Ok, Err, refl, sym, ap, subst, ◌∙◌, Content, Overlong, At, Fault}
-use Rattle.crx_filter.proofs.Words.{LineTooLong, Count, Choices, Seen, Direction, Fails, made_in}
-use Rattle.crx_filter.proofs.Words.{SeenEnded, is_skipped_in, may_skip, is_skippable, failed_step}
-use Rattle.crx_filter.proofs.Words.{step_of_made}
-use Rattle.crx_filter.proofs.Words.{seen_next, seen_end, begins_epoch, step_made, Steps, is_held}
-use Rattle.crx_filter.proofs.Words.{seen_stage, Quiet, Stage, Open}
-use Rattle.std.proofs.Common.{OnErr, IfErr}
-use Rattle.crx_filter.specs.DirectionParts.{DirectionParts, seen_by, Reads, RefusesLine, AnswersToFault}
-use Rattle.crx_filter.specs.DirectionParts.{TakesLine}
-use Rattle.crx_filter.specs.LineByLine.{end_step, fault_at_end_in}
-use Rattle.crx_filter.specs.Stages.{bare_phase, is_settled}
-use Rattle.crx_runs.specs.declared.engine.Step.{Step}
-use Rattle.crx_runs.specs.declared.engine.Step.TheVariants.{Warned}
-use Rattle.crx_filter.specs.declared.stage.Stage.TheVariants.{Between, Looking, Closed}
-use Rattle.crx_filter.specs.declared.stage.Stage.TheVariants.{Ended}
 use Rattle.crx_filter.proofs.steps.EngineLemmas.{failed-at, fatal-counts, out-fatal, no-skip, ran-out}
-
--- faults are skipped in a stage whatever epoch is open
-skips-bare : {O : Type 0} (begun : Option O) (stage : Stage) → is_held stage begun ≡ true
-    → may_skip (seen_stage begun stage) ≡ may_skip (bare_phase stage)
-skips-bare None Open held = absurd (cc)
-skips-bare (Some so_far) Open held = refl
-skips-bare begun stage held = refl
-
-all-three : (a b c : Bool) → (a && (b && c)) ≡ ((a && b) && c)
-all-three true b c = refl
-all-three false b c = refl
+use Rattle.crx_filter.specs.declared.stage.Stage.TheVariants.{Looking, Closed, Ended}
+use Rattle.crx_filter.specs.DirectionParts.{DirectionParts, seen_by, Reads, RefusesLine, AnswersToFault}
+use Rattle.crx_filter.specs.{DirectionParts.TakesLine, Stages.{bare_phase, is_settled}, LineByLine.end_step}
+use Rattle.crx_filter.{specs.LineByLine.fault_at_end_in, proofs.Words.{common_steps, arith, ◌≡◌, inl, inr, ℕ}}
+use Rattle.crx_filter.proofs.Words.{◌+◌, Bool, true, false, ◌&&◌, List, [], Option, Some, None, Result, Ok}
+use Rattle.crx_filter.proofs.Words.{Err, refl, sym, ap, subst, ◌∙◌, Content, Overlong, At, Fault, LineTooLong}
+use Rattle.crx_filter.proofs.Words.{Count, Choices, Seen, Direction, Fails, made_in, SeenEnded, is_skipped_in}
+use Rattle.crx_filter.proofs.Words.{may_skip, is_skippable, failed_step, step_of_made, seen_next, seen_end}
+use Rattle.crx_filter.proofs.Words.{begins_epoch, step_made, Steps, is_held, seen_stage, Quiet, Stage}
+use Rattle.std.proofs.Common.{OnErr, IfErr}
+use Rattle.crx_runs.specs.declared.engine.Step.{Step, TheVariants.Warned}
 
 -- no fault is answered where one has ended the run, or after the end
 pub not-settled : (stage : Stage) → (stage ≡ Looking → ⊥) → (stage ≡ Closed → ⊥)
     → ((at : At) → stage ≡ Ended at → ⊥) → is_settled stage ≡ false
-not-settled Looking a b c = absurd (a refl)
-not-settled Closed a b c = absurd (b refl)
-not-settled (Ended at) a b c = absurd (c at refl)
-not-settled stage a b c = refl
+not-settled stage a b c = grind (arith, common_steps)
 
 -- what is true after any answer is true after an error
 pub after-error : {A B P : Type 0} (result : Result A B) → P → OnErr result P
@@ -54,11 +33,10 @@ module _ {U O K : Type 0} (direction : Direction U O K) where
   -- a line was refused: with its fault, or because memory ran out
   pub refused-line : (choices : Choices) (last : ℕ) (stage : Stage) (fault : Fault) (goes_on : Bool)
       (serves : Choices → Type 0) (before parts : DirectionParts O K) (line : List ℕ)
-      (result : Result Step At) (given ready : List (List ℕ)) (after : Seen O K)
-      → AnswersToFault direction choices (last + 1) stage fault goes_on parts result after
-      → before.stage ≡ stage → is_held stage before.begun ≡ true → begins_epoch line ≡ goes_on
-      → Reads direction serves before line (Err fault) given parts → ready ≡ []
-      → IfErr result (λ at. after.phase ≡ SeenEnded at) → after.choices ≡ choices
+      (result : Result Step At) (given ready : List (List ℕ)) (after : Seen O K) → AnswersToFault direction
+      choices (last + 1) stage fault goes_on parts result after → before.stage ≡ stage → is_held stage
+      before.begun ≡ true → begins_epoch line ≡ goes_on → Reads direction serves before line (Err fault) given
+      parts → ready ≡ [] → IfErr result (λ at. after.phase ≡ SeenEnded at) → after.choices ≡ choices
       → TakesLine direction (seen_by choices last before) (Content line) result ready after
   refused-line choices last stage fault goes_on serves before parts line result given ready after fails was
       held goes reads drained ended chosen = record {
@@ -91,27 +69,19 @@ module _ {U O K : Type 0} (direction : Direction U O K) where
 
   -- a line that is too long is a fault wherever lines are read
   made-too_long : ((types : List Count) (kept : K) → direction.begins types kept Overlong ≡ Fails LineTooLong)
-      → ((so_far : O) → direction.continues so_far Overlong ≡ Fails LineTooLong)
-      → (stage : Stage) (begun : Option O) (types : List Count) (kept : K) → is_held stage begun ≡ true
-      → is_settled stage ≡ false
-      → made_in direction (seen_stage begun stage) types kept Overlong ≡ Fails LineTooLong
-  made-too_long first next Open None types kept held going = absurd (cc)
-  made-too_long first next Open (Some so_far) types kept held going = next so_far
-  made-too_long first next Between begun types kept held going = first types kept
-  made-too_long first next Looking begun types kept held going = absurd (cc)
-  made-too_long first next Closed begun types kept held going = absurd (cc)
-  made-too_long first next (Ended at) begun types kept held going = absurd (cc)
-  made-too_long first next stage begun types kept held going = refl
+      → ((so_far : O) → direction.continues so_far Overlong ≡ Fails LineTooLong) → (stage : Stage)
+      (begun : Option O) (types : List Count) (kept : K) → is_held stage begun ≡ true → is_settled stage
+      ≡ false → made_in direction (seen_stage begun stage) types kept Overlong ≡ Fails LineTooLong
+  made-too_long first next stage begun types kept held going = grind (arith, common_steps)
 
   -- a fault that is answered to one
-  pub long-failed : (first : (types : List Count) (kept : K)
-      → direction.begins types kept Overlong ≡ Fails LineTooLong)
-      (next : (so_far : O) → direction.continues so_far Overlong ≡ Fails LineTooLong)
+  pub long-failed : (first : (types : List Count) (kept : K) → direction.begins types kept Overlong ≡ Fails
+      LineTooLong) (next : (so_far : O) → direction.continues so_far Overlong ≡ Fails LineTooLong)
       (choices : Choices) (last number : ℕ) (stage : Stage) (parts : DirectionParts O K)
-      (result : Result Step At) (after : Seen O K)
-      → AnswersToFault direction choices number stage LineTooLong false parts result after
-      → number ≡ last + 1 → stage ≡ parts.stage → is_held stage parts.begun ≡ true → is_settled stage ≡ false
-      → step_made result [] after ≡ seen_next direction (seen_by choices last parts) Overlong
+      (result : Result Step At) (after : Seen O K) → AnswersToFault direction choices number stage LineTooLong
+      false parts result after → number ≡ last + 1 → stage ≡ parts.stage → is_held stage parts.begun ≡ true
+      → is_settled stage ≡ false → step_made result [] after ≡ seen_next direction
+      (seen_by choices last parts) Overlong
   long-failed first next choices last number stage parts result after fails counted was held going =
       fails parts Overlong last (record {
         stage_was = sym was;
@@ -141,10 +111,7 @@ module _ {U O K : Type 0} (direction : Direction U O K) where
         types = types;
         kept = kept;
       }) (fault_at_end_in (bare_phase stage))
-  by-stage choices number Open None types kept held going = absurd (cc)
-  by-stage choices number Open (Some so_far) types kept held going = refl
-  by-stage choices number (Ended at) begun types kept held going = absurd (going at refl)
-  by-stage choices number stage begun types kept held going = refl
+  by-stage choices number stage begun types kept held going = grind (arith, common_steps)
 
   module _ (choices : Choices) (number : ℕ) (before after : DirectionParts O K) (stage : Stage)
       (was : stage ≡ before.stage) (held : is_held stage before.begun ≡ true)
@@ -158,10 +125,9 @@ module _ {U O K : Type 0} (direction : Direction U O K) where
         → c ≡ is_skippable fault → is_skipped_in (seen_by choices number before) fault ≡ ((a && b) && c)
     skips fault a b c is-a is-b is-c = grind (arith, common_steps)
 
-    pub ends-quietly : after.stage ≡ Closed → after.kept ≡ before.kept
-        → fault_at_end_in (bare_phase stage) ≡ None
-        → step_made (Ok Quiet) [] (seen_by choices number after)
-        ≡ seen_end direction (seen_by choices number before)
+    pub ends-quietly : after.stage ≡ Closed → after.kept ≡ before.kept → fault_at_end_in (bare_phase stage)
+        ≡ None → step_made (Ok Quiet) [] (seen_by choices number after) ≡ seen_end direction
+        (seen_by choices number before)
     ends-quietly staged kept none = rw (ends, none, staged, kept, typed) refl
 
     module _ (fault : Fault) (a b c : Bool) (is-a : a ≡ choices.skip) (is-b : b ≡ may_skip (bare_phase stage))
@@ -172,8 +138,7 @@ module _ {U O K : Type 0} (direction : Direction U O K) where
           (seen_by choices number after) ≡ seen_end direction (seen_by choices number before)
       ends-skipped staged on = grind (arith, common_steps, ends, skips)
 
-      pub ends-failed : after.stage ≡ Ended (record { line = number + 1; fault = fault })
-          → ((a && b) && c) ≡ false
-          → step_made (Err (record { line = number + 1; fault = fault })) []
+      pub ends-failed : after.stage ≡ Ended (record { line = number + 1; fault = fault }) → ((a && b) && c)
+          ≡ false → step_made (Err (record { line = number + 1; fault = fault })) []
           (seen_by choices number after) ≡ seen_end direction (seen_by choices number before)
       ends-failed staged off = grind (arith, common_steps, ends, skips)

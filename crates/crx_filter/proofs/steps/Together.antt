@@ -1,28 +1,17 @@
 -- How the parts of a compaction belong together after a line, and what is said of a row that it takes.
-use Rattle.std.proofs.lemmas.Grind.{common_steps}
-use Rattle.std.proofs.Common.{arith}
-use Rattle.crx_filter.proofs.Words.{inl, inr, ◌≡◌, ◌++◌, ◌∷◌, [], ℕ, Bool, true, false, not, List, not-true}
-use Rattle.crx_filter.proofs.Words.{if◌then◌else◌, Fault, OutOfMemory, None, Option, Ok, refl, sym, ap, subst}
-use Rattle.crx_filter.proofs.Words.{◌∙◌, true≢false, false≢true, length, is_some, begins_epoch}
-use Rattle.crx_filter.proofs.Words.{ObservationHead, Some, has_satellite, ObservationEpoch, OpenEpoch, row_of}
-use Rattle.crx_filter.proofs.Words.{Written, is_row, made_at, CompletedEpoch, IsSameReader, MovesReader}
-use Rattle.crx_filter.proofs.Words.{TakesRinexLine, Made, is_open_stage, RinexReader, RinexStep, Stage, Open}
-use Rattle.std.proofs.lemmas.Bool.{not-false}
-use Rattle.std.specs.Prelude.{IfSome}
-use Rattle.crx_rinex.specs.meaning.Observations.{Row as ObservationRow}
-use Rattle.crx_compact.specs.Encoding.{EncoderState, forgotten}
-use Rattle.crx_compact.specs.EncodingRooms.{EncodingRoom}
-use Rattle.crx_filter.specs.RinexReaders.{BeginsEpoch, RefusesRinexLine}
-use Rattle.crx_filter.specs.RinexStages.{rows_open}
-use Rattle.crx_filter.specs.declared.rinex_reader.RinexStep.TheVariants.{Row, Epoch}
+use Rattle.crx_filter.proofs.Words
+use Words.{common_steps, arith, inl, inr, ◌≡◌, ◌++◌, ◌∷◌, [], ℕ, Bool, true, false, not, List, not-true}
+use Words.{if◌then◌else◌, Fault, OutOfMemory, None, Option, Ok, refl, sym, ap, subst, ◌∙◌, true≢false}
+use Words.{false≢true, length, is_some, begins_epoch, ObservationHead, Some, has_satellite, ObservationEpoch}
+use Words.{OpenEpoch, row_of, Written, is_row, made_at, CompletedEpoch, IsSameReader, MovesReader}
+use Words.{TakesRinexLine, Made, is_open_stage, RinexReader, RinexStep, Stage, Open, Row as ObservationRow}
+use Rattle.crx_filter.{proofs.steps.RowSteps.taken-from, specs.RinexReaders.{BeginsEpoch, RefusesRinexLine}}
+use Rattle.crx_filter.specs.{RinexStages.rows_open, declared.rinex_reader.RinexStep.TheVariants.{Row, Epoch}}
 use Rattle.crx_filter.specs.CompactionParts.{BelongTogether, HasRefusedRow, HasWrittenRow, is_full_where_due}
-use Rattle.crx_filter.proofs.steps.RowSteps.{taken-from}
+use Rattle.std.{proofs.lemmas.Bool.not-false, specs.Prelude.IfSome}
+use Rattle.crx_compact.specs.{Encoding.{EncoderState, forgotten}, EncodingRooms.EncodingRoom}
 
 -- ---- by the stage
-
-rows-closed : (s : Stage) (rows : List ObservationRow) → is_open_stage s ≡ false → rows_open s rows ≡ []
-rows-closed Open rows e = absurd (true≢false e)
-rows-closed s rows e = refl
 
 rows-opened : (s : Stage) (rows : List ObservationRow) → is_open_stage s ≡ true → rows_open s rows ≡ rows
 rows-opened Open rows e = refl
@@ -35,24 +24,18 @@ served-closed Open in_full due e = absurd (true≢false e)
 served-closed s in_full due e = refl
 
 pub served-open : (s : Stage) (in_full due : Bool) → in_full ≡ due → is_full_where_due s in_full due ≡ true
-served-open Open true due e = sym e
-served-open Open false true e = absurd (false≢true e)
-served-open Open false false e = refl
-served-open s in_full due e = refl
+served-open s in_full due e = grind (arith, common_steps, false≢true)
 
 pub due-there : (s : Stage) (in_full due : Bool) → is_open_stage s ≡ true
     → is_full_where_due s in_full due ≡ true → in_full ≡ due
-due-there Open true due e f = sym f
-due-there Open false true e f = absurd (false≢true f)
-due-there Open false false e f = refl
-due-there s in_full due e f = absurd (false≢true e)
+due-there s in_full due e f = grind (arith, common_steps, false≢true)
 
 -- ---- together
 
 -- no epoch is open
 pub closed-together : (reader : RinexReader) (encoder : EncoderState) → is_open_stage reader.stage ≡ false
     → encoder.is_open ≡ false → encoder.rows ≡ [] → BelongTogether reader encoder
-closed-together reader encoder closed ended none = grind (arith, common_steps, rows-closed)
+closed-together reader encoder closed ended none = grind (arith, common_steps, true≢false)
 
 -- an epoch is open
 open-together : (reader : RinexReader) (encoder : EncoderState) → is_open_stage reader.stage ≡ true
@@ -67,7 +50,7 @@ rows-there reader encoder t opened = t.rows ∙ rows-opened reader.stage reader.
 -- where no epoch is open, the encoder has no rows
 pub none-there : (reader : RinexReader) (encoder : EncoderState) → BelongTogether reader encoder
     → is_open_stage reader.stage ≡ false → encoder.rows ≡ []
-none-there reader encoder t closed = t.rows ∙ rows-closed reader.stage reader.rows.rows closed
+none-there reader encoder t closed = grind (arith, common_steps, true≢false)
 
 -- they go on together where the reader is as it was
 pub same-together : (before after : RinexReader) (encoder : EncoderState) → BelongTogether before encoder
@@ -77,9 +60,8 @@ same-together before after encoder t same = grind (arith, common_steps)
 -- ---- a row
 
 -- whether its satellite is there, by the encoder's answer
-among : (answer : Bool) (row read : ObservationRow) (rows there : List ObservationRow)
-    → answer ≡ not (has_satellite row.name rows) → row ≡ read → rows ≡ there
-    → answer ≡ not (has_satellite read.name there)
+among : (answer : Bool) (row read : ObservationRow) (rows there : List ObservationRow) → answer ≡ not
+    (has_satellite row.name rows) → row ≡ read → rows ≡ there → answer ≡ not (has_satellite read.name there)
 among answer row read rows there said same where_ = rw (← same, ← where_) said
 
 pub row-new : (answer : Bool) (row read : ObservationRow) (rows there : List ObservationRow)
@@ -94,31 +76,27 @@ row-repeated answer row read rows there said same where_ is = grind (arith, comm
 
 -- a row that isn't the last one leaves the epoch open, and the last one ends it
 pub row-or-epoch : (step : RinexStep) → is_row step ≡ true → (step ≡ Row → ⊥) → step ≡ Epoch
-row-or-epoch Row is not_row = absurd (not_row refl)
-row-or-epoch Epoch is not_row = refl
-row-or-epoch step is not_row = absurd (false≢true is)
+row-or-epoch step is not_row = grind (arith, common_steps, false≢true)
 
 module _ (before mid : RinexReader) (encoder new : EncoderState) (line : List ℕ)
     (together : BelongTogether before encoder) (same : IsSameReader before mid) where
   -- the row was written and taken
   pub row-written : (after : RinexReader) (step : RinexStep) (is_last answer : Bool) (row : ObservationRow)
-      → is_open_stage before.stage ≡ true → row_of before.types line ≡ Ok mid.row
-      → begins_epoch line ≡ false → row ≡ mid.row → answer ≡ not (has_satellite row.name encoder.rows)
-      → answer ≡ true → new ≡ record encoder { rows = encoder.rows ++ row ∷ []; room = new.room }
-      → ((l : List ℕ) (kept : Written) → row_of mid.types l ≡ Ok mid.row → begins_epoch l ≡ false
-      → has_satellite mid.row.name mid.rows.rows ≡ false
-      → TakesRinexLine (made_at mid l kept) mid l step after)
-      → is_row step ≡ true → after.rows.rows ≡ mid.rows.rows ++ mid.row ∷ []
-      → step ≡ (if is_last then Epoch else Row) → HasWrittenRow before encoder line is_last after new
+      → is_open_stage before.stage ≡ true → row_of before.types line ≡ Ok mid.row → begins_epoch line ≡ false
+      → row ≡ mid.row → answer ≡ not (has_satellite row.name encoder.rows) → answer ≡ true → new ≡ record
+      encoder { rows = encoder.rows ++ row ∷ []; room = new.room } → ((l : List ℕ) (kept : Written) → row_of
+      mid.types l ≡ Ok mid.row → begins_epoch l ≡ false → has_satellite mid.row.name mid.rows.rows ≡ false
+      → TakesRinexLine (made_at mid l kept) mid l step after) → is_row step ≡ true → after.rows.rows
+      ≡ mid.rows.rows ++ mid.row ∷ [] → step ≡ (if is_last then Epoch else Row) → HasWrittenRow before encoder
+      line is_last after new
   row-written after step is_last answer row opened read other same_row said fresh written takes is added
       which =
       let there = rows-there before encoder together opened in
       record {
         takes = λ kept. subst (λ s. TakesRinexLine (made_at before line kept) before line s after) which
-            (taken-from before mid after line kept step is same (takes line kept
-            (ap (λ ts. row_of ts line) same.types ∙ read) other
-            (row-new answer row mid.row encoder.rows mid.rows.rows said same_row (there ∙ sym same.rows)
-            fresh)));
+            (taken-from before mid after line kept step is same (takes line kept (ap (λ ts. row_of ts line)
+            same.types ∙ read) other (row-new answer row mid.row encoder.rows mid.rows.rows said same_row
+            (there ∙ sym same.rows) fresh)));
         written = written ∙ ap (λ (rs : List ObservationRow). record encoder { rows = rs; room = new.room })
             (rw (there, same_row, ← same.rows) (sym added));
       }
@@ -130,10 +108,9 @@ module _ (before mid : RinexReader) (encoder new : EncoderState) (line : List �
   row-refused fault is none refuses = grind (arith, common_steps, same-together)
 
   -- everything was forgotten
-  pub row-lost : (after : RinexReader) (room : EncodingRoom) → new ≡ forgotten encoder [] room
-      → after.types ≡ mid.types → is_open_stage after.stage ≡ false
-      → ((kept : Written) → RefusesRinexLine (made_at before line kept) before line OutOfMemory)
-      → HasRefusedRow before encoder line OutOfMemory after new
+  pub row-lost : (after : RinexReader) (room : EncodingRoom) → new ≡ forgotten encoder [] room → after.types
+      ≡ mid.types → is_open_stage after.stage ≡ false → ((kept : Written) → RefusesRinexLine (made_at before
+      line kept) before line OutOfMemory) → HasRefusedRow before encoder line OutOfMemory after new
   row-lost after room is typed closed refuses =
       grind (arith, common_steps, closed-together, forgotten, served-closed)
 

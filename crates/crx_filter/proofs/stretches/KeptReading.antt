@@ -1,22 +1,19 @@
 -- The reading of units that are kept after a damaged stretch: the same units, whatever was read before them.
 use Rattle.crx_filter.proofs.Words
-use Words.{ℕ, ◌≡◌, ◌+◌, ◌<◌, ◌⊎◌, inl, inr, true, cond, List, [], ◌∷◌, ◌++◌, map, length, Option, suc, refl}
-use Words.{ap, sym, ◌∙◌, subst, arith, append-nil, and_parts, ReadLine, Content, Overlong, begins_epoch}
-use Words.{is_event_line, Epoch, HeaderLine, EventLine, EventRecord, Observation, ReadEpoch, Choices, Item}
-use Words.{Accepted, Warned, header_has_ended, records_announced, records_left, types_in_force, Reading}
-use Words.{AtLines, reading_from, compact_place, BeginsAnew, printed_items, IsBetweenUnits, GoOnAlike}
-use Words.{starts_anew, expanded_lines, continued_reading, AreInPlace}
-use Rattle.std.proofs.lemmas.List.{append_cancel_right}
-use Rattle.crx_filter.proofs.reading.Anew.{AreAlike, alike-unit, depends-on_types}
-use Rattle.crx_filter.proofs.reading.ForwardCompact.{compact-forward}
-use Rattle.crx_filter.proofs.reading.Resuming.{within-wanted, enough-units, resumed}
-use Rattle.crx_filter.proofs.wayback.Carried.{left-same, types-same}
-use Rattle.crx_filter.proofs.wayback.Items.{known_back, unit_back, read_back}
-use Rattle.crx_filter.proofs.damage.BlockSaved.{back-between, rest-in_place}
-use Rattle.crx_filter.proofs.damage.TextAfter.{lines_on, reads-on, text-anew}
+use Words.{common_steps, ℕ, ◌≡◌, ◌+◌, ◌<◌, ◌⊎◌, inl, inr, true, cond, List, [], ◌∷◌, ◌++◌, map, length}
+use Words.{Option, refl, ap, sym, ◌∙◌, subst, arith, append-nil, and_parts, ReadLine, Content, Overlong}
+use Words.{begins_epoch, is_event_line, Epoch, HeaderLine, EventLine, EventRecord, Observation, ReadEpoch}
+use Words.{Choices, Item, Accepted, Warned, header_has_ended, records_announced, records_left, types_in_force}
+use Words.{Reading, AtLines, reading_from, compact_place, BeginsAnew, printed_items, IsBetweenUnits}
+use Words.{GoOnAlike, starts_anew, expanded_lines, continued_reading, AreInPlace}
+use Rattle.crx_filter.proofs.damage.{BlockSaved.{back-between, rest-in_place}, TextAfter.{lines_on, reads-on}}
+use Rattle.crx_filter.proofs.{damage.TextAfter.text-anew, reading.Resuming.{within-wanted, enough-units}}
+use Rattle.crx_filter.proofs.reading.{Resuming.resumed, Anew.{AreAlike, alike-unit, depends-on_types}}
+use Rattle.crx_filter.proofs.reading.{ForwardCompact.compact-forward, Each.header-append}
 use Rattle.crx_filter.proofs.stretches.OpenReading.{AreEpochs, IsOpen, GoesOnAfter, open-continued}
-use Rattle.crx_filter.proofs.stretches.OpenReading.{epochs-between, epochs-types}
-use Rattle.crx_filter.proofs.reading.Each.{header-append}
+use Rattle.crx_filter.proofs.{stretches.OpenReading.{epochs-between, epochs-types}, wayback.Carried.left-same}
+use Rattle.crx_filter.proofs.wayback.{Carried.types-same, Items.{known_back, unit_back, read_back}}
+use Rattle.std.proofs.lemmas.List.{append_cancel_right}
 
 -- ---- kept units, as they are read
 
@@ -70,15 +67,7 @@ anew-between choices (newest ∷ item ∷ items) block h anew = inr (some (anew-
     (item ∷ items) block (rest-in_place (newest ∷ []) ((item ∷ items) ++ block) h) (rest anew)))
   where
     rest : BeginsAnew choices block (newest ∷ item ∷ items) → BeginsAnew choices block (item ∷ items)
-    rest h = by_newest newest h
-      where
-        by_newest : (newest : Item Epoch) → BeginsAnew choices block (newest ∷ item ∷ items)
-            → BeginsAnew choices block (item ∷ items)
-        by_newest (Warned at) h = h
-        by_newest (Accepted (HeaderLine line)) h = h
-        by_newest (Accepted (EventLine line)) h = h
-        by_newest (Accepted (EventRecord line)) h = h
-        by_newest (Accepted (Observation epoch)) h = h
+    rest h = grind (arith, common_steps)
 
     some : (item ∷ items ≡ []) ⊎ (records_left block ≡ 0) → records_left block ≡ 0
     some (inl e) = absurd (cc)
@@ -144,17 +133,7 @@ module _ (every : Option ℕ) (kept block : List (Item Epoch)) (items : List (It
       }
     where
       still : IsOpen items r → IsOpen items (continued_reading compact_place true r [])
-      still (inl (number, rest, text, wanted, is)) = inl (
-        number,
-        rest,
-        text,
-        wanted,
-        ap (λ s. continued_reading compact_place true s []) is ∙ ap (λ ls. reading_from compact_place true
-            items number ls) (append-nil rest) ∙ enough-units compact_place compact-forward true
-            (length rest + 1) (suc (length rest)) items number rest (omega arith) (omega arith)
-            ∙ within-wanted compact_place true (length rest) items number rest wanted,
-      )
-      still (inr (number, is)) = inr (number, cc (is))
+      still e = grind (arith, common_steps, append-nil, enough-units, compact-forward, within-wanted)
 
   -- some are kept
   lines-kept : (r : Reading ReadEpoch) (line : List ℕ) (tail : List ReadLine) → IsOpen items r → map Content
@@ -176,9 +155,8 @@ module _ (every : Option ℕ) (kept block : List (Item Epoch)) (items : List (It
       (record { items = read_back every (kept ++ block); stop = AtLines last [] }) =
       sym alike.second ∙ ap (λ ls. reading_from compact_place true y g.number ls) (sym e)
       ∙ reads-on every true g.number kept block h.in_place in
-      let more : alike.more ≡ back_on every kept block =
-      append_cancel_right alike.more (back_on every kept block) y
-      (ap (λ (s : Reading ReadEpoch). s.items) both ∙ back-parts every kept block) in
+      let more : alike.more ≡ back_on every kept block = append_cancel_right alike.more (back_on every kept
+      block) y (ap (λ (s : Reading ReadEpoch). s.items) both ∙ back-parts every kept block) in
       let all : List (Item ReadEpoch) = back_on every kept block ++ x in
       record {
         news = g.news;

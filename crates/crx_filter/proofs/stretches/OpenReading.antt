@@ -1,20 +1,19 @@
 -- The reading of a damaged stretch: whatever its lines are, but an event's first one, epochs and warnings are
 -- read of it alone; and it goes on at the next line that begins with >.
 use Rattle.crx_filter.proofs.Words
-use Words.{ℕ, zero, suc, ◌≡◌, ◌+◌, ◌<◌, max, ◌⊎◌, inl, inr, true, false, List, [], ◌∷◌, ◌++◌, length, drop}
-use Words.{refl, ap, sym, ◌∙◌, subst, arith, append_assoc, ⊤, AllByRecursion, length-drop, is_skippable}
-use Words.{ReadLine, Content, Overlong, At, Fault, begins_epoch, is_event_line, BadEpoch, announces_records}
-use Words.{true≢false, Option, Some, None, is_some, Here, Wrong, Wanted, FileUnit, Observation, ReadEpoch}
-use Words.{epoch_at, Item, Accepted, Warned, types_in_force, Reading, AtLines, Looking, can_go_on, looked_for}
-use Words.{reading_within, reading_from, raws_kept, compact_place, IsBetweenUnits, continued_reading}
-use Rattle.crx_filter.proofs.Choosing.{by_bool}
-use Rattle.crx_filter.proofs.reading.EpochFaults.{IsSkippableAt, epoch-skippable, place-observation}
-use Rattle.crx_filter.proofs.reading.ForwardCompact.{compact-forward}
+use Words.{common_steps, ℕ, zero, suc, ◌≡◌, ◌+◌, ◌<◌, max, ◌⊎◌, inl, inr, true, false, List, [], ◌∷◌, ◌++◌}
+use Words.{length, drop, refl, ap, sym, ◌∙◌, subst, arith, append_assoc, ⊤, AllByRecursion, length-drop}
+use Words.{is_skippable, ReadLine, Content, Overlong, At, Fault, begins_epoch, is_event_line, BadEpoch}
+use Words.{announces_records, true≢false, Option, Some, None, is_some, Here, Wrong, Wanted, FileUnit}
+use Words.{Observation, ReadEpoch, epoch_at, Item, Accepted, Warned, types_in_force, Reading, AtLines}
+use Words.{Looking, can_go_on, looked_for, reading_within, reading_from, raws_kept, compact_place}
+use Words.{IsBetweenUnits, continued_reading, by_bool}
+use Rattle.crx_filter.proofs.damage.BlockReading.{place-between, place-inside, observation-here, skipped-here}
+use Rattle.crx_filter.proofs.{damage.GoingOn.{with_warnings, GoesOnAt, open-goes_on}, reading.Each.all-append}
+use Rattle.crx_filter.proofs.reading.{Each.all-drop, EpochFaults.{IsSkippableAt, epoch-skippable}}
+use Rattle.crx_filter.proofs.reading.{EpochFaults.place-observation, ForwardCompact.compact-forward}
 use Rattle.crx_filter.proofs.reading.Resuming.{by_place, here-within, wrong-within, within-here, within-wrong}
 use Rattle.crx_filter.proofs.reading.Resuming.{within-wanted, fault-skipped, looked-here, looked-on, resumed}
-use Rattle.crx_filter.proofs.damage.BlockReading.{place-between, place-inside, observation-here, skipped-here}
-use Rattle.crx_filter.proofs.damage.GoingOn.{with_warnings, GoesOnAt, open-goes_on}
-use Rattle.crx_filter.proofs.reading.Each.{all-append, all-drop}
 
 -- ---- the lines of a stretch, and what is read of them
 
@@ -170,9 +169,7 @@ stretch-more items so_far lines between stops text =
     goes-on : IsOpen items r → IsStretchRead items (continued_reading compact_place true r lines)
     goes-on (inl (number, rest, none, e, is)) = rw is (within-stretch (length (rest ++ lines) + 1)
         items number (rest ++ lines) (omega arith) between (all-append IsNoEvent rest lines none text))
-    goes-on (inr (number, is)) = rw is
-        (looked-stretch (reading_from compact_place true items) items (length lines + 1) number lines (λ m ls
-        less none. within-stretch (length ls + 1) items m ls (omega arith) between none) (omega arith) text)
+    goes-on (inr (number, is)) = grind (arith, common_steps, looked-stretch, within-stretch)
 
 -- ---- the next line that begins with >
 

@@ -1,22 +1,17 @@
 -- A text that is damaged in stretches, cut into lines: those that the compaction wrote, and those that come
 -- in the stretches.
 use Rattle.crx_filter.proofs.Words
-use Words.{ℕ, ◌≡◌, ◌⊎◌, inl, inr, true, List, [], ◌∷◌, ◌++◌, map, refl, ap, sym, ◌∙◌, append_assoc}
-use Words.{append-nil, AllByRecursion, list_all, drop-append_seam, and_parts, not-true, Piece, InputLine}
-use Words.{pieces_of, lines_of, is_long, lines_text, Content, seen, Epoch, Choices, Item, Accepted, Warned}
-use Words.{header_has_ended, lines_after, OfCopiedLines, HaveNoReturns, AreInPlace, Stretch, up_to_end}
-use Words.{up_to_next, with_stretches, announces_records, IsStretch, AreStretches}
-use Rattle.crx_filter.proofs.Choosing.{by_bool}
-use Rattle.crx_filter.specs.meaning.Stretches.{stretches_text, begins_no_event}
-use Rattle.crx_filter.proofs.wayback.Cut.{IsClean, CanStand}
-use Rattle.crx_filter.proofs.wayback.Reading.{lines_back}
-use Rattle.crx_filter.proofs.wayback.WayBack.{lines-clean}
-use Rattle.crx_filter.proofs.damage.BlockSaved.{rest-in_place, text-parts}
-use Rattle.crx_filter.proofs.damage.DamagedText.{each-ended, lines-append, front-cut}
-use Rattle.crx_filter.proofs.damage.TextAfter.{lines_on, written-on}
-use Rattle.crx_filter.proofs.stretches.OpenReading.{IsNoEvent}
+use Words.{common_steps, arith, ℕ, ◌≡◌, ◌⊎◌, inl, inr, true, List, [], ◌∷◌, ◌++◌, map, refl, ap, sym, ◌∙◌}
+use Words.{append_assoc, append-nil, AllByRecursion, list_all, drop-append_seam, and_parts, not-true, Piece}
+use Words.{InputLine, pieces_of, lines_of, is_long, lines_text, Content, seen, Epoch, Choices, Item, Accepted}
+use Words.{Warned, header_has_ended, lines_after, OfCopiedLines, HaveNoReturns, AreInPlace, Stretch}
+use Words.{up_to_end, up_to_next, with_stretches, announces_records, IsStretch, AreStretches, by_bool}
+use Rattle.crx_filter.proofs.damage.{BlockSaved.{rest-in_place, text-parts}, DamagedText.each-ended}
+use Rattle.crx_filter.proofs.damage.{DamagedText.{lines-append, front-cut}, TextAfter.{lines_on, written-on}}
+use Rattle.crx_filter.proofs.{reading.Each.{header-append, all-parts}, stretches.OpenReading.IsNoEvent}
 use Rattle.crx_filter.proofs.stretches.StretchesRead.{stretch_lines, lines_of_stretches, AllowLines}
-use Rattle.crx_filter.proofs.reading.Each.{header-append, all-parts}
+use Rattle.crx_filter.proofs.wayback.{Cut.{IsClean, CanStand}, Reading.lines_back, WayBack.lines-clean}
+use Rattle.crx_filter.specs.meaning.Stretches.{stretches_text, begins_no_event}
 
 -- ---- the lines that come in a stretch
 
@@ -82,21 +77,6 @@ ended-cut : (instead : List ℕ) (lines : List (List ℕ)) (text : List ℕ) →
     ≡ map seen (lines_of instead) ++ (map Content lines ++ map seen (lines_of text))
 ended-cut instead lines text clean ended = search (lines-append, each-ended, front-cut)
 
--- bytes with nothing after them
-last-cut : (choices : Choices) (before : List (Item Epoch)) (s : Stretch) (later : List Stretch) → s.kept ≡ []
-    → later ≡ [] → lines_after choices (up_to_end before s) (up_to_next before s) ≡ lines_on choices.every
-    s.kept (up_to_end before s) → map seen (lines_of (stretches_text choices before (s ∷ later)))
-    ≡ lines_of_stretches choices.every before (s ∷ later)
-last-cut choices before s later none last same =
-    let nothing = ap (λ (kept : List (Item Epoch)). lines_on choices.every kept (up_to_end before s)) none in
-    let text : stretches_text choices before (s ∷ later)
-    ≡ s.instead = cc (same, nothing, last, append-nil s.instead) in
-    let lines = ap (λ (l : List Stretch). stretch_lines choices.every before s ++ lines_of_stretches
-    choices.every (up_to_next before s) l) last ∙ append-nil (stretch_lines choices.every before s)
-    ∙ ap (λ (ls : List (List ℕ)). map seen (lines_of s.instead) ++ map Content ls) nothing
-    ∙ append-nil (map seen (lines_of s.instead)) in
-    cc (text, lines)
-
 pub stretches-cut : (choices : Choices) (before : List (Item Epoch)) (stretches : List Stretch)
     → AreStretches choices before stretches → AreGood (with_stretches before stretches)
     → header_has_ended before ≡ true → map seen (lines_of (stretches_text choices before stretches))
@@ -124,7 +104,7 @@ stretches-cut choices before (s ∷ later) h good header = either (IsStretch.end
         (pieces_of s.instead) ≡ true) → map seen (lines_of (stretches_text choices next later))
         ≡ lines_of_stretches choices.every next later → map seen (lines_of
         (stretches_text choices before (s ∷ later))) ≡ lines_of_stretches choices.every before (s ∷ later)
-    either (inl nothing) rest = last-cut choices before s later nothing.0 nothing.1 same
+    either (inl nothing) rest = grind (arith, common_steps, append-nil, same)
     either (inr ended) rest = ap (λ (ls : List (List ℕ)). map seen
         (lines_of (s.instead ++ (lines_text ls ++ stretches_text choices next later)))) same ∙ ended-cut
         s.instead (lines_on choices.every s.kept block) (stretches_text choices next later) (kept-clean

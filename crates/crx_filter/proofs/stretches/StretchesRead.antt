@@ -1,22 +1,18 @@
 -- The reading of a text that is damaged in stretches: after each stretch the units that are kept, exactly.
 use Rattle.crx_filter.proofs.Words
-use Words.{ℕ, ◌≡◌, true, List, [], ◌∷◌, ◌++◌, map, Option, refl, ap, sym, ◌∙◌, subst, append_assoc}
-use Words.{append-nil, inl, inr, ◌⊎◌, ⊤, AllByRecursion, flat_map, flat_map-append, lines_of, ReadLine}
+use Words.{common_steps, arith, ℕ, ◌≡◌, true, List, [], ◌∷◌, ◌++◌, map, Option, refl, ap, sym, ◌∙◌, subst}
+use Words.{append_assoc, append-nil, ⊤, AllByRecursion, flat_map, flat_map-append, lines_of, ReadLine}
 use Words.{Content, seen, Epoch, IsWholeEpoch, printed_epoch, Observation, IsGood, ReadEpoch, Choices, Item}
 use Words.{Accepted, Warned, header_has_ended, records_left, types_in_force, reading_from, compact_place}
 use Words.{BeginsAnew, printed_items, IsBetweenUnits, expanded_lines, AreInPlace, Stretch, up_to_end}
 use Words.{up_to_next, with_stretches, IsStretch, AreStretches}
-use Rattle.crx_filter.specs.meaning.Stretches.{Saves}
-use Rattle.crx_filter.proofs.wayback.Carried.{left-same, types-same}
-use Rattle.crx_filter.proofs.wayback.ExpandedWhole.{AreGoodEpochs}
-use Rattle.crx_filter.proofs.wayback.Items.{known_back}
-use Rattle.crx_filter.proofs.damage.BlockSaved.{rest-in_place}
-use Rattle.crx_filter.proofs.damage.SavedText.{lines-append, epochs_of}
-use Rattle.crx_filter.proofs.damage.TextAfter.{lines_on}
-use Rattle.crx_filter.proofs.stretches.OpenReading.{IsNoEvent, AreEpochs, IsOpen, stretch-more, epochs-append}
-use Rattle.crx_filter.proofs.stretches.OpenReading.{epochs-between, epochs-types}
+use Rattle.crx_filter.proofs.damage.{BlockSaved.rest-in_place, SavedText.{lines-append, epochs_of}}
+use Rattle.crx_filter.proofs.{damage.TextAfter.lines_on, reading.Each.{all-append, header-append}}
 use Rattle.crx_filter.proofs.stretches.KeptReading.{back_on, back-printed, anew-between, CanBeKept, kept-more}
-use Rattle.crx_filter.proofs.reading.Each.{all-append, header-append}
+use Rattle.crx_filter.proofs.stretches.OpenReading.{IsNoEvent, AreEpochs, IsOpen, stretch-more, epochs-append}
+use Rattle.crx_filter.proofs.{stretches.OpenReading.{epochs-between, epochs-types}, wayback.Carried.left-same}
+use Rattle.crx_filter.proofs.wayback.{Carried.types-same, ExpandedWhole.AreGoodEpochs, Items.known_back}
+use Rattle.crx_filter.specs.meaning.Stretches.{Saves}
 
 -- ---- where a reading is
 
@@ -58,12 +54,7 @@ pub record IsSound (before : List (Item Epoch)) (s : Stretch) : Type 0 where
 
 end-left : (choices : Choices) (before : List (Item Epoch)) (s : Stretch) → IsSound before s
     → BeginsAnew choices (up_to_end before s) s.kept → records_left (up_to_end before s) ≡ 0
-end-left choices before s sound anew = either (anew-between choices s.kept (up_to_end before s) sound.in_place
-    anew)
-  where
-    either : (s.kept ≡ []) ⊎ (records_left (up_to_end before s) ≡ 0) → records_left (up_to_end before s) ≡ 0
-    either (inl e) = cc (e, sound.closed)
-    either (inr e) = e
+end-left choices before s sound anew = grind (arith, common_steps, anew-between, up_to_end, records_left)
 
 pub one-stretch : (choices : Choices) (before : List (Item Epoch)) (s : Stretch) (later : List Stretch)
     (so_far : List ReadLine) (items : List (Item ReadEpoch)) → IsStretch choices before s later → AllowsLines

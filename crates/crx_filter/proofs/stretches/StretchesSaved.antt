@@ -1,34 +1,26 @@
 -- What an expansion writes and reports of a text that is damaged in stretches; and of one that begins with
 -- whole units.
-use Rattle.crx_filter.proofs.Words
-use Words.{ℕ, ◌≡◌, ◌+◌, Bool, true, false, List, [], ◌∷◌, ◌++◌, map, length, reverse, Option, None, refl, ap}
-use Words.{sym, ◌∙◌, subst, arith, append-nil, inl, inr, lines_of, lines_text, ReadLine, Content, seen}
-use Words.{version_line, program_line, Epoch, ReadEpoch, Choices, is_date, Item, is_at_start, records_left}
-use Words.{Reading, AtLines, reading_from, ended_reading, compact_lines, compact_place, expanded_unit}
-use Words.{whole_compact, expanded, printed_items, warnings_in, result_of, notices_text, Begins}
-use Words.{IsBetweenUnits, expanded_lines, expanded_so_far, AreInPlace, ItemsAreRead, IsWrittenFirst}
-use Words.{with_stretches}
+use Rattle.crx_filter.proofs
+use proofs.Words.{ℕ, ◌≡◌, ◌+◌, Bool, true, false, List, [], ◌∷◌, ◌++◌, map, length, reverse, Option, None}
+use proofs.Words.{refl, ap, sym, ◌∙◌, subst, arith, append-nil, inl, inr, lines_of, lines_text, ReadLine}
+use proofs.Words.{Content, seen, version_line, program_line, Epoch, ReadEpoch, Choices, is_date, Item}
+use proofs.Words.{is_at_start, records_left, Reading, AtLines, reading_from, ended_reading, compact_lines}
+use proofs.Words.{compact_place, expanded_unit, whole_compact, expanded, printed_items, warnings_in}
+use proofs.Words.{result_of, notices_text, Begins, IsBetweenUnits, expanded_lines, expanded_so_far}
+use proofs.Words.{AreInPlace, ItemsAreRead, IsWrittenFirst, with_stretches}
+use proofs.damage.{BlockSaved.back-between, DamagedText.front-cut, GoingOn.{EndsAfter, ends-inside}}
+use proofs.damage.{GoingOn.with_warnings, SavedText.{lines-append, lines-warned}}
+use proofs.reading.{CompactPrefixes.{expanded-first, reading-at}, ForwardCompact.compact-forward}
+use proofs.reading.WhatWasRead.{items-read}
+use proofs.stretches.{OpenReading.IsOpen, StretchesCut.{AreGood, good-before, good-up_to, stretches-allowed}}
+use proofs.stretches.{StretchesCut.stretches-cut, StretchesRead.{HasCome, AreStretchesRead}}
+use proofs.stretches.StretchesRead.{lines_of_stretches, next-closed, stretches-read}
+use proofs.wayback.{Carried.{started, types-same, reads-again}, ExpandedWhole.{AreGoodEpochs, epochs-good}}
+use proofs.wayback.{First.{first-lines_read, version-clean, program-clean}, Items.{body_unit, known_back}}
+use proofs.wayback.{Items.{read_back, unit-here}, Reading.lines_back, WayBack.{IsSettled, whole-settled}}
+use proofs.wayback.WayBack.{lines-same, lines-clean, printed-same, whole-after}
 use Rattle.crx_filter.specs.meaning.Stretches.{read_of_file, IsReadWhole, HasStretches, KeepsTheRest}
 use Rattle.crx_filter.specs.meaning.Stretches.{BeginsWhole}
-use Rattle.crx_filter.proofs.reading.CompactPrefixes.{expanded-first, reading-at}
-use Rattle.crx_filter.proofs.reading.ForwardCompact.{compact-forward}
-use Rattle.crx_filter.proofs.reading.WhatWasRead.{items-read}
-use Rattle.crx_filter.proofs.wayback.Carried.{started, types-same, reads-again}
-use Rattle.crx_filter.proofs.wayback.ExpandedWhole.{AreGoodEpochs, epochs-good}
-use Rattle.crx_filter.proofs.wayback.First.{first-lines_read, version-clean, program-clean}
-use Rattle.crx_filter.proofs.wayback.Items.{body_unit, known_back, read_back, unit-here}
-use Rattle.crx_filter.proofs.wayback.Reading.{lines_back}
-use Rattle.crx_filter.proofs.wayback.WayBack.{IsSettled, whole-settled, lines-same, lines-clean, printed-same}
-use Rattle.crx_filter.proofs.wayback.WayBack.{whole-after}
-use Rattle.crx_filter.proofs.damage.BlockSaved.{back-between}
-use Rattle.crx_filter.proofs.damage.DamagedText.{front-cut}
-use Rattle.crx_filter.proofs.damage.GoingOn.{EndsAfter, ends-inside, with_warnings}
-use Rattle.crx_filter.proofs.damage.SavedText.{lines-append, lines-warned}
-use Rattle.crx_filter.proofs.stretches.OpenReading.{IsOpen}
-use Rattle.crx_filter.proofs.stretches.StretchesCut.{AreGood, good-before, good-up_to, stretches-allowed}
-use Rattle.crx_filter.proofs.stretches.StretchesCut.{stretches-cut}
-use Rattle.crx_filter.proofs.stretches.StretchesRead.{HasCome, AreStretchesRead, lines_of_stretches}
-use Rattle.crx_filter.proofs.stretches.StretchesRead.{next-closed, stretches-read}
 
 -- ---- the file
 

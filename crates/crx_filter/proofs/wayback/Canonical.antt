@@ -2,9 +2,8 @@
 use Rattle.crx_filter.proofs.Words.{ℕ, ◌≡◌, List, None, map, ap, sym, ◌∙◌, Option, lines_of, seen, At}
 use Rattle.crx_filter.proofs.Words.{Choices, compact_unit, compacted, expanded, normal_form, whole_of}
 use Rattle.crx_filter.proofs.Words.{HasNormalForm, result_of, FilterResult, IsResult, Device}
+use Rattle.crx_filter.proofs.wayback.{NormalForm.read-as_normal, Standard.{same-reading, normal-comes_back}}
 use Rattle.crx_filter.specs.meaning.Canonical.{CompactsAsNormal, IsCanonical, DependsOnNormalForm}
-use Rattle.crx_filter.proofs.wayback.NormalForm.{read-as_normal}
-use Rattle.crx_filter.proofs.wayback.Standard.{same-reading, normal-comes_back}
 
 -- a compaction is what the reading makes of it that skips nothing, where that has no fault
 pub compacted-by : (file : List ℕ) (choices : Choices) → (whole_of file).fault ≡ None

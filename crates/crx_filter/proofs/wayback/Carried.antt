@@ -1,15 +1,15 @@
 -- What was accepted of a RINEX file, written again and read again: the units without the warnings between
 -- them, with the same header, events and types in force.
-use Rattle.crx_filter.proofs.Words
-use Words.{ℕ, zero, suc, ◌≡◌, ◌+◌, ◌-◌, ◌<◌, Bool, true, false, cond, List, [], ◌∷◌, map, length, None, refl}
-use Words.{ap, sym, ◌∙◌, arith, length-append, map-append, length-map, ReadLine, Content, Epoch, Place, Here}
-use Words.{FileUnit, HeaderLine, EventLine, EventRecord, Observation, types_of, Item, Accepted, Warned}
-use Words.{is_at_start, header_has_ended, records_left, records_count_types, declaring_lines, types_in_force}
-use Words.{types_fault, header_line_fault, unit_place, Reading, AtLines, reading_from, ended_reading}
-use Words.{whole_reading, continued_reading, IsReadForward, AreInPlace, written_lines}
+use Rattle.crx_filter.proofs
+use proofs.Words.{common_steps, ℕ, zero, suc, ◌≡◌, ◌+◌, ◌-◌, ◌<◌, Bool, true, false, cond, List, [], ◌∷◌, map}
+use proofs.Words.{length, None, refl, ap, sym, ◌∙◌, arith, length-append, map-append, length-map, ReadLine}
+use proofs.Words.{Content, Epoch, Place, Here, FileUnit, HeaderLine, EventLine, EventRecord, Observation}
+use proofs.Words.{types_of, Item, Accepted, Warned, is_at_start, header_has_ended, records_left}
+use proofs.Words.{records_count_types, declaring_lines, types_in_force, types_fault, header_line_fault}
+use proofs.Words.{unit_place, Reading, AtLines, reading_from, ended_reading, whole_reading, continued_reading}
+use proofs.Words.{IsReadForward, AreInPlace, written_lines}
+use proofs.reading.{Ending.closes-well, Resuming.{within-here, within-wanted, enough-units, resumed}}
 use Rattle.std.proofs.lemmas.List.{drop_all}
-use Rattle.crx_filter.proofs.reading.Resuming.{within-here, within-wanted, enough-units, resumed}
-use Rattle.crx_filter.proofs.reading.Ending.{closes-well}
 
 -- a unit with what is known of its epoch where it is read again
 abbrev pub carried_unit : {E : Type 0}
@@ -38,9 +38,7 @@ started (item ∷ before) e = refl
 
 pub start-same : {E : Type 0} (known : List (Item Epoch) → Epoch → E) (items : List (Item Epoch))
     → AreInPlace items → is_at_start (carried known items) ≡ is_at_start items
-start-same known [] h = refl
-start-same known (Accepted unit ∷ before) h = refl
-start-same known (Warned at ∷ before) h = started (carried known before) (header-same known before ∙ (h.0).0)
+start-same known items h = grind (arith, common_steps, started, carried, header-same)
 
 pub left-same : {E : Type 0} (known : List (Item Epoch) → Epoch → E) (items : List (Item Epoch))
     → AreInPlace items → records_left (carried known items) ≡ records_left items

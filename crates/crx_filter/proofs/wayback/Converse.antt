@@ -7,23 +7,17 @@ use Words.{OBSERVATION_WIDTH, CLOCK_WIDTH, InputLine, ends_with_return, lines_of
 use Words.{is_kept, Row, Epoch, printed_row, printed_epoch, printed_cells, lines_text, Observation, Choices}
 use Words.{is_date, compacted, expanded, Item, Accepted, Warned, types_in_force, WholeReading, FilterResult}
 use Words.{printed_items, whole_of, IsStandard, AreInPlace, OfCopiedLines, HaveNoReturns}
-use Rattle.std.proofs.Common.{pos, negsuc, ◌^◌, decimal}
-use Rattle.std.specs.Str.{all_ascii_digits}
-use Rattle.std.specs.Char.{is_ascii_digit}
-use Rattle.std.proofs.Math.Nat.{pow-le-pow_right}
+use Rattle.crx_filter.proofs.{reading.Each.{all-append, contents}, wayback.Cut.{CanStand, return-kept}}
+use Rattle.crx_filter.proofs.wayback.{Cut.first-cut, First.{append-printable, take-printable}}
+use Rattle.crx_filter.proofs.wayback.First.{printable-no_feed, printable-no_return}
+use Rattle.crx_filter.proofs.wayback.{Standard.normal-comes_back, WayBack.whole-settled}
+use Rattle.std.proofs.{Common.{pos, negsuc, ◌^◌, decimal}, Math.Nat.pow-le-pow_right}
+use Rattle.std.specs.{Char.is_ascii_digit, Str.all_ascii_digits}
+use Rattle.crx_text.proofs.{ReadBack.decimal_is_digits, Spellings.abs_within}
 use Rattle.crx_text.specs.meaning.Numbers.{IsMissingOrWithin, number_text, size_text, observation_text}
 use Rattle.crx_text.specs.meaning.Numbers.{IsValue}
-use Rattle.crx_text.proofs.Spellings.{abs_within}
-use Rattle.crx_compact.proofs.wayback.Facts.{sound-name_kept, head-kept}
+use Rattle.crx_compact.proofs.wayback.{Facts.{head-kept, sound-name_kept}, Standing.trimmed-printable}
 use Rattle.crx_base.specs.declared.limits.TheConstants.{OBSERVATION_DECIMALS, CLOCK_DECIMALS}
-use Rattle.crx_text.proofs.ReadBack.{decimal_is_digits}
-use Rattle.crx_filter.proofs.wayback.WayBack.{whole-settled}
-use Rattle.crx_filter.proofs.wayback.Cut.{CanStand, return-kept, first-cut}
-use Rattle.crx_filter.proofs.wayback.Standard.{normal-comes_back}
-use Rattle.crx_filter.proofs.wayback.First.{append-printable, take-printable, printable-no_feed}
-use Rattle.crx_filter.proofs.wayback.First.{printable-no_return}
-use Rattle.crx_compact.proofs.wayback.Standing.{trimmed-printable}
-use Rattle.crx_filter.proofs.reading.Each.{all-append, contents}
 
 -- a line that is plain wherever it is written
 pub record IsPlainLine (line : List ℕ) : Type 0 where

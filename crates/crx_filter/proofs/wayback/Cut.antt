@@ -1,13 +1,13 @@
 -- Lines that are written and cut again are these lines; and what is read of an input holds no LF and isn't
 -- too long.
-use Rattle.crx_filter.proofs.Words
-use Words.{ℕ, ◌≡◌, ◌≢◌, ◌≤◌, true, false, cond, ◌⊎◌, inl, inr, List, [], ◌∷◌, map, length, refl, ap, ◌∙◌}
-use Words.{append_assoc, ⊤, ◌==◌, AllByRecursion, All-head, All-tail, All-cons, All-nil, ltb-false}
-use Words.{eqb_tells, Piece, InputLine, pieces_of, onto_first, ends_with_return, without_return, line_of}
-use Words.{lines_of, is_long, HasNoFeed, ReadLine, Content, Overlong, seen, LINE_LIMIT, lines_text}
+use Rattle.crx_filter.proofs.Words.{common_steps, arith, ℕ, ◌≡◌, ◌≢◌, ◌≤◌, true, false, cond, ◌⊎◌, inl, inr}
+use Rattle.crx_filter.proofs.Words.{List, [], ◌∷◌, map, length, refl, ap, append_assoc, ⊤, ◌==◌}
+use Rattle.crx_filter.proofs.Words.{AllByRecursion, All-head, All-tail, All-cons, All-nil, ltb-false}
+use Rattle.crx_filter.proofs.Words.{eqb_tells, Piece, InputLine, pieces_of, onto_first, ends_with_return}
+use Rattle.crx_filter.proofs.Words.{without_return, line_of, lines_of, is_long, HasNoFeed, ReadLine, Content}
+use Rattle.crx_filter.proofs.Words.{Overlong, seen, LINE_LIMIT, lines_text, by_bool}
 use Rattle.std.proofs.lemmas.Bool.{le-ltb}
 use Rattle.crx_lines.proofs.PieceLemmas.{pieces-first, NoFeed}
-use Rattle.crx_filter.proofs.Choosing.{by_bool}
 
 -- a line that is read as it was written
 pub record IsClean (line : List ℕ) : Type 0 where
@@ -25,9 +25,7 @@ seen-short l h = rw (le-ltb LINE_LIMIT (length l.content) h) refl
 
 pub seen-clean : (line : List ℕ)
     → IsClean line → seen (line_of (record { bytes = line; is_ended = true })) ≡ Content line
-seen-clean line h =
-    let kept = return-kept line h.no_return in
-    seen-short (line_of (record { bytes = line; is_ended = true })) (rw kept h.short) ∙ ap Content kept
+seen-clean line h = grind (arith, common_steps, return-kept, seen-short, line_of)
 
 -- the first of some lines, cut off their text
 pub first-cut : (line : List ℕ) (lines : List (List ℕ)) → HasNoFeed line → pieces_of
@@ -53,16 +51,11 @@ OfContent P Overlong = ⊤
 abbrev FeedsNone : Piece → Type 0
 FeedsNone p = HasNoFeed p.bytes
 
-onto-no_feed : (b : ℕ) (ps : List Piece)
-    → b ≢ 10 → AllByRecursion FeedsNone ps → AllByRecursion FeedsNone (onto_first b ps)
-onto-no_feed b [] other h = (All-cons NoFeed b [] other (All-nil NoFeed), tt)
-onto-no_feed b (p ∷ ps) other h = (All-cons NoFeed b p.bytes other h.0, h.1)
-
 by-byte : (b : ℕ) (ps : List Piece) → AllByRecursion FeedsNone ps
     → ((b == 10) ≡ true) × (b ≡ 10) ⊎ ((b == 10) ≡ false) × (b ≢ 10) → AllByRecursion FeedsNone
     (cond (b == 10) (record { bytes = []; is_ended = true } ∷ ps) (onto_first b ps))
 by-byte b ps h (inl is) = rw is.0 (All-nil NoFeed, h)
-by-byte b ps h (inr is) = rw is.0 (onto-no_feed b ps is.1 h)
+by-byte b ps h (inr is) = grind (arith, common_steps)
 
 pieces-no_feed : (input : List ℕ) → AllByRecursion FeedsNone (pieces_of input)
 pieces-no_feed [] = tt

@@ -1,32 +1,24 @@
 -- What an expansion writes is standard: what was read of compact text is in place, as units of RINEX, and
 -- what is copied is a line.
-use Rattle.crx_filter.proofs.Words
-use Words.{[], ℕ, ◌≡◌, ◌+◌, Bool, true, List, ◌∷◌, ◌++◌, map, length, drop, Option, None, refl, ap, ◌∙◌}
-use Words.{subst, arith, ⊤, AllByRecursion, list_all, and_parts, not-true, HasNoFeed, Piece, InputLine}
-use Words.{line_of, lines_text, ReadLine, At, Count, types_of, IsWholeEpoch, Epoch, printed_epoch, FileUnit}
-use Words.{HeaderLine, EventRecord, Observation, printed_unit, ReadEpoch, IsGood, Choices, compact_place}
-use Words.{raws_kept, first_lines, whole_compact, expanded_unit, expanded, Item, Accepted, Warned}
-use Words.{is_at_start, header_has_ended, records_left, records_count_types, declaring_lines, types_in_force}
-use Words.{WholeReading, reading_from, ended_reading, printed_items, OfCopiedLine, OfCopiedLines}
-use Words.{HaveNoReturns, written_lines, IsResult, Device, ItemsAreRead, IsInPlace, AreInPlace}
-use Words.{compact_reading}
-use Rattle.crx_filter.specs.meaning.Expanded.{rinex_unit}
-use Rattle.crx_filter.specs.meaning.WrittenStandard.{has_plain_lines, rinex_items, WhatIsExpandedIsStandard}
-use Rattle.crx_filter.specs.meaning.WrittenStandard.{WroteStandard}
-use Rattle.crx_filter.proofs.reading.ForwardCompact.{compact-forward, compact_beginning}
-use Rattle.crx_filter.proofs.reading.KeptThroughout.{within-kept}
-use Rattle.crx_filter.proofs.reading.Stopping.{reading-stopped}
-use Rattle.crx_filter.proofs.reading.WhatStands.{OfHere, of-unit, of-compact}
-use Rattle.crx_filter.proofs.reading.WhatWasRead.{items-read, allowed, of-ended}
-use Rattle.crx_filter.proofs.wayback.Converse.{epoch-printable, lines-plain, printed-plain, all-plain}
-use Rattle.crx_filter.proofs.wayback.Cut.{CanStand, OfContent, input-stands, first-cut}
-use Rattle.crx_filter.proofs.wayback.ExpandedWhole.{AreGoodEpochs, epochs-good}
-use Rattle.crx_filter.proofs.wayback.NormalForm.{settled-standard}
-use Rattle.crx_filter.proofs.wayback.Standard.{NoReturn, not-ended}
-use Rattle.crx_filter.proofs.wayback.WayBack.{IsSettled, closes}
-use Rattle.crx_filter.proofs.reading.Each.{all-append, all-parts, all-drop}
-use Rattle.crx_filter.proofs.wayback.ReturnsLost.{printable-lines}
-use Rattle.crx_filter.proofs.reading.Resuming.{by_place}
+use Rattle.crx_filter.proofs
+use proofs.Words.{common_steps, [], ℕ, ◌≡◌, ◌+◌, Bool, true, List, ◌∷◌, ◌++◌, map, length, drop, Option, None}
+use proofs.Words.{refl, ap, ◌∙◌, subst, arith, ⊤, AllByRecursion, list_all, and_parts, not-true, HasNoFeed}
+use proofs.Words.{Piece, InputLine, line_of, lines_text, ReadLine, At, Count, types_of, IsWholeEpoch, Epoch}
+use proofs.Words.{printed_epoch, FileUnit, HeaderLine, EventRecord, Observation, printed_unit, ReadEpoch}
+use proofs.Words.{Choices, compact_place, raws_kept, first_lines, whole_compact, expanded_unit}
+use proofs.Words.{expanded, Item, Accepted, Warned, is_at_start, header_has_ended, records_left}
+use proofs.Words.{records_count_types, declaring_lines, types_in_force, WholeReading, reading_from}
+use proofs.Words.{ended_reading, printed_items, OfCopiedLine, OfCopiedLines, HaveNoReturns, written_lines}
+use proofs.Words.{IsResult, Device, ItemsAreRead, IsInPlace, AreInPlace, compact_reading}
+use proofs.reading.{WhatStands.{OfHere, of-unit, of-compact}, KeptThroughout.within-kept, Resuming.by_place}
+use proofs.reading.{Each.{all-append, all-parts, all-drop}, WhatWasRead.{items-read, allowed, of-ended}}
+use proofs.reading.{Stopping.reading-stopped, ForwardCompact.{compact-forward, compact_beginning}}
+use proofs.wayback.{Converse.{epoch-printable, lines-plain, printed-plain, all-plain}, WayBack.IsSettled}
+use proofs.wayback.{WayBack.closes, Cut.{CanStand, OfContent, input-stands, first-cut}, Standard.NoReturn}
+use proofs.wayback.{Standard.not-ended, ExpandedWhole.{AreGoodEpochs, epochs-good}}
+use proofs.wayback.{ReturnsLost.printable-lines, NormalForm.settled-standard}
+use Rattle.crx_filter.specs.meaning.{Expanded.rinex_unit, WrittenStandard.{has_plain_lines, rinex_items}}
+use Rattle.crx_filter.specs.meaning.WrittenStandard.{WhatIsExpandedIsStandard, WroteStandard}
 
 -- ---- the units of compact text, as units of RINEX, have the same header, events and types in force
 
@@ -35,9 +27,7 @@ header-read [] = refl
 header-read (item ∷ before) = grind (arith, header-read before)
 
 start-read : (items : List (Item ReadEpoch)) → is_at_start (rinex_items items) ≡ is_at_start items
-start-read [] = refl
-start-read (Accepted unit ∷ before) = refl
-start-read (Warned at ∷ before) = refl
+start-read items = grind (arith, common_steps)
 
 left-read : (items : List (Item ReadEpoch)) → records_left (rinex_items items) ≡ records_left items
 left-read [] = refl
@@ -84,11 +74,6 @@ place-fits before lines = of-unit (OfHere (Fits before)) tt (λ offset fault. tt
     (header-read before ∙ ended, left-read before ∙ none, event, counted)) (λ read count e good.
     (header-read before ∙ ended, left-read before ∙ none, rw (types-read before) good)))
 
-good-unit : (before : List (Item ReadEpoch)) (unit : FileUnit ReadEpoch)
-    → AreGoodEpochs (Accepted unit ∷ before) → IsGoodUnit (types_in_force before) unit
-good-unit before (Observation read) h = IsGood.whole h.0
-good-unit before unit h = tt
-
 good-before : (before : List (Item ReadEpoch)) (unit : FileUnit ReadEpoch)
     → AreGoodEpochs (Accepted unit ∷ before) → AreGoodEpochs before
 good-before before (Observation read) h = h.1
@@ -98,7 +83,7 @@ items-placed : (items : List (Item ReadEpoch)) → ItemsAreRead compact_place it
     → AreInPlace (rinex_items items)
 items-placed [] h good = tt
 items-placed (Accepted unit ∷ before) h good =
-    grind (arith, items-placed before h.1 (good-before before unit good), place-fits, good-unit, good-before)
+    grind (arith, items-placed before h.1 (good-before before unit good), place-fits, good-before)
 items-placed (Warned at ∷ before) h good = grind (arith, items-placed before h.1 good, header-read, left-read)
 
 -- ---- what is copied is a line

@@ -1,13 +1,11 @@
 -- What was accepted of compact text: each epoch is whole, by the types in force where it was read.
-use Rattle.crx_filter.proofs.Words.{[], ℕ, ◌≡◌, List, ◌∷◌, ⊤, AllByRecursion, ReadLine, Count, Here, FileUnit}
-use Rattle.crx_filter.proofs.Words.{HeaderLine, EventLine, EventRecord, Observation, RawEpoch, ReadEpoch}
-use Rattle.crx_filter.proofs.Words.{epoch_at, IsGood, Item, Accepted, Warned, records_count_types}
-use Rattle.crx_filter.proofs.Words.{types_in_force, raws_kept, empties_state, compact_place, ItemsAreRead}
-use Rattle.crx_compact.specs.ReadingLaws.{HasPrintableMarks}
-use Rattle.crx_compact.proofs.soundness.Goodness.{reads-whole}
-use Rattle.crx_filter.proofs.reading.Types.{counts-in_force}
-use Rattle.crx_filter.proofs.reading.ForwardCompact.{compact_beginning}
+use Rattle.crx_filter.proofs.Words
+use Words.{[], ℕ, ◌≡◌, List, ◌∷◌, ⊤, AllByRecursion, ReadLine, Count, Here, FileUnit, HeaderLine, EventLine}
+use Words.{EventRecord, Observation, RawEpoch, ReadEpoch, epoch_at, IsGood, Item, Accepted, Warned}
+use Words.{records_count_types, types_in_force, raws_kept, empties_state, compact_place, ItemsAreRead}
+use Rattle.crx_filter.proofs.reading.{ForwardCompact.compact_beginning, Types.counts-in_force}
 use Rattle.crx_filter.proofs.reading.WhatStands.{OfHere, chosen, of-unit, of-compact}
+use Rattle.crx_compact.{proofs.soundness.Goodness.reads-whole, specs.ReadingLaws.HasPrintableMarks}
 
 -- an epoch stood at some lines
 abbrev StoodThere : List Count → List RawEpoch → FileUnit ReadEpoch → Type 0

@@ -1,15 +1,14 @@
 -- The two lines that compact text begins with are read, and can be cut off again.
-use Rattle.crx_filter.proofs.Words.{ℕ, zero, suc, ◌≡◌, ◌≢◌, true, false, List, [], ◌∷◌, ◌++◌, take, drop}
-use Rattle.crx_filter.proofs.Words.{replicate, length, refl, arith, subst, length-append, Ok, list_all}
-use Rattle.crx_filter.proofs.Words.{drop-append_seam, All-nil, ne_eqb, and_parts, HasNoFeed, ends_with_return}
-use Rattle.crx_filter.proofs.Words.{ReadLine, Content, is_printable, Here, CRINEX_PROGRAM_LABEL, is_date}
-use Rattle.crx_filter.proofs.Words.{version_line, program_line, crinex_program, first_lines}
-use Rattle.std.specs.Prelude.{nat_le}
-use Rattle.std.proofs.lemmas.List.{length-take-le}
+use Rattle.crx_filter.proofs.Words
+use Words.{common_steps, ℕ, zero, suc, ◌≡◌, ◌≢◌, true, false, List, [], ◌∷◌, ◌++◌, take, replicate, length}
+use Words.{refl, arith, length-append, Ok, list_all, drop-append_seam, All-nil, ne_eqb, and_parts, HasNoFeed}
+use Words.{ends_with_return, ReadLine, Content, is_printable, Here, CRINEX_PROGRAM_LABEL, is_date}
+use Words.{version_line, program_line, crinex_program, first_lines}
+use Rattle.crx_filter.proofs.wayback.Cut.{IsClean}
+use Rattle.std.{proofs.lemmas.List.length-take-le, specs.Prelude.nat_le}
 use Rattle.crx_base.specs.declared.limits.TheConstants.{DATE_LIMIT}
 use Rattle.crx_header.specs.declared.crinex.TheConstants.{CRINEX_PROGRAM}
 use Rattle.crx_header.specs.meaning.CompactHeader.{left_justified}
-use Rattle.crx_filter.proofs.wayback.Cut.{IsClean}
 use Rattle.crx_lines.proofs.PieceLemmas.{NoFeed}
 
 -- ---- the date's columns
@@ -17,11 +16,8 @@ use Rattle.crx_lines.proofs.PieceLemmas.{NoFeed}
 date-width : (date : List ℕ) → length (left_justified 20 date) ≡ 20
 date-width date = length-take-le 20 _ (omega (arith, length-append date (replicate 20 32)))
 
-drop-exact : (n : ℕ) (xs ys : List ℕ) → length xs ≡ n → drop n (xs ++ ys) ≡ ys
-drop-exact n xs ys e = subst (λ k. drop k (xs ++ ys) ≡ ys) e (drop-append_seam xs ys)
-
 program-read : (date : List ℕ) → crinex_program (program_line date) ≡ Ok (program_line date)
-program-read date = search (drop-exact, date-width)
+program-read date = grind (arith, common_steps, drop-append_seam, date-width)
 
 pub first-lines_read : (date : List ℕ) (rest : List ReadLine) → first_lines (Content version_line ∷ Content
     (program_line date) ∷ rest) ≡ Here (version_line ∷ program_line date ∷ []) 2

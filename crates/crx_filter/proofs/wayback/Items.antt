@@ -1,21 +1,17 @@
 -- What was accepted by a compaction, and how its compact text is read: the same header, events and types in
 -- force.
 use Rattle.crx_filter.proofs.Words
-use Words.{ℕ, ◌≡◌, ◌+◌, Bool, true, false, List, [], ◌∷◌, map, length, Option, Some, None, Ok, refl, arith}
-use Words.{append-nil, ◌||◌, is_some, length-map, ReadLine, Content, Row, Epoch, Here, FileUnit, HeaderLine}
-use Words.{EventLine, EventRecord, Observation, is_event_line, records_in, Count, Marked, compact_epoch}
-use Words.{RawEpoch, block_of, ReadEpoch, epoch_at, LinesCanStand, Item, Accepted, types_in_force}
-use Words.{is_interrupted, is_in_full, marked_epochs, raws_kept, event_line, as_observation}
-use Words.{compact_epoch_place, compact_place, AreInPlace}
+use Words.{common_steps, ℕ, ◌≡◌, ◌+◌, true, false, List, [], ◌∷◌, map, length, Option, Some, None, Ok, refl}
+use Words.{arith, append-nil, is_some, length-map, Content, Row, Epoch, Here, FileUnit, HeaderLine, EventLine}
+use Words.{EventRecord, Observation, is_event_line, records_in, Count, Marked, compact_epoch, RawEpoch}
+use Words.{block_of, ReadEpoch, LinesCanStand, Item, Accepted, types_in_force, is_interrupted, is_in_full}
+use Words.{marked_epochs, raws_kept, event_line, compact_epoch_place, compact_place, AreInPlace, by_bool}
+use Rattle.crx_filter.proofs.{following.Following.body-place, wayback.Carried.{carried_unit, carried}}
+use Rattle.crx_filter.proofs.wayback.Carried.{header-same, start-same, left-same, count-same, types-same}
+use Rattle.crx_filter.proofs.wayback.Carried.{header-here, record-here}
+use Rattle.crx_compact.proofs.wayback.{Reading.each-reads_back, Standing.lines-stand}
+use Rattle.crx_compact.specs.{Laws.AreWhole, ReadingLaws.{raws_of, read_of, lines_of_epoch, EpochReadsBack}}
 use Rattle.crx_compact.specs.meaning.Compaction.{since_full, run_of, satellite_line}
-use Rattle.crx_compact.specs.Laws.{AreWhole}
-use Rattle.crx_compact.specs.ReadingLaws.{raws_of, read_of, lines_of_epoch, EpochReadsBack}
-use Rattle.crx_compact.proofs.wayback.Reading.{each-reads_back}
-use Rattle.crx_compact.proofs.wayback.Standing.{lines-stand}
-use Rattle.crx_filter.proofs.Choosing.{by_bool}
-use Rattle.crx_filter.proofs.following.Following.{body-place}
-use Rattle.crx_filter.proofs.wayback.Carried.{carried_unit, carried, header-same, start-same, left-same}
-use Rattle.crx_filter.proofs.wayback.Carried.{count-same, types-same, header-here, record-here}
 
 -- an epoch with its mark
 abbrev pub marked_now : Option ℕ → List (Item Epoch) → Epoch → Marked
@@ -41,13 +37,9 @@ read_back every items = carried (known_back every) items
 
 -- ---- the epochs since the latest full one
 
-either-false : (a b : Bool) → (a || b) ≡ false → a ≡ false
-either-false true b e = absurd (cc)
-either-false false b e = refl
-
 not-interrupted : (every : Option ℕ) (before : List (Item Epoch))
     → is_in_full every before ≡ false → is_interrupted before ≡ false
-not-interrupted every before e = either-false _ _ e
+not-interrupted every before e = grind (arith, common_steps)
 
 -- they are whole by the types in force: types change only at an event, and the next epoch after it is in full
 whole-since : (every : Option ℕ) (items : List (Item Epoch)) → AreInPlace items
@@ -97,11 +89,6 @@ event-begins : (types : List Count) (raws : List RawEpoch) (line : List ℕ) →
     ≡ Here (EventLine line) 1
 event-begins types raws line e h = let here = event-here line (records_in line) refl h in rw (e, here) refl
 
-epoch-begins : (types : List Count) (raws : List RawEpoch) (line : List ℕ) (rest : List ReadLine)
-    → is_event_line line ≡ false → compact_epoch_place types raws (Content line ∷ rest)
-    ≡ as_observation (epoch_at types raws (Content line ∷ rest))
-epoch-begins types raws line rest e = rw e refl
-
 pub unit-here : (every : Option ℕ) (before : List (Item Epoch)) (unit : FileUnit Epoch)
     → AreInPlace (Accepted unit ∷ before) → compact_place (read_back every before) (map Content
     (body_unit every before unit)) ≡ Here (unit_back every before unit) (length (body_unit every before unit))
@@ -117,4 +104,4 @@ unit-here every before (Observation epoch) h =
     let reads = EpochReadsBack.reads (epoch-back every before epoch h) [] in
     let counted : 2 + length epoch.rows ≡ length (compact_epoch (m ∷ older)) =
     omega (arith, length-map epoch.rows (λ (r : Row). satellite_line (run_of r.name (m ∷ older)) r)) in
-    grind (arith, body-place, header-same, left-same, types-same, epoch-begins, append-nil)
+    grind (arith, body-place, header-same, left-same, types-same, append-nil)

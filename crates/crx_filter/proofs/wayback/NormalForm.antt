@@ -8,21 +8,16 @@ use Words.{printed_cells, lines_text, FileUnit, HeaderLine, EventLine, EventReco
 use Words.{Item, Accepted, Warned, types_in_force, WholeReading, warnings_in, rinex_place, whole_rinex}
 use Words.{rinex_reading, printed_items, whole_of, normal_form, IsStandard, AreInPlace, OfCopiedLines}
 use Words.{HaveNoReturns, HasNormalForm, sym}
-use Rattle.crx_header.specs.meaning.EpochColumns.{satellites_of}
-use Rattle.crx_rinex.proofs.ReadingBack.{epoch-back, length-row, length-head}
-use Rattle.crx_filter.proofs.reading.WhatWasRead.{of-ended}
-use Rattle.crx_filter.proofs.reading.KeptThroughout.{within-kept}
-use Rattle.crx_filter.proofs.reading.Forward.{rinex-forward, rinex_beginning}
-use Rattle.crx_filter.proofs.following.Following.{body-place}
+use Rattle.crx_filter.proofs.wayback.Converse.{IsPlainLine, lines-plain, printed-plain, all-plain}
+use Rattle.crx_filter.proofs.wayback.{Converse.contents-plain, Cut.{IsClean, CanStand, lines-cut}}
+use Rattle.crx_filter.proofs.reading.{KeptThroughout.within-kept, WhatWasRead.of-ended, Each.all-append}
+use Rattle.crx_filter.proofs.{following.Following.body-place, wayback.WayBack.{IsSettled, whole-settled}}
 use Rattle.crx_filter.proofs.wayback.Carried.{carried_unit, carried, header-same, start-same, left-same}
 use Rattle.crx_filter.proofs.wayback.Carried.{count-same, types-same, header-here, record-here, StandsAgain}
-use Rattle.crx_filter.proofs.wayback.Carried.{whole-again}
-use Rattle.crx_filter.proofs.wayback.WayBack.{IsSettled, whole-settled}
-use Rattle.crx_filter.proofs.wayback.Cut.{IsClean, CanStand, lines-cut}
-use Rattle.crx_filter.proofs.wayback.Converse.{IsPlainLine, lines-plain, printed-plain, all-plain}
-use Rattle.crx_filter.proofs.wayback.Converse.{contents-plain}
+use Rattle.crx_filter.proofs.{wayback.Carried.whole-again, reading.Forward.{rinex-forward, rinex_beginning}}
+use Rattle.crx_header.specs.meaning.EpochColumns.{satellites_of}
+use Rattle.crx_rinex.proofs.ReadingBack.{epoch-back, length-row, length-head}
 use Rattle.crx_text.proofs.EndBlanks.{few_kept}
-use Rattle.crx_filter.proofs.reading.Each.{all-append}
 
 -- ---- what is at a unit's printed lines
 
@@ -96,8 +91,7 @@ epoch-within n most types epoch h =
     ≤ length (epoch.head ++ clock_text epoch.clock) = few_kept _ in (
       omega (
         arith,
-        length-head
-            (record { head = epoch.head; count = satellites_of epoch.head; clock = epoch.clock })
+        length-head (record { head = epoch.head; count = satellites_of epoch.head; clock = epoch.clock })
             h.sound.head_sound,
         fewer,
         most,

@@ -1,14 +1,10 @@
 -- The lines that a compaction wrote, read one unit after another; and what an input's lines give to the lines
 -- that are copied.
-use Rattle.crx_filter.proofs.Words
-use Words.{[], ℕ, Bool, List, Option, subst, AllByRecursion, ReadLine, Epoch, Item, types_in_force}
-use Words.{reading_from, written_lines, rinex_place, OfCopiedLine, OfCopiedLines}
-use Rattle.crx_filter.proofs.reading.WhatStands.{OfHere, of-unit, of-rinex}
-use Rattle.crx_filter.proofs.reading.Forward.{rinex_beginning}
-use Rattle.crx_filter.proofs.reading.KeptThroughout.{within-kept}
-use Rattle.crx_filter.proofs.wayback.Cut.{OfContent}
-use Rattle.crx_filter.proofs.wayback.Items.{body_unit}
-use Rattle.crx_filter.proofs.reading.Each.{all-drop}
+use Rattle.crx_filter.proofs.Words.{[], ℕ, Bool, List, Option, subst, AllByRecursion, ReadLine, Epoch, Item}
+use Rattle.crx_filter.proofs.Words.{types_in_force, reading_from, written_lines, rinex_place, OfCopiedLine}
+use Rattle.crx_filter.proofs.{Words.OfCopiedLines, reading.Each.all-drop, reading.Forward.rinex_beginning}
+use Rattle.crx_filter.proofs.reading.{KeptThroughout.within-kept, WhatStands.{OfHere, of-unit, of-rinex}}
+use Rattle.crx_filter.proofs.wayback.{Cut.OfContent, Items.body_unit}
 
 -- ---- the lines written for the units, read again
 

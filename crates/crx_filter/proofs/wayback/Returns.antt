@@ -1,13 +1,11 @@
 -- The bytes 13 of a file on the way to compact text and back: they never become more, and fewer where a
 -- copied line ends in CR. So a file that comes back has no such line.
-use Rattle.crx_filter.proofs.Words.{ℕ, zero, suc, ◌≡◌, ◌+◌, ◌<◌, ◌≤◌, true, cond, List, [], ◌∷◌, ◌++◌, map}
-use Rattle.crx_filter.proofs.Words.{take, drop, refl, arith, ◌==◌, AllByRecursion, list_all, ne_eqb}
-use Rattle.crx_filter.proofs.Words.{and_parts, Piece, InputLine, pieces_of, ends_with_return, without_return}
-use Rattle.crx_filter.proofs.Words.{line_of, lines_of, is_long, HasNoFeed, ReadLine, Content, Overlong, seen}
-use Rattle.crx_filter.proofs.Words.{is_printable, lines_text}
-use Rattle.crx_filter.proofs.Choosing.{by_bool}
-use Rattle.crx_filter.proofs.wayback.First.{printable-other}
-use Rattle.crx_filter.proofs.wayback.Cut.{first-cut}
+use Rattle.crx_filter.proofs.Words
+use Words.{ℕ, zero, suc, ◌≡◌, ◌+◌, ◌<◌, ◌≤◌, true, cond, List, [], ◌∷◌, ◌++◌, map, take, drop, refl, arith}
+use Words.{◌==◌, AllByRecursion, list_all, ne_eqb, and_parts, Piece, pieces_of, ends_with_return}
+use Words.{without_return, line_of, lines_of, is_long, HasNoFeed, ReadLine, Content, Overlong, seen}
+use Words.{is_printable, lines_text, by_bool}
+use Rattle.crx_filter.proofs.wayback.{Cut.first-cut, First.printable-other}
 
 -- ---- of a text
 
@@ -70,10 +68,6 @@ read-cut (suc n) [] = refl
 read-cut (suc n) (Overlong ∷ lines) = read-cut n lines
 read-cut (suc n) (Content line ∷ lines) = omega (arith, read-cut n lines)
 
-read-one : (l : InputLine) (lines : List ReadLine)
-    → returns_read (seen l ∷ lines) ≤ returns l.content + returns_read lines
-read-one l lines = by_bool (is_long l) (λ on. rw on (omega arith)) (λ off. rw off (omega arith))
-
 -- the bytes of pieces
 abbrev returns_of : List Piece → ℕ
 returns_of [] = 0
@@ -81,7 +75,7 @@ returns_of (p ∷ ps) = returns p.bytes + returns_of ps
 
 read-pieces : (ps : List Piece) → returns_read (map seen (map line_of ps)) ≤ returns_of ps
 read-pieces [] = omega arith
-read-pieces (p ∷ ps) = grind (arith, read-pieces ps, read-one, returns-kept)
+read-pieces (p ∷ ps) = grind (arith, read-pieces ps, by_bool, is_long, returns-kept)
 
 of-pieces : (input : List ℕ) → returns_of (pieces_of input) ≤ returns input
 of-pieces [] = omega arith
@@ -108,4 +102,4 @@ left-kept (line ∷ lines) = omega (arith, returns-kept line, left-kept lines)
 pub read-written : (lines : List (List ℕ)) → AllByRecursion HasNoFeed lines
     → returns_read (map seen (lines_of (lines_text lines))) ≤ returns_left lines
 read-written [] h = omega arith
-read-written (line ∷ lines) h = grind (arith, read-written lines h.1, read-one, first-cut)
+read-written (line ∷ lines) h = grind (arith, read-written lines h.1, by_bool, is_long, first-cut)

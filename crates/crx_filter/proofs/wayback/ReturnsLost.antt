@@ -1,31 +1,23 @@
 -- A file comes back byte for byte only where no copied line ends in CR: else it comes back with fewer bytes
 -- 13. So it is standard.
-use Rattle.crx_filter.proofs.Words
-use Words.{ℕ, ◌≡◌, ◌+◌, ◌<◌, ◌≤◌, Bool, true, false, List, [], ◌∷◌, ◌++◌, map, drop, Option, refl, arith, ◌⊎◌}
-use Words.{inl, AllByRecursion, list_all, HasNoFeed, ends_with_return, without_return, lines_of, ReadLine}
-use Words.{seen, is_printable, Epoch, printed_epoch, lines_text, HeaderLine, EventLine, EventRecord}
-use Words.{Observation, ReadEpoch, compact_epoch, LinesCanStand, IsGood, Choices, is_date, Item, Accepted}
-use Words.{Warned, types_in_force, WholeReading, reading_from, FilterResult, marked_epochs, compact_lines}
-use Words.{version_line, program_line, compact_place, first_lines, whole_compact, expanded, expanded_lines}
-use Words.{AreInPlace, OfCopiedLines, HaveNoReturns}
+use Rattle.crx_filter.proofs
+use proofs.Words.{ℕ, ◌≡◌, ◌+◌, ◌<◌, ◌≤◌, Bool, true, false, List, [], ◌∷◌, ◌++◌, map, drop, Option, refl}
+use proofs.Words.{arith, ◌⊎◌, inl, AllByRecursion, list_all, HasNoFeed, ends_with_return, without_return}
+use proofs.Words.{lines_of, ReadLine, seen, is_printable, Epoch, printed_epoch, lines_text, HeaderLine}
+use proofs.Words.{EventLine, EventRecord, Observation, ReadEpoch, compact_epoch, LinesCanStand, IsGood}
+use proofs.Words.{Choices, is_date, Item, Accepted, Warned, types_in_force, WholeReading, reading_from}
+use proofs.Words.{FilterResult, marked_epochs, compact_lines, version_line, program_line, compact_place}
+use proofs.Words.{first_lines, whole_compact, expanded, expanded_lines, AreInPlace, OfCopiedLines}
+use proofs.Words.{HaveNoReturns}
+use proofs.reading.{Each.all-append, Resuming.by_place, WhatWasRead.{items-read, of-ended}}
+use proofs.wayback.{Converse.{epoch-printable, standard-where_kept}, Items.{marked_now, epoch-stands}}
+use proofs.wayback.{Standard.same-reading, Reading.lines_back, ExpandedWhole.{AreGoodEpochs, epochs-good}}
+use proofs.wayback.{WayBack.{IsSettled, whole-settled, lines-same}, Cut.{IsClean, CanStand}, Carried.started}
+use proofs.wayback.Returns.{returns, returns-kept, returns-fewer, returns_in, in-append, in-text}
+use proofs.wayback.Returns.{in-printable, returns_read, returns_left, left-append, left-kept, read-written}
+use proofs.wayback.{Returns.read-input, ReturnsRead.{returns_copied, rinex-within, compact-within}}
+use proofs.wayback.First.{program-printable, program-clean, version-clean, printable-no_feed}
 use Rattle.crx_filter.specs.WayBack.{IsStandardWhereSame}
-use Rattle.crx_filter.proofs.reading.WhatWasRead.{items-read, of-ended}
-use Rattle.crx_filter.proofs.wayback.Carried.{started}
-use Rattle.crx_filter.proofs.wayback.WayBack.{IsSettled, whole-settled, lines-same}
-use Rattle.crx_filter.proofs.wayback.Cut.{IsClean, CanStand}
-use Rattle.crx_filter.proofs.wayback.First.{program-printable, program-clean, version-clean}
-use Rattle.crx_filter.proofs.wayback.First.{printable-no_feed}
-use Rattle.crx_filter.proofs.wayback.Items.{marked_now, epoch-stands}
-use Rattle.crx_filter.proofs.wayback.Reading.{lines_back}
-use Rattle.crx_filter.proofs.wayback.Standard.{same-reading}
-use Rattle.crx_filter.proofs.wayback.Converse.{epoch-printable, standard-where_kept}
-use Rattle.crx_filter.proofs.wayback.ExpandedWhole.{AreGoodEpochs, epochs-good}
-use Rattle.crx_filter.proofs.wayback.Returns.{returns, returns-kept, returns-fewer, returns_in, in-append}
-use Rattle.crx_filter.proofs.wayback.Returns.{in-text, in-printable, returns_read, returns_left, left-append}
-use Rattle.crx_filter.proofs.wayback.Returns.{left-kept, read-written, read-input}
-use Rattle.crx_filter.proofs.wayback.ReturnsRead.{returns_copied, rinex-within, compact-within}
-use Rattle.crx_filter.proofs.reading.Each.{all-append}
-use Rattle.crx_filter.proofs.reading.Resuming.{by_place}
 
 -- ---- what an expansion writes
 
@@ -132,8 +124,7 @@ compacted-returns choices items dated h =
     let lines = version_line ∷ program_line choices.date ∷ lines_back choices.every items in
     rw (lines-same choices items h.in_place (started items h.header)) (omega (
       arith,
-      first-none version_line
-          refl,
+      first-none version_line refl,
       first-none (program_line choices.date) (program-printable choices.date dated),
       read-written lines (
         IsClean.one_line version-clean,

@@ -4,13 +4,10 @@ use Words.{[], ℕ, ◌≡◌, ◌+◌, ◌≤◌, Bool, List, ◌∷◌, length
 use Words.{Epoch, Place, Here, FileUnit, HeaderLine, EventLine, EventRecord, Observation, ReadEpoch, Item}
 use Words.{Accepted, Warned, types_in_force, WholeReading, reading_from, ended_reading, rinex_place}
 use Words.{whole_rinex, raws_kept, compact_place, first_lines, whole_compact}
-use Rattle.crx_filter.proofs.reading.WhatWasRead.{of-ended}
-use Rattle.crx_filter.proofs.reading.WhatStands.{of-unit, of-rinex, of-compact}
-use Rattle.crx_filter.proofs.reading.Forward.{rinex_beginning}
-use Rattle.crx_filter.proofs.reading.ForwardCompact.{compact_beginning}
-use Rattle.crx_filter.proofs.reading.KeptThroughout.{within-kept}
+use Rattle.crx_filter.proofs.reading.{Forward.rinex_beginning, ForwardCompact.compact_beginning}
+use Rattle.crx_filter.proofs.reading.{KeptThroughout.within-kept, Resuming.by_place, WhatStands.of-unit}
+use Rattle.crx_filter.proofs.reading.{WhatStands.{of-rinex, of-compact}, WhatWasRead.of-ended}
 use Rattle.crx_filter.proofs.wayback.Returns.{returns, returns_read, read-cut}
-use Rattle.crx_filter.proofs.reading.Resuming.{by_place}
 
 -- ---- of items
 

@@ -1,20 +1,16 @@
 -- A standard file comes back byte for byte: nothing of it is skipped, no line of it ends in CR, and printing
 -- gives back its lines.
 use Rattle.crx_filter.proofs.Words
-use Words.{ℕ, zero, suc, ◌≡◌, ◌≢◌, ◌+◌, Bool, true, false, cond, ◌⊎◌, inl, inr, List, [], ◌∷◌, map, length}
-use Words.{drop, Option, Some, None, refl, ap, sym, ◌∙◌, subst, ◌==◌, AllByRecursion, list_all, eqb_tells}
-use Words.{and_parts, Piece, InputLine, pieces_of, onto_first, ends_with_return, line_of, lines_of, is_long}
-use Words.{ReadLine, seen, Fault, At, Epoch, Place, FileUnit, Choices, Item, Accepted, WholeReading}
+use Words.{common_steps, arith, ℕ, zero, suc, ◌≡◌, ◌+◌, Bool, true, false, List, []}
+use Words.{◌∷◌, map, length, drop, Option, Some, None, refl, ap, sym, ◌∙◌, AllByRecursion, list_all}
+use Words.{eqb_tells, and_parts, Piece, InputLine, pieces_of, ends_with_return, line_of, lines_of}
+use Words.{is_long, ReadLine, seen, Fault, At, Place, FileUnit, Choices, Item, Accepted, WholeReading}
 use Words.{after_fault, reading_within, fault_at_end, ended_with, ended_reading, lines_text, rinex_place}
-use Words.{whole_rinex, rinex_reading, OfCopiedLines, HaveNoReturns, written_well, not-true, printed_items}
-use Rattle.crx_lines.proofs.PieceLemmas.{EachEnded}
-use Rattle.crx_filter.proofs.Choosing.{by_bool}
+use Words.{whole_rinex, rinex_reading, OfCopiedLines, written_well, not-true, by_bool}
+use Rattle.crx_filter.proofs.{reading.Resuming.by_place, reading.WhatWasRead.of-ended, wayback.Cut.OfContent}
+use Rattle.crx_filter.proofs.wayback.{Cut.return-kept, Reading.items-copied, WayBack.comes-back}
 use Rattle.crx_filter.specs.WayBack.{NormalFormComesBack, StandardComesBack}
-use Rattle.crx_filter.proofs.reading.Resuming.{by_place}
-use Rattle.crx_filter.proofs.reading.WhatWasRead.{of-ended}
-use Rattle.crx_filter.proofs.wayback.Cut.{OfContent, return-kept}
-use Rattle.crx_filter.proofs.wayback.Reading.{items-copied}
-use Rattle.crx_filter.proofs.wayback.WayBack.{comes-back}
+use Rattle.crx_lines.proofs.PieceLemmas.{EachEnded}
 
 -- ---- where nothing is wrong, nothing is skipped
 
@@ -55,22 +51,13 @@ whole-copied P skip lines h =
 abbrev pub NoReturn : List ℕ → Type 0
 NoReturn line = ends_with_return line ≡ false
 
--- the bytes of a plain line, which no CR ends
-plain-piece : (p : Piece) → InputLine.is_plain (line_of p) ≡ true → (p.is_ended ≡ true) × NoReturn p.bytes
-plain-piece p e =
-    let both = and_parts _ _ e in
-    (both.0, not-true _ both.1)
-
 abbrev are_plain : List Piece → Bool
 are_plain ps = list_all (λ (line : InputLine). line.is_plain) (map line_of ps)
 
 -- of the first piece, and of the others
 plain-parts : (p : Piece) (ps : List Piece) → are_plain (p ∷ ps) ≡ true
     → (p.is_ended ≡ true) × NoReturn p.bytes × (are_plain ps ≡ true)
-plain-parts p ps e =
-    let both = and_parts _ _ e in
-    let first = plain-piece p both.0 in
-    (first.0, first.1, both.1)
+plain-parts p ps e = grind (arith, common_steps, and_parts, not-true)
 
 seen-no_return : (l : InputLine) → NoReturn l.content → OfContent NoReturn (seen l)
 seen-no_return l h = by_bool (is_long l) (λ on. rw on tt) (λ off. rw off h)
@@ -84,23 +71,10 @@ plain-no_return (p ∷ ps) e =
 
 -- ---- the text of an input's plain lines is the input
 
-onto-text : (b : ℕ) (bs : List ℕ) (ps : List Piece)
-    → EachEnded (onto_first b ps) → (EachEnded ps → lines_text (map (λ (p : Piece). p.bytes) ps) ≡ bs)
-    → lines_text (map (λ (p : Piece). p.bytes) (onto_first b ps)) ≡ b ∷ bs
-onto-text b bs [] e h = let never = e.0 in absurd (cc)
-onto-text b bs (p ∷ ps) e h = ap (λ t. b ∷ t) (h e)
-
-byte-text : (b : ℕ) (bs : List ℕ) (ps : List Piece) → (EachEnded ps → lines_text (map (λ (p : Piece). p.bytes)
-    ps) ≡ bs) → ((b == 10) ≡ true) × (b ≡ 10) ⊎ ((b == 10) ≡ false) × (b ≢ 10) → EachEnded (cond (b == 10)
-    (record { bytes = []; is_ended = true } ∷ ps) (onto_first b ps)) → lines_text (map (λ (p : Piece).
-    p.bytes) (cond (b == 10) (record { bytes = []; is_ended = true } ∷ ps) (onto_first b ps))) ≡ b ∷ bs
-byte-text b bs ps h (inl is) = rw is.0 (λ e. ap (λ t. 10 ∷ t) (h e.1) ∙ ap (λ c. c ∷ bs) (sym is.1))
-byte-text b bs ps h (inr is) = rw is.0 (λ e. onto-text b bs ps e h)
-
 pieces-text : (input : List ℕ)
     → EachEnded (pieces_of input) → lines_text (map (λ (p : Piece). p.bytes) (pieces_of input)) ≡ input
 pieces-text [] e = refl
-pieces-text (b ∷ bs) e = byte-text b bs (pieces_of bs) (pieces-text bs) (eqb_tells b 10) e
+pieces-text (b ∷ bs) e = grind (arith, common_steps, pieces_of, eqb_tells, pieces-text bs)
 
 plain-ended : (ps : List Piece) → are_plain ps ≡ true → EachEnded ps
 plain-ended [] e = tt
@@ -124,10 +98,7 @@ plain-text input e = ap lines_text (plain-contents _ e) ∙ pieces-text input (p
 pub normal-comes_back : (input : List ℕ) (compacting expanding : Choices)
     → NormalFormComesBack input compacting expanding
 normal-comes_back input compacting expanding dated good none =
-    let same = same-reading compacting.skip (map seen (lines_of input)) good in
-    comes-back input compacting expanding dated (ap (λ (w : WholeReading Epoch). w.fault) same ∙ good)
-    (subst (λ (w : WholeReading Epoch). HaveNoReturns w.items) (sym same) none)
-    ∙ ap (λ (w : WholeReading Epoch). written_well (lines_text (printed_items w.items))) same
+    grind (arith, common_steps, same-reading, comes-back)
 
 pub standard-comes_back : (input : List ℕ) (compacting expanding : Choices)
     → StandardComesBack input compacting expanding

@@ -1,17 +1,15 @@
 -- The two texts of units that make a file; and each standard file is such a text.
 use Rattle.crx_filter.proofs.Words
-use Words.{ℕ, ◌≡◌, List, [], ◌∷◌, map, Option, None, refl, ap, sym, ◌∙◌, subst, lines_of, lines_text, seen}
-use Words.{At, Epoch, FileUnit, HeaderLine, EventLine, EventRecord, Observation, Choices, compacted, Item}
-use Words.{Accepted, Warned, WholeReading, printed_items, whole_of, IsStandard, OfCopiedLine, OfCopiedLines}
-use Words.{HaveNoReturns, written_well, warnings_in, expanded, IsResult, Device, AreInPlace}
-use Rattle.crx_filter.specs.meaning.UnitsAndText.{CanBeCopied, as_items, AreInOrder, MakeAFile, rinex_text}
-use Rattle.crx_filter.specs.meaning.UnitsAndText.{compact_text, TextsOfUnits, WritesUnits, ReadsUnits}
-use Rattle.crx_filter.specs.meaning.UnitsAndText.{IsStandardByUnits}
-use Rattle.crx_filter.proofs.wayback.Canonical.{compacted-by}
-use Rattle.crx_filter.proofs.wayback.Cut.{CanStand}
+use Words.{common_steps, arith, ℕ, ◌≡◌, List, [], ◌∷◌, map, Option, None, refl, ap, sym, ◌∙◌, subst, lines_of}
+use Words.{lines_text, seen, At, Epoch, FileUnit, Observation, Choices, compacted, Item, Accepted, Warned}
+use Words.{WholeReading, printed_items, whole_of, IsStandard, OfCopiedLine, OfCopiedLines, HaveNoReturns}
+use Words.{written_well, warnings_in, expanded, IsResult, Device, AreInPlace}
 use Rattle.crx_filter.proofs.wayback.NormalForm.{printed-again, accepted-all, whole-none, settled-standard}
 use Rattle.crx_filter.proofs.wayback.Standard.{whole-copied, plain-no_return, plain-text, NoReturn}
-use Rattle.crx_filter.proofs.wayback.WayBack.{IsSettled, whole-settled, items-back}
+use Rattle.crx_filter.proofs.wayback.{Canonical.compacted-by, WayBack.{IsSettled, whole-settled, items-back}}
+use Rattle.crx_filter.{proofs.wayback.Cut.CanStand, specs.meaning.UnitsAndText.{CanBeCopied, as_items}}
+use Rattle.crx_filter.specs.meaning.UnitsAndText.{AreInOrder, MakeAFile, rinex_text, compact_text}
+use Rattle.crx_filter.specs.meaning.UnitsAndText.{TextsOfUnits, WritesUnits, ReadsUnits, IsStandardByUnits}
 
 -- ---- units in order are items that are settled
 
@@ -21,10 +19,7 @@ in-place (unit ∷ before) h = (h.0, in-place before h.2)
 
 of-line : (P Q : List ℕ → Type 0) → ((line : List ℕ) → P line → Q line) → (unit : FileUnit Epoch)
     → OfCopiedLine P unit → OfCopiedLine Q unit
-of-line P Q f (HeaderLine line) h = f line h
-of-line P Q f (EventLine line) h = f line h
-of-line P Q f (EventRecord line) h = f line h
-of-line P Q f (Observation epoch) h = tt
+of-line P Q f e h = grind (arith, common_steps)
 
 copied : (Q : List ℕ → Type 0) → ((line : List ℕ) → CanBeCopied line → Q line)
     → (units : List (FileUnit Epoch)) → AreInOrder units → OfCopiedLines Q (as_items units)
@@ -123,7 +118,5 @@ units-of_standard file h =
     (units_in (WholeReading.items (whole_of file)), read-units file h, same)
 
 pub standard-by_units : (file : List ℕ) → IsStandardByUnits file
-standard-by_units file = (
-  units-of_standard file,
-  λ h. rw h.2 (settled-standard (as_items h.0) (settled h.0 h.1) (no-returns h.0 h.1)),
-)
+standard-by_units file =
+    grind (arith, common_steps, units-of_standard, settled-standard, as_items, settled, no-returns)

@@ -1,32 +1,25 @@
 -- What was compacted comes back.
 use Rattle.crx_filter.proofs.Words
-use Words.{ℕ, ◌≡◌, ◌+◌, ◌*◌, ◌≤◌, Bool, true, false, cond, List, [], ◌∷◌, map, length, Option, Some, None}
-use Words.{refl, arith, nat_lt, not, AllByRecursion, list_all, ltb-false, lines_of, ends_with_return}
-use Words.{ReadLine, Content, seen, is_printable, Fault, TYPES_LIMIT, Epoch, lines_text, FileUnit, HeaderLine}
-use Words.{EventLine, EventRecord, Observation, compact_epoch, ReadEpoch, Choices, is_date, Item, Accepted}
-use Words.{Warned, is_at_start, header_has_ended, records_left, types_in_force, WholeReading, Stop, AtFault}
-use Words.{AtLines, Looking, is_skipped, reading_from, fault_at_end, ended_with, ended_reading, warnings_in}
-use Words.{written_lines, result_of, rinex_place, marked_epochs, whole_rinex, version_line, program_line}
-use Words.{compact_lines, rinex_reading, compact_place, whole_compact, expanded_unit, expanded, printed_items}
-use Words.{AreInPlace, OfCopiedLine, OfCopiedLines, HaveNoReturns, written_well, Place, ap, ◌∙◌}
-use Rattle.crx_compact.proofs.wayback.Standing.{lines-short}
-use Rattle.crx_filter.specs.WayBack.{ComesBack}
-use Rattle.crx_filter.proofs.Choosing.{by_bool}
-use Rattle.crx_filter.proofs.reading.Forward.{rinex-forward}
-use Rattle.crx_filter.proofs.following.Lines.{IsStopped}
-use Rattle.crx_filter.proofs.reading.Stopping.{reading-stopped}
-use Rattle.crx_filter.proofs.reading.InPlace.{items-in_place}
-use Rattle.crx_filter.proofs.reading.WhatWasRead.{items-read, allowed, of-ended}
-use Rattle.crx_filter.proofs.wayback.Cut.{IsClean, CanStand, lines-cut, input-stands}
-use Rattle.crx_filter.proofs.wayback.First.{first-lines_read, program-clean, version-clean, printable-no_feed}
-use Rattle.crx_filter.proofs.wayback.First.{printable-no_return}
+use Words.{common_steps, ℕ, ◌≡◌, ◌+◌, ◌*◌, ◌≤◌, Bool, true, false, cond, List, [], ◌∷◌, map, length, Option}
+use Words.{Some, None, refl, arith, nat_lt, not, AllByRecursion, list_all, ltb-false, lines_of}
+use Words.{ends_with_return, ReadLine, Content, seen, is_printable, Fault, TYPES_LIMIT, Epoch, lines_text}
+use Words.{FileUnit, HeaderLine, EventLine, EventRecord, Observation, compact_epoch, ReadEpoch, Choices}
+use Words.{is_date, Item, Accepted, Warned, is_at_start, header_has_ended, records_left, types_in_force}
+use Words.{WholeReading, Stop, AtFault, AtLines, Looking, is_skipped, reading_from, fault_at_end, ended_with}
+use Words.{ended_reading, warnings_in, written_lines, result_of, rinex_place, marked_epochs, whole_rinex}
+use Words.{version_line, program_line, compact_lines, rinex_reading, compact_place, whole_compact}
+use Words.{expanded_unit, expanded, printed_items, AreInPlace, OfCopiedLine, OfCopiedLines, HaveNoReturns}
+use Words.{written_well, Place, ap, ◌∙◌, by_bool}
+use Rattle.crx_filter.proofs.{following.Lines.IsStopped, reading.WhatWasRead.{items-read, allowed, of-ended}}
+use Rattle.crx_filter.proofs.reading.{Each.all-append, Stopping.reading-stopped, InPlace.items-in_place}
+use Rattle.crx_filter.proofs.reading.{ForwardCompact.compact-forward, Forward.rinex-forward}
 use Rattle.crx_filter.proofs.wayback.Items.{marked_now, body_unit, known_back, read_back, unit-here}
-use Rattle.crx_filter.proofs.wayback.Items.{whole-next, epoch-stands}
-use Rattle.crx_filter.proofs.wayback.Carried.{started, whole-again}
-use Rattle.crx_filter.proofs.reading.ForwardCompact.{compact-forward}
-use Rattle.crx_filter.proofs.wayback.Reading.{lines_back, items-copied}
-use Rattle.crx_filter.proofs.reading.Each.{all-append}
-use Rattle.crx_filter.specs.meaning.Expanded.{expansion_result}
+use Rattle.crx_filter.proofs.wayback.{Items.{whole-next, epoch-stands}, Carried.{started, whole-again}}
+use Rattle.crx_filter.proofs.wayback.First.{first-lines_read, program-clean, version-clean, printable-no_feed}
+use Rattle.crx_filter.proofs.wayback.{First.printable-no_return, Reading.{lines_back, items-copied}}
+use Rattle.crx_filter.proofs.wayback.Cut.{IsClean, CanStand, lines-cut, input-stands}
+use Rattle.crx_filter.specs.{WayBack.ComesBack, meaning.Expanded.expansion_result}
+use Rattle.crx_compact.proofs.wayback.Standing.{lines-short}
 
 -- ---- the end of the compaction
 
@@ -42,15 +35,7 @@ lt-none n e = let h = ltb-false 0 n e in omega (arith, h)
 
 pub end-body : (b c : Bool) (one two : Fault)
     → cond (not b) (Some one) (cond c (Some two) None) ≡ None → (b ≡ true) × (c ≡ false)
-end-body true true one two e = absurd (cc)
-end-body true false one two e = (refl, refl)
-end-body false c one two e = absurd (cc)
-
-pub end-means : {E : Type 0} (items : List (Item E)) (rest : List ReadLine)
-    → fault_at_end items rest ≡ None → (header_has_ended items ≡ true) × (records_left items ≡ 0)
-end-means [] rest e = absurd (cc)
-end-means (item ∷ before) (line ∷ rest) e = absurd (cc)
-end-means (item ∷ before) [] e = grind arith
+end-body b c one two e = grind (arith, common_steps)
 
 abbrev IsClosed : {E : Type 0} → List (Item E) → Type 0
 IsClosed items = (header_has_ended items ≡ true) × (records_left items ≡ 0)
@@ -67,7 +52,7 @@ closes place skip items (AtLines number rest) next s f = at_end (fault_at_end it
     at_end : (o : Option Fault) → fault_at_end items rest ≡ o
         → WholeReading.fault (ended_with skip items (number + length rest) o) ≡ None
         → IsClosed (WholeReading.items (ended_with skip items (number + length rest) o))
-    at_end None e f = end-means items rest e
+    at_end None e f = grind (arith, common_steps)
     at_end (Some fault) e f = by_bool (is_skipped skip items fault)
         (λ on. rw on ((allowed skip items fault on).0, refl)) (λ off.
         let never = rw off at f in

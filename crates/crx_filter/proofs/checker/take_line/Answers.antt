@@ -1,20 +1,9 @@
-use Rattle.std.proofs.Common.{◌≡◌, ℕ, true, false, List, [], Result, Ok, Err, None, refl, sym}
-use Rattle.std.proofs.Common.{subst, ◌∙◌, arith}
-use Rattle.std.specs.Prelude.{OnOk, IfOk}
-use Rattle.std.proofs.lemmas.Bool.{false≢true}
-use Rattle.crx_base.specs.declared.fault.Fault.{Fault}
-use Rattle.crx_rinex.specs.meaning.EpochPlaces.{OpenEpoch}
-use Rattle.crx_rinex.specs.meaning.Observations.{Epoch as ObservationEpoch, Row as ObservationRow}
-use Rattle.crx_filter.specs.CompactionByLine.{Written}
-use Rattle.crx_filter.specs.LineByLine.{Made}
-use Rattle.crx_filter.specs.RinexStages.{is_open_stage}
-use Rattle.crx_filter.specs.RinexReaders.{is_row, made_at, TakesRinexLine}
-use Rattle.crx_filter.specs.Totals.{IsCounting}
-use Rattle.crx_filter.specs.declared.rinex_reader.RinexReader.{RinexReader}
-use Rattle.crx_filter.specs.declared.rinex_reader.RinexStep.{RinexStep}
-use Rattle.crx_filter.specs.declared.rinex_reader.RinexStep.TheVariants.{Nothing, Header, Event, Record}
-use Rattle.crx_filter.specs.declared.rinex_reader.RinexStep.TheVariants.{Begun, Row, Epoch}
-use Rattle.crx_filter.specs.CheckerState.{AreNamed}
+use Rattle.crx_filter.proofs.Words
+use Words.{common_steps, ◌≡◌, ℕ, true, false, List, [], Result, Ok, Err, None, refl, sym, subst, arith, OnOk}
+use Words.{false≢true, Fault, OpenEpoch, Epoch as ObservationEpoch, Row as ObservationRow, Written, Made}
+use Words.{is_open_stage, is_row, made_at, TakesRinexLine, RinexReader, RinexStep}
+use Rattle.crx_filter.specs.{CheckerState.AreNamed, Totals.IsCounting}
+use Rattle.std.specs.Prelude.{IfOk}
 use Rattle.crx_filter.proofs.checker.take_line.Goals as goal
 
 -- where no row has come, none has to be named
@@ -25,22 +14,12 @@ module _ (made : Made ObservationEpoch OpenEpoch) (before after : RinexReader) (
   -- a line that is no row has nothing to be counted but where it begins an epoch
   step-counting : (observed : ℕ) (step : RinexStep) → is_row step ≡ false
       → TakesRinexLine made before line step after → IsCounting step observed after
-  step-counting observed Begun no_row takes = takes.0
-  step-counting observed Row no_row takes = absurd (false≢true (sym no_row))
-  step-counting observed Epoch no_row takes = absurd (false≢true (sym no_row))
-  step-counting observed step no_row takes = tt
+  step-counting observed step no_row takes = grind (arith, common_steps, false≢true)
 
   -- and where an epoch is open after it, none of the rows has come
-  step-named : (names : List (List ℕ)) (step : RinexStep) → is_row step ≡ false
-      → TakesRinexLine made before line step after → is_open_stage after.stage ≡ true
-      → AreNamed names after.rows.rows
-  step-named names Begun no_row takes is_open = none-named names after.rows.rows takes.0
-  step-named names Row no_row takes is_open = absurd (false≢true (sym no_row))
-  step-named names Epoch no_row takes is_open = absurd (false≢true (sym no_row))
-  step-named names Nothing no_row takes is_open = absurd (false≢true (sym takes.1 ∙ is_open))
-  step-named names (Header is_first) no_row takes is_open = absurd (false≢true (sym takes.0.closed ∙ is_open))
-  step-named names Event no_row takes is_open = absurd (false≢true (sym takes.closed ∙ is_open))
-  step-named names Record no_row takes is_open = absurd (false≢true (sym takes.closed ∙ is_open))
+  step-named : (names : List (List ℕ)) (step : RinexStep) → is_row step ≡ false → TakesRinexLine made before
+      line step after → is_open_stage after.stage ≡ true → AreNamed names after.rows.rows
+  step-named names step no_row takes is_open = grind (arith, common_steps, none-named, false≢true)
 
   is-counting : (observed : ℕ) (result : Result RinexStep Fault) → IfOk result (λ step. is_row step ≡ false)
       → IfOk result (λ step. TakesRinexLine made before line step after)
@@ -48,10 +27,9 @@ module _ (made : Made ObservationEpoch OpenEpoch) (before after : RinexReader) (
   is-counting observed (Ok step) no_row takes = step-counting observed step no_row takes
   is-counting observed (Err fault) no_row takes = tt
 
-  are-named : (names : List (List ℕ)) (result : Result RinexStep Fault)
-      → IfOk result (λ step. is_row step ≡ false)
-      → IfOk result (λ step. TakesRinexLine made before line step after)
-      → OnOk result (is_open_stage after.stage ≡ true → AreNamed names after.rows.rows)
+  are-named : (names : List (List ℕ)) (result : Result RinexStep Fault) → IfOk result
+      (λ step. is_row step ≡ false) → IfOk result (λ step. TakesRinexLine made before line step after) → OnOk
+      result (is_open_stage after.stage ≡ true → AreNamed names after.rows.rows)
   are-named names (Ok step) no_row takes = step-named names step no_row takes
   are-named names (Err fault) no_row takes = tt
 

@@ -1,10 +1,7 @@
-use Rattle.crx_filter.specs.meaning.Directions.{check_filter}
-use Rattle.crx_filter.specs.meaning.Standard.{checked}
-use Rattle.crx_filter.specs.meaning.Lossless.{SaysThatItComesBack}
+use Rattle.crx_filter.proofs.{Kept.{kept, judges-standard}, Words.{check_filter, checked, Device}}
+use Rattle.crx_filter.{proofs.standard.Lossless.says-so, specs.meaning.Lossless.SaysThatItComesBack}
 use Rattle.crx_filter.specs.meaning.Promises.{JudgesStandard}
-use Rattle.crx_runs.specs.meaning.Spans.{Input, reader_span, Device, span}
-use Rattle.crx_filter.proofs.Kept.{kept, judges-standard}
-use Rattle.crx_filter.proofs.standard.Lossless.{says-so}
+use Rattle.crx_runs.specs.meaning.Spans.{Input, reader_span, span}
 use Rattle.crx_filter.proofs.checks.check.Goals as goal
 
 pub returns : goal.returns

@@ -1,15 +1,9 @@
-use Rattle.std.proofs.Common.{inl, inr, refl}
-use Rattle.std.proofs.lemmas.Result.{err_from_is_err_and}
-use Rattle.crx_filter.proofs.steps.Together.{row-lost, row-or-epoch, row-refused, row-repeated}
-use Rattle.crx_filter.proofs.steps.Together.{row-written, rows-there}
+use Rattle.crx_filter.proofs.{Words.{common_steps, arith, inl, inr, refl}, steps.Together.row-lost}
+use Rattle.crx_filter.proofs.steps.Together.{row-or-epoch, row-refused, row-repeated, row-written, rows-there}
 use Rattle.crx_filter.proofs.compaction.take_row.Goals as goal
 
 pub returns-in_err-read_row-clause-refused : goal.returns-in_err-read_row-clause-refused
-returns-in_err-read_row-clause-refused c =
-    let read = c.in_err-read_row.ensures in
-    let p = err_from_is_err_and c.from_residual.result c.from_residual.ensures.1 in
-    rw (p.1, p.2) (row-refused _ _ _ _ _ c.requires.together read.same _ refl c.requires.drained
-    (λ kept. inl (read.refused kept)))
+returns-in_err-read_row-clause-refused c = grind (arith, common_steps, row-refused)
 
 pub returns-in-Ok-false-clause-refused : goal.returns-in-Ok-false-clause-refused
 returns-in-Ok-false-clause-refused c =

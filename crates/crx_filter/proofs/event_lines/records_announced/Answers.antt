@@ -1,8 +1,6 @@
-use Rattle.std.proofs.Common.{Ok, refl, ap, ◌∙◌}
+use Rattle.crx_filter.proofs.{EventLines.{count_in, event-count, event-fault}, Words.{Ok, refl, ap, ◌∙◌}}
 use Rattle.std.proofs.lemmas.Result.{err_from_is_err_and}
-use Rattle.crx_rinex.specs.Heads.{head_line}
-use Rattle.crx_rinex.specs.declared.epoch_line.Head.{Head}
-use Rattle.crx_filter.proofs.EventLines.{count_in, event-count, event-fault}
+use Rattle.crx_rinex.specs.{Heads.head_line, declared.epoch_line.Head.Head}
 use Rattle.crx_filter.proofs.event_lines.records_announced.Goals as goal
 
 pub returns-in-Event : goal.returns-in-Event

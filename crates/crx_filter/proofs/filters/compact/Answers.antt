@@ -1,20 +1,11 @@
-use Rattle.std.proofs.Common.{◌≡◌, ℕ, List, [], ap}
-use Rattle.crx_rinex.specs.meaning.EpochPlaces.{OpenEpoch}
-use Rattle.crx_filter.specs.LineByLine.{Seen}
-use Rattle.crx_filter.specs.CompactionByLine.{Written, compaction_seen}
-use Rattle.crx_filter.specs.CompactorState.{compactor_seen}
-use Rattle.crx_filter.specs.CompactionParts.{CompactionState}
-use Rattle.crx_filter.specs.DirectionParts.{EngineParts}
-use Rattle.crx_filter.specs.meaning.Compacted.{compacted}
-use Rattle.crx_filter.specs.meaning.Directions.{compaction_filter}
-use Rattle.crx_runs.specs.meaning.Spans.{Input, reader_span, Device, span}
+use Rattle.crx_filter.proofs.{Kept.kept, Words.{◌≡◌, ℕ, List, [], ap, OpenEpoch, Seen, Written}}
+use Rattle.crx_filter.proofs.Words.{compaction_seen, compacted, compaction_filter, Device}
+use Rattle.crx_filter.proofs.{following.Lawful.compaction-lawful, wayback.Canonical.depends-on_normal}
+use Rattle.crx_filter.{proofs.wayback.Units.writes-units, specs.CompactionParts.CompactionState}
+use Rattle.crx_filter.specs.{CompactorState.compactor_seen, DirectionParts.EngineParts}
+use Rattle.crx_filter.specs.meaning.{Canonical.DependsOnNormalForm, UnitsAndText.WritesUnits}
+use Rattle.crx_runs.specs.meaning.Spans.{Input, reader_span, span}
 use Rattle.std.proofs.lemmas.Result.{IfOk-weaker}
-use Rattle.crx_filter.proofs.following.Lawful.{compaction-lawful}
-use Rattle.crx_filter.specs.meaning.Canonical.{DependsOnNormalForm}
-use Rattle.crx_filter.proofs.Kept.{kept}
-use Rattle.crx_filter.specs.meaning.UnitsAndText.{WritesUnits}
-use Rattle.crx_filter.proofs.wayback.Canonical.{depends-on_normal}
-use Rattle.crx_filter.proofs.wayback.Units.{writes-units}
 use Rattle.crx_filter.proofs.filters.compact.Goals as goal
 
 pub returns : goal.returns

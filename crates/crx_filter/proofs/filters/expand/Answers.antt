@@ -1,25 +1,14 @@
-use Rattle.std.proofs.Common.{◌≡◌, ℕ, List, [], Option, ap}
-use Rattle.crx_compact.specs.OpenEpochs.{OpenRawEpoch}
-use Rattle.crx_compact.specs.Tails.{Tail}
-use Rattle.crx_filter.specs.ExpansionByLine.{expansion_seen}
-use Rattle.crx_filter.specs.meaning.Lossless.{BringsBackWhatPasses}
-use Rattle.crx_filter.specs.meaning.UnitsAndText.{ReadsUnits}
-use Rattle.crx_filter.proofs.standard.Lossless.{brings-back_passed}
-use Rattle.crx_filter.proofs.wayback.ExpandedStandard.{wrote-standard}
-use Rattle.crx_filter.proofs.wayback.Units.{reads-units}
-use Rattle.crx_filter.specs.declared.expansion.Expansion.{Expansion}
-use Rattle.crx_filter.specs.DirectionParts.{EngineParts}
-use Rattle.crx_filter.specs.LineByLine.{Seen}
-use Rattle.crx_filter.specs.meaning.Expanded.{expanded}
-use Rattle.crx_filter.specs.ExpanderState.{expander_state}
-use Rattle.crx_filter.specs.meaning.Directions.{expansion_filter}
-use Rattle.crx_runs.specs.meaning.Spans.{Input, reader_span, Device, span}
-use Rattle.std.proofs.lemmas.Result.{IfOk-weaker}
-use Rattle.crx_filter.proofs.following.Lawful.{expansion-lawful}
+use Rattle.crx_filter.proofs.{stretches.StretchesKept.{keeps-undamaged, writes-whole_units}, Words.{◌≡◌, ℕ}}
+use Rattle.crx_filter.proofs.Words.{List, [], Option, ap, OpenRawEpoch, Tail, expansion_seen, Seen, expanded}
+use Rattle.crx_filter.proofs.{Words.{expansion_filter, Device}, Kept.{kept, brings-back, saves-all_else}}
+use Rattle.crx_filter.proofs.{following.Lawful.expansion-lawful, wayback.Units.reads-units}
+use Rattle.crx_filter.proofs.{standard.Lossless.brings-back_passed, wayback.ExpandedStandard.wrote-standard}
+use Rattle.crx_filter.specs.{meaning.Stretches.{KeepsUndamaged, WritesWholeUnits}, DirectionParts.EngineParts}
 use Rattle.crx_filter.specs.meaning.Promises.{BringsBackWhatWasCompacted, SavesAllElse}
-use Rattle.crx_filter.proofs.Kept.{kept, brings-back, saves-all_else}
-use Rattle.crx_filter.specs.meaning.Stretches.{KeepsUndamaged, WritesWholeUnits}
-use Rattle.crx_filter.proofs.stretches.StretchesKept.{keeps-undamaged, writes-whole_units}
+use Rattle.crx_filter.specs.{meaning.Lossless.BringsBackWhatPasses, ExpanderState.expander_state}
+use Rattle.crx_filter.specs.{declared.expansion.Expansion.Expansion, meaning.UnitsAndText.ReadsUnits}
+use Rattle.crx_runs.specs.meaning.Spans.{Input, reader_span, span}
+use Rattle.std.proofs.lemmas.Result.{IfOk-weaker}
 use Rattle.crx_filter.proofs.filters.expand.Goals as goal
 
 pub returns : goal.returns
@@ -76,8 +65,7 @@ returns g c =
         ran.0,
         ran.1,
         kept expansion (expansion_filter choices) (KeepsUndamaged choices writer messages status fault) input
-            ran.0
-            writer messages status fault (keeps-undamaged choices writer messages status fault) ran.2,
+            ran.0 writer messages status fault (keeps-undamaged choices writer messages status fault) ran.2,
       );
       whole_units = (
         ran.0,

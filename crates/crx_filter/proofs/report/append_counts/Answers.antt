@@ -1,8 +1,6 @@
-use Rattle.std.proofs.Common.{◌++◌, length, take, ap, sym, ◌∙◌, arith, append_assoc}
-use Rattle.std.specs.List.{flat_map}
-use Rattle.crx_filter.specs.meaning.Standard.{count_text}
-use Rattle.crx_filter.proofs.Reports.{counts-more, one-there}
-use Rattle.crx_filter.proofs.report.append_counts.Goals.{in-Some, in_default}
+use Rattle.crx_filter.proofs.{Reports.{counts-more, one-there}, Words.{◌++◌, length, take, ap, sym, ◌∙◌}}
+use Rattle.crx_filter.proofs.{Words.{arith, append_assoc, flat_map}, report.append_counts.Goals.in-Some}
+use Rattle.crx_filter.{proofs.report.append_counts.Goals.in_default, specs.meaning.Standard.count_text}
 use Rattle.crx_filter.proofs.report.append_counts.Goals as goal
 
 pub loop-index-preserved : goal.loop-index-preserved
@@ -17,11 +15,9 @@ loop-index-preserved c =
           let size = w.append_count.ensures.size in
           let longer = ap length w.text-is in (
             w.text-is ∙ w.append_count.ensures.value ∙ ap (λ t. t ++ count_text
-                (w.in-Some.letter, w.in-Some.count)) i.0
-                ∙ append_assoc old (flat_map count_text (take index types))
-                (count_text (w.in-Some.letter, w.in-Some.count))
-                ∙ ap (λ t. old ++ t) (sym (counts-more types index
-                (w.in-Some.letter, w.in-Some.count) found)),
+                (w.in-Some.letter, w.in-Some.count)) i.0 ∙ append_assoc old (flat_map count_text (take index
+                types)) (count_text (w.in-Some.letter, w.in-Some.count)) ∙ ap (λ t. old ++ t) (sym
+                (counts-more types index (w.in-Some.letter, w.in-Some.count) found)),
             omega (arith, size, longer, i.1),
             i.2,
             i.3,

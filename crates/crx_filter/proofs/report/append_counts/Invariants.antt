@@ -1,5 +1,4 @@
-use Rattle.std.proofs.Common.{◌≡◌, ◌+◌, ◌≤◌, ◌*◌, ◌++◌, length, take}
-use Rattle.std.specs.List.{flat_map}
+use Rattle.crx_filter.proofs.Words.{◌≡◌, ◌+◌, ◌≤◌, ◌*◌, ◌++◌, length, take, flat_map}
 use Rattle.crx_filter.specs.meaning.Standard.{count_text}
 use Rattle.crx_filter.proofs.report.append_counts.Given as goal
 

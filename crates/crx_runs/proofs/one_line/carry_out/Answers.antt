@@ -1,10 +1,9 @@
-use Rattle.std.proofs.Common.{◌<◌, true, [], ◌∷◌, length, take, Ok, Err, refl, sym, ap₂, subst}
-use Rattle.std.proofs.Common.{◌∙◌, arith, append-nil}
+use Rattle.std.proofs.Common.{◌<◌, true, [], ◌∷◌, length, take, Ok, Err, refl, sym, ap₂, subst, ◌∙◌, arith}
+use Rattle.std.proofs.Common.{append-nil}
 use Rattle.crx_base.specs.meaning.Lines.{lines_text}
 use Rattle.crx_lines.specs.Devices.{sink_tally_of}
-use Rattle.crx_runs.{specs.{Engines.IsDrainedAfter, Taking.{IsSettled, made_by}}}
-use Rattle.crx_runs.specs.declared.{one_line.Halt.TheVariants.{Unreported}}
-use Rattle.crx_runs.specs.meaning.{Messages.warning_text, Spans.span}
+use Rattle.crx_runs.specs.{declared.one_line.Halt.TheVariants.Unreported, meaning.Messages.warning_text}
+use Rattle.crx_runs.specs.{meaning.Spans.span, Engines.IsDrainedAfter, Taking.{IsSettled, made_by}}
 use Rattle.crx_runs.proofs.one_line.carry_out.Goals as goal
 
 pub returns-in-Ok-write_all_counted-clause-settled : goal.returns-in-Ok-write_all_counted-clause-settled

@@ -1,12 +1,10 @@
-use Rattle.std.proofs.Common.{arith}
-use Rattle.std.proofs.Common.{⊎_elim, Ok, refl, sym, ap, subst, ◌∙◌}
+use Rattle.std.proofs.Common.{arith, ⊎_elim, Ok, refl, sym, ap, subst, ◌∙◌}
 use Rattle.std.proofs.lemmas.Result.{err_from_is_err_and}
-use Rattle.crx_runs.proofs.{DeviceSpans.span-joins, LinesTaken.{again-refused, again-settled, line-failed}}
-use Rattle.crx_runs.proofs.LinesTaken.{line-refused, line-settled, Stays, then_of}
-use Rattle.crx_runs.proofs.one_line.take_answered.{Given.Over, Goals.{After-carry_out-then-again, In_ok-warned}}
-use Rattle.crx_runs.{proofs.one_line.take_answered.Goals.Then-again, specs.Taking.{HasAnswered}}
-use Rattle.crx_runs.specs.{Taking.{LineIsTaken, TakenIs}}
-use Rattle.crx_runs.specs.{declared.engine.Step.TheVariants.Warned, meaning.Spans.span}
+use Rattle.crx_runs.{proofs.one_line.take_answered.Given.Over, specs.declared.engine.Step.TheVariants.Warned}
+use Rattle.crx_runs.proofs.LinesTaken.{again-refused, again-settled, line-failed, line-refused, line-settled}
+use Rattle.crx_runs.{proofs.LinesTaken.{Stays, then_of}, specs.meaning.Spans.span}
+use Rattle.crx_runs.{proofs.DeviceSpans.span-joins, specs.Taking.{HasAnswered, LineIsTaken, TakenIs}}
+use Rattle.crx_runs.proofs.one_line.take_answered.Goals.{After-carry_out-then-again, In_ok-warned, Then-again}
 use Rattle.crx_runs.proofs.one_line.take_answered.Goals as goal
 
 pub returns-in_err-step : goal.returns-in_err-step
@@ -37,11 +35,10 @@ returns-in_err-second-in-Warned g c = λ before a.
     (g.met.M.Sink.took_none _, refl))
 
 -- A line that comes a second time.
-twice : (g : Over) (c : After-carry_out-then-again g) (before : g.row.E.Denot)
-    → HasAnswered g.E.Engine before c.args.engine.now (TakenIs c.args.taken) c.args.answer
-    → LineIsTaken g.E.Engine before c.carry_out-then-again.new.engine (TakenIs c.args.taken)
-    (span g.W.Sink c.args.writer.now c.carry_out-then-again.new.writer)
-    (span g.M.Sink c.args.messages.now c.carry_out-then-again.new.messages)
+twice : (g : Over) (c : After-carry_out-then-again g) (before : g.row.E.Denot) → HasAnswered g.E.Engine before
+    c.args.engine.now (TakenIs c.args.taken) c.args.answer → LineIsTaken g.E.Engine before
+    c.carry_out-then-again.new.engine (TakenIs c.args.taken) (span g.W.Sink c.args.writer.now
+    c.carry_out-then-again.new.writer) (span g.M.Sink c.args.messages.now c.carry_out-then-again.new.messages)
     (then_of c.in_ok-warned.warned c.carry_out-then-again.result)
 twice g c before a = again-settled _ (c.in-Warned.is ∙ ap (Warned c.in-Warned.notice) c.if-again.true)
     (rw (← c.in_ok-step.was) a) c.carry_out.ensures.kept (span-joins g.W.Sink g.met.W.Sink.took_both)
@@ -61,10 +58,9 @@ returns-in_ok-carry_out-in-Warned g c = λ before a. rw c.in_ok-carry_out-in-War
     (twice g (goal.at.returns-in_ok-carry_out-in-Warned g c).After-carry_out-then-again before a)
 
 -- A line that doesn't come a second time.
-once : (g : Over) (c : In_ok-warned g) → Stays c.in_ok-step.step → (before : g.row.E.Denot)
-    → HasAnswered g.E.Engine before c.args.engine.now (TakenIs c.args.taken) c.args.answer
-    → LineIsTaken g.E.Engine before c.carry_out.new.engine (TakenIs c.args.taken)
-    (span g.W.Sink c.args.writer.now c.carry_out.new.writer)
+once : (g : Over) (c : In_ok-warned g) → Stays c.in_ok-step.step → (before : g.row.E.Denot) → HasAnswered
+    g.E.Engine before c.args.engine.now (TakenIs c.args.taken) c.args.answer → LineIsTaken g.E.Engine before
+    c.carry_out.new.engine (TakenIs c.args.taken) (span g.W.Sink c.args.writer.now c.carry_out.new.writer)
     (span g.M.Sink c.args.messages.now c.carry_out.new.messages) (Ok c.in_ok-warned.warned)
 once g c stays before a = line-settled _ _ _ _ _ _ (rw (← c.in_ok-step.was) a) stays c.carry_out.ensures.kept
     c.in_ok-warned.ensures.drained c.in_ok-warned.ensures.settled

@@ -4,8 +4,7 @@ use Rattle.crx_runs.specs.{Taking.KeepsLines, meaning.Spans.{TookAll, span}}
 use Rattle.crx_runs.proofs.ready_lines.write_ready.Given as goal
 
 abbrev pub invariant-loop-line : goal.invariant-loop-line
-invariant-loop-line g l =
-    ((written : List ℕ) × TookAll (span g.W.Sink l.fn.writer l.writer) written
+invariant-loop-line g l = ((written : List ℕ) × TookAll (span g.W.Sink l.fn.writer l.writer) written
     × (lines_text (g.E.Engine.ready l.fn.engine) ≡ written ++ lines_text (g.E.Engine.ready l.engine)))
     × KeepsLines g.E.Engine l.fn.engine l.engine
 

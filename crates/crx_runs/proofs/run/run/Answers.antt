@@ -25,10 +25,9 @@ returns-in-Ok g c =
     let m = c.args.messages.now in
     let then = c.finish-in-Ok.new in
     record {
-      runs = runs-as (g.E.Engine.filter c.args.engine.now) c.requires.lawful
-          (reader_span g.R.Source c.args.reader.now work.new.reader)
-          (span-joins g.W.Sink g.met.W.Sink.took_both) (span-joins g.M.Sink g.met.M.Sink.took_both)
-          (g.E.Engine.has_ended work.new.engine) (reading work.new.input) work.result.last work.result.warned
-          work.result.halt c.finish-in-Ok.result.status c.finish-in-Ok.result.fault work.ensures
-          c.finish-in-Ok.ensures;
+      runs = runs-as (g.E.Engine.filter c.args.engine.now) c.requires.lawful (reader_span g.R.Source
+          c.args.reader.now work.new.reader) (span-joins g.W.Sink g.met.W.Sink.took_both) (span-joins g.M.Sink
+          g.met.M.Sink.took_both) (g.E.Engine.has_ended work.new.engine) (reading work.new.input)
+          work.result.last work.result.warned work.result.halt c.finish-in-Ok.result.status
+          c.finish-in-Ok.result.fault work.ensures c.finish-in-Ok.ensures;
     }

@@ -1,7 +1,6 @@
-use Rattle.std.proofs.Common.{arith}
-use Rattle.std.{proofs.Common.{refl}, specs.Prelude.⊤}
-use Rattle.crx_runs.{proofs.{Conclusions.runs-nothing, DeviceSpans.span-joins}}
-use Rattle.crx_runs.specs.meaning.{Filters.Filter, Spans.{reader_span}}
+use Rattle.std.{proofs.Common.{arith, refl}, specs.Prelude.⊤}
+use Rattle.crx_runs.proofs.{Conclusions.runs-nothing, DeviceSpans.span-joins}
+use Rattle.crx_runs.specs.meaning.{Filters.Filter, Spans.reader_span}
 use Rattle.crx_runs.proofs.start.start.Goals as goal
 
 pub returns-in-Ok : goal.returns-in-Ok

@@ -1,12 +1,11 @@
-use Rattle.std.proofs.Common.{◌≡◌, inl, inr, List, Ok, refl, sym, ap, subst, ◌∙◌}
-use Rattle.std.proofs.{Common.arith, lemmas.Result.err_from_is_err_and}
-use Rattle.crx_lines.specs.{Progress.HasRead, Readers.reading, Reading.{ReaderState}}
+use Rattle.std.proofs.{lemmas.Result.err_from_is_err_and, Common.{◌≡◌, inl, inr, List, Ok, refl, sym, ap}}
+use Rattle.std.proofs.Common.{subst, ◌∙◌, arith}
+use Rattle.crx_lines.specs.{Progress.HasRead, Reading.ReaderState, Readers.reading}
 use Rattle.crx_lines.specs.{declared.phase.Phase.TheVariants.Ended, meaning.Devices.{Tally, tally_of}}
-use Rattle.crx_base.specs.{meaning.Lines.{InputLine}}
-use Rattle.crx_runs.proofs.{DeviceSpans.span-joins, RunningSteps.{goes-by, ends-by}, StepReading.HasAsked}
-use Rattle.crx_runs.proofs.StepReading.{line-read, overlong-read, stop-read, end-read}
-use Rattle.crx_runs.proofs.{StepReading.{line-passed, overlong-passed, ended-not-open}, step.step.Given.Over}
-use Rattle.crx_runs.proofs.step.step.Goals.{After-next_line}
+use Rattle.crx_base.specs.meaning.Lines.{InputLine}
+use Rattle.crx_runs.proofs.StepReading.{HasAsked, line-read, overlong-read, stop-read, end-read, line-passed}
+use Rattle.crx_runs.proofs.{StepReading.{overlong-passed, ended-not-open}, RunningSteps.{goes-by, ends-by}}
+use Rattle.crx_runs.proofs.{step.step.Goals.After-next_line, step.step.Given.Over, DeviceSpans.span-joins}
 use Rattle.crx_runs.proofs.step.step.Goals as goal
 
 -- How often a reader has failed and has told the end.
@@ -100,7 +99,6 @@ returns-in_ok-take_line-in-Ok-Some-clause-farther g c =
 
 pub returns-in_ok-take_overlong-in-LineTooLong-clause-farther :
     goal.returns-in_ok-take_overlong-in-LineTooLong-clause-farther
-returns-in_ok-take_overlong-in-LineTooLong-clause-farther g c =
-    overlong-passed (asked g (goal.at.returns-in_ok-take_overlong-in-LineTooLong-clause-farther g
-    c).After-next_line)
-    c.in-Err.at c.in-Err.is c.in-LineTooLong.is
+returns-in_ok-take_overlong-in-LineTooLong-clause-farther g c = overlong-passed (asked g
+    (goal.at.returns-in_ok-take_overlong-in-LineTooLong-clause-farther g c).After-next_line) c.in-Err.at
+    c.in-Err.is c.in-LineTooLong.is

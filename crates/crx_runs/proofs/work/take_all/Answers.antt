@@ -1,18 +1,15 @@
 use Rattle.std.proofs.Common.{inl, inr, ◌||◌, [], sym, ap, arith, ◌∙◌}
 use Rattle.crx_lines.specs.Readers.{reading}
 use Rattle.crx_runs.proofs.{DeviceSpans.span-joins, RunningSteps.{go-on, stopped-end, well-done}}
-use Rattle.crx_runs.proofs.work.take_all.{Given.Over, Goals.{After-step, In-Ok, In-Ok-None, In-Ok-Some}}
-use Rattle.crx_runs.specs.{Running.{StepGoes}}
-use Rattle.crx_runs.specs.{Taking.IsDone, meaning.{Spans.{reader_span, span}}}
+use Rattle.crx_runs.proofs.work.take_all.{Given.Over, Goals.{After-step, In-Ok}}
+use Rattle.crx_runs.specs.{Running.StepGoes, Taking.IsDone, meaning.Spans.{reader_span, span}}
 use Rattle.crx_runs.proofs.work.take_all.Goals as goal
 
 -- What a step does, by the filter that the engine had at first.
-goes : (g : Over) (c : After-step g)
-    → StepGoes (g.E.Engine.filter c.args.engine.now) (g.E.Engine.shows c.step.new.engine)
-    (reader_span g.R.Source c.args.reader.now c.step.new.reader)
-    (span g.W.Sink c.args.writer.now c.step.new.writer)
-    (span g.M.Sink c.args.messages.now c.step.new.messages) (reading c.step.new.input) c.lines.invariant.0.0
-    c.step.result
+goes : (g : Over) (c : After-step g) → StepGoes (g.E.Engine.filter c.args.engine.now)
+    (g.E.Engine.shows c.step.new.engine) (reader_span g.R.Source c.args.reader.now c.step.new.reader) (span
+    g.W.Sink c.args.writer.now c.step.new.writer) (span g.M.Sink c.args.messages.now c.step.new.messages)
+    (reading c.step.new.input) c.lines.invariant.0.0 c.step.result
 goes = grind arith
 
 pub lines-preserved-then-warned : goal.lines-preserved-then-warned
@@ -39,11 +36,10 @@ lines-preserved g c =
     )
 
 -- The end of the input was taken, and nothing failed.
-end-done : (g : Over) (c : In-Ok g) → g.E.Engine.shows c.step.new.engine c.lines.invariant.0.0 []
-    → IsDone ((g.E.Engine.filter c.args.engine.now).so_far c.lines.invariant.0.0)
-    ((g.E.Engine.filter c.args.engine.now).whole c.lines.invariant.0.0)
-    (g.E.Engine.has_ended c.take_end.new.engine c.lines.invariant.0.0)
-    (span g.W.Sink c.step.new.writer c.take_end.new.writer)
+end-done : (g : Over) (c : In-Ok g) → g.E.Engine.shows c.step.new.engine c.lines.invariant.0.0 [] → IsDone
+    ((g.E.Engine.filter c.args.engine.now).so_far c.lines.invariant.0.0)
+    ((g.E.Engine.filter c.args.engine.now).whole c.lines.invariant.0.0) (g.E.Engine.has_ended
+    c.take_end.new.engine c.lines.invariant.0.0) (span g.W.Sink c.step.new.writer c.take_end.new.writer)
     (span g.M.Sink c.step.new.messages c.take_end.new.messages) c.in-Ok.warning
 end-done g c shown = rw (← c.lines.invariant.3, ← c.step.ensures.filter) (c.in-Ok.ensures.done _ shown)
 

@@ -1,16 +1,11 @@
-use Rattle.std.proofs.Common.{◌≡◌, ◌⊎◌, ◌≤◌, [], None, Some, length, ap, sym, subst, ◌∙◌}
-use Rattle.crx_lines.specs.Reading.{line_shown}
-use Rattle.crx_base.specs.declared.limits.TheConstants.{LINE_LIMIT}
-use Rattle.crx_base.specs.declared.fault.At.{At}
-use Rattle.crx_filter.specs.meaning.Directions.{check_filter, fault_so_far}
-use Rattle.crx_filter.specs.CheckerState.{is_reading, checker_state_with}
-use Rattle.crx_filter.specs.RinexStages.{is_open_stage}
-use Rattle.crx_filter.specs.declared.rinex_reader.RinexReader.{RinexReader}
-use Rattle.crx_runs.specs.Engines.{RunsOutAt}
-use Rattle.crx_runs.specs.meaning.Filters.{with_next}
-use Rattle.crx_filter.specs.RinexReaders.{reader_phase, made_at, TakesRinexLine, RefusesRinexLine}
-use Rattle.crx_filter.proofs.steps.EngineAnswers.{short-line}
+use Rattle.crx_filter.proofs.Words
+use Words.{◌≡◌, ◌⊎◌, ◌≤◌, [], None, Some, length, ap, sym, subst, ◌∙◌, LINE_LIMIT, At, check_filter}
+use Words.{checker_state_with, is_open_stage, RinexReader, with_next, reader_phase, made_at, TakesRinexLine}
 use Rattle.crx_filter.proofs.steps.CheckerSteps.{has-printed, still-reading, took-line, refused-line}
+use Rattle.crx_filter.{proofs.steps.EngineAnswers.short-line, specs.CheckerState.is_reading}
+use Rattle.crx_filter.specs.{RinexReaders.RefusesRinexLine, meaning.Directions.fault_so_far}
+use Rattle.crx_lines.specs.Reading.{line_shown}
+use Rattle.crx_runs.specs.Engines.{RunsOutAt}
 use Rattle.crx_filter.proofs.checker.Checker.read.Goals as goal
 
 pub returns-in-Ok-clause-open : goal.returns-in-Ok-clause-open
@@ -49,27 +44,22 @@ returns-in-Ok-clause-good c lines same =
     (c.count.ensures.totals before made takes) (c.count.ensures.standard before made takes some) same in (
       took.0,
       ap (λ r. checker_state_with r c.count.new.self.number c.count.new.self.totals
-          c.count.new.self.not_standard)
-          c.count.ensures.reader
-          ∙ ap (λ n. checker_state_with c.take_line.new.reader n c.count.new.self.totals
-          c.count.new.self.not_standard)
-          c.count.ensures.number
-          ∙ took.1,
+          c.count.new.self.not_standard) c.count.ensures.reader ∙ ap (λ n. checker_state_with
+          c.take_line.new.reader n c.count.new.self.totals c.count.new.self.not_standard)
+          c.count.ensures.number ∙ took.1,
     )
 
 pub returns-in-Err-clause-faulty : goal.returns-in-Err-clause-faulty
 returns-in-Err-clause-faulty c lines same =
     let before = c.args.self.now.reader in
     let line = line_shown c.args.line in
-    let refuses : RefusesRinexLine
-    (made_at before line.content (record { index = 0; tail = None })) before line.content c.in-Err.fault =
-    subst (λ t. RefusesRinexLine (made_at before t (record { index = 0; tail = None })) before t
-    c.in-Err.fault)
-    c.bytes.ensures.content (c.in-Err.ensures.refuses (record { index = 0; tail = None })) in
-    let refused = refused-line before
-    c.args.self.now.number c.args.self.now.totals c.args.self.now.not_standard line lines c.in-Err.fault
-    (short-line line (subst (λ t. length t ≤ LINE_LIMIT) c.bytes.ensures.content c.bytes.ensures.limit))
-    refuses same in
+    let refuses : RefusesRinexLine (made_at before line.content (record { index = 0; tail = None })) before
+    line.content c.in-Err.fault = subst (λ t. RefusesRinexLine (made_at before t (record
+    { index = 0; tail = None })) before t c.in-Err.fault) c.bytes.ensures.content
+    (c.in-Err.ensures.refuses (record { index = 0; tail = None })) in
+    let refused = refused-line before c.args.self.now.number c.args.self.now.totals
+    c.args.self.now.not_standard line lines c.in-Err.fault (short-line line (subst (λ t. length t
+    ≤ LINE_LIMIT) c.bytes.ensures.content c.bytes.ensures.limit)) refuses same in
     subst (λ (at : At). RunsOutAt check_filter lines line [] at
     ⊎ (fault_so_far (with_next lines line) ≡ Some at))
     (sym c.fail.ensures.value) refused

@@ -1,8 +1,6 @@
-use Rattle.std.proofs.Common.{refl, ap, sym, ◌∙◌}
-use Rattle.crx_base.specs.meaning.Lines.{lines_text}
-use Rattle.crx_filter.specs.meaning.Standard.{Findings, report_lines, findings_of}
-use Rattle.crx_filter.specs.meaning.Directions.{report_unless}
-use Rattle.crx_filter.proofs.steps.CheckerEnds.{good-end, bad-end, found-there}
+use Rattle.crx_filter.proofs.{Words.{refl, ap, sym, ◌∙◌, lines_text, findings_of}, steps.CheckerEnds.good-end}
+use Rattle.crx_filter.proofs.steps.CheckerEnds.{bad-end, found-there}
+use Rattle.crx_filter.specs.meaning.{Directions.report_unless, Standard.{Findings, report_lines}}
 use Rattle.crx_filter.proofs.checker.CheckerEngine.end.Goals as goal
 
 pub returns-in-None-clause-concludes : goal.returns-in-None-clause-concludes

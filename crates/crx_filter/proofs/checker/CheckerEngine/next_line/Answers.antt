@@ -1,11 +1,7 @@
-use Rattle.std.proofs.Common.{◌≡◌, ◌∙◌, sym, ap, refl, ℕ, zero, suc, List, [], ◌∷◌, drop, Option, Some, None}
-use Rattle.std.proofs.Common.{true≢false}
-use Rattle.std.specs.Prelude.{is_some, slice_get}
-use Rattle.std.proofs.lemmas.List.{drop-drop}
-use Rattle.crx_header.specs.meaning.ObservationTypes.{Count}
-use Rattle.crx_filter.specs.Totals.{found_held}
-use Rattle.crx_filter.specs.meaning.Standard.{report_lines}
-use Rattle.crx_filter.specs.CheckerState.{report_left}
+use Rattle.crx_filter.proofs.Words.{common_steps, arith, ◌≡◌, ◌∙◌, sym, ap, refl, ℕ, zero, suc, List, [], ◌∷◌}
+use Rattle.crx_filter.proofs.Words.{drop, Option, Some, None, true≢false, is_some, Count}
+use Rattle.crx_filter.specs.{CheckerState.report_left, Totals.found_held, meaning.Standard.report_lines}
+use Rattle.std.{proofs.lemmas.List.drop-drop, specs.Prelude.slice_get}
 use Rattle.crx_filter.proofs.checker.CheckerEngine.next_line.Goals as goal
 
 -- the first of what is left is the next one
@@ -38,44 +34,14 @@ returns-then-print_report_line c =
         ),
       ),
       record {
-        value = ap {B = Option (List ℕ)} (λ (t : List ℕ). Some t) c.bytes.ensures.value
-            ∙ sym c.if-print_report_line.ensures.line
-            ∙ ap {B = Option (List ℕ)} (λ (types : List Count).
-            slice_get (report_lines (found_held self.totals types self.not_standard)) n) c.types.ensures.value
-            ∙ first-left n report ∙ ap {B = Option (List ℕ)} (λ (ls : List (List ℕ)). slice_get ls 0)
-            (sym pending);
+        value = ap {B = Option (List ℕ)} (λ (t : List ℕ). Some t) c.bytes.ensures.value ∙ sym
+            c.if-print_report_line.ensures.line ∙ ap {B = Option (List ℕ)} (λ (types : List Count). slice_get
+            (report_lines (found_held self.totals types self.not_standard)) n) c.types.ensures.value
+            ∙ first-left n report ∙ ap {B = Option (List ℕ)} (λ (ls : List (List ℕ)). slice_get ls 0) (sym
+            pending);
         after_borrow = tt;
       },
     )
 
 pub returns : goal.returns
-returns c =
-    let self = c.args.self.now in
-    let n : ℕ = c.in_ok-handed_out.handed_out in
-    let report : List (List ℕ) = report_lines (found_held self.totals self.reader.types self.not_standard) in
-    let pending = ap {B = List (List ℕ)} (λ (h : Option ℕ).
-    report_left h (found_held self.totals self.reader.types self.not_standard)) c.in_ok-handed_out.was in
-    let none = ap {B = Option (List ℕ)} (λ (ls : List (List ℕ)). slice_get ls 0) pending
-    ∙ sym (first-left n report)
-    ∙ ap {B = Option (List ℕ)} (λ (types : List Count).
-    slice_get (report_lines (found_held self.totals types self.not_standard)) n) (sym c.types.ensures.value)
-    ∙ c.if-print_report_line.ensures.line in (
-      (
-        refl,
-        λ _. tt,
-        (
-          none-left _ none,
-          refl,
-          λ lines notices taken. taken,
-          λ is_open. record {
-            reading = is_open.reading;
-            bounded = is_open.bounded;
-            none_handed_out = is_open.none_handed_out;
-            named = is_open.named;
-            observed = is_open.observed;
-          },
-          λ lines ended. ended,
-        ),
-      ),
-      record { value = sym none; after_borrow = tt },
-    )
+returns c = grind (arith, common_steps, first-left, none-left)

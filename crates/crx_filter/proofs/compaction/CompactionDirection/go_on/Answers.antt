@@ -1,18 +1,13 @@
-use Rattle.std.proofs.Common.{refl, ap, ◌∙◌}
+use Rattle.crx_filter.proofs.Words.{common_steps, arith, refl, ap, ◌∙◌, is_at_every}
 use Rattle.std.proofs.lemmas.Result.{err_from_is_err_and}
 use Rattle.crx_compact.specs.Encoding.{EncoderState}
-use Rattle.crx_filter.specs.meaning.Compacted.{is_at_every}
 use Rattle.crx_filter.proofs.steps.CompactionSteps.{ended-read, lost-read, moved-read, refused-read}
 use Rattle.crx_filter.proofs.steps.Together.{closed-together, due-there, row-asked, row-closed, row-ends}
 use Rattle.crx_filter.proofs.steps.Together.{row-moves, row-together, served-closed}
 use Rattle.crx_filter.proofs.compaction.CompactionDirection.go_on.Goals as goal
 
 pub returns-in_err-is_last-clause-reads : goal.returns-in_err-is_last-clause-reads
-returns-in_err-is_last-clause-reads c =
-    let p = err_from_is_err_and c.from_residual.result c.from_residual.ensures.1 in
-    let row = c.in_err-is_last.ensures.refused in
-    rw (← c.self.view_is, p.1, p.2)
-    (refused-read c.self.inside.reader c.take_row.new.reader (row.refuses _) row.types refl row.nothing)
+returns-in_err-is_last-clause-reads c = grind (arith, common_steps, refused-read)
 
 pub returns-in_err-is_last-clause-serves : goal.returns-in_err-is_last-clause-serves
 returns-in_err-is_last-clause-serves c = rw (← c.self.view_is) (λ choices.
@@ -36,9 +31,8 @@ end_epoch-requires c =
     record { «open» = asked.0; whole = asked.1.0; begun = asked.1.1 }
 
 pub invariant_of-self-in_err-end_epoch : goal.invariant_of-self-in_err-end_epoch
-invariant_of-self-in_err-end_epoch c = closed-together _ _
-    (row-closed c.in_ok-is_last.ensures.written c.if-not-is_last.false) c.end_epoch.ensures.closed
-    c.end_epoch.ensures.rows
+invariant_of-self-in_err-end_epoch c = closed-together _ _ (row-closed c.in_ok-is_last.ensures.written
+    c.if-not-is_last.false) c.end_epoch.ensures.closed c.end_epoch.ensures.rows
 
 pub returns-in_err-end_epoch-clause-reads : goal.returns-in_err-end_epoch-clause-reads
 returns-in_err-end_epoch-clause-reads c =
@@ -53,9 +47,8 @@ returns-in_err-end_epoch-clause-serves c = λ choices is. served-closed _ _ _
     (row-closed c.in_ok-is_last.ensures.written c.if-not-is_last.false)
 
 pub invariant_of-self-2 : goal.invariant_of-self-2
-invariant_of-self-2 c = closed-together _ _
-    (row-closed c.in_ok-is_last.ensures.written c.if-not-is_last.false) c.end_epoch.ensures.closed
-    c.end_epoch.ensures.rows
+invariant_of-self-2 c = closed-together _ _ (row-closed c.in_ok-is_last.ensures.written
+    c.if-not-is_last.false) c.end_epoch.ensures.closed c.end_epoch.ensures.rows
 
 pub returns-clause-reads : goal.returns-clause-reads
 returns-clause-reads c =

@@ -1,26 +1,18 @@
-use Rattle.std.proofs.Common.{None, arith, ap, sym, refl, ◌∙◌}
-use Rattle.std.proofs.lemmas.Bool.{not-true, not-false}
-use Rattle.std.proofs.lemmas.Result.{err_from_is_err_and}
+use Rattle.crx_filter.proofs.Words.{common_steps, None, arith, ap, sym, refl, ◌∙◌, not-true, is_open_stage}
+use Rattle.crx_filter.proofs.{Words.{Choices, is_at_every}, steps.CompactionSteps.{ended-read, event-closed}}
+use Rattle.crx_filter.proofs.steps.CompactionSteps.{event-read, header-read, lost-read, moved-read, of-event}
+use Rattle.crx_filter.proofs.steps.{CompactionSteps.refused-read, Together.{begun-asked, begun-open}}
+use Rattle.crx_filter.proofs.steps.Together.{begun-rows, begun-together, begun-whole, closed-together}
+use Rattle.crx_filter.proofs.steps.Together.{none-there, same-together, served-closed, served-open}
+use Rattle.std.proofs.lemmas.{Bool.not-false, Result.err_from_is_err_and}
 use Rattle.crx_compact.specs.Encoding.{EncoderState}
-use Rattle.crx_filter.specs.RinexStages.{is_open_stage}
-use Rattle.crx_base.specs.meaning.Choices.{Choices}
-use Rattle.crx_filter.specs.meaning.Compacted.{is_at_every}
-use Rattle.crx_filter.proofs.steps.CompactionSteps.{ended-read, event-closed, event-read, header-read}
-use Rattle.crx_filter.proofs.steps.CompactionSteps.{lost-read, moved-read, of-event, refused-read}
-use Rattle.crx_filter.proofs.steps.Together.{begun-asked, begun-open, begun-rows, begun-together, begun-whole}
-use Rattle.crx_filter.proofs.steps.Together.{closed-together, none-there, same-together, served-closed}
-use Rattle.crx_filter.proofs.steps.Together.{served-open}
 use Rattle.crx_filter.proofs.compaction.CompactionDirection.take.Goals as goal
 
 pub invariant_of-self : goal.invariant_of-self
 invariant_of-self c = same-together _ _ _ c.self.invariant c.in_err-take.ensures.same
 
 pub returns-in_err-take-clause-reads : goal.returns-in_err-take-clause-reads
-returns-in_err-take-clause-reads c =
-    let p = err_from_is_err_and c.from_residual.result c.from_residual.ensures.1 in
-    let drained = rw (← c.self.view_is) at c.requires.drained in
-    rw (← c.self.view_is, p.1, p.2) (refused-read c.self.inside.reader c.take.new.self
-    (c.in_err-take.ensures.refuses _) c.in_err-take.ensures.same.types refl drained)
+returns-in_err-take-clause-reads c = grind (arith, common_steps, refused-read)
 
 pub returns-in_err-take-clause-serves : goal.returns-in_err-take-clause-serves
 returns-in_err-take-clause-serves c =
@@ -71,9 +63,8 @@ end_epoch-requires c =
     record { «open» = asked.0; whole = asked.1.0; begun = asked.1.1 }
 
 pub invariant_of-self-in_err-end_epoch-in-Begun : goal.invariant_of-self-in_err-end_epoch-in-Begun
-invariant_of-self-in_err-end_epoch-in-Begun c = closed-together _ _
-    (not-true _ (sym c.is_whole.ensures.value ∙ c.if-not-is_whole.false)) c.end_epoch.ensures.closed
-    c.end_epoch.ensures.rows
+invariant_of-self-in_err-end_epoch-in-Begun c = closed-together _ _ (not-true _ (sym c.is_whole.ensures.value
+    ∙ c.if-not-is_whole.false)) c.end_epoch.ensures.closed c.end_epoch.ensures.rows
 
 pub returns-in_err-end_epoch-in-Begun-clause-reads : goal.returns-in_err-end_epoch-in-Begun-clause-reads
 returns-in_err-end_epoch-in-Begun-clause-reads c =
@@ -90,9 +81,8 @@ returns-in_err-end_epoch-in-Begun-clause-serves c = served-closed _ _ _
     (not-true _ (sym c.is_whole.ensures.value ∙ c.if-not-is_whole.false))
 
 pub invariant_of-self-in-Begun : goal.invariant_of-self-in-Begun
-invariant_of-self-in-Begun c = closed-together _ _
-    (not-true _ (sym c.is_whole.ensures.value ∙ c.if-not-is_whole.false)) c.end_epoch.ensures.closed
-    c.end_epoch.ensures.rows
+invariant_of-self-in-Begun c = closed-together _ _ (not-true _ (sym c.is_whole.ensures.value
+    ∙ c.if-not-is_whole.false)) c.end_epoch.ensures.closed c.end_epoch.ensures.rows
 
 pub returns-in_ok-end_epoch-in-Begun-clause-reads : goal.returns-in_ok-end_epoch-in-Begun-clause-reads
 returns-in_ok-end_epoch-in-Begun-clause-reads c =

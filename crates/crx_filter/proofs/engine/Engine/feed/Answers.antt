@@ -1,13 +1,8 @@
-use Rattle.std.proofs.Common.{Result, sym, subst, ap, ◌∙◌}
-use Rattle.crx_base.specs.declared.fault.At.{At}
-use Rattle.crx_runs.specs.declared.engine.Step.{Step}
-use Rattle.crx_lines.specs.Reading.{line_shown}
-use Rattle.crx_base.specs.meaning.Seen.{Content}
-use Rattle.crx_runs.specs.Engines.{answer_given}
-use Rattle.crx_filter.specs.DirectionParts.{EngineParts}
-use Rattle.crx_filter.specs.EngineSteps.{Steps}
-use Rattle.crx_filter.specs.EngineState.{engine_seen, engine_ready}
+use Rattle.crx_filter.proofs.Words.{Result, sym, subst, ap, ◌∙◌, At, Content, Steps}
 use Rattle.crx_filter.proofs.steps.EngineAnswers.{answers-seen, seen-within}
+use Rattle.crx_filter.specs.{DirectionParts.EngineParts, EngineState.{engine_seen, engine_ready}}
+use Rattle.crx_runs.specs.{Engines.answer_given, declared.engine.Step.Step}
+use Rattle.crx_lines.specs.Reading.{line_shown}
 use Rattle.crx_filter.proofs.engine.Engine.feed.Goals as goal
 
 pub returns-clause-answers : goal.returns-clause-answers

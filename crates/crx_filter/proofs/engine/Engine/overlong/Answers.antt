@@ -1,9 +1,5 @@
-use Rattle.std.proofs.Common.{inl, ap, ◌∙◌, List, ℕ}
-use Rattle.crx_base.specs.meaning.Seen.{Overlong}
-use Rattle.crx_filter.specs.EngineState.{engine_seen}
-use Rattle.crx_filter.specs.EngineSteps.{step_made}
-use Rattle.crx_filter.proofs.steps.EngineAnswers.{answers-seen, seen-long}
-use Rattle.crx_filter.proofs.steps.EngineLemmas.{repeats}
+use Rattle.crx_filter.proofs.{Words.{inl, ap, ◌∙◌, List, ℕ, Overlong, step_made}, steps.EngineLemmas.repeats}
+use Rattle.crx_filter.{proofs.steps.EngineAnswers.{answers-seen, seen-long}, specs.EngineState.engine_seen}
 use Rattle.crx_filter.proofs.engine.Engine.overlong.Goals as goal
 
 pub returns-clause-answers : goal.returns-clause-answers

@@ -1,5 +1,4 @@
-use Rattle.std.proofs.Common.{sym}
-use Rattle.crx_filter.proofs.steps.EngineFaults.{refused-line}
+use Rattle.crx_filter.proofs.{Words.sym, steps.EngineFaults.refused-line}
 use Rattle.crx_filter.proofs.engine.Engine.take_between.Goals as goal
 
 pub returns-in-Err : goal.returns-in-Err

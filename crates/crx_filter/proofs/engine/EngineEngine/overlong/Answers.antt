@@ -1,7 +1,5 @@
-use Rattle.std.proofs.Common.{inl}
-use Rattle.crx_base.specs.meaning.Seen.{Overlong}
+use Rattle.crx_filter.proofs.{Words.{inl, Overlong}, steps.StepCounts.{steps-counted, answers-counted}}
 use Rattle.crx_filter.specs.EngineState.{engine_seen, engine_ready, engine_took}
-use Rattle.crx_filter.proofs.steps.StepCounts.{steps-counted, answers-counted}
 use Rattle.crx_filter.proofs.engine.EngineEngine.overlong.Goals as goal
 
 pub returns-clause-count : goal.returns-clause-count

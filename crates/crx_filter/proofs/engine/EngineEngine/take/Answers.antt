@@ -1,6 +1,5 @@
 use Rattle.crx_lines.specs.Reading.{line_shown}
-use Rattle.crx_base.specs.meaning.Seen.{Content}
-use Rattle.crx_filter.proofs.steps.EngineAnswers.{answers-seen, seen-within}
+use Rattle.crx_filter.proofs.{Words.Content, steps.EngineAnswers.{answers-seen, seen-within}}
 use Rattle.crx_filter.proofs.steps.StepCounts.{steps-counted, steps-drained}
 use Rattle.crx_filter.proofs.engine.EngineEngine.take.Goals as goal
 

@@ -1,17 +1,13 @@
-use Rattle.std.proofs.Common.{◌≡◌, Bool, ℕ, List, Ok, ap, refl, arith, ◌∙◌}
-use Rattle.crx_rinex.specs.meaning.EpochPlaces.{OpenEpoch}
-use Rattle.crx_rinex.specs.Heads.{head_line}
-use Rattle.crx_rinex.specs.declared.epoch_line.Head.{Head}
-use Rattle.crx_filter.specs.meaning.Items.{records_announced, counts_types}
-use Rattle.crx_filter.specs.LineByLine.{with_records_left}
 use Rattle.crx_filter.proofs.RinexSteps.{begin-made, event-made, event-counts, begun-part, begun-whole}
+use Rattle.crx_filter.proofs.Words.{◌≡◌, Bool, ℕ, List, Ok, ap, refl, arith, ◌∙◌, OpenEpoch}
+use Rattle.crx_filter.proofs.Words.{records_announced, counts_types, with_records_left}
 use Rattle.crx_filter.proofs.rinex_reader.RinexReader.begin.Goals.{then-count-eq0, else-count-eq0}
+use Rattle.crx_rinex.specs.{Heads.head_line, declared.epoch_line.Head.Head}
 use Rattle.crx_filter.proofs.rinex_reader.RinexReader.begin.Goals as goal
 
-event-phase : (line : List ℕ) (count : ℕ) (counted : Bool)
-    → records_announced line ≡ count → counted ≡ counts_types line
-    → with_records_left {O = OpenEpoch} count counted ≡ with_records_left (records_announced line)
-    (counts_types line)
+event-phase : (line : List ℕ) (count : ℕ) (counted : Bool) → records_announced line ≡ count → counted
+    ≡ counts_types line → with_records_left {O = OpenEpoch} count counted ≡ with_records_left
+    (records_announced line) (counts_types line)
 event-phase line count counted is same = rw (is, same) refl
 
 pub returns-in-Event : goal.returns-in-Event

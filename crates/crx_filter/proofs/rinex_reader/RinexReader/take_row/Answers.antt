@@ -1,19 +1,14 @@
-use Rattle.std.proofs.Common.{◌≡◌, ◌+◌, ◌≤◌, ◌++◌, ◌∷◌, [], List, length, refl, arith, sym, ap, ◌∙◌}
+use Rattle.crx_filter.proofs.Words.{common_steps, ◌≡◌, ◌+◌, ◌≤◌, ◌++◌, ◌∷◌, [], List, length, refl, arith}
+use Rattle.crx_filter.proofs.Words.{sym, ap, ◌∙◌, ObservationHead, Row, RinexReader}
 use Rattle.std.proofs.lemmas.List.{length_push}
 use Rattle.crx_base.specs.declared.limits.TheConstants.{SATELLITES_LIMIT}
-use Rattle.crx_rinex.specs.meaning.EpochLines.{IsObservationHead, ObservationHead}
-use Rattle.crx_rinex.specs.meaning.Observations.{Row}
-use Rattle.crx_filter.specs.declared.rinex_reader.RinexReader.{RinexReader}
+use Rattle.crx_rinex.specs.meaning.EpochLines.{IsObservationHead}
 use Rattle.crx_filter.proofs.RinexSteps.{IsInEpoch, in-its-epoch, last-row-taken, row-taken, stays-open}
 use Rattle.crx_filter.proofs.rinex_reader.RinexReader.take_row.Goals as goal
 
 few : (r : RinexReader) (head : ObservationHead) (row : Row) (rows : List Row) → IsInEpoch r head
     → IsObservationHead head → rows ≡ r.rows.rows ++ row ∷ [] → length rows ≤ SATELLITES_LIMIT
-few r head row rows at sound is =
-    let counted = at.counted in
-    let wants = at.wants in
-    let within = sound.within in
-    omega (arith, counted, wants, within, ap length is, length_push r.rows.rows row)
+few r head row rows at sound is = grind (arith, common_steps, length_push)
 
 pub overflow_add-self : goal.overflow_add-self
 overflow_add-self c =
@@ -27,9 +22,8 @@ returns-then-self-announced-clause-takes c = λ line kept read other new.
     (record { types_then = refl; held = c.in-Some.is; rows_then = c.add.ensures.rows }) refl
 
 pub returns-then-self-announced-clause-few : goal.returns-then-self-announced-clause-few
-returns-then-self-announced-clause-few c =
-    few c.args.self.now c.in-Some.head c.args.self.now.row c.add.new.self.rows
-    (in-its-epoch c.args.self.now c.in-Some.head c.requires.«open» c.in-Some.is)
+returns-then-self-announced-clause-few c = few c.args.self.now c.in-Some.head c.args.self.now.row
+    c.add.new.self.rows (in-its-epoch c.args.self.now c.in-Some.head c.requires.«open» c.in-Some.is)
     c.count-announced.ensures.sound c.add.ensures.rows
 
 pub invariant_of-self-else-self-announced : goal.invariant_of-self-else-self-announced
