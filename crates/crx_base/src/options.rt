@@ -2,7 +2,7 @@
 
 ghost use Rattle.std.specs.Prelude.{◌≡◌, ◌-◌, ◌≤◌, ◌++◌, length, replicate, false, true, IsTrue, MatchResult};
 ghost use Rattle.crx_base.specs.declared.limits.TheConstants.{DATE_LIMIT};
-ghost use Rattle.crx_base.specs.meaning.Choices.{choices_of, is_date, kept_every};
+ghost use Rattle.crx_base.specs.meaning.Choices.{choices_of, is_date};
 
 use crate::limits::DATE_LIMIT;
 use std::marker::Model;
@@ -64,16 +64,6 @@ pub fn in_columns(date: &[u8]) -> [u8; DATE_LIMIT]
     columns
 }
 
-/// The choice itself, 0 as none.
-fn kept_every(every: Option<u32>) -> Option<u32>
-    ensures { result ≡ kept_every every }
-{
-    match every {
-        Some(0) => None,
-        other => other,
-    }
-}
-
 impl Options {
     /// The choices: an epoch in full at each that `every` divides (0 is the same as `None`),
     /// counted from 0; whether an epoch with a fault is skipped with a warning; and the date, as it
@@ -90,7 +80,7 @@ impl Options {
             return Err(BadDate);
         }
         Ok(Options {
-            every: kept_every(every),
+            every: every.filter(|count| *count > 0),
             skip,
             date: in_columns(date),
             date_len: date.len(),

@@ -32,8 +32,6 @@ pub same_plan : (o : Option Plan) (p q : Plan) → p ≡ q → IfSome o (λ plan
 same_plan o p q same h = grind arith
 
 -- the plan of an error of the parser, whose kind is among those that it may have
-pub not_run_plan : (o : Option Plan) (e : Error) (kinds : Kinds) (rest : Plan) → Alike kinds → HasKind kinds e
-    → IfSome o (λ plan. (plan ≡ by_kind (kind_of e)) × (kind_of e ≢ OutOfMemory))
-    → IfSome o (λ plan. plan ≡ by_kinds kinds rest)
-not_run_plan None e kinds rest alike has h = h
-not_run_plan (Some plan) e kinds rest alike has h = grind arith
+pub not_run_plan : (p : Plan) (e : Error) (kinds : Kinds) (rest : Plan) → Alike kinds → HasKind kinds e
+    → p ≡ by_kind (kind_of e) → kind_of e ≢ OutOfMemory → p ≡ by_kinds kinds rest
+not_run_plan p e kinds rest alike has shown other = grind arith

@@ -112,16 +112,6 @@ fn date_option<'a>(alloc: Global) -> Arg<'a>
         .help("The date in line 2, at most 20 bytes [default: now]")
 }
 
-/// A flag of one letter.
-fn flag<'a>(alloc: Global, id: &'a str, letter: char, help: &'a str) -> Arg<'a>
-    ensures { HasRule result (flag_rule id.now letter) }
-{
-    Arg::new(alloc, id)
-        .short(letter)
-        .action(ArgAction::SetTrue)
-        .help(help)
-}
-
 /// `-` and a file's name, in any order.
 fn names_of_files<'a>(alloc: Global, help: &'a str) -> Arg<'a>
     ensures { HasRule result names_rule }
@@ -145,18 +135,14 @@ fn with_flags<'a>(alloc: Global, command: Command<'a>) -> Result<Command<'a>, Al
     ensures { IfOk result (λ c. app_of c ≡ with_rule (with_rule (app_of command.entry)
         (flag_rule (codes "skip") 115)) (flag_rule (codes "force") 102)) }
 {
-    let skip = flag(
-        alloc,
-        "skip",
-        's',
-        "Warn about strange epochs and skip them",
-    );
-    let force = flag(
-        alloc,
-        "force",
-        'f',
-        "Overwrite the output file where it exists",
-    );
+    let skip = Arg::new(alloc, "skip")
+        .short('s')
+        .action(ArgAction::SetTrue)
+        .help("Warn about strange epochs and skip them");
+    let force = Arg::new(alloc, "force")
+        .short('f')
+        .action(ArgAction::SetTrue)
+        .help("Overwrite the output file where it exists");
     command.arg(skip)?.arg(force)
 }
 

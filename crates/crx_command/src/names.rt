@@ -1,7 +1,7 @@
 //! The name of the output file, made from that of the input file.
 
 ghost use Rattle.std.specs.Prelude.{◌≡◌, ◌++◌, IfOk, map, option_map};
-ghost use Rattle.crx_command.specs.meaning.Names.{ends_in_year, first_renamed, output_name, renamings, stem_of, without_ending};
+ghost use Rattle.crx_command.specs.meaning.Names.{ends_in_year, first_renamed, output_name, without_ending};
 ghost use Rattle.crx_command.specs.Names.{renaming_of};
 
 use crate::job::Tool;
@@ -62,17 +62,6 @@ static EXPANDING: [Ending; 4] = [
     },
 ];
 
-/// The endings that a subcommand changes; `check` writes no file.
-fn endings(tool: Tool) -> &'static [Ending]
-    ensures { map renaming_of result.now ≡ renamings tool }
-{
-    match tool {
-        Tool::Compact => &COMPACTING,
-        Tool::Expand => &EXPANDING,
-        Tool::Check => &[],
-    }
-}
-
 /// The name without its ending, where it has that ending.
 fn without_ending<'a>(name: &'a str, ending: &str) -> Option<&'a str>
     ensures { option_map (λ stem. stem.now) result ≡ without_ending ending.now name.now }
@@ -93,25 +82,16 @@ fn ends_in_year(stem: &str) -> bool
     }
 }
 
-/// The part of a name with this ending that the output's name has too; `None` where the name hasn't this ending.
-fn stem_of<'a>(name: &'a str, ending: &Ending) -> Option<&'a str>
-    ensures { option_map (λ stem. stem.now) result ≡ stem_of (renaming_of ending.now) name.now }
-{
-    let stem = without_ending(name, ending.old)?;
-    if ending.after_year && !ends_in_year(stem) {
-        return None;
-    }
-    Some(stem)
-}
-
 /// The part of the name that the output's name has too, and the ending that it gets, by the first ending that it has.
 fn renamed<'a>(endings: &[Ending], name: &'a str) -> Option<(&'a str, &'static str)>
     ensures { option_map (λ p. p.0.now ++ p.1.now) result
         ≡ first_renamed (map renaming_of endings.now) name.now }
 {
     for ending in endings {
-        if let Some(stem) = stem_of(name, ending) {
-            return Some((stem, ending.new));
+        if let Some(stem) = without_ending(name, ending.old) {
+            if !ending.after_year || ends_in_year(stem) {
+                return Some((stem, ending.new));
+            }
         }
     }
     None
@@ -125,7 +105,12 @@ fn renamed<'a>(endings: &[Ending], name: &'a str) -> Option<(&'a str, &'static s
 pub fn output_name(alloc: Global, tool: Tool, name: &str) -> Result<Option<Word>, AllocError>
     ensures value { IfOk result (λ target. target ≡ output_name tool name.now) }
 {
-    match renamed(endings(tool), name) {
+    let endings: &[Ending] = match tool {
+        Tool::Compact => &COMPACTING,
+        Tool::Expand => &EXPANDING,
+        Tool::Check => &[],
+    };
+    match renamed(endings, name) {
         Some((stem, ending)) => Ok(Some(Word::joined(alloc, stem, ending)?)),
         None => Ok(None),
     }

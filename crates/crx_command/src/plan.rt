@@ -1,19 +1,17 @@
 //! From the arguments to what is to be done.
 
-ghost use Rattle.std.specs.Prelude.{◌≡◌, ◌≢◌, IfOk, IfSome, count_by, drop, find, map, option_map, string_bytes, true};
-ghost use Rattle.std.specs.Option.{option_map_or};
+ghost use Rattle.std.specs.Prelude.{◌≡◌, IfOk, IfSome, drop, find, map, option_map, string_bytes};
 ghost use Rattle.std.specs.Vec.Iter.{into_iter_items};
-ghost use Rattle.clap.specs.Words.{found_of, kind_of, rows_of, subcommand_rows_of};
-ghost use Rattle.crx_base.specs.meaning.Choices.{is_date};
-ghost use Rattle.crx_command.specs.meaning.Planning.{by_kind, given_in, is_dash, is_file, is_set, job_of, judged, of_subcommand, plan_of, tool_named, with_source};
+ghost use Rattle.clap.specs.Words.{found_of, rows_of};
+ghost use Rattle.crx_command.specs.meaning.Planning.{given_in, is_file, is_set, job_of, judged, plan_of, tool_named};
 ghost use Rattle.crx_command.specs.Planning.{given_of, plan_in};
 
 use crate::command::command;
 use crate::job::{Decision, Job, Tool, UsageFault};
 use crate::names::output_name;
 use crate::word::Word;
+use clap::ArgMatches;
 use clap::error::ErrorKind;
-use clap::{ArgMatches, Error};
 use crx_base::Options;
 use std::alloc::{AllocError, Global};
 use std::env::Args;
@@ -30,13 +28,6 @@ struct Arguments<'a> {
     skip: bool,
     force: bool,
     date: Option<&'a str>,
-}
-
-/// How many of the names are `-`.
-fn dashes_among(names: &[&str]) -> usize
-    ensures { result ≡ count_by is_dash (map (λ name. name.now) names.now) }
-{
-    names.iter().filter(|name| **name == "-").count()
 }
 
 /// The first name that isn't `-`.
@@ -66,7 +57,7 @@ fn arguments_of<'a>(found: &ArgMatches<'a>) -> Arguments<'a>
     ensures { given_of result ≡ given_in (rows_of (found_of found.now)) }
 {
     let names = found.get_strs("names").unwrap_or(&[]);
-    let dashes = dashes_among(names);
+    let dashes = names.iter().filter(|name| **name == "-").count();
     Arguments {
         dashes,
         files: names.len() - dashes,
@@ -75,16 +66,6 @@ fn arguments_of<'a>(found: &ArgMatches<'a>) -> Arguments<'a>
         skip: is_set(found, "skip"),
         force: is_set(found, "force"),
         date: found.get_str("date"),
-    }
-}
-
-/// Whether a date fits its columns, where one was given.
-fn date_fits(date: Option<&str>) -> bool
-    ensures { result ≡ option_map_or is_date (option_map (λ date. date.now) date.entry) true }
-{
-    match date {
-        Some(text) => Options::new(None, false, text.as_bytes()).is_ok(),
-        None => true,
     }
 }
 
@@ -120,25 +101,6 @@ fn job(
     })
 }
 
-/// The run that the arguments ask for, from a file.
-fn run_from_file(
-    alloc: Global,
-    tool: Tool,
-    given: &Arguments<'_>,
-    source: &str,
-) -> Result<Decision, UsageFault>
-    ensures { IfSome (plan_in result)
-        (λ plan. plan ≡ with_source tool (given_of given.now) (Some source.now)) }
-{
-    if tool == Tool::Check || given.dashes > 0 {
-        return Ok(Decision::Run(job(alloc, tool, given, Some(source), None)?));
-    }
-    match output_name(alloc, tool, source)? {
-        Some(target) => Ok(Decision::Run(job(alloc, tool, given, Some(source), Some(target))?)),
-        None => Err(UsageFault::NoName(Word::new(alloc, source)?)),
-    }
-}
-
 /// What the arguments of a subcommand ask for: the first refusal that fits, else the run.
 fn decide_for(alloc: Global, tool: Tool, given: &Arguments<'_>) -> Result<Decision, UsageFault>
     ensures { IfSome (plan_in result) (λ plan. plan ≡ judged tool (given_of given.now)) }
@@ -149,12 +111,21 @@ fn decide_for(alloc: Global, tool: Tool, given: &Arguments<'_>) -> Result<Decisi
     if given.files > 1 {
         return Err(UsageFault::TwoFiles);
     }
-    if !date_fits(given.date) {
+    if given
+        .date
+        .is_some_and(|date| Options::new(None, false, date.as_bytes()).is_err())
+    {
         return Err(UsageFault::BadDate);
     }
-    match given.file {
-        Some(source) => run_from_file(alloc, tool, given, source),
-        None => Ok(Decision::Run(job(alloc, tool, given, None, None)?)),
+    let Some(source) = given.file else {
+        return Ok(Decision::Run(job(alloc, tool, given, None, None)?));
+    };
+    if tool == Tool::Check || given.dashes > 0 {
+        return Ok(Decision::Run(job(alloc, tool, given, Some(source), None)?));
+    }
+    match output_name(alloc, tool, source)? {
+        Some(target) => Ok(Decision::Run(job(alloc, tool, given, Some(source), Some(target))?)),
+        None => Err(UsageFault::NoName(Word::new(alloc, source)?)),
     }
 }
 
@@ -166,28 +137,6 @@ fn tool_named(name: &str) -> Tool
         "rnx2crx" => Tool::Compact,
         "crx2rnx" => Tool::Expand,
         _ => Tool::Check,
-    }
-}
-
-/// What the arguments ask for where they fit the command line.
-fn decide(alloc: Global, matches: &ArgMatches<'_>) -> Result<Decision, UsageFault>
-    ensures { IfSome (plan_in result) (λ plan. plan ≡ of_subcommand (subcommand_rows_of matches.now)) }
-{
-    match matches.subcommand() {
-        Some((name, found)) => decide_for(alloc, tool_named(name), &arguments_of(found)),
-        None => Err(UsageFault::Parse(Word::new(alloc, "no subcommand\n")?)),
-    }
-}
-
-/// What the parser answers where nothing is to be run: the help that was asked for, or that the arguments are refused.
-fn not_run(alloc: Global, error: &Error) -> Result<Decision, UsageFault>
-    ensures { IfSome (plan_in result)
-        (λ plan. (plan ≡ by_kind (kind_of error.now)) × (kind_of error.now ≢ ErrorKind.OutOfMemory)) }
-{
-    match error.kind() {
-        ErrorKind::OutOfMemory => Err(UsageFault::Memory),
-        ErrorKind::DisplayHelp => Ok(Decision::Help(Word::shown(alloc, error)?)),
-        _ => Err(UsageFault::Parse(Word::shown(alloc, error)?)),
     }
 }
 
@@ -213,8 +162,16 @@ pub fn words_given(alloc: Global, arguments: Args) -> Result<Vec<String>, AllocE
 pub fn plan(alloc: Global, words: Vec<String>) -> Result<Decision, UsageFault>
     ensures value { IfSome (plan_in result) (λ plan. plan ≡ plan_of (map string_bytes words.items)) }
 {
-    match command(alloc)?.try_get_matches_from(words.as_slice()) {
-        Ok(matches) => decide(alloc, &matches),
-        Err(error) => not_run(alloc, &error),
-    }
+    let matches = match command(alloc)?.try_get_matches_from(words.as_slice()) {
+        Ok(matches) => matches,
+        Err(error) => match error.kind() {
+            ErrorKind::OutOfMemory => return Err(UsageFault::Memory),
+            ErrorKind::DisplayHelp => return Ok(Decision::Help(Word::shown(alloc, &error)?)),
+            _ => return Err(UsageFault::Parse(Word::shown(alloc, &error)?)),
+        },
+    };
+    let Some((name, found)) = matches.subcommand() else {
+        return Err(UsageFault::Parse(Word::new(alloc, "no subcommand\n")?));
+    };
+    decide_for(alloc, tool_named(name), &arguments_of(found))
 }

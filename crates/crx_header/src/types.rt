@@ -1,7 +1,7 @@
 //! The observation types of the satellite systems. RINEX 3.05, table A2, `SYS / # / OBS TYPES`.
 
 ghost use Rattle.std.specs.Prelude.{◌≡◌, ◌≤◌, ◌<◌, ◌+◌, ◌⊎◌, ℕ, List, [], ◌∷◌, ◌++◌, Some, true, false, is_some, OnOk, OnErr, IfErr, IfSome, OnSome, slice_get, length};
-ghost use Rattle.crx_header.specs.meaning.ObservationTypes.{count_of, count_in, count_of_types_line, is_bad_types_line, is_system, is_types_line, types_of, IsAllowedCount};
+ghost use Rattle.crx_header.specs.meaning.ObservationTypes.{count_of, count_of_types_line, is_bad_types_line, is_system, is_types_line, types_of, IsAllowedCount};
 ghost use Rattle.crx_header.specs.ObservationTypes.{with_count, with_line, AreCounts, HasSystemRoom, IsCount};
 ghost use Rattle.indexmap.specs.IndexMap.{spare};
 
@@ -76,8 +76,13 @@ impl Types {
         if !is_types(line) {
             return Ok(());
         }
-        let Some((letter, count)) = count_in(line) else {
-            return Err(Fault::BadTypesLine);
+        // The letters of GPS, GLONASS, Galileo, QZSS, BDS, NavIC/IRNSS and SBAS.
+        let letter = character(line, 1);
+        let count = match number(line, 4) {
+            Some(count) if b"GREJCIS".contains(&letter) && 1 <= count && count <= TYPES_LIMIT => {
+                count
+            }
+            _ => return Err(Fault::BadTypesLine),
         };
         if put(&mut self.counts, letter, count).is_err() {
             return Err(Fault::OutOfMemory);
@@ -147,17 +152,4 @@ pub fn is_types(line: &[u8]) -> bool
     ensures value { result ≡ is_types_line line.now }
 {
     is_labelled(line, &TYPES_LABEL) && character(line, 1) != b' '
-}
-
-/// What a types line says: the letter in column 1, which is that of a system (GPS, GLONASS, Galileo, QZSS, BDS, NavIC/IRNSS, SBAS), and
-/// the count in columns 4 to 6.
-fn count_in(line: &[u8]) -> Option<(u8, usize)>
-    ensures value { result ≡ count_in line.now }
-    ensures allowed { IfSome result IsCount }
-    ensures byte { IfSome result (λ count. count.0 < LETTERS) }
-{
-    let letter = character(line, 1);
-    let count = number(line, 4)?;
-    let is_allowed = b"GREJCIS".contains(&letter) && 1 <= count && count <= TYPES_LIMIT;
-    is_allowed.then_some((letter, count))
 }

@@ -4,7 +4,6 @@ ghost use Rattle.crx_lines.specs.meaning.Devices.{tally_of};
 ghost use Rattle.crx_base.specs.declared.fault.At.{At};
 ghost use Rattle.crx_lines.specs.Window.{kept};
 ghost use Rattle.crx_base.specs.declared.limits.TheConstants.{INPUT_LIMIT, LINE_LIMIT};
-ghost use Rattle.crx_lines.specs.declared.window.TheConstants.{SIZE};
 
 use crate::device::Source;
 use crate::feed::feed_from;
@@ -95,7 +94,7 @@ impl LineReader {
     ghost use Rattle.std.specs.Io.BufRead.{Rests};
     ghost use Rattle.crx_lines.specs.contracts.line.LineReader.{the_row};
     ghost use Rattle.crx_lines.specs.Reading.{ReaderAnswers, ReaderState, line_shown, line_number};
-    ghost use Rattle.crx_lines.specs.Readers.{IsPlace, TakesNextLine, reading, part_shown};
+    ghost use Rattle.crx_lines.specs.Readers.{IsPlace, TakesNextLine, reading};
 
     /// A reader before its input's first line.
     pub fn new(alloc: Global) -> Result<LineReader, AllocError>
@@ -190,21 +189,6 @@ impl LineReader {
         }))
     }
 
-    /// The line at a place of the window, as the last one.
-    fn line_at(&self, part: Part) -> Line<'_>
-        requires ordered { part.from ≤ part.to }
-        requires within { part.to ≤ SIZE }
-        requires short { part.to - part.from ≤ LINE_LIMIT }
-        ensures shown { line_shown result ≡ part_shown self.now.window.value.bytes.items part }
-        ensures number { line_number result ≡ self.now.number }
-    {
-        Line {
-            content: self.window.part(part.from, part.to),
-            number: self.number,
-            is_plain: part.is_plain,
-        }
-    }
-
     /// Hands out the next line of what is kept and what `reader` gives after it, until the next call.
     /// It asks `reader` only while what is kept holds no LF, and never after `reader` reported its end.
     ///
@@ -237,7 +221,14 @@ impl LineReader {
             Phase::Open => {}
         }
         match self.advance(reader)? {
-            Some(part) => Ok(Some(self.line_at(part))),
+            Some(part) => {
+                let number = self.number;
+                Ok(Some(Line {
+                    content: self.window.part(part.from, part.to),
+                    number,
+                    is_plain: part.is_plain,
+                }))
+            }
             None => Ok(None),
         }
     }

@@ -1,11 +1,11 @@
 //! The search for the end of a line in what a reader gives.
-ghost use Rattle.std.specs.Prelude.{◌≡◌, ℕ, ◌+◌, ◌<◌, ◌≤◌, [], ◌∷◌, ◌++◌, length, slice_index, IfOk, IfErr, OnOk, OnErr, IsOk, MatchBool, Contains, true, false, ◌⊎◌, ◌^◌, if◌then◌else◌};
+ghost use Rattle.std.specs.Prelude.{◌≡◌, ℕ, ◌+◌, ◌<◌, ◌≤◌, [], ◌∷◌, ◌++◌, length, slice_index, IfOk, IfErr, OnErr, IsOk, MatchBool, Contains, true, false, ◌⊎◌, ◌^◌, if◌then◌else◌};
 ghost use Rattle.crx_lines.specs.meaning.Devices.{one_more};
 ghost use Rattle.crx_lines.specs.Window.{kept};
 ghost use Rattle.crx_lines.specs.Seeking.{Seeking};
 ghost use Rattle.crx_base.specs.declared.limits.TheConstants.{INPUT_LIMIT, LINE_LIMIT};
 
-use crate::device::{ReadFailed, Source};
+use crate::device::Source;
 use crate::feed::feed_from;
 use crate::window::{SIZE, Window};
 use crx_base::Fault;
@@ -20,22 +20,6 @@ pub(crate) struct Sought {
     pub(crate) len: usize,
     /// Whether an LF follows them, or the end.
     pub(crate) is_ended: bool,
-}
-
-/// Asks for one byte, and answers whether there was one.
-fn has_more<R: Source>(reader: &mut R) -> Result<bool, ReadFailed>
-    ensures some { result ≡ Ok true → (b : ℕ) × R.gave reader.old (b ∷ []) reader.new }
-    ensures none { result ≡ Ok false → R.gave reader.old [] reader.new × R.at_end reader.new }
-    ensures ends { IfOk result
-        (λ more. R.ends reader.new ≡ (if more then R.ends reader.old else one_more (R.ends reader.old))) }
-    ensures no_end { OnErr result (R.ends reader.new ≡ R.ends reader.old) }
-    ensures good { OnOk result (R.failures reader.new ≡ R.failures reader.old) }
-    ensures none_lost { OnErr result (R.gave reader.old [] reader.new) }
-    ensures counted { OnErr result (R.failures reader.new ≡ one_more (R.failures reader.old)) }
-{
-    let mut byte = [0];
-    let count = reader.read(&mut byte)?;
-    Ok(count > 0)
 }
 
 /// Lets go of what is longer than a line and its end, and answers how many bytes that was.
@@ -96,13 +80,14 @@ pub(crate) fn seek<R: Source>(
         passed += discarded(window) as u64;
         searched = window.as_slice().len();
         if taken == room {
-            return match has_more(reader) {
-                Ok(true) => Err(Fault::InputTooLong),
-                Ok(false) => Ok(Sought {
+            let mut byte = [0];
+            return match reader.read(&mut byte) {
+                Ok(0) => Ok(Sought {
                     passed,
                     len: searched,
                     is_ended: false,
                 }),
+                Ok(_) => Err(Fault::InputTooLong),
                 Err(_) => Err(Fault::ReadFailed),
             };
         }

@@ -20,7 +20,6 @@ use crx_program::streams::{
 };
 use crx_runs::UntilFailure;
 use jiff::Timestamp;
-use std::alloc::Global;
 use std::env::Args;
 use std::fs::File;
 use std::io::{BufWriter, Stderr, Stdin, Stdout};
@@ -29,15 +28,6 @@ use std::{env, fs, io};
 
 /// What can be opened on each machine, and neither read nor written: the folder of all others.
 const NO_STREAM: &str = "/";
-
-/// Why there are no arguments: the system refused memory for them, or they aren't text.
-fn no_words(alloc: Global, error: &io::Error) -> UsageFault {
-    if error.kind() == io::ErrorKind::OutOfMemory {
-        return UsageFault::Memory;
-    }
-    let text = "error: invalid UTF-8 was detected in one or more arguments\n";
-    Word::new(alloc, text).map_or_else(UsageFault::from, UsageFault::Parse)
-}
 
 /// Does what the arguments of a process ask for, of which the first is the program's name, over the standard streams (see [`run_over`]), and
 /// hands these back. It takes the list and the streams as they come from the machine: the words are all but the first, in order, each once.
@@ -97,7 +87,12 @@ pub fn run_host(rt: &HostRuntime) -> ExitCode {
         Ok(arguments) => arguments,
         Err(error) => {
             let mut messages = Std::new(Uninterrupted::new(rt.stderr()));
-            let fault = no_words(rt.alloc(), &error);
+            // The system refused memory for the arguments, or they aren't text.
+            let text = "error: invalid UTF-8 was detected in one or more arguments\n";
+            let fault = match error.kind() {
+                io::ErrorKind::OutOfMemory => UsageFault::Memory,
+                _ => Word::new(rt.alloc(), text).map_or_else(UsageFault::from, UsageFault::Parse),
+            };
             return ExitCode::from(refuse(rt.alloc(), &mut messages, &fault));
         }
     };

@@ -1,3 +1,4 @@
+use Rattle.std.proofs.lemmas.Grind.{common_steps}
 use Rattle.std.proofs.Common.{◌≡◌, ◌∙◌, ◌+◌, ◌-◌, ap, codes, count_by, find, map, List, ℕ, Option, Some, None}
 use Rattle.std.proofs.Common.{arith, length, unwrap_or, [], ◌∷◌, Bor, option_and_then, option_map, refl, cond}
 use Rattle.std.proofs.{Common.{Bool, true, false, not}, lemmas.List.Sums.sum_by-cons}
@@ -38,11 +39,13 @@ returns c =
     let names =
     ap (λ given. texts given.now) c.unwrap_or-names.ensures ∙ given _ _ refl ∙ ap (λ o. unwrap_or o [])
     (c.get_strs.ensures ∙ raw_values-rows (found_of _) (codes "names")) in
-    let files : length c.unwrap_or-names.result.now - c.dashes_among-dashes.result
+    let dashes : c.count-dashes.result ≡ count_by is_dash (texts c.unwrap_or-names.result.now) =
+    grind (arith, common_steps) in
+    let files : length c.unwrap_or-names.result.now - c.count-dashes.result
     ≡ count_by is_file (texts c.unwrap_or-names.result.now) =
-    omega (arith, all-counted c.unwrap_or-names.result.now, c.dashes_among-dashes.ensures) in
+    omega (arith, all-counted c.unwrap_or-names.result.now, dashes) in
     λ i. record {
-      dashes = (c.dashes_among-dashes.ensures ∙ ap (count_by is_dash) names) i;
+      dashes = (dashes ∙ ap (count_by is_dash) names) i;
       files = (files ∙ ap (count_by is_file) names) i;
       file = (c.file_among.ensures ∙ ap (find is_file) names) i;
       every = (go (one_text (found_of c.args.found.now) (codes "every")) refl

@@ -1,33 +1,61 @@
-use Rattle.std.proofs.Common.{◌≡◌, ◌∙◌, ap, ap₂, map, sym, subst, string_bytes}
-use Rattle.clap.specs.{Faults.{fault_of, is_simple_and_free}, Kinds.HasKind, Simple.{app_of, is_simple}}
-use Rattle.clap.specs.Simple.{subcommand_of}
+use Rattle.std.proofs.Common.{rules, ◌≡◌, ◌≢◌, ◌∙◌, ap, ap₂, map, sym, subst, string_bytes, true, List, [], ℕ}
+use Rattle.clap.specs.{Faults.{fault_of, is_simple_and_free}, Kinds.HasKind, Values.kind_of}
+use Rattle.clap.specs.Simple.{App, HasMatchesOf, is_simple, subcommand_of, subcommand_rows_of}
+use Rattle.clap.specs.declared.{error.Error.Error, parser.matches.ArgMatches.ArgMatches}
+use Rattle.clap.specs.declared.error.ErrorKind.TheVariants.{DisplayHelp, OutOfMemory}
 use Rattle.crx_command.proofs.{AlikeKinds.program_alike, PlanSteps.{program_is_free, program_is_simple}}
-use Rattle.crx_command.{proofs.PlanSteps.{same_plan, not_run_plan}, specs.Planning.plan_in}
-use Rattle.crx_command.specs.meaning.{Commands.program, Planning.{by_kinds, of_subcommand}}
+use Rattle.crx_command.proofs.PlanSteps.{both_halves, same_plan, not_run_plan}
+use Rattle.crx_command.specs.meaning.{Commands.program, Planning.{Plan, Help, Refused, Parse}}
+use Rattle.crx_command.specs.meaning.Planning.{by_kind, by_kinds, judged, of_subcommand, plan_of}
 use Rattle.crx_command.proofs.plan.plan.Goals as goal
 
-pub returns-in-Ok : goal.returns-in-Ok
-returns-in-Ok c =
-    let is_program = c.in_ok-command.ensures in
-    let words_are = ap (map _) c.as_slice.ensures.value in
-    let none = sym (ap₂ fault_of is_program words_are) ∙ c.in-Ok.ensures.kinds
-    (ap is_simple_and_free is_program ∙ program_is_free) in
-    let found = (c.in-Ok.ensures.matches (ap is_simple is_program ∙ program_is_simple)).1 ∙ ap₂ subcommand_of
-    is_program words_are in
+module _ (app : App) (texts words : List (List ℕ)) (is : app ≡ program) (same : texts ≡ words) where
+  free : is_simple_and_free app ≡ true
+  free = ap is_simple_and_free is ∙ program_is_free
+
+  -- where the words fit the command line
+  accepted : (m : ArgMatches) → (is_simple_and_free app ≡ true → fault_of app texts ≡ [])
+      → HasMatchesOf app texts m → of_subcommand (subcommand_rows_of m) ≡ plan_of words
+  accepted m kinds matches =
+      let found = (matches (ap is_simple is ∙ program_is_simple)).1 ∙ ap₂ subcommand_of is same in
+      let plan = of_subcommand (subcommand_of program words) in
+      ap of_subcommand found ∙ ap (λ kinds. by_kinds kinds plan) (sym (kinds free) ∙ ap₂ fault_of is same)
+
+  -- where the parser answers with an error
+  answered : (e : Error) (p : Plan) → (is_simple_and_free app ≡ true → HasKind (fault_of app texts) e)
+      → p ≡ by_kind (kind_of e) → kind_of e ≢ OutOfMemory → p ≡ plan_of words
+  answered e p kinds shown other = not_run_plan p e _ _ (program_alike words)
+      (subst (λ kinds. HasKind kinds e) (ap₂ fault_of is same) (kinds free)) shown other
+
+pub returns-in-DisplayHelp : goal.returns-in-DisplayHelp
+returns-in-DisplayHelp c =
+    let kind : kind_of c.in-Err.error ≡ DisplayHelp = search rules in
     record {
-      value = same_plan _ _ _ (ap of_subcommand found ∙ sym (ap (λ kinds. by_kinds kinds
-          (of_subcommand (subcommand_of program (map string_bytes c.args.words.items)))) none))
-          c.decide.ensures;
+      value = answered _ _ _ c.in_ok-command.ensures (ap (map string_bytes) c.as_slice.ensures.value)
+          c.in-Err.error Help c.in-Err.ensures.kinds (ap by_kind (sym kind)) (λ e. cc);
+    }
+
+pub returns-in_default : goal.returns-in_default
+returns-in_default c = record {
+  value = answered _ _ _ c.in_ok-command.ensures (ap (map string_bytes) c.as_slice.ensures.value)
+      c.in-Err.error (Refused Parse) c.in-Err.ensures.kinds (search rules) (search rules);
+}
+
+pub returns-in_default-subcommand : goal.returns-in_default-subcommand
+returns-in_default-subcommand c =
+    let plan : Refused Parse ≡ of_subcommand (subcommand_rows_of c.in-Ok.matches) = search rules in
+    record {
+      value = plan ∙ accepted _ _ _ c.in_ok-command.ensures (ap (map string_bytes) c.as_slice.ensures.value)
+          c.in-Ok.matches c.in-Ok.ensures.kinds c.in-Ok.ensures.matches;
     }
 
 pub returns : goal.returns
 returns c =
-    let is_program : app_of c.in_ok-command.field-0 ≡ program = c.in_ok-command.ensures in
-    let words_are : map string_bytes c.as_slice.result.now ≡ map string_bytes c.args.words.items =
-    ap (map string_bytes) c.as_slice.ensures.value in
-    let has = subst (λ kinds. HasKind kinds c.in-Err.error) (ap₂ fault_of is_program words_are)
-    (c.in-Err.ensures.kinds (ap is_simple_and_free is_program ∙ program_is_free)) in
+    let whole = both_halves _ _ _ _ _ c.in-Some.ensures.name c.in-Some.ensures.rows in
+    let is = accepted _ _ _ c.in_ok-command.ensures (ap (map string_bytes) c.as_slice.ensures.value)
+    c.in-Ok.matches c.in-Ok.ensures.kinds c.in-Ok.ensures.matches in
     record {
-      value = not_run_plan (plan_in c.not_run.result)
-          c.in-Err.error _ _ (program_alike (map string_bytes c.args.words.items)) has c.not_run.ensures;
+      value = same_plan _ _ _
+          (ap₂ judged c.tool_named.ensures c.arguments_of.ensures ∙ (ap of_subcommand whole ∙ is))
+          c.decide_for.ensures;
     }

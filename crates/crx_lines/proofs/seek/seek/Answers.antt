@@ -1,5 +1,5 @@
-use Rattle.std.proofs.Common.{ℕ, ◌+◌, ◌≤◌, List, [], ◌∷◌, ◌++◌, ⊎_elim, Ok, length, subst, sym, ap, ◌∙◌, refl}
-use Rattle.std.proofs.Common.{arith, append-nil}
+use Rattle.std.proofs.Common.{ℕ, ◌+◌, ◌≤◌, List, [], ◌∷◌, ◌++◌, ⊎_elim, length, subst, sym, ap, ◌∙◌, refl}
+use Rattle.std.proofs.Common.{arith, rules, append-nil}
 use Rattle.crx_lines.proofs.{DeviceLemmas.ends-some, SeekLemmas.{Seeking-start, Seeking-found, Seeking-step}}
 use Rattle.crx_lines.proofs.SeekLemmas.{Seeking-filled, Seeking-same, Seeking-sum, Seeking-not_old}
 use Rattle.crx_lines.{proofs.WindowLemmas.length-kept, specs.{Seeking.Seeking, Window.kept}}
@@ -32,17 +32,18 @@ overflow_add-passed g c =
     ⊎_elim (λ e. omega (arith, e.0)) (λ e. omega (arith, e.0)) c.discarded.ensures.count in
     omega (arith, sum, most, length-kept old.bytes.items old.start old.end, c.seeking.invariant.0.within)
 
-pub returns-in-Ok-true-clause-over : goal.returns-in-Ok-true-clause-over
-returns-in-Ok-true-clause-over g c =
+pub returns-in-Ok-clause-over : goal.returns-in-Ok-clause-over
+returns-in-Ok-clause-over g c =
     let old = c.args.reader.now in
     let now = c.seeking.reader in
+    let new = c.read.new.self in
     let s = Seeking-step (λ given. g.R.Source.gave old given now) _ _ _ _ _ _ _ _ _ c.seeking.invariant.0
     c.as_slice.ensures.value c.in_default.ensures.none c.discarded.ensures.count in
-    let more = c.in-Ok-true.ensures.some (ap Ok c.in-Ok-true.field-0-test) in
-    let then = λ (given : List ℕ). g.R.Source.gave old (given ++ more.0 ∷ []) c.has_more.new.reader in
+    let more : (b : ℕ) × g.R.Source.gave now (b ∷ []) new = search rules in
+    let then = λ (given : List ℕ). g.R.Source.gave old (given ++ more.0 ∷ []) new in
     let goes = λ (given : List ℕ) (lead : g.R.Source.gave old given now). subst
-    (λ l. g.R.Source.gave old (l ++ more.0 ∷ []) c.has_more.new.reader) (sym (append-nil
-    given)) (g.met.R.Source.gave_both old now c.has_more.new.reader given (more.0 ∷ []) lead more.1) in
+    (λ l. g.R.Source.gave old (l ++ more.0 ∷ []) new) (sym (append-nil
+    given)) (g.met.R.Source.gave_both old now new given (more.0 ∷ []) lead more.1) in
     λ _. (
       more.0,
       _,
@@ -51,31 +52,25 @@ returns-in-Ok-true-clause-over g c =
           (Seeking-same _ then _ _ _ _ _ _ _ s goes refl refl),
     )
 
-pub returns-in-Ok-false-clause-ok : goal.returns-in-Ok-false-clause-ok
-returns-in-Ok-false-clause-ok g c =
+pub returns-in-Ok-eq0-clause-ok : goal.returns-in-Ok-eq0-clause-ok
+returns-in-Ok-eq0-clause-ok g c =
     let old = c.args.reader.now in
     let now = c.seeking.reader in
-    let new = c.has_more.new.reader in
+    let new = c.read.new.self in
     let s = Seeking-step (λ given. g.R.Source.gave old given now) _ _ _ _ _ _ _ _ _ c.seeking.invariant.0
     c.as_slice.ensures.value c.in_default.ensures.none c.discarded.ensures.count in
-    let none = c.in-Ok-false.ensures.none (ap Ok c.in-Ok-false.field-0-test) in (
+    let none : g.R.Source.gave now [] new = rw c.in-Ok-eq0.field-0-test at c.in-Ok-eq0.ensures.bytes in (
       c.seeking.taken,
       Seeking-same _ (λ given. g.R.Source.gave old given new) _ _ _ _ _ _ _ s (λ given lead.
-          g.met.R.Source.gave_both old now new given [] lead none.0) refl
+          g.met.R.Source.gave_both old now new given [] lead none) refl
           (ap length c.as_slice-searched.ensures.value),
     )
-
-pub returns-in-Ok-false-clause-unasked : goal.returns-in-Ok-false-clause-unasked
-returns-in-Ok-false-clause-unasked g c =
-    let s = Seeking-step (λ given. g.R.Source.gave _ given _) _ _ _ _ _ _ _ _ _
-    c.seeking.invariant.0 c.as_slice.ensures.value c.in_default.ensures.none c.discarded.ensures.count in
-    λ has. absurd (Seeking-not_old _ _ _ _ _ _ s has)
 
 pub returns-in-Err-clause-failed : goal.returns-in-Err-clause-failed
 returns-in-Err-clause-failed g c =
     let old = c.args.reader.now in
     let now = c.seeking.reader in
-    let new = c.has_more.new.reader in
+    let new = c.read.new.self in
     let s = Seeking-step (λ given. g.R.Source.gave old given now) _ _ _ _ _ _ _ _ _ c.seeking.invariant.0
     c.as_slice.ensures.value c.in_default.ensures.none c.discarded.ensures.count in
     λ _. (
@@ -86,23 +81,23 @@ returns-in-Err-clause-failed g c =
           refl,
     )
 
-pub returns-in-Ok-eq0-clause-ok : goal.returns-in-Ok-eq0-clause-ok
-returns-in-Ok-eq0-clause-ok g c =
+pub returns-in-Ok-eq0-fill-clause-ok : goal.returns-in-Ok-eq0-fill-clause-ok
+returns-in-Ok-eq0-fill-clause-ok g c =
     let old = c.args.reader.now in
     let now = c.seeking.reader in
     let new = c.fill.new.reader in
     let s = Seeking-step (λ given. g.R.Source.gave old given now) _ _ _ _ _ _ _ _ _ c.seeking.invariant.0
     c.as_slice.ensures.value c.in_default.ensures.none c.discarded.ensures.count in
-    let more = c.in-Ok-eq0.ensures.ok in (
+    let more = c.in-Ok-eq0-fill.ensures.ok in (
       _,
       Seeking-filled _ (λ given. g.R.Source.gave old given new) _ _ _ more.0 _ _ _ 0 _ s
           (λ given lead. g.met.R.Source.gave_both old now new given more.0 lead more.3) (more.1
-          ∙ c.in-Ok-eq0.field-0-test) (omega (arith, s.within)) more.2
+          ∙ c.in-Ok-eq0-fill.field-0-test) (omega (arith, s.within)) more.2
           (ap length c.as_slice-searched.ensures.value),
     )
 
-pub returns-in-Ok-eq0-clause-unasked : goal.returns-in-Ok-eq0-clause-unasked
-returns-in-Ok-eq0-clause-unasked g c =
+pub returns-in-Ok-eq0-fill-clause-unasked : goal.returns-in-Ok-eq0-fill-clause-unasked
+returns-in-Ok-eq0-fill-clause-unasked g c =
     let s = Seeking-step (λ given. g.R.Source.gave _ given _) _ _ _ _ _ _ _ _ _
     c.seeking.invariant.0 c.as_slice.ensures.value c.in_default.ensures.none c.discarded.ensures.count in
     λ has. absurd (Seeking-not_old _ _ _ _ _ _ s has)
@@ -114,13 +109,13 @@ seeking-preserved g c =
     let new = c.fill.new.reader in
     let s = Seeking-step (λ given. g.R.Source.gave old given now) _ _ _ _ _ _ _ _ _ c.seeking.invariant.0
     c.as_slice.ensures.value c.in_default.ensures.none c.discarded.ensures.count in
-    let more = c.in-Ok.ensures.ok in (
+    let more = c.in-Ok-fill.ensures.ok in (
       Seeking-filled _ (λ given. g.R.Source.gave old given new) _ _ _ more.0 _ _ _ _ _ s
           (λ given lead. g.met.R.Source.gave_both old now new given more.0 lead more.3) more.1
-          (omega (arith, s.within, c.in-Ok.ensures.bound, c.min-most.ensures)) more.2
+          (omega (arith, s.within, c.in-Ok-fill.ensures.bound, c.min-most.ensures)) more.2
           (ap length c.as_slice-searched.ensures.value),
-      c.in-Ok.ensures.good ∙ c.seeking.invariant.1,
-      ends-some _ _ _ c.in-Ok.count-test.1 c.in-Ok.ensures.ends ∙ c.seeking.invariant.2,
+      c.in-Ok-fill.ensures.good ∙ c.seeking.invariant.1,
+      ends-some _ _ _ c.in-Ok-fill.count-test.1 c.in-Ok-fill.ensures.ends ∙ c.seeking.invariant.2,
       λ has. absurd (Seeking-not_old _ _ _ _ _ _ s has),
     )
 
@@ -138,18 +133,6 @@ returns-in-Err-fill-clause-failed g c =
           (λ given lead. g.met.R.Source.gave_both old now new given [] lead c.in-Err-fill.ensures.none_lost)
           c.in-Err-fill.ensures.kept (ap length c.in-Err-fill.ensures.kept),
     )
-
-pub returns-in-Ok-true-clause-unasked : goal.returns-in-Ok-true-clause-unasked
-returns-in-Ok-true-clause-unasked g c =
-    let s = Seeking-step (λ given. g.R.Source.gave _ given _) _ _ _ _ _ _ _ _ _
-    c.seeking.invariant.0 c.as_slice.ensures.value c.in_default.ensures.none c.discarded.ensures.count in
-    λ has. absurd (Seeking-not_old _ _ _ _ _ _ s has)
-
-pub returns-in-Err-clause-unasked : goal.returns-in-Err-clause-unasked
-returns-in-Err-clause-unasked g c =
-    let s = Seeking-step (λ given. g.R.Source.gave _ given _) _ _ _ _ _ _ _ _ _
-    c.seeking.invariant.0 c.as_slice.ensures.value c.in_default.ensures.none c.discarded.ensures.count in
-    λ has. absurd (Seeking-not_old _ _ _ _ _ _ s has)
 
 pub returns-in-Err-fill-clause-unasked : goal.returns-in-Err-fill-clause-unasked
 returns-in-Err-fill-clause-unasked g c =

@@ -21,15 +21,16 @@ returns-clause-declared c = grind (arith, common_steps, returns-clause-ok, with_
 pub invariant_of-self-2 : goal.invariant_of-self-2
 invariant_of-self-2 c =
     let entries = c.self.inside.counts.entries in
-    let letter = c.in-Some.letter in
+    let letter = c.character-letter.result in
     let count = c.in-Some.count in
-    let allowed = count_in_allowed c.args.line.now letter count (sym c.in-Some.ensures.value) in
+    let said : count_in c.args.line.now ≡ Some (letter, count) = search rules in
+    let allowed = count_in_allowed c.args.line.now letter count said in
     let long : length c.self.inside.by_letter ≡ LETTERS = search in
     let with : c.put.new.counts.entries ≡ with_count entries letter count = search rules in
     let room : SYSTEMS ≤ length c.put.new.counts.entries + spare c.put.new.counts = search rules in (
       subst AreCounts (sym with)
           (AreCounts-with_count entries letter count c.self.invariant.0 allowed.0 allowed.1),
       subst (AreByLetter _) (sym with) (AreByLetter-with_count c.self.inside.by_letter entries letter count
-          c.self.invariant.1 (omega (arith, long, c.in-Some.ensures.byte))),
+          c.self.invariant.1 (omega (arith, long))),
       inr room,
     )
