@@ -367,6 +367,7 @@ impl Columns {
     /// Takes the next line of the epoch that was begun as [`Columns::feed`] does, with its refusals but `OutOfMemory`, and `NotAnEpoch` where
     /// none was: each row is printed as its line is read, where [`Columns::begin`] has asked for room. `true` says that it is the last one,
     /// and that the printed lines of the epoch are ready; no epoch is made of them.
+    #[inline(always)]
     pub fn feed_into(&mut self, line: &[u8], lines: &mut ExpandedLines) -> Result<bool, Fault>
         requires short { length line.now ≤ LINE_LIMIT }
         requires drained { lines.old.lines ≡ [] }

@@ -136,7 +136,7 @@ impl History {
         self.begin_rows(in_full);
         let mut index = 0;
         while let Some(row) = epoch.row(index) {
-            self.write_row(row.name(), row.values(), row.flags(), part, lines)
+            self.write_row(&row.name(), row.values(), row.flags(), part, lines)
                 .unwrap();
             index += 1;
         }
@@ -162,29 +162,29 @@ impl History {
     #[inline(always)]
     pub(crate) fn write_row(
         &mut self,
-        name: [u8; NAME_WIDTH],
+        name: &[u8; NAME_WIDTH],
         values: &[Option<i64>],
         flags: &[u8],
         part: &mut Text,
         lines: &mut Lines,
     ) -> Result<bool, AllocError>
-        requires sound { IsSoundRow (row_of_parts name values.now flags.now) }
+        requires sound { IsSoundRow (row_of_parts name.now values.now flags.now) }
         ensures written { (after : Tail) (rows : List Row) → AreRowsWritten after rows self.old lines.old.lines
-            → IfOk result (IsRowWritten after rows (row_of_parts name values.now flags.now)
+            → IfOk result (IsRowWritten after rows (row_of_parts name.now values.now flags.now)
             self.new lines.new.lines) }
         ensures same { IfOk result (λ is_new. is_new ≡ false → (self.new ≡ self.old) × (lines.new ≡ lines.old)) }
         ensures memory { (after : Tail) (rows : List Row) → AreRowsWritten after rows self.old lines.old.lines
-            → OnErr result (has_satellite name rows ≡ false) }
+            → OnErr result (has_satellite name.now rows ≡ false) }
         ensures front { lines.new.front ≡ lines.old.front }
         ensures reserved { lines.new.reserved ≡ lines.old.reserved }
         // Where room was asked for before, the answer isn't for want of memory.
-        ensures known { HasRowRoom (row_of_parts name values.now flags.now) (encoding_room self.old lines.old)
+        ensures known { HasRowRoom (row_of_parts name.now values.now flags.now) (encoding_room self.old lines.old)
             → IsOk result }
         ensures taken { IfOk result (λ is_new. is_new ≡ true → HasTakenRow
-            (row_of_parts name values.now flags.now) (encoding_room self.old lines.old)
+            (row_of_parts name.now values.now flags.now) (encoding_room self.old lines.old)
             (encoding_room self.new lines.new)) }
         ensures kept { KeepsEncodingRoom (encoding_room self.old lines.old) (encoding_room self.new lines.new) }
-        ensures only { GrowsForRow (row_of_parts name values.now flags.now) (encoding_room self.old lines.old)
+        ensures only { GrowsForRow (row_of_parts name.now values.now flags.now) (encoding_room self.old lines.old)
             (encoding_room self.new lines.new) }
         ensures texts { HasSameTexts self.old self.new }
     {
@@ -485,12 +485,9 @@ fn put_names(text: &mut [u8], satellites: &Satellites)
     ensures { take (HEAD_WIDTH + NAME_WIDTH * length satellites.now.rows) text.new
         ≡ take HEAD_WIDTH text.old ++ flat_map (λ (row : RowTail). row.name) satellites.now.rows }
 {
-    for index in 0..satellites.placed() {
-        put_identifier(
-            text,
-            HEAD_WIDTH + NAME_WIDTH * index,
-            satellites.name_at(index),
-        );
+    let names = satellites.names();
+    for index in 0..names.len() {
+        put_identifier(text, HEAD_WIDTH + NAME_WIDTH * index, names[index]);
     }
 }
 
@@ -602,9 +599,9 @@ fn place_name(
         (satellites_named types.now [] (names_in text.now count)) satellites.old satellites.new) }
     ensures rooms { KeepsRooms satellites.old.rooms satellites.new.rooms }
 {
-    if let Some(is_new) = satellites.place(name, cells) {
+    if let Some(is_new) = satellites.place(&name, cells) {
         return Ok(is_new);
     }
     prepare_names(types, text, count, satellites)?;
-    Ok(satellites.place(name, cells).unwrap())
+    Ok(satellites.place(&name, cells).unwrap())
 }

@@ -165,12 +165,12 @@ impl Lines {
         ensures known { lines ≤ self.old.free_lines + self.old.spare_lines
             → bytes ≤ self.old.free_bytes + self.old.spare_bytes → IsOk result }
     {
-        let filled = self.filled.saturating_add(bytes);
-        let count = self.count.saturating_add(lines);
-        // Mostly there is room: the two calls would take 15 instructions a row.
-        if filled <= self.bytes.len() && count <= self.lengths.len() {
+        // Mostly there is room: the two calls would take 15 instructions a row, and to add up to a number that may be too large 4 more.
+        if bytes <= self.bytes.len() - self.filled && lines <= self.lengths.len() - self.count {
             return Ok(());
         }
+        let filled = self.filled.saturating_add(bytes);
+        let count = self.count.saturating_add(lines);
         let front = self.reserved * (LINE_LIMIT + 1);
         if filled > self.bytes.len() {
             lengthen(&mut self.bytes, filled, front, b'\n')?;

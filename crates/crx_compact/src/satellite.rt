@@ -141,18 +141,19 @@ impl SatelliteHistory {
         self.count = count;
     }
 
-    /// Replaces the indicators by those of a row, makes it have as many types as the row, and replaces a text by the difference of the
-    /// indicators before and the row's. Most indicators stay as they are, and their difference is empty.
+    /// Replaces the indicators by those of a row, and makes it have as many types as the row. Gives the difference of the indicators before
+    /// and the row's, which is written into a text where it isn't empty: mostly they stay.
     #[inline(always)]
-    pub(crate) fn mark(&mut self, count: usize, flags: &[u8], part: &mut Text)
+    pub(crate) fn mark<'a>(&mut self, count: usize, flags: &[u8], part: &'a mut Text) -> &'a [u8]
         requires fits { FitsFlags count flags.now self.old }
-        ensures { IsMarked count flags.now self.old self.new part.new }
+        ensures { IsMarked count flags.now self.old self.new result.now }
     {
-        part.clear();
         if is_same_text(flags, &self.indicators[..2 * self.count]) {
-            return;
+            return &[];
         }
+        part.clear();
         self.change_indicators(count, flags, part);
+        part.bytes()
     }
 
     /// Does what [`SatelliteHistory::mark`] does, where the indicators change, and the text is empty.

@@ -1,6 +1,6 @@
 //! The satellites of a history, in the order of the file: Hatanaka's Compact RINEX 3.0.
 
-ghost use Rattle.std.specs.Prelude.{List, ℕ, ◌≡◌, ◌≤◌, ◌<◌, ◌+◌, ◌*◌, ◌^◌, ◌++◌, ◌∷◌, [], true, false, is_some, None, Some, Ok, Err, length, take, map, slice_get, slice_set, OnOk, OnErr, IfOk, IfErr, IfSome, IsOk, IsTrue, ◌↔◌};
+ghost use Rattle.std.specs.Prelude.{List, ℕ, All, ◌≡◌, ◌≤◌, ◌<◌, ◌+◌, ◌*◌, ◌^◌, ◌++◌, ◌∷◌, [], true, false, is_some, None, Some, Ok, Err, length, take, map, slice_get, slice_set, OnOk, OnErr, IfOk, IfErr, IfSome, IsOk, IsTrue, ◌↔◌};
 ghost use Rattle.std.specs.Bool.{OnTrue};
 ghost use Rattle.std.specs.Map.{lookup};
 ghost use Rattle.std.specs.Str.{bytes_eq};
@@ -13,7 +13,7 @@ ghost use Rattle.crx_rinex.specs.meaning.SatelliteLines.{IsSoundRow};
 ghost use Rattle.crx_compact.specs.declared.cells.TheConstants.{CELL_ROOM};
 ghost use Rattle.crx_compact.specs.Entries.{Entry, IsFound, IsPutNext, IsRevived, KeepsTypes, key_of};
 ghost use Rattle.crx_compact.specs.EpochLinesRead.{HaveComeAgain};
-ghost use Rattle.crx_compact.specs.HeldRows.{row_held};
+ghost use Rattle.crx_compact.specs.HeldRows.{IsAwaitedSatellite, row_held};
 ghost use Rattle.crx_compact.specs.Placing.{AnswersPlacing, GrowsOnly, HasAskedRoom, HasRoom, IsAskedFor, IsPlaced, KeepsRest, KeepsRooms, SatelliteTail, padded, row_of_parts, satellite_of};
 ghost use Rattle.crx_compact.specs.ShownRows.{shown_row};
 ghost use Rattle.crx_compact.specs.Steps.{row_line_after, row_tail_after};
@@ -24,7 +24,7 @@ use crate::satellite::SatelliteHistory;
 use crx_base::Fault;
 use crx_base::limits::NAME_WIDTH;
 use crx_header::{Types, is_same_identifier};
-use crx_rinex::{SatRow, types_of_satellite};
+use crx_rinex::SatRow;
 use crx_text::Text;
 use indexmap::IndexMap;
 use std::alloc::{AllocError, Global};
@@ -114,12 +114,12 @@ impl Satellites {
     /// The satellite with an identifier comes, where it is known and has room for so many types: what is stored of it is the next row.
     /// `false` comes where it has come already, and `None` where it isn't known or has too little room; then nothing changes.
     ///
-    /// The next one in the order of the epoch before mostly comes, which one comparison finds.
+    /// The next one in the order of the epoch before mostly comes, which one comparison finds. (To copy the identifier takes 8 instructions.)
     #[inline(always)]
-    pub(crate) fn place(&mut self, name: [u8; NAME_WIDTH], count: usize) -> Option<bool>
-        ensures { AnswersPlacing name count self.old self.new result }
+    pub(crate) fn place(&mut self, name: &[u8; NAME_WIDTH], count: usize) -> Option<bool>
+        ensures { AnswersPlacing name.now count self.old self.new result }
     {
-        if self.placed < self.live && is_same_identifier(key_at(&self.known, self.placed), name) {
+        if self.placed < self.live && is_same_identifier(key_at(&self.known, self.placed), *name) {
             if !has_room_at(&self.known, self.placed, count) {
                 return None;
             }
@@ -131,9 +131,10 @@ impl Satellites {
 
     /// The satellite with an identifier comes, for [`Satellites::place`], where it isn't the next one in the order of the epoch before.
     #[inline(never)]
-    fn bring(&mut self, name: [u8; NAME_WIDTH], count: usize) -> Option<bool>
-        ensures { AnswersPlacing name count self.old self.new result }
+    fn bring(&mut self, name: &[u8; NAME_WIDTH], count: usize) -> Option<bool>
+        ensures { AnswersPlacing name.now count self.old self.new result }
     {
+        let name = *name;
         // A satellite that isn't the next one is mostly at one of two indices. Where another one came before it, it was exchanged with that,
         // and is where the last one was found; where some of the epoch before are gone, it is as far behind as the last one was. A look-up
         // by the map takes 100 instructions.
@@ -174,6 +175,7 @@ impl Satellites {
     /// identifier is read of the line, and none is looked for.
     pub(crate) fn come_again(&mut self, types: &Types, count: usize) -> bool
         requires none { self.old.rows ≡ [] }
+        requires awaited { All IsAwaitedSatellite (map satellite_of self.old.rest) }
         ensures again { OnTrue result (HaveComeAgain types.now self.old self.new) }
         ensures counted { OnTrue result (count ≡ length self.old.rest) }
         ensures same { result ≡ false → self.new ≡ self.old }
@@ -193,20 +195,20 @@ impl Satellites {
     #[inline(always)]
     pub(crate) fn place_or_add(
         &mut self,
-        name: [u8; NAME_WIDTH],
+        name: &[u8; NAME_WIDTH],
         count: usize,
     ) -> Result<bool, AllocError>
         requires allowed { count ≤ TYPES_LIMIT }
-        ensures ok { IfOk result (IsPlaced name count self.old self.new) }
-        ensures err { OnErr result (is_among (λ (row : RowTail). row.name) name self.old.rows ≡ false) }
+        ensures ok { IfOk result (IsPlaced name.now count self.old self.new) }
+        ensures err { OnErr result (is_among (λ (row : RowTail). row.name) name.now self.old.rows ≡ false) }
         ensures rooms { KeepsRooms self.old.rooms self.new.rooms }
-        ensures only { GrowsOnly (IsAskedFor name count) self.old.rooms self.new.rooms }
-        ensures known { HasRoom name count self.old.rooms → IsOk result }
+        ensures only { GrowsOnly (IsAskedFor name.now count) self.old.rooms self.new.rooms }
+        ensures known { HasRoom name.now count self.old.rooms → IsOk result }
     {
         if let Some(is_new) = self.place(name, count) {
             return Ok(is_new);
         }
-        self.prepare(name, count)?;
+        self.prepare(*name, count)?;
         Ok(self.place(name, count).unwrap())
     }
 
@@ -227,13 +229,13 @@ impl Satellites {
         satellite.make_room(count)
     }
 
-    /// The identifier of the satellite at an index among those that have come.
+    /// The identifiers of the satellites that have come. They are beside each other in the map: to ask for each by its index takes 4
+    /// instructions more.
     #[inline(always)]
-    pub(crate) fn name_at(&self, index: usize) -> [u8; NAME_WIDTH]
-        requires within { index < length self.now.rows }
-        ensures value { (old : RowTail) → slice_get self.now.rows index ≡ Some old → result ≡ old.name }
+    pub(crate) fn names(&self) -> &[[u8; NAME_WIDTH]]
+        ensures value { result.now ≡ map (λ (row : RowTail). row.name) self.now.rows }
     {
-        key_at(&self.known, index)
+        &self.known.keys().as_slice()[..self.placed]
     }
 
     /// Makes the satellite that came last have so many types, for which it has room: those that it has stay, and new ones have no arcs and
@@ -277,8 +279,8 @@ impl Satellites {
         ensures kept { KeepsRest self.old self.new }
     {
         let (_, satellite) = self.known.pair_mut(index);
-        satellite.mark(values.len(), flags, part);
-        satellite.write_line(values, part.bytes(), bytes, at)
+        let marks = satellite.mark(values.len(), flags, part);
+        satellite.write_line(values, marks, bytes, at)
     }
 
     /// Reads the satellite line of the row at an index: what is stored of its satellite is that after the line, which shows the row. The
@@ -364,13 +366,16 @@ fn key_at(map: &IndexMap<[u8; NAME_WIDTH], SatelliteHistory>, index: usize) -> [
     *name
 }
 
-/// Whether each of the first so many satellites has as many types as its system has now.
+/// Whether each of the first so many satellites has as many types as its system has now. Each has the form of an identifier, so its letter
+/// alone is read: this saves 11 instructions for each of them.
 fn keep_types(
     map: &IndexMap<[u8; NAME_WIDTH], SatelliteHistory>,
     count: usize,
     types: &Types,
 ) -> bool
     requires within { count ≤ length map.now.entries }
+    requires named { (index : ℕ) (entry : Entry) → index < count → slice_get map.now.entries index ≡ Some entry
+        → is_identifier (key_of entry) ≡ true }
     ensures kept { OnTrue result ((index : ℕ) → index < count → KeepsTypes types.now index map.now.entries) }
     ensures unique { IsUnique bytes_eq map.now }
 {
@@ -378,7 +383,7 @@ fn keep_types(
     let _count = map.len();
     for index in 0..count {
         let (name, satellite) = map.get_index(index).unwrap();
-        let Some(found) = types_of_satellite(types, name) else {
+        let Some(found) = types.count(name[0]) else {
             return false;
         };
         if found != satellite.count() {

@@ -202,7 +202,7 @@ fn take_row(
     ensures few { OnOk result (length reader.new.rows.rows ≤ SATELLITES_LIMIT) }
 {
     reader.read_row(line)?;
-    match names.put(reader.count(), reader.row().name()) {
+    match names.put(reader.count(), *reader.row().name()) {
         Ok(true) => Ok(reader.take_row()),
         Ok(false) => Err(Fault::RepeatedSatellite),
         Err(_) => Err(Fault::OutOfMemory),

@@ -47,8 +47,9 @@ impl<D: Direction> Engine<D> {
     ghost use Rattle.crx_filter.specs.EngineLaws.{IsLawfulDirection};
     ghost use Rattle.crx_filter.specs.EngineState.{EngineAwaits, EngineEnds, EngineSkips, EngineTakes, engine_ready, engine_seen, engine_took};
     ghost use Rattle.crx_filter.specs.EngineSteps.{Steps};
-    ghost use Rattle.crx_filter.specs.LineByLine.{Ended};
+    ghost use Rattle.crx_filter.specs.LineByLine.{Ended, may_skip};
     ghost use Rattle.crx_filter.specs.RinexStages.{is_open_stage};
+    ghost use Rattle.crx_filter.specs.Stages.{bare_phase};
     ghost use Rattle.crx_filter.specs.contracts.engine.Engine.{the_row};
     ghost use Rattle.crx_filter.specs.declared.stage.Stage.{Stage};
     ghost use Rattle.crx_runs.specs.Engines.{answer_given, Awaited, Concludes, EngineAnswers, IsAwaited};
@@ -67,12 +68,14 @@ impl<D: Direction> Engine<D> {
         })
     }
 
-    /// Stores the answer to a fault of the line that was counted last, which reading may go on at or not.
+    /// Stores the answer to a fault of the line that was counted last, which reading may go on at or not. It is given what it needs of the
+    /// stage: a place for the stage would be cleared at every line, by 2 instructions.
     #[inline(never)]
-    fn fail(&mut self, stage: Stage, fault: Fault, goes_on: bool)
+    fn fail(&mut self, skips: bool, is_open: bool, fault: Fault, goes_on: bool)
         requires counted { D.counted self.old.direction + 1 ≤ self.old.number }
         requires drained { engine_ready D.Direction self.old ≡ [] }
-        ensures fails { AnswersToFault D.by_line self.old.options self.old.number stage fault goes_on
+        ensures fails { (stage : Stage) → skips ≡ may_skip (bare_phase stage) → is_open ≡ is_open_stage stage
+            → AnswersToFault D.by_line self.old.options self.old.number stage fault goes_on
             (D.parts self.old.direction) self.new.answer (engine_seen D.Direction self.new) }
         ensures drained { engine_ready D.Direction self.new ≡ [] }
         ensures options { self.new.options ≡ self.old.options }
@@ -82,13 +85,13 @@ impl<D: Direction> Engine<D> {
             line: self.number,
             fault,
         };
-        if !(self.options.skip() & stage.may_skip() & fault.is_skippable()) {
+        if !(self.options.skip() & skips & fault.is_skippable()) {
             self.direction.end_with(Stage::Ended(notice), true);
             self.answer = Err(notice);
             return;
         }
         // A line that is to come again doesn't count yet.
-        let again = stage.is_in_epoch() & goes_on;
+        let again = is_open & goes_on;
         self.direction.end_with(Stage::Looking, true);
         self.number -= u64::from(again);
         self.answer = Ok(Step::Warned { notice, again });
@@ -115,7 +118,7 @@ impl<D: Direction> Engine<D> {
                 false
             }
             Err(fault) => {
-                self.fail(Stage::Open, fault, begins_epoch(line));
+                self.fail(true, true, fault, begins_epoch(line));
                 false
             }
         }
@@ -144,7 +147,8 @@ impl<D: Direction> Engine<D> {
                 false
             }
             Err(fault) => {
-                self.fail(stage, fault, begins_epoch(line));
+                let is_open = stage.is_in_epoch();
+                self.fail(stage.may_skip(), is_open, fault, begins_epoch(line));
                 false
             }
         }
@@ -164,7 +168,8 @@ impl<D: Direction> Engine<D> {
             Stage::Ended(at) => Err(at),
             Stage::Looking | Stage::Closed => Ok(Step::Quiet),
             _ => {
-                self.fail(stage, Fault::LineTooLong, false);
+                let is_open = stage.is_in_epoch();
+                self.fail(stage.may_skip(), is_open, Fault::LineTooLong, false);
                 self.answer
             }
         }

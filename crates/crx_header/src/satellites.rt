@@ -16,11 +16,12 @@ pub fn types_of_satellite(types: &Types, line: &[u8]) -> Option<usize>
     ensures allowed { IfSome result IsAllowedCount }
     ensures named { OnSome result (is_identifier (columns line.now 1 NAME_WIDTH) ≡ true) }
 {
-    let tens = character(line, 2);
-    if !(tens.is_ascii_digit() | (tens == b' ')) {
+    // The last column first: one test of the line's length then stands for two.
+    if !character(line, 3).is_ascii_digit() {
         return None;
     }
-    if !character(line, 3).is_ascii_digit() {
+    let tens = character(line, 2);
+    if !(tens.is_ascii_digit() | (tens == b' ')) {
         return None;
     }
     types.count(character(line, 1))

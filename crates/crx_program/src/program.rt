@@ -5,7 +5,7 @@ ghost use Rattle.std.specs.Option.{option_map_or};
 ghost use Rattle.crx_base.specs.meaning.Choices.{choices_of, is_date};
 ghost use Rattle.crx_command.specs.meaning.Planning.{Help, Refusal, Refused, Run, plan_of};
 ghost use Rattle.crx_program.specs.Devices.{LeavesDevices};
-ghost use Rattle.crx_program.specs.meaning.Jobs.{IsChosen, IsJobDone, IsJobEnded, IsFiltered, IsFilteredInto, IsFilteredToFile, IsMadeBy, IsNotBegun};
+ghost use Rattle.crx_program.specs.meaning.Jobs.{IsChosen, IsJobDone, IsJobEnded, IsFiltered, IsFilteredInto, IsFilteredToFile, IsNotBegun};
 ghost use Rattle.crx_program.specs.meaning.Program.{IsHelped, IsRefused, IsShown, at_start};
 ghost use Rattle.crx_runs.specs.meaning.Spans.{span, reader_span};
 
@@ -21,7 +21,6 @@ use crx_lines::{Sink, Source, write_all_counted};
 use jiff::Timestamp;
 use std::alloc::{AllocError, Global};
 use std::fs::OpenOptions;
-use std::io;
 use std::io::{ErrorKind, Write};
 use std::rt::{Clock, Files};
 
@@ -149,23 +148,8 @@ fn filter_to_file<R: Source, F: Write + Drop, M: Sink>(
     }
 }
 
-/// Makes the file that is written. One that exists is overwritten only where `force` says so; else the call that makes the file
-/// fails where there is one, with `AlreadyExists`.
-fn create<H: Files>(rt: &H, name: &str, force: bool) -> io::Result<Made<H::File>>
-    ensures made { IfOk result (λ made. IsMadeBy name.now force made.opening) }
-{
-    let mut how = OpenOptions::new();
-    how.write(true);
-    if force {
-        how.create(true);
-        how.truncate(true);
-    } else {
-        how.create_new(true);
-    }
-    open_to_write(rt, how, name)
-}
-
-/// Runs a filter into the job's target: a file, or `output` where the job names none.
+/// Runs a filter into the job's target: a file, or `output` where the job names none. A file that exists is overwritten only where the
+/// job says so; else the call that makes the file fails where there is one, with `AlreadyExists`.
 fn run_to_target<H: Files, R: Source, W: Sink, M: Sink>(
     rt: &H,
     alloc: Global,
@@ -183,17 +167,23 @@ fn run_to_target<H: Files, R: Source, W: Sink, M: Sink>(
         ⊎ IsNotBegun job.now (span M.Sink messages.old messages.new) result.status ((reader.new ≡ reader.old)
         × (output.new ≡ output.old) × (result.target ≡ None)) }
 {
-    match &job.target {
-        None => Ended::without_files(filter(alloc, job.tool, options, reader, output, messages)),
-        Some(name) => match create(rt, name.text(), job.force) {
-            Ok(file) => filter_to_file(alloc, job.tool, options, reader, file, messages),
-            Err(error) if !job.force && error.kind() == ErrorKind::AlreadyExists => {
-                Ended::without_files(report(alloc, messages, "file exists: ", name.text()))
-            }
-            Err(_) => {
-                Ended::without_files(report(alloc, messages, "cannot create ", name.text()))
-            }
-        },
+    let Some(name) = &job.target else {
+        return Ended::without_files(filter(alloc, job.tool, options, reader, output, messages));
+    };
+    let mut how = OpenOptions::new();
+    how.write(true);
+    if job.force {
+        how.create(true);
+        how.truncate(true);
+    } else {
+        how.create_new(true);
+    }
+    match open_to_write(rt, how, name.text()) {
+        Ok(made) => filter_to_file(alloc, job.tool, options, reader, made, messages),
+        Err(error) if !job.force && error.kind() == ErrorKind::AlreadyExists => {
+            Ended::without_files(report(alloc, messages, "file exists: ", name.text()))
+        }
+        Err(_) => Ended::without_files(report(alloc, messages, "cannot create ", name.text())),
     }
 }
 

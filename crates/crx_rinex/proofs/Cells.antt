@@ -4,8 +4,7 @@ use Rattle.std.proofs.Common.{None, length, take, drop, replicate, get_or, refl,
 use Rattle.std.proofs.{Common.{suc, zero, Bool, true, Err, MatchBool}, lemmas.Bool.and_from}
 use Rattle.std.proofs.lemmas.{Grind.common_steps, List.{take_more_set, length-set, take_at, take-append-le}}
 use Rattle.std.proofs.lemmas.List.{drop_all, length-drop, get_or_default, get_or_past, take-set, take-take}
-use Rattle.std.proofs.lemmas.List.{take_all, length-append, length-replicate, take-replicate, append_assoc}
-use Rattle.std.proofs.lemmas.List.{Elements.All-set, Folds.{concat-append, list_all-append}}
+use Rattle.std.proofs.lemmas.List.{length-replicate, take-replicate, Elements.All-set, Folds.concat-append}
 use Rattle.std.{proofs.lemmas.Option.{option_and_then_some, same_Some, none-some}, specs.List.concat}
 use Rattle.std.specs.{List.list_all, Prelude.slice_set}
 use Rattle.crx_text.proofs.EachPlace.{each_place-more, index-each_place, length-each_place}
@@ -39,8 +38,7 @@ all_some_at (Some x ∷ xs) (suc k) h e = rw (all_some_at xs k (omega arith) e) 
 pub values_in_more : (line : List ℕ) (k : ℕ) (vs : List (Option ℤ)) (v : Option ℤ)
     → values_in k line ≡ Some vs → observation_of (field line k) ≡ Some v
     → values_in (k + 1) line ≡ Some (vs ++ v ∷ [])
-values_in_more line k vs v h e =
-    grind (arith, common_steps, all_some, each_place-more, observation_of, field, each_place, all_some-push)
+values_in_more line k vs v h e = grind (arith, common_steps, each_place-more, all_some-push)
 
 pub values_in_none : (line : List ℕ) (k m : ℕ) → k < m → observation_of (field line k) ≡ None
     → values_in m line ≡ None
@@ -78,15 +76,7 @@ pub pair_pushed : (line : List ℕ) (k : ℕ) (flags : List ℕ) (a b : ℕ) →
     → take (2 * k) flags ≡ flags_in k line → a ≡ character_at line (16 * k + 18)
     → b ≡ character_at line (16 * k + 19)
     → take (2 * (k + 1)) (slice_set (slice_set flags (2 * k) a) (2 * k + 1) b) ≡ flags_in (k + 1) line
-pair_pushed line k flags a b room h ha hb =
-    let one = slice_set flags (2 * k) a in
-    let e : 2 * (k + 1) ≡ 2 * k + 1 + 1 = omega arith in
-    let long = length-set flags (2 * k) a in
-    ap (λ n. take n (slice_set one (2 * k + 1) b)) e ∙ take_more_set one (2 * k + 1) b
-    (omega (arith, room, long)) ∙ ap (λ fs. fs ++ b ∷ [])
-    (take_more_set flags (2 * k) a (omega (arith, room))) ∙ append_assoc (take (2 * k) flags) (a ∷ []) _
-    ∙ ap (λ fs. fs ++ a ∷ b ∷ []) h ∙ ap (λ x. flags_in k line ++ x ∷ b ∷ []) ha ∙ ap
-    (λ x. flags_in k line ++ character_at line (16 * k + 18) ∷ x ∷ []) hb ∙ sym (flags_in_more line k)
+pair_pushed line k flags a b room h ha hb = grind (arith, common_steps, take_more_set, flags_in_more)
 
 -- a character inside the line
 pub inside : (line : List ℕ) (i column : ℕ) → i < length line → i ≡ column - 1
@@ -116,8 +106,7 @@ cells_kept line values flags k value h = grind (arith, common_steps, take-set, l
 pub cells_whole : (line : List ℕ) (values : List (Option ℤ)) (flags : List ℕ) (k m : ℕ)
     → AreCellsRead k line values flags → k ≡ m → length values ≡ m
     → list_all is_blank (drop (16 * m + 3) line) ≡ true → AreAllRead m line values flags
-cells_whole line values flags k m h all long ended =
-    grind (arith, common_steps, take_all, values_in, flags_in)
+cells_whole line values flags k m h all long ended = grind (arith, common_steps)
 
 -- what is after it decides
 pub cells_end : (line : List ℕ) (values : List (Option ℤ)) (flags : List ℕ) (k m : ℕ) (b : Bool)
@@ -192,16 +181,4 @@ sound-with_value row k value h sound =
 pub sound-with_flags : (row : Row) (flags : List ℕ) → IsSoundRow row
     → length flags ≤ 2 * length row.values → list_all is_kept flags ≡ true → IsSoundRow (with_flags row flags)
 sound-with_flags row flags h small kept =
-    record {
-      named = h.named;
-      counted = h.counted;
-      ranged = h.ranged;
-      paired = omega (
-        arith,
-        length-append flags (replicate (2 * length row.values - length flags) 32),
-        length-replicate {A = ℕ} (2 * length row.values - length flags) 32,
-      );
-      kept = list_all-append is_kept flags (replicate (2 * length row.values - length flags) 32) ∙ and_from
-          (list_all is_kept flags) (list_all is_kept (replicate (2 * length row.values - length flags) 32))
-          kept (all_kept_blanks (2 * length row.values - length flags));
-    }
+    grind (arith, common_steps, replicate, and_from, list_all, all_kept_blanks)

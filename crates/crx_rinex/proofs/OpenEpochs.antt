@@ -201,8 +201,7 @@ wanted_from : (types : List Count) (line : ReadLine) (lines : List ReadLine) (be
     → opened_at types line ≡ begun → epoch_place types (line ∷ lines) ≡ Wanted → IsOpen begun lines
 wanted_from types line lines None e w = absurd (decided types line lines e w)
 wanted_from types line lines (Some so_far) e w =
-    let b = begins types line so_far e in
-    open_where_wanted lines so_far b.wants (unit_wanted _ (wanted_before 1 _ (sym (b.place lines) ∙ w)))
+    grind (arith, common_steps, begins, open_where_wanted, unit_wanted, wanted_before)
 
 open_from : (types : List Count) (line : ReadLine)
     (lines : List ReadLine) (begun : Option OpenEpoch) (later : OpenEpoch) → opened_at types line ≡ begun

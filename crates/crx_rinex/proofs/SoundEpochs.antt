@@ -8,15 +8,14 @@ use Rattle.std.{proofs.lemmas.Option.none-some, specs.{List.{list_all, AllByRecu
 use Rattle.crx_text.proofs.{Characters.length-columns, EachPlace.{each_place-all, length-each_place}}
 use Rattle.crx_text.specs.meaning.{Columns.{character_at, columns, is_blank}, EachPlace.each_place}
 use Rattle.crx_text.specs.meaning.{Numbers.{observation_of, clock_of, IsValue}, Texts.is_kept}
-use Rattle.crx_base.specs.{meaning.Seen.{ReadLine, Content, Overlong}, declared.fault.Fault.Fault}
-use Rattle.crx_base.specs.declared.{limits.TheConstants.SATELLITES_LIMIT, fault.Fault.TheVariants.NotAnEpoch}
-use Rattle.crx_base.specs.declared.fault.Fault.TheVariants.{BadEpoch, BadField, BadClock, BadFlags, Truncated}
+use Rattle.crx_base.specs.declared.fault.Fault.{Fault, TheVariants.{BadEpoch, BadField, BadClock, BadFlags}}
+use Rattle.crx_base.specs.{declared.limits.TheConstants.SATELLITES_LIMIT, meaning.Seen.{ReadLine, Content}}
+use Rattle.crx_base.specs.meaning.Seen.{Overlong}
 use Rattle.crx_header.proofs.{Apart.apart-push, Counts.{allowed_of, system_of}}
 use Rattle.crx_header.{proofs.FirstColumns.identifier_columns, specs.ObservationTypes.AreCounts}
-use Rattle.crx_header.specs.meaning.EpochColumns.{is_event_flag, begins_epoch, epoch_count, records_in}
-use Rattle.crx_header.specs.meaning.{InOrder.◌or_else◌with◌, ObservationTypes.{Count, IsAllowedCount}}
-use Rattle.crx_header.specs.meaning.{ObservationTypes.{is_system, count_of}, Satellites.types_of_satellite}
-use Rattle.crx_header.specs.meaning.Satellites.{has_number, is_identifier}
+use Rattle.crx_header.specs.meaning.{EpochColumns.epoch_count, InOrder.◌or_else◌with◌, ObservationTypes.Count}
+use Rattle.crx_header.specs.meaning.ObservationTypes.{IsAllowedCount, is_system, count_of}
+use Rattle.crx_header.specs.meaning.Satellites.{types_of_satellite, has_number, is_identifier}
 use Rattle.crx_rinex.proofs.{Cells.flags_in_more, Ranges.{value_fits, clock_fits, tested}}
 use Rattle.crx_rinex.{proofs.Rows.satellites_few, specs.meaning.EpochLines.{HeadLine, EventHead, EpochHead}}
 use Rattle.crx_rinex.specs.meaning.EpochLines.{ObservationHead, IsObservationHead, epoch_head, event_head}
@@ -176,19 +175,7 @@ event_case : (flag : ℕ) (o : Option ℕ) → IsSoundHead (event_head flag o)
 event_case = grind (arith, common_steps)
 
 pub sound-head_of : (line : List ℕ) → IsSoundHead (head_of line)
-sound-head_of line =
-    elim (begins_epoch line) as (λ b.
-    IsSoundHead (cond (not b) (Err NotAnEpoch) (cond (is_event_flag (character_at line 32))
-    (event_head (character_at line 32) (records_in line))
-    (epoch_head line (epoch_count (columns line 1 41)))))) [
-      | true ↦ elim (is_event_flag (character_at line 32)) as (λ b. IsSoundHead (cond b
-          (event_head (character_at line 32) (records_in line))
-          (epoch_head line (epoch_count (columns line 1 41))))) [
-            | true ↦ event_case (character_at line 32) (records_in line)
-            | false ↦ count_case line (epoch_count (columns line 1 41)) refl
-          ]
-      | false ↦ tt
-    ]
+sound-head_of line = grind (arith, common_steps, cond, event_case, count_case)
 
 -- ---- rows after an epoch line
 
@@ -215,12 +202,7 @@ new_row = search rules
 
 pub next_sound : (so_far : OpenEpoch) (line : List ℕ) → AreCounts so_far.types
     → IsNext so_far (next_row so_far line)
-next_sound so_far line counts =
-    elim (begins_epoch line) as (λ b.
-    IsNext so_far (cond b (Err Truncated) (row_if_new so_far.rows (row_of so_far.types line)))) [
-      | true ↦ tt
-      | false ↦ new_row so_far (row_of so_far.types line) (sound-row_of so_far.types line counts)
-    ]
+next_sound so_far line counts = grind (arith, common_steps, cond, new_row, sound-row_of)
 
 pub sound-next_row : (so_far : OpenEpoch) (row : Row)
     → IsSoundSoFar so_far → IsNext so_far (Ok row) → IsSoundSoFar (with_next_row so_far row)

@@ -73,11 +73,11 @@ impl RowBuffer {
 
     /// The identifier: the system's letter and the satellite's number.
     #[inline(always)]
-    pub fn name(&self) -> [u8; NAME_WIDTH]
-        ensures value { result ≡ self.now.name }
+    pub fn name(&self) -> &[u8; NAME_WIDTH]
+        ensures value { result.now ≡ self.now.name }
         ensures sound { IsSoundRow self.now }
     {
-        self.name
+        &self.name
     }
 
     /// The values, one for each type, in thousandths of its unit; `None` where the observation is missing.

@@ -1,10 +1,10 @@
 //! One line of the input, through an engine to the writer and the messages.
 
-ghost use Rattle.std.specs.Prelude.{◌≡◌, ◌≤◌, List, [], IfOk, IfErr, OnOk, true};
+ghost use Rattle.std.specs.Prelude.{◌≡◌, ◌≤◌, List, [], IfOk, IfErr, OnOk, length, true};
 ghost use Rattle.crx_base.specs.meaning.Lines.{InputLine, is_long};
 ghost use Rattle.crx_lines.specs.Reading.{line_shown, line_number};
 ghost use Rattle.crx_base.specs.declared.fault.At.{At};
-ghost use Rattle.crx_base.specs.declared.limits.TheConstants.{INPUT_LIMIT};
+ghost use Rattle.crx_base.specs.declared.limits.TheConstants.{INPUT_LIMIT, LINE_LIMIT};
 ghost use Rattle.crx_runs.specs.Endings.{EndEndsRun};
 ghost use Rattle.crx_runs.specs.Engines.{IsDrainedAfter};
 ghost use Rattle.crx_runs.specs.declared.one_line.Halt.TheVariants as halts;
@@ -135,33 +135,70 @@ pub fn take_line<E: Engine, W: Sink, M: Sink>(
     if engine.take(line) {
         return Ok(false);
     }
-    // Most of the other lines are copied: this way saves 70 instructions for each of them.
+    take_stored(
+        engine,
+        writer,
+        messages,
+        line.bytes(),
+        line.number(),
+        line.plain(),
+    )
+}
+
+/// Does what an engine answered to a line after which something is to be done. In [`take_line`] a place for the line, which is given in its
+/// parts, would be cleared for each line.
+#[inline(never)]
+fn take_stored<E: Engine, W: Sink, M: Sink>(
+    engine: &mut E,
+    writer: &mut W,
+    messages: &mut M,
+    content: &[u8],
+    number: u64,
+    is_plain: bool,
+) -> Result<bool, Halt>
+    requires short { length content.now ≤ LINE_LIMIT }
+    requires answered { (before : E) × MayTake E.Engine before number
+        × HasAnswered E.Engine before engine.old
+        (λ l. l ≡ record { content = content.now; is_plain = is_plain }) (E.answer engine.old) }
+    ensures { (before : E)
+        → HasAnswered E.Engine before engine.old
+        (λ l. l ≡ record { content = content.now; is_plain = is_plain }) (E.answer engine.old)
+        → LineIsTaken E.Engine before engine.new (λ l. l ≡ record { content = content.now; is_plain = is_plain })
+        (span W.Sink writer.old writer.new) (span M.Sink messages.old messages.new) result }
+{
+    // Most of these lines are copied: this way saves 70 instructions for each of them.
     if let Ok(Step::Ready) = engine.answer() {
         return match write_ready(engine, writer) {
             Ok(()) => Ok(false),
             Err(_) => Err(Halt::Unwritten),
         };
     }
-    take_stored(engine, writer, messages, line)
+    take_by_answer(engine, writer, messages, content, number, is_plain)
 }
 
-/// Does what an engine answered to a line after which more is to be done than to write what is ready. In [`take_line`] the places for the
-/// answer and the line would be cleared for each line.
+/// Does what an engine answered to a line after which more is to be done than to write what is ready. In [`take_stored`] the places for the
+/// answer and for the line would be cleared for each line that is copied.
 #[inline(never)]
-fn take_stored<E: Engine, W: Sink, M: Sink>(
+fn take_by_answer<E: Engine, W: Sink, M: Sink>(
     engine: &mut E,
     writer: &mut W,
     messages: &mut M,
-    line: Line<'_>,
+    content: &[u8],
+    number: u64,
+    is_plain: bool,
 ) -> Result<bool, Halt>
-    requires { (before : E) × MayTake E.Engine before (line_number line)
-        × HasAnswered E.Engine before engine.old (λ l. l ≡ line_shown line) (E.answer engine.old) }
+    requires short { length content.now ≤ LINE_LIMIT }
+    requires answered { (before : E) × MayTake E.Engine before number
+        × HasAnswered E.Engine before engine.old
+        (λ l. l ≡ record { content = content.now; is_plain = is_plain }) (E.answer engine.old) }
     ensures { (before : E)
-        → HasAnswered E.Engine before engine.old (λ l. l ≡ line_shown line.entry) (E.answer engine.old)
-        → LineIsTaken E.Engine before engine.new (λ l. l ≡ line_shown line.entry)
+        → HasAnswered E.Engine before engine.old
+        (λ l. l ≡ record { content = content.now; is_plain = is_plain }) (E.answer engine.old)
+        → LineIsTaken E.Engine before engine.new (λ l. l ≡ record { content = content.now; is_plain = is_plain })
         (span W.Sink writer.old writer.new) (span M.Sink messages.old messages.new) result }
 {
     let answer = engine.answer();
+    let line = Line::of(content, number, is_plain);
     take_answered(engine, writer, messages, Taken::Line(line), answer)
 }
 

@@ -10,7 +10,7 @@ use crx_lines::{Sink, WriteFailed, write_all_counted};
 
 /// Writes the lines that an engine has ready, each with LF: as one text where the engine has them as one, as it mostly has, else one by
 /// one.
-#[inline(never)]
+#[inline(always)]
 pub(crate) fn write_ready<E: Engine, W: Sink>(
     engine: &mut E,
     writer: &mut W,

@@ -95,7 +95,8 @@ impl Text {
     }
 }
 
-/// A text without the blanks at its end.
+/// A text without the blanks at its end. Part of its callers, as a call takes 8 instructions for each line.
+#[inline(always)]
 #[tactic(auto, using(crate::proofs::EndBlanks::ended_at, crate::proofs::EndBlanks::blank_passed, crate::proofs::EndBlanks::nothing_after))]
 pub fn trim_end(text: &[u8]) -> &[u8]
     ensures value { result.now ≡ without_end_blanks text.now }

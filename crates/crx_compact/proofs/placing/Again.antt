@@ -7,6 +7,14 @@ use Rattle.indexmap.specs.IndexMap.{IndexMap, IsUnique}
 use Rattle.crx_compact.specs.Entries.{Entry, KeepsTypes, placed_rows}
 use Rattle.crx_compact.specs.EpochLinesRead.{HaveComeAgain, IsAgain}
 use Rattle.crx_compact.specs.Placing.{SatelliteTail, row_of_entry, row_tail_named}
+use Rattle.std.proofs.Common.{All, get_or, map, slice_get, true}
+use Rattle.std.proofs.lemmas.Grind.{common_steps}
+use Rattle.std.proofs.lemmas.Option.{slice_get-map}
+use Rattle.crx_header.specs.meaning.ObservationTypes.{count_of}
+use Rattle.crx_header.specs.meaning.Satellites.{is_identifier, types_of_satellite}
+use Rattle.crx_compact.specs.HeldRows.{IsAwaitedSatellite}
+use Rattle.crx_compact.proofs.Characters.{length-is, within-or_past}
+use Rattle.crx_compact.proofs.RowByRow.{all-at}
 use Rattle.crx_compact.proofs.placing.EntryChanges.{room-here}
 use Rattle.crx_compact.proofs.placing.Ranges.{found-in_range, named-map}
 use Rattle.crx_compact.proofs.placing.SteppedRows.{among-placed, row-at, rows-counted, rows_of}
@@ -21,6 +29,21 @@ kept-more types count es kept last = below_more (λ index. KeepsTypes types inde
 pub none-placed : (placed live : ℕ) (es : List Entry) → (placed ≤ live) × (live ≤ length es)
     → rows_of placed es ≡ [] → placed ≡ 0
 none-placed placed live es order none = omega (arith, ap length none, rows-counted placed es (omega arith))
+
+-- an identifier's system is known by its letter
+pub typed-named : (types : List Count) (name : List ℕ) → is_identifier name ≡ true
+    → types_of_satellite types name ≡ count_of types (get_or name 0 0)
+typed-named types name named = grind (arith, common_steps, types_of_satellite, is_identifier, length-is)
+
+-- a satellite of the epoch before has the form of an identifier
+pub named-before : (live : ℕ) (es : List Entry) → All IsAwaitedSatellite (map satellite_of (rows_of live es))
+    → (index : ℕ) (e : Entry) → index < live → live ≤ length es → slice_get es index ≡ Some e
+    → is_identifier e.0 ≡ true
+named-before live es awaited index e less all there =
+    let row = row-at live (subst (λ n. index < n) (sym (rows-counted live es all)) less) there in
+    IsAwaitedSatellite.named (all-at IsAwaitedSatellite (map satellite_of (rows_of live es)) index
+    (satellite_of (row_of_entry e)) awaited
+    (slice_get-map satellite_of (rows_of live es) index ∙ ap (option_map satellite_of) row.there))
 
 module _ {S : Type 0} (m : IndexMap (List ℕ) SatelliteTail S) (unique : IsUnique bytes_eq m)
     (types : List Count) (live : ℕ)

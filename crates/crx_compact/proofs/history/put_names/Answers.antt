@@ -1,14 +1,25 @@
-use Rattle.crx_compact.proofs.Words.{rules, ◌+◌, ◌*◌, ℕ, List, arith, take, RowTail}
+use Rattle.crx_compact.proofs.Words.{◌≡◌, ◌+◌, ◌*◌, ◌++◌, ◌∷◌, [], ℕ, zero, suc, List, Some, slice_get, map, RowTail}
+use Rattle.crx_compact.proofs.Words.{ap, ◌∙◌, arith, length, length-map, take}
+use Rattle.std.proofs.Common.{get_or}
 use Rattle.crx_compact.proofs.Making.{texts_more}
 use Rattle.crx_compact.proofs.RowByRow.{IsThere, is-there}
 use Rattle.crx_compact.proofs.history.put_names.Goals as goal
+
+named-at : (rows : List RowTail) (index : ℕ) (row : RowTail) → slice_get rows index ≡ Some row
+    → get_or (map (λ (r : RowTail). r.name) rows) index [] ≡ row.name
+named-at [] index row there = grind arith
+named-at (r ∷ rows) zero row there = grind arith
+named-at (r ∷ rows) (suc index) row there = named-at rows index row there
 
 pub loop-index-preserved : goal.loop-index-preserved
 loop-index-preserved c =
     let rows : List RowTail = c.args.satellites.now.rows in
     let index = c.loop-index.index in
-    let row : IsThere rows index = is-there rows index (omega arith) in
+    let names = c.names-names.ensures.value in
+    let row : IsThere rows index = is-there rows index (omega (arith, ap length names ∙ length-map rows _)) in
     let so_far : List ℕ = take (41 + 3 * index) c.loop-index.text in
+    let after : 41 + 3 * (index + 1) ≡ 41 + 3 * index + 3 = omega arith in
     texts_more (λ (r : RowTail). r.name) (take 41 c.args.text.now) rows index row.item so_far
     (take (41 + 3 * (index + 1)) c.put_identifier.new.bytes) c.loop-index.invariant row.there
-    (search (rules, c.put_identifier.ensures.put, c.name_at.ensures.value, is-there))
+    (ap (λ n. take n c.put_identifier.new.bytes) after ∙ c.put_identifier.ensures.put
+    ∙ ap (λ name. so_far ++ name) (ap (λ all. get_or all index []) names ∙ named-at rows index row.item row.there))

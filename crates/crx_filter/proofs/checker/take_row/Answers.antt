@@ -24,7 +24,7 @@ returns-in-Ok-true-clause-takes c kept =
     let between = c.read_row.new.self in
     let line = c.args.line.now in
     let read = c.in_ok-read_row.ensures in
-    let new = has-come c.args.names.now.names before between c.row.result.now c.count.result c.name.result
+    let new = has-come c.args.names.now.names before between c.row.result.now c.count.result c.name.result.now
     false c.requires.named c.requires.open read.same c.count.ensures.rows c.name.ensures.value
     c.row.ensures.value (c.in-Ok-true.ensures.new ∙ ap not c.in-Ok-true.field-0-test) in
     taken-from before between c.take_row.new.self line kept c.take_row.result c.take_row.ensures.steps
@@ -36,7 +36,7 @@ pub returns-in-Ok-false-clause-refuses : goal.returns-in-Ok-false-clause-refuses
 returns-in-Ok-false-clause-refuses c kept =
     let read = c.in_ok-read_row.ensures in
     inl (read.repeated kept (has-come c.args.names.now.names c.args.reader.now c.read_row.new.self
-    c.row.result.now c.count.result c.name.result true
+    c.row.result.now c.count.result c.name.result.now true
     c.requires.named c.requires.open read.same c.count.ensures.rows c.name.ensures.value c.row.ensures.value
     (c.in-Ok-false.ensures.new ∙ ap not c.in-Ok-false.field-0-test)))
 
@@ -46,6 +46,6 @@ returns-in-Err-clause-refuses c kept =
     inr (
       refl,
       read.memory (has-come c.args.names.now.names c.args.reader.now c.read_row.new.self c.row.result.now
-          c.count.result c.name.result false c.requires.named c.requires.open read.same c.count.ensures.rows
+          c.count.result c.name.result.now false c.requires.named c.requires.open read.same c.count.ensures.rows
           c.name.ensures.value c.row.ensures.value c.in-Err.ensures.err),
     )

@@ -1,6 +1,6 @@
 use Rattle.std.proofs.Common.{◌≡◌, ◌∙◌, map, None, inl, inr, refl, string_bytes, subst, sym}
 use Rattle.crx_command.{proofs.JobFits.job_fits, specs.{declared.job.Job.Job, meaning.Planning.Help}}
-use Rattle.crx_command.specs.meaning.Planning.{Refused, Refusal, Run, plan_of}
+use Rattle.crx_command.specs.meaning.Planning.{Run, plan_of}
 use Rattle.crx_program.proofs.{FilterEnds.done_for, Refusals.{not_run, refused_by}}
 use Rattle.crx_program.specs.{Devices.LeavesDevices, meaning.{Jobs.NoMemory, Program.IsRefused}}
 use Rattle.crx_runs.specs.meaning.Spans.{span, reader_span}
@@ -50,45 +50,35 @@ returns-in-Ok-Run-clause-done g c = λ job e.
     ((c.run_job.new.input ≡ c.args.input.now) × (c.run_job.new.output ≡ c.args.output.now)
     × (c.run_job.result.target ≡ None)) (same_job c.in-Ok-Run.job job (planned ∙ e)) c.run_job.ensures.done
 
--- help is no run and no refusal, and a run is neither help nor a refusal
-help_not_run : (job : Job) → Help ≡ Run job → ⊥
-help_not_run job e = cc
-
-help_not_refused : (refusal : Refusal) → Help ≡ Refused refusal → ⊥
-help_not_refused refusal e = cc
-
-run_not_refused : (job : Job) (refusal : Refusal) → Run job ≡ Refused refusal → ⊥
-run_not_refused job refusal e = cc
-
 pub returns-in-Ok-Help-clause-refused : goal.returns-in-Ok-Help-clause-refused
 returns-in-Ok-Help-clause-refused g c = λ refusal e.
     let planned : Help ≡ plan_of (map string_bytes c.args.words.items) =
     rw c.in-Ok-Help.field-0-is at c.in-Ok-Help.ensures.value in
-    absurd (help_not_refused refusal (planned ∙ e))
+    absurd (cc)
 
 pub returns-in-Ok-Help-clause-devices : goal.returns-in-Ok-Help-clause-devices
 returns-in-Ok-Help-clause-devices g c = λ job e.
     let planned : Help ≡ plan_of (map string_bytes c.args.words.items) =
     rw c.in-Ok-Help.field-0-is at c.in-Ok-Help.ensures.value in
-    absurd (help_not_run job (planned ∙ e))
+    absurd (cc)
 
 pub returns-in-Ok-Help-clause-done : goal.returns-in-Ok-Help-clause-done
 returns-in-Ok-Help-clause-done g c = λ job e.
     let planned : Help ≡ plan_of (map string_bytes c.args.words.items) =
     rw c.in-Ok-Help.field-0-is at c.in-Ok-Help.ensures.value in
-    absurd (help_not_run job (planned ∙ e))
+    absurd (cc)
 
 pub returns-in-Ok-Run-clause-refused : goal.returns-in-Ok-Run-clause-refused
 returns-in-Ok-Run-clause-refused g c = λ refusal e.
     let planned : Run c.in-Ok-Run.job ≡ plan_of (map string_bytes c.args.words.items) =
     rw c.in-Ok-Run.field-0-is at c.in-Ok-Run.ensures.value in
-    absurd (run_not_refused c.in-Ok-Run.job refusal (planned ∙ e))
+    absurd (cc)
 
 pub returns-in-Ok-Run-clause-help : goal.returns-in-Ok-Run-clause-help
 returns-in-Ok-Run-clause-help g c = λ e.
     let planned : Run c.in-Ok-Run.job ≡ plan_of (map string_bytes c.args.words.items) =
     rw c.in-Ok-Run.field-0-is at c.in-Ok-Run.ensures.value in
-    absurd (help_not_run c.in-Ok-Run.job (sym (planned ∙ e)))
+    absurd (cc)
 
 pub returns-in-Ok-Run-clause-devices : goal.returns-in-Ok-Run-clause-devices
 returns-in-Ok-Run-clause-devices g c = λ job e.

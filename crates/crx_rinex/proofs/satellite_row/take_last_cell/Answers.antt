@@ -1,6 +1,7 @@
-use Rattle.std.{specs.{Bool.OnTrue, List.list_all}, proofs.Common.{◌≡◌, ℕ, ◌+◌, ◌*◌, ◌-◌, ◌≤◌, List, length}}
-use Rattle.std.{proofs.Common.{take, drop, ap, sym, ◌∙◌, arith, Bool, true, false}, specs.Prelude.slice_set}
-use Rattle.std.proofs.lemmas.{Bool.leb-true, List.{length-set, set-get_or, drop_all}, Grind.common_steps}
+use Rattle.std.proofs.Common.{rules, ◌≡◌, ℕ, ◌+◌, ◌*◌, ◌-◌, ◌≤◌, List, length, take, drop, ap, sym, ◌∙◌}
+use Rattle.std.proofs.{Common.{arith, Bool, true, false}, lemmas.{Bool.leb-true, Grind.common_steps}}
+use Rattle.std.{proofs.lemmas.List.{length-set, set-get_or, drop_all}, specs.{Bool.OnTrue, List.list_all}}
+use Rattle.std.specs.Prelude.{slice_set}
 use Rattle.crx_text.specs.meaning.{Columns.is_blank, Numbers.observation_of}
 use Rattle.crx_rinex.proofs.Cells.{cells_more, cells_whole, past, read_inside}
 use Rattle.crx_rinex.specs.meaning.SatelliteLines.{field}
@@ -34,8 +35,7 @@ on-true : (b : Bool) (X : Type 0) → (b ≡ true → X) → OnTrue b X
 on-true = grind (arith, common_steps)
 
 pub returns-then-first-values-clause-read : goal.returns-then-first-values-clause-read
-returns-then-first-values-clause-read c =
-    grind (arith, common_steps, on-true, leb-true, cells_whole, nothing-after)
+returns-then-first-values-clause-read c = search (rules, on-true, leb-true, cells_whole, nothing-after)
 
 -- ---- where the last one isn't taken
 

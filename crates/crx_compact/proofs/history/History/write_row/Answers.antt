@@ -12,7 +12,7 @@ use Rattle.crx_compact.proofs.history.History.write_row.Goals as goal
 pub returns-in_err-place_or_add-clause-memory : goal.returns-in_err-place_or_add-clause-memory
 returns-in_err-place_or_add-clause-memory c = λ after rows written.
     on_err c.from_residual.result (sym (come-already after rows c.args.self.now c.args.lines.now.lines
-    c.self.inside.satellites c.args.name (ap (λ (h : OpenHistory). h.satellites) c.self.view_is) written)
+    c.self.inside.satellites c.args.name.now (ap (λ (h : OpenHistory). h.satellites) c.self.view_is) written)
     ∙ c.in_err-place_or_add.ensures.err)
 
 pub returns-in_err-place_or_add-clause-known : goal.returns-in_err-place_or_add-clause-known
@@ -56,11 +56,11 @@ returns-then-not-branch-clause-kept c =
 -- whether the row's satellite is new
 answer : (c : In_ok-place_or_add) (after : Tail) (rows : List Row)
     → AreRowsWritten after rows c.args.self.now c.args.lines.now.lines
-    → c.in_ok-place_or_add.field-0 ≡ not (has_satellite c.args.name rows)
+    → c.in_ok-place_or_add.field-0 ≡ not (has_satellite c.args.name.now rows)
 answer c after rows written =
     c.in_ok-place_or_add.ensures.ok.answer
     ∙ ap not (come-already after rows c.args.self.now c.args.lines.now.lines
-    c.self.inside.satellites c.args.name (ap (λ (h : OpenHistory). h.satellites) c.self.view_is) written)
+    c.self.inside.satellites c.args.name.now (ap (λ (h : OpenHistory). h.satellites) c.self.view_is) written)
 
 pub returns-then-not-branch-clause-written : goal.returns-then-not-branch-clause-written
 returns-then-not-branch-clause-written c = λ after rows written. record {
@@ -71,7 +71,7 @@ returns-then-not-branch-clause-written c = λ after rows written. record {
 pub returns-in_err-make_room-clause-memory : goal.returns-in_err-make_room-clause-memory
 returns-in_err-make_room-clause-memory c = λ after rows written.
     on_err c.from_residual-in_err-make_room.result (no-row after rows c.args.self.now c.args.lines.now.lines
-    c.self.inside.satellites c.args.name c.in_ok-place_or_add.field-0
+    c.self.inside.satellites c.args.name.now c.in_ok-place_or_add.field-0
     (ap (λ (h : OpenHistory). h.satellites) c.self.view_is) c.in_ok-place_or_add.ensures.ok.answer
     c.if-not-branch.false
     written)
@@ -92,9 +92,9 @@ returns-in_err-make_room-clause-kept c = record {
 
 -- what is asked for is what the row needs
 only : (c : After-place_or_add)
-    → GrowsOnly (IsAskedFor c.args.name (length c.args.values.now)) c.args.self.now.satellites.rooms
+    → GrowsOnly (IsAskedFor c.args.name.now (length c.args.values.now)) c.args.self.now.satellites.rooms
     c.place_or_add.new.self.rooms
-only c = subst (λ (h : OpenHistory). GrowsOnly (IsAskedFor c.args.name (length c.args.values.now))
+only c = subst (λ (h : OpenHistory). GrowsOnly (IsAskedFor c.args.name.now (length c.args.values.now))
     h.satellites.rooms c.place_or_add.new.self.rooms) c.self.view_is c.place_or_add.ensures.only
 
 not-more : (c : After-place_or_add)
@@ -119,7 +119,7 @@ returns-clause-only c = search (rules, rooms, only, not-more)
 
 pub put_row-requires-clause-sound : goal.put_row-requires-clause-sound
 put_row-requires-clause-sound c = λ old there.
-    let name = c.args.name in
+    let name = c.args.name.now in
     let values = c.args.values.now in
     let flags = c.args.flags.now in
     let placed = c.self.inside.satellites in
@@ -135,7 +135,7 @@ put_row-requires-clause-sound c = λ old there.
 
 pub returns-clause-written : goal.returns-clause-written
 returns-clause-written c = λ after rows written.
-    let name = c.args.name in
+    let name = c.args.name.now in
     let values = c.args.values.now in
     let flags = c.args.flags.now in
     let row : Row = row_of_parts name values flags in

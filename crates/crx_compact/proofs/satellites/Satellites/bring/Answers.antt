@@ -6,7 +6,7 @@ use Rattle.crx_compact.proofs.satellites.Satellites.bring.Goals as goal
 
 pub returns-in_default : goal.returns-in_default
 returns-in_default c =
-    rw (← c.self.view_is) (placed-unknown _ _ _ (not-found c.args.name _ (c.in_default.ensures.unknown refl)))
+    rw (← c.self.view_is) (placed-unknown _ _ _ (not-found c.args.name.now _ (c.in_default.ensures.unknown refl)))
 
 pub returns-then-found-self : goal.returns-then-found-self
 returns-then-found-self c =

@@ -7,8 +7,8 @@ use Rattle.crx_compact.proofs.placing.SteppedRows.{order-kept, rest-kept, row-at
 use Rattle.crx_compact.proofs.placing.SteppedRows.{written-row}
 use Rattle.crx_compact.proofs.satellites.Satellites.write_line.Goals as goal
 
-pub mark-requires : goal.mark-requires
-mark-requires c =
+pub mark-marks-requires : goal.mark-marks-requires
+mark-marks-requires c =
     let there = c.pair_mut-satellite.ensures.value in
     let at = row-at c.self.inside.placed (rw (← c.self.view_is) at c.requires.within) there in
     let sound = (rw (← c.self.view_is) at c.requires.sound) _ at.there in
@@ -30,7 +30,7 @@ write_line-requires-clause-values c =
 
 pub write_line-requires-clause-counted : goal.write_line-requires-clause-counted
 write_line-requires-clause-counted c =
-    ap (λ (s : SatelliteTail). length s.cells) c.mark.ensures.marked
+    ap (λ (s : SatelliteTail). length s.cells) c.mark-marks.ensures.marked
     ∙ length-each_place (length c.args.values.now) _
 
 pub invariant_of-self : goal.invariant_of-self
@@ -47,18 +47,18 @@ returns c =
     let after = c.write_line.new.self in
     let row : RowTail → Row = λ kept. row_of_parts kept.name c.args.values.now c.args.flags.now in
     let kept = ap (λ (s : SatelliteTail). s.room) (c.write_line.ensures.after) in
-    let kept-too = ap (λ (s : SatelliteTail). s.room) (c.mark.ensures.marked) in
+    let kept-too = ap (λ (s : SatelliteTail). s.room) (c.mark-marks.ensures.marked) in
     rw (← c.self.view_is) (record {
       after = λ old also.
           rows-changed self.known self.placed self.live within there after
           ∙ ap (slice_set _ c.args.index)
-          (written-row (row_of_parts name c.args.values.now c.args.flags.now) satellite c.mark.new.self after
-          c.mark.ensures.marked c.write_line.ensures.after
+          (written-row (row_of_parts name c.args.values.now c.args.flags.now) satellite c.mark-marks.new.self after
+          c.mark-marks.ensures.marked c.write_line.ensures.after
           ∙ ap (λ (kept : RowTail). row_tail_after (Some kept) (row kept)) (at.is old also));
       line = λ old also. c.write_line.ensures.line
           ∙ ap (λ line. take c.args.at c.args.bytes.now ++ line)
-          (written-line (row_of_parts name c.args.values.now c.args.flags.now) satellite c.mark.new.self
-          c.bytes.result.now c.mark.ensures.marked (c.bytes.ensures.value ∙ c.mark.ensures.marks)
+          (written-line (row_of_parts name c.args.values.now c.args.flags.now) satellite c.mark-marks.new.self
+          c.mark-marks.result.now c.mark-marks.ensures.marked c.mark-marks.ensures.marks
           ∙ ap (λ (kept : RowTail). row_line_after (Some kept) (row kept)) (at.is old also));
       within = c.write_line.ensures.within;
       short = search rules;

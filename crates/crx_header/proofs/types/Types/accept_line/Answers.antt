@@ -1,10 +1,10 @@
-use Rattle.std.proofs.Common.{◌≡◌, ◌≤◌, ◌+◌, sym, subst, inr, length, arith, rules}
+use Rattle.std.proofs.Common.{◌≡◌, ◌≤◌, ◌+◌, sym, subst, inr, length, arith, rules, Some}
 use Rattle.std.proofs.lemmas.Grind.{common_steps}
 use Rattle.crx_header.proofs.Counts.{types_of-push, with_line-other, count_in_allowed, AreCounts-with_count}
 use Rattle.crx_header.{proofs.Counts.AreByLetter-with_count, specs.ObservationTypes.{with_line, with_count}}
 use Rattle.crx_header.specs.{ObservationTypes.{AreCounts, AreByLetter}, declared.types.TheConstants.LETTERS}
 use Rattle.crx_header.specs.{declared.types.TheConstants.SYSTEMS, meaning.ObservationTypes.is_types_line}
-use Rattle.crx_header.specs.meaning.ObservationTypes.{types_of}
+use Rattle.crx_header.specs.meaning.ObservationTypes.{types_of, count_in}
 use Rattle.indexmap.specs.IndexMap.{spare}
 use Rattle.crx_header.proofs.types.Types.accept_line.Goals as goal
 

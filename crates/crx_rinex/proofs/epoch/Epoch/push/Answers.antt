@@ -1,6 +1,6 @@
 use Rattle.std.proofs.Common.{◌≡◌, ◌≤◌, ◌+◌, ◌++◌, ◌∷◌, [], ℕ, List, length, vec_capacity, arith, rules, sym}
-use Rattle.std.proofs.{Common.{ap, ◌∙◌, false, if◌then◌else◌, refl, inl, inr}, lemmas.List.length_push}
-use Rattle.std.specs.{List.list_any, Str.bytes_eq}
+use Rattle.std.proofs.{Common.{ap, ◌∙◌, false, if◌then◌else◌, inr}, lemmas.Grind.common_steps}
+use Rattle.std.{proofs.lemmas.List.length_push, specs.{List.list_any, Str.bytes_eq}}
 use Rattle.indexmap.specs.IndexSet.{spare}
 use Rattle.crx_header.specs.meaning.EpochColumns.{satellites_of}
 use Rattle.crx_rinex.proofs.{Rows.{among-names, parts-more}, epoch.Epoch.push.Goals.After-contains}
@@ -16,12 +16,10 @@ known c = sym (c.contains.ensures
     ∙ ap (λ (e : Epoch). has_satellite c.args.row.name e.rows) c.self.view_is)
 
 pub returns-then-contains-clause-refused : goal.returns-then-contains-clause-refused
-returns-then-contains-clause-refused c =
-    inl (refl, known (goal.at.returns-then-contains-clause-refused c).After-contains ∙ c.if-contains.true)
+returns-then-contains-clause-refused c = grind (arith, common_steps, known, c.if-contains.true)
 
 pub returns-then-is_err-clause-refused : goal.returns-then-is_err-clause-refused
-returns-then-is_err-clause-refused c =
-    inr (refl, known (goal.at.returns-then-is_err-clause-refused c).After-contains ∙ c.if-contains.false)
+returns-then-is_err-clause-refused c = grind (arith, common_steps, known, c.if-contains.false)
 
 pub invariant_of-self-2 : goal.invariant_of-self-2
 invariant_of-self-2 c =
