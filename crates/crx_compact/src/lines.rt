@@ -165,7 +165,7 @@ impl Lines {
         ensures known { lines ≤ self.old.free_lines + self.old.spare_lines
             → bytes ≤ self.old.free_bytes + self.old.spare_bytes → IsOk result }
     {
-        // Mostly there is room: the two calls would take 15 instructions a row, and to add up to a number that may be too large 4 more.
+        // Mostly there is room: the two calls would take 15 instructions a row, and two sums that saturate 4 more.
         if bytes <= self.bytes.len() - self.filled && lines <= self.lengths.len() - self.count {
             return Ok(());
         }

@@ -142,7 +142,7 @@ impl SatelliteHistory {
     }
 
     /// Replaces the indicators by those of a row, and makes it have as many types as the row. Gives the difference of the indicators before
-    /// and the row's, which is written into a text where it isn't empty: mostly they stay.
+    /// and the row's: mostly they stay, and it is empty; else it is written into a text.
     #[inline(always)]
     pub(crate) fn mark<'a>(&mut self, count: usize, flags: &[u8], part: &'a mut Text) -> &'a [u8]
         requires fits { FitsFlags count flags.now self.old }

@@ -114,7 +114,8 @@ impl Satellites {
     /// The satellite with an identifier comes, where it is known and has room for so many types: what is stored of it is the next row.
     /// `false` comes where it has come already, and `None` where it isn't known or has too little room; then nothing changes.
     ///
-    /// The next one in the order of the epoch before mostly comes, which one comparison finds. (To copy the identifier takes 8 instructions.)
+    /// The next one in the order of the epoch before mostly comes, which one comparison finds. (The identifier is borrowed, since a copy
+    /// takes 8 instructions.)
     #[inline(always)]
     pub(crate) fn place(&mut self, name: &[u8; NAME_WIDTH], count: usize) -> Option<bool>
         ensures { AnswersPlacing name.now count self.old self.new result }
@@ -171,7 +172,7 @@ impl Satellites {
     }
 
     /// Has the satellites of the epoch before come again in their order, where they are so many, and each has as many types as its system
-    /// has now; else nothing changes, and `false`. In an epoch of the same satellites this saves 35 instructions for each of them: no
+    /// has now; else nothing changes, and `false`. In an epoch of the same satellites this saves 45 instructions for each of them: no
     /// identifier is read of the line, and none is looked for.
     pub(crate) fn come_again(&mut self, types: &Types, count: usize) -> bool
         requires none { self.old.rows ≡ [] }
@@ -229,7 +230,7 @@ impl Satellites {
         satellite.make_room(count)
     }
 
-    /// The identifiers of the satellites that have come. They are beside each other in the map: to ask for each by its index takes 4
+    /// The identifiers of the satellites that have come. They are beside each other in the map: to ask for each by its index takes 5
     /// instructions more.
     #[inline(always)]
     pub(crate) fn names(&self) -> &[[u8; NAME_WIDTH]]
@@ -367,7 +368,7 @@ fn key_at(map: &IndexMap<[u8; NAME_WIDTH], SatelliteHistory>, index: usize) -> [
 }
 
 /// Whether each of the first so many satellites has as many types as its system has now. Each has the form of an identifier, so its letter
-/// alone is read: this saves 11 instructions for each of them.
+/// alone is read: this saves 10 instructions for each of them.
 fn keep_types(
     map: &IndexMap<[u8; NAME_WIDTH], SatelliteHistory>,
     count: usize,

@@ -68,8 +68,8 @@ impl<D: Direction> Engine<D> {
         })
     }
 
-    /// Stores the answer to a fault of the line that was counted last, which reading may go on at or not. It is given what it needs of the
-    /// stage: a place for the stage would be cleared at every line, by 2 instructions.
+    /// Stores the answer to a fault of the line that was counted last: it is given whether the stage may be skipped and is that of an open
+    /// epoch, and whether reading may go on at the line. A place for the stage would be cleared at every line, by 2 instructions.
     #[inline(never)]
     fn fail(&mut self, skips: bool, is_open: bool, fault: Fault, goes_on: bool)
         requires counted { D.counted self.old.direction + 1 ≤ self.old.number }
@@ -118,6 +118,7 @@ impl<D: Direction> Engine<D> {
                 false
             }
             Err(fault) => {
+                // An open epoch may be skipped.
                 self.fail(true, true, fault, begins_epoch(line));
                 false
             }

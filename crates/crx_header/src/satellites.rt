@@ -16,7 +16,7 @@ pub fn types_of_satellite(types: &Types, line: &[u8]) -> Option<usize>
     ensures allowed { IfSome result IsAllowedCount }
     ensures named { OnSome result (is_identifier (columns line.now 1 NAME_WIDTH) ≡ true) }
 {
-    // The last column first: one test of the line's length then stands for two.
+    // The last column first: one test of the line's length then takes the place of two.
     if !character(line, 3).is_ascii_digit() {
         return None;
     }

@@ -80,6 +80,7 @@ pub(crate) fn seek<R: Source>(
         passed += discarded(window) as u64;
         searched = window.as_slice().len();
         if taken == room {
+            // One byte more is a fault; where there is none, the input has ended.
             let mut byte = [0];
             return match reader.read(&mut byte) {
                 Ok(0) => Ok(Sought {

@@ -87,8 +87,8 @@ pub fn run_host(rt: &HostRuntime) -> ExitCode {
         Ok(arguments) => arguments,
         Err(error) => {
             let mut messages = Std::new(Uninterrupted::new(rt.stderr()));
-            // The system refused memory for the arguments, or they aren't text.
             let text = "error: invalid UTF-8 was detected in one or more arguments\n";
+            // The system refused memory for the arguments, or they aren't text.
             let fault = match error.kind() {
                 io::ErrorKind::OutOfMemory => UsageFault::Memory,
                 _ => Word::new(rt.alloc(), text).map_or_else(UsageFault::from, UsageFault::Parse),

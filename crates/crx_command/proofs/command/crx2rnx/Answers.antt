@@ -1,1 +1,0 @@
-use Rattle.crx_command.proofs.command.crx2rnx.Goals as goal

@@ -1,1 +1,0 @@
-use Rattle.crx_command.proofs.command.with_flags.Goals as goal
