@@ -100,8 +100,10 @@ pub record KeepsEncodingRoom (before after : EncodingRoom) : Type 0 where
   pub held_lines : before.lines + before.spare_lines ≤ after.lines + after.spare_lines
   pub held_bytes : before.bytes + before.spare_bytes ≤ after.bytes + after.spare_bytes
 
--- no more is held than before, but for a row: room for its satellite's types, and twice what the lines so far and the row's need
+-- there is no less room than before, and no more is held, but for a row: room for its satellite's types, and twice what the lines so far and
+-- the row's need
 pub record GrowsForRow (row : Row) (before after : EncodingRoom) : Type 0 where
+  pub kept : KeepsEncodingRoom before after
   pub rooms : GrowsOnly (IsAskedFor row.name (length row.values)) before.rooms after.rooms
   pub text : after.text ≤ before.text
   pub lines : IsHeldFor (before.lines - before.free_lines + 1) (before.lines + before.spare_lines)
@@ -115,8 +117,9 @@ pub record GrowsForEpoch (epoch : Epoch) (old new : List (List ℕ × ℕ)) (bef
   pub lines : AllAreHeldFor (FIRST_LINES + length epoch.rows)
       (FIRST_LINES * (LINE_LIMIT + 1) + sum (map row_room epoch.rows)) before after
 
--- the satellites and the lines have the same memory
+-- there is no less room than before, and the satellites and the lines have the same memory
 pub record HasSameMemory (before after : EncodingRoom) : Type 0 where
+  pub kept : KeepsEncodingRoom before after
   pub rooms : HasSameRooms before.rooms after.rooms
   pub lines : after.lines ≡ before.lines
   pub bytes : after.bytes ≡ before.bytes

@@ -1,5 +1,5 @@
 -- What reading an epoch line makes of a history: its satellites have come, or the line is refused.
-use Rattle.std.specs.Prelude.{◌≡◌, ◌≤◌, ℕ, List, [], All, length, map, Result, Ok, Some, None}
+use Rattle.std.specs.Prelude.{◌≡◌, ◌≤◌, ℕ, List, [], All, length, map, Result, Ok, Some, None, OnOk, IfErr}
 use Rattle.crx_base.specs.declared.fault.Fault.{Fault}
 use Rattle.crx_base.specs.declared.fault.Fault.TheVariants.{OutOfMemory}
 use Rattle.crx_text.specs.Texts.{patched}
@@ -48,6 +48,13 @@ pub record AreSatellitesRefused (made : Result (List Satellite) Fault) (old new 
   pub answer : AnswersRefusal made fault
   pub unasked : (fault ≡ OutOfMemory → ⊥) → KeepsRooms new.rooms old.rooms
   pub wanting : (satellites : List Satellite) → made ≡ Ok satellites → HaveTypesRoom satellites old.rooms → ⊥
+
+-- they have come, or are refused; no satellite has less room than before
+pub record AnswersSatellites (made : Result (List Satellite) Fault) (old new : PlacedRows)
+    (answer : Result (Unit {0}) Fault) : Type 0 where
+  pub ok : OnOk answer (AreSatellitesRead made old new)
+  pub err : IfErr answer (AreSatellitesRefused made old new)
+  pub rooms : KeepsRooms old.rooms new.rooms
 
 -- an epoch line was read after a history: the satellites of the text that it makes have come, and there is room for both
 pub record IsEpochLineRead (types : List Count) (line : List ℕ) (old new : OpenHistory) : Type 0 where

@@ -168,6 +168,12 @@ pub record HasSameTexts (old new : OpenHistory) : Type 0 where
   pub text_room : new.text_room ≡ old.text_room
   pub held_room : new.held_room ≡ old.held_room
 
+-- no satellite has less room than before, and there is room for texts as long as before
+pub record HasNoLessRoom (old new : OpenHistory) : Type 0 where
+  pub rooms : KeepsRooms old.satellites.rooms new.satellites.rooms
+  pub held_room : old.held_room ≤ new.held_room
+  pub text_room : old.text_room ≤ new.text_room
+
 -- the tail that a history has between two epochs
 abbrev pub tail_of_history : OpenHistory → Tail
 tail_of_history history =

@@ -1,7 +1,8 @@
 -- What columns are seen as: a reader of compact epochs, and for how much it has room.
-use Rattle.std.specs.Prelude.{◌≤◌, ◌<◌, ◌+◌, ℕ, List, [], All, length, map, sum}
+use Rattle.std.specs.Prelude.{◌≡◌, ◌≤◌, ◌<◌, ◌+◌, ℕ, List, [], All, length, map, sum, Result, IsOk, OnOk}
+use Rattle.crx_base.specs.declared.fault.Fault.{Fault}
 use Rattle.crx_base.specs.declared.limits.TheConstants.{LINE_LIMIT}
-use Rattle.crx_compact.specs.EncodingRooms.{EncodingRoom}
+use Rattle.crx_compact.specs.EncodingRooms.{EncodingRoom, KeepsEncodingRoom}
 use Rattle.crx_compact.specs.LineLists.{BlockRoom, HasNoMoreRoom, IsHeldFor, no_block_room}
 use Rattle.crx_compact.specs.OpenEpochs.{ColumnsState, OpenRawEpoch}
 use Rattle.crx_compact.specs.Placing.{HasRoom, KeepsRooms}
@@ -49,6 +50,14 @@ pub record IsHeldForEpoch (begun : OpenRawEpoch) (before after : BlockRoom) : Ty
   pub bytes : IsHeldFor (LINE_LIMIT + 1 + sum (map printed_room begun.rows))
       (before.bytes + before.spare_bytes) (after.bytes + after.spare_bytes)
 
+-- an epoch was begun, or memory was wanting: that isn't so where there was room for all that its lines need; else the room is there from then
+-- on; and no more is held for printed lines than theirs need
+pub record AnswersWithRoom (begun : OpenRawEpoch) (before after : ReadingRoom) (answer : Result (Unit {0}) Fault)
+    : Type 0 where
+  pub known : HasRoomFor begun before → IsOk answer
+  pub room : OnOk answer (HasRoomReady begun after)
+  pub held : IsHeldForEpoch begun before.block after.block
+
 -- there is no less room than before for texts and satellites
 pub record KeepsHistoryRoom (before after : ReadingRoom) : Type 0 where
   pub text : before.text ≤ after.text
@@ -58,3 +67,9 @@ pub record KeepsHistoryRoom (before after : ReadingRoom) : Type 0 where
 pub record KeepsRoom (before after : ReadingRoom) : Type 0 where
   pub history : KeepsHistoryRoom before after
   pub block : HasNoMoreRoom before.block after.block
+
+-- there is no less room than before for reading and for encoding, behind as many lines in front
+pub record KeepsAllRoom (old new : HeldColumns) : Type 0 where
+  pub reading : KeepsRoom old.room new.room
+  pub encoding : KeepsEncodingRoom old.encoding new.encoding
+  pub front : new.front ≡ old.front

@@ -9,7 +9,7 @@ ghost use Rattle.crx_header.specs.meaning.ObservationTypes.{Count};
 ghost use Rattle.crx_rinex.specs.meaning.Places.{Wrong};
 ghost use Rattle.crx_compact.specs.meaning.Expansion.{RawEpoch};
 ghost use Rattle.crx_compact.specs.meaning.CompactPlaces.{epoch_at};
-ghost use Rattle.crx_compact.specs.ReadBlocks.{HasReadTo, IsReading};
+ghost use Rattle.crx_compact.specs.ReadBlocks.{AnswersLine, IsReading};
 ghost use Rattle.crx_base.specs.declared.limits.TheConstants.{LINE_LIMIT};
 ghost use Rattle.crx_header.specs.meaning.EpochColumns.{begins_epoch, is_event_line};
 ghost use Rattle.crx_compact.specs.LineLists.{HasNoMoreRoom};
@@ -17,8 +17,8 @@ ghost use Rattle.crx_compact.specs.OpenLines.{IsLineTaken, IsSoundState, step_at
 ghost use Rattle.crx_compact.specs.EncodingRooms.{GrowsForEpoch, HasRoomForEpoch, KeepsEncodingRoom, made_room, no_encoding_room, with_lines};
 ghost use Rattle.crx_compact.specs.EpochLinesRead.{history_cleared};
 ghost use Rattle.crx_compact.specs.declared.lines.TheConstants.{FIRST_LINES};
-ghost use Rattle.crx_compact.specs.Placing.{IsBetween, KeepsRooms, tail_of_history};
-ghost use Rattle.crx_compact.specs.ReadingRooms.{HasRoomFor, HasRoomReady, IsHeldForEpoch, KeepsHistoryRoom, KeepsRoom, no_reading_room};
+ghost use Rattle.crx_compact.specs.Placing.{HasNoLessRoom, IsBetween, KeepsRooms, tail_of_history};
+ghost use Rattle.crx_compact.specs.ReadingRooms.{AnswersWithRoom, KeepsAllRoom, KeepsHistoryRoom, KeepsRoom, no_reading_room};
 ghost use Rattle.crx_compact.specs.OpenEpochs.{OpenRawEpoch, Going, awaits_row, is_faulty, is_idle, makes_epoch, tail_held, first_step, step_in, tail_for_line, Faulty, HasMade, HasPrintedLines};
 ghost use Rattle.crx_compact.specs.OpenEpochs.ColumnsState.{Idle};
 ghost use Rattle.crx_compact.specs.meaning.Compaction.{Marked, compact_epoch};
@@ -117,9 +117,7 @@ impl Columns {
     pub fn reset(&mut self)
         ensures emptied { self.new.state ≡ Idle None }
         // The memory is used again.
-        ensures room { self.new.room ≡ self.old.room }
-        ensures encoding { self.new.encoding ≡ self.old.encoding }
-        ensures front { self.new.front ≡ self.old.front }
+        ensures others { self.new ≡ record self.old { state = self.new.state } }
     {
         forget(
             &mut self.history,
@@ -221,21 +219,13 @@ impl Columns {
         ensures block_fault { (older : List RawEpoch) → tail_held self.old.state ≡ tail_left older
             → IfErr result (λ fault. (epoch_at types.now older (Content line.now ∷ []) ≡ Wrong 0 fault)
             ⊎ (fault ≡ Fault.OutOfMemory)) }
-        // Where there is room for all that the epoch's lines need, the answer isn't for want of memory.
-        ensures known { (begun : OpenRawEpoch)
-            → first_step types.now (tail_held self.old.state) (Content line.now) ≡ Going begun
-            → HasRoomFor begun self.old.room → IsOk result }
-        // After `Ok` there is. There is never less than before, after a refusal too.
+        // Where there is room for all that the epoch's lines need, the answer isn't for want of memory. After `Ok` there is; and for printed
+        // lines no more is held than before, or than twice what the epoch's need.
         ensures room { (begun : OpenRawEpoch)
             → first_step types.now (tail_held self.old.state) (Content line.now) ≡ Going begun
-            → OnOk result (HasRoomReady begun self.new.room) }
-        ensures kept { KeepsRoom self.old.room self.new.room }
-        // For printed lines no more is held than before, or than twice what the epoch's need.
-        ensures held { (begun : OpenRawEpoch)
-            → first_step types.now (tail_held self.old.state) (Content line.now) ≡ Going begun
-            → IsHeldForEpoch begun self.old.room.block self.new.room.block }
-        ensures encoding { KeepsEncodingRoom self.old.encoding self.new.encoding }
-        ensures front { self.new.front ≡ self.old.front }
+            → AnswersWithRoom begun self.old.room self.new.room result }
+        // There is never less than before, after a refusal too.
+        ensures kept { KeepsAllRoom self.old self.new }
     {
         let is_named = self.is_named & !begins_epoch(line);
         self.is_named = false;
@@ -279,7 +269,7 @@ impl Columns {
     pub fn take_room(&mut self, lines: &mut ExpandedLines)
         requires drained { lines.old.lines ≡ [] }
         ensures drained { lines.new.lines ≡ [] }
-        ensures state { self.new.state ≡ self.old.state }
+        ensures others { self.new ≡ record self.old { room = self.new.room } }
         // There is never less room than before, and where the lines have no less than there is for printed lines, it is theirs.
         ensures kept { KeepsRoom self.old.room self.new.room }
         ensures taken { is_idle self.old.state ≡ true → HasNoMoreRoom self.old.room.block lines.old.room
@@ -288,11 +278,10 @@ impl Columns {
         ensures places { ((self.new.room.block ≡ lines.old.room)
             × (lines.new.room ≡ self.old.room.block))
             ⊎ ((self.new.room ≡ self.old.room) × (lines.new.room ≡ lines.old.room)) }
-        ensures encoding { self.new.encoding ≡ self.old.encoding }
-        ensures front { self.new.front ≡ self.old.front }
     {
-        if self.is_idle() {
-            lines.give_room(&mut self.block.lines);
+        if self.is_idle() && self.block.lines.has_no_more_room(&lines.printed) {
+            self.block.lines.clear();
+            mem::swap(&mut self.block.lines, &mut lines.printed);
         }
     }
 
@@ -317,15 +306,9 @@ impl Columns {
         // what it makes by them: the epoch that is given is the one that is at these lines.
         ensures block { (types : List Count) (older : List RawEpoch) (lines : List ReadLine)
             → IsReading types older lines self.old.state
-            → IfOk result (λ given. HasReadTo types older (lines ++ Content line.now ∷ []) self.new.state given) }
-        ensures block_fault { (types : List Count) (older : List RawEpoch) (lines : List ReadLine)
-            → IsReading types older lines self.old.state
-            → IfErr result (λ fault. (epoch_at types older (lines ++ Content line.now ∷ [])
-            ≡ Wrong (length lines) fault) ⊎ (fault ≡ Fault.OutOfMemory)) }
+            → AnswersLine types older lines (Content line.now) self.new.state result }
         // There is never less room than before.
-        ensures kept { KeepsRoom self.old.room self.new.room }
-        ensures encoding { KeepsEncodingRoom self.old.encoding self.new.encoding }
-        ensures front { self.new.front ≡ self.old.front }
+        ensures kept { KeepsAllRoom self.old self.new }
     {
         match take_line(
             &mut self.history,
@@ -402,7 +385,7 @@ impl Columns {
                 if !is_whole {
                     return Ok(false);
                 }
-                lines.exchange(&mut self.block.lines);
+                mem::swap(&mut self.block.lines, &mut lines.printed);
                 self.history.end();
                 self.stage = Stage::Unbegun;
                 self.is_kept = true;
@@ -481,9 +464,7 @@ fn take_line(
         step_at stage.old count.old history.old (Content line.now) ≡ Faulty fault) }
     // At no line but the epoch line the answer is for want of memory.
     ensures memory { IfErr result (λ fault. fault ≡ Fault.OutOfMemory → ⊥) }
-    ensures rooms { KeepsRooms history.old.satellites.rooms history.new.satellites.rooms }
-    ensures held_room { history.new.held_room ≡ history.old.held_room }
-    ensures text_room { history.new.text_room ≡ history.old.text_room }
+    ensures room { HasNoLessRoom history.old history.new }
 {
     match *stage {
         Stage::Unbegun => Err(Fault::NotAnEpoch),

@@ -196,9 +196,8 @@ impl Encoder {
         ensures held { self.new.room.held ≡ self.old.room.held }
         ensures taken { IfOk result (λ is_new. is_new ≡ true
             → HasTakenRow row.now self.old.room self.new.room) }
-        // There is never less room than before, after a refusal too.
-        ensures kept { KeepsEncodingRoom self.old.room self.new.room }
-        // Lines have no more memory than before, or than twice what those so far and the row need.
+        // There is never less room than before, after a refusal too; and lines have no more memory than before, or than twice what those so
+        // far and the row need.
         ensures only { GrowsForRow row.now self.old.room self.new.room }
     {
         match self.history.write_row(
@@ -245,7 +244,6 @@ impl Encoder {
         ensures taken { OnOk result (HasTakenText (HEAD_WIDTH + NAME_WIDTH * head.now.count)
             self.old.room self.new.room) }
         // There is never less room than before, after a refusal too, and memory for no more satellites and lines.
-        ensures kept { KeepsEncodingRoom self.old.room self.new.room }
         ensures memory { HasSameMemory self.old.room self.new.room }
     {
         if self

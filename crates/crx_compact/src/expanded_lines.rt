@@ -22,7 +22,7 @@ pub struct ExpandedLines {
     copied: CopiedLine,
     /// Whether it is pending.
     is_copied: bool,
-    printed: Lines,
+    pub(crate) printed: Lines,
 }
 
 impl Model for ExpandedLines {
@@ -60,37 +60,6 @@ impl ExpandedLines {
     {
         self.copied.put(line);
         self.is_copied = true;
-    }
-
-    /// Makes printed lines ready, once no line before them is pending. The memory of the lines before them is given for them.
-    pub(crate) fn exchange(&mut self, lines: &mut Lines)
-        requires drained { self.old.lines ≡ [] }
-        requires plain { lines.old.reserved ≡ 0 }
-        ensures lines { self.new.lines ≡ lines.old.lines }
-        ensures taken { self.new.room ≡ block_room lines.old }
-        ensures given { block_room lines.new ≡ self.old.room }
-        ensures plain { lines.new.reserved ≡ 0 }
-    {
-        mem::swap(&mut self.printed, lines);
-    }
-
-    /// Gives the memory of the printed lines, once none of them is pending, for those that are printed next, where it has no less room than
-    /// theirs.
-    #[inline(always)]
-    pub(crate) fn give_room(&mut self, lines: &mut Lines)
-        requires drained { self.old.lines ≡ [] }
-        requires plain { lines.old.reserved ≡ 0 }
-        ensures drained { self.new.lines ≡ [] }
-        ensures plain { lines.new.reserved ≡ 0 }
-        ensures kept { HasNoMoreRoom (block_room lines.old) (block_room lines.new) }
-        ensures given { HasNoMoreRoom (block_room lines.old) self.old.room → block_room lines.new ≡ self.old.room }
-        ensures places { ((block_room lines.new ≡ self.old.room) × (self.new.room ≡ block_room lines.old))
-            ⊎ ((block_room lines.new ≡ block_room lines.old) × (self.new.room ≡ self.old.room)) }
-    {
-        if lines.has_no_more_room(&self.printed) {
-            lines.clear();
-            mem::swap(&mut self.printed, lines);
-        }
     }
 
     /// Whether no line is pending.

@@ -12,12 +12,12 @@ ghost use Rattle.crx_header.specs.meaning.Satellites.{types_of_satellite};
 ghost use Rattle.crx_rinex.specs.meaning.Printing.{printed_head};
 ghost use Rattle.crx_compact.specs.ArcSteps.{shown_value};
 ghost use Rattle.crx_compact.specs.EncodingRooms.{GrowsForEpoch, GrowsForRow, HasRoomForEpoch, HasRowRoom, HasSameMemory, HasTakenRow, HasTakenText, KeepsEncodingRoom, encoding_room};
-ghost use Rattle.crx_compact.specs.EpochLinesRead.{AreSatellitesRead, AreSatellitesRefused, IsEpochLineRead, IsEpochLineRefused, history_cleared};
+ghost use Rattle.crx_compact.specs.EpochLinesRead.{AnswersSatellites, AreSatellitesRefused, IsEpochLineRead, IsEpochLineRefused, history_cleared};
 ghost use Rattle.crx_compact.specs.HeldRows.{IsAwaitedSatellite, past_of_tail, row_held};
 ghost use Rattle.crx_compact.specs.LineLists.{HasTakenLine, KeepsLinesRoom, room_of_lines};
 ghost use Rattle.crx_compact.specs.meaning.CompactPlaces.{clock_line_read, satellites_of_text};
 ghost use Rattle.crx_compact.specs.meaning.EpochText.{names_in, satellites_named};
-ghost use Rattle.crx_compact.specs.Placing.{GrowsOnly, HasAllowedCount, HasAskedRoom, HasSameTexts, HaveRoom, IsAnnounced, IsAskedAmong, IsBetween, IsPlaced, IsRowRead, KeepsRooms, padded, row_of_parts, row_room, satellite_of, tail_of_history};
+ghost use Rattle.crx_compact.specs.Placing.{GrowsOnly, HasAllowedCount, HasAskedRoom, HasNoLessRoom, HasSameTexts, HaveRoom, IsAnnounced, IsAskedAmong, IsBetween, IsPlaced, IsRowRead, KeepsRooms, padded, row_of_parts, row_room, satellite_of, tail_of_history};
 ghost use Rattle.crx_compact.specs.Written.{AreRowsWritten, IsEpochWritten, IsRowWritten, epoch_by_rows};
 ghost use Rattle.crx_rinex.specs.meaning.SatelliteLines.{IsSoundRow};
 ghost use Rattle.crx_compact.specs.PrintedBlocks.{printed_room};
@@ -129,7 +129,8 @@ impl History {
     {
         let length = HEAD_WIDTH + NAME_WIDTH * epoch.count();
         make_long(&mut self.next_text, length)?;
-        make_text_room(&mut self.text, length)?;
+        self.text
+            .reserve_exact(length.saturating_sub(self.text.len()))?;
         let room = prepare_rows(&mut self.satellites, epoch)?;
         lines.reserve_front(FIRST_LINES)?;
         lines.make_room(epoch.count(), room)?;
@@ -183,7 +184,6 @@ impl History {
         ensures taken { IfOk result (λ is_new. is_new ≡ true → HasTakenRow
             (row_of_parts name.now values.now flags.now) (encoding_room self.old lines.old)
             (encoding_room self.new lines.new)) }
-        ensures kept { KeepsEncodingRoom (encoding_room self.old lines.old) (encoding_room self.new lines.new) }
         ensures only { GrowsForRow (row_of_parts name.now values.now flags.now) (encoding_room self.old lines.old)
             (encoding_room self.new lines.new) }
         ensures texts { HasSameTexts self.old self.new }
@@ -216,7 +216,6 @@ impl History {
         ensures asked { HEAD_WIDTH + NAME_WIDTH * head.now.count ≤ self.old.text_room → IsOk result }
         ensures taken { OnOk result (HasTakenText (HEAD_WIDTH + NAME_WIDTH * head.now.count)
             (encoding_room self.old lines.old) (encoding_room self.new lines.new)) }
-        ensures kept { KeepsEncodingRoom (encoding_room self.old lines.old) (encoding_room self.new lines.new) }
         ensures memory { HasSameMemory (encoding_room self.old lines.old) (encoding_room self.new lines.new) }
     {
         self.satellites.end();
@@ -251,9 +250,7 @@ impl History {
         requires named { is_named ≡ true → IsAnnounced self.old }
         ensures ok { OnOk result (IsEpochLineRead types.now line.now self.old self.new) }
         ensures err { IfErr result (IsEpochLineRefused types.now line.now self.old self.new) }
-        ensures rooms { KeepsRooms self.old.satellites.rooms self.new.satellites.rooms }
-        ensures held_room { self.old.held_room ≤ self.new.held_room }
-        ensures text_room { self.old.text_room ≤ self.new.text_room }
+        ensures room { HasNoLessRoom self.old self.new }
     {
         if patch_bytes(&self.text, line, part).is_err() {
             return Err(Fault::BadEpoch);
@@ -263,9 +260,11 @@ impl History {
         // Most lines have marks in the columns before the identifiers alone.
         let are_same = is_named & (line.len() <= HEAD_WIDTH);
         read_satellites(types, text, are_same, &mut self.satellites)?;
-        if put_text_in(&mut self.text, text).is_err() {
+        if make_long(&mut self.text, text.len()).is_err() {
             return Err(Fault::OutOfMemory);
         }
+        put_text(&mut self.text, 0, text);
+        self.text.truncate(text.len());
         Ok(())
     }
 
@@ -319,9 +318,7 @@ impl History {
         ensures err { IfErr result (λ fault. (row : RowTail)
             → slice_get self.old.satellites.rows index ≡ Some row
             → row_held (Some row) (satellite_of row) line.now ≡ Err fault) }
-        ensures rooms { KeepsRooms self.old.satellites.rooms self.new.satellites.rooms }
-        ensures held_room { self.new.held_room ≡ self.old.held_room }
-        ensures text_room { self.new.text_room ≡ self.old.text_room }
+        ensures room { HasNoLessRoom self.old self.new }
     {
         if begins_epoch(line) {
             return Err(Fault::Truncated);
@@ -468,17 +465,6 @@ fn make_long(text: &mut Vec<u8>, count: usize) -> Result<(), AllocError>
     Ok(())
 }
 
-/// Asks for room for a text of so many characters, in place of one that stays.
-fn make_text_room(text: &mut Vec<u8>, count: usize) -> Result<(), AllocError>
-    ensures same { text.new.items ≡ text.old.items }
-    ensures room { OnOk result (count ≤ vec_capacity text.new) }
-    ensures asked { count ≤ vec_capacity text.old → IsOk result }
-    ensures capacity { vec_capacity text.old ≤ vec_capacity text.new }
-    ensures held { vec_capacity text.new ≤ max (vec_capacity text.old) count }
-{
-    text.reserve_exact(count.saturating_sub(text.len()))
-}
-
 /// Puts the identifiers of the satellites that have come behind the columns of an epoch line.
 fn put_names(text: &mut [u8], satellites: &Satellites)
     requires within { HEAD_WIDTH + NAME_WIDTH * length satellites.now.rows ≤ length text.old }
@@ -489,25 +475,6 @@ fn put_names(text: &mut [u8], satellites: &Satellites)
     for index in 0..names.len() {
         put_identifier(text, HEAD_WIDTH + NAME_WIDTH * index, names[index]);
     }
-}
-
-/// Replaces a text; after `AllocError` it is empty.
-fn put_text_in(text: &mut Vec<u8>, new: &[u8]) -> Result<(), AllocError>
-    requires short { length new.now ≤ LINE_LIMIT }
-    requires within { length text.old.items ≤ LINE_LIMIT }
-    ensures ok { OnOk result (text.new.items ≡ new.now) }
-    ensures err { OnErr result (text.new.items ≡ []) }
-    ensures asked { length new.now ≤ vec_capacity text.old → IsOk result }
-    ensures room { vec_capacity text.old ≤ vec_capacity text.new }
-    ensures held { vec_capacity text.new ≤ max (vec_capacity text.old) (length new.now) }
-{
-    if make_long(text, new.len()).is_err() {
-        text.clear();
-        return Err(AllocError);
-    }
-    put_text(text, 0, new);
-    text.truncate(new.len());
-    Ok(())
 }
 
 /// Has the satellites of an epoch text come, each with as many types as its system has. It is given whether the text names those that are
@@ -524,11 +491,7 @@ fn read_satellites(
     requires none { satellites.old.rows ≡ [] }
     requires named { are_same ≡ true → NamesSatellites text.now (map satellite_of satellites.old.rest) }
     requires awaited { are_same ≡ true → All IsAwaitedSatellite (map satellite_of satellites.old.rest) }
-    ensures ok { OnOk result
-        (AreSatellitesRead (satellites_of_text types.now text.now) satellites.old satellites.new) }
-    ensures err { IfErr result
-        (AreSatellitesRefused (satellites_of_text types.now text.now) satellites.old satellites.new) }
-    ensures rooms { KeepsRooms satellites.old.rooms satellites.new.rooms }
+    ensures { AnswersSatellites (satellites_of_text types.now text.now) satellites.old satellites.new result }
 {
     let Ok(head) = EpochLine::new(padded(text, 1), None) else {
         return Err(Fault::BadEpoch);
@@ -558,11 +521,8 @@ fn read_names(
 ) -> Result<(), Fault>
     requires none { satellites.old.rows ≡ [] }
     requires few { count ≤ SATELLITES_LIMIT }
-    ensures ok { OnOk result (AreSatellitesRead
-        (satellites_named types.now [] (names_in text.now count)) satellites.old satellites.new) }
-    ensures err { IfErr result (AreSatellitesRefused
-        (satellites_named types.now [] (names_in text.now count)) satellites.old satellites.new) }
-    ensures rooms { KeepsRooms satellites.old.rooms satellites.new.rooms }
+    ensures { AnswersSatellites (satellites_named types.now [] (names_in text.now count)) satellites.old
+        satellites.new result }
 {
     for place in 0..count {
         let name = identifier(text, HEAD_WIDTH + 1 + NAME_WIDTH * place);

@@ -94,7 +94,6 @@ impl Lines {
 
     /// Drops all lines; their memory is used again for new ones.
     pub fn clear(&mut self)
-        ensures emptied { self.new.lines ≡ [] }
         ensures free_lines { self.old.free_lines ≤ self.new.free_lines }
         ensures free_bytes { self.old.free_bytes ≤ self.new.free_bytes }
         ensures cleared { self.new ≡ cleared self.old }

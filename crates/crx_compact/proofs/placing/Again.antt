@@ -13,7 +13,7 @@ use Rattle.std.proofs.lemmas.Option.{slice_get-map}
 use Rattle.crx_header.specs.meaning.ObservationTypes.{count_of}
 use Rattle.crx_header.specs.meaning.Satellites.{is_identifier, types_of_satellite}
 use Rattle.crx_compact.specs.HeldRows.{IsAwaitedSatellite}
-use Rattle.crx_compact.proofs.Characters.{length-is, within-or_past}
+use Rattle.crx_compact.proofs.Characters.{length-is}
 use Rattle.crx_compact.proofs.RowByRow.{all-at}
 use Rattle.crx_compact.proofs.placing.EntryChanges.{room-here}
 use Rattle.crx_compact.proofs.placing.Ranges.{found-in_range, named-map}

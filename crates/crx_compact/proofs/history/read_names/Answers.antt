@@ -1,4 +1,4 @@
-use Rattle.crx_compact.proofs.Words.{◌≡◌, refl, ◌+◌, ◌*◌, ◌++◌, ◌∷◌, [], Bool, not, true, false, drop, ap}
+use Rattle.crx_compact.proofs.Words.{rules, ◌≡◌, refl, ◌+◌, ◌*◌, ◌++◌, ◌∷◌, [], Bool, not, true, false, drop, ap}
 use Rattle.crx_compact.proofs.Words.{sym, ◌∙◌, inl, arith, subst, ◌⊎◌, inr, ℕ, List, Err, Result, map}
 use Rattle.crx_compact.proofs.Words.{false≢true, err_from_is_err_and, is_ok, All-append, columns, is_among}
 use Rattle.crx_compact.proofs.Words.{IsAwaitedSatellite, BadSatellite, OutOfMemory, RepeatedSatellite, Fault}
@@ -49,26 +49,33 @@ bad c =
     c.identifier-name.result c.loop-place-test.true c.identifier-name.ensures.value)
     (sym c.in_default.ensures.value)
 
-pub returns-in_default-clause-err : goal.returns-in_default-clause-err
-returns-in_default-clause-err c =
-    refused-by BadSatellite _ c.args.satellites.now c.loop-place.satellites (λ out. cc out) (bad c)
-    (unasked _ _ (bad c) c.loop-place.invariant.7)
+pub returns-in_default : goal.returns-in_default
+returns-in_default c = record {
+  ok = search rules;
+  err = refused-by BadSatellite _ c.args.satellites.now c.loop-place.satellites (λ out. cc out) (bad c)
+      (unasked _ _ (bad c) c.loop-place.invariant.7);
+  rooms = c.loop-place.invariant.5;
+}
 
-pub returns-in_err-place_name-clause-err : goal.returns-in_err-place_name-clause-err
-returns-in_err-place_name-clause-err c =
+pub returns-in_err-place_name : goal.returns-in_err-place_name
+returns-in_err-place_name c =
     let p = err_from_is_err_and c.from_residual.result c.from_residual.ensures.1 in
     let refused = c.in_err-place_name.ensures.err in
     let found = c.loop-place.invariant in
     rw (p.1, p.2) (record {
-      answer = refused.answer;
-      unasked = λ other name count has. elim refused.answer.answered [
-        | inl is ↦ unasked _ _ is found.7 name count (refused.unasked other name count has)
-        | inr out ↦ absurd (other out)
-      ];
-      wanting = λ named is has. refused.wanting named is
-          (all-of (λ (s : Satellite). HasRoom s.name s.count c.args.satellites.now.rooms)
-          (λ (s : Satellite). HasRoom s.name s.count c.loop-place.satellites.rooms) named
-          (λ s. found.5 s.name s.count) has);
+      ok = search rules;
+      err = record {
+        answer = refused.answer;
+        unasked = λ other name count has. elim refused.answer.answered [
+          | inl is ↦ unasked _ _ is found.7 name count (refused.unasked other name count has)
+          | inr out ↦ absurd (other out)
+        ];
+        wanting = λ named is has. refused.wanting named is
+            (all-of (λ (s : Satellite). HasRoom s.name s.count c.args.satellites.now.rooms)
+            (λ (s : Satellite). HasRoom s.name s.count c.loop-place.satellites.rooms) named
+            (λ s. found.5 s.name s.count) has);
+      };
+      rooms = λ name count has. c.place_name.ensures.rooms name count (found.5 name count has);
     })
 
 -- what is found twice
@@ -84,11 +91,14 @@ twice c =
     found.0 c.identifier-name.result c.in_ok-place_name.field-0 false found.2
     c.in_ok-place_name.ensures.ok.answer c.if-not-branch.true)
 
-pub returns-then-not-branch-clause-err : goal.returns-then-not-branch-clause-err
-returns-then-not-branch-clause-err c =
-    refused-by RepeatedSatellite _ c.args.satellites.now c.place_name.new.satellites (λ out. cc out) (twice c)
-    (λ name count has. unasked _ _ (twice c) c.loop-place.invariant.7 name count
-    (unasked _ _ (twice c) c.in_ok-place_name.ensures.back name count has))
+pub returns-then-not-branch : goal.returns-then-not-branch
+returns-then-not-branch c = record {
+  ok = search rules;
+  err = refused-by RepeatedSatellite _ c.args.satellites.now c.place_name.new.satellites (λ out. cc out) (twice c)
+      (λ name count has. unasked _ _ (twice c) c.loop-place.invariant.7 name count
+      (unasked _ _ (twice c) c.in_ok-place_name.ensures.back name count has));
+  rooms = λ name count has. c.place_name.ensures.rooms name count (c.loop-place.invariant.5 name count has);
+}
 
 pub resize_last-requires-clause-room : goal.resize_last-requires-clause-room
 resize_last-requires-clause-room c before row is =
@@ -145,16 +155,20 @@ loop-place-preserved c =
       ],
     )
 
-pub returns-clause-ok : goal.returns-clause-ok
-returns-clause-ok c =
+pub returns : goal.returns
+returns c =
     let found = c.loop-place.invariant in
     let end : c.loop-place.place ≡ c.args.count = omega arith in
     record {
-      satellites = found.0;
-      read = named-all c.args.types.now (names_in c.args.text.now c.args.count) c.loop-place.place found.0
-          found.1 (ap (λ n. drop n (names_in c.args.text.now c.args.count)) end
-          ∙ drop_all-each_place c.args.count (λ k. columns c.args.text.now (42 + 3 * k) 3));
-      rows = found.2;
-      awaited = found.4;
-      room = found.6;
+      ok = record {
+        satellites = found.0;
+        read = named-all c.args.types.now (names_in c.args.text.now c.args.count) c.loop-place.place found.0
+            found.1 (ap (λ n. drop n (names_in c.args.text.now c.args.count)) end
+            ∙ drop_all-each_place c.args.count (λ k. columns c.args.text.now (42 + 3 * k) 3));
+        rows = found.2;
+        awaited = found.4;
+        room = found.6;
+      };
+      err = search rules;
+      rooms = found.5;
     }

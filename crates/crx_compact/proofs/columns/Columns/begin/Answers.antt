@@ -37,25 +37,33 @@ returns-in-Ok-begin-clause-room c begun step =
     let opened = opened-from c.args.types.now c.args.line.now (tail_held c.args.self.now.state)
     (tail_of_history history) begun before step in
     let read = c.in-Ok.ensures.ok in
-    room-for c.args.types.now c.args.line.now
-    (tail_of_history history) begun opened c.read_epoch_line.new.self
-    c.begin.new.self read.text read.fits
-    (search (rules, ok-same, c.in-Ok.ensures.ok, opened-from, tail_held, tail_of_history, before-line))
-    (rows-opened c.args.types.now c.args.line.now
-    (tail_of_history history) begun read.satellites _ opened read.read read.rows)
-    c.in-Ok-begin.ensures.enough_lines c.in-Ok-begin.ensures.enough_bytes
+    record {
+      known = search rules;
+      room = room-for c.args.types.now c.args.line.now
+          (tail_of_history history) begun opened c.read_epoch_line.new.self
+          c.begin.new.self read.text read.fits
+          (search (rules, ok-same, c.in-Ok.ensures.ok, opened-from, tail_held, tail_of_history, before-line))
+          (rows-opened c.args.types.now c.args.line.now
+          (tail_of_history history) begun read.satellites _ opened read.read read.rows)
+          c.in-Ok-begin.ensures.enough_lines c.in-Ok-begin.ensures.enough_bytes;
+      held = search rules;
+    }
 
-pub returns-in-Err-clause-known : goal.returns-in-Err-clause-known
-returns-in-Err-clause-known c begun step has =
-    let history : OpenHistory = c.has_history.new.history in
-    let before = before-line (goal.at.returns-in-Err-clause-known c).After-read_epoch_line in
-    let opened = opened-from c.args.types.now c.args.line.now (tail_held c.args.self.now.state)
-    (tail_of_history history) begun before step in
-    absurd (c.in-Err.ensures.err.wanting opened.satellites opened.read
-    (satellites-known c.args.types.now c.args.line.now (tail_of_history history) begun c.args.self.now.room _
-    opened has (search (rules, c.self.view_is, c.has_history.ensures.rooms)))
-    (text-known c.args.types.now c.args.line.now (tail_of_history history) begun c.args.self.now.room _
-    opened has (search (rules, c.self.view_is, c.has_history.ensures.held_room))))
+pub returns-in-Err-clause-room : goal.returns-in-Err-clause-room
+returns-in-Err-clause-room c begun step = record {
+  known = λ has.
+      let history : OpenHistory = c.has_history.new.history in
+      let before = before-line (goal.at.returns-in-Err-clause-room c).After-read_epoch_line in
+      let opened = opened-from c.args.types.now c.args.line.now (tail_held c.args.self.now.state)
+      (tail_of_history history) begun before step in
+      absurd (c.in-Err.ensures.err.wanting opened.satellites opened.read
+      (satellites-known c.args.types.now c.args.line.now (tail_of_history history) begun c.args.self.now.room _
+      opened has (search (rules, c.self.view_is, c.has_history.ensures.rooms)))
+      (text-known c.args.types.now c.args.line.now (tail_of_history history) begun c.args.self.now.room _
+      opened has (search (rules, c.self.view_is, c.has_history.ensures.held_room))));
+  room = search rules;
+  held = search rules;
+}
 
 pub returns-in-Ok-begin-clause-block : goal.returns-in-Ok-begin-clause-block
 returns-in-Ok-begin-clause-block c = λ older e.

@@ -55,16 +55,24 @@ returns-in-Ok-false-clause-made c =
     (made-more _ tail new.count step left)
 
 pub returns-in-Ok-false-clause-block : goal.returns-in-Ok-false-clause-block
-returns-in-Ok-false-clause-block c = λ types older lines r. more-block
-    (Ok None) types older lines c.args.line.now c.args.self.now.state _ r (returns-in-Ok-false-clause-made c)
+returns-in-Ok-false-clause-block c = λ types older lines r. record {
+  made = more-block (Ok None) types older lines c.args.line.now c.args.self.now.state _ r
+      (returns-in-Ok-false-clause-made c);
+  refused = search rules;
+}
 
 pub returns-in-Ok-clause-block : goal.returns-in-Ok-clause-block
-returns-in-Ok-clause-block c = λ types older lines r. more-block
-    (Ok (Some c.in-Ok.epoch)) types older lines c.args.line.now c.args.self.now.state _ r
-    (returns-in-Ok-clause-made c)
+returns-in-Ok-clause-block c = λ types older lines r. record {
+  made = more-block (Ok (Some c.in-Ok.epoch)) types older lines c.args.line.now c.args.self.now.state _ r
+      (returns-in-Ok-clause-made c);
+  refused = search rules;
+}
 
-pub returns-in-Err-clause-block_fault : goal.returns-in-Err-clause-block_fault
-returns-in-Err-clause-block_fault c = λ types older lines r.
+pub returns-in-Err-clause-block : goal.returns-in-Err-clause-block
+returns-in-Err-clause-block c = λ types older lines r.
     let refused : (step_in c.args.self.now.state (Content c.args.line.now) ≡ Faulty c.in-Err.fault)
     ⊎ (c.in-Err.fault ≡ OutOfMemory) = search rules in
-    more-refused (Err c.in-Err.fault) types older lines c.args.line.now c.args.self.now.state r refused
+    record {
+      made = search rules;
+      refused = more-refused (Err c.in-Err.fault) types older lines c.args.line.now c.args.self.now.state r refused;
+    }

@@ -20,16 +20,16 @@ use Rattle.crx_compact.proofs.history.History.encode.Goals as goal
 pub loop-row-init : goal.loop-row-init
 loop-row-init c =
     let same : ◌≡◌ {A = Tail} (record {
-      text = c.make_text_room.new.text.items;
+      text = c.reserve_exact.new.self.items;
       clock = c.self.inside.clock;
       rows = c.prepare_rows.new.satellites.rows;
     }) (tail_of_history c.args.self.now) =
     (λ j. record {
-      text = (c.make_text_room.ensures.same ∙ ap (λ (h : OpenHistory). h.text) c.self.view_is) j;
+      text = (c.reserve_exact.ensures.items ∙ ap (λ (h : OpenHistory). h.text) c.self.view_is) j;
       clock = ap (λ (h : OpenHistory). h.clock) c.self.view_is j;
       rows = (c.prepare_rows.ensures.asked.rows ∙ ap (λ (h : OpenHistory). h.satellites.rows) c.self.view_is) j;
     }) in
-    let wide = c.in_ok-make_text_room.ensures in
+    let wide = c.in_ok-reserve_exact.ensures in
     let long = c.in_ok-make_long.ensures in
     let held = c.make_long.new.text.ok in
     let sized = c.in_ok-room.ensures in
@@ -127,7 +127,7 @@ loop-row-preserved c =
     let so_many = sum-next row_room rows index row here in
     let whole = sum-to row_room rows index row here in
     let known = c.loop-row.invariant in
-    let kept = c.write_row.ensures.kept in
+    let kept = c.write_row.ensures.only.kept in
     record {
       written = subst (λ (rs : List Row). AreRowsWritten after rs c.write_row.new.self c.write_row.new.lines.lines)
           ((λ j. so_far ++ parts j ∷ []) ∙ sym (taken_more rows index row here)) (written.written is_new);

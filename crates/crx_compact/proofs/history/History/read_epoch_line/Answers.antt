@@ -1,5 +1,5 @@
 use Rattle.crx_compact.proofs.Words.{◌≡◌, ◌++◌, List, ℕ, Result, true, inr, length, map, ap, refl, subst, sym}
-use Rattle.crx_compact.proofs.Words.{◌∙◌, arith, rules, err_from_is_err_and, Count, is_ok, list_all}
+use Rattle.crx_compact.proofs.Words.{◌∙◌, arith, rules, take, take_at, err_from_is_err_and, Count, is_ok, list_all}
 use Rattle.crx_compact.proofs.Words.{append-nil, is_printable, Fault, patched, past_of_tail}
 use Rattle.crx_compact.proofs.Words.{satellites_of_line, satellites_of_text, Satellite, HasRoom}
 use Rattle.crx_compact.proofs.Words.{HaveTypesRoom, OpenHistory, PlacedRows, padded_among, tail_of_history}
@@ -74,12 +74,12 @@ returns-then-is_err-2-clause-err c = record {
   wanting = λ satellites is has within.
       let few = ap length (text (goal.at.returns-then-is_err-2-clause-err c).After-read_satellites) in
       let held = ap (λ (h : OpenHistory). h.held_room) c.self.view_is in
-      by_err c.put_text_in.result (search (rules, c.is_err-2, c.if-is_err-2))
-      (c.put_text_in.ensures.asked (omega (arith, few, held, within)));
+      by_err c.make_long.result (search (rules, c.is_err-2, c.if-is_err-2))
+      (c.make_long.ensures.asked (omega (arith, few, held, within)));
 }
 
 -- the rows of the epoch before are awaited
-awaited : (c : goal.Else-is_err-2) → c.begin.new.self.rest ≡ c.args.self.now.satellites.rows
+awaited : (c : After-read_satellites) → c.begin.new.self.rest ≡ c.args.self.now.satellites.rows
 awaited c = ap (λ (p : PlacedRows). p.rest) c.begin.ensures.begun
     ∙ ap (λ (h : OpenHistory). h.satellites.rows ++ h.satellites.rest) c.self.view_is
     ∙ ap (λ (rest : List RowTail). c.args.self.now.satellites.rows ++ rest) c.requires.between
@@ -88,9 +88,18 @@ awaited c = ap (λ (p : PlacedRows). p.rest) c.begin.ensures.begun
 pub returns-clause-ok : goal.returns-clause-ok
 returns-clause-ok c =
     let found = c.in_ok-read_satellites.ensures.ok in
-    let put = by_ok c.put_text_in.result c.if-is_err-2.ensures.negation c.put_text_in.ensures.ok in
+    let new = c.bytes-text.result.now in
+    let written = c.put_text.new.bytes in
+    let room = c.make_long.new.text.len in
+    let sized = c.put_text.auto.bytes in
+    let first = c.deref_mut.ensures.len in
+    let end = c.put_text.ensures.end in
+    let long : length written ≡ room = omega (arith, sized, first, c.make_long.new.text.ok.0) in
+    let put : c.truncate.new.self.items ≡ new = c.truncate.ensures.items ∙ ap (take (length new)) (take_at written _ room long)
+    ∙ ap (λ n. take n written) {x = length new} {y = c.put_text.result} (omega (arith, end))
+    ∙ c.put_text.ensures.put in
     let rows = found.rows
-    ∙ ap (λ (rest : List RowTail). map (padded_among rest) found.satellites) (awaited c) in
+    ∙ ap (λ (rest : List RowTail). map (padded_among rest) found.satellites) (awaited (goal.at.returns-clause-ok c).After-read_satellites) in
     let made = text (goal.at.returns-clause-ok c).After-read_satellites in
     record {
       satellites = found.satellites;

@@ -29,30 +29,6 @@ texts : (c : After-place_or_add)
     → c.args.self.now.text_room ≤ min (vec_capacity c.self.inside.text) (vec_capacity c.self.inside.next_text)
 texts c = let same = ap (λ (h : OpenHistory). h.text_room) c.self.view_is in omega (arith, same)
 
-pub returns-in_err-place_or_add-clause-kept : goal.returns-in_err-place_or_add-clause-kept
-returns-in_err-place_or_add-clause-kept c =
-    let at = (goal.at.returns-in_err-place_or_add-clause-kept c).After-place_or_add in
-    record {
-      rooms = rooms at;
-      text = texts at;
-      lines = omega arith;
-      bytes = omega arith;
-      held_lines = omega arith;
-      held_bytes = omega arith;
-    }
-
-pub returns-then-not-branch-clause-kept : goal.returns-then-not-branch-clause-kept
-returns-then-not-branch-clause-kept c =
-    let at = (goal.at.returns-then-not-branch-clause-kept c).After-place_or_add in
-    record {
-      rooms = rooms at;
-      text = texts at;
-      lines = omega arith;
-      bytes = omega arith;
-      held_lines = omega arith;
-      held_bytes = omega arith;
-    }
-
 -- whether the row's satellite is new
 answer : (c : In_ok-place_or_add) (after : Tail) (rows : List Row)
     → AreRowsWritten after rows c.args.self.now c.args.lines.now.lines
@@ -80,16 +56,6 @@ pub returns-in_err-make_room-clause-known : goal.returns-in_err-make_room-clause
 returns-in_err-make_room-clause-known c = λ known.
     absurd (false≢true (c.in_err-make_room.ensures.known (omega arith) (omega arith)))
 
-pub returns-in_err-make_room-clause-kept : goal.returns-in_err-make_room-clause-kept
-returns-in_err-make_room-clause-kept c = record {
-  rooms = rooms (goal.at.returns-in_err-make_room-clause-kept c).After-place_or_add;
-  text = texts (goal.at.returns-in_err-make_room-clause-kept c).After-place_or_add;
-  lines = omega arith;
-  bytes = omega arith;
-  held_lines = omega arith;
-  held_bytes = omega arith;
-}
-
 -- what is asked for is what the row needs
 only : (c : After-place_or_add)
     → GrowsOnly (IsAskedFor c.args.name.now (length c.args.values.now)) c.args.self.now.satellites.rooms
@@ -104,18 +70,67 @@ not-more c = let same = ap (λ (h : OpenHistory). h.text_room) c.self.view_is in
 pub returns-in_err-place_or_add-clause-only : goal.returns-in_err-place_or_add-clause-only
 returns-in_err-place_or_add-clause-only c =
     let at = (goal.at.returns-in_err-place_or_add-clause-only c).After-place_or_add in
-    record { rooms = only at; text = not-more at; lines = omega arith; bytes = omega arith }
+    record {
+      kept = record {
+        rooms = rooms at;
+        text = texts at;
+        lines = omega arith;
+        bytes = omega arith;
+        held_lines = omega arith;
+        held_bytes = omega arith;
+      };
+      rooms = only at;
+      text = not-more at;
+      lines = omega arith;
+      bytes = omega arith;
+    }
 
 pub returns-then-not-branch-clause-only : goal.returns-then-not-branch-clause-only
 returns-then-not-branch-clause-only c =
     let at = (goal.at.returns-then-not-branch-clause-only c).After-place_or_add in
-    record { rooms = only at; text = not-more at; lines = omega arith; bytes = omega arith }
+    record {
+      kept = record {
+        rooms = rooms at;
+        text = texts at;
+        lines = omega arith;
+        bytes = omega arith;
+        held_lines = omega arith;
+        held_bytes = omega arith;
+      };
+      rooms = only at;
+      text = not-more at;
+      lines = omega arith;
+      bytes = omega arith;
+    }
 
 pub returns-in_err-make_room-clause-only : goal.returns-in_err-make_room-clause-only
-returns-in_err-make_room-clause-only c = search (rules, rooms, only, not-more)
+returns-in_err-make_room-clause-only c =
+    let at = (goal.at.returns-in_err-make_room-clause-only c).After-place_or_add in
+    record {
+      kept = record {
+        rooms = rooms at;
+        text = texts at;
+        lines = omega arith;
+        bytes = omega arith;
+        held_lines = omega arith;
+        held_bytes = omega arith;
+      };
+      rooms = only at;
+      text = not-more at;
+      lines = omega arith;
+      bytes = omega arith;
+    }
 
 pub returns-clause-only : goal.returns-clause-only
-returns-clause-only c = search (rules, rooms, only, not-more)
+returns-clause-only c =
+    let at = (goal.at.returns-clause-only c).After-place_or_add in
+    record {
+      kept = search (rules, rooms, texts);
+      rooms = λ name count has. only at name count (c.put_row.ensures.kept.rooms.back name count has);
+      text = not-more at;
+      lines = search rules;
+      bytes = search rules;
+    }
 
 pub put_row-requires-clause-sound : goal.put_row-requires-clause-sound
 put_row-requires-clause-sound c = λ old there.
@@ -166,6 +181,3 @@ returns-clause-written c = λ after rows written.
 pub returns-clause-taken : goal.returns-clause-taken
 returns-clause-taken c = λ is.
     search rules
-
-pub returns-clause-kept : goal.returns-clause-kept
-returns-clause-kept c = search (rules, rooms, texts)
