@@ -1,5 +1,5 @@
 -- Lines one after another in one text, each followed by LF.
-use Rattle.std.specs.Prelude.{◌≡◌, ◌≤◌, ◌+◌, ◌-◌, ◌*◌, ℕ, suc, List, [], ◌∷◌, length, take, drop, max}
+use Rattle.std.specs.Prelude.{◌≡◌, ◌≤◌, ◌<◌, ◌++◌, ◌+◌, ◌-◌, ◌*◌, ℕ, suc, List, [], ◌∷◌, length, take, drop, max}
 use Rattle.crx_base.specs.declared.limits.TheConstants.{LINE_LIMIT}
 pub use Rattle.crx_base.specs.meaning.Lines.{lines_text}
 
@@ -141,6 +141,12 @@ pub record KeepsLinesRoom (old new : PendingLines) : Type 0 where
   pub held_lines : old.all_lines + old.spare_lines ≤ new.all_lines + new.spare_lines
   pub held_bytes : old.all_bytes + old.spare_bytes ≤ new.all_bytes + new.spare_bytes
   pub reserved : new.reserved ≡ old.reserved
+
+-- a line was put into bytes from an index on: it has so many bytes, no more than its room, and a byte is left behind it, for its LF
+pub record IsLinePut (line : List ℕ) (room at : ℕ) (old new : List ℕ) (count : ℕ) : Type 0 where
+  pub written : take (at + count) new ≡ take at old ++ line
+  pub within : at + count < length new
+  pub short : count ≤ room
 
 -- a line was put after others, for which there was room: there is room for one less, and else nothing has changed but the room for bytes
 pub record HasTakenLine (old new : PendingLines) : Type 0 where

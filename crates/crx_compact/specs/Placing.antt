@@ -7,9 +7,10 @@ use Rattle.crx_text.specs.meaning.EachPlace.{each_place}
 use Rattle.crx_compact.specs.ArcTails.{ArcTail}
 use Rattle.crx_compact.specs.meaning.EpochText.{Satellite}
 use Rattle.crx_compact.specs.meaning.Sequences.{named}
-use Rattle.std.specs.Prelude.{Ok, slice_get, slice_set}
+use Rattle.std.specs.Prelude.{Ok, Result, slice_get, slice_set}
 use Rattle.crx_header.specs.meaning.ObservationTypes.{Count, IsAllowedCount}
-use Rattle.crx_compact.specs.HeldRows.{AreHeldFlags, IsAwaitedSatellite, row_held}
+use Rattle.crx_compact.specs.HeldRows.{AreHeldFlags, HeldRow, IsAwaitedSatellite, row_held}
+use Rattle.crx_base.specs.declared.fault.Fault.{Fault}
 use Rattle.crx_text.specs.meaning.Texts.{text_difference}
 use Rattle.crx_compact.specs.RowsSoFar.{AreAnnounced, NamesSatellites}
 use Rattle.crx_compact.specs.ShownRows.{shown_row}
@@ -149,6 +150,10 @@ padded_among rows satellite = padded satellite (row_tail_named satellite.name ro
 -- the satellite of a row
 abbrev pub satellite_of : RowTail → Satellite
 satellite_of row = record { name = row.name; count = length row.cells }
+
+-- what a satellite's line makes of what is stored of the satellite: its row, and what is stored after it; or its fault
+abbrev pub row_read : RowTail → List ℕ → Result HeldRow Fault
+row_read row line = row_held (Some row) (satellite_of row) line
 
 -- ---- the history
 

@@ -12,11 +12,12 @@ ghost use Rattle.crx_header.specs.meaning.Satellites.{is_identifier};
 ghost use Rattle.crx_rinex.specs.meaning.Printing.{printed_row};
 ghost use Rattle.crx_compact.specs.declared.cells.TheConstants.{CELL_ROOM};
 ghost use Rattle.crx_compact.specs.Cells.{arcs_of_cells, codes_of_cells};
-ghost use Rattle.crx_compact.specs.HeldRows.{AreHeldFlags, row_held};
+ghost use Rattle.crx_compact.specs.HeldRows.{AreHeldFlags};
+ghost use Rattle.crx_compact.specs.LineLists.{IsLinePut};
 ghost use Rattle.crx_compact.specs.meaning.Cells.{cell_text};
 ghost use Rattle.crx_text.specs.meaning.Numbers.{IsValue};
 ghost use Rattle.crx_compact.specs.meaning.CompactPlaces.{are_marks};
-ghost use Rattle.crx_compact.specs.Placing.{FitsFlags, IsMarked, cells_for, row_tail_of, satellite_of};
+ghost use Rattle.crx_compact.specs.Placing.{FitsFlags, IsMarked, cells_for, row_read, row_tail_of};
 ghost use Rattle.crx_compact.specs.ShownRows.{shown_row};
 ghost use Rattle.crx_compact.specs.Steps.{flags_held};
 
@@ -192,11 +193,9 @@ impl SatelliteHistory {
         requires counted { length self.old.cells ≡ length values.now }
         requires room { at + (CELL_ROOM * length values.now + length marks.now) < length bytes.old }
         ensures after { self.new ≡ record self.old { cells = arcs_of_cells self.old.cells values.now } }
-        ensures line { take (at + result) bytes.new
-            ≡ take at bytes.old ++ without_end_blanks
-            (flat_map cell_text (codes_of_cells self.old.cells values.now) ++ marks.now) }
-        ensures within { at + result < length bytes.new }
-        ensures short { result ≤ CELL_ROOM * length values.now + length marks.now }
+        ensures put { IsLinePut (without_end_blanks
+            (flat_map cell_text (codes_of_cells self.old.cells values.now) ++ marks.now))
+            (CELL_ROOM * length values.now + length marks.now) at bytes.old bytes.new result }
     {
         let end = write_cells(&mut self.arcs, values, bytes, at);
         let end = put_text(bytes, end, marks);
@@ -214,11 +213,10 @@ impl SatelliteHistory {
         requires other { begins_epoch line.now ≡ false }
         requires allowed { IsAllowedCount (length self.old.cells) }
         ensures ok { OnOk result ((name : List ℕ)
-            → row_held (Some (row_tail_of name self.old)) (satellite_of (row_tail_of name self.old)) line.now
+            → row_read (row_tail_of name self.old) line.now
             ≡ Ok (record { row = shown_row (row_tail_of name self.new); tail = row_tail_of name self.new })) }
         ensures err { IfErr result (λ fault. (name : List ℕ)
-            → row_held (Some (row_tail_of name self.old)) (satellite_of (row_tail_of name self.old)) line.now
-            ≡ Err fault) }
+            → row_read (row_tail_of name self.old) line.now ≡ Err fault) }
         ensures sized { length self.new.cells ≡ length self.old.cells }
         ensures room { self.new.room ≡ self.old.room }
     {
@@ -251,10 +249,8 @@ impl SatelliteHistory {
     #[inline(always)]
     pub(crate) fn print_line(&self, name: [u8; NAME_WIDTH], bytes: &mut [u8], at: usize) -> usize
         requires room { at + (NAME_WIDTH + CELL_WIDTH * length self.now.cells) < length bytes.old }
-        ensures line { take (at + result) bytes.new
-            ≡ take at bytes.old ++ printed_row (shown_row (row_tail_of name self.now)) }
-        ensures within { at + result < length bytes.new }
-        ensures short { result ≤ NAME_WIDTH + CELL_WIDTH * length self.now.cells }
+        ensures { IsLinePut (printed_row (shown_row (row_tail_of name self.now)))
+            (NAME_WIDTH + CELL_WIDTH * length self.now.cells) at bytes.old bytes.new result }
     {
         put_identifier(bytes, at, name);
         let count = self.count;

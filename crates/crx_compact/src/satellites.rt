@@ -184,6 +184,8 @@ impl Satellites {
         if count != self.live {
             return false;
         }
+        // No identifier is there twice: the length's clauses say so.
+        let _count = self.known.len();
         if !keep_types(&self.known, count, types) {
             return false;
         }
@@ -378,10 +380,7 @@ fn keep_types(
     requires named { (index : ℕ) (entry : Entry) → index < count → slice_get map.now.entries index ≡ Some entry
         → is_identifier (key_of entry) ≡ true }
     ensures kept { OnTrue result ((index : ℕ) → index < count → KeepsTypes types.now index map.now.entries) }
-    ensures unique { IsUnique bytes_eq map.now }
 {
-    // No identifier is there twice: the length's clauses say so.
-    let _count = map.len();
     for index in 0..count {
         let (name, satellite) = map.get_index(index).unwrap();
         let Some(found) = types.count(name[0]) else {
@@ -419,7 +418,6 @@ fn find(
 ) -> Option<usize>
     ensures found { IfSome result (λ found. IsFound name found map.now.entries map.now.entries) }
     ensures unknown { result ≡ None → is_some (lookup (bytes_eq name) map.now.entries) ≡ false }
-    ensures unique { IsUnique bytes_eq map.now }
     ensures small { IfSome result (λ found. found < 2 ^ 63) }
 {
     let count = map.len();
@@ -443,10 +441,10 @@ fn find_or_add(
     ensures unique { IsUnique bytes_eq map.new }
     ensures small { IfOk result (λ found. found < 2 ^ 63) }
 {
+    let count = map.len();
     if let Some(found) = find(map, near, name) {
         return Ok(found);
     }
-    let count = map.len();
     match map.insert(name, SatelliteHistory::new(alloc)) {
         Ok(_) => Ok(count),
         Err(_) => Err(AllocError),

@@ -11,7 +11,7 @@ returns-in_default c =
 pub returns-then-found-self : goal.returns-then-found-self
 returns-then-found-self c =
     rw (← c.self.view_is)
-    (placed-again c.self.inside.known c.in-Some.ensures.found c.find.ensures.unique c.self.invariant c.if-found-self.true)
+    (placed-again c.self.inside.known c.in-Some.ensures.found c.len.ensures.unique c.self.invariant c.if-found-self.true)
 
 pub has_room_at-requires : goal.has_room_at-requires
 has_room_at-requires c =
@@ -20,19 +20,19 @@ has_room_at-requires c =
 pub returns-then-not-has_room_at : goal.returns-then-not-has_room_at
 returns-then-not-has_room_at c =
     rw (← c.self.view_is)
-    (placed-not c.self.inside.known c.in-Some.ensures.found c.find.ensures.unique c.self.invariant c.if-found-self.false
+    (placed-not c.self.inside.known c.in-Some.ensures.found c.len.ensures.unique c.self.invariant c.if-found-self.false
     c.has_room_at.ensures.value c.if-not-has_room_at.true)
 
 pub returns-then-found-self-2 : goal.returns-then-found-self-2
 returns-then-found-self-2 c =
     rw (← c.self.view_is)
-    (placed-next c.self.inside.known c.in-Some.ensures.found c.find.ensures.unique c.self.invariant c.if-found-self.false
+    (placed-next c.self.inside.known c.in-Some.ensures.found c.len.ensures.unique c.self.invariant c.if-found-self.false
     c.has_room_at.ensures.value c.if-not-has_room_at.false c.if-found-self-2.true c.put_next.ensures.put)
 
 pub returns : goal.returns
 returns c =
     rw (← c.self.view_is)
-    (placed-anew c.self.inside.known c.in-Some.ensures.found c.find.ensures.unique c.self.invariant c.if-found-self.false
+    (placed-anew c.self.inside.known c.in-Some.ensures.found c.len.ensures.unique c.self.invariant c.if-found-self.false
     c.has_room_at.ensures.value c.if-not-has_room_at.false c.if-found-self-2.false c.revive.ensures.revived
     c.put_next-2.ensures.put)
 

@@ -15,7 +15,7 @@ returns-clause-again c =
     let same = c.if-count-self.false in
     let none = none-placed self.placed self.live es c.self.invariant
     (rw (← c.self.view_is) at c.requires.none) in
-    let come = come-again self.known c.keep_types.ensures.unique types self.live
+    let come = come-again self.known c.len-count.ensures.unique types self.live
     (λ index less. c.if-not-keep_types.ensures.kept index (omega (arith, less, same))) in
     rw (← c.self.view_is) (subst (λ n. HaveComeAgain types (placed_rows n self.live es)
     (placed_rows c.args.count self.live es)) (sym none)

@@ -55,12 +55,12 @@ returns c =
           (written-row (row_of_parts name c.args.values.now c.args.flags.now) satellite c.mark-marks.new.self after
           c.mark-marks.ensures.marked c.write_line.ensures.after
           ∙ ap (λ (kept : RowTail). row_tail_after (Some kept) (row kept)) (at.is old also));
-      line = λ old also. c.write_line.ensures.line
+      line = λ old also. c.write_line.ensures.put.written
           ∙ ap (λ line. take c.args.at c.args.bytes.now ++ line)
           (written-line (row_of_parts name c.args.values.now c.args.flags.now) satellite c.mark-marks.new.self
           c.mark-marks.result.now c.mark-marks.ensures.marked c.mark-marks.ensures.marks
           ∙ ap (λ (kept : RowTail). row_line_after (Some kept) (row kept)) (at.is old also));
-      within = c.write_line.ensures.within;
+      within = c.write_line.ensures.put.within;
       short = search rules;
       kept = rest-kept self.known self.placed self.live within there after c.self.invariant
           c.pair_mut-satellite.ensures.unique (omega (arith, kept, kept-too));
