@@ -1,4 +1,5 @@
-use Rattle.crx_compact.proofs.Words.{rules, ◌≡◌, refl, ◌+◌, ◌*◌, ◌++◌, ◌∷◌, [], Bool, not, true, false, drop, ap}
+use Rattle.crx_compact.proofs.Words.{rules, ◌≡◌, refl, ◌+◌, ◌*◌, ◌++◌, ◌∷◌, [], Bool, not, true, false}
+use Rattle.crx_compact.proofs.Words.{drop, ap}
 use Rattle.crx_compact.proofs.Words.{sym, ◌∙◌, inl, arith, subst, ◌⊎◌, inr, ℕ, List, Err, Result, map}
 use Rattle.crx_compact.proofs.Words.{false≢true, err_from_is_err_and, is_ok, All-append, columns, is_among}
 use Rattle.crx_compact.proofs.Words.{IsAwaitedSatellite, BadSatellite, OutOfMemory, RepeatedSatellite, Fault}
@@ -94,7 +95,8 @@ twice c =
 pub returns-then-not-branch : goal.returns-then-not-branch
 returns-then-not-branch c = record {
   ok = search rules;
-  err = refused-by RepeatedSatellite _ c.args.satellites.now c.place_name.new.satellites (λ out. cc out) (twice c)
+  err = refused-by RepeatedSatellite _ c.args.satellites.now c.place_name.new.satellites (λ out. cc out)
+      (twice c)
       (λ name count has. unasked _ _ (twice c) c.loop-place.invariant.7 name count
       (unasked _ _ (twice c) c.in_ok-place_name.ensures.back name count has));
   rooms = λ name count has. c.place_name.ensures.rooms name count (c.loop-place.invariant.5 name count has);

@@ -57,7 +57,8 @@ returns-in-Err-clause-room c begun step = record {
       let opened = opened-from c.args.types.now c.args.line.now (tail_held c.args.self.now.state)
       (tail_of_history history) begun before step in
       absurd (c.in-Err.ensures.err.wanting opened.satellites opened.read
-      (satellites-known c.args.types.now c.args.line.now (tail_of_history history) begun c.args.self.now.room _
+      (satellites-known c.args.types.now c.args.line.now (tail_of_history history) begun
+      c.args.self.now.room _
       opened has (search (rules, c.self.view_is, c.has_history.ensures.rooms)))
       (text-known c.args.types.now c.args.line.now (tail_of_history history) begun c.args.self.now.room _
       opened has (search (rules, c.self.view_is, c.has_history.ensures.held_room))));

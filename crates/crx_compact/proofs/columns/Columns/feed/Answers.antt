@@ -74,5 +74,6 @@ returns-in-Err-clause-block c = λ types older lines r.
     ⊎ (c.in-Err.fault ≡ OutOfMemory) = search rules in
     record {
       made = search rules;
-      refused = more-refused (Err c.in-Err.fault) types older lines c.args.line.now c.args.self.now.state r refused;
+      refused = more-refused (Err c.in-Err.fault) types older lines c.args.line.now c.args.self.now.state r
+          refused;
     }

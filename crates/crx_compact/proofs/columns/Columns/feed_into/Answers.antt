@@ -1,4 +1,5 @@
-use Rattle.crx_compact.proofs.Words.{rules, arith, List, ℕ, [], ◌∷◌, ◌++◌, if◌then◌else◌, ◌≡◌, ◌∙◌, ◌<◌, sym, ap, subst, Bool, length, Some, None}
+use Rattle.crx_compact.proofs.Words.{rules, arith, List, ℕ, [], ◌∷◌, ◌++◌, if◌then◌else◌, ◌≡◌}
+use Rattle.crx_compact.proofs.Words.{◌∙◌, ◌<◌, sym, ap, subst, Bool, length, Some, None}
 use Rattle.crx_compact.proofs.Words.{true, false, eqb-true, Content, ColumnsState, HasMade, HasPrintedLines}
 use Rattle.crx_compact.proofs.Words.{step_in, step_with_rows, tail_of_history, AreLinesTo, IsBlock, Tail}
 use Rattle.crx_compact.specs.OpenEpochs.{Idle}
@@ -10,7 +11,8 @@ use Rattle.crx_compact.proofs.columns.Columns.feed_into.Goals as goal
 
 -- where no line is pending, those that are put there are all
 alone : (is_copied : Bool) (copied : List ℕ) (before new : List (List ℕ))
-    → (if is_copied then copied ∷ [] else []) ++ before ≡ [] → (if is_copied then copied ∷ [] else []) ++ new ≡ new
+    → (if is_copied then copied ∷ [] else []) ++ before ≡ []
+    → (if is_copied then copied ∷ [] else []) ++ new ≡ new
 alone is_copied copied before new e = grind arith
 
 pub returns-then-not-is_whole-clause-made : goal.returns-then-not-is_whole-clause-made
@@ -50,7 +52,8 @@ returns-else-not-is_whole-clause-made c =
     let lines_now = (if held.is_copied then held.copied ∷ [] else []) ++ c.swap.new.y.lines in
     let drained = ap (λ (l : HeldLines). l.lines) c.lines.view_is ∙ c.requires.drained in
     let P : Tail → Type 0 = λ t.
-    HasPrintedLines (step_in c.args.self.now.state (Content c.args.line.now)) (Idle (Some t)) true lines_now in
+    HasPrintedLines (step_in c.args.self.now.state (Content c.args.line.now))
+    (Idle (Some t)) true lines_now in
     subst P (sym (ap {B = Tail} tail_of_history c.end.ensures.ended))
     (printed-whole _ tail new.count lines_now step (omega (arith, come))
     (alone held.is_copied held.copied held.printed.lines c.swap.new.y.lines drained

@@ -1,5 +1,6 @@
 use Rattle.crx_compact.proofs.Words.{◌≡◌, ◌++◌, List, ℕ, Result, true, inr, length, map, ap, refl, subst, sym}
-use Rattle.crx_compact.proofs.Words.{◌∙◌, arith, rules, take, take_at, err_from_is_err_and, Count, is_ok, list_all}
+use Rattle.crx_compact.proofs.Words.{◌∙◌, arith, rules, take, take_at, err_from_is_err_and, Count, is_ok}
+use Rattle.crx_compact.proofs.Words.{list_all}
 use Rattle.crx_compact.proofs.Words.{append-nil, is_printable, Fault, patched, past_of_tail}
 use Rattle.crx_compact.proofs.Words.{satellites_of_line, satellites_of_text, Satellite, HasRoom}
 use Rattle.crx_compact.proofs.Words.{HaveTypesRoom, OpenHistory, PlacedRows, padded_among, tail_of_history}
@@ -95,11 +96,13 @@ returns-clause-ok c =
     let first = c.deref_mut.ensures.len in
     let end = c.put_text.ensures.end in
     let long : length written ≡ room = omega (arith, sized, first, c.make_long.new.text.ok.0) in
-    let put : c.truncate.new.self.items ≡ new = c.truncate.ensures.items ∙ ap (take (length new)) (take_at written _ room long)
+    let put : c.truncate.new.self.items ≡ new = c.truncate.ensures.items
+    ∙ ap (take (length new)) (take_at written _ room long)
     ∙ ap (λ n. take n written) {x = length new} {y = c.put_text.result} (omega (arith, end))
     ∙ c.put_text.ensures.put in
     let rows = found.rows
-    ∙ ap (λ (rest : List RowTail). map (padded_among rest) found.satellites) (awaited (goal.at.returns-clause-ok c).After-read_satellites) in
+    ∙ ap (λ (rest : List RowTail). map (padded_among rest) found.satellites)
+    (awaited (goal.at.returns-clause-ok c).After-read_satellites) in
     let made = text (goal.at.returns-clause-ok c).After-read_satellites in
     record {
       satellites = found.satellites;
