@@ -68,58 +68,13 @@ not-more : (c : After-place_or_add)
 not-more c = let same = ap (λ (h : OpenHistory). h.text_room) c.self.view_is in omega (arith, same)
 
 pub returns-in_err-place_or_add-clause-only : goal.returns-in_err-place_or_add-clause-only
-returns-in_err-place_or_add-clause-only c =
-    let at = (goal.at.returns-in_err-place_or_add-clause-only c).After-place_or_add in
-    record {
-      kept = record {
-        rooms = rooms at;
-        text = texts at;
-        lines = omega arith;
-        bytes = omega arith;
-        held_lines = omega arith;
-        held_bytes = omega arith;
-      };
-      rooms = only at;
-      text = not-more at;
-      lines = omega arith;
-      bytes = omega arith;
-    }
+returns-in_err-place_or_add-clause-only c = search (rules, rooms, texts, only, not-more)
 
 pub returns-then-not-branch-clause-only : goal.returns-then-not-branch-clause-only
-returns-then-not-branch-clause-only c =
-    let at = (goal.at.returns-then-not-branch-clause-only c).After-place_or_add in
-    record {
-      kept = record {
-        rooms = rooms at;
-        text = texts at;
-        lines = omega arith;
-        bytes = omega arith;
-        held_lines = omega arith;
-        held_bytes = omega arith;
-      };
-      rooms = only at;
-      text = not-more at;
-      lines = omega arith;
-      bytes = omega arith;
-    }
+returns-then-not-branch-clause-only c = search (rules, rooms, texts, only, not-more)
 
 pub returns-in_err-make_room-clause-only : goal.returns-in_err-make_room-clause-only
-returns-in_err-make_room-clause-only c =
-    let at = (goal.at.returns-in_err-make_room-clause-only c).After-place_or_add in
-    record {
-      kept = record {
-        rooms = rooms at;
-        text = texts at;
-        lines = omega arith;
-        bytes = omega arith;
-        held_lines = omega arith;
-        held_bytes = omega arith;
-      };
-      rooms = only at;
-      text = not-more at;
-      lines = omega arith;
-      bytes = omega arith;
-    }
+returns-in_err-make_room-clause-only c = search (rules, rooms, texts, only, not-more)
 
 pub returns-clause-only : goal.returns-clause-only
 returns-clause-only c =
