@@ -1,6 +1,6 @@
 -- What a reader of compact text holds after a line.
-use Rattle.crx_filter.proofs.Words.{◌≡◌, Bool, true, List, ℕ, Option, Some, None, Result, Ok, Err, refl, sym}
-use Rattle.crx_filter.proofs.Words.{ap, ◌∙◌, Content, Fault, Count, Satellite, Tail, and_then, RawStep}
+use Rattle.crx_filter.proofs.Words.{◌≡◌, Bool, true, List, ℕ, Option, Some, None, Result, Ok, Err, refl}
+use Rattle.crx_filter.proofs.Words.{Content, Fault, Count, Satellite, Tail, and_then, RawStep}
 use Rattle.crx_filter.{proofs.Words.first_step, specs.CompactStages.{wants_line, wants_lines}}
 use Rattle.crx_compact.specs.OpenEpochs.{ColumnsState, Going, Whole, Faulty, HasMade, opened_raw, awaited_row}
 use Rattle.crx_compact.specs.OpenEpochs.{before_clock, opening, tail_for_line, tail_opened}
@@ -25,5 +25,4 @@ opened-wants types line (Some before) = search (satellites-wanted)
 -- an epoch that was begun wants lines
 pub begun-wants : (types : List Count) (tail : Option Tail) (line : List ℕ) (after : ColumnsState)
     → HasMade (first_step types tail (Content line)) after None → wants_lines after ≡ true
-begun-wants types tail line after (begun, going, is) = ap wants_lines is
-    ∙ (ap wants_more (sym going) ∙ opened-wants types line (tail_for_line tail line))
+begun-wants types tail line after (begun, going, is) = cc (opened-wants types line (tail_for_line tail line))

@@ -19,18 +19,15 @@ fault_in (Ok head) = BadEpoch
 fault_in (Err fault) = fault
 
 counted : (flag : ℕ) (count : Option ℕ) → count_in (event_head flag count) ≡ count
-counted flag None = refl
-counted flag (Some n) = refl
+counted flag v1 = grind (arith)
 
 faulty : (flag : ℕ) (count : Option ℕ) → fault_in (event_head flag count) ≡ BadEpoch
-faulty flag None = refl
-faulty flag (Some n) = refl
+faulty flag v1 = grind (arith)
 
 -- how many records an event's first line announces, as its reading says
 pub event-count : (line : List ℕ) (r : Result HeadLine Fault)
     → is_event_line line ≡ true → head_of line ≡ r → records_in line ≡ count_in r
-event-count line r event is = sym (counted (character_at line 32) (records_in line)) ∙ ap count_in
-    (sym (head-of-event line (begins_epoch line) (is_event_flag (character_at line 32)) refl refl event) ∙ is)
+event-count line r event is = grind (arith, counted, head-of-event)
 
 -- its one fault
 pub event-fault : (line : List ℕ) (fault : Fault)

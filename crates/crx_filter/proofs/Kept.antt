@@ -1,6 +1,6 @@
 -- What runs bring back, save and judge follows from what they are, by the laws.
 use Rattle.crx_filter.proofs.Words
-use Words.{common_steps, arith, ℕ, ◌≡◌, List, ◌++◌, Option, Some, None, refl, sym, subst, ◌∙◌, lines_of, At}
+use Words.{common_steps, arith, ℕ, ◌≡◌, List, ◌++◌, Option, None, sym, subst, ◌∙◌, lines_of, At}
 use Words.{Choices, compacted, expanded, FilterResult, findings_of, checked_by, checked, Device, IsResult}
 use Rattle.crx_filter.proofs.{damage.DamageStays.saved-lines, standard.CheckStandard.named-where_not}
 use Rattle.crx_filter.proofs.standard.CheckStandard.{standard-exactly_where_same}
@@ -46,8 +46,7 @@ same-number : (a b : ℕ) → a ≡ b → (a ≡ 0) ↔ (b ≡ 0)
 same-number a b e = (λ zero. sym e ∙ zero, λ zero. e ∙ zero)
 
 none-where_0 : (named : Option ℕ) → (report_status named ≡ 0) ↔ (named ≡ None)
-none-where_0 None = (λ e. refl, λ e. refl)
-none-where_0 (Some number) = (λ e. absurd (cc), λ e. absurd (cc))
+none-where_0 v1 = grind (arith)
 
 pub judges-standard : (writer messages : Device) (status : ℕ) (fault : Option At) (file : List ℕ)
     → IsResult (checked file) writer messages status fault → JudgesStandard writer status file

@@ -1,15 +1,14 @@
 -- What a reader of RINEX makes of the lines of an epoch, and of a line where one may begin.
 use Rattle.crx_filter.proofs.Words
-use Words.{common_steps, ◌≡◌, ◌⊎◌, inl, inr, ℕ, ◌+◌, ◌-◌, ◌<◌, ◌∷◌, ◌++◌, [], true, false, List, length}
-use Words.{Option, Some, None, Result, Ok, Err, refl, ap, subst, ◌∙◌, arith, ⊤, list_all, character_at}
-use Words.{is_blank, Fault, Row, Epoch as ObservationEpoch, HeadLine, EventHead, EpochHead, ObservationHead}
+use Words.{common_steps, ◌≡◌, ◌⊎◌, inl, inr, ℕ, ◌+◌, ◌<◌, ◌∷◌, ◌++◌, [], true, false, List, length}
+use Words.{Option, Some, Result, Ok, Err, ap, subst, ◌∙◌, arith, ⊤, character_at}
+use Words.{Fault, Row, Epoch as ObservationEpoch, HeadLine, EventHead, EpochHead, ObservationHead}
 use Words.{event_head, epoch_head, head_of, begins_epoch, is_event_line, records_in, OpenEpoch, beginning_of}
 use Words.{opened, epoch_of, Whole, has_satellite, Count, row_of, EventLine, Written, made_of_epoch_step}
 use Words.{made_of_beginning, records_announced, Made, Completes, is_open_stage, made_at, CompletedEpoch}
 use Words.{MovesReader, RinexReader, Stage, Open}
 use Rattle.crx_filter.specs.{RinexReaders.BeginsEpoch, RinexStages.is_rinex_stage}
 use Rattle.crx_filter.specs.declared.stage.Stage.TheVariants.{Between, Looking}
-use Rattle.std.proofs.lemmas.List.{length_push}
 use Rattle.crx_rinex.specs.EpochPlaces.{whole_or_going}
 
 -- ---- an epoch is whole, or wants rows
@@ -82,11 +81,7 @@ pub row-taken : (before after : RinexReader) (head : ObservationHead) (line : Li
     → before.count + 1 < head.count → HasParts after before.types head (before.rows.rows ++ before.row ∷ [])
     → after.stage ≡ Open → MovesReader (made_at before line kept) before after
 row-taken before after head line kept is held read other new part parts stage =
-    let at = in-its-epoch before head is held in
-    let counted = at.counted in
-    part-taken (made_at before line kept) before after head (before.rows.rows ++ before.row ∷ [])
-    (new-made before head line kept before.row at other read new)
-    (omega (arith, counted, part, length_push before.rows.rows before.row)) parts stage
+    grind (arith, in-its-epoch, part-taken, new-made)
 
 -- ---- where an epoch or an event may begin
 
@@ -98,13 +93,11 @@ OfHead line (Err fault) = ⊤
 
 of-event : (line : List ℕ) (o : Option ℕ) → records_in line ≡ o
     → OfHead line (event_head (character_at line 32) o)
-of-event line None is = tt
-of-event line (Some count) is = rw is refl
+of-event line v1 is = grind (arith)
 
 of-epoch : (line : List ℕ) (o : Option ℕ)
     → is_event_line line ≡ false → begins_epoch line ≡ true → OfHead line (epoch_head line o)
-of-epoch line None other begins = tt
-of-epoch line (Some count) other begins = grind (arith, common_steps, list_all, is_blank)
+of-epoch line v1 other begins = grind (arith)
 
 of-head : (line : List ℕ) → OfHead line (head_of line)
 of-head line = grind (arith, common_steps, of-event, of-epoch)
@@ -119,8 +112,7 @@ Begins r line = (r.stage ≡ Between) ⊎ ((r.stage ≡ Looking) × (begins_epoc
 
 pub begin-made : (before : RinexReader) (line : List ℕ) (kept : Written)
     → Begins before line → made_at before line kept ≡ made_of_beginning before.types (beginning_of line)
-begin-made before line kept (inl stage) = rw stage refl
-begin-made before line kept (inr looking) = rw (looking.0, looking.1) refl
+begin-made before line kept v1 = grind (arith)
 
 pub event-made : (types : List Count) (line : List ℕ) (flag count : ℕ) → head_of line
     ≡ Ok (EventHead flag count) → made_of_beginning types (beginning_of line) ≡ Completes (EventLine line)

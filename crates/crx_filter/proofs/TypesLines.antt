@@ -1,6 +1,6 @@
 -- What is wrong with a line that may declare types.
-use Rattle.crx_filter.proofs.Words.{common_steps, arith, ◌≡◌, ◌⊎◌, inl, inr, Bool, true, false, List, ℕ}
-use Rattle.crx_filter.proofs.Words.{Option, Some, None, if◌then◌else◌, refl, ◌&&◌, is_some}
+use Rattle.crx_filter.proofs.Words.{common_steps, arith, ◌≡◌, ◌⊎◌, Bool, true, List, ℕ}
+use Rattle.crx_filter.proofs.Words.{Option, Some, None, if◌then◌else◌, ◌&&◌, is_some}
 use Rattle.crx_filter.proofs.Words.{and_from, Fault, OutOfMemory, Count, false-true}
 use Rattle.crx_filter.{proofs.Words.types_fault, specs.meaning.UnitPlaces.first_fault}
 use Rattle.std.specs.Prelude.{is_none}
@@ -17,8 +17,7 @@ RefusedAs wrong line fault = (wrong ≡ Some fault)
     ⊎ ((fault ≡ OutOfMemory) × (is_some (count_of_types_line line) ≡ true))
 
 pub refused-types : (line : List ℕ) (fault : Fault) → Bad line fault → RefusedAs (types_fault line) line fault
-refused-types line fault (inl bad) = grind (arith, common_steps)
-refused-types line fault (inr out) = inr out
+refused-types line fault v1 = grind (arith)
 
 -- a types line that gives a count has no fault
 good-if : (b : Bool) (o : Option Count)
@@ -36,5 +35,4 @@ refused-first wrong line fault none e =
     grind (arith, common_steps, first_fault, types_fault, good-if, and_from, is_some, count_of_types_line)
 
 pub if-none : (b : Bool) (o : Option Fault) → o ≡ None → (if b then o else None) ≡ None
-if-none true o none = none
-if-none false o none = refl
+if-none other o none = grind (arith, common_steps)

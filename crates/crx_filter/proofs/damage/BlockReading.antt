@@ -50,8 +50,7 @@ place-inside items line lines h e = cc (place-between items (Content line ∷ li
 
 pub observation-here : (p : Place ReadEpoch) (unit : FileUnit ReadEpoch) (count : ℕ)
     → as_observation p ≡ Here unit count → (read : ReadEpoch) × (unit ≡ Observation read)
-observation-here (Here read n) unit count e = (read, cc)
-observation-here p unit count e = absurd (cc)
+observation-here v1 unit count e = grind (arith)
 
 epoch-here : (items : List (Item ReadEpoch)) (lines : List ReadLine) (unit : FileUnit ReadEpoch) (count : ℕ)
     → IsBetweenUnits items → IsBlockText lines → compact_place items lines ≡ Here unit count

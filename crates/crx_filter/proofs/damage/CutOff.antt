@@ -1,6 +1,6 @@
 -- Where an epoch of compact text wants more lines, a line that begins with > cuts it off.
-use Rattle.crx_filter.proofs.Words.{common_steps, ℕ, suc, ◌≡◌, ◌+◌, true, List, [], ◌∷◌, ◌++◌, length, Result}
-use Rattle.crx_filter.proofs.Words.{Ok, Err, arith, drop-append-le, length-drop, ReadLine, Content, Fault}
+use Rattle.crx_filter.proofs.Words.{common_steps, ℕ, suc, ◌≡◌, true, List, [], ◌∷◌, ◌++◌, length, Result}
+use Rattle.crx_filter.proofs.Words.{Err, arith, drop-append-le, length-drop, ReadLine, Content, Fault}
 use Rattle.crx_filter.proofs.Words.{Truncated, begins_epoch, Count, Place, Here, Wrong, Wanted, after_lines}
 use Rattle.crx_filter.proofs.Words.{then_place, one_line, first_line, IsSteady, Satellite, RawEpoch, Past}
 use Rattle.crx_filter.proofs.Words.{BegunEpoch, clock_line_read, rows_read, epoch_after_line, epoch_at}
@@ -41,9 +41,8 @@ begun-cut : (r : Result BegunEpoch Fault) (first : ReadLine) (lines : List ReadL
     → begins_epoch line ≡ true → then_place (one_line r) (first ∷ lines) (λ begun others.
     epoch_after_line begun others) ≡ Wanted → then_place (one_line r) (first ∷ (lines ++ Content line ∷ []))
     (λ begun others. epoch_after_line begun others) ≡ Wrong (suc (length lines)) Truncated
-begun-cut (Ok begun) first lines line begins e =
+begun-cut v1 first lines line begins e =
     grind (arith, cut-then, steady-first_line, cut-first, clock-cut, steady-rows_read, rows-cut, cut-here)
-begun-cut (Err fault) first lines line begins e = absurd (cc)
 
 -- an epoch whose first line has come
 pub epoch-cut : (types : List Count) (older : List RawEpoch) (first : List ℕ) (lines : List ReadLine)

@@ -1,7 +1,7 @@
 -- Damage to compact text stays in its block: what an expansion writes and reports, from the lines of the
 -- damaged text on.
 use Rattle.crx_filter.proofs
-use proofs.Words.{common_steps, arith, ℕ, suc, ◌≡◌, ◌+◌, ◌⊎◌, inl, inr, true, List, [], ◌∷◌, ◌++◌, map}
+use proofs.Words.{common_steps, arith, ℕ, suc, ◌≡◌, ◌+◌, ◌⊎◌, true, List, [], ◌∷◌, ◌++◌, map}
 use proofs.Words.{length, drop, take, reverse, Option, None, refl, ap, sym, ◌∙◌, subst, append_assoc}
 use proofs.Words.{append-nil, AllByRecursion, flat_map, list_all, map-append, drop-append_seam, Piece}
 use proofs.Words.{pieces_of, lines_of, ReadLine, Content, seen, At, Epoch, IsWholeEpoch, printed_epoch}
@@ -114,8 +114,7 @@ module _ (choices : Choices) (before : List (Item Epoch)) (first : Epoch)
   none-after : (bytes : List ℕ) → (after ≡ []) ⊎ (list_all (λ (piece : Piece). piece.is_ended)
       (pieces_of bytes) ≡ true) → (lines_on choices.every after (block_of before first others) ≡ [])
       ⊎ (list_all (λ (piece : Piece). piece.is_ended) (pieces_of bytes) ≡ true)
-  none-after bytes (inl e) = inl (ap (λ items. lines_on choices.every items (block_of before first others)) e)
-  none-after bytes (inr e) = inr e
+  none-after bytes v1 = grind (arith)
 
   -- the lines of the damaged text, as they are read
   pub lines-cut : (instead : List ℕ) → is_date choices.date ≡ true → (after ≡ [])

@@ -1,6 +1,6 @@
 -- What is written and reported after damage: the texts of items one after another, and the epochs among them.
 use Rattle.crx_filter.proofs.Words
-use Words.{common_steps, ℕ, ◌≡◌, ◌≤◌, inl, inr, List, [], ◌∷◌, ◌++◌, map, length, reverse, Option, refl, ap}
+use Words.{common_steps, ℕ, ◌≡◌, ◌≤◌, List, [], ◌∷◌, ◌++◌, map, length, reverse, Option, refl, ap}
 use Words.{sym, ◌∙◌, arith, append_assoc, append-nil, AllByRecursion, flat_map, At, Epoch, IsWholeEpoch}
 use Words.{printed_epoch, Observation, ReadEpoch, Item, Accepted, Warned, records_left, types_in_force}
 use Words.{Reading, warnings_in, compact_place, expanded_lines, ItemsAreRead, with_epochs}
@@ -98,8 +98,7 @@ epochs-read items (read ∷ later) = epochs-read _ later
 
 pub epochs-ended : (items : List (Item ReadEpoch)) (reads : List ReadEpoch) (r : Reading ReadEpoch)
     → EndsBlock (with_reads items reads) r → epochs_of r.items ≡ epochs_of items ++ epochs_in reads
-epochs-ended items reads r (inl (number, rest, text, e, is)) = cc (is, epochs-read items reads)
-epochs-ended items reads r (inr (at, number, is)) = cc (is, epochs-read items reads)
+epochs-ended items reads r v1 = grind (arith, epochs-read)
 
 pub epochs-back : (every : Option ℕ) (before : List (Item Epoch)) (epochs : List Epoch)
     → epochs_of (read_back every (with_epochs before epochs)) ≡ epochs_of (read_back every before) ++ epochs

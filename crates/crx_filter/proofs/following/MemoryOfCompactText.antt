@@ -1,7 +1,7 @@
 -- The memory that an expansion takes, by what is at its lines.
 use Rattle.crx_filter.proofs.Words
 use Words.{common_steps, ℕ, ◌≡◌, Bool, true, false, List, [], ◌∷◌, ◌++◌, length, Option, Some, None, Result}
-use Words.{Ok, Err, refl, none-some, ReadLine, Content, Overlong, Fault, Count, ReadEpoch, satellites_of_line}
+use Words.{Ok, refl, none-some, ReadLine, Content, Overlong, Fault, Count, ReadEpoch}
 use Words.{Satellite, OpenRawEpoch, RawStep, first_step, next_step, open_raw_after, Tail, and_then, Choices}
 use Words.{Item, types_in_force, place_takes, begins_event, compact_open, expansion, made_of_raw_step}
 use Words.{tail_of_items, subst, ◌+◌, drop, arith, length-drop, At, Remains, Place, Here, Wrong, Wanted}
@@ -13,7 +13,7 @@ use Rattle.crx_filter.proofs.following.Memory.{TakesAsItStands, allowed-again, a
 use Rattle.crx_filter.proofs.reading.ForwardCompact.{compact_beginning, compact-forward, steady-first_lines}
 use Rattle.crx_filter.proofs.{reading.Stopping.reading-stopped, steps.EngineAnswers.comes-again}
 use Rattle.crx_filter.specs.meaning.Memory.{expansion_takes}
-use Rattle.crx_compact.specs.{HeldRows.past_of_tail, OpenEpochs.{Going, Whole, is_faulty, before_clock}}
+use Rattle.crx_compact.specs.{OpenEpochs.{Going, is_faulty, before_clock}}
 use Rattle.crx_compact.specs.OpenEpochs.{has_come, makes_epoch, tail_opened, opened_raw, opening}
 
 -- a step without a fault takes memory, where its line does
@@ -28,8 +28,7 @@ last-takes : (choices : Choices) (items : List (Item ReadEpoch)) (lines : List R
     (step : RawStep) → expansion_takes count true ≡ true → makes_epoch step ≡ true
     → Agrees choices items lines (made_of_raw_step step)
     → place_takes expansion_takes items count (compact_beginning items lines) ≡ true
-last-takes choices items lines count (Whole held) takes last a = cc (a.2, takes)
-last-takes choices items lines count step takes last a = absurd (cc)
+last-takes choices items lines count v1 takes last a = grind (arith)
 
 -- ---- the clock line
 
@@ -40,13 +39,11 @@ clock_read step = false
 opened-clock : (line : List ℕ) (before : Tail) (read : Result (List Satellite) Fault)
     → clock_read (opening (and_then read (λ (satellites : List Satellite).
     Ok (before_clock (tail_opened before line satellites))))) ≡ false
-opened-clock line before (Ok satellites) = refl
-opened-clock line before (Err fault) = refl
+opened-clock line before v1 = grind (arith)
 
 by-tail : (types : List Count) (line : List ℕ) (tail : Option Tail)
     → clock_read (opening (opened_raw types line tail)) ≡ false
-by-tail types line None = refl
-by-tail types line (Some before) = grind (arith, common_steps, opened-clock, satellites_of_line, past_of_tail)
+by-tail types line v1 = grind (arith, opened-clock)
 
 -- where the clock line has come, two lines are before the next one
 takes-next : (items : List (Item ReadEpoch)) (lines : List ReadLine) (so_far : OpenRawEpoch) → compact_open

@@ -1,11 +1,11 @@
 -- The memory that a compaction and a check take, by what is at their lines.
 use Rattle.crx_filter.proofs.Words
-use Words.{common_steps, ℕ, suc, ◌≡◌, Bool, true, false, List, [], ◌∷◌, ◌++◌, length, Some, Result, Ok}
-use Words.{Err, refl, ap, ◌∙◌, ◌+◌, arith, At, none-some, ReadLine, Content, Fault, OpenEpoch, next_row}
-use Words.{rows_wanted, with_next_row, Epoch, Row, FileUnit, Observation, EpochStep, Faulty, after_row}
+use Words.{common_steps, ℕ, suc, ◌≡◌, Bool, true, false, List, [], ◌∷◌, ◌++◌, length, Some, Result}
+use Words.{refl, ◌+◌, arith, At, none-some, ReadLine, Content, Fault, OpenEpoch, next_row}
+use Words.{Epoch, Row, FileUnit, EpochStep, Faulty, after_row}
 use Words.{epoch_step, Choices, Item, types_in_force, compaction_takes, memory_allowed}
 use Words.{place_takes, rinex_reading, takes_memory, checking, no_choices, totals_of, compaction}
-use Words.{made_of_epoch_step, rinex_begins, Written, compaction_seen, rinex_open, written_of, Completes}
+use Words.{made_of_epoch_step, rinex_begins, Written, compaction_seen, rinex_open, written_of}
 use Words.{Direction, Made, Notice, Seen, seen_next, seen_of, compact_unit, rinex_place, false-true}
 use Rattle.crx_filter.proofs.following.Check.{check-carried_out, printed_after}
 use Rattle.crx_filter.proofs.following.{Compaction.compaction-carried_out, Following.AgreeOn}
@@ -21,8 +21,7 @@ is_fine (Faulty fault) = false
 is_fine step = true
 
 fine-row : (so_far : OpenEpoch) (r : Result Row Fault) → is_ok r ≡ true → is_fine (after_row so_far r) ≡ true
-fine-row so_far (Err fault) e = false-true e
-fine-row so_far (Ok row) e = grind (arith, common_steps, rows_wanted, with_next_row)
+fine-row so_far v1 e = grind (arith, false-true)
 
 module _ {K : Type 0} (direction : Direction Epoch OpenEpoch K) (kept_of : List (Item Epoch) → K)
     (unit_lines : List (Item Epoch) → FileUnit Epoch → List (List ℕ)) (choices : Choices)
@@ -31,8 +30,7 @@ module _ {K : Type 0} (direction : Direction Epoch OpenEpoch K) (kept_of : List 
   whole-takes : takes 0 true ≡ true → (m : Made Epoch OpenEpoch) → is_whole_at_once m ≡ true
       → AgreeOn rinex_beginning direction rinex_open kept_of unit_lines choices items lines m
       → place_takes takes items 0 (rinex_beginning items lines) ≡ true
-  whole-takes sure (Completes (Observation epoch)) e a = ap (place_takes takes items 0) a.2 ∙ sure
-  whole-takes sure m e a = false-true e
+  whole-takes sure v1 e a = grind (arith, false-true)
 
   step-takes : (count : ℕ) → ((is_whole : Bool) → takes count is_whole ≡ true) → (step : EpochStep)
       → is_fine step ≡ true → AgreeOn rinex_beginning direction rinex_open kept_of unit_lines choices items

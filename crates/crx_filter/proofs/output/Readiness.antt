@@ -1,7 +1,7 @@
 -- A line is answered as ready exactly where lines are borrowed.
 use Rattle.crx_filter.proofs.Words
-use Words.{common_steps, arith, ℕ, ◌≡◌, Bool, true, false, List, [], ◌∷◌, ◌++◌, refl, ReadLine, Epoch}
-use Words.{FileUnit, OpenRawEpoch, Tail, OpenEpoch, Seen, Made, Direction, is_skipped_in, made_in}
+use Words.{common_steps, arith, ℕ, ◌≡◌, Bool, true, List, [], ◌∷◌, ◌++◌, ReadLine, Epoch}
+use Words.{FileUnit, OpenRawEpoch, Tail, OpenEpoch, Seen, Made, Direction, is_skipped_in}
 use Words.{step_of_made, Written, compaction, expansion, IsReadyWhereHandedOut, by_bool, Option}
 use Rattle.crx_filter.proofs.following.Following.{failed-ends, failed-skipped}
 use Rattle.crx_filter.specs.{CompactionByLine.is_before_header, Laws.{is_ready, has_lines}}
@@ -17,8 +17,7 @@ step-ready direction some seen line e =
 
 first-lines : (date line : List ℕ) (is_first : Bool)
     → has_lines (lines_before_header date is_first ++ line ∷ []) ≡ true
-first-lines date line true = refl
-first-lines date line false = refl
+first-lines date line other = grind (arith, common_steps)
 
 compact-some : (seen : Seen OpenEpoch Written) (unit : FileUnit Epoch)
     → has_lines (compaction.written seen unit) ≡ true
@@ -29,9 +28,7 @@ expanded-some : (seen : Seen OpenRawEpoch (Option Tail)) (unit : FileUnit HeldEp
 expanded-some seen unit = grind (arith, common_steps)
 
 pub compaction-ready : IsReadyWhereHandedOut compaction
-compaction-ready seen line = step-ready compaction compact-some seen line
-    (made_in compaction seen.phase seen.types seen.kept line)
+compaction-ready seen line = search (step-ready, compact-some)
 
 pub expansion-ready : IsReadyWhereHandedOut expansion
-expansion-ready seen line = step-ready expansion expanded-some seen line
-    (made_in expansion seen.phase seen.types seen.kept line)
+expansion-ready seen line = search (step-ready, expanded-some)

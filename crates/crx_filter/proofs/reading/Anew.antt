@@ -167,8 +167,7 @@ module _ (skip : Bool) (units : ℕ) (ih : IsAnew skip units)
 
   anew-event : (line : List ℕ) (lines : List ReadLine) (o : Option ℕ) → records_in line ≡ o → starts_anew
       (records_announced line) lines ≡ true → Next (Content line ∷ lines) (one_line (event_line line))
-  anew-event line lines None is anew = rw (is, event_line) tt
-  anew-event line lines (Some n) is anew = grind arith
+  anew-event line lines v1 is anew = grind (arith)
 
   anew-line : (line : List ℕ) (lines : List ReadLine) → records_left a ≡ 0 → begins_epoch line ≡ true
       → cond (is_event_line line) (starts_anew (records_announced line) lines) true ≡ true

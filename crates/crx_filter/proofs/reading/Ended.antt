@@ -45,8 +45,7 @@ by-first_lines choices lines (Here two count) e =
     (drop count lines) (omega (arith, length-drop count lines, remains.0)) in
     next-end compact_beginning expansion compact_open tail_of_items expanded_unit choices
     (expansion-carried_out choices) r.items r.stop (length lines) stopped
-by-first_lines choices lines (Wrong offset fault) e = grind arith
-by-first_lines choices lines Wanted e = grind arith
+by-first_lines choices lines other e = grind arith
 
 pub expansion-ended : (choices : Choices) (lines : List ReadLine) → IsExpansionEnded choices lines
 expansion-ended choices lines = by-first_lines choices lines (first_lines lines) refl

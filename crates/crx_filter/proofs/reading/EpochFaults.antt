@@ -33,8 +33,7 @@ module _ (test : Fault → Bool) where
 
   pub place-observation : {E : Type 0} (p : Place E) → FaultsPassAt test p
       → FaultsPassAt test (as_observation p)
-  place-observation (Wrong offset fault) a = a
-  place-observation p a = tt
+  place-observation v1 a = grind (arith)
 
 -- ---- results and places whose faults can be skipped
 
@@ -46,13 +45,11 @@ IsSkippableAt p = FaultsPassAt is_skippable p
 
 skippable-and_then : {X Y : Type 0} (r : Result X Fault) (f : X → Result Y Fault)
     → IsSkippableResult r → ((x : X) → IsSkippableResult (f x)) → IsSkippableResult (and_then r f)
-skippable-and_then (Ok x) f a b = b x
-skippable-and_then (Err fault) f a b = a
+skippable-and_then v1 f a b = grind (arith)
 
 skippable-before : {X : Type 0} (x : X) (r : Result (List X) Fault)
     → IsSkippableResult r → IsSkippableResult (before_all x r)
-skippable-before x (Ok xs) a = tt
-skippable-before x (Err fault) a = a
+skippable-before x v1 a = grind (arith)
 
 -- ---- an epoch's lines
 
@@ -90,8 +87,7 @@ IsBegunWell (Err fault) = is_skippable fault ≡ true
 begun-well : (line : List ℕ) (past : Past)
     → IsSkippablePast past → (r : Result (List Satellite) Fault) → IsSkippableResult r → IsBegunWell
     (and_then r (λ satellites. Ok (record { line = line; past = past; satellites = satellites })))
-begun-well line past h (Ok satellites) a = h
-begun-well line past h (Err fault) a = a
+begun-well line past h v1 a = grind (arith)
 
 epoch_begun-well : (types : List Count) (line : List ℕ) (past : Option Past)
     → IsSkippableOption past → IsBegunWell (epoch_begun types line past)
@@ -100,8 +96,7 @@ epoch_begun-well types line past h = grind (arith, common_steps, begun-well, cou
 cell-skippable : (malformed : Fault) (value : Code → Result (Option ℤ) Fault) (code : Option Code)
     → is_skippable malformed ≡ true
     → ((c : Code) → IsSkippableResult (value c)) → IsSkippableResult (cell_read malformed value code)
-cell-skippable malformed value None a b = a
-cell-skippable malformed value (Some code) a b = skippable-and_then (value code) _ (b code) (λ v. tt)
+cell-skippable malformed value v1 a b = grind (arith, skippable-and_then)
 
 cells-skippable : (value : ℕ → Code → Result (Option ℤ) Fault) → ((place : ℕ) (c : Code) → IsSkippableResult
     (value place c)) → (texts : List (List ℕ)) → IsSkippableResult (cells_read value texts)
@@ -126,9 +121,7 @@ rows_read-skippable past h (satellite ∷ satellites) lines =
 
 begun_line-skippable : (r : Result BegunEpoch Fault) → IsBegunWell r → (lines : List ReadLine)
     → IsSkippableAt (then_place (one_line r) lines (λ begun others. epoch_after_line begun others))
-begun_line-skippable (Ok begun) h lines =
-    grind (arith, common_steps, place-then, place-first, cell-skippable, rows_read-skippable)
-begun_line-skippable (Err fault) h lines = h
+begun_line-skippable v1 h lines = grind (arith, place-then, place-first, cell-skippable, rows_read-skippable)
 
 pub epoch-skippable : (types : List Count) (older : List RawEpoch) (lines : List ReadLine)
     → IsSkippableAt (epoch_at types older lines)

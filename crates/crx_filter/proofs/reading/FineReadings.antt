@@ -75,8 +75,7 @@ module _ (skip : Bool) (lines : List ReadLine) (at : At) where
   rinex-found e = of-stop (rinex_reading skip lines).stop at (from-fine rinex_place rinex-fine skip 1 lines) e
 
   pub rinex-found-at-end : (whole_rinex skip lines).fault ≡ Some at → is_of_lines at.fault ≡ true
-  rinex-found-at-end e =
-      of-end (whole_rinex skip lines).fault at (whole-fine rinex_place rinex-fine skip 1 lines) e
+  rinex-found-at-end e = search (of-end, whole-fine, rinex-fine)
 
   pub compact-found : fault_of_stop (compact_reading skip lines).stop ≡ Some at → is_of_lines at.fault ≡ true
   compact-found e = grind (arith, common_steps, of-stop, from-fine, compact-fine, first_lines-fine)

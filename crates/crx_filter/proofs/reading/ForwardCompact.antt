@@ -1,8 +1,8 @@
 -- What is at a line of compact text is certain as soon as its last line has come.
-use Rattle.crx_filter.proofs.Words.{ℕ, suc, ◌<◌, List, [], ◌∷◌, ◌++◌, length, Result, Ok, Err, refl, ap}
-use Rattle.crx_filter.proofs.Words.{arith, ReadLine, Content, Overlong, FileUnit, Fault, Place, Wanted}
-use Rattle.crx_filter.proofs.Words.{one_line, first_line, IsSteady, Remains, IsDecidedAfter, is_event_line}
-use Rattle.crx_filter.proofs.Words.{Count, RawEpoch, past_of_line, ReadEpoch, epoch_begun, epoch_after_line}
+use Rattle.crx_filter.proofs.Words.{ℕ, suc, ◌<◌, List, [], ◌∷◌, ◌++◌, length, Result, refl}
+use Rattle.crx_filter.proofs.Words.{arith, ReadLine, Content, Overlong, FileUnit, Fault, Place}
+use Rattle.crx_filter.proofs.Words.{one_line, IsSteady, Remains, IsDecidedAfter, is_event_line}
+use Rattle.crx_filter.proofs.Words.{Count, RawEpoch, ReadEpoch}
 use Rattle.crx_filter.proofs.Words.{epoch_at, Item, types_in_force, raws_kept, event_line, as_observation}
 use Rattle.crx_filter.proofs.Words.{compact_epoch_place, compact_place, first_lines, IsReadForward, by_bool}
 use Rattle.crx_rinex.proofs.Steady.{steady-here, steady-first_line, steady-then}
@@ -14,30 +14,24 @@ abbrev pub compact_beginning : List (Item ReadEpoch) → List ReadLine → Place
 compact_beginning items = compact_epoch_place (types_in_force items) (raws_kept items)
 
 pub steady-epoch_at : (types : List Count) (older : List RawEpoch) → IsSteady (epoch_at types older)
-steady-epoch_at types older = steady-then
-    (λ lines. first_line lines (λ line. epoch_begun types line (past_of_line older line))) epoch_after_line
-    (steady-first_line (λ line. epoch_begun types line (past_of_line older line))) steady-after_line
+steady-epoch_at types older = search (steady-then, steady-first_line, steady-after_line)
 
 -- ---- where an epoch or an event may begin
 
 observation-decided : {E : Type 0} (count : ℕ) (p : Place E)
     → IsDecidedAfter count p → IsDecidedAfter count (as_observation p)
-observation-decided count Wanted h = tt
-observation-decided count p h = h
+observation-decided count v1 h = grind (arith)
 
 observation-remains : {E : Type 0} (count : ℕ) (now later : Place E)
     → Remains count now later → Remains count (as_observation now) (as_observation later)
-observation-remains count Wanted later h = observation-decided count later h
-observation-remains count p later h = (h.0, ap as_observation h.1)
+observation-remains count v1 later h = grind (arith, observation-decided)
 
 line-decided : {X : Type 0} (r : Result X Fault) → IsDecidedAfter 0 (one_line r)
-line-decided (Ok x) = omega arith
-line-decided (Err fault) = omega arith
+line-decided v1 = grind (arith)
 
 line-remains : {X : Type 0} (count : ℕ) (r : Result X Fault) → 0 < count
     → Remains count (one_line r) (one_line r)
-line-remains count (Ok x) h = (omega (arith, h), refl)
-line-remains count (Err fault) h = (omega (arith, h), refl)
+line-remains count v1 h = grind (arith)
 
 steady-compact : (types : List Count) (older : List RawEpoch) → IsSteady (compact_epoch_place types older)
 steady-compact types older [] [] = tt

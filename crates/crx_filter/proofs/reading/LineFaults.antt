@@ -1,11 +1,11 @@
 -- The faults that a reading finds are those of lines, or of the end of the input.
 use Rattle.crx_filter.proofs.Words
-use Words.{common_steps, arith, [], ℕ, ℤ, zero, suc, ◌≡◌, ◌∷◌, Bool, true, cond, List, Option, Some, None}
+use Words.{common_steps, arith, [], ℕ, ℤ, zero, suc, ◌≡◌, ◌∷◌, Bool, true, List, Option, Some, None}
 use Words.{Result, Ok, Err, refl, ⊤, ◌==◌, ◌&&◌, not, list_all, bytes_eq, columns, character_at, is_blank}
 use Words.{clock_of, ReadLine, HEAD_WIDTH, Fault, MissingVersion, is_kept, HeadLine, is_event_flag}
 use Words.{records_in, epoch_count, begins_epoch, event_head, epoch_head, head_of, OpenEpoch, Beginning}
-use Words.{EventBegins, EpochBegins, with_next_row, next_row, rows_at, begun_by, beginning_of, unit_begun}
-use Words.{epoch_place, has_satellite, Epoch, Count, Place, Wrong, first_line, FileUnit, EventRecord}
+use Words.{with_next_row, next_row, rows_at, begun_by, beginning_of, unit_begun}
+use Words.{epoch_place, has_satellite, Epoch, Count, Place, first_line, FileUnit}
 use Words.{ReadEpoch, epoch_at, RawEpoch, CRINEX_PROGRAM_LABEL, Item, is_at_start, records_count_types}
 use Words.{unless_wrong, types_fault, header_line, event_record, unit_place, rinex_place, compact_epoch_place}
 use Words.{compact_place, crinex_version, crinex_program, first_lines, is_of_lines, nat_lt, Content, Overlong}
@@ -37,12 +37,10 @@ IsFineAt p = FaultsPassAt is_of_lines p
 
 fine-unless : {E : Type 0} (unit : FileUnit E) (o : Option Fault) → IsFineFault o
     → IsFine (unless_wrong unit o)
-fine-unless unit None a = tt
-fine-unless unit (Some fault) a = a
+fine-unless unit v1 a = grind (arith)
 
 fault-first : (a b : Option Fault) → IsFineFault a → IsFineFault b → IsFineFault (first_fault a b)
-fault-first None b x y = y
-fault-first (Some fault) b x y = x
+fault-first v1 b x y = grind (arith)
 
 types-fine : (line : List ℕ) → IsFineFault (types_fault line)
 types-fine line = chosen IsFineFault (is_bad_types_line line) (Some BadTypesLine) None refl tt
@@ -56,8 +54,7 @@ header-fine : (E : Type 0) (is_first : Bool) (line : List ℕ) → IsFine (heade
 header-fine E is_first line = grind (arith, common_steps, fine-unless, fault-first, version-fine, types-fine)
 
 record-fine : (E : Type 0) (counted : Bool) (line : List ℕ) → IsFine (event_record {E = E} counted line)
-record-fine E counted line = fine-unless (EventRecord line) (cond counted (types_fault line) None)
-    (chosen IsFineFault counted (types_fault line) None (types-fine line) tt)
+record-fine E counted line = grind (arith, fine-unless, chosen, types-fine)
 
 unit-fine : {E : Type 0} (beginning : List (Item E) → List ReadLine → Place (FileUnit E))
     → ((items : List (Item E)) (lines : List ReadLine) → IsFineAt (beginning items lines))
@@ -70,8 +67,7 @@ unit-fine {E = E} beginning h items lines = chosen IsFineAt (not (header_has_end
 -- ---- RINEX
 
 event_head-fine : (flag : ℕ) (count : Option ℕ) → IsFine (event_head flag count)
-event_head-fine flag None = refl
-event_head-fine flag (Some count) = tt
+event_head-fine flag v1 = grind (arith)
 
 epoch_head-fine : (line : List ℕ) (count : Option ℕ) → IsFine (epoch_head line count)
 epoch_head-fine line count = grind (arith, common_steps, chosen, list_all, is_blank, columns, clock_of)
@@ -93,8 +89,7 @@ rows-fine so_far (suc count) lines = place-then is_of_lines (row_at so_far lines
 
 unit_begun-fine : (types : List Count) (beginning : Beginning) (lines : List ReadLine)
     → IsFineAt (unit_begun types beginning lines)
-unit_begun-fine types (EventBegins line) lines = tt
-unit_begun-fine types (EpochBegins head) lines = search (place-then, rows-fine)
+unit_begun-fine types v1 lines = grind (arith, place-then, rows-fine)
 
 epoch-fine : (types : List Count) (lines : List ReadLine) → IsFineAt (epoch_place types lines)
 epoch-fine types lines = place-then is_of_lines (first_line lines beginning_of) lines
@@ -110,8 +105,7 @@ rinex-fine items lines = search (unit-fine, epoch-fine)
 -- ---- compact text
 
 place-skippable : {X : Type 0} (p : Place X) → IsSkippableAt p → IsFineAt p
-place-skippable (Wrong offset fault) h = grind (arith, common_steps)
-place-skippable p h = tt
+place-skippable v1 h = grind (arith)
 
 observation-fine : (types : List Count) (older : List RawEpoch) (lines : List ReadLine)
     → IsFineAt (as_observation (epoch_at types older lines))
@@ -119,8 +113,7 @@ observation-fine types older lines = search (place-observation, place-skippable,
 
 event-fine : (line : List ℕ) (o : Option ℕ) → records_in line ≡ o
     → IsFineAt (one_line (event_line {E = ReadEpoch} line))
-event-fine line None e = rw (e, event_line) refl
-event-fine line (Some count) e = rw (e, event_line) tt
+event-fine line v1 e = grind (arith)
 
 compact_epoch-fine : (types : List Count) (older : List RawEpoch) (lines : List ReadLine)
     → IsFineAt (compact_epoch_place types older lines)

@@ -11,8 +11,7 @@ use Rattle.crx_filter.{proofs.reading.CompactPrefixes.{remains, reading-at, whol
 ended-same : {E : Type 0} (skip : Bool) (items : List (Item E)) (stop : Stop) (at : At) → fault_of_stop stop
     ≡ Some at → ended_reading skip (record { items = items; stop = stop })
     ≡ record { items = items; fault = Some at }
-ended-same skip items (AtFault fault) at e = ap (λ (o : Option At). record { items = items; fault = o }) e
-ended-same skip items stop at e = absurd (none-some at e)
+ended-same skip items v1 at e = grind (arith, none-some)
 
 stays-from : {E : Type 0} (place : List (Item E) → List ReadLine → Place (FileUnit E))
     → IsReadForward place → (skip : Bool) (number : ℕ) (lines more : List ReadLine) (at : At)

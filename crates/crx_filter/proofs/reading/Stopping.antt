@@ -13,8 +13,7 @@ looked-stopped : {E : Type 0} (place : List (Item E) → List ReadLine → Place
     → ((n : ℕ) (ls : List ReadLine) → length ls < bound → n + length ls ≡ next → IsStopped place
     (read n ls).items (read n ls).stop next) → length lines < bound → number + length lines ≡ next → IsStopped
     place (looked_for read items number lines).items (looked_for read items number lines).stop next
-looked-stopped place items read bound number next [] ended none h short counted =
-    (omega (arith, counted), ended, none)
+looked-stopped place items read bound number next [] ended none h short counted = grind (arith)
 looked-stopped place items read bound number next (line ∷ lines) ended none h short counted =
     by_bool (can_go_on line) (λ on. rw (on, looked_for) (h number (line ∷ lines) short counted))
     (λ off. rw (off, looked_for) (looked-stopped place items read bound

@@ -16,8 +16,7 @@ OfHere P p = ⊤
 
 -- one of two things is chosen, and what holds of both holds of it
 pub chosen : {A : Type 0} (P : A → Type 0) (b : Bool) (x y : A) → P x → P y → P (cond b x y)
-chosen P true x y h k = h
-chosen P false x y h k = k
+chosen P other x y h k = grind (arith, common_steps)
 
 -- ---- what may begin at a line of RINEX
 
@@ -29,12 +28,10 @@ IsBeginning line r = ⊤
 
 event-begun : (line : List ℕ) (o : Option ℕ) → is_event_line line ≡ true
     → records_in line ≡ o → IsBeginning line (begun_by line (event_head (character_at line 32) o))
-event-begun line None e f = tt
-event-begun line (Some count) e f = (refl, e, ap is_some f)
+event-begun line v1 e f = grind (arith)
 
 epoch-begun : (line : List ℕ) (o : Option ℕ) → IsBeginning line (begun_by line (epoch_head line o))
-epoch-begun line None = tt
-epoch-begun line (Some count) = grind (arith, common_steps)
+epoch-begun line v1 = grind (arith)
 
 line-begun : (line : List ℕ) → IsBeginning line (beginning_of line)
 line-begun line = grind (arith, common_steps, event-begun, epoch-begun)

@@ -2,8 +2,8 @@
 use Rattle.crx_filter.proofs.Words.{common_steps, arith, ℕ, ◌≡◌, ◌+◌, Bool, true, List, [], length, ◌∷◌}
 use Rattle.crx_filter.proofs.Words.{ReadLine, Fault, Place, FileUnit, Item, header_has_ended, records_left}
 use Rattle.crx_filter.proofs.Words.{is_skipped, reading_from, is_skippable, compact_place, compact_reading}
-use Rattle.crx_filter.proofs.Words.{ItemsAreRead, At, Warned, WholeReading, AtLines, Stop, fault_at_end}
-use Rattle.crx_filter.proofs.{Words.{ended_with, ended_reading, by_bool}, reading.KeptThroughout.within-kept}
+use Rattle.crx_filter.proofs.Words.{ItemsAreRead, At, Warned, WholeReading, Stop}
+use Rattle.crx_filter.proofs.{Words.{ended_reading, by_bool}, reading.KeptThroughout.within-kept}
 
 pub allowed : {E : Type 0} (skip : Bool) (items : List (Item E)) (fault : Fault) → is_skipped skip items fault
     ≡ true → (header_has_ended items ≡ true) × (records_left items ≡ 0) × (is_skippable fault ≡ true)
@@ -13,9 +13,7 @@ allowed skip items fault e = grind (arith, common_steps)
 pub of-ended : {E : Type 0} (P : List (Item E) → Type 0) (skip : Bool) (items : List (Item E)) (stop : Stop)
     → P items → ((at : At) → is_skipped skip items at.fault ≡ true → P (Warned at ∷ items))
     → P (WholeReading.items (ended_reading skip (record { items = items; stop = stop })))
-of-ended P skip items (AtLines number lines) h warned =
-    grind (arith, common_steps, fault_at_end, ended_with, by_bool, is_skipped)
-of-ended P skip items stop h warned = h
+of-ended v1 skip items v2 h warned = grind (arith, by_bool)
 
 pub items-read : {E : Type 0} (place : List (Item E) → List ReadLine → Place (FileUnit E)) (skip : Bool)
     (number : ℕ) (lines : List ReadLine) → ItemsAreRead place (reading_from place skip [] number lines).items

@@ -186,7 +186,4 @@ pub kept-more : (choices : Choices) (kept block : List (Item Epoch)) (items : Li
     → IsOpen items (reading_from compact_place true [] 3 so_far) → IsKeptRead choices.every kept block items
     (reading_from compact_place true [] 3 (so_far ++ map Content (lines_on choices.every kept block)))
 kept-more choices kept block items so_far h anew stops =
-    let lines = map Content (lines_on choices.every kept block) in
-    rw (resumed compact_place compact-forward true [] 3 so_far lines)
-    (by-lines choices.every kept block items h (reading_from compact_place true [] 3 so_far) lines stops refl
-    (text-anew choices block kept h.header h.left h.in_place anew))
+    search (resumed, compact-forward, by-lines, text-anew)

@@ -4,7 +4,7 @@ use Rattle.crx_filter.proofs.Words
 use Words.{common_steps, ℕ, zero, suc, ◌≡◌, ◌+◌, ◌<◌, max, ◌⊎◌, inl, inr, true, false, List, [], ◌∷◌, ◌++◌}
 use Words.{length, drop, refl, ap, sym, ◌∙◌, subst, arith, append_assoc, ⊤, AllByRecursion, length-drop}
 use Words.{is_skippable, ReadLine, Content, Overlong, At, Fault, begins_epoch, is_event_line, BadEpoch}
-use Words.{announces_records, true≢false, Option, Some, None, is_some, Here, Wrong, Wanted, FileUnit}
+use Words.{announces_records, Option, None, is_some, Here, Wrong, Wanted, FileUnit}
 use Words.{Observation, ReadEpoch, epoch_at, Item, Accepted, Warned, types_in_force, Reading, AtLines}
 use Words.{Looking, can_go_on, looked_for, reading_within, reading_from, raws_kept, compact_place}
 use Words.{IsBetweenUnits, continued_reading, by_bool}
@@ -73,8 +73,7 @@ onto item items r one h = record {
 -- ---- what is at such lines
 
 no-records : (count : Option ℕ) → is_some count ≡ false → count ≡ None
-no-records None e = refl
-no-records (Some count) e = absurd (true≢false e)
+no-records v1 e = grind (arith)
 
 -- an event's line without a count is a bad epoch line
 bad-event : (items : List (Item ReadEpoch)) (line : List ℕ) (lines : List ReadLine) → IsBetweenUnits items
@@ -86,8 +85,7 @@ bad-event items line lines h text event = grind (arith, place-between, no-record
 wanted-no_event : (items : List (Item ReadEpoch)) (line : List ℕ) (lines : List ReadLine)
     → IsBetweenUnits items → announces_records line ≡ false
     → compact_place items (Content line ∷ lines) ≡ Wanted → is_event_line line ≡ false
-wanted-no_event items line lines h text e = by_bool (is_event_line line)
-    (λ event. let never = sym (bad-event items line lines h text event) ∙ e in absurd (cc)) (λ other. other)
+wanted-no_event items line lines h text e = grind (arith, common_steps, by_bool, bad-event)
 
 stretch-epoch : (items : List (Item ReadEpoch)) (lines : List ReadLine)
     (unit : FileUnit ReadEpoch) (count : ℕ) → IsBetweenUnits items → AllByRecursion IsNoEvent lines
@@ -167,8 +165,7 @@ stretch-more items so_far lines between stops text =
     r = reading_from compact_place true [] 3 so_far
 
     goes-on : IsOpen items r → IsStretchRead items (continued_reading compact_place true r lines)
-    goes-on (inl (number, rest, none, e, is)) = rw is (within-stretch (length (rest ++ lines) + 1)
-        items number (rest ++ lines) (omega arith) between (all-append IsNoEvent rest lines none text))
+    goes-on (inl (number, rest, none, e, is)) = grind (arith, within-stretch, all-append)
     goes-on (inr (number, is)) = grind (arith, common_steps, looked-stretch, within-stretch)
 
 -- ---- the next line that begins with >

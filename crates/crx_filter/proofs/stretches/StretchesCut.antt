@@ -3,9 +3,9 @@
 use Rattle.crx_filter.proofs.Words
 use Words.{common_steps, arith, ℕ, ◌≡◌, ◌⊎◌, inl, inr, true, List, [], ◌∷◌, ◌++◌, map, refl, ap, sym, ◌∙◌}
 use Words.{append_assoc, append-nil, AllByRecursion, list_all, drop-append_seam, and_parts, not-true, Piece}
-use Words.{InputLine, pieces_of, lines_of, is_long, lines_text, Content, seen, Epoch, Choices, Item, Accepted}
+use Words.{InputLine, pieces_of, lines_of, lines_text, Content, seen, Epoch, Choices, Item, Accepted}
 use Words.{Warned, header_has_ended, lines_after, OfCopiedLines, HaveNoReturns, AreInPlace, Stretch}
-use Words.{up_to_end, up_to_next, with_stretches, announces_records, IsStretch, AreStretches, by_bool}
+use Words.{up_to_end, up_to_next, with_stretches, IsStretch, AreStretches, by_bool}
 use Rattle.crx_filter.proofs.damage.{BlockSaved.{rest-in_place, text-parts}, DamagedText.each-ended}
 use Rattle.crx_filter.proofs.damage.{DamagedText.{lines-append, front-cut}, TextAfter.{lines_on, written-on}}
 use Rattle.crx_filter.proofs.{reading.Each.{header-append, all-parts}, stretches.OpenReading.IsNoEvent}
@@ -23,8 +23,7 @@ lines-allowed (line ∷ lines) e =
     (one line both.0, lines-allowed lines both.1)
   where
     one : (line : InputLine) → begins_no_event line ≡ true → IsNoEvent (seen line)
-    one line e = by_bool (is_long line) (λ long. rw long tt)
-        (λ short. rw short (not-true (announces_records line.content) (cc (short, e))))
+    one line e = grind (arith, by_bool, not-true)
 
 pub stretches-allowed : (choices : Choices) (before : List (Item Epoch)) (stretches : List Stretch)
     → AreStretches choices before stretches → AllowLines stretches
@@ -51,8 +50,7 @@ good-before later before h = search (rest-in_place, copied-rest)
 pub good-up_to : (before : List (Item Epoch)) (stretches : List Stretch)
     → AreGood (with_stretches before stretches) → AreGood before
 good-up_to before [] h = h
-good-up_to before (s ∷ later) h = good-before s.lost before
-    (good-before s.kept (up_to_end before s) (good-up_to (up_to_next before s) later h))
+good-up_to before (s ∷ later) h = grind (arith, good-before, good-up_to (up_to_next before s) later h)
 
 -- ---- the units that are kept
 

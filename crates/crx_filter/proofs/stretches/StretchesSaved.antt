@@ -16,7 +16,7 @@ use proofs.stretches.{OpenReading.IsOpen, StretchesCut.{AreGood, good-before, go
 use proofs.stretches.{StretchesCut.stretches-cut, StretchesRead.{HasCome, AreStretchesRead}}
 use proofs.stretches.StretchesRead.{lines_of_stretches, next-closed, stretches-read}
 use proofs.wayback.{Carried.{started, types-same, reads-again}, ExpandedWhole.{AreGoodEpochs, epochs-good}}
-use proofs.wayback.{First.{first-lines_read, version-clean, program-clean}, Items.{body_unit, known_back}}
+use proofs.wayback.{First.{first-lines_read, version-clean, program-clean}, Items.{known_back}}
 use proofs.wayback.{Items.{read_back, unit-here}, Reading.lines_back, WayBack.{IsSettled, whole-settled}}
 use proofs.wayback.WayBack.{lines-same, lines-clean, printed-same, whole-after}
 use Rattle.crx_filter.specs.meaning.Stretches.{read_of_file, IsReadWhole, HasStretches, KeepsTheRest}
@@ -46,8 +46,7 @@ front-seen choices before text dated h begun =
 pub front-read : (skip : Bool) (every : Option ℕ) (before : List (Item Epoch)) → AreInPlace before
     → reading_from compact_place skip [] 3 (map Content (lines_back every before))
     ≡ record { items = read_back every before; stop = AtLines (3 + length (lines_back every before)) [] }
-front-read skip every before h = reads-again compact_place
-    (known_back every) (body_unit every) compact-forward (unit-here every) skip 3 before h
+front-read skip every before h = search (reads-again, compact-forward, unit-here)
 
 -- ---- the end of the input
 
@@ -58,8 +57,7 @@ open-ends items r between (inl (number, line ∷ rest, text, e, is)) = grind (ar
 open-ends items r between (inr (number, is)) = record { warnings = []; few = omega arith; same = cc (is) }
 
 open-items : (items : List (Item ReadEpoch)) (r : Reading ReadEpoch) → IsOpen items r → r.items ≡ items
-open-items items r (inl (number, rest, text, e, is)) = ap (λ (s : Reading ReadEpoch). s.items) is
-open-items items r (inr (number, is)) = ap (λ (s : Reading ReadEpoch). s.items) is
+open-items items r v1 = grind (arith)
 
 -- ---- text that is damaged in stretches
 
@@ -140,5 +138,4 @@ whole-first file choices expanding text dated h = by_units h.before
     by_units : (before : List (Item Epoch)) → AreGood before → text ≡ lines_text (compact_lines choices
         before) ++ h.more → Begins (expanded text expanding).output (lines_text (printed_items before))
     by_units [] good e = record { rest = (expanded text expanding).output; same = refl }
-    by_units (item ∷ before) good e =
-        begun-first expanding choices (item ∷ before) text h.more dated good refl e
+    by_units (item ∷ before) good e = search (begun-first)

@@ -1,7 +1,7 @@
 -- What was accepted of a RINEX file, written again and read again: the units without the warnings between
 -- them, with the same header, events and types in force.
 use Rattle.crx_filter.proofs
-use proofs.Words.{common_steps, ℕ, zero, suc, ◌≡◌, ◌+◌, ◌-◌, ◌<◌, Bool, true, false, cond, List, [], ◌∷◌, map}
+use proofs.Words.{common_steps, ℕ, ◌≡◌, ◌+◌, ◌-◌, ◌<◌, Bool, true, false, cond, List, [], ◌∷◌, map}
 use proofs.Words.{length, None, refl, ap, sym, ◌∙◌, arith, length-append, map-append, length-map, ReadLine}
 use proofs.Words.{Content, Epoch, Place, Here, FileUnit, HeaderLine, EventLine, EventRecord, Observation}
 use proofs.Words.{types_of, Item, Accepted, Warned, is_at_start, header_has_ended, records_left}
@@ -76,8 +76,7 @@ pub record-here : {E : Type 0} (beginning : List (Item E) → List ReadLine → 
     (items : List (Item E)) (line : List ℕ) (left : ℕ) → header_has_ended items ≡ true
     → records_left items ≡ left → 0 < left → cond (records_count_types items) (types_fault line) None ≡ None
     → unit_place beginning items (Content line ∷ []) ≡ Here (EventRecord line) 1
-record-here beginning items line zero ended_reading e some good = absurd (omega (arith, some))
-record-here beginning items line (suc left) ended_reading e some good = grind arith
+record-here beginning items line other ended_reading e some good = grind arith
 
 -- ---- one unit after another
 

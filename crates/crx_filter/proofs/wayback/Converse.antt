@@ -5,7 +5,7 @@ use Words.{drop, replicate, Option, Some, None, refl, ap, sym, ◌∙◌, arith,
 use Words.{All-head, All-tail, and_parts, and_from, clock_text, IsSoundRow, IsWholeEpoch, Count}
 use Words.{OBSERVATION_WIDTH, CLOCK_WIDTH, InputLine, ends_with_return, lines_of, HasNoFeed, is_printable}
 use Words.{is_kept, Row, Epoch, printed_row, printed_epoch, printed_cells, lines_text, Observation, Choices}
-use Words.{is_date, compacted, expanded, Item, Accepted, Warned, types_in_force, WholeReading, FilterResult}
+use Words.{is_date, compacted, expanded, Item, Accepted, Warned, WholeReading, FilterResult}
 use Words.{printed_items, whole_of, IsStandard, AreInPlace, OfCopiedLines, HaveNoReturns}
 use Rattle.crx_filter.proofs.{reading.Each.{all-append, contents}, wayback.Cut.{CanStand, return-kept}}
 use Rattle.crx_filter.proofs.wayback.{Cut.first-cut, First.{append-printable, take-printable}}
@@ -116,8 +116,7 @@ pub printed-plain : (items : List (Item Epoch)) → AreInPlace items
     → OfCopiedLines CanStand items → HaveNoReturns items → AllByRecursion IsPlainLine (printed_items items)
 printed-plain [] h k e = tt
 printed-plain (Accepted (Observation epoch) ∷ before) h k e =
-    all-append IsPlainLine (printed_items before) (printed_epoch epoch) (printed-plain before h.1 k.1 e.1)
-    (printable-plain (printed_epoch epoch) (epoch-printable (types_in_force before) epoch (h.0).2))
+    search (all-append, printable-plain, epoch-printable, printed-plain before h.1 k.1 e.1)
 printed-plain (Accepted unit ∷ before) h k e = search (printed-plain before h.1 k.1 e.1, all-append)
 printed-plain (Warned at ∷ before) h k e = printed-plain before h.1 k e
 

@@ -1,10 +1,10 @@
 -- Lines that are written and cut again are these lines; and what is read of an input holds no LF and isn't
 -- too long.
-use Rattle.crx_filter.proofs.Words.{common_steps, arith, ℕ, ◌≡◌, ◌≢◌, ◌≤◌, true, false, cond, ◌⊎◌, inl, inr}
+use Rattle.crx_filter.proofs.Words.{common_steps, arith, ℕ, ◌≡◌, ◌≢◌, ◌≤◌, true, false, cond, ◌⊎◌}
 use Rattle.crx_filter.proofs.Words.{List, [], ◌∷◌, map, length, refl, ap, append_assoc, ⊤, ◌==◌}
 use Rattle.crx_filter.proofs.Words.{AllByRecursion, All-head, All-tail, All-cons, All-nil, ltb-false}
 use Rattle.crx_filter.proofs.Words.{eqb_tells, Piece, InputLine, pieces_of, onto_first, ends_with_return}
-use Rattle.crx_filter.proofs.Words.{without_return, line_of, lines_of, is_long, HasNoFeed, ReadLine, Content}
+use Rattle.crx_filter.proofs.Words.{without_return, line_of, lines_of, HasNoFeed, ReadLine, Content}
 use Rattle.crx_filter.proofs.Words.{Overlong, seen, LINE_LIMIT, lines_text, by_bool}
 use Rattle.std.proofs.lemmas.Bool.{le-ltb}
 use Rattle.crx_lines.proofs.PieceLemmas.{pieces-first, NoFeed}
@@ -54,8 +54,7 @@ FeedsNone p = HasNoFeed p.bytes
 by-byte : (b : ℕ) (ps : List Piece) → AllByRecursion FeedsNone ps
     → ((b == 10) ≡ true) × (b ≡ 10) ⊎ ((b == 10) ≡ false) × (b ≢ 10) → AllByRecursion FeedsNone
     (cond (b == 10) (record { bytes = []; is_ended = true } ∷ ps) (onto_first b ps))
-by-byte b ps h (inl is) = rw is.0 (All-nil NoFeed, h)
-by-byte b ps h (inr is) = grind (arith, common_steps)
+by-byte b ps h v1 = grind (arith, All-nil)
 
 pieces-no_feed : (input : List ℕ) → AllByRecursion FeedsNone (pieces_of input)
 pieces-no_feed [] = tt
@@ -63,14 +62,12 @@ pieces-no_feed (b ∷ bs) = by-byte b (pieces_of bs) (pieces-no_feed bs) (eqb_te
 
 no_feed-without_return : (bytes : List ℕ) → HasNoFeed bytes → HasNoFeed (without_return bytes)
 no_feed-without_return [] h = h
-no_feed-without_return (b ∷ []) h =
-    elim (b == 13) as (λ t. HasNoFeed (cond t [] (b ∷ []))) [ true ↦ All-nil NoFeed | false ↦ h ]
+no_feed-without_return (b ∷ []) h = grind (arith, All-nil)
 no_feed-without_return (b ∷ c ∷ bs) h = All-cons NoFeed b _
     (All-head NoFeed b (c ∷ bs) h) (no_feed-without_return (c ∷ bs) (All-tail NoFeed b (c ∷ bs) h))
 
 seen-stands : (l : InputLine) → HasNoFeed l.content → OfContent CanStand (seen l)
-seen-stands l h = by_bool
-    (is_long l) (λ long. rw long tt) (λ short. rw short (h, ltb-false LINE_LIMIT (length l.content) short))
+seen-stands l h = grind (arith, by_bool, ltb-false)
 
 pieces-stand : (ps : List Piece)
     → AllByRecursion FeedsNone ps → AllByRecursion (OfContent CanStand) (map seen (map line_of ps))

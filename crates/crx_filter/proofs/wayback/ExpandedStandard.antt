@@ -4,7 +4,7 @@ use Rattle.crx_filter.proofs
 use proofs.Words.{common_steps, [], ℕ, ◌≡◌, ◌+◌, Bool, true, List, ◌∷◌, ◌++◌, map, length, drop, Option, None}
 use proofs.Words.{refl, ap, ◌∙◌, subst, arith, ⊤, AllByRecursion, list_all, and_parts, not-true, HasNoFeed}
 use proofs.Words.{Piece, InputLine, line_of, lines_text, ReadLine, At, Count, types_of, IsWholeEpoch, Epoch}
-use proofs.Words.{printed_epoch, FileUnit, HeaderLine, EventRecord, Observation, printed_unit, ReadEpoch}
+use proofs.Words.{FileUnit, HeaderLine, EventRecord, Observation, printed_unit, ReadEpoch}
 use proofs.Words.{Choices, compact_place, raws_kept, first_lines, whole_compact, expanded_unit}
 use proofs.Words.{expanded, Item, Accepted, Warned, is_at_start, header_has_ended, records_left}
 use proofs.Words.{records_count_types, declaring_lines, types_in_force, WholeReading, reading_from}
@@ -76,8 +76,7 @@ place-fits before lines = of-unit (OfHere (Fits before)) tt (λ offset fault. tt
 
 good-before : (before : List (Item ReadEpoch)) (unit : FileUnit ReadEpoch)
     → AreGoodEpochs (Accepted unit ∷ before) → AreGoodEpochs before
-good-before before (Observation read) h = h.1
-good-before before unit h = h
+good-before before v1 h = grind (arith)
 
 items-placed : (items : List (Item ReadEpoch)) → ItemsAreRead compact_place items → AreGoodEpochs items
     → AreInPlace (rinex_items items)
@@ -163,8 +162,7 @@ printed-no_feed : (items : List (Item Epoch))
     → AreInPlace items → OfCopiedLines CanStand items → AllByRecursion HasNoFeed (printed_items items)
 printed-no_feed [] h k = tt
 printed-no_feed (Accepted (Observation epoch) ∷ before) h k =
-    all-append HasNoFeed (printed_items before) (printed_epoch epoch) (printed-no_feed before h.1 k.1)
-    (printable-lines (printed_epoch epoch) (epoch-printable (types_in_force before) epoch (h.0).2))
+    search (all-append, printable-lines, epoch-printable, printed-no_feed before h.1 k.1)
 printed-no_feed (Accepted unit ∷ before) h k = search (printed-no_feed before h.1 k.1, all-append)
 printed-no_feed (Warned at ∷ before) h k = printed-no_feed before h.1 k
 

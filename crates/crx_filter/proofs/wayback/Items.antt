@@ -1,14 +1,14 @@
 -- What was accepted by a compaction, and how its compact text is read: the same header, events and types in
 -- force.
 use Rattle.crx_filter.proofs.Words
-use Words.{common_steps, ℕ, ◌≡◌, ◌+◌, true, false, List, [], ◌∷◌, map, length, Option, Some, None, Ok, refl}
+use Words.{common_steps, ℕ, ◌≡◌, ◌+◌, true, false, List, [], ◌∷◌, map, length, Option, Ok, refl}
 use Words.{arith, append-nil, is_some, length-map, Content, Row, Epoch, Here, FileUnit, HeaderLine, EventLine}
 use Words.{EventRecord, Observation, is_event_line, records_in, Count, Marked, compact_epoch, RawEpoch}
 use Words.{block_of, ReadEpoch, LinesCanStand, Item, Accepted, types_in_force, is_interrupted, is_in_full}
 use Words.{marked_epochs, raws_kept, event_line, compact_epoch_place, compact_place, AreInPlace, by_bool}
 use Rattle.crx_filter.proofs.{following.Following.body-place, wayback.Carried.{carried_unit, carried}}
-use Rattle.crx_filter.proofs.wayback.Carried.{header-same, start-same, left-same, count-same, types-same}
-use Rattle.crx_filter.proofs.wayback.Carried.{header-here, record-here}
+use Rattle.crx_filter.proofs.wayback.Carried.{header-same, left-same, count-same, types-same}
+use Rattle.crx_filter.proofs.wayback.Carried.{record-here}
 use Rattle.crx_compact.proofs.wayback.{Reading.each-reads_back, Standing.lines-stand}
 use Rattle.crx_compact.specs.{Laws.AreWhole, ReadingLaws.{raws_of, read_of, lines_of_epoch, EpochReadsBack}}
 use Rattle.crx_compact.specs.meaning.Compaction.{since_full, run_of, satellite_line}
@@ -81,8 +81,7 @@ epoch-stands every before epoch h =
 
 event-here : (line : List ℕ) (o : Option ℕ)
     → records_in line ≡ o → is_some o ≡ true → event_line {E = ReadEpoch} line ≡ Ok (EventLine line)
-event-here line None e h = absurd (cc)
-event-here line (Some count) e h = rw (e, event_line) refl
+event-here line v1 e h = grind (arith)
 
 event-begins : (types : List Count) (raws : List RawEpoch) (line : List ℕ) → is_event_line line ≡ true
     → is_some (records_in line) ≡ true → compact_epoch_place types raws (Content line ∷ [])
@@ -92,8 +91,6 @@ event-begins types raws line e h = let here = event-here line (records_in line) 
 pub unit-here : (every : Option ℕ) (before : List (Item Epoch)) (unit : FileUnit Epoch)
     → AreInPlace (Accepted unit ∷ before) → compact_place (read_back every before) (map Content
     (body_unit every before unit)) ≡ Here (unit_back every before unit) (length (body_unit every before unit))
-unit-here every before (HeaderLine line) h = search (header-here, header-same, start-same)
-unit-here every before (EventLine line) h = grind (arith, body-place, header-same, left-same, event-begins)
 unit-here every before (EventRecord line) h = search (record-here, header-same, left-same, count-same)
 unit-here every before (Observation epoch) h =
     let m = marked_now every before epoch in
@@ -105,3 +102,4 @@ unit-here every before (Observation epoch) h =
     let counted : 2 + length epoch.rows ≡ length (compact_epoch (m ∷ older)) =
     omega (arith, length-map epoch.rows (λ (r : Row). satellite_line (run_of r.name (m ∷ older)) r)) in
     grind (arith, body-place, header-same, left-same, types-same, append-nil)
+unit-here every before other h = grind (arith, body-place, header-same, left-same, event-begins)

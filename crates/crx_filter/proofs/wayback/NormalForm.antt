@@ -1,6 +1,6 @@
 -- What was accepted, printed and read again; the normal form of a file, and a file that is in order.
 use Rattle.crx_filter.proofs.Words
-use Words.{ℕ, ◌≡◌, ◌+◌, ◌*◌, ◌≤◌, true, false, List, [], ◌∷◌, ◌++◌, map, length, Option, Some, None, refl, ap}
+use Words.{ℕ, ◌≡◌, ◌+◌, ◌*◌, ◌≤◌, true, false, List, [], ◌∷◌, ◌++◌, map, length, Option, None, refl, ap}
 use Words.{◌∙◌, arith, append-nil, All, AllByRecursion, is_some, length-map, All-head, All-tail, and_parts}
 use Words.{ReadLine, Content, clock_text, without_end_blanks, LINE_LIMIT, TYPES_LIMIT, Row, Epoch, Count}
 use Words.{is_event_line, records_in, IsSoundRow, IsWholeEpoch, epoch_place, Here, printed_row, printed_epoch}
@@ -29,8 +29,7 @@ accepted items = carried same_epoch items
 
 event-stands : (types : List Count) (line : List ℕ) (o : Option ℕ) → records_in line ≡ o → is_some o ≡ true
     → is_event_line line ≡ true → epoch_place types (Content line ∷ []) ≡ Here (EventLine line) 1
-event-stands types line None e h event = absurd (cc)
-event-stands types line (Some n) e h event = grind (arith, and_parts)
+event-stands types line v1 e h event = grind (arith, and_parts)
 
 pub stands : StandsAgain rinex_place same_epoch (λ before. printed_unit)
 stands before (HeaderLine line) h = search (header-here, header-same, start-same)
@@ -60,8 +59,7 @@ whole-none lines =
     of-ended (λ items. warnings_in items ≡ []) false r.items r.stop none (λ at on. absurd (cc))
 
 unit-same : (before : List (Item Epoch)) (unit : FileUnit Epoch) → carried_unit same_epoch before unit ≡ unit
-unit-same before (Observation epoch) = refl
-unit-same before unit = refl
+unit-same before v1 = grind (arith)
 
 pub accepted-all : (items : List (Item Epoch)) → warnings_in items ≡ [] → accepted items ≡ items
 accepted-all [] h = refl
@@ -115,9 +113,8 @@ both-clean (line ∷ lines) h k = search (both-clean lines h.1 k.1)
 -- what was accepted, printed and read again
 pub printed-again : (items : List (Item Epoch)) → IsSettled items → HaveNoReturns items → whole_of (lines_text
     (printed_items items)) ≡ record { items = carried (λ before epoch. epoch) items; fault = None }
-printed-again items h none = ap (whole_rinex false) (lines-cut (printed_items items) (both-clean
-    (printed_items items) (printed-plain items h.in_place h.copied none) (printed-short items h.in_place
-    h.copied))) ∙ whole-again rinex_place _ _ rinex-forward stands false 1 items h.in_place h.header h.none
+printed-again items h none =
+    search (lines-cut, both-clean, printed-plain, printed-short, whole-again, rinex-forward, stands)
 
 -- ---- what was accepted, printed, is a standard file
 

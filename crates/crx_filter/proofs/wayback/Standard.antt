@@ -20,8 +20,7 @@ not-ended at e = absurd (cc)
 ended-same : {E : Type 0} (skip : Bool) (items : List (Item E)) (number : ℕ) (o : Option Fault)
     → WholeReading.fault (ended_with false items number o) ≡ None → ended_with skip items number o
     ≡ ended_with false items number o
-ended-same skip items number None f = refl
-ended-same skip items number (Some fault) f = not-ended (record { line = number; fault = fault }) f
+ended-same skip items number v1 f = grind (arith, not-ended)
 
 within-same : {E : Type 0} (place : List (Item E) → List ReadLine → Place (FileUnit E)) (skip : Bool) (units :
     ℕ) (items : List (Item E)) (number : ℕ) (lines : List ReadLine) → WholeReading.fault (ended_reading false

@@ -1,7 +1,7 @@
 -- The two texts of units that make a file; and each standard file is such a text.
 use Rattle.crx_filter.proofs.Words
-use Words.{common_steps, arith, ℕ, ◌≡◌, List, [], ◌∷◌, map, Option, None, refl, ap, sym, ◌∙◌, subst, lines_of}
-use Words.{lines_text, seen, At, Epoch, FileUnit, Observation, Choices, compacted, Item, Accepted, Warned}
+use Words.{common_steps, arith, ℕ, ◌≡◌, List, [], ◌∷◌, map, Option, None, refl, ap, sym, ◌∙◌, lines_of}
+use Words.{lines_text, seen, At, Epoch, FileUnit, Choices, compacted, Item, Accepted, Warned}
 use Words.{WholeReading, printed_items, whole_of, IsStandard, OfCopiedLine, OfCopiedLines, HaveNoReturns}
 use Words.{written_well, warnings_in, expanded, IsResult, Device, AreInPlace}
 use Rattle.crx_filter.proofs.wayback.NormalForm.{printed-again, accepted-all, whole-none, settled-standard}
@@ -33,12 +33,7 @@ no-return : (line : List ℕ) → CanBeCopied line → NoReturn line
 no-return line h = h.no_return
 
 settled : (units : List (FileUnit Epoch)) → MakeAFile units → IsSettled (as_items units)
-settled units h = record {
-  in_place = in-place units h.in_order;
-  copied = copied _ can-stand units h.in_order;
-  header = h.header;
-  none = h.complete;
-}
+settled units h = search (in-place, copied, can-stand)
 
 no-returns : (units : List (FileUnit Epoch)) → MakeAFile units → HaveNoReturns (as_items units)
 no-returns units h = copied NoReturn no-return units h.in_order
@@ -66,15 +61,13 @@ texts-of_units units compacting expanding h = search (compacts, items-back, sett
 pub writes-units : (choices : Choices) (writer messages : Device) (status : ℕ)
     (fault : Option At) (file : List ℕ) → IsResult (compacted file choices) writer messages status fault
     → WritesUnits choices writer messages status fault file
-writes-units choices writer messages status fault file ran units h same = subst (λ r. IsResult r writer
-    messages status fault) (cc (same, compacts units choices h)) ran
+writes-units choices writer messages status fault file ran units h same = grind (arith, compacts)
 
 pub reads-units : (expanding : Choices) (writer messages : Device) (status : ℕ)
     (fault : Option At) (text : List ℕ) → IsResult (expanded text expanding) writer messages status fault
     → ReadsUnits writer messages status fault text
 reads-units expanding writer messages status fault text ran units compacting dated h same =
-    rw (← ap (λ t. expanded t expanding) same
-    ∙ items-back (as_items units) compacting expanding dated (settled units h) (no-returns units h)) ran
+    grind (arith, items-back, settled, no-returns)
 
 -- ---- a standard file is the text of its units
 
@@ -90,8 +83,7 @@ all-units (Warned at ∷ before) e = absurd (cc)
 
 both : (unit : FileUnit Epoch)
     → OfCopiedLine CanStand unit → OfCopiedLine NoReturn unit → OfCopiedLine CanBeCopied unit
-both (Observation epoch) h k = tt
-both unit h k = record { one_line = h.0; short = h.1; no_return = k }
+both v1 h k = grind (arith)
 
 in-order : (units : List (FileUnit Epoch)) → AreInPlace (as_items units)
     → OfCopiedLines CanStand (as_items units) → HaveNoReturns (as_items units) → AreInOrder units

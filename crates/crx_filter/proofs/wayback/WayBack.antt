@@ -3,7 +3,7 @@ use Rattle.crx_filter.proofs.Words
 use Words.{common_steps, ℕ, ◌≡◌, ◌+◌, ◌*◌, ◌≤◌, Bool, true, false, cond, List, [], ◌∷◌, map, length, Option}
 use Words.{Some, None, refl, arith, nat_lt, not, AllByRecursion, list_all, ltb-false, lines_of}
 use Words.{ends_with_return, ReadLine, Content, seen, is_printable, Fault, TYPES_LIMIT, Epoch, lines_text}
-use Words.{FileUnit, HeaderLine, EventLine, EventRecord, Observation, compact_epoch, ReadEpoch, Choices}
+use Words.{FileUnit, HeaderLine, Observation, compact_epoch, ReadEpoch, Choices}
 use Words.{is_date, Item, Accepted, Warned, is_at_start, header_has_ended, records_left, types_in_force}
 use Words.{WholeReading, Stop, AtFault, AtLines, Looking, is_skipped, reading_from, fault_at_end, ended_with}
 use Words.{ended_reading, warnings_in, written_lines, result_of, rinex_place, marked_epochs, whole_rinex}
@@ -102,14 +102,12 @@ epoch-clean (line ∷ lines) h k =
 unit-clean : (every : Option ℕ) (before : List (Item Epoch)) (unit : FileUnit Epoch)
     → AreInPlace (Accepted unit ∷ before) → OfCopiedLine CanStand unit → OfCopiedLine (λ (line : List ℕ).
     ends_with_return line ≡ false) unit → AllByRecursion IsClean (body_unit every before unit)
-unit-clean every before (HeaderLine line) h k e = (clean line k e, tt)
-unit-clean every before (EventLine line) h k e = (clean line k e, tt)
-unit-clean every before (EventRecord line) h k e = (clean line k e, tt)
 unit-clean every before (Observation epoch) h k e =
     let m = marked_now every before epoch in
     let older = marked_epochs every before in
     epoch-clean (compact_epoch (m ∷ older)) (epoch-stands every before epoch h).printable
     (lines-short (types_in_force before) m.in_full m.epoch older (whole-next every before epoch h))
+unit-clean every before other h k e = (clean _ k e, tt)
 
 pub lines-clean : (every : Option ℕ) (items : List (Item Epoch)) → AreInPlace items
     → OfCopiedLines CanStand items → HaveNoReturns items → AllByRecursion IsClean (lines_back every items)

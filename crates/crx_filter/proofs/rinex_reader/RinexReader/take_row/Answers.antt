@@ -22,9 +22,7 @@ returns-then-self-announced-clause-takes c = λ line kept read other new.
     (record { types_then = refl; held = c.in-Some.is; rows_then = c.add.ensures.rows }) refl
 
 pub returns-then-self-announced-clause-few : goal.returns-then-self-announced-clause-few
-returns-then-self-announced-clause-few c = few c.args.self.now c.in-Some.head c.args.self.now.row
-    c.add.new.self.rows (in-its-epoch c.args.self.now c.in-Some.head c.requires.«open» c.in-Some.is)
-    c.count-announced.ensures.sound c.add.ensures.rows
+returns-then-self-announced-clause-few c = search (few, in-its-epoch)
 
 pub invariant_of-self-else-self-announced : goal.invariant_of-self-else-self-announced
 invariant_of-self-else-self-announced c =
@@ -51,6 +49,4 @@ returns-clause-takes c = λ line kept read other new.
     )
 
 pub returns-clause-few : goal.returns-clause-few
-returns-clause-few c = few c.args.self.now c.in-Some.head c.args.self.now.row c.add.new.self.rows
-    (in-its-epoch c.args.self.now c.in-Some.head c.requires.«open» c.in-Some.is)
-    c.count-announced.ensures.sound c.add.ensures.rows
+returns-clause-few c = search (few, in-its-epoch)
