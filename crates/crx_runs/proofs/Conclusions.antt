@@ -1,10 +1,11 @@
 -- What follows from how a run ended.
+use Rattle.std.proofs.lemmas.Grind.{common_steps}
 use Rattle.std.proofs.Common.{◌≡◌, ◌⊎◌, inl, inr, ℕ, ◌≤◌, Bool, true, List, [], ◌++◌, length, Option, Some}
 use Rattle.std.proofs.Common.{None, refl, sym, ap, ◌∙◌, arith, append-nil, length-append}
 use Rattle.crx_lines.{proofs.ProgressLemmas.{HasRead-ended, HasRead-stopped}, specs.Reading.ReaderState}
 use Rattle.crx_lines.specs.{Progress.{HasRead, IsStopped}, declared.phase.Phase.TheVariants.{Open, Ended}}
 use Rattle.crx_base.specs.{declared.fault.Fault.Fault, meaning.Lines.{InputLine, lines_of}}
-use Rattle.crx_base.specs.declared.{limits.TheConstants.INPUT_LIMIT, fault.Fault.TheVariants.InputTooLong}
+use Rattle.crx_base.specs.declared.{limits.TheConstants.INPUT_LIMIT}
 use Rattle.crx_base.specs.declared.fault.{Fault.TheVariants.{ReadFailed, OutOfMemory}, At.At}
 use Rattle.crx_runs.proofs.{Salvaged.{AskedOnce, is-open, none-failed, asked-once}, RunEndings.line-stands}
 use Rattle.crx_runs.proofs.RunEndings.{end-stands, reader-stands, start-stands, flush-stands, StandsAfter}
@@ -21,9 +22,7 @@ module _ {input : Input} {now : ReaderState} {lines : List InputLine}
     (h : HasRead input.gave input.at_end input.start input.counted now lines) where
   all-lines : now.phase ≡ Ended → (rest : List ℕ) → (input.at_end → rest ≡ []) → lines_of (h.given ++ rest) ≡
       lines
-  all-lines e rest none =
-      let o = HasRead-ended _ _ _ _ _ _ h e in
-      ap (λ x. lines_of (h.given ++ x)) (none o.reported) ∙ ap lines_of (append-nil h.given) ∙ sym o.all
+  all-lines = grind (arith, common_steps, append-nil)
 
   -- the lines of what was read come first in every input that begins with what was given
   first-lines : (now.phase ≡ Open) ⊎ (now.phase ≡ Ended) → (rest : List ℕ) → (input.at_end → rest ≡ [])
@@ -47,12 +46,7 @@ module _ (filter : Filter) (lawful : IsLawful filter) (input : Input)
       course.output → TookAll messages1 (notices_text course.warnings) → writer2.took [] → messages2.took
       (error_text course.fault) → status ≡ status_after course.warnings course.fault → IsResult
       (result_of_course course) writer messages status fault
-  whole-result course is wrote warned flushed reported status = record {
-    output = took-still w course.output wrote.0 flushed;
-    messages_are = m.joined _ _ warned.0 reported;
-    status_is = status;
-    fault_is = is;
-  }
+  whole-result = grind (arith, common_steps, took-still)
 
   flushed-either : IsFlushed writer2 ⊎ FlushFailed writer2 → writer2.took []
   flushed-either = grind arith
@@ -62,9 +56,7 @@ module _ (filter : Filter) (lawful : IsLawful filter) (input : Input)
       → all ≡ course → EndedByFault writer1 messages1 before course at
       → NoneFailed messages.before.failures messages.after.failures → Finishes writer2 messages2 0 true
       (Some (halt.Fault at)) status fault → IsResult (result_of_course all) writer messages status fault
-  found-whole before course all at status fault same found none finished = rw same (whole-result course
-      (finished.2 ∙ sym found.ends.fault) found.wrote found.reported (flushed-either finished.0) (grind arith)
-      (rw found.ends.fault finished.3))
+  found-whole = grind (arith, common_steps, whole-result, flushed-either)
 
   -- what a line, or the end, ended the run with, where no device failed and memory didn't run out
   ends-whole : (can : Option (List At)) (number : ℕ) (before course all : Course) (halt : Halt) (last : ℕ)
@@ -86,10 +78,7 @@ module _ (filter : Filter) (lawful : IsLawful filter) (input : Input)
   stopped-none : (f : Fault) (given : List ℕ) (lines : List InputLine) (rest : List ℕ)
       → IsStopped f input.start input.counted given lines → length (given ++ rest) ≤ INPUT_LIMIT
       → NoneFailed input.start.failures input.counted.failures → ⊥
-  stopped-none InputTooLong given lines rest s within none =
-      omega (arith, s.0, within, length-append given rest)
-  stopped-none ReadFailed given lines rest s within none = grind arith
-  stopped-none _ given lines rest s within none = s
+  stopped-none = grind (arith, common_steps, length-append)
 
   no-fault : (at : At) (fault : Option At) → fault ≡ Some at → fault ≡ None → ⊥
   no-fault at fault is none = cc

@@ -1,4 +1,5 @@
 -- A device over two stretches of a run, and over both.
+use Rattle.std.proofs.lemmas.Grind.{common_steps}
 use Rattle.std.proofs.Common.{◌≡◌, ℕ, ◌+◌, ◌≤◌, List, [], ◌∷◌, ◌++◌, length, take, refl, sym, ap, subst, ◌∙◌}
 use Rattle.std.proofs.{Common.{arith, append_assoc, append-nil, length-append}, Math.Seq.take-append-add}
 use Rattle.std.proofs.lemmas.List.{take-append-le}
@@ -40,25 +41,12 @@ all-still {both = both} j xs a b = subst (TookAll both) (append-nil xs) (all-all
 -- a part that was taken, and nothing after it
 pub part-still : {first second both : Device} → Joins first second both → (xs all : List ℕ)
     → IsPart first xs all → TookAll second [] → IsPart both xs all
-part-still j xs all a b = record {
-  count = a.count;
-  some = a.some;
-  less = a.less;
-  took = took-still j (take a.count all) a.took b.0;
-  failed = grind arith;
-}
+part-still = grind (arith, common_steps, took-still)
 
 -- a part of a text is one of a longer text
 pub part-more : {device : Device} (xs all more whole : List ℕ) → whole ≡ all ++ more → IsPart device xs all
     → IsPart device xs whole
-part-more {device = device} xs all more whole is p = record {
-  count = p.count;
-  some = p.some;
-  less = omega (arith, p.less, ap length is, length-append all more);
-  took = subst device.took (sym (ap (take p.count) is ∙ take-append-le p.count all more (omega
-      (arith, p.less)))) p.took;
-  failed = p.failed;
-}
+part-more = grind (arith, common_steps, length-append, take-append-le)
 
 -- ---- a device that took a text before
 

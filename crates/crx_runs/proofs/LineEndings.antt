@@ -1,6 +1,7 @@
 -- How a run goes on or ends at a line, from one stretch of it to the next.
+use Rattle.std.proofs.lemmas.Grind.{common_steps}
 use Rattle.std.proofs.Common.{◌≡◌, ◌⊎◌, inl, inr, ℕ, ◌<◌, List, [], ◌++◌, length, Option, Some, None, Bool}
-use Rattle.std.proofs.Common.{Result, Ok, Err, IfOk, IfErr, refl, sym, ap, ◌∙◌, subst, arith, append_assoc}
+use Rattle.std.proofs.Common.{Result, IfOk, IfErr, refl, sym, ap, ◌∙◌, arith, append_assoc}
 use Rattle.std.proofs.Common.{append-nil, length-append}
 use Rattle.crx_base.specs.declared.fault.{At.At, Fault.TheVariants.OutOfMemory}
 use Rattle.crx_runs.proofs.DeviceSpans.{Joins, Carries, all-resumed, none-resumed, part-resumed}
@@ -24,12 +25,7 @@ module _ {writer1 writer2 writer messages1 messages2 messages : Device}
   -- all that came before is out, and what is added
   pub out-more : (text : List ℕ) (notices : List At) → Adds before after text notices
       → TookAll writer2 text → TookAll messages2 (notices_text notices) → IsAllOut writer messages after
-  out-more text notices adds wrote reported = record {
-    good = adds.good;
-    wrote = grind arith;
-    reported = subst (TookAll messages) (sym (ap notices_text adds.warnings ∙ notices-append before.warnings
-        notices)) (grind arith);
-  }
+  out-more = grind (arith, common_steps, notices-append)
 
 -- a step at a line, or at the end, by devices that took before what the lines before make, and earlier warnings
 module _ (writer messages : Device) (before after : Course) (earlier told : List At)
@@ -45,22 +41,7 @@ module _ (writer messages : Device) (before after : Course) (earlier told : List
   pub answer-ends : (at : At) → (earlier ≡ []) ⊎ AreNext before after earlier
       → ((at.fault ≡ OutOfMemory) × (at.line ≡ number) × (memory ≡ Some earlier)) ⊎ EndsWith before after
       earlier at → TookAll writer [] → TookAll messages [] → Ends (Fault at)
-  answer-ends at next (inl out) wrote reported = inl (record {
-    notices = earlier;
-    allowed = out.2;
-    fault = out.0;
-    place = out.1;
-    next = next;
-    wrote = none-resumed writer before.output before.output refl wrote;
-    reported = none-resumed messages (notices_text told) (notices_text (before.warnings ++ earlier))
-        (ap notices_text (sym told_is)) reported;
-  })
-  answer-ends at next (inr ends) wrote reported = inr (record {
-    notices = earlier;
-    ends = ends;
-    wrote = none-resumed writer before.output after.output ends.output wrote;
-    reported = none-resumed messages (notices_text told) (notices_text after.warnings) (grind arith) reported;
-  })
+  answer-ends = grind (arith, common_steps, none-resumed)
 
   -- what a step made couldn't be written or reported
   step-ends : (text : List ℕ) (notices : List At) → (0 < length text → Adds before after text
@@ -100,8 +81,7 @@ module _ (writer messages : Device) (before after : Course) (earlier told : List
   pub step-comes : (text : List ℕ) (notices : List At) → (0 < length text → Adds before after text (earlier
       ++ notices)) → AreNext before after (earlier ++ notices) → (result : Result Bool Halt) → IsSettled
       writer messages (record { output = text; warnings = notices; fault = None }) result → IfErr result Ends
-  step-comes text notices adds next (Ok warned) s = tt
-  step-comes text notices adds next (Err halt) s = step-ends text notices adds next halt s
+  step-comes = grind (arith, common_steps, step-ends)
 
 -- what a step made was written and reported
 pub step-done : (before after : Course) (shown : Type 0) (writer messages : Device) (text : List ℕ)

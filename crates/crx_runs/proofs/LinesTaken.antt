@@ -1,4 +1,5 @@
 -- A line that an engine takes, at once or a second time.
+use Rattle.std.proofs.lemmas.Grind.{common_steps}
 use Rattle.std.proofs.Common.{◌≡◌, ◌⊎◌, inl, inr, ℕ, ◌+◌, Bool, true, false, List, [], ◌∷◌, ◌++◌, length}
 use Rattle.std.proofs.Common.{Some, None, Result, Ok, Err, IfOk, IfErr, OnOk, refl, sym, ap, subst, ◌∙◌}
 use Rattle.std.{proofs.Common.{arith, append_assoc, append-nil}, specs.Prelude.⊤}
@@ -11,7 +12,7 @@ use Rattle.crx_runs.specs.Engines.{awaited_notices, EngineAnswers, IsDrainedAfte
 use Rattle.crx_runs.specs.{Engines.{Concludes, GoesOn}, Taking.{HasAnswered, IsDone, IsSettled, KeepsLines}}
 use Rattle.crx_runs.specs.{Taking.{LineIsTaken, made_by, step_notices}, declared.engine.Engine.Ghosts}
 use Rattle.crx_runs.specs.declared.{engine.Step.{Step, TheVariants.{Quiet, Ready, Warned}}, one_line.Halt.Halt}
-use Rattle.crx_runs.specs.declared.one_line.Halt.TheVariants.{Fault, Unwritten, Unreported}
+use Rattle.crx_runs.specs.declared.one_line.Halt.TheVariants.{Fault, Unwritten}
 use Rattle.crx_runs.specs.meaning.{Filters.{Filter, with_next}, Messages.notices_text, Results.Course}
 use Rattle.crx_runs.specs.meaning.Spans.{Device, TookAll, TookPart, AreNext, IsPart}
 
@@ -182,8 +183,7 @@ module _ {E : Type 0} (engine : Ghosts E) {before now : E} {can_be : InputLine �
     second-answers : (answer : Result Step At) → HasAnswered engine mid then can_be answer
         → (lines : List InputLine) (line : InputLine) → engine.shows before lines [] → can_be line
         → EngineAnswers its (engine.shows then) (engine.ready then) lines (awaited line) line answer
-    second-answers answer b lines line shown is = rw (sym (kept.filter ∙ a.filter)) (b.answers lines _ line
-        (kept.shows lines _ (a.answers lines [] line shown tt is).0) refl is)
+    second-answers = grind (arith, common_steps, a)
 
     second-ends : (lines : List InputLine) (line : InputLine) (halt : Halt)
         → Ends writer2 messages2 (its.so_far lines) (its.so_far (with_next lines line)) (notice ∷ [])
@@ -246,18 +246,7 @@ end-warns : (filter : Filter) (ready : List (List ℕ)) (lines : List InputLine)
     (writer messages : Device) (halt : Halt) → IsDrainedAfter step ready → Concludes filter ready lines
     (Ok step) → IsSettled writer messages (made_by ready step) (Err halt) → WarnsAtEnd (filter.so_far lines)
     (filter.whole lines) halt
-end-warns _ _ _ Quiet _ _ (Fault at) drained a s = a.1.warnings ∙ append-nil _
-end-warns _ _ _ Quiet _ _ Unwritten drained a s = a.1.warnings ∙ append-nil _
-end-warns _ _ _ Quiet _ _ Unreported drained a s =
-    absurd (no-part _ _ (ap notices_text (none-first s.notices s.next.0 s.next.1)) s.reported)
-end-warns _ _ _ Ready _ _ (Fault at) drained a s = a.warnings ∙ append-nil _
-end-warns _ _ _ Ready _ _ Unwritten drained a s = a.warnings ∙ append-nil _
-end-warns _ _ _ Ready _ _ Unreported drained a s =
-    absurd (no-part _ _ (ap notices_text (none-first s.notices s.next.0 s.next.1)) s.reported)
-end-warns _ _ _ (Warned notice again) _ _ (Fault at) drained a (inl s) = absurd (cc)
-end-warns _ _ _ (Warned notice again) _ _ (Fault at) drained a (inr s) = absurd (cc)
-end-warns _ _ _ (Warned notice again) _ _ Unwritten drained a s = grind arith
-end-warns _ _ _ (Warned notice again) _ _ Unreported drained a s = (notice, a.1.warnings)
+end-warns = grind (arith, common_steps, a, append-nil, no-part, none-first)
 
 pub end-comes : (filter : Filter) (ready : List (List ℕ)) (lines : List InputLine) (step : Step)
     (writer messages : Device) (result : Result Bool Halt) → IsDrainedAfter step ready → Concludes filter

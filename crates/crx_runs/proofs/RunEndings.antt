@@ -1,4 +1,5 @@
 -- What is after a run, by how its work ended and how it was finished.
+use Rattle.std.proofs.lemmas.Grind.{common_steps}
 use Rattle.std.proofs.Common.{◌≡◌, ◌⊎◌, inl, inr, ℕ, ◌+◌, Bool, true, List, [], ◌++◌, length, take, Option}
 use Rattle.std.proofs.Common.{Some, None, ◌∷◌, refl, sym, ap, subst, ◌∙◌, arith, length-append}
 use Rattle.crx_lines.{proofs.ProgressLemmas.HasRead-stopped, specs.Progress.IsStopped}
@@ -13,7 +14,7 @@ use Rattle.crx_runs.specs.Endings.{StoppedAtStart, StoppedByEnd, WellDone, Finis
 use Rattle.crx_runs.specs.{Endings.{FlushFailed, write_failed_at}, Lawful.{IsLawful, is_of_lines}}
 use Rattle.crx_runs.specs.{declared.one_line.Halt.Halt, meaning.Filters.{Filter, with_next}}
 use Rattle.crx_runs.specs.meaning.Interruptions.{IsTurn, IsWritten, AreReported, NoMemoryAtLine, FaultFound}
-use Rattle.crx_runs.specs.meaning.{Interruptions.{Stands, IsFrontPart}, Messages.{error_text, notices_text}}
+use Rattle.crx_runs.specs.meaning.{Interruptions.{Stands, IsFrontPart}, Messages.{notices_text}}
 use Rattle.crx_runs.specs.meaning.{Results.Course, Spans.{Device, TookAll, AreNext, Input}}
 use Rattle.crx_runs.specs.declared.one_line.Halt.TheVariants as halt
 
@@ -29,13 +30,11 @@ module _ (filter : Filter) (lawful : IsLawful filter) (input : Input)
 
   written : (text : List ℕ) → TookAll writer1 text → IsFlushed writer2 ⊎ FlushFailed writer2
       → IsWritten writer text
-  written text a (inl b) = (took-still w text a.0 b.0, grind arith)
-  written text a (inr b) = (took-still w text a.0 b.0, grind arith)
+  written = grind (arith, common_steps, took-still)
 
   reported : (warnings : List At) (at : At)
       → TookAll messages1 (notices_text warnings) → IsReported messages2 at → AreReported messages warnings at
-  reported warnings at a (inl b) = grind arith
-  reported warnings at a (inr b) = inr (part-then m (notices_text warnings) (error_text (Some at)) a b)
+  reported = grind (arith, common_steps, part-then)
 
   stands-after : (given : List ℕ) {status : ℕ} {fault : Option At} (at : At) → status ≡ 1 → fault ≡ Some at
       → Stands filter input given writer messages at at.fault
@@ -159,9 +158,7 @@ module _ (filter : Filter) (lawful : IsLawful filter) (input : Input)
       input.counted given lines → at.line ≡ length lines + 1 → (filter.so_far lines).fault ≡ None → IsWritten
       writer (filter.so_far lines).output → AreReported messages (filter.so_far lines).warnings at → Stands
       filter input given writer messages at f
-  stopped-stands given lines f at s line good wrote reported =
-      let same = complete-stopped given lines f input.start input.counted s in
-      (grind arith)
+  stopped-stands = grind (arith, common_steps, complete-stopped)
 
   pub reader-stands : (now : ReaderState) (last : ℕ) (warned : Bool) (stop : Halt) (status : ℕ)
       (fault : Option At) (lines : List InputLine) (at : At) → stop ≡ halt.Fault at

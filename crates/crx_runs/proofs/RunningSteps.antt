@@ -1,5 +1,6 @@
 -- A run goes on by a line, or ends at it; and its end.
-use Rattle.std.proofs.Common.{arith, ◌≡◌, ℕ, Bool, ◌||◌, List, [], ◌∙◌}
+use Rattle.std.proofs.lemmas.Grind.{common_steps}
+use Rattle.std.proofs.Common.{arith, ◌≡◌, ℕ, Bool, ◌||◌, List, []}
 use Rattle.crx_base.specs.meaning.Lines.{InputLine}
 use Rattle.crx_lines.specs.Reading.{ReaderState}
 use Rattle.crx_runs.proofs.{DeviceSpans.Joins, LineEndings.out-more, StepReading.ReadsLine}
@@ -25,18 +26,7 @@ module _ {filter : Filter} {input then : Input} {old new : ReaderState} {lines :
   pub goes-by : {shows : List InputLine → List Awaited → Type 0} {warned : Bool}
       → IsDone (filter.so_far lines) (filter.so_far (with_next lines line)) (shows (with_next lines line) [])
       writer2 messages2 warned → GoesOnBy filter shows then writer messages new lines warned
-  goes-by done = record {
-    line = line;
-    shown = done.is_shown;
-    running = record {
-      read = read.read;
-      going = read.going;
-      out = out-more w m _ _ running.out _ _ done.adds done.wrote done.reported;
-    };
-    notices = done.notices;
-    added = done.adds.warnings;
-    flag = done.flag;
-  }
+  goes-by = grind (arith, common_steps, out-more)
 
   -- a line ended the run
   pub ends-by : (halt : Halt) → LineEndsRun filter lines line writer2 messages2 halt
@@ -53,15 +43,7 @@ module _ {filter : Filter} {input : Input} {now : ReaderState} {lines : List Inp
       → warned ≡ are_some (filter.so_far lines).warnings → both ≡ (warned || warning)
       → IsDone (filter.so_far lines) (filter.whole lines) (has_ended lines) writer2 messages2 warning
       → WellDone filter has_ended input writer messages now last both
-  well-done flag is done = record {
-    lines = lines;
-    read = comes.running.read;
-    ended = comes.ended;
-    out = out-more w m _ _ comes.running.out _ _ done.adds done.wrote done.reported;
-    flag = grind arith;
-    engine_ended = done.is_shown;
-    last_is = last_is ∙ comes.running.read.number;
-  }
+  well-done = grind (arith, common_steps, out-more)
 
   -- the end ended the run
   pub stopped-end : (halt : Halt) → EndEndsRun filter lines writer2 messages2 halt

@@ -1,6 +1,7 @@
 -- What a reader of lines answers, by the lines that were read before.
-use Rattle.std.proofs.Common.{◌≡◌, ◌⊎◌, ⊎_elim, ℕ, ◌+◌, ◌<◌, ◌≤◌, Bool, true, false, List, ◌∷◌, ◌++◌, length}
-use Rattle.std.proofs.Common.{Option, Some, None, Result, Ok, Err, ap, arith, length-append}
+use Rattle.std.proofs.lemmas.Grind.{common_steps}
+use Rattle.std.proofs.Common.{◌≡◌, ◌⊎◌, ⊎_elim, ℕ, ◌+◌, ◌<◌, ◌≤◌, Bool, true, List, ◌++◌, length}
+use Rattle.std.proofs.Common.{Option, Some, None, Result, Ok, Err, arith, length-append}
 use Rattle.crx_lines.{proofs.ProgressLemmas.HasRead-next, specs.Progress.{AtAnswer, HasRead}}
 use Rattle.crx_lines.specs.Reading.{ReaderState, ReaderAnswers, AnswersFault, TakesPiece, line_shown}
 use Rattle.crx_lines.specs.{Reading.line_number, declared.line.Line.Line, declared.phase.Phase.Phase}
@@ -28,9 +29,7 @@ ended-not-open e = cc
 passed-more : (old new : ReaderState) (given : List ℕ) (at_end : Type 0) (bytes : List ℕ) (is_ended : Bool)
     → TakesPiece old given at_end (record { bytes = bytes; is_ended = is_ended }) new
     → old.passed < new.passed
-passed-more old new given at_end bytes true t =
-    omega (arith, t.passed, ap length t.first.cut, length-append bytes (10 ∷ new.rest))
-passed-more old new given at_end bytes false t = grind arith
+passed-more = grind (arith, common_steps, length-append)
 
 -- what a reader that isn't stopped answers
 pub record HasAsked (step : List ℕ → Type 0) (at_end : Type 0) (counted counted' : Tally)
@@ -54,15 +53,11 @@ module _ {step : List ℕ → Type 0} {at_end' : Type 0} {counted counted' : Tal
   -- a line takes some bytes of the input
   pub line-passed : (line : Line) → r ≡ Ok (Some line) → (old.passed < new.passed)
       × (new.passed ≤ INPUT_LIMIT)
-  line-passed line is =
-      let a = (answers _ is (some-not-none line)).1 in
-      (passed-more old new a.0 at_end' _ _ a.2.1, omega (arith, a.2.1.within))
+  line-passed = grind (arith, common_steps, answers, some-not-none, passed-more)
 
   pub overlong-passed : (at : At) → r ≡ Err at → at.fault ≡ LineTooLong → (old.passed < new.passed)
       × (new.passed ≤ INPUT_LIMIT)
-  overlong-passed at is long =
-      let a = overlong at is long in
-      (passed-more old new a.0 at_end' _ _ a.1.1, omega (arith, a.1.1.within))
+  overlong-passed = grind (arith, common_steps, overlong, passed-more)
 
   module _ {gave gives : List ℕ → Type 0} {at_end : Type 0} {start : Tally} {lines : List InputLine}
       (goes : (given more : List ℕ) → gave given → step more → gives (given ++ more))

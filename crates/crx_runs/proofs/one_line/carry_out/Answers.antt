@@ -1,35 +1,14 @@
-use Rattle.std.proofs.Common.{◌<◌, true, [], ◌∷◌, length, take, Ok, Err, refl, sym, ap₂, subst, ◌∙◌, arith}
+use Rattle.std.proofs.lemmas.Grind.{common_steps}
+use Rattle.std.proofs.Common.{◌<◌, [], ◌∷◌, length, take, Err, refl, sym, ap₂, subst, ◌∙◌, arith}
 use Rattle.std.proofs.Common.{append-nil}
-use Rattle.crx_base.specs.meaning.Lines.{lines_text}
 use Rattle.crx_lines.specs.Devices.{sink_tally_of}
 use Rattle.crx_runs.specs.{declared.one_line.Halt.TheVariants.Unreported, meaning.Messages.warning_text}
-use Rattle.crx_runs.specs.{meaning.Spans.span, Engines.IsDrainedAfter, Taking.{IsSettled, made_by}}
+use Rattle.crx_runs.specs.{meaning.Spans.span, Taking.{IsSettled, made_by}}
 use Rattle.crx_runs.proofs.one_line.carry_out.Goals as goal
 
 pub returns-in-Ok-write_all_counted-clause-settled : goal.returns-in-Ok-write_all_counted-clause-settled
 unfolding warning_text
-returns-in-Ok-write_all_counted-clause-settled g c =
-    let ready = g.E.Engine.ready _ in
-    let w = c.args.writer.now in
-    let then = c.write_all_counted.new.writer in
-    let drained = subst (λ s. IsDrainedAfter s ready) c.in-Warned.is c.requires in
-    let same = c.bytes.ensures.value ∙ c.message.ensures.value ∙ sym (append-nil _) in
-    let e = c.in-Ok-write_all_counted.ensures in
-    subst (λ s. IsSettled (span g.W.Sink w w) (span g.M.Sink c.args.messages.now then) (made_by ready s)
-    (Ok true)) (sym c.in-Warned.is) (
-      record {
-        good = refl;
-        wrote = (
-          subst (λ r. g.W.Sink.took w (lines_text r) w) (sym drained) (g.met.W.Sink.took_none w),
-          refl,
-        );
-        reported = (
-          subst (λ t. g.M.Sink.took c.args.messages.now t then) same e.all,
-          ap₂ sink_tally_of e.good e.unasked,
-        );
-      },
-      refl,
-    )
+returns-in-Ok-write_all_counted-clause-settled = grind (arith, common_steps, append-nil)
 
 pub returns-in-Err-write_all_counted-clause-settled : goal.returns-in-Err-write_all_counted-clause-settled
 unfolding warning_text

@@ -1,4 +1,5 @@
-use Rattle.std.proofs.Common.{arith, ⊎_elim, Ok, refl, sym, ap, subst, ◌∙◌}
+use Rattle.std.proofs.lemmas.Grind.{common_steps}
+use Rattle.std.proofs.Common.{arith, ⊎_elim, Ok, refl, ap, ◌∙◌}
 use Rattle.std.proofs.lemmas.Result.{err_from_is_err_and}
 use Rattle.crx_runs.{proofs.one_line.take_answered.Given.Over, specs.declared.engine.Step.TheVariants.Warned}
 use Rattle.crx_runs.proofs.LinesTaken.{again-refused, again-settled, line-failed, line-refused, line-settled}
@@ -19,9 +20,6 @@ returns-in_err-warned g c = λ before a.
     in
     rw (p.1, p.2) (line-failed _ _ _ _ _ _ (rw (← c.in_ok-step.was) a) c.carry_out.ensures.kept
     c.in_err-warned.ensures.settled)
-
-pub offer-requires : goal.offer-requires
-offer-requires = grind arith
 
 pub returns-in_err-second-in-Warned : goal.returns-in_err-second-in-Warned
 returns-in_err-second-in-Warned g c = λ before a.
@@ -47,15 +45,10 @@ twice g c before a = again-settled _ (c.in-Warned.is ∙ ap (Warned c.in-Warned.
     c.carry_out-then-again.ensures.drained c.carry_out-then-again.ensures.settled
 
 pub returns-in_err-carry_out-in-Warned : goal.returns-in_err-carry_out-in-Warned
-returns-in_err-carry_out-in-Warned g c = λ before a.
-    let made = c.from_residual-in_err-carry_out-in-Warned in
-    let p = err_from_is_err_and made.result made.ensures.1 in
-    rw (p.1, p.2) (rw c.in_err-carry_out-in-Warned.was at
-    (twice g (goal.at.returns-in_err-carry_out-in-Warned g c).After-carry_out-then-again before a))
+returns-in_err-carry_out-in-Warned = grind (arith, common_steps, err_from_is_err_and, twice)
 
 pub returns-in_ok-carry_out-in-Warned : goal.returns-in_ok-carry_out-in-Warned
-returns-in_ok-carry_out-in-Warned g c = λ before a. rw c.in_ok-carry_out-in-Warned.was at
-    (twice g (goal.at.returns-in_ok-carry_out-in-Warned g c).After-carry_out-then-again before a)
+returns-in_ok-carry_out-in-Warned = grind (arith, common_steps, twice)
 
 -- A line that doesn't come a second time.
 once : (g : Over) (c : In_ok-warned g) → Stays c.in_ok-step.step → (before : g.row.E.Denot) → HasAnswered
@@ -66,9 +59,7 @@ once g c stays before a = line-settled _ _ _ _ _ _ (rw (← c.in_ok-step.was) a)
     c.in_ok-warned.ensures.drained c.in_ok-warned.ensures.settled
 
 pub returns-in-Quiet : goal.returns-in-Quiet
-returns-in-Quiet g c = once g (goal.at.returns-in-Quiet g c).In_ok-warned
-    (⊎_elim (λ e. subst Stays (sym e) tt) (λ e. subst Stays (sym e) tt) c.in-Quiet.is)
+returns-in-Quiet = grind (arith, common_steps, once, ⊎_elim)
 
 pub returns-else-again : goal.returns-else-again
-returns-else-again g c = once g (goal.at.returns-else-again g c).In_ok-warned
-    (subst Stays (sym (c.in-Warned.is ∙ ap (Warned c.in-Warned.notice) c.if-again.false)) tt)
+returns-else-again = grind (arith, common_steps, once)

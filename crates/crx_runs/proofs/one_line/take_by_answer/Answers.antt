@@ -1,11 +1,8 @@
-use Rattle.std.proofs.Common.{◌≡◌, arith, subst, sym}
+use Rattle.std.proofs.Common.{◌≡◌, subst, sym}
 use Rattle.crx_base.specs.meaning.Lines.{InputLine}
 use Rattle.crx_runs.specs.Taking.{HasAnswered, LineIsTaken}
 use Rattle.crx_runs.specs.meaning.Spans.{span}
 use Rattle.crx_runs.proofs.one_line.take_by_answer.Goals as goal
-
-pub take_answered-requires : goal.take_answered-requires
-take_answered-requires = grind arith
 
 pub returns : goal.returns
 returns g c = λ before answered.

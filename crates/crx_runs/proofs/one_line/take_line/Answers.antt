@@ -1,9 +1,8 @@
-use Rattle.std.proofs.Common.{◌≡◌, Bool, List, ℕ, arith, subst}
+use Rattle.std.proofs.lemmas.Grind.{common_steps}
+use Rattle.std.proofs.Common.{◌≡◌, Bool, List, ℕ, arith}
 use Rattle.crx_base.specs.meaning.Lines.{InputLine}
-use Rattle.crx_lines.specs.Reading.{line_shown}
 use Rattle.crx_runs.proofs.one_line.take_line.Given.{Over}
-use Rattle.crx_runs.specs.Taking.{HasAnswered, LineIsTaken}
-use Rattle.crx_runs.specs.meaning.Spans.{span}
+use Rattle.crx_runs.specs.Taking.{HasAnswered}
 use Rattle.crx_runs.proofs.one_line.take_line.Goals as goal
 
 -- What the engine answered to the line, which is given in its parts.
@@ -23,10 +22,4 @@ pub returns-then-take : goal.returns-then-take
 returns-then-take = grind arith
 
 pub returns : goal.returns
-returns g c = record {
-  taken = subst (λ shown. LineIsTaken g.E.Engine c.args.engine.now c.take_stored.new.engine (λ l. l ≡ shown)
-      (span g.W.Sink c.args.writer.now c.take_stored.new.writer)
-      (span g.M.Sink c.args.messages.now c.take_stored.new.messages) c.take_stored.result)
-      (shown-is (line_shown c.args.line) _ _ c.bytes.ensures.content c.plain.ensures.value)
-      (c.take_stored.ensures c.args.engine.now (answered g c));
-}
+returns = grind (arith, common_steps, shown-is, answered)

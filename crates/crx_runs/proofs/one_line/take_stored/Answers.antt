@@ -1,4 +1,4 @@
-use Rattle.std.proofs.Common.{◌≡◌, Err, List, Ok, ap, arith, false, refl, subst, sym, ℕ, [], ◌∙◌}
+use Rattle.std.proofs.Common.{Err, List, Ok, ap, arith, false, refl, subst, sym, ℕ, [], ◌∙◌}
 use Rattle.crx_base.specs.meaning.Lines.{lines_text}
 use Rattle.crx_runs.proofs.LinesTaken.{line-settled, ready-cut}
 use Rattle.crx_runs.specs.Taking.{HasAnswered, IsSettled, made_by}

@@ -1,3 +1,5 @@
+use Rattle.std.proofs.Common.{arith}
+use Rattle.std.proofs.lemmas.Grind.{common_steps}
 use Rattle.std.proofs.Common.{◌≡◌, [], ◌∷◌, ◌++◌, drop, sym, ap, ap₂, ◌∙◌, append_assoc}
 use Rattle.crx_base.specs.meaning.Lines.{lines_text}
 use Rattle.crx_lines.specs.Devices.{sink_tally_of}
@@ -10,13 +12,7 @@ use Rattle.crx_runs.proofs.ready_lines.write_ready.Goals as goal
 next-line : (g : Over) (c : In-Some-next_line g) → lines_text (g.E.Engine.ready c.args.engine.now)
     ≡ c.loop-line.invariant.0.0 ++ (c.in-Some-next_line.line.now
     ++ (10 ∷ [] ++ lines_text (drop 1 (g.E.Engine.ready c.loop-line.engine))))
-next-line g c =
-    let line = c.in-Some-next_line.line.now in
-    let lines = g.E.Engine.ready _ in
-    let so_far = c.loop-line.invariant.0 in
-    so_far.2 ∙ ap (λ ls. so_far.0 ++ lines_text ls)
-    (first-and-rest lines line c.in-Some-next_line.ensures.value)
-    ∙ ap (λ t. so_far.0 ++ t) (append_assoc line _ _)
+next-line = grind (arith, common_steps, first-and-rest)
 
 pub returns-in-Err-write_all_counted-clause-part : goal.returns-in-Err-write_all_counted-clause-part
 returns-in-Err-write_all_counted-clause-part g c =

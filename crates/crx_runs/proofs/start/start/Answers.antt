@@ -1,10 +1,7 @@
-use Rattle.std.{proofs.Common.{arith, refl}, specs.Prelude.⊤}
+use Rattle.std.{proofs.Common.{refl}, specs.Prelude.⊤}
 use Rattle.crx_runs.proofs.{Conclusions.runs-nothing, DeviceSpans.span-joins}
 use Rattle.crx_runs.specs.meaning.{Filters.Filter, Spans.reader_span}
 use Rattle.crx_runs.proofs.start.start.Goals as goal
-
-pub returns-in-Ok : goal.returns-in-Ok
-returns-in-Ok = grind arith
 
 pub returns-in-Err : goal.returns-in-Err
 returns-in-Err g c = record {

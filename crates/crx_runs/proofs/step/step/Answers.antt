@@ -3,8 +3,8 @@ use Rattle.std.proofs.Common.{subst, ◌∙◌, arith}
 use Rattle.crx_lines.specs.{Progress.HasRead, Reading.ReaderState, Readers.reading}
 use Rattle.crx_lines.specs.{declared.phase.Phase.TheVariants.Ended, meaning.Devices.{Tally, tally_of}}
 use Rattle.crx_base.specs.meaning.Lines.{InputLine}
-use Rattle.crx_runs.proofs.StepReading.{HasAsked, line-read, overlong-read, stop-read, end-read, line-passed}
-use Rattle.crx_runs.proofs.{StepReading.{overlong-passed, ended-not-open}, RunningSteps.{goes-by, ends-by}}
+use Rattle.crx_runs.proofs.StepReading.{HasAsked, line-read, overlong-read, stop-read, end-read}
+use Rattle.crx_runs.proofs.{StepReading.{ended-not-open}, RunningSteps.{goes-by, ends-by}}
 use Rattle.crx_runs.proofs.{step.step.Goals.After-next_line, step.step.Given.Over, DeviceSpans.span-joins}
 use Rattle.crx_runs.proofs.step.step.Goals as goal
 
@@ -22,9 +22,6 @@ asked : (g : Over) (c : After-next_line g)
     (g.R.Source.at_end c.next_line.new.reader) (counts g c.args.reader.now) (counts g c.next_line.new.reader)
     (reading c.args.input.now) (reading c.next_line.follows.lender-at-none) c.next_line.result
 asked = grind arith
-
-pub take_overlong-requires : goal.take_overlong-requires
-take_overlong-requires = grind arith
 
 pub returns-in_ok-take_line-in-Ok-Some-clause-goes : goal.returns-in_ok-take_line-in-Ok-Some-clause-goes
 returns-in_ok-take_line-in-Ok-Some-clause-goes g c = λ r0 w0 m0 lines shown running.
@@ -91,14 +88,3 @@ returns-in_default-clause-goes g c = λ r0 w0 m0 lines shown running.
     let stopped = stop-read (asked g at) (g.met.R.Source.gave_both r0 _ c.next_line.new.reader) running.read
     c.in-Err.at c.in-Err.is c.in_default.not-LineTooLong in
     inl (c.in-Err.at, refl, record { read = stopped.0; stopped = stopped.1; out = running.out })
-
-pub returns-in_ok-take_line-in-Ok-Some-clause-farther : goal.returns-in_ok-take_line-in-Ok-Some-clause-farther
-returns-in_ok-take_line-in-Ok-Some-clause-farther g c =
-    line-passed (asked g (goal.at.returns-in_ok-take_line-in-Ok-Some-clause-farther g c).After-next_line)
-    c.in-Ok-Some.line (c.in-Ok-Some.is ∙ ap Ok c.in-Ok-Some.field-0-is)
-
-pub returns-in_ok-take_overlong-in-LineTooLong-clause-farther :
-    goal.returns-in_ok-take_overlong-in-LineTooLong-clause-farther
-returns-in_ok-take_overlong-in-LineTooLong-clause-farther g c = overlong-passed (asked g
-    (goal.at.returns-in_ok-take_overlong-in-LineTooLong-clause-farther g c).After-next_line) c.in-Err.at
-    c.in-Err.is c.in-LineTooLong.is
