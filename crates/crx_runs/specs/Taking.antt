@@ -1,9 +1,9 @@
 -- What becomes of one line of the input.
-use Rattle.std.specs.Prelude.{◌≡◌, ◌≤◌, ℕ, ◌+◌, ⊤, Bool, true, List, [], ◌∷◌, None, Result, Ok, Err, IfOk, IfErr, OnOk}
+use Rattle.std.specs.Prelude.{◌≡◌, ◌≤◌, ℕ, ◌+◌, ⊤, Bool, true, List, [], ◌∷◌, length, None, Result, Ok, Err, IfOk, IfErr, OnOk}
 use Rattle.crx_base.specs.meaning.Lines.{InputLine, is_long, lines_text}
 use Rattle.crx_lines.specs.Reading.{line_shown, line_number}
 use Rattle.crx_base.specs.declared.fault.At.{At}
-use Rattle.crx_base.specs.declared.limits.TheConstants.{INPUT_LIMIT}
+use Rattle.crx_base.specs.declared.limits.TheConstants.{INPUT_LIMIT, LINE_LIMIT}
 use Rattle.crx_runs.specs.declared.engine.Engine.{Ghosts as EngineGhosts}
 use Rattle.crx_runs.specs.declared.engine.Step.{Step}
 use Rattle.crx_runs.specs.declared.engine.Step.TheVariants.{Quiet, Ready, Warned}
@@ -52,6 +52,17 @@ pub record HasAnswered {E : Type 0} (engine : EngineGhosts E)
   pub answers : (lines : List InputLine) (notices : List Awaited) (line : InputLine)
       → engine.shows before lines notices → IsAwaited notices line → can_be line
       → EngineAnswers (engine.filter before) (engine.shows now) (engine.ready now) lines notices line answer
+
+-- it is the line of this content, and LF alone ends it or doesn't
+abbrev pub IsLine : List ℕ → Bool → InputLine → Type 0
+IsLine content is_plain line = line ≡ record { content = content; is_plain = is_plain }
+
+-- an engine holds its answer to the line of this content and number, which it could take
+pub record HoldsAnswer {E : Type 0} (engine : EngineGhosts E) (now : E) (content : List ℕ) (number : ℕ)
+    (is_plain : Bool) : Type 0 where
+  pub short : length content ≤ LINE_LIMIT
+  pub answered : (before : E) × MayTake engine before number
+      × HasAnswered engine before now (IsLine content is_plain) (engine.answer now)
 
 -- lines were taken over from an engine, and nothing else of it changed
 pub record KeepsLines {E : Type 0} (engine : EngineGhosts E) (before now : E) : Type 0 where
@@ -103,3 +114,11 @@ pub record LineIsTaken {E : Type 0} (engine : EngineGhosts E) (before now : E)
       (with_next lines line)) (engine.shows now (with_next lines line) []) writer messages)
   pub cut : (lines : List InputLine) (line : InputLine) → engine.shows before lines [] → can_be line
       → IfErr result (LineEndsRun (engine.filter before) lines line writer messages)
+
+-- what an engine answered to the line of this content is done, so that the line is taken, whichever way the engine was
+-- before it
+abbrev pub AnswerIsDone : {E : Type 0} → EngineGhosts E → E → E → List ℕ → Bool → Device → Device → Result Bool Halt
+    → Type 0
+AnswerIsDone {E = E} engine answered now content is_plain writer messages result = (before : E)
+    → HasAnswered engine before answered (IsLine content is_plain) (engine.answer answered)
+    → LineIsTaken engine before now (IsLine content is_plain) writer messages result

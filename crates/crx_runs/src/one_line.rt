@@ -8,7 +8,7 @@ ghost use Rattle.crx_base.specs.declared.limits.TheConstants.{INPUT_LIMIT, LINE_
 ghost use Rattle.crx_runs.specs.Endings.{EndEndsRun};
 ghost use Rattle.crx_runs.specs.Engines.{IsDrainedAfter};
 ghost use Rattle.crx_runs.specs.declared.one_line.Halt.TheVariants as halts;
-ghost use Rattle.crx_runs.specs.Taking.{HasAnswered, IsDone, IsSettled, IsTouchedBy, KeepsLines, LineIsTaken, MayTake, TakenIs, made_by, number_taken};
+ghost use Rattle.crx_runs.specs.Taking.{AnswerIsDone, HasAnswered, HoldsAnswer, IsDone, IsSettled, IsTouchedBy, KeepsLines, LineIsTaken, MayTake, TakenIs, made_by, number_taken};
 ghost use Rattle.crx_runs.specs.meaning.Spans.{span};
 
 use crate::engine::{Engine, Step, answer_given};
@@ -156,14 +156,8 @@ fn take_stored<E: Engine, W: Sink, M: Sink>(
     number: u64,
     is_plain: bool,
 ) -> Result<bool, Halt>
-    requires short { length content.now ≤ LINE_LIMIT }
-    requires answered { (before : E) × MayTake E.Engine before number
-        × HasAnswered E.Engine before engine.old
-        (λ l. l ≡ record { content = content.now; is_plain = is_plain }) (E.answer engine.old) }
-    ensures { (before : E)
-        → HasAnswered E.Engine before engine.old
-        (λ l. l ≡ record { content = content.now; is_plain = is_plain }) (E.answer engine.old)
-        → LineIsTaken E.Engine before engine.new (λ l. l ≡ record { content = content.now; is_plain = is_plain })
+    requires { HoldsAnswer E.Engine engine.old content.now number is_plain }
+    ensures { AnswerIsDone E.Engine engine.old engine.new content.now is_plain
         (span W.Sink writer.old writer.new) (span M.Sink messages.old messages.new) result }
 {
     // Most of these lines are copied: this way saves 70 instructions for each of them.
@@ -187,14 +181,8 @@ fn take_by_answer<E: Engine, W: Sink, M: Sink>(
     number: u64,
     is_plain: bool,
 ) -> Result<bool, Halt>
-    requires short { length content.now ≤ LINE_LIMIT }
-    requires answered { (before : E) × MayTake E.Engine before number
-        × HasAnswered E.Engine before engine.old
-        (λ l. l ≡ record { content = content.now; is_plain = is_plain }) (E.answer engine.old) }
-    ensures { (before : E)
-        → HasAnswered E.Engine before engine.old
-        (λ l. l ≡ record { content = content.now; is_plain = is_plain }) (E.answer engine.old)
-        → LineIsTaken E.Engine before engine.new (λ l. l ≡ record { content = content.now; is_plain = is_plain })
+    requires { HoldsAnswer E.Engine engine.old content.now number is_plain }
+    ensures { AnswerIsDone E.Engine engine.old engine.new content.now is_plain
         (span W.Sink writer.old writer.new) (span M.Sink messages.old messages.new) result }
 {
     let answer = engine.answer();

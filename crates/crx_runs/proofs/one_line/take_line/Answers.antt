@@ -15,8 +15,8 @@ shown-is : (shown : InputLine) (content : List ℕ) (plain : Bool) → content �
     → record { content = content; is_plain = plain } ≡ shown
 shown-is = grind arith
 
-pub take_stored-requires-clause-answered : goal.take_stored-requires-clause-answered
-take_stored-requires-clause-answered = grind arith
+pub take_stored-requires : goal.take_stored-requires
+take_stored-requires = grind arith
 
 pub returns-then-take : goal.returns-then-take
 returns-then-take = grind arith
