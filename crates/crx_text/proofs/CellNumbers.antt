@@ -1,11 +1,11 @@
 -- Reading the number in a cell, up to the first blank of a line.
-use Rattle.std.proofs.Common.{true, false, ℕ, ℤ, ◌≡◌, ◌==◌, ◌<◌, Bool, List, [], ◌∷◌, length, Option, Some}
-use Rattle.std.proofs.Common.{None, if◌then◌else◌, ◌&&◌, ◌||◌, ◌-◌, inl, inr, arith, refl, ap, get_or, eqb}
+use Rattle.std.proofs.Common.{true, false, ℕ, ℤ, ◌≡◌, ◌<◌, Bool, List, [], ◌∷◌, length, Option, Some}
+use Rattle.std.proofs.Common.{None, ◌&&◌, inl, inr, arith, refl, ap, get_or, eqb}
 use Rattle.std.proofs.lemmas.{Bool.{cases_eq, ne_eqb, Decides.nat_tests}, Grind.common_steps}
 use Rattle.std.specs.{Char.is_ascii_digit, List.list_any, Option.option_map, Str.all_ascii_digits}
 use Rattle.std.specs.Str.Parse.{starts_with_minus}
-use Rattle.crx_text.specs.{Codes.counted_digits, declared.code.Code.TheVariants.{Start, Step}}
-use Rattle.crx_text.specs.meaning.Codes.{code_of, coded_number, first_cell, is_order, start_of}
+use Rattle.crx_text.specs.{Codes.counted_digits, declared.code.Code.TheVariants.{Step}}
+use Rattle.crx_text.specs.meaning.Codes.{code_of, coded_number, first_cell}
 use Rattle.crx_text.specs.meaning.Numbers.{signed_number, without_minus}
 
 -- the number in a cell, by its minus and its digits
@@ -77,24 +77,4 @@ no_number_with_blank = grind (arith, common_steps, cases_eq, no_digits, blank_is
 
 -- a blank is in no code
 pub no_code_with_blank : (text : List ℕ) → list_any (λ c. eqb c 32) text ≡ true → code_of text ≡ None
-no_code_with_blank [] some = absurd (cc)
-no_code_with_blank (c ∷ []) some = ap (option_map Step) (no_number_with_blank (c ∷ []) some)
-no_code_with_blank (c ∷ d ∷ cs) some =
-    elim (cases_eq d 38) [
-      | inl and ↦ let is : d ≡ 38 = and in rw is (after_start c cs (rw is at some))
-      | inr other ↦
-          let test : (d == 38) ≡ false = grind (arith, nat_tests) in
-          rw test (ap (option_map Step) (no_number_with_blank (c ∷ d ∷ cs) some))
-    ]
-  where
-    after_start : (c : ℕ) (cs : List ℕ) → (eqb c 32 || list_any (λ c. eqb c 32) cs) ≡ true → start_of c cs
-        ≡ None
-    after_start c cs some =
-        elim (cases_eq c 32) [
-          | inl blank ↦ let e : c ≡ 32 = blank in rw e refl
-          | inr other ↦
-              let test : eqb c 32 ≡ false = ne_eqb c 32 other in
-              let none = no_number_with_blank cs (rw test at some) in
-              elim (is_order c) as (λ b. (if b then option_map (Start (c - 48)) (coded_number cs) else None)
-              ≡ None) [ true ↦ rw none refl | false ↦ refl ]
-        ]
+no_code_with_blank = grind (arith, common_steps, no_number_with_blank, cases_eq, nat_tests, ne_eqb)

@@ -1,6 +1,6 @@
 -- Printed codes.
 use Rattle.std.proofs.Common.{rules, true, false, ◌≡◌, ◌≢◌, ℕ, ℤ, pos, negsuc, neg_ℤ, ◌+◌, ◌≤◌, ◌<◌, ◌^◌}
-use Rattle.std.proofs.Common.{List, ◌∷◌, ◌++◌, length, get_or, take, slice_set, decimal, Some, inl, inr}
+use Rattle.std.proofs.Common.{List, ◌∷◌, ◌++◌, length, get_or, take, slice_set, decimal, Some}
 use Rattle.std.proofs.{Common.{arith, ap, sym, ◌∙◌, refl}, lemmas.Bool.{cases_lt, Decides.nat_tests}}
 use Rattle.std.proofs.lemmas.{Fmt.{decimal_digit, decimal_nonempty, length-decimal-le}, Grind.common_steps}
 use Rattle.std.proofs.lemmas.{List.{append_assoc, get_or_past}, Str.Parse.not_in_digits}
@@ -34,11 +34,7 @@ start_written bytes number at order room = grind (arith, common_steps, two_writt
 -- ---- reading back
 
 pub no_mark_in_digits : (ds : List ℕ) (i : ℕ) → all_ascii_digits ds ≡ true → get_or ds i 0 ≢ 38
-no_mark_in_digits ds i digits =
-    elim (cases_lt i (length ds)) as (λ _. get_or ds i 0 ≢ 38) [
-      | inl within ↦ not_in_digits digits_own ds 38 digits (λ range. omega (arith, range)) i within
-      | inr past ↦ let e = get_or_past ds i 0 past in omega (arith, e)
-    ]
+no_mark_in_digits = search (rules, cases_lt, get_or, not_in_digits, digits_own, get_or_past)
 
 pub without_minus-digits : (text : List ℕ) → get_or text 0 0 ≢ 45 → without_minus text ≡ text
 without_minus-digits = grind (arith, common_steps)
@@ -68,8 +64,7 @@ pub code_of_step : (text : List ℕ) → 0 < length text → get_or text 1 0 ≢
 code_of_step = grind (arith, common_steps)
 
 pub code_of-signed_decimal : (z : ℤ) → IsShort z → code_of (signed_decimal z) ≡ step_of (signed_decimal z)
-code_of-signed_decimal =
-    grind (arith, common_steps, code_of_step, decimal_nonempty, no_mark_in_digits, decimal, decimal_is_digits)
+code_of-signed_decimal = search (rules, code_of_step, decimal_nonempty, no_mark_in_digits, decimal_is_digits)
 
 pub code_of_start : (order : ℕ) (value : ℤ) → order ≤ ORDER_LIMIT
     → IsShort value → code_of ((48 + order) ∷ 38 ∷ signed_decimal value) ≡ Some (Start order value)

@@ -5,5 +5,4 @@ use Rattle.std.{proofs.lemmas.{List.length-take-le, Simd.put_chunk_is}, specs.Si
 pub copied_ends : (n : ℕ) (from out : List ℕ) → n ≤ length from → length from ≤ n + n
     → length out ≡ length from
     → put_chunk (length from - n) (put_chunk 0 out (take n from)) (chunk (length from - n) n from) ≡ from
-copied_ends n from out some few room =
-    grind (arith, common_steps, chunk, length-take-le, put_chunk, put_chunk_is)
+copied_ends = grind (arith, common_steps, length-take-le, put_chunk_is)

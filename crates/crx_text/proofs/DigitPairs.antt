@@ -52,8 +52,7 @@ few_zeros n = grind (arith, common_steps, ltb, bool_byte)
 
 -- a number's own digits are after those zeros
 own_digits : (n : ℕ) → n < 10000 → drop (zeros_of n) (four n) ≡ decimal n
-own_digits n small =
-    search (rules, cases_lt, lt-ltb, decimal_digit, le-ltb, decimal_two, decimal, pair, decimal_pair, four)
+own_digits = search (rules, cases_lt, lt-ltb, decimal_digit, le-ltb, decimal_two, pair, decimal_pair)
 
 pub zeros_counted : (n : ℕ) → n < 10000 → zeros_of n + length (decimal n) ≡ 4
 zeros_counted n small =
@@ -86,8 +85,7 @@ pub four_written : (first second third : List ℕ) (size at middle : ℕ)
     → 10000 ≤ size → size < 2 ^ 64 → take middle second ≡ take at first ++ decimal (size / 10000) →
     take (middle + 4) third ≡ take middle second ++ four (size - size / 10000 * 10000)
     → take (middle + 4) third ≡ take at first ++ decimal size
-four_written first second third size at middle many fits one two =
-    grind (arith, common_steps, joined, one, decimal, four, decimal_four)
+four_written = grind (arith, common_steps, joined, decimal_four)
 
 -- ---- the zeros before a number, by the lowest bit of its digits
 

@@ -78,8 +78,7 @@ some_of_field byte xs long = grind (arith, common_steps, not, nat_eq, fourteen_b
 pub each_of_field : (byte : ℕ) (xs : List ℕ) → length xs ≡ 16
     → nat_eq (bit_and (mask_l (map (top 7) (zip2 (λ a b. cond (eqb a b) 255 0) xs (replicate 16 byte))) % 2 ^
     64) 16383) 16383 ≡ list_all (λ c. eqb c byte) (take 14 xs)
-each_of_field byte xs long =
-    grind (arith, common_steps, fourteen, length-take-le, nat_eq, fourteen_bits, mask_l, eqb, all_bits)
+each_of_field = grind (arith, common_steps, fourteen, length-take-le, nat_eq, fourteen_bits, all_bits)
 
 -- ---- the lanes of masks, which are 255 or 0
 

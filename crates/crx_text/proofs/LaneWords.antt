@@ -56,9 +56,7 @@ character_lanes olds marks first second =
 -- ---- tests
 
 or_none : (a b : ℕ) → eqb (bit_or a b) 0 ≡ (eqb a 0 && eqb b 0)
-or_none zero zero = refl
-or_none (suc a) b = grind (arith, common_steps, le_or_l (suc a) b, ne_eqb)
-or_none zero (suc b) = grind arith
+or_none = grind (arith, common_steps, le_or_l, ne_eqb)
 
 abbrev unset : ℕ → Bool
 unset lane = eqb lane 0

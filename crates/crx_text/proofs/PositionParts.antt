@@ -35,8 +35,7 @@ module _ (f : ℕ → ℕ → ℕ) (old other front rest more others : List ℕ)
   pub old_is_longer : length other ≡ k → length old ≤ LINE_LIMIT
       → rest ≡ zip2 f (take (length old - k) (drop k old)) (take (length old - k) (drop k BLANKS)) →
       take (length old) (take k (front ++ more) ++ (rest ++ others)) ≡ by_position f old other
-  old_is_longer ends within rest_is =
-      grind (arith, common_steps, some_blanks, by_position-old, length-zip2, two_parts, by_parts)
+  old_is_longer = grind (arith, common_steps, some_blanks, by_position-old, length-zip2, two_parts, by_parts)
 
   pub other_is_longer : length old ≡ k → length other ≤ LINE_LIMIT
       → rest ≡ zip2 f (take (length other - k) (drop k BLANKS)) (take (length other - k) (drop k other)) →

@@ -46,8 +46,7 @@ pub size_of_pieces : (decimals w f : ℕ) (whole fraction : List ℕ) → length
     → all_ascii_digits whole ≡ true → all_ascii_digits fraction ≡ true → digits_value_after 10 0 whole ≡ w
     → digits_value_after 10 0 fraction ≡ f → size_of decimals (whole ++ 46 ∷ fraction)
     ≡ Some (w * 10 ^ decimals + f)
-size_of_pieces decimals w f whole fraction count whole_digits fraction_digits whole_is fraction_is =
-    grind (arith, common_steps, get_or_at, digits_value_after, digits_behind, size_of_parts)
+size_of_pieces = grind (arith, common_steps, get_or_at, digits_behind, size_of_parts)
 
 -- a size is read back from its text
 pub size_of-size_text : (decimals size : ℕ)
@@ -82,15 +81,13 @@ pub decimal_first : (n : ℕ) → n < 2 ^ 64 → 48 ≤ get_or (decimal n) 0 0
 decimal_first = grind (arith, common_steps, decimal_digit, first_decimal)
 
 pub size_text_first : (decimals size : ℕ) → size < 2 ^ 64 → 48 ≤ get_or (size_text decimals size) 0 0
-size_text_first decimals size small =
-    grind (arith, common_steps, div-le_self, decimal_nonempty, decimal, decimal_first)
+size_text_first = grind (arith, common_steps, div-le_self, decimal_nonempty, decimal_first)
 
 -- a text after its blanks, in a field that it fills
 pub number_of-right_justified : (width decimals : ℕ) (text : List ℕ) (number : ℤ)
     → length text ≤ width → 0 < length text → get_or text 0 0 ≢ 32 → decimal_number decimals text ≡ Some
     number → number_of width decimals (right_justified width text) ≡ Some (Some number)
-number_of-right_justified width decimals text number fits some other reads =
-    grind (arith, common_steps, number_of_width, without_first_blanks-blanks)
+number_of-right_justified = grind (arith, common_steps, number_of_width, without_first_blanks-blanks)
 
 pub number_of-number_text_plain : (width decimals size : ℕ)
     → 0 < decimals → decimals + 3 ≤ width → width ≤ 19 → size < 10 ^ (width - 1)

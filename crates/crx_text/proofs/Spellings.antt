@@ -23,8 +23,7 @@ length-zero_padded digits number fits = grind (arith, common_steps, length-appen
 
 pub length-size_text : (decimals size : ℕ) → 0 < decimals → decimals < 19 → length (size_text decimals size)
     ≡ length (decimal (size / 10 ^ decimals)) + (decimals + 1)
-length-size_text decimals size some few =
-    grind (arith, common_steps, length-zero_padded, fraction_short, length-append, decimal, zero_padded)
+length-size_text = grind (arith, common_steps, length-zero_padded, fraction_short, length-append)
 
 -- a number below a power of ten fits the columns but for the point
 pub size_text_fits : (decimals size columns : ℕ) → 0 < decimals

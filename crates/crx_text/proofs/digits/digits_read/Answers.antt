@@ -1,4 +1,4 @@
-use Rattle.std.proofs.{Common.{rules, ◌-◌, ◌*◌, arith}, lemmas.Grind.common_steps}
+use Rattle.std.proofs.{Common.{rules, arith}, lemmas.Grind.common_steps}
 use Rattle.crx_text.proofs.PowersOfTen.{ten_pow_pos, one_more_digit, next_is_small, pow_left, all_digits_next}
 use Rattle.crx_text.proofs.PowersOfTen.{digits_value_next}
 use Rattle.crx_text.proofs.digits.digits_read.Goals as goal
@@ -7,9 +7,7 @@ pub overflow_mul-size : goal.overflow_mul-size
 overflow_mul-size c = grind (arith, common_steps, pow_left, next_is_small, ten_pow_pos)
 
 pub overflow_add-size : goal.overflow_add-size
-overflow_add-size c =
-    search (rules, pow_left, c.loop-digit-test.true, c.loop-digit.invariant.2, next_is_small, ten_pow_pos)
+overflow_add-size = grind (arith, common_steps, pow_left, next_is_small, ten_pow_pos)
 
 pub loop-digit-preserved : goal.loop-digit-preserved
-loop-digit-preserved c =
-    grind (arith, common_steps, pow_left, all_digits_next, digits_value_next, one_more_digit)
+loop-digit-preserved = search (rules, pow_left, all_digits_next, digits_value_next, one_more_digit)

@@ -3,8 +3,4 @@ use Rattle.crx_text.proofs.{CodeTexts.code_of-code_text, ReadBack.number_of-numb
 use Rattle.crx_text.proofs.laws.numbers_are_read_back.Goals as goal
 
 pub returns : goal.returns
-returns c = record {
-  observation = grind (arith, common_steps, number_of-number_text);
-  clock = grind (arith, common_steps, number_of-number_text);
-  code = code_of-code_text _ c.requires.code;
-}
+returns = grind (arith, common_steps, number_of-number_text, code_of-code_text)

@@ -1,5 +1,4 @@
 use Rattle.std.proofs.{Common.{◌≤◌, length, w64, arith, rules}, lemmas.{Grind.common_steps, Int.to_z-of_z}}
-use Rattle.std.specs.Option.{option_map}
 use mir.Val.{SFits}
 use Rattle.crx_text.proofs.Sizes.{IsWithin_more, number_of_width, signed_is_within, size_fits}
 use Rattle.crx_text.proofs.Sizes.{missing_or_number_blank, missing_or_number_text}
@@ -15,8 +14,7 @@ signed-requires c =
     c.in-Some.ensures.fits
 
 pub returns-in-Some-clause-value : goal.returns-in-Some-clause-value
-returns-in-Some-clause-value c =
-    grind (arith, common_steps, w64, number_of_width, missing_or_number_text, option_map)
+returns-in-Some-clause-value = grind (arith, common_steps, number_of_width, missing_or_number_text)
 
 pub returns-in-Some-clause-in_range : goal.returns-in-Some-clause-in_range
 returns-in-Some-clause-in_range c =
@@ -27,5 +25,4 @@ returns-in-Some-clause-in_range c =
     (signed_is_within _ _ _ _ c.split_minus-is_below.ensures.shorter c.in-Some.ensures.fits))
 
 pub returns-in-None-clause-value : goal.returns-in-None-clause-value
-returns-in-None-clause-value c =
-    grind (arith, common_steps, number_of_width, missing_or_number_text, option_map)
+returns-in-None-clause-value = grind (arith, common_steps, number_of_width, missing_or_number_text)

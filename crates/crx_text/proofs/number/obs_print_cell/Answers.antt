@@ -2,7 +2,7 @@ use Rattle.std.proofs.Common.{◌≡◌, ◌≤◌, ℕ, ◌+◌, List, [], ◌�
 use Rattle.std.proofs.lemmas.{Grind.common_steps, List.{length-take-le, length-drop, take-take}}
 use Rattle.std.proofs.lemmas.Slice.{take-put_mid}
 use lib.Seq.{take-append-add}
-use borrow.Rule.Slice.PartMut.{put_mid, same_len_mid}
+use borrow.Rule.Slice.PartMut.{put_mid}
 use Rattle.crx_text.proofs.number.obs_print_cell.Goals as goal
 
 -- the first 14 bytes of a part of some bytes
@@ -15,8 +15,7 @@ field_written bytes part at k long sixteen room =
 cell_written : (bytes part : List ℕ) (at k one two : ℕ) → length part ≡ 16 → k ≡ 16 → at + 16 ≤ length bytes
     → take (at + 14 + 2) (set (set (put_mid at k bytes part) (at + 14) one) (at + 14 + 1) two)
     ≡ take at bytes ++ (take 14 part ++ one ∷ two ∷ [])
-cell_written bytes part at k one two long sixteen room =
-    grind (arith, common_steps, put_mid, length-take-le, same_len_mid, field_written)
+cell_written = grind (arith, common_steps, length-take-le, field_written)
 
 pub returns : goal.returns
 returns c = grind (arith, common_steps, length-take-le, length-drop, get_or, set, cell_written)

@@ -1,6 +1,5 @@
 use Rattle.std.proofs.{Common.{◌+◌, ◌-◌, ◌≤◌, length, take, drop, ℕ, arith}, lemmas.Grind.common_steps}
-use Rattle.std.{proofs.lemmas.List.{length-take, length-drop, take_rest}, specs.Str.all_ascii_digits}
-use Rattle.std.specs.Str.Parse.{digits_value_after}
+use Rattle.std.{proofs.lemmas.List.{length-take, length-drop, take_rest}}
 use Rattle.crx_text.proofs.{PowersOfTen.more_digits_fit, Sizes.{size_of_parts, neither, first_passed}}
 use Rattle.crx_text.proofs.number.size_read.Goals as goal
 
@@ -22,8 +21,7 @@ digits_read-requires-2 c =
     more_digits_fit _ _ _ 18 c.in_ok-whole.ensures.fits (omega (arith, c.requires, length-take point text))
 
 pub returns-clause-value : goal.returns-clause-value
-returns-clause-value c =
-    grind (arith, common_steps, size_of_parts, take_rest, first_passed, all_ascii_digits, digits_value_after)
+returns-clause-value = grind (arith, common_steps, size_of_parts, take_rest, first_passed)
 
 pub returns-clause-fits : goal.returns-clause-fits
 returns-clause-fits c = grind (arith, common_steps, more_digits_fit, length-take, length-drop)
