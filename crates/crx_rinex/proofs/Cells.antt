@@ -94,8 +94,7 @@ pub cells_more : (line : List ℕ) (values : List (Option ℤ)) (flags : List �
     → a ≡ character_at line (16 * k + 18) → b ≡ character_at line (16 * k + 19)
     → AreCellsRead (k + 1) line (slice_set values k value) (slice_set (slice_set flags (2 * k) a) (2 * k + 1)
     b)
-cells_more line values flags k a b value h within read fits lock strength =
-    grind (arith, common_steps, take_more_set, length-set, slice_set, values_in_more, pair_pushed)
+cells_more = grind (arith, common_steps, take_more_set, length-set, values_in_more, pair_pushed)
 
 -- another value after them is no loss
 pub cells_kept : (line : List ℕ) (values : List (Option ℤ)) (flags : List ℕ) (k : ℕ) (value : Option ℤ)
@@ -140,8 +139,7 @@ pub sound-written : (name : List ℕ) (values old_values : List (Option ℤ)) (f
       values = take n (values ++ drop (length values) old_values);
       flags = take k (flags ++ drop (length flags) old_flags);
     })
-sound-written name values old_values flags old_flags m n k named allowed long pairs n_is k_is ranged kept =
-    grind (arith, common_steps, take_at, sound-cells)
+sound-written = grind (arith, common_steps, take_at, sound-cells)
 
 -- rows stay sound
 pub sound-blank : (name : List ℕ) (m : ℕ) → is_identifier name ≡ true → IsAllowedCount m
@@ -180,5 +178,4 @@ sound-with_value row k value h sound =
 
 pub sound-with_flags : (row : Row) (flags : List ℕ) → IsSoundRow row
     → length flags ≤ 2 * length row.values → list_all is_kept flags ≡ true → IsSoundRow (with_flags row flags)
-sound-with_flags row flags h small kept =
-    grind (arith, common_steps, replicate, and_from, list_all, all_kept_blanks)
+sound-with_flags = grind (arith, common_steps, and_from, all_kept_blanks)

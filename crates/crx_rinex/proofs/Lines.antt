@@ -32,6 +32,4 @@ none-copied = grind (arith, common_steps, true≢false)
 pub all-handed_out : {A B : Type 0} (f : A → B) (first : B) (xs : List A) (n : ℕ) (b : Bool)
     (o : Option (Bor A)) → 0 < n → is_some o ≡ not b → option_copied o ≡ slice_get xs (n - 1)
     → IsTrue b ↔ (drop n (first ∷ map f xs) ≡ [])
-all-handed_out f first xs zero b o less is at = absurd (omega (arith, less))
-all-handed_out f first xs (suc n) b o less is at =
-    grind (arith, common_steps, none-copied, is_none, slice_get, none-left)
+all-handed_out = grind (arith, common_steps, none-copied, is_none, slice_get, none-left)

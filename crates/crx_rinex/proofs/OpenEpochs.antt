@@ -1,4 +1,5 @@
 -- Epochs whose lines come one after another.
+use Rattle.std.proofs.Common.{rules}
 use Rattle.std.proofs.Common.{◌≡◌, ℕ, ◌-◌, ◌<◌, zero, suc, List, [], ◌∷◌, ◌++◌, length, Option, Some, None}
 use Rattle.std.proofs.Common.{Result, refl, ap, sym, subst, ◌∙◌, inl, inr, arith, append-nil}
 use Rattle.std.{proofs.lemmas.{Grind.common_steps, Option.none-some}, specs.Prelude.⊤}
@@ -11,7 +12,7 @@ use Rattle.crx_rinex.specs.{Steady.IsSteady, meaning.EpochPlaces.{OpenEpoch, Beg
 use Rattle.crx_rinex.specs.meaning.EpochPlaces.{EpochBegins, opened, rows_wanted, with_next_row, row_at}
 use Rattle.crx_rinex.specs.meaning.EpochPlaces.{rows_at, rest_at, beginning_of, unit_begun, epoch_place}
 use Rattle.crx_rinex.specs.meaning.{Observations.{Row, Epoch}, Places.{Place, Here, Wrong, Wanted}}
-use Rattle.crx_rinex.specs.meaning.{Places.{after_lines, then_place, one_line, first_line}, Units.Unit}
+use Rattle.crx_rinex.specs.meaning.{Places.{after_lines, then_place, one_line}, Units.Unit}
 use Rattle.crx_rinex.specs.meaning.Units.{Observation}
 use Rattle.crx_header.specs.meaning.ObservationTypes.{Count}
 
@@ -32,8 +33,7 @@ steady-begun types (EpochBegins head) = steady-then (rest_at (opened types head)
     Here _ 0) (steady-rest (opened types head)) (λ epoch. steady-here (Observation epoch))
 
 pub steady-epoch_place : (types : List Count) → IsSteady (epoch_place types)
-steady-epoch_place types = steady-then (λ lines. first_line lines _) _ (steady-first_line _)
-    (steady-begun types)
+steady-epoch_place = search (rules, steady-then, steady-first_line, steady-begun)
 
 -- ---- one line of an open epoch
 
@@ -98,15 +98,7 @@ goes_on_after : (so_far later : OpenEpoch) (line : ReadLine) (lines : List ReadL
     → ((next : OpenEpoch) → 0 < rows_wanted next → open_after (Some next) lines ≡ Some later
     → GoesOn next later lines) → 0 < rows_wanted so_far → epoch_step so_far line ≡ step
     → IsGoing step → open_after (still_open step) lines ≡ Some later → GoesOn so_far later (line ∷ lines)
-goes_on_after so_far later line lines (Going next) ih h e wants left =
-    let on = ih next wants left in
-    record {
-      wants = on.wants;
-      rest = λ more. step_at so_far line _ h ∙ ap (λ s. after_step s (lines ++ more)) e ∙ ap (after_lines 1)
-          (on.rest more) ∙ one_more_before _ _;
-    }
-goes_on_after so_far later line lines (Whole epoch) ih h e wants left = absurd (none-some later left)
-goes_on_after so_far later line lines (Faulty fault) ih h e wants left = absurd (none-some later left)
+goes_on_after = grind (arith, common_steps, step_at, one_more_before, none-some)
 
 goes_on : (so_far later : OpenEpoch) (lines : List ReadLine)
     → 0 < rows_wanted so_far → open_after (Some so_far) lines ≡ Some later → GoesOn so_far later lines

@@ -6,7 +6,7 @@ use Rattle.std.proofs.lemmas.{List.{length-take, length-drop}, Option.{cond_some
 use Rattle.std.proofs.lemmas.Str.Parse.{digits_value_short, numerals_by_value, tells_all_ascii_digits}
 use Rattle.std.specs.{Bool.nat_lt, Option.option_map, Prelude.{ℤ, slice_index}, Str.all_ascii_digits}
 use Rattle.std.specs.Str.Parse.{digits_value}
-use Rattle.crx_text.{proofs.Sizes.{signed_is_within, IsWithin_more}, specs.meaning.Columns.is_blank}
+use Rattle.crx_text.{proofs.Sizes.{signed_is_within, IsWithin_more}}
 use Rattle.crx_text.specs.meaning.{Columns.without_first_blanks, Numbers.{size_of, decimal_number}}
 use Rattle.crx_text.specs.meaning.Numbers.{signed_number, missing_or_number, number_of, observation_of}
 use Rattle.crx_text.specs.meaning.Numbers.{clock_of, IsWithin, IsMissingOrWithin, IsValue}
@@ -59,11 +59,7 @@ decimal_within decimals (c ∷ cs) v =
 
 first_blanks_shorter : (text : List ℕ) → length (without_first_blanks text) ≤ length text
 first_blanks_shorter [] = omega arith
-first_blanks_shorter (c ∷ cs) =
-    elim (is_blank c) as (λ b. length (cond b (without_first_blanks cs) (c ∷ cs)) ≤ length (c ∷ cs)) [
-      | true ↦ let e = first_blanks_shorter cs in omega (arith, e)
-      | false ↦ omega arith
-    ]
+first_blanks_shorter (c ∷ cs) = grind (arith, common_steps, first_blanks_shorter cs)
 
 found_within : (decimals : ℕ) (text : List ℕ) (s : Option ℤ) (o : Option ℤ)
     → decimal_number decimals text ≡ s → option_map Some s ≡ Some o → IsMissingOrWithin (length text) o

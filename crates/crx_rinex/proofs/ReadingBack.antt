@@ -140,8 +140,7 @@ length-row row h = grind (arith, common_steps, name-length, printed_cells, lengt
 
 after-text : (line text : List ℕ) (n : ℕ)
     → length text ≡ n → ((p : ℕ) → at line p ≡ at text p) → list_all is_blank (drop n line) ≡ true
-after-text line text n e same =
-    grind (arith, common_steps, list_all-from_at, is_blank, at-drop, append-nil, at-append_past)
+after-text = grind (arith, common_steps, list_all-from_at, at-drop, append-nil, at-append_past)
 
 row-chosen : (m : ℕ) (line name flags : List ℕ) (values : List (Option ℤ))
     → list_all is_blank (drop (16 * m + 3) line)

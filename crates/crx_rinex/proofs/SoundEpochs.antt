@@ -1,9 +1,9 @@
 -- What is read of an observation epoch is sound.
 use Rattle.std.proofs.Common.{rules, ◌≡◌, ℕ, ℤ, ◌+◌, ◌*◌, ◌≤◌, zero, suc, Bool, true, false, not, cond, List}
 use Rattle.std.proofs.Common.{[], ◌∷◌, length, drop, Option, Some, None, IfSome, OnSome, unwrap_or, Result}
-use Rattle.std.proofs.{Common.{Ok, Err, refl, ap, sym, subst, ◌∙◌, arith}, lemmas.Bool.and_from}
+use Rattle.std.proofs.{Common.{Ok, Err, refl, ap, subst, ◌∙◌, arith}, lemmas.Bool.and_from}
 use Rattle.std.proofs.lemmas.{Grind.common_steps, List.{length_push, length-append, Elements.All-cons}}
-use Rattle.std.proofs.lemmas.{List.Elements.{All-nil, All-push}, Option.{option_and_then_some, same_Some}}
+use Rattle.std.proofs.lemmas.{List.Elements.{All-push}, Option.{option_and_then_some, same_Some}}
 use Rattle.std.{proofs.lemmas.Option.none-some, specs.{List.{list_all, AllByRecursion}, Prelude.{⊤, All}}}
 use Rattle.crx_text.proofs.{Characters.length-columns, EachPlace.{each_place-all, length-each_place}}
 use Rattle.crx_text.specs.meaning.{Columns.{character_at, columns, is_blank}, EachPlace.each_place}
@@ -95,19 +95,7 @@ flags_case : (types : List Count) (line : List ℕ) (m : ℕ) (values : List (Op
     → types_of_satellite types line ≡ Some m → IsTyped line m → AreValues m values
     → (b : Bool) → list_all is_kept (flags_in m line) ≡ b → IsSoundRead types (cond (not b) (Err BadFlags)
     (Ok (record { name = columns line 1 3; values = values; flags = flags_in m line })))
-flags_case types line m values e t v false k = tt
-flags_case types line m values e t v true k =
-    let pairs = flags_long line m in
-    let same = v.long in (
-      record {
-        named = t.named;
-        counted = subst IsAllowedCount (sym same) t.counted;
-        ranged = v.ranged;
-        paired = omega (arith, pairs, same);
-        kept = k;
-      },
-      name_types types line ∙ e ∙ ap (λ n. Some n) (sym same),
-    )
+flags_case = search (rules, flags_long, name_types)
 
 values_case : (types : List Count) (line : List ℕ) (m : ℕ) → types_of_satellite types line ≡ Some m
     → IsTyped line m → (o : Option (List (Option ℤ))) → values_in m line ≡ o
@@ -188,8 +176,7 @@ pub record IsSoundSoFar (so_far : OpenEpoch) : Type 0 where
 
 pub sound-opened : (types : List Count) (head : ObservationHead)
     → IsObservationHead head → IsSoundSoFar (opened types head)
-sound-opened types head h =
-    record { head = h; rows = All-nil IsSoundRow; typed = All-nil (HasItsTypes types); apart = refl }
+sound-opened = grind (arith, common_steps, typed)
 
 abbrev pub IsNext : OpenEpoch → Result Row Fault → Type 0
 IsNext so_far (Err fault) = ⊤

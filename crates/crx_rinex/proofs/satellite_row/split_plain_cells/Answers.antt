@@ -1,6 +1,6 @@
-use Rattle.std.proofs.{Common.{◌+◌, ◌*◌, ◌≤◌, length, ap, sym, ◌∙◌, arith}, lemmas.Grind.common_steps}
+use Rattle.std.proofs.{Common.{◌+◌, ◌*◌, ◌≤◌, length, ap, sym, ◌∙◌, arith}}
 use Rattle.crx_text.specs.meaning.Numbers.{observation_of}
-use Rattle.crx_rinex.proofs.Cells.{cells_kept, cells_more, inside, read_inside}
+use Rattle.crx_rinex.proofs.Cells.{cells_more, inside, read_inside}
 use Rattle.crx_rinex.proofs.satellite_row.split_plain_cells.Goals as goal
 
 pub loop-k-preserved : goal.loop-k-preserved
@@ -17,6 +17,3 @@ loop-k-preserved c =
     (ap observation_of (sym field_is) ∙ c.if-not-obs_read_into.ensures.value)
     c.if-not-obs_read_into.ensures.in_range (inside line _ (16 * k + 18) (omega (arith, room)) (omega arith))
     (inside line _ (16 * k + 19) (omega (arith, room)) (omega arith))
-
-pub returns-then-not-obs_read_into : goal.returns-then-not-obs_read_into
-returns-then-not-obs_read_into c = grind (arith, common_steps, cells_kept)

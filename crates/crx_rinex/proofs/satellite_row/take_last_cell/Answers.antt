@@ -1,7 +1,6 @@
-use Rattle.std.proofs.Common.{rules, ◌≡◌, ℕ, ◌+◌, ◌*◌, ◌-◌, ◌≤◌, List, length, take, drop, ap, sym, ◌∙◌}
-use Rattle.std.proofs.{Common.{arith, Bool, true, false}, lemmas.{Bool.leb-true, Grind.common_steps}}
-use Rattle.std.{proofs.lemmas.List.{length-set, set-get_or, drop_all}, specs.{Bool.OnTrue, List.list_all}}
-use Rattle.std.specs.Prelude.{slice_set}
+use Rattle.std.proofs.Common.{◌≡◌, ℕ, ◌+◌, ◌*◌, ◌-◌, ◌≤◌, List, length, take, drop, ap, sym, ◌∙◌}
+use Rattle.std.proofs.{Common.{arith, Bool, true}, lemmas.{Grind.common_steps}}
+use Rattle.std.{proofs.lemmas.List.{length-set, drop_all}, specs.{Bool.OnTrue, List.list_all}}
 use Rattle.crx_text.specs.meaning.{Columns.is_blank, Numbers.observation_of}
 use Rattle.crx_rinex.proofs.Cells.{cells_more, cells_whole, past, read_inside}
 use Rattle.crx_rinex.specs.meaning.SatelliteLines.{field}
@@ -34,10 +33,4 @@ returns-clause-read c =
 on-true : (b : Bool) (X : Type 0) → (b ≡ true → X) → OnTrue b X
 on-true = grind (arith, common_steps)
 
-pub returns-then-first-values-clause-read : goal.returns-then-first-values-clause-read
-returns-then-first-values-clause-read c = search (rules, on-true, leb-true, cells_whole, nothing-after)
-
 -- ---- where the last one isn't taken
-
-pub returns-then-not-obs_read_into-clause-same : goal.returns-then-not-obs_read_into-clause-same
-returns-then-not-obs_read_into-clause-same c = grind (arith, common_steps, slice_set, set-get_or)

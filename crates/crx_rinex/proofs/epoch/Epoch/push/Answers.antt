@@ -18,9 +18,6 @@ known c = sym (c.contains.ensures
 pub returns-then-contains-clause-refused : goal.returns-then-contains-clause-refused
 returns-then-contains-clause-refused c = grind (arith, common_steps, known, c.if-contains.true)
 
-pub returns-then-is_err-clause-refused : goal.returns-then-is_err-clause-refused
-returns-then-is_err-clause-refused c = grind (arith, common_steps, known, c.if-contains.false)
-
 pub invariant_of-self-2 : goal.invariant_of-self-2
 invariant_of-self-2 c =
     let head = c.self.inside.head in

@@ -1,8 +1,6 @@
-use Rattle.std.proofs.{Common.{◌≡◌, ◌*◌, length, ap, ◌∙◌, arith}, lemmas.Grind.common_steps}
-use Rattle.std.proofs.lemmas.{List.with_items_is, Result.IfOk-from_err}
+use Rattle.std.proofs.{Common.{◌≡◌, ◌*◌, length, ap, ◌∙◌, arith}}
 use Rattle.crx_header.specs.meaning.Satellites.{is_identifier}
-use Rattle.crx_rinex.{proofs.Cells.sound-written, specs.meaning.SatelliteLines.{row_of_types, row_with}}
-use Rattle.crx_rinex.specs.meaning.SatelliteLines.{values_in}
+use Rattle.crx_rinex.{proofs.Cells.sound-written}
 use Rattle.crx_rinex.proofs.satellite_row.SatRow.read.Goals as goal
 
 pub invariant_of-result : goal.invariant_of-result
@@ -20,12 +18,3 @@ invariant_of-result c =
 
 pub returns-clause-sound : goal.returns-clause-sound
 returns-clause-sound c = invariant_of-result c
-
-pub returns-in_err-read_cells-clause-ok : goal.returns-in_err-read_cells-clause-ok
-returns-in_err-read_cells-clause-ok c = IfOk-from_err _ _ c.from_residual.ensures.0
-
-pub returns-in_err-read_cells-clause-sound : goal.returns-in_err-read_cells-clause-sound
-returns-in_err-read_cells-clause-sound c = IfOk-from_err _ _ c.from_residual.ensures.0
-
-pub returns-clause-ok : goal.returns-clause-ok
-returns-clause-ok c = grind (arith, common_steps, with_items_is, row_of_types, row_with, values_in)
