@@ -45,8 +45,7 @@ module _ (gave : List ℕ → Type 0) (old held : List ℕ)
 
   -- how many of the bytes that are held are the line's, with its LF
   ends-within : (is_ended : Bool) → EndIs held len is_ended at_end → len + cond is_ended 1 0 ≤ length held
-  ends-within true end = omega (arith, end.0)
-  ends-within false end = omega (arith, end.0)
+  ends-within = grind arith
 
   pub held-within : (is_ended : Bool) (n : ℕ)
       → EndIs held len is_ended at_end → n ≡ len + cond is_ended 1 0 → n ≤ length held
@@ -63,8 +62,7 @@ module _ (gave : List ℕ → Type 0) (old held : List ℕ)
   -- a line has a byte
   pub some-byte : (is_ended : Bool) (n : ℕ)
       → (0 < passed + len) ⊎ (is_ended ≡ true) → n ≡ len + cond is_ended 1 0 → 0 < passed + n
-  some-byte true n some e = omega (arith, e)
-  some-byte false n some e = grind arith
+  some-byte = grind arith
 
   pub takes : (is_ended : Bool) → EndIs held len is_ended at_end → (0 < passed + len) ⊎ (is_ended ≡ true)
       → (before after : ReaderState) (n : ℕ)
@@ -92,8 +90,7 @@ module _ (gave : List ℕ → Type 0) (old held : List ℕ)
   pub content-long : (is_ended : Bool) (content : List ℕ) → content ≡ without_return (take len held)
       → (0 < passed) ⊎ (LINE_LIMIT < length content)
       → IsTrue (is_long (line_of (piece_at s.front held len is_ended)))
-  content-long is_ended content same over =
-      search (rules, length-append, lt-ltb, ⊎_elim, length-without_return, without_return, whole-piece)
+  content-long = search (rules, length-append, lt-ltb, ⊎_elim, length-without_return, whole-piece)
 
   pub nothing : passed ≡ 0 → len ≡ 0 → len ≡ length held → (held ≡ []) × (old ++ s.given ≡ [])
   nothing none empty all = grind (arith, common_steps, nil_from_length, append-nil)
@@ -171,5 +168,4 @@ none-passed passed len h = grind (arith, nat_tests)
 -- how many bytes of the window are the line's, with its LF
 pub held-is : (len more : ℕ) (is_ended : Bool)
     → more ≡ bool_byte is_ended → len + more ≡ len + cond is_ended 1 0
-held-is len more true e = ap (λ (n : ℕ). len + n) e
-held-is len more false e = ap (λ (n : ℕ). len + n) e
+held-is = grind arith

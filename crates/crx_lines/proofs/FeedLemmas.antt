@@ -1,13 +1,12 @@
 -- The lanes before the first one that is LF, by a mask's lowest bit.
-use Rattle.std.proofs.Common.{◌≡◌, ℕ, suc, ◌+◌, ◌*◌, ◌%◌, ◌^◌, ◌<◌, ◌≤◌, Bool, true, false, cond, eqb, not}
+use Rattle.std.proofs.Common.{◌≡◌, ℕ, suc, ◌+◌, ◌*◌, ◌%◌, ◌^◌, ◌<◌, ◌≤◌, Bool, cond, eqb, not}
 use Rattle.std.proofs.Common.{List, [], ◌∷◌, map, length, replicate, w8, arith, sym, ◌∙◌}
 use Rattle.std.proofs.lemmas.{Grind.common_steps, Simd.{bitmask_splat, leading_from_mask_l, length-chunk}}
 use Rattle.std.{proofs.lemmas.Simd.trailing_mask_l, specs.List.prefix_len}
 use lib.{Count.count_trailing_zeros, Lanes.{chunk, mask_l, top, zip2}}
 
 stops : (b : Bool) (n m l : ℕ) → 0 < cond b 1 0 + 2 * n → (0 < n → m < l) → cond (not b) (1 + m) 0 < suc l
-stops true n m l some f = omega arith
-stops false n m l some f = omega (arith, f (omega (arith, some)))
+stops = grind arith
 
 first_within : {X : Type 0} (p : X → Bool) (xs : List X) → 0 < mask_l (map p xs)
     → prefix_len (λ x. not (p x)) xs < length xs
@@ -31,5 +30,4 @@ module _ (bytes : List ℕ) (at : ℕ) (room : at + 32 ≤ length bytes) where
 
   pub before_first : 0 < feeds_at at bytes → (count_trailing_zeros 64 (feeds_at at bytes) < 32) ×
       (count_trailing_zeros 64 (feeds_at at bytes) ≡ prefix_len (λ b. not (eqb b 10)) (chunk at 32 bytes))
-  before_first some =
-      grind (arith, common_steps, chunk, count_trailing_zeros, hits, trailing_mask_l, eqb, long, first_within)
+  before_first = grind (arith, common_steps, hits, trailing_mask_l, long, first_within)

@@ -57,22 +57,7 @@ module _ (at_end : Type 0) (start counted counted' : Tally) (given more : List �
   -- a line was taken
   line-ended : (bytes : List ℕ) → TakesPiece old more at_end (ended_piece bytes) new → counted' ≡ counted
       → IsOpen start counted' (given ++ more) new (lines ++ line_of (ended_piece bytes) ∷ [])
-  line-ended bytes t same = record {
-    bytes = omega (arith, length-append given more, length-append old.rest more, t.passed, o.bytes);
-    within = omega (
-      arith,
-      length-append given more,
-      length-append old.rest more,
-      t.passed,
-      o.bytes,
-      t.within,
-    );
-    first = λ x. over-piece lines_of (line_of (ended_piece bytes)) given more old.rest bytes new.rest x lines
-        o.first t.first.cut (lines-first bytes (new.rest ++ x) t.first.no_feed);
-    ended = λ x. over-piece ended_lines_of (line_of (ended_piece bytes)) given more old.rest bytes new.rest x
-        lines o.ended t.first.cut (ended_lines-first bytes (new.rest ++ x) t.first.no_feed);
-    counts = same ∙ o.counts;
-  }
+  line-ended = grind (arith, common_steps, length-append, over-piece, lines-first, ended_lines-first)
 
   line-last : (bytes : List ℕ) → TakesPiece old more at_end (last_piece bytes) new
       → counted' ≡ with_end counted
@@ -83,8 +68,7 @@ module _ (at_end : Type 0) (start counted counted' : Tally) (given more : List �
       → TakesPiece old more at_end (record { bytes = bytes; is_ended = is_ended }) new
       → counted' ≡ tally_after_line is_ended counted → StandsAt new.phase at_end start counted'
       (given ++ more) new (lines ++ line_of (record { bytes = bytes; is_ended = is_ended }) ∷ [])
-  line-stands bytes true t same = grind (arith, common_steps, line_of, ended_piece, line-ended)
-  line-stands bytes false t same = grind (arith, common_steps, line-last)
+  line-stands = grind (arith, common_steps, line-ended, line-last)
 
   none-over : old.rest ++ more ≡ []
       → at_end → counted' ≡ with_end counted → IsOver at_end start counted' (given ++ more) lines
@@ -122,8 +106,7 @@ module _ (at_end : Type 0) (start counted counted' : Tally) (given more : List �
 passed-more : (old new : ReaderState) (given : List ℕ) (at_end : Type 0) (bytes : List ℕ) (is_ended : Bool)
     → TakesPiece old given at_end (record { bytes = bytes; is_ended = is_ended }) new
     → old.passed < new.passed
-passed-more old new given at_end bytes true t = grind (arith, common_steps, length-append)
-passed-more old new given at_end bytes false t = grind arith
+passed-more = grind (arith, common_steps, length-append)
 
 module _ (gave gives step : List ℕ → Type 0)
     (at_end at_end' : Type 0) (start counted counted' : Tally) (old new : ReaderState)
@@ -136,8 +119,7 @@ module _ (gave gives step : List ℕ → Type 0)
   one-more : (more : List ℕ) (p : Piece) (line : InputLine) (number : ℕ)
       → TakesPiece old more at_end' p new → line ≡ line_of p → number ≡ new.number
       → IsOneMore old new lines (lines ++ line_of p ∷ []) line number
-  one-more more p line number t shown numbered =
-      grind (arith, common_steps, length_push, line_of, passed-more)
+  one-more = grind (arith, common_steps, length_push, passed-more)
 
   read-line : old.phase ≡ Open → (more : List ℕ) → step more → (p : Piece) → TakesPiece old more at_end' p new
       → counted' ≡ tally_after_line p.is_ended counted

@@ -58,8 +58,7 @@ pub content-cr : (xs : List ℕ) (start end n : ℕ)
     → 0 < n → start + n ≤ end → end ≤ length xs → get_or xs (start + n - 1) 0 ≡ 13
     → (slice_range xs start (start + n - 1) ≡ without_return (take n (slice_range xs start end)))
     × (true ≡ ends_with_return (take n (slice_range xs start end)))
-content-cr xs start end n some inside within cr =
-    grind (arith, common_steps, slice_range, eq-eqb, part-last, without_return-cr, ends_with_return-push)
+content-cr = search (rules, slice_range, eq-eqb, part-last, without_return-cr, ends_with_return-push)
 
 -- the first bytes of a part that no CR ends
 pub content-other : (xs : List ℕ) (start end n : ℕ)

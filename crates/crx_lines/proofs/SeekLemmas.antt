@@ -1,6 +1,6 @@
 -- The search for the end of a line, step by step.
 use Rattle.std.proofs.Common.{rules, ◌≡◌, ◌≢◌, ℕ, ◌+◌, ◌<◌, ◌≤◌, List, [], ◌++◌, ◌⊎◌, length, slice_index}
-use Rattle.std.proofs.Common.{refl, sym, ap, ◌∙◌, subst, arith, inr, ⊎_elim, append-nil, append_assoc}
+use Rattle.std.proofs.Common.{refl, sym, ap, ◌∙◌, arith, inr, ⊎_elim, append-nil}
 use Rattle.std.proofs.{Common.length-append, lemmas.{Grind.common_steps, List.get_or_append_left}}
 use Rattle.std.proofs.lemmas.List.Elements.{All-append, All-from_get_or, All-contains, Contains-append_left}
 use Rattle.std.specs.List.{Contains}
@@ -59,27 +59,14 @@ pub Seeking-step : (gave : List ℕ → Type 0) (old held shown after : List ℕ
     → ((k : ℕ) → searched ≤ k → k < length shown → slice_index shown k ≢ 10)
     → ((n ≡ 0) × (after ≡ held)) ⊎ ((n ≡ length held) × (LINE_LIMIT + 1 < n) × (after ≡ []))
     → Seeking gave old after room taken (passed + n) (length after)
-Seeking-step gave old held shown after room taken passed searched n s same none discarded =
-    let all = Seeking-searched gave old held room taken passed searched (length held) s (omega arith)
-    (subst (λ l. (k : ℕ) → searched ≤ k → k < length l → slice_index l k ≢ 10) same none) in
-    let keeps = λ (e : (n ≡ 0) × (after ≡ held)).
-    let sum : passed ≡ passed + n = omega (arith, e.0) in
-    subst (λ m. Seeking gave old after room taken m (length after)) sum
-    (subst (λ l. Seeking gave old l room taken passed (length l)) (sym e.1) all) in
-    let goes = λ (e : (n ≡ length held) × (LINE_LIMIT + 1 < n) × (after ≡ [])).
-    let sum : passed + length held ≡ passed + n = omega (arith, e.0) in
-    subst (λ m. Seeking gave old after room taken m (length after)) sum
-    (subst (λ l. Seeking gave old l room taken (passed + length held) (length l))
-    (sym e.2) (Seeking-passed gave old held room taken passed all (omega (arith, e.0, e.1)))) in
-    ⊎_elim keeps goes discarded
+Seeking-step = search (rules, Seeking-searched, slice_index, Seeking-passed, ⊎_elim)
 
 -- more was given and is held
 pub Seeking-filled : (gave then : List ℕ → Type 0) (old held after more : List ℕ) (room taken passed n m : ℕ)
     → Seeking gave old held room taken passed (length held)
     → ((given : List ℕ) → gave given → then (given ++ more)) → length more ≡ n → taken + n ≤ room
     → after ≡ held ++ more → m ≡ length held → Seeking then old after room (taken + n) passed m
-Seeking-filled gave then old held after more room taken passed n m s goes count within same searched =
-    grind (arith, common_steps, append_assoc, length-append, get_or_append_left)
+Seeking-filled = grind (arith, common_steps, length-append, get_or_append_left)
 
 -- nothing more was given
 pub Seeking-same : (gave then : List ℕ → Type 0) (old held after : List ℕ) (room taken passed m : ℕ)

@@ -1,6 +1,6 @@
 -- The bytes of a window, after a read past its end or a step of its start.
 use Rattle.std.proofs.Common.{◌≡◌, ℕ, ◌+◌, ◌-◌, ◌≤◌, List, ◌++◌, length, take, drop, slice_range, refl, sym}
-use Rattle.std.proofs.{Common.{ap, ◌∙◌, Result, Ok, Err, OnErr, arith, append-nil}, Math.Seq.take-add}
+use Rattle.std.proofs.{Common.{ap, ◌∙◌, Result, OnErr, arith, append-nil}, Math.Seq.take-add}
 use Rattle.std.proofs.lemmas.List.{take_at, drop_at, take-append-le, drop-append-le, drop-take, drop-drop}
 use Rattle.std.proofs.lemmas.List.{length-take-le, length-take, length-drop}
 use borrow.Rule.Slice.PartMut.{put_mid, post_of}
@@ -45,5 +45,4 @@ unread xs ys start end k ordered within =
 
 -- what is so is so of any read that failed
 pub on_err : {X E P : Type 0} (r : Result X E) → P → OnErr r P
-on_err (Ok x) h = tt
-on_err (Err e) h = h
+on_err = grind arith

@@ -1,6 +1,6 @@
 use Rattle.std.proofs.Common.{ℕ, ◌+◌, ◌≤◌, List, [], ◌∷◌, ◌++◌, ⊎_elim, length, subst, sym, ap, ◌∙◌, refl}
 use Rattle.std.proofs.Common.{arith, rules, append-nil}
-use Rattle.crx_lines.proofs.{DeviceLemmas.ends-some, SeekLemmas.{Seeking-start, Seeking-found, Seeking-step}}
+use Rattle.crx_lines.proofs.{DeviceLemmas.ends-some, SeekLemmas.{Seeking-start, Seeking-step}}
 use Rattle.crx_lines.proofs.SeekLemmas.{Seeking-filled, Seeking-same, Seeking-sum, Seeking-not_old}
 use Rattle.crx_lines.{proofs.WindowLemmas.length-kept, specs.{Seeking.Seeking, Window.kept}}
 use Rattle.crx_lines.proofs.seek.seek.Goals as goal
@@ -15,13 +15,7 @@ seeking-init g c = (
 )
 
 pub returns-in-Some-clause-ok : goal.returns-in-Some-clause-ok
-returns-in-Some-clause-ok g c = (
-  c.seeking.taken,
-  Seeking-found (λ given. g.R.Source.gave c.args.reader.now given c.seeking.reader)
-      (kept c.args.window.now) (kept c.seeking.window) c.as_slice.result.now c.args.room c.seeking.taken
-      c.seeking.passed c.seeking.searched c.in-Some.len c.seeking.invariant.0 c.as_slice.ensures.value
-      c.in-Some.ensures.within.1 c.in-Some.ensures.first,
-)
+returns-in-Some-clause-ok = grind arith
 
 pub overflow_add-passed : goal.overflow_add-passed
 overflow_add-passed g c =
