@@ -1,24 +1,25 @@
 -- The kinds of error that a parse may have at some words come to one plan: help is never among others.
-use Rattle.std.proofs.Common.{arith, ◌≡◌, ◌+◌, ◌&&◌, ℕ, Bool, zero, suc, true, false, not, cond, codes, refl}
-use Rattle.std.proofs.Common.{List, [], ◌∷◌, min, length, Option, Some, None, is_some}
-use Rattle.std.specs.{Option.option_map_or, Prelude.{find, slice_get}, Str.{bytes_eq, chars}}
-use Rattle.clap.specs.{Facts.{parser_of_value, unwrap_or_range}, Faults.{action_fault, built_fault}}
+use Rattle.std.proofs.Common.{rules}
+use Rattle.std.proofs.lemmas.Grind.{common_steps}
+use Rattle.std.proofs.Common.{arith, ◌≡◌, ◌&&◌, ℕ, Bool, zero, suc, true, false, not, cond, codes, refl}
+use Rattle.std.proofs.Common.{List, [], ◌∷◌, length, Option, Some, None, is_some}
+use Rattle.std.specs.{Option.option_map_or, Prelude.{slice_get}, Str.{bytes_eq, chars}}
+use Rattle.clap.specs.{Faults.{action_fault, built_fault}}
 use Rattle.clap.specs.Faults.{bundle_step_fault, count_fault, default_fault, defaults_fault, entered_fault}
 use Rattle.clap.specs.Faults.{fault_of, flag_word_fault, flags_fault, level_fault, long_fault, option_fault}
-use Rattle.clap.specs.Faults.{other_fault, positional_fault, react_fault, repeat_fault, set_fault}
+use Rattle.clap.specs.Faults.{other_fault, positional_fault, react_fault, set_fault}
 use Rattle.clap.specs.Faults.{settle_fault, short_fault, step_fault, stray_fault, turn_fault, use_fault}
 use Rattle.clap.specs.{Faults.{walk_fault, word_fault}, Kinds.{IsAmong, Kinds, check_kinds, or_else}}
-use Rattle.clap.specs.{Kinds.{range_kinds, request_kinds, value_kinds, values_kinds}, Lexer.long_of}
-use Rattle.clap.specs.{Lexer.short_of, Matches.count_text, Simple.{App, Shape, argument_words, built}}
-use Rattle.clap.specs.{Simple.{label_of, names_of}, ValueTests.accepts, Walk.{Held, Names, Row, Rule, Step}}
-use Rattle.clap.specs.Walk.{Text, Waiting, Walk, action_of, answers_to, arg_by_id, arg_by_long, arg_by_short}
-use Rattle.clap.specs.Walk.{attached_value, count_of, most_values, nothing_held, reacted, settled}
-use Rattle.clap.specs.Walk.{subcommand_met, takes_values, values_or_missing, walk, walk_from, walked}
-use Rattle.clap.specs.Walk.{with_default, word_met, idle, next, option, positional, subcommand, trailing}
-use Rattle.clap.specs.{Walk.value, declared.builder.{ArgAction.ArgAction, ValueParser.ValueParser}}
+use Rattle.clap.specs.{Kinds.{range_kinds, request_kinds, value_kinds, values_kinds}}
+use Rattle.clap.specs.{Lexer.short_of, Simple.{App, Shape, argument_words, built}}
+use Rattle.clap.specs.{ValueTests.accepts, Walk.{Held, Names, Row, Rule, Step}}
+use Rattle.clap.specs.Walk.{Text, Waiting, Walk, arg_by_long, arg_by_short}
+use Rattle.clap.specs.Walk.{attached_value, nothing_held, reacted}
+use Rattle.clap.specs.Walk.{subcommand_met, takes_values, walked}
+use Rattle.clap.specs.Walk.{with_default, idle, option, positional}
+use Rattle.clap.specs.{declared.builder.{ArgAction.ArgAction, ValueParser.ValueParser}}
 use Rattle.clap.specs.declared.error.ErrorKind.{ErrorKind}
 use Rattle.crx_command.specs.meaning.{Commands.program, Planning.{Plan, by_kind, by_kinds}}
-use Rattle.clap.specs.declared.builder.ArgAction.TheVariants as action
 use Rattle.clap.specs.declared.error.ErrorKind.TheVariants as kind
 
 -- each of the kinds comes to the plan of the first
@@ -32,17 +33,14 @@ alike_one : (x : ErrorKind) → Alike (x ∷ [])
 alike_one x = grind arith
 
 alike_or : (a b : Kinds) → Alike a → Alike b → Alike (or_else a b)
-alike_or [] b h g = g
-alike_or (x ∷ xs) b h g = h
+alike_or = grind arith
 
 alike_if : (test : Bool) (a b : Kinds) → Alike a → Alike b → Alike (cond test a b)
-alike_if true a b h g = h
-alike_if false a b h g = g
+alike_if = grind arith
 
 alike_option : {X : Type 0} (f : X → Kinds) (o : Option X) → ((x : X) → Alike (f x))
     → Alike (option_map_or f o [])
-alike_option f None h = alike_none
-alike_option f (Some x) h = h x
+alike_option = grind (arith, common_steps, alike_none)
 
 -- ---- one use of an argument
 
@@ -58,56 +56,31 @@ alike_range : (least most n : ℕ) → Alike (range_kinds least most n)
 alike_range least most n = grind arith
 
 alike_request : (x : ArgAction) → Alike (request_kinds x)
-alike_request action.Help = alike_one _
-alike_request action.HelpShort = alike_one _
-alike_request action.HelpLong = alike_one _
-alike_request action.Version = alike_one _
-alike_request action.Set = alike_none
-alike_request action.Append = alike_none
-alike_request action.SetTrue = alike_none
-alike_request action.SetFalse = alike_none
-alike_request action.Count = alike_none
+alike_request = grind (arith, common_steps, alike_one, alike_none)
 
 alike_count : (a : Rule) (values : List Text) (rows : List Row) → Alike (count_fault a values rows)
-alike_count a [] rows = alike_value a.ignore_case
-    (parser_of_value a.parser) (count_text (min (count_of a.id rows + 1) 255))
-alike_count a (v ∷ vs) rows = alike_values _ _ (v ∷ vs)
+alike_count = grind (arith, common_steps, alike_value, alike_values)
 
 alike_set : (again : Bool) (a : Rule) (values : List Text) (rows : List Row)
     → Alike (set_fault again a values rows)
-alike_set again a values rows =
-    alike_or (repeat_fault again a.id rows) _ (alike_if _ _ _ (alike_one _) alike_none)
-    (alike_values _ _ values)
+alike_set = grind (arith, common_steps, alike_or, alike_if, alike_one, alike_none, alike_values)
 
 alike_action : (x : ArgAction) (again : Bool) (a : Rule) (values : List Text) (rows : List Row)
     → Alike (action_fault x again a values rows)
-alike_action action.Set again a values rows = alike_set again a values rows
-alike_action action.SetTrue again a values rows = alike_set again a values rows
-alike_action action.SetFalse again a values rows = alike_set again a values rows
-alike_action action.Append again a values rows = alike_values _ _ values
-alike_action action.Count again a values rows = alike_count a values rows
-alike_action action.Help again a values rows = alike_one _
-alike_action action.HelpShort again a values rows = alike_one _
-alike_action action.HelpLong again a values rows = alike_one _
-alike_action action.Version again a values rows = alike_one _
+alike_action = grind (arith, common_steps, alike_set, alike_values, alike_count, alike_one)
 
 alike_use : (again : Bool) (a : Rule) (values : List Text) (rows : List Row)
     → Alike (use_fault again a values rows)
-alike_use again a values rows =
-    alike_or (range_kinds (unwrap_or_range a.range).start_inclusive (most_values a) (length values)) _
-    (alike_range (unwrap_or_range a.range).start_inclusive (most_values a) (length values))
-    (alike_action (action_of a) again a (values_or_missing a values) rows)
+alike_use = search (rules, alike_or, alike_range, alike_action)
 
 -- ---- the words
 
 alike_settle : (c : List Rule) (again : Bool) (h : Held) → Alike (settle_fault c again h)
-alike_settle c again h = alike_option _ h.pending
-    (λ p. alike_option _ (arg_by_id c p.0) (λ a. alike_use again a p.1 h.rows))
+alike_settle = search (rules, alike_option, alike_use)
 
 alike_react : (c : List Rule) (again : Bool) (a : Rule) (values : List Text) (h : Held)
     → Alike (react_fault c again a values h)
-alike_react c again a values h =
-    alike_or (settle_fault c again h) _ (alike_settle c again h) (alike_use again a values (settled c h).rows)
+alike_react = search (rules, alike_or, alike_settle, alike_use)
 
 alike_with_value : (c : List Rule) (again : Bool) (a : Rule) (v : Option Text) (h : Held)
     → Alike (option_fault c again a v h)
@@ -152,8 +125,7 @@ alike_flag_word c again None word h =
     (λ flags. alike_flags c again (length flags) flags h.skip (record h { skip = 0 }))
 
 alike_plain_word : (s : Shape) (word : Text) (h : Held) → Alike (other_fault s None word h)
-alike_plain_word s word h = alike_if (bytes_eq word (45 ∷ 45 ∷ [])) _ _ alike_none
-    (alike_flag_word s.rules s.args_override_self (long_of word) word h)
+alike_plain_word = grind (arith, common_steps, alike_if, alike_none, alike_flag_word)
 
 -- no subcommand is called `help`, or there is none
 abbrev NoHelp : Shape → Names → Type 0
@@ -186,22 +158,14 @@ alike_stray s = grind arith
 
 alike_position : (s : Shape) (h : Held) (found : Option Rule)
     → Alike (option_map_or (λ a. positional_fault s.rules s.args_override_self a h) found (stray_fault s))
-alike_position s h None = alike_stray s
-alike_position s h (Some a) = alike_positional s.rules s.args_override_self a h
+alike_position = grind (arith, common_steps, alike_stray, alike_positional)
 
 alike_step : (s : Shape) (position : ℕ) (h : Held) (step : Step) → Alike (step_fault s position h step)
-alike_step s position h value = alike_position s h _
-alike_step s position h (next w) = alike_none
-alike_step s position h (trailing n) = alike_none
-alike_step s position h (subcommand name) = alike_none
+alike_step = grind (arith, common_steps, alike_position, alike_none)
 
 alike_turn : (s : Shape) (names : Names) (w : Walk) (word : Text) → NoHelp s names
     → Alike (turn_fault s names w word)
-alike_turn s names w word off = alike_if (is_some w.stopped) _ _ alike_none
-    (alike_or (word_fault s names w.is_trailing w.waiting word w.held)
-    _ (alike_word s names w.is_trailing w.waiting word w.held off)
-    (alike_step s w.position (word_met s.rules names w.is_trailing w.waiting w.position word w.held).0
-    (word_met s.rules names w.is_trailing w.waiting w.position word w.held).1))
+alike_turn = grind (arith, common_steps, alike_if, is_some, alike_none, alike_or, alike_word, alike_step)
 
 alike_walk : (s : Shape) (names : Names) (w : Walk) (words : List Text)
     → NoHelp s names → Alike (walk_fault s names w words)
@@ -214,8 +178,7 @@ alike_walk s names w (word ∷ rest) off =
 -- ---- after the words
 
 alike_default : (rows : List Row) (a : Rule) → Alike (default_fault rows a)
-alike_default rows a = alike_if _ _ _ alike_none
-    (alike_or (request_kinds (action_of a)) _ (alike_request (action_of a)) (alike_values _ _ a.defaults))
+alike_default = grind (arith, common_steps, alike_if, alike_none, alike_or, alike_request, alike_values)
 
 alike_defaults : (rows : List Row) (rules : List Rule) → Alike (defaults_fault rows rules)
 unfolding defaults_fault
@@ -228,25 +191,14 @@ alike_checks a b d = grind arith
 
 alike_level : (s : Shape) (names : Names) (h : Held) (words : List Text) (has : Bool) (below : Kinds)
     → NoHelp s names → Alike below → Alike (level_fault s names h words has below)
-alike_level s names h words has below off under =
-    alike_or (walk_fault s names (walk_from h) words) _ (alike_walk s names (walk_from h) words off)
-    (alike_or below _ under
-    (alike_or (settle_fault s.rules s.args_override_self (walk s.rules names h words).held)
-    _ (alike_settle s.rules s.args_override_self (walk s.rules names h words).held)
-    (alike_or (defaults_fault (settled s.rules (walk s.rules names h words).held).rows s.rules) _
-    (alike_defaults (settled s.rules (walk s.rules names h words).held).rows s.rules) (alike_checks _ _ _))))
+alike_level = search (rules, alike_or, alike_walk, alike_settle, alike_defaults, alike_checks)
 
 alike_entered : (a : App) (stop : Option (Text × List Text)) → Alike (entered_fault a stop)
-alike_entered a stop =
-    alike_option _ stop (λ p. alike_option _ (find (λ s. answers_to p.0 (label_of s)) a.subs)
-    (λ s. alike_level s [] nothing_held p.1 false [] (no_names s) alike_none))
+alike_entered = search (rules, alike_option, alike_level, no_names, alike_none)
 
 alike_built : (a : App) (h : Held) (words : List Text)
     → a.top.disable_help_subcommand ≡ true → Alike (built_fault a h words)
-alike_built a h words off =
-    alike_level a.top (names_of a) h words
-    _ _ (λ waiting word g. disabled a.top (subcommand_met (names_of a) waiting word) word g off)
-    (alike_entered a _)
+alike_built = search (rules, alike_level, disabled, alike_entered)
 
 pub program_alike : (words : List Text) → Alike (fault_of program words)
 program_alike words = alike_built (built program) nothing_held (argument_words program words) refl

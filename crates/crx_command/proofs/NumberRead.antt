@@ -1,8 +1,9 @@
 -- A number that `u32` reads from a text.
-use Rattle.std.proofs.Common.{◌≡◌, ◌^◌, ◌&&◌, ℕ, Bool, true, false, refl, List, [], ◌∷◌, length, nat_lt}
-use Rattle.std.{proofs.Common.{Option, Some, None, Result, Ok, Err, lt-ltb, ltb-true}, specs.Char.digit_value}
+use Rattle.std.proofs.Common.{arith}
+use Rattle.std.proofs.lemmas.Grind.{common_steps}
+use Rattle.std.proofs.Common.{◌≡◌, ◌^◌, ◌&&◌, ℕ, Bool, true, refl, List, [], ◌∷◌, nat_lt}
+use Rattle.std.{proofs.Common.{Option, Result, lt-ltb, ltb-true}, specs.Char.digit_value}
 use Rattle.std.specs.{List.list_all, Str.Parse.{AllDigits, ParsesUnsigned, digits_value}}
-use Rattle.std.specs.Str.Parse.{without_leading_plus}
 use Rattle.clap.{proofs.WalkLemmas.both, specs.{Matches.ReadsOne, ValueTests.is_numeral}}
 use Rattle.crx_command.specs.meaning.Planning.{counted_argument}
 
@@ -23,21 +24,4 @@ module _ {E : Type 0} (G : List ℕ
     → Result ℕ E → Type 0)
     (parses : (text : List ℕ) (r : Result ℕ E) → G text r → ParsesUnsigned 32 10 text r) where
   pub number_read : (text : List ℕ) (o : Option ℕ) → ReadsOne G text o → o ≡ counted_argument text
-  number_read text (Some n) h =
-      let ds = without_leading_plus text in
-      let parsed = parses text (Ok n) h in
-      rw (
-        lt-ltb 0 (length ds) parsed.0.0.0,
-        digits_pass ds parsed.0.0.1,
-        lt-ltb (digits_value 10 ds) (2 ^ 32) parsed.0.1,
-        parsed.1,
-      ) refl
-  number_read text None h = go (fits (without_leading_plus text)) refl
-    where
-      go : (b : Bool) → fits (without_leading_plus text) ≡ b → None ≡ counted_argument text
-      go false t = rw t refl
-      go true t =
-          let outer = both _ _ t in
-          let inner = both _ _ outer.0 in
-          absurd (parses text (Err h.0) h.1
-          ((ltb-true _ _ inner.0, digits_from (without_leading_plus text) inner.1), ltb-true _ _ outer.1))
+  number_read = grind (arith, common_steps, lt-ltb, digits_pass, both, ltb-true, digits_from)

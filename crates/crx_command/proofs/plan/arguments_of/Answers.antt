@@ -1,7 +1,7 @@
 use Rattle.std.proofs.lemmas.Grind.{common_steps}
 use Rattle.std.proofs.Common.{◌≡◌, ◌∙◌, ◌+◌, ◌-◌, ap, codes, count_by, find, map, List, ℕ, Option, Some, None}
 use Rattle.std.proofs.Common.{arith, length, unwrap_or, [], ◌∷◌, Bor, option_and_then, option_map, refl, cond}
-use Rattle.std.proofs.{Common.{Bool, true, false, not}, lemmas.List.Sums.sum_by-cons}
+use Rattle.std.proofs.{Common.{Bool, not}, lemmas.List.Sums.sum_by-cons}
 use Rattle.std.specs.Str.Parse.{ExplainsUnsignedError, HasUnsignedDigitsIfOk, ParsesUnsigned}
 use Rattle.clap.{proofs.WalkLemmas.{first_value-rows, one_text-rows, raw_values-rows}, specs.Matches.found_of}
 use Rattle.clap.specs.Matches.{one_text}
@@ -15,13 +15,11 @@ texts names = map (λ name. name.now) names
 -- names that were given, and else none
 given : (names : Option (Bor (List (Bor (List ℕ))))) (none : Bor (List (Bor (List ℕ)))) → none.now ≡ []
     → texts (unwrap_or names none).now ≡ unwrap_or (option_map (λ given. texts given.now) names) []
-given None none e = ap texts e
-given (Some names) none e = refl
+given = grind arith
 
 -- each name is a file's or `-`
 either : (b : Bool) → cond b 1 0 + cond (not b) 1 0 ≡ 1
-either true = refl
-either false = refl
+either = grind arith
 
 all-counted : (names : List (Bor (List ℕ)))
     → count_by is_dash (texts names) + count_by is_file (texts names) ≡ length names

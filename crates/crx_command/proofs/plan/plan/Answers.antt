@@ -1,12 +1,14 @@
+use Rattle.std.proofs.Common.{arith}
+use Rattle.std.proofs.lemmas.Grind.{common_steps}
 use Rattle.std.proofs.Common.{rules, ◌≡◌, ◌≢◌, ◌∙◌, ap, ap₂, map, sym, subst, string_bytes, true, List, [], ℕ}
 use Rattle.clap.specs.{Faults.{fault_of, is_simple_and_free}, Kinds.HasKind, Values.kind_of}
-use Rattle.clap.specs.Simple.{App, HasMatchesOf, is_simple, subcommand_of, subcommand_rows_of}
+use Rattle.clap.specs.Simple.{App, HasMatchesOf, subcommand_rows_of}
 use Rattle.clap.specs.declared.{error.Error.Error, parser.matches.ArgMatches.ArgMatches}
 use Rattle.clap.specs.declared.error.ErrorKind.TheVariants.{DisplayHelp, OutOfMemory}
 use Rattle.crx_command.proofs.{AlikeKinds.program_alike, PlanSteps.{program_is_free, program_is_simple}}
 use Rattle.crx_command.proofs.PlanSteps.{both_halves, same_plan, not_run_plan}
 use Rattle.crx_command.specs.meaning.{Commands.program, Planning.{Plan, Help, Refused, Parse}}
-use Rattle.crx_command.specs.meaning.Planning.{by_kind, by_kinds, judged, of_subcommand, plan_of}
+use Rattle.crx_command.specs.meaning.Planning.{by_kind, judged, of_subcommand, plan_of}
 use Rattle.crx_command.proofs.plan.plan.Goals as goal
 
 module _ (app : App) (texts words : List (List ℕ)) (is : app ≡ program) (same : texts ≡ words) where
@@ -16,10 +18,7 @@ module _ (app : App) (texts words : List (List ℕ)) (is : app ≡ program) (sam
   -- where the words fit the command line
   accepted : (m : ArgMatches) → (is_simple_and_free app ≡ true → fault_of app texts ≡ [])
       → HasMatchesOf app texts m → of_subcommand (subcommand_rows_of m) ≡ plan_of words
-  accepted m kinds matches =
-      let found = (matches (ap is_simple is ∙ program_is_simple)).1 ∙ ap₂ subcommand_of is same in
-      let plan = of_subcommand (subcommand_of program words) in
-      ap of_subcommand found ∙ ap (λ kinds. by_kinds kinds plan) (sym (kinds free) ∙ ap₂ fault_of is same)
+  accepted = grind (arith, common_steps, program_is_simple, free)
 
   -- where the parser answers with an error
   answered : (e : Error) (p : Plan) → (is_simple_and_free app ≡ true → HasKind (fault_of app texts) e)
