@@ -1,4 +1,5 @@
 -- What the user reads of a refusal.
+use Rattle.std.proofs.lemmas.Grind.{common_steps}
 use Rattle.std.proofs.Common.{arith, ◌≡◌, ◌∙◌, List, [], ℕ, Err, Some, inr, ap, refl, Bool, true, false}
 use Rattle.std.{proofs.Common.true≢false, specs.Option.IfSome}
 use Rattle.crx_runs.specs.meaning.Spans.{Device}
@@ -45,9 +46,4 @@ module _ (p : Plan) (job : Job) (messages : Device) where
   pub not_run : (fault : UsageFault)
       → p ≡ Run job → (fault ≡ usage_fault.Memory → IsShown messages (at_start OutOfMemory))
       → IfSome (plan_in (Err fault)) (λ plan. plan ≡ p) → IsShown messages (at_start OutOfMemory)
-  not_run (usage_fault.Parse text) e memory h = absurd (refused-run Parse job (h ∙ e))
-  not_run usage_fault.DashTwice e memory h = absurd (refused-run _ job (h ∙ e))
-  not_run usage_fault.TwoFiles e memory h = absurd (refused-run _ job (h ∙ e))
-  not_run usage_fault.BadDate e memory h = absurd (refused-run BadDate job (h ∙ e))
-  not_run (usage_fault.NoName name) e memory h = grind arith
-  not_run usage_fault.Memory e memory h = memory refl
+  not_run = grind (arith, common_steps, refused-run)

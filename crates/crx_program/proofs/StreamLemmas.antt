@@ -1,4 +1,5 @@
 -- What the logs of a run's devices are, by what ran between them.
+use Rattle.std.proofs.lemmas.Grind.{common_steps}
 use Rattle.std.proofs.Common.{arith, ◌≡◌, ◌⊎◌, ◌∙◌, ◌<◌, ℕ, Bool, true, List, [], ◌++◌, Option, Some, None}
 use Rattle.std.{proofs.Common.{ap, inl, inr, is_some, refl}, specs.Io.KnownBytes.{Appends, Consumes, IsAtEnd}}
 use Rattle.crx_lines.specs.declared.device.{Sink.Ghosts as SinkGhosts, Source.Ghosts as SourceGhosts, Std.Std}
@@ -207,17 +208,10 @@ module _ {F G I O E : Type 0} (file : F → Option (List ℕ)) (made : G → Opt
     pub front_run : IsJobDone (reader_of file) (writer_of made) moment job source target input output messages
         status ((last ≡ first) × (after ≡ before) × (target ≡ None))
         → IsFront ⊎ ((last.log.bytes ≡ []) × (after.log.bytes ≡ []) × (target ≡ None))
-    front_run (inl begun) = inl (front_of begun.0 begun.1 (place_of begun.0 begun.2))
-    front_run (inr not_begun) = grind arith
+    front_run = grind (arith, common_steps, front_of, place_of)
 
 -- a new device over a new one of std is unused
 pub fresh : {D : Type 0} (stream : D) (inner : Std D) (device : Logged (Std D)) → device.inner ≡ inner
     → device.log.bytes ≡ [] → inner.inner ≡ stream → inner.failures ≡ 0 → inner.ends ≡ 0 → inner.flushes ≡ 0
     → IsUnused stream device
-fresh {D = D} stream inner device same empty over failures ends flushes = (
-  ap (λ (std : Std D). std.inner) same ∙ over,
-  empty,
-  ap (λ (std : Std D). std.failures) same ∙ failures,
-  ap (λ (std : Std D). std.ends) same ∙ ends,
-  ap (λ (std : Std D). std.flushes) same ∙ flushes,
-)
+fresh = grind arith
