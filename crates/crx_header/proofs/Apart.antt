@@ -23,10 +23,7 @@ apart-push f (y ∷ xs) x h new =
 
 not-at : {X : Type 0} (f : X → List ℕ) (name : List ℕ) (n : ℕ) (xs : List X) (k : ℕ) (d : X)
     → is_among f name (take n xs) ≡ false → k < n → k < length xs → bytes_eq (f (get_or xs k d)) name ≡ false
-not-at f name zero xs k d h a b = absurd (omega (arith, a))
-not-at f name (suc n) [] k d h a b = absurd (omega (arith, b))
-not-at f name (suc n) (x ∷ xs) zero d h a b = grind arith
-not-at f name (suc n) (x ∷ xs) (suc k) d h a b = grind (arith, common_steps, or_parts, bytes_eq, is_among)
+not-at = grind (arith, common_steps, or_parts)
 
 pub new_at : {X : Type 0} (f : X → List ℕ) (n : ℕ) (xs : List X) (k : ℕ) (d : X)
     → are_apart f (take n xs) ≡ true → k < n → k < length xs

@@ -206,8 +206,7 @@ AreByLetter-with_count table es letter count h within = λ a few.
 
 -- a letter without a count at its place has none, and one with a count has that
 none_by_zero : (o : Option ℕ) → IfSome o IsAllowedCount → unwrap_or o 0 ≡ 0 → o ≡ None
-none_by_zero None a e = refl
-none_by_zero (Some n) a e = absurd (omega (arith, a.0, e))
+none_by_zero = grind arith
 
 pub absent_by_letter : (table : List ℕ) (es : List Count) (letter : ℕ) → AreCounts es → AreByLetter table es
     → letter < LETTERS → get_or table letter 0 ≡ 0 → count_of es letter ≡ None
@@ -240,8 +239,7 @@ different_letters (c ∷ cs) h =
     (other_letters c.0 cs parts.0, different_letters cs parts.1)
 
 turned : (letter : ℕ) (ls : List ℕ) → list_any (λ l. eqb l letter) ls ≡ list_any (eqb letter) ls
-turned letter [] = refl
-turned letter (l ∷ ls) = grind arith
+turned = grind arith
 
 are_systems : (cs : List Count) (letter : ℕ) → All IsCount cs → list_any (eqb letter) (letters_of cs) ≡ true
     → list_any (eqb letter) system_letters ≡ true

@@ -7,8 +7,7 @@ use Rattle.indexmap.specs.IndexMap.{spare}
 use Rattle.crx_header.proofs.types.put.Goals as goal
 
 pub returns-in-Some-clause-entries : goal.returns-in-Some-clause-entries
-returns-in-Some-clause-entries c =
-    grind (arith, common_steps, is_none, count_of, lookup_is_count, set_is_with)
+returns-in-Some-clause-entries = grind (arith, common_steps, is_none, lookup_is_count, set_is_with)
 
 pub returns-in_err-insert-clause-asked : goal.returns-in_err-insert-clause-asked
 returns-in_err-insert-clause-asked c =

@@ -3,14 +3,13 @@ use Rattle.std.proofs.lemmas.Grind.{common_steps}
 use Rattle.crx_header.proofs.Counts.{types_of-push, with_line-other, count_in_allowed, AreCounts-with_count}
 use Rattle.crx_header.{proofs.Counts.AreByLetter-with_count, specs.ObservationTypes.{with_line, with_count}}
 use Rattle.crx_header.specs.{ObservationTypes.{AreCounts, AreByLetter}, declared.types.TheConstants.LETTERS}
-use Rattle.crx_header.specs.{declared.types.TheConstants.SYSTEMS, meaning.ObservationTypes.is_types_line}
-use Rattle.crx_header.specs.meaning.ObservationTypes.{types_of, count_in}
+use Rattle.crx_header.specs.{declared.types.TheConstants.SYSTEMS}
+use Rattle.crx_header.specs.meaning.ObservationTypes.{count_in}
 use Rattle.indexmap.specs.IndexMap.{spare}
 use Rattle.crx_header.proofs.types.Types.accept_line.Goals as goal
 
 pub returns-then-not-is_types-clause-declared : goal.returns-then-not-is_types-clause-declared
-returns-then-not-is_types-clause-declared c =
-    grind (arith, common_steps, is_types_line, types_of-push, with_line-other, types_of)
+returns-then-not-is_types-clause-declared = grind (arith, common_steps, types_of-push, with_line-other)
 
 pub returns-clause-ok : goal.returns-clause-ok
 returns-clause-ok c = grind arith
