@@ -50,8 +50,8 @@ pub record IsHeldForEpoch (begun : OpenRawEpoch) (before after : BlockRoom) : Ty
   pub bytes : IsHeldFor (LINE_LIMIT + 1 + sum (map printed_room begun.rows))
       (before.bytes + before.spare_bytes) (after.bytes + after.spare_bytes)
 
--- an epoch was begun, or memory was wanting: that isn't so where there was room for all that its lines need; else the room is there from then
--- on; and no more is held for printed lines than theirs need
+-- an epoch was begun, or refused: not where there was room for all that its lines need. Once it is begun, there is;
+-- and for printed lines no more is held than before, or than twice what the epoch's need
 pub record AnswersWithRoom (begun : OpenRawEpoch) (before after : ReadingRoom) (answer : Result (Unit {0}) Fault)
     : Type 0 where
   pub known : HasRoomFor begun before → IsOk answer

@@ -1,11 +1,11 @@
 //! Rows to compact lines, one at a time, by the history, which they change in place: Hatanaka's Compact RINEX 3.0.
 
-ghost use Rattle.std.specs.Prelude.{◌≡◌, ◌≤◌, ◌+◌, ◌*◌, ◌++◌, ◌∷◌, ◌↔◌, [], None, Some, true, false, not, length, drop, slice_get, is_some, if◌then◌else◌, IsTrue, IfSome, IfOk, IsOk, OnOk, OnErr};
+ghost use Rattle.std.specs.Prelude.{◌≡◌, ◌≤◌, ◌<◌, ◌+◌, ◌*◌, ◌++◌, ◌∷◌, ◌↔◌, [], None, Some, true, false, not, length, drop, slice_get, is_some, if◌then◌else◌, IsTrue, IfSome, IfOk, IsOk, OnOk, OnErr};
 ghost use Rattle.crx_base.specs.declared.limits.TheConstants.{DATE_LIMIT, HEAD_WIDTH, LINE_LIMIT, NAME_WIDTH};
 ghost use Rattle.crx_header.specs.meaning.CompactHeader.{lines_before_header};
 ghost use Rattle.crx_rinex.specs.meaning.Epochs.{has_satellite};
 ghost use Rattle.crx_compact.specs.Encoding.{EncoderState, forgotten, tail_in};
-ghost use Rattle.crx_compact.specs.EncodingRooms.{GrowsForRow, HasRowRoom, HasSameMemory, HasTakenRow, HasTakenText, KeepsEncodingRoom, all_free};
+ghost use Rattle.crx_compact.specs.EncodingRooms.{GrowsForRow, HasRowRoom, HasSameMemory, HasTakenRow, HasTakenText, all_free};
 ghost use Rattle.crx_compact.specs.LineLists.{lines_text};
 ghost use Rattle.crx_compact.specs.EpochLinesRead.{history_cleared};
 ghost use Rattle.crx_compact.specs.Steps.{lines_after_tail, tail_after};
@@ -304,9 +304,12 @@ impl Encoder {
         }
     }
 
-    /// Borrows all lines that are ready as one text, each followed by LF; `None` where the next one is copied, and then they stay.
+    /// Borrows all lines that are ready as one text, each followed by LF; `None` where one of those before the header is among them, and
+    /// then they stay.
     pub fn take_text(&mut self) -> Option<&[u8]>
         ensures value { IfSome result (λ text. text.now ≡ lines_text self.old.pending) }
+        // A line alone is given.
+        ensures none { result ≡ None → 1 < length self.old.pending }
         ensures* after_borrow { sem 𝓛 (Rests the_row self.entry
             (λ new. new ≡ record self.old { pending = (if is_some result then [] else self.old.pending) })) }
     {

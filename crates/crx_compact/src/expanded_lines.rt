@@ -1,19 +1,18 @@
 //! The lines that an expansion has ready, borrowed one after another.
 
-ghost use Rattle.std.specs.Prelude.{◌≡◌, ◌≤◌, ◌↔◌, ◌⊎◌, [], ◌∷◌, IsTrue, drop, length, slice_get, IfOk};
+ghost use Rattle.std.specs.Prelude.{◌≡◌, ◌≤◌, ◌↔◌, [], ◌∷◌, IsTrue, drop, length, slice_get, IfOk};
 ghost use Rattle.std.specs.Borrow.{sem};
 ghost use Rattle.std.specs.Io.BufRead.{Rests};
 ghost use Rattle.std.specs.Option.{option_copied};
 ghost use Rattle.crx_base.specs.declared.limits.TheConstants.{LINE_LIMIT};
 ghost use Rattle.crx_base.specs.meaning.Lines.{lines_text};
-ghost use Rattle.crx_compact.specs.LineLists.{HasNoMoreRoom, block_room, no_block_room};
+ghost use Rattle.crx_compact.specs.LineLists.{block_room, no_block_room};
 ghost use Rattle.crx_compact.specs.contracts.expanded_lines.ExpandedLines.{the_row};
 
 use crate::copied_line::CopiedLine;
 use crate::lines::Lines;
 use std::alloc::{AllocError, Global};
 use std::marker::Model;
-use std::mem;
 
 /// The lines that an expansion has ready: a line that is copied, or those of an epoch.
 #[derive(Drop)]
@@ -22,6 +21,7 @@ pub struct ExpandedLines {
     copied: CopiedLine,
     /// Whether it is pending.
     is_copied: bool,
+    /// Those of an epoch; `Columns` has them change places with the lines that it printed.
     pub(crate) printed: Lines,
 }
 

@@ -11,7 +11,7 @@ ghost use Rattle.crx_rinex.specs.meaning.Observations.{Row};
 ghost use Rattle.crx_header.specs.meaning.Satellites.{types_of_satellite};
 ghost use Rattle.crx_rinex.specs.meaning.Printing.{printed_head};
 ghost use Rattle.crx_compact.specs.ArcSteps.{shown_value};
-ghost use Rattle.crx_compact.specs.EncodingRooms.{GrowsForEpoch, GrowsForRow, HasRoomForEpoch, HasRowRoom, HasSameMemory, HasTakenRow, HasTakenText, KeepsEncodingRoom, encoding_room};
+ghost use Rattle.crx_compact.specs.EncodingRooms.{GrowsForEpoch, GrowsForRow, HasRoomForEpoch, HasRowRoom, HasSameMemory, HasTakenRow, HasTakenText, encoding_room};
 ghost use Rattle.crx_compact.specs.EpochLinesRead.{AnswersSatellites, AreSatellitesRefused, IsEpochLineRead, IsEpochLineRefused, history_cleared};
 ghost use Rattle.crx_compact.specs.HeldRows.{IsAwaitedSatellite, past_of_tail, row_held};
 ghost use Rattle.crx_compact.specs.LineLists.{HasTakenLine, KeepsLinesRoom, room_of_lines};

@@ -57,7 +57,7 @@ pub record HasAnswered {E : Type 0} (engine : EngineGhosts E)
 abbrev pub IsLine : List ℕ → Bool → InputLine → Type 0
 IsLine content is_plain line = line ≡ record { content = content; is_plain = is_plain }
 
--- an engine holds its answer to the line of this content and number, which it could take
+-- an engine holds its answer to the line of this content and number, which is within its limit and could be taken
 pub record HoldsAnswer {E : Type 0} (engine : EngineGhosts E) (now : E) (content : List ℕ) (number : ℕ)
     (is_plain : Bool) : Type 0 where
   pub short : length content ≤ LINE_LIMIT
@@ -115,8 +115,8 @@ pub record LineIsTaken {E : Type 0} (engine : EngineGhosts E) (before now : E)
   pub cut : (lines : List InputLine) (line : InputLine) → engine.shows before lines [] → can_be line
       → IfErr result (LineEndsRun (engine.filter before) lines line writer messages)
 
--- what an engine answered to the line of this content is done, so that the line is taken, whichever way the engine was
--- before it
+-- an engine that had answered to the line of this content is as it is once that was carried out: the line is taken, or
+-- has ended the run, whichever way the engine was before it
 abbrev pub AnswerIsDone : {E : Type 0} → EngineGhosts E → E → E → List ℕ → Bool → Device → Device → Result Bool Halt
     → Type 0
 AnswerIsDone {E = E} engine answered now content is_plain writer messages result = (before : E)
