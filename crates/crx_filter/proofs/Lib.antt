@@ -5,6 +5,7 @@ pub mod Reports
 pub mod RinexSteps
 pub mod TypesLines
 pub mod Words
+pub mod Pending
 pub mod reading
 pub mod following
 pub mod steps

@@ -48,7 +48,7 @@ pub use Rattle.crx_base.specs.meaning.Lines.{onto_first, without_return, line_of
 pub use Rattle.crx_base.specs.meaning.Seen.{ReadLine, Content, seen, Overlong}
 pub use Rattle.crx_filter.proofs.Choosing.{by_bool, false-true}
 pub use Rattle.crx_filter.specs.Anew.{IsBetweenUnits, starts_anew, GoOnAlike}
-pub use Rattle.crx_filter.specs.CheckerState.{checker_state_with}
+pub use Rattle.crx_filter.specs.CheckingParts.{checker_state_with}
 pub use Rattle.crx_filter.specs.Compacted.{compacted_so_far}
 pub use Rattle.crx_filter.specs.EngineSteps.{answer_of_step, step_made, Steps}
 pub use Rattle.crx_filter.specs.Expanded.{expanded_lines, expanded_so_far}
@@ -69,7 +69,7 @@ pub use Rattle.crx_lines.specs.Reading.{HasNoFeed}
 pub use Rattle.crx_base.specs.meaning.Choices.{Choices, is_date}
 pub use Rattle.crx_filter.specs.CheckByLine.{checking, no_choices, totals_of, Totals, printed_open}
 pub use Rattle.crx_filter.specs.CheckByLine.{printed_so_far, printed_made, earliest, CheckSeen, check_seen}
-pub use Rattle.crx_filter.specs.CheckByLine.{check_next}
+pub use Rattle.crx_filter.specs.CheckByLine.{check_next, check_by_line, check_reading}
 pub use Rattle.crx_filter.specs.CompactionByLine.{compaction, made_of_epoch_step, rinex_begins, Written}
 pub use Rattle.crx_filter.specs.CompactionByLine.{compaction_seen, rinex_open, written_of, made_of_beginning}
 pub use Rattle.crx_filter.specs.CompactionByLine.{epoch_written, is_next_row, compact_written, written_kept}

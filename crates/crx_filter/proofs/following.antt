@@ -11,6 +11,7 @@ pub mod ExpandedOn
 pub mod CheckedOn
 pub mod Lawful
 pub mod CheckLawful
+pub mod CheckGoes
 pub mod Memory
 pub mod MemoryOfCompactText
 pub mod MemoryOfRinex

@@ -2,7 +2,7 @@
 -- the reading does, and four totals. Lists of items have the newest first.
 use Rattle.std.specs.Prelude.{ℕ, Bool, false, ◌+◌, List, [], ◌∷◌, ◌++◌, length, map, Option, Some, None, if◌then◌else◌}
 use Rattle.crx_base.specs.meaning.Lines.{InputLine}
-use Rattle.crx_base.specs.meaning.Seen.{seen}
+use Rattle.crx_base.specs.meaning.Seen.{ReadLine, seen}
 use Rattle.crx_rinex.specs.meaning.Observations.{Epoch, observations_in}
 use Rattle.crx_rinex.specs.meaning.Units.{Unit, HeaderLine, EventLine, EventRecord, Observation, printed_unit}
 use Rattle.crx_rinex.specs.meaning.Printing.{printed_epoch}
@@ -47,8 +47,8 @@ totals_made totals is_first (Moves phase) = totals
 totals_made totals is_first (Fails fault) = totals
 totals_made totals is_first (Repeats at) = totals
 
--- a check as a direction: it reads as compaction does, keeps the totals, and a unit's lines are those that printing
--- gives
+-- a check's reading as a direction: it reads as compaction does, keeps the totals, and a unit's lines are those that
+-- printing gives
 abbrev pub checking : Direction Epoch OpenEpoch Totals
 checking = record {
   begins = rinex_begins;
@@ -60,6 +60,10 @@ checking = record {
   emptied = λ kept. kept;
   written = λ seen. printed_unit;
 }
+
+-- a check as an engine's direction: before the end of the input it hands out nothing
+abbrev pub check_by_line : Direction Epoch OpenEpoch Totals
+check_by_line = record checking { written = λ seen unit. [] }
 
 -- the version in the first line of the header
 abbrev pub version_accepted : List (Item Epoch) → List ℕ
@@ -114,6 +118,10 @@ pub record CheckSeen : Type 0 where
 -- a check chooses nothing, and never skips
 abbrev pub no_choices : Choices
 no_choices = record { every = None; skip = false; date = [] }
+
+-- what a check's reading has seen after some lines
+abbrev pub check_reading : List ReadLine → Seen OpenEpoch Totals
+check_reading lines = seen_of checking rinex_open totals_of no_choices (length lines) (rinex_reading false lines)
 
 -- what a check has seen after some lines
 abbrev pub check_seen : List InputLine → CheckSeen

@@ -1,8 +1,9 @@
 -- What a direction has between two lines, and what it does with the next one.
-use Rattle.std.specs.Prelude.{◌≡◌, ◌⊎◌, ◌≤◌, ◌<◌, ℕ, ◌+◌, Bool, true, false, List, [], length, Option, Result}
+use Rattle.std.specs.Prelude.{◌≡◌, ◌⊎◌, ◌<◌, ℕ, ◌+◌, Bool, true, false, List, [], length, map, Option, Result}
 use Rattle.std.specs.Prelude.{IfOk, IfErr, OnErr}
-use Rattle.crx_base.specs.declared.limits.TheConstants.{INPUT_LIMIT, LINE_LIMIT}
-use Rattle.crx_base.specs.meaning.Seen.{ReadLine, Content}
+use Rattle.crx_base.specs.declared.limits.TheConstants.{INPUT_LIMIT}
+use Rattle.crx_base.specs.meaning.Lines.{InputLine}
+use Rattle.crx_base.specs.meaning.Seen.{ReadLine, Content, seen}
 use Rattle.crx_base.specs.meaning.Choices.{Choices}
 use Rattle.crx_base.specs.declared.fault.Fault.{Fault}
 use Rattle.crx_base.specs.declared.fault.Fault.TheVariants.{OutOfMemory}
@@ -71,6 +72,12 @@ pub record Reads {U O K : Type 0} (direction : Direction U O K) (serves : Choice
   pub kept : OnErr result (direction.emptied after.kept ≡ direction.emptied before.kept)
   pub nothing : OnErr result (ready ≡ [])
 
+-- a direction that takes these choices has taken these lines by them: what is seen of it is what is seen after them
+pub record IsAfterLines {O K : Type 0} (chosen : Choices → Choices) (seen_after : Choices → List ReadLine → Seen O K)
+    (choices : Choices) (lines : List InputLine) (parts : DirectionParts O K) : Type 0 where
+  pub taken_as : chosen choices ≡ choices
+  pub is_seen : seen_by choices (length lines) parts ≡ seen_after choices (map seen lines)
+
 -- what an engine does with a line: its step, or memory ran out; after a fault that ends the run no line is ready
 pub record TakesLine {U O K : Type 0} (direction : Direction U O K) (before : Seen O K) (line : ReadLine)
     (result : Result Step At) (ready : List (List ℕ)) (after : Seen O K) : Type 0 where
@@ -79,11 +86,9 @@ pub record TakesLine {U O K : Type 0} (direction : Direction U O K) (before : Se
   pub nothing : OnErr result (ready ≡ [])
   pub choices : after.choices ≡ before.choices
 
--- an engine can be given a line with this content: no line is ready, and one more is within the limit
-pub record AwaitsLine {O K : Type 0} (ready : List (List ℕ)) (before : Seen O K)
-    (line : List ℕ) : Type 0 where
+-- an engine can be given a line: no line is ready, and one more is within the limit
+pub record AwaitsLine {O K : Type 0} (ready : List (List ℕ)) (before : Seen O K) : Type 0 where
   pub drained : ready ≡ []
-  pub short : length line ≤ LINE_LIMIT
   pub within : before.number < INPUT_LIMIT
 
 -- an engine has made this step, and no line is ready; its choices are as they were, and a fault that it
@@ -93,6 +98,17 @@ pub record HasStopped {O K : Type 0} (step : SeenStep O K) (result : Result Step
   pub steps : step_made result [] after ≡ step
   pub ended : IfErr result (λ at. after.phase ≡ Ended at)
   pub drained : ready ≡ []
+  pub choices : after.choices ≡ before.choices
+
+-- an engine has taken the end of the input, at which it may hand out these lines: it has made this step; its choices
+-- are
+-- as they were, and after a fault, which has ended the run, no line is ready
+pub record HasClosed {O K : Type 0} (closing : List (List ℕ)) (step : SeenStep O K) (result : Result Step At)
+    (ready : List (List ℕ)) (before after : Seen O K) : Type 0 where
+  pub steps : step_made result ready after ≡ step
+  pub ended : IfErr result (λ at. after.phase ≡ Ended at)
+  pub drained : closing ≡ [] → ready ≡ []
+  pub nothing : OnErr result (ready ≡ [])
   pub choices : after.choices ≡ before.choices
 
 -- a direction was at this stage before a line with a fault, which reading may go on at or not

@@ -1,13 +1,16 @@
 -- What an engine of a direction is seen as.
-use Rattle.std.specs.Prelude.{ℕ, Bool, List, Result}
+use Rattle.std.specs.Prelude.{◌≡◌, ℕ, Bool, false, List, length, Result, IfOk}
 use Rattle.crx_base.specs.declared.fault.At.{At}
 use Rattle.crx_base.specs.meaning.Lines.{InputLine}
 use Rattle.crx_base.specs.meaning.Seen.{Content, Overlong}
 use Rattle.crx_filter.specs.EngineLines.{HasTaken}
-use Rattle.crx_filter.specs.DirectionParts.{AwaitsLine, EngineParts, HasStopped, TakesLine, seen_by}
-use Rattle.crx_filter.specs.LineByLine.{Seen, seen_end, seen_next}
+use Rattle.crx_filter.specs.DirectionParts.{AwaitsLine, EngineParts, HasClosed, IsAfterLines, HasStopped, TakesLine}
+use Rattle.crx_filter.specs.DirectionParts.{seen_by}
+use Rattle.crx_filter.specs.LineByLine.{Seen, seen_end_with, seen_next}
 use Rattle.crx_runs.specs.Engines.{Awaited, answer_given}
+use Rattle.crx_filter.specs.EngineSteps.{step_made}
 use Rattle.crx_runs.specs.declared.engine.Step.{Step}
+use Rattle.crx_runs.specs.meaning.Filters.{with_next}
 use Rattle.crx_filter.specs.declared.direction.Direction.{Ghosts}
 
 module _ {D : Type 0} (d : Ghosts D) where
@@ -22,15 +25,23 @@ module _ {D : Type 0} (d : Ghosts D) where
   -- it has taken these lines, and where one is to come a second time, has answered this warning to it
   abbrev pub engine_took : EngineParts D → List InputLine → List Awaited → Type 0
   engine_took e lines notices = HasTaken d.by_line (d.seen_after e.options) (engine_seen e) lines notices
+      × d.knows e.direction lines
 
-  -- it can be given a line with this content
-  abbrev pub EngineAwaits : EngineParts D → List ℕ → Type 0
-  EngineAwaits e line = AwaitsLine (engine_ready e) (engine_seen e) line
+  -- it can be given a line
+  abbrev pub EngineAwaits : EngineParts D → Type 0
+  EngineAwaits e = AwaitsLine (engine_ready e) (engine_seen e)
 
   -- it has taken a line with this content, after which nothing is to be done, or what is stored is answered
   abbrev pub EngineTakes : EngineParts D → List ℕ → Bool → EngineParts D → Type 0
   EngineTakes before line is_quiet after = TakesLine d.by_line (engine_seen before) (Content line)
       (answer_given is_quiet after.answer) (engine_ready after) (engine_seen after)
+
+  -- where nothing is skipped and no fault has ended the run, its direction has noted the next line too
+  abbrev pub EngineNotes : EngineParts D → InputLine → Result Step At → EngineParts D → Type 0
+  EngineNotes before line result after = (lines : List InputLine) → before.number ≡ length lines
+      → IsAfterLines d.chosen d.seen_after before.options lines (d.parts before.direction) → d.knows before.direction
+      lines
+      → IfOk result (λ step. before.options.skip ≡ false → d.knows after.direction (with_next lines line))
 
   -- it has taken a line that is too long, or the end of the input
   abbrev pub EngineSkips : EngineParts D → Result Step At → EngineParts D → Type 0
@@ -38,5 +49,13 @@ module _ {D : Type 0} (d : Ghosts D) where
       result (engine_ready after) (engine_seen before) (engine_seen after)
 
   abbrev pub EngineEnds : EngineParts D → Result Step At → EngineParts D → Type 0
-  EngineEnds before result after = HasStopped (seen_end d.by_line (engine_seen before))
-      result (engine_ready after) (engine_seen before) (engine_seen after)
+  EngineEnds before result after = HasClosed (d.closing before.direction) (seen_end_with d.by_line
+      (d.closing before.direction) (engine_seen before)) result (engine_ready after) (engine_seen before)
+      (engine_seen after)
+
+  -- at a good end it hands out what it is to hand out after these lines, and has found what is to be found in them
+  pub record EngineConcludes (before : EngineParts D) (lines : List InputLine) (result : Result Step At)
+      (after : EngineParts D) : Type 0 where
+    pub steps : step_made result (engine_ready after) (engine_seen after)
+        ≡ seen_end_with d.by_line (d.closing_after before.options lines) (engine_seen before)
+    pub found : IfOk result (λ step. d.has_found after.direction lines)

@@ -9,7 +9,9 @@ use Rattle.crx_filter.specs.CompactionParts.{CompactionState}
 use Rattle.crx_filter.specs.declared.engine.Engine.TheInside.{Inside as EngineInside}
 use Rattle.crx_filter.specs.declared.expansion.Expansion.{Expansion}
 use Rattle.crx_filter.specs.DirectionParts.{EngineParts}
-use Rattle.crx_filter.specs.declared.checker.Checker.{Checker}
+use Rattle.crx_filter.specs.declared.checking.Checking.TheInside.{Inside as CheckingInside}
+use Rattle.crx_filter.specs.declared.checking.Noted.{Noted}
+use Rattle.crx_filter.specs.CheckingParts.{CheckingState}
 
 -- options, with the parts of another
 abbrev pub options_with : OptionsInside → OptionsInside → OptionsInside
@@ -90,16 +92,37 @@ expander_with one other = record one {
   answer = other.answer;
 }
 
--- a checker, with the parts of another
-abbrev pub checker_with : Checker → Checker → Checker
-checker_with one other = record one {
+-- what a check has noted, with the parts of another
+abbrev pub noted_with : Noted → Noted → Noted
+noted_with one other = record one {
+  observed = other.observed;
+  totals = other.totals;
+  not_standard = other.not_standard;
+  text = other.text;
+}
+
+-- a check, with the parts of another; and what its code has of one
+abbrev pub checking_with : CheckingState → CheckingState → CheckingState
+checking_with one other = record one {
   reader = rinex_reader_with one.reader other.reader;
   names = other.names;
-  number = other.number;
-  totals = other.totals;
-  observed = other.observed;
-  not_standard = other.not_standard;
+  noted = noted_with one.noted other.noted;
   handed_out = other.handed_out;
-  text = other.text;
+}
+
+abbrev pub checking_inside_with : CheckingInside → CheckingInside → CheckingInside
+checking_inside_with one other = record one {
+  reader = rinex_reader_with one.reader other.reader;
+  names = other.names;
+  noted = noted_with one.noted other.noted;
+  handed_out = other.handed_out;
+}
+
+-- a checker, with the parts of another
+abbrev pub checker_with : EngineParts CheckingState → EngineParts CheckingState → EngineParts CheckingState
+checker_with one other = record one {
+  options = other.options;
+  number = other.number;
+  direction = checking_with one.direction other.direction;
   answer = other.answer;
 }

@@ -206,7 +206,8 @@ abbrev pub has_lines : List (List ℕ) → Bool
 has_lines [] = false
 has_lines (line ∷ lines) = true
 
--- a line is answered as ready exactly where lines are borrowed
-abbrev pub IsReadyWhereHandedOut : {U O K : Type 0} → Direction U O K → Type 0
-IsReadyWhereHandedOut {O = O} {K = K} direction = (seen : Seen O K) (line : ReadLine)
-    → is_ready (seen_next direction seen line).answer ≡ has_lines (seen_next direction seen line).handed_out
+-- a line is answered as ready exactly where lines are borrowed, and for each unit some are
+pub record IsReadyWhereHandedOut {U O K : Type 0} (direction : Direction U O K) : Type 0 where
+  pub exactly : (seen : Seen O K) (line : ReadLine)
+      → is_ready (seen_next direction seen line).answer ≡ has_lines (seen_next direction seen line).handed_out
+  pub each_unit : (seen : Seen O K) (unit : Unit U) → has_lines (direction.written seen unit) ≡ true

@@ -27,4 +27,5 @@ pub mod DirectionParts
 pub mod EngineLaws
 pub mod EngineState
 pub mod CheckerState
+pub mod CheckingParts
 pub mod Holdings

@@ -1,7 +1,7 @@
 -- A run line by line: the state between two lines, and what one line more makes of it. Both directions go this way;
 -- what differs between them is in a `Direction`. O is the state of an epoch whose lines have come in part, K
 -- that of the epochs before, and U what a whole epoch gives.
-use Rattle.std.specs.Prelude.{ℕ, zero, suc, Bool, true, false, not, ◌&&◌, ◌+◌, ◌-◌, List, [], Option, Some, None}
+use Rattle.std.specs.Prelude.{ℕ, zero, suc, Bool, true, false, not, ◌&&◌, ◌+◌, ◌-◌, List, [], ◌∷◌, Option, Some, None}
 use Rattle.std.specs.Prelude.{Result, Ok, Err, if◌then◌else◌}
 use Rattle.crx_base.specs.meaning.Seen.{ReadLine, Content, Overlong}
 use Rattle.crx_base.specs.declared.fault.At.{At}
@@ -138,6 +138,11 @@ pub data Answer : Type 0 where
   Notice : At → Bool → Answer
   Failed : At → Answer
 
+-- lines that are handed out are pending; without any, nothing is answered
+abbrev pub answer_of_lines : List (List ℕ) → Answer
+answer_of_lines [] = Quiet
+answer_of_lines (line ∷ lines) = Ready
+
 pub record Step (O K : Type 0) : Type 0 where
   pub answer : Answer
   pub handed_out : List (List ℕ)
@@ -196,8 +201,11 @@ failed_step direction seen line fault =
     else record { answer = Failed at; handed_out = []; next = with_phase direction seen (Ended at) }
 
 abbrev pub step_of_made : {U O K : Type 0} → Direction U O K → Seen O K → ReadLine → Made U O → Step O K
-step_of_made direction seen line (Completes unit) =
-    record { answer = Ready; handed_out = direction.written seen unit; next = after_unit direction seen unit }
+step_of_made direction seen line (Completes unit) = record {
+  answer = answer_of_lines (direction.written seen unit);
+  handed_out = direction.written seen unit;
+  next = after_unit direction seen unit;
+}
 step_of_made direction seen line (Moves phase) =
     record { answer = Quiet; handed_out = []; next = with_phase direction seen phase }
 step_of_made direction seen line (Fails fault) = failed_step direction seen line fault
@@ -226,9 +234,11 @@ fault_at_end_in (Ended at) = None
 abbrev pub closed_after_warning : {U O K : Type 0} → Direction U O K → Seen O K → Seen O K
 closed_after_warning direction seen = record seen { phase = Closed; kept = direction.emptied seen.kept }
 
-abbrev pub end_step : {U O K : Type 0} → Direction U O K → Seen O K → Option Fault → Step O K
-end_step direction seen None = record { answer = Quiet; handed_out = []; next = record seen { phase = Closed } }
-end_step direction seen (Some fault) =
+-- the input has ended, well or with a fault; at a good end these lines are handed out
+abbrev pub end_step : {U O K : Type 0} → Direction U O K → List (List ℕ) → Seen O K → Option Fault → Step O K
+end_step direction closing seen None =
+    record { answer = answer_of_lines closing; handed_out = closing; next = record seen { phase = Closed } }
+end_step direction closing seen (Some fault) =
     let at : At = record { line = seen.number + 1; fault = fault } in
     if is_skipped_in seen fault
     then record { answer = Notice at false; handed_out = []; next = closed_after_warning direction seen }
@@ -238,13 +248,18 @@ end_step direction seen (Some fault) =
       next = record seen { phase = Ended at; kept = direction.emptied seen.kept };
     }
 
--- what the end of the input makes: a fault that ended the run is answered again
-abbrev pub seen_end : {U O K : Type 0} → Direction U O K → Seen O K → Step O K
-seen_end direction seen =
+-- what the end of the input makes, where these lines are handed out at a good end: a fault that ended the run is
+-- answered again
+abbrev pub seen_end_with : {U O K : Type 0} → Direction U O K → List (List ℕ) → Seen O K → Step O K
+seen_end_with direction closing seen =
     elim (seen.phase) [
       | Ended at ↦ record { answer = Failed at; handed_out = []; next = seen }
-      | phase ↦ end_step direction seen (fault_at_end_in phase)
+      | phase ↦ end_step direction closing seen (fault_at_end_in phase)
     ]
+
+-- the same where nothing is handed out at the end
+abbrev pub seen_end : {U O K : Type 0} → Direction U O K → Seen O K → Step O K
+seen_end direction seen = seen_end_with direction [] seen
 
 -- ---- what is seen of a reading
 

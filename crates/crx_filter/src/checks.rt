@@ -2,7 +2,9 @@
 
 ghost use Rattle.std.specs.Prelude.{◌≡◌, [], None, Some};
 ghost use Rattle.crx_base.specs.declared.fault.At.{At};
-ghost use Rattle.crx_filter.specs.CheckerState.{CheckerHasTaken, CheckerIsOpen, pending_report};
+ghost use Rattle.crx_filter.specs.CheckByLine.{check_reading};
+ghost use Rattle.crx_filter.specs.CheckingParts.{HasNoted};
+ghost use Rattle.crx_filter.specs.CheckerState.{checker_ready, checker_state};
 ghost use Rattle.crx_filter.specs.meaning.Directions.{check_filter};
 ghost use Rattle.crx_filter.specs.meaning.Lossless.{SaysThatItComesBack};
 ghost use Rattle.crx_filter.specs.meaning.Promises.{JudgesStandard, Keeps};
@@ -11,10 +13,11 @@ ghost use Rattle.crx_filter.specs.meaning.Standard.{checked, report_status};
 ghost use Rattle.crx_runs.specs.meaning.Spans.{span};
 ghost use Rattle.crx_runs.specs.meaning.Spans.{reader_span};
 
-use crate::checker::Checker;
+use crate::checking::{Checker, no_options};
 use crx_lines::{Sink, Source};
 use crx_runs::Outcome;
 use crx_runs::run::run;
+use crx_runs::start::start;
 use std::alloc::Global;
 
 /// What a check answers: where no fault ended it, the status says whether the file is standard.
@@ -42,9 +45,9 @@ fn check_by<R: Source, W: Sink, M: Sink>(
     writer: &mut W,
     messages: &mut M,
 ) -> Outcome
-    requires taken { CheckerHasTaken checker.old [] [] }
-    requires open { CheckerIsOpen checker.old }
-    requires drained { pending_report checker.old ≡ [] }
+    requires taken { HasNoted checker.old.direction [] }
+    requires seen { checker_state checker.old ≡ check_reading [] }
+    requires drained { checker_ready checker.old ≡ [] }
     ensures runs { Runs checked check_filter
         (reader_span R.Source reader.old reader.new)
         (span W.Sink writer.old writer.new)
@@ -76,6 +79,8 @@ pub fn check<R: Source, W: Sink, M: Sink>(
         (reader_span R.Source reader.old reader.new)
         (span W.Sink writer.old writer.new) (span M.Sink messages.old messages.new) result.fault }
 {
-    let mut checker = Checker::new(alloc);
-    check_by(alloc, &mut checker, reader, writer, messages)
+    match Checker::new(alloc, no_options()) {
+        Ok(mut checker) => check_by(alloc, &mut checker, reader, writer, messages),
+        Err(error) => start::<Checker, R, W, M>(alloc, Err(error), reader, writer, messages),
+    }
 }

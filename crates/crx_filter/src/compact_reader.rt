@@ -146,18 +146,14 @@ impl CompactReader {
         Ok(false)
     }
 
-    /// Goes to the stage after a fault or after the end of the input, where no epoch is open, and empties the columns where that is
-    /// asked for.
-    pub fn end_with(&mut self, stage: Stage, is_emptied: bool)
+    /// Goes to the stage after a fault, where no epoch is open, and empties the columns.
+    pub fn end_with(&mut self, stage: Stage)
         requires settled { is_settled stage ≡ true }
         ensures stage { self.new.stage ≡ stage }
         ensures types { self.new.types ≡ self.old.types }
-        ensures tail { tail_held self.new.columns.state
-            ≡ (if is_emptied then None else tail_held self.old.columns.state) }
+        ensures tail { tail_held self.new.columns.state ≡ None }
     {
-        if is_emptied || !self.columns.is_idle() {
-            self.columns.reset();
-        }
+        self.columns.reset();
         self.stage = stage;
     }
 }

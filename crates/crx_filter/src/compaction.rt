@@ -15,6 +15,7 @@ use crate::rinex_reader::{RinexReader, RinexStep};
 use crate::stage::Stage;
 use crx_base::{Fault, Options};
 use crx_compact::Encoder;
+use crx_lines::Line;
 use std::alloc::{AllocError, Global};
 use std::marker::Model;
 
@@ -110,6 +111,7 @@ fn end_epoch(reader: &RinexReader, encoder: &mut Encoder) -> Result<(), Fault>
 }
 
 impl Direction for Compaction {
+    ghost use Rattle.std.specs.Prelude.{⊤};
     ghost use Rattle.crx_rinex.specs.meaning.EpochPlaces.{OpenEpoch};
     ghost use Rattle.crx_rinex.specs.meaning.Observations.{Epoch as ObservationEpoch};
     ghost use Rattle.crx_filter.specs.CompactionByLine.{Written, compaction, compaction_seen};
@@ -124,7 +126,11 @@ impl Direction for Compaction {
 
     ghost by_line = { compaction };
 
+    ghost chosen = { λ choices. choices };
+
     ghost seen_after = { compaction_seen };
+
+    ghost closing_after = { λ choices lines. [] };
 
     ghost filter = { compaction_filter };
 
@@ -132,10 +138,22 @@ impl Direction for Compaction {
 
     ghost ready = { λ c. c.encoder.pending };
 
+    ghost closing = { λ c. [] };
+
     ghost counted = { λ c. c.index };
 
     ghost serves = { λ c choices. is_full_where_due c.reader.stage c.encoder.in_full
         (is_at_every choices.every c.index) };
+
+    ghost knows = { λ c lines. ⊤ };
+
+    ghost has_found = { λ c lines. ⊤ };
+
+    ghost skipping = { λ c choices lines taken skips. (tt, tt) };
+
+    fn chosen(options: Options) -> Options {
+        options
+    }
 
     fn new(alloc: Global) -> Result<Compaction, AllocError> {
         let encoder = Encoder::new(alloc)?;
@@ -152,8 +170,8 @@ impl Direction for Compaction {
     }
 
     #[inline(always)]
-    fn go_on(&mut self, line: &[u8]) -> Result<bool, Fault> {
-        let is_last = take_row(&mut self.reader, &mut self.encoder, line)?;
+    fn go_on(&mut self, line: Line<'_>) -> Result<bool, Fault> {
+        let is_last = take_row(&mut self.reader, &mut self.encoder, line.bytes())?;
         if !is_last {
             return Ok(false);
         }
@@ -162,7 +180,8 @@ impl Direction for Compaction {
         Ok(true)
     }
 
-    fn take(&mut self, options: &Options, line: &[u8]) -> Result<bool, Fault> {
+    fn take(&mut self, options: &Options, line: Line<'_>) -> Result<bool, Fault> {
+        let line = line.bytes();
         match self.reader.take(line)? {
             RinexStep::Nothing => Ok(false),
             RinexStep::Begun => {
@@ -185,11 +204,14 @@ impl Direction for Compaction {
         }
     }
 
-    fn end_with(&mut self, stage: Stage, is_emptied: bool) {
-        if is_emptied {
-            self.encoder.reset();
-        }
+    fn end_with(&mut self, stage: Stage) {
+        self.encoder.reset();
         self.reader.stage = stage;
+    }
+
+    fn conclude(&mut self) -> bool {
+        self.reader.stage = Stage::Closed;
+        false
     }
 
     fn is_drained(&self) -> bool {

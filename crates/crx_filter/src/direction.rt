@@ -1,22 +1,25 @@
 //! What differs between the directions of an engine.
 
-ghost use Rattle.std.specs.Prelude.{◌≡◌, ◌≤◌, ◌<◌, ◌+◌, ◌↔◌, ℕ, Bool, List, [], drop, length, slice_get, Result, if◌then◌else◌, is_some, IfOk, IfSome, IsTrue, OnErr, true, false};
+ghost use Rattle.std.specs.Prelude.{◌≡◌, ◌≤◌, ◌<◌, ◌+◌, ◌↔◌, ℕ, Bool, List, [], None, drop, length, slice_get, Result, if◌then◌else◌, is_some, IfOk, IfSome, IsTrue, OnErr, true, false};
 ghost use Rattle.std.specs.Borrow.{sem};
 ghost use Rattle.std.specs.Io.BufRead.{Rests};
 ghost use Rattle.std.specs.Option.{option_copied};
-ghost use Rattle.crx_base.specs.declared.limits.TheConstants.{INPUT_LIMIT, LINE_LIMIT};
+ghost use Rattle.crx_base.specs.declared.limits.TheConstants.{INPUT_LIMIT};
 ghost use Rattle.crx_base.specs.meaning.Choices.{Choices};
-ghost use Rattle.crx_base.specs.meaning.Lines.{lines_text};
+ghost use Rattle.crx_base.specs.meaning.Lines.{InputLine, lines_text};
 ghost use Rattle.crx_base.specs.meaning.Seen.{ReadLine};
-ghost use Rattle.crx_runs.specs.meaning.Filters.{Filter};
-ghost use Rattle.crx_filter.specs.DirectionParts.{DirectionParts, Reads, seen_by};
+ghost use Rattle.crx_lines.specs.Reading.{line_number, line_shown};
+ghost use Rattle.crx_runs.specs.meaning.Filters.{Filter, with_next};
+ghost use Rattle.crx_filter.specs.DirectionParts.{DirectionParts, IsAfterLines, Reads, answer_for, seen_by};
 ghost use Rattle.crx_filter.specs.EngineLaws.{IsLawfulDirection};
-ghost use Rattle.crx_filter.specs.LineByLine.{Direction as DirectionByLine, Seen};
+ghost use Rattle.crx_filter.specs.LineByLine.{Direction as DirectionByLine, Seen, answer_of_lines, fault_at_end_in};
 ghost use Rattle.crx_filter.specs.RinexStages.{is_open_stage};
-ghost use Rattle.crx_filter.specs.Stages.{is_ended, is_held, is_settled};
+ghost use Rattle.crx_filter.specs.Stages.{bare_phase, is_ended, is_held, is_passing, is_settled};
+ghost use Rattle.crx_filter.specs.declared.stage.Stage.{Stage};
 
 use crate::stage::Stage;
 use crx_base::{Fault, Options};
+use crx_lines::Line;
 use std::alloc::{AllocError, Global};
 
 /// A direction of an engine: what it makes of a line, what it forgets after a fault, and the lines that are ready.
@@ -28,75 +31,121 @@ pub trait Direction: Drop {
 
     ghost Kept: { Type 0 };
 
-    // The direction that it is line by line, what is seen after some lines, and what it writes and reports.
+    // The direction that it is line by line, the user's choices as it takes them, what is seen after some lines, the lines that it hands
+    // out at a good end after them, and what it writes and reports.
     ghost by_line: { DirectionByLine Whole Open Kept };
 
+    ghost chosen: { Choices → Choices };
+
     ghost seen_after: { Choices → List ReadLine → Seen Open Kept };
+
+    ghost closing_after: { Choices → List InputLine → List (List ℕ) };
 
     ghost filter: { Choices → Filter };
 
     // What it has between two lines.
     ghost parts: { Self → DirectionParts Open Kept };
 
-    // The lines that are pending.
+    // The lines that are pending, and those that a good end would make ready.
     ghost ready: { Self → List (List ℕ) };
 
-    // How many epochs it has counted, at most one a line.
+    ghost closing: { Self → List (List ℕ) };
+
+    // How many units it has counted, at most one a line.
     ghost counted: { Self → ℕ };
 
     // What it has open was begun by these choices.
     ghost serves: { Self → Choices → Bool };
 
+    // What it has noted of these lines, beside what is seen of it; and at a good end, what it has found in them.
+    ghost knows: { Self → List InputLine → Type 0 };
+
+    ghost has_found: { Self → List InputLine → Type 0 };
+
+    // One that skips faults has nothing to note or to find.
+    ghost skipping: { (d : Self) (choices : Choices) (lines : List InputLine)
+        → chosen choices ≡ choices → choices.skip ≡ true → knows d lines × has_found d lines };
+
+    /// The user's choices, as it takes them.
+    fn chosen(options: Options) -> Options
+        ensures value { result ≡ chosen options }
+        ensures same { chosen result ≡ result };
+
     /// A direction before the first line of its input.
     fn new(alloc: Global) -> Result<Self, AllocError>
-        ensures seen { (choices : Choices) → IfOk result (λ d. seen_by choices 0 (parts d) ≡ seen_after choices []) }
+        ensures seen { (choices : Choices) → chosen choices ≡ choices
+            → IfOk result (λ d. seen_by choices 0 (parts d) ≡ seen_after choices []) }
         ensures drained { IfOk result (λ d. ready d ≡ []) }
         ensures counted { IfOk result (λ d. counted d ≡ 0) }
-        ensures serves { (choices : Choices) → IfOk result (λ d. serves d choices ≡ true) };
+        ensures serves { (choices : Choices) → IfOk result (λ d. serves d choices ≡ true) }
+        ensures knows { IfOk result (λ d. knows d []) };
 
     /// Where it is between two lines.
     fn stage(&self) -> Stage
         ensures value { result ≡ (parts self.now).stage }
         ensures held { is_held result (parts self.now).begun ≡ true }
-        ensures lawful { IsLawfulDirection by_line seen_after filter };
+        ensures lawful { IsLawfulDirection by_line chosen closing_after seen_after filter }
+        ensures passes { (choices : Choices) (lines : List InputLine) (line : InputLine)
+            → IsAfterLines chosen seen_after choices lines (parts self.now) → is_passing result ≡ true
+            → knows self.now lines → knows self.now (with_next lines line) };
 
     /// Takes a line of an open epoch: `true` says that lines are ready.
-    fn go_on(&mut self, line: &[u8]) -> Result<bool, Fault>
+    fn go_on(&mut self, line: Line<'_>) -> Result<bool, Fault>
         requires open { is_open_stage (parts self.old).stage ≡ true }
-        requires short { length line.now ≤ LINE_LIMIT }
         requires within { counted self.old < INPUT_LIMIT }
         requires drained { ready self.old ≡ [] }
-        ensures reads { Reads by_line (λ choices. serves self.old choices ≡ true) (parts self.old) line.now result
-            (ready self.new) (parts self.new) }
+        ensures reads { Reads by_line (λ choices. serves self.old choices ≡ true) (parts self.old)
+            (line_shown line.entry).content result (ready self.new) (parts self.new) }
         ensures serves { (choices : Choices) → serves self.old choices ≡ true → serves self.new choices ≡ true }
         ensures counted { IfOk result (λ is_ready. counted self.new ≤ counted self.old + 1) }
-        ensures same { OnErr result (counted self.new ≤ counted self.old) };
+        ensures same { OnErr result (counted self.new ≤ counted self.old) }
+        ensures knows { (choices : Choices) (lines : List InputLine)
+            → IsAfterLines chosen seen_after choices lines (parts self.old) → knows self.old lines
+            → line_number line.entry ≡ length lines + 1
+            → IfOk result (λ is_ready. knows self.new (with_next lines (line_shown line.entry))) };
 
     /// Takes a line where no epoch is open: `true` says that lines are ready.
-    fn take(&mut self, options: &Options, line: &[u8]) -> Result<bool, Fault>
+    fn take(&mut self, options: &Options, line: Line<'_>) -> Result<bool, Fault>
         requires running { is_ended (parts self.old).stage ≡ false }
         requires closed { is_open_stage (parts self.old).stage ≡ false }
-        requires short { length line.now ≤ LINE_LIMIT }
         requires within { counted self.old < INPUT_LIMIT }
         requires drained { ready self.old ≡ [] }
-        ensures reads { Reads by_line (λ choices. choices ≡ options.now) (parts self.old) line.now result
-            (ready self.new) (parts self.new) }
+        ensures reads { Reads by_line (λ choices. choices ≡ options.now) (parts self.old)
+            (line_shown line.entry).content result (ready self.new) (parts self.new) }
         ensures serves { serves self.new options.now ≡ true }
         ensures counted { IfOk result (λ is_ready. counted self.new ≤ counted self.old + 1) }
-        ensures same { OnErr result (counted self.new ≤ counted self.old) };
+        ensures same { OnErr result (counted self.new ≤ counted self.old) }
+        ensures knows { (choices : Choices) (lines : List InputLine)
+            → IsAfterLines chosen seen_after choices lines (parts self.old) → knows self.old lines
+            → line_number line.entry ≡ length lines + 1
+            → IfOk result (λ is_ready. knows self.new (with_next lines (line_shown line.entry))) };
 
-    /// Goes to a stage after a fault or after the end of the input, and forgets the epochs before where that is asked for.
-    fn end_with(&mut self, stage: Stage, is_emptied: bool)
+    /// Goes to a stage after a fault, and forgets the epochs before.
+    fn end_with(&mut self, stage: Stage)
         requires settled { is_settled stage ≡ true }
-        requires closed { is_emptied ≡ false → is_open_stage (parts self.old).stage ≡ false }
         requires drained { ready self.old ≡ [] }
         ensures stage { (parts self.new).stage ≡ stage }
         ensures types { (parts self.new).types ≡ (parts self.old).types }
-        ensures kept { (parts self.new).kept
-            ≡ (if is_emptied then by_line.emptied (parts self.old).kept else (parts self.old).kept) }
+        ensures kept { (parts self.new).kept ≡ by_line.emptied (parts self.old).kept }
         ensures drained { ready self.new ≡ [] }
         ensures serves { (choices : Choices) → serves self.new choices ≡ true }
         ensures counted { counted self.new ≤ counted self.old };
+
+    /// Takes a good end of the input: `true` says that lines are ready.
+    fn conclude(&mut self) -> bool
+        requires running { is_ended (parts self.old).stage ≡ false }
+        requires good { fault_at_end_in (bare_phase (parts self.old).stage) ≡ None }
+        requires drained { ready self.old ≡ [] }
+        ensures value { answer_for result ≡ answer_of_lines (closing self.old) }
+        ensures ready { ready self.new ≡ closing self.old }
+        ensures stage { (parts self.new).stage ≡ Stage.Closed }
+        ensures types { (parts self.new).types ≡ (parts self.old).types }
+        ensures kept { (parts self.new).kept ≡ (parts self.old).kept }
+        ensures serves { (choices : Choices) → serves self.new choices ≡ true }
+        ensures counted { counted self.new ≤ counted self.old }
+        ensures closing { (choices : Choices) (lines : List InputLine)
+            → IsAfterLines chosen seen_after choices lines (parts self.old) → knows self.old lines
+            → (closing self.old ≡ closing_after choices lines) × has_found self.new lines };
 
     /// Whether none of the lines that were ready is pending.
     fn is_drained(&self) -> bool
@@ -107,7 +156,9 @@ pub trait Direction: Drop {
         ensures value { option_copied result ≡ slice_get (ready self.old) 0 }
         ensures* after_borrow { sem 𝓛 (Rests Self.row self.entry (λ new.
             (ready new ≡ drop 1 (ready self.old)) × (parts new ≡ parts self.old) × (counted new ≡ counted self.old)
-            × ((choices : Choices) → serves self.old choices ≡ true → serves new choices ≡ true))) };
+            × ((choices : Choices) → serves self.old choices ≡ true → serves new choices ≡ true)
+            × ((lines : List InputLine) → knows self.old lines → knows new lines)
+            × ((lines : List InputLine) → has_found self.old lines → has_found new lines))) };
 
     /// Borrows all lines that are ready as one text, each followed by LF; after `None` they stay, and [`Direction::next_line`] gives them.
     fn take_text(&mut self) -> Option<&[u8]>
@@ -115,5 +166,7 @@ pub trait Direction: Drop {
         ensures* after_borrow { sem 𝓛 (Rests Self.row self.entry (λ new.
             (ready new ≡ (if is_some result then [] else ready self.old)) × (parts new ≡ parts self.old)
             × (counted new ≡ counted self.old)
-            × ((choices : Choices) → serves self.old choices ≡ true → serves new choices ≡ true))) };
+            × ((choices : Choices) → serves self.old choices ≡ true → serves new choices ≡ true)
+            × ((lines : List InputLine) → knows self.old lines → knows new lines)
+            × ((lines : List InputLine) → has_found self.old lines → has_found new lines))) };
 }

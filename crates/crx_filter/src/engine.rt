@@ -1,4 +1,4 @@
-//! Engines of either direction: they take the lines of an input one at a time, and the lines to be written are borrowed from them.
+//! Engines of every direction: they take the lines of an input one at a time, and the lines to be written are borrowed from them.
 
 ghost use Rattle.std.specs.Prelude.{◌≡◌, ◌≤◌, true};
 ghost use Rattle.crx_base.specs.declared.limits.TheConstants.{INPUT_LIMIT};
@@ -20,7 +20,7 @@ pub struct Engine<D: Direction> {
     options: Options,
     /// The number of the last line that counts.
     number: u64,
-    direction: D,
+    pub(crate) direction: D,
     /// The answer to the line that was taken last, where something was to be written or reported.
     answer: Result<Step, At>,
 }
@@ -31,7 +31,7 @@ impl<D: Direction> Model for Engine<D> {
     ghost view = { λ e. record { options = e.options; number = e.number; direction = e.direction; answer = e.answer } };
 
     ghost invariant = { λ e. (e.number ≤ INPUT_LIMIT) × (D.counted e.direction ≤ e.number)
-        × (D.serves e.direction e.options ≡ true) };
+        × (D.serves e.direction e.options ≡ true) × (D.chosen e.options ≡ e.options) };
 }
 
 impl<D: Direction> Engine<D> {
@@ -43,9 +43,9 @@ impl<D: Direction> Engine<D> {
     ghost use Rattle.crx_base.specs.meaning.Seen.{Content};
     ghost use Rattle.crx_base.specs.declared.fault.At.{At};
     ghost use Rattle.crx_lines.specs.Reading.{line_number, line_shown};
-    ghost use Rattle.crx_filter.specs.DirectionParts.{AnswersToFault};
-    ghost use Rattle.crx_filter.specs.EngineLaws.{IsLawfulDirection};
-    ghost use Rattle.crx_filter.specs.EngineState.{EngineAwaits, EngineEnds, EngineSkips, EngineTakes, engine_ready, engine_seen, engine_took};
+    ghost use Rattle.crx_filter.specs.DirectionParts.{AnswersToFault, IsAfterLines};
+    ghost use Rattle.crx_filter.specs.EngineLaws.{GoesLineByLine};
+    ghost use Rattle.crx_filter.specs.EngineState.{EngineAwaits, EngineConcludes, EngineEnds, EngineNotes, EngineSkips, EngineTakes, engine_ready, engine_seen, engine_took};
     ghost use Rattle.crx_filter.specs.EngineSteps.{Steps};
     ghost use Rattle.crx_filter.specs.LineByLine.{Ended, may_skip};
     ghost use Rattle.crx_filter.specs.RinexStages.{is_open_stage};
@@ -56,12 +56,13 @@ impl<D: Direction> Engine<D> {
 
     /// An engine before the first line of its input; `AllocError` comes where there is no memory for a line.
     pub fn new(alloc: Global, options: Options) -> Result<Engine<D>, AllocError>
-        ensures seen { IfOk result (λ e. engine_seen D.Direction e ≡ D.seen_after options []) }
+        ensures seen { IfOk result (λ e. engine_seen D.Direction e ≡ D.seen_after (D.chosen options) []) }
         ensures drained { IfOk result (λ e. engine_ready D.Direction e ≡ []) }
+        ensures knows { IfOk result (λ e. D.knows e.direction []) }
     {
         let direction = D::new(alloc)?;
         Ok(Engine {
-            options,
+            options: D::chosen(options),
             number: 0,
             direction,
             answer: Ok(Step::Quiet),
@@ -80,19 +81,20 @@ impl<D: Direction> Engine<D> {
         ensures drained { engine_ready D.Direction self.new ≡ [] }
         ensures options { self.new.options ≡ self.old.options }
         ensures ended { IfErr self.new.answer (λ at. (engine_seen D.Direction self.new).phase ≡ Ended at) }
+        ensures skips { IfOk self.new.answer (λ step. self.old.options.skip ≡ true) }
     {
         let notice = At {
             line: self.number,
             fault,
         };
         if !(self.options.skip() & skips & fault.is_skippable()) {
-            self.direction.end_with(Stage::Ended(notice), true);
+            self.direction.end_with(Stage::Ended(notice));
             self.answer = Err(notice);
             return;
         }
         // A line that is to come again doesn't count yet.
         let again = is_open & goes_on;
-        self.direction.end_with(Stage::Looking, true);
+        self.direction.end_with(Stage::Looking);
         self.number -= u64::from(again);
         self.answer = Ok(Step::Warned { notice, again });
     }
@@ -101,10 +103,15 @@ impl<D: Direction> Engine<D> {
     /// lines; otherwise the answer is stored, and asked for by another call. An answer that held a notice would be copied from call to
     /// call at every line.
     #[inline(always)]
-    fn take_line(&mut self, line: &[u8]) -> bool
-        requires asked { EngineAwaits D.Direction self.old line.now }
-        ensures takes { EngineTakes D.Direction self.old line.now result self.new }
-        ensures lawful { IsLawfulDirection D.by_line D.seen_after D.filter }
+    fn take_line(&mut self, line: Line<'_>) -> bool
+        requires asked { EngineAwaits D.Direction self.old }
+        requires next { line_number line ≡ self.old.number + 1 }
+        ensures takes { EngineTakes D.Direction self.old (line_shown line.entry).content result self.new }
+        ensures notes { EngineNotes D.Direction self.old (line_shown line.entry)
+            (answer_given result self.new.answer) self.new }
+        ensures chosen { D.chosen self.old.options ≡ self.old.options }
+        ensures lawful { GoesLineByLine D.by_line (D.closing_after self.old.options)
+            (D.seen_after self.old.options) (D.filter self.old.options) }
     {
         let Stage::Open = self.direction.stage() else {
             return self.take_between(line);
@@ -119,7 +126,7 @@ impl<D: Direction> Engine<D> {
             }
             Err(fault) => {
                 // An open epoch may be skipped.
-                self.fail(true, true, fault, begins_epoch(line));
+                self.fail(true, true, fault, begins_epoch(line.bytes()));
                 false
             }
         }
@@ -128,10 +135,13 @@ impl<D: Direction> Engine<D> {
     /// Takes the content of a line where no epoch is open as [`Engine::take_line`] does. An answer that took its place within that one
     /// would be set to zero at every line.
     #[inline(never)]
-    fn take_between(&mut self, line: &[u8]) -> bool
+    fn take_between(&mut self, line: Line<'_>) -> bool
         requires closed { is_open_stage (D.parts self.old.direction).stage ≡ false }
-        requires asked { EngineAwaits D.Direction self.old line.now }
-        ensures takes { EngineTakes D.Direction self.old line.now result self.new }
+        requires asked { EngineAwaits D.Direction self.old }
+        requires next { line_number line ≡ self.old.number + 1 }
+        ensures takes { EngineTakes D.Direction self.old (line_shown line.entry).content result self.new }
+        ensures notes { EngineNotes D.Direction self.old (line_shown line.entry)
+            (answer_given result self.new.answer) self.new }
     {
         let stage = self.direction.stage();
         if let Stage::Ended(at) = stage {
@@ -149,7 +159,7 @@ impl<D: Direction> Engine<D> {
             }
             Err(fault) => {
                 let is_open = stage.is_in_epoch();
-                self.fail(stage.may_skip(), is_open, fault, begins_epoch(line));
+                self.fail(stage.may_skip(), is_open, fault, begins_epoch(line.bytes()));
                 false
             }
         }
@@ -161,7 +171,10 @@ impl<D: Direction> Engine<D> {
         requires next { number ≡ (engine_seen D.Direction self.old).number + 1 }
         requires within { number ≤ INPUT_LIMIT }
         ensures stops { EngineSkips D.Direction self.old result self.new }
-        ensures lawful { IsLawfulDirection D.by_line D.seen_after D.filter }
+        ensures notes { (line : InputLine) → EngineNotes D.Direction self.old line result self.new }
+        ensures chosen { D.chosen self.old.options ≡ self.old.options }
+        ensures lawful { GoesLineByLine D.by_line (D.closing_after self.old.options)
+            (D.seen_after self.old.options) (D.filter self.old.options) }
     {
         let stage = self.direction.stage();
         self.number = number;
@@ -180,28 +193,36 @@ impl<D: Direction> Engine<D> {
     fn close(&mut self) -> Result<Step, At>
         requires drained { engine_ready D.Direction self.old ≡ [] }
         ensures stops { EngineEnds D.Direction self.old result self.new }
-        ensures lawful { IsLawfulDirection D.by_line D.seen_after D.filter }
+        ensures closing { (lines : List InputLine)
+            → IsAfterLines D.chosen D.seen_after self.old.options lines (D.parts self.old.direction)
+            → D.knows self.old.direction lines → EngineConcludes D.Direction self.old lines result self.new }
+        ensures chosen { D.chosen self.old.options ≡ self.old.options }
+        ensures lawful { GoesLineByLine D.by_line (D.closing_after self.old.options)
+            (D.seen_after self.old.options) (D.filter self.old.options) }
     {
         let stage = self.direction.stage();
         if let Stage::Ended(at) = stage {
             return Err(at);
         }
         let Some(fault) = stage.fault_at_end() else {
-            self.direction.end_with(Stage::Closed, false);
-            return Ok(Step::Quiet);
+            return if self.direction.conclude() {
+                Ok(Step::Ready)
+            } else {
+                Ok(Step::Quiet)
+            };
         };
         let notice = At {
             line: self.number + 1,
             fault,
         };
         if self.options.skip() & stage.may_skip() & fault.is_skippable() {
-            self.direction.end_with(Stage::Closed, true);
+            self.direction.end_with(Stage::Closed);
             return Ok(Step::Warned {
                 notice,
                 again: false,
             });
         }
-        self.direction.end_with(Stage::Ended(notice), true);
+        self.direction.end_with(Stage::Ended(notice));
         Err(notice)
     }
 
@@ -221,13 +242,16 @@ impl<D: Direction> Engine<D> {
         self.skip(number)
     }
 
-    /// Takes the end of the input. No line is ready then.
+    /// Takes the end of the input. Lines are ready then where its direction hands out some at a good end, as a check does.
     pub fn end(&mut self) -> Result<Step, At>
         requires drained { engine_ready D.Direction self.old ≡ [] }
         ensures stops { EngineEnds D.Direction self.old result self.new }
         // After the lines that it has taken, the answer is what its direction makes of them all.
         ensures concludes { (lines : List InputLine) → engine_took D.Direction self.old lines []
-            → Concludes (D.filter (engine_seen D.Direction self.old).choices) [] lines result }
+            → Concludes (D.filter (engine_seen D.Direction self.old).choices) (engine_ready D.Direction self.new) lines result }
+        // After a good end it has found in them what is to be found.
+        ensures found { (lines : List InputLine) → engine_took D.Direction self.old lines []
+            → IfOk result (λ step. D.has_found self.new.direction lines) }
         ensures repeated { (at : At) → (engine_seen D.Direction self.old).phase ≡ Ended at → result ≡ Err at }
     {
         self.close()
@@ -252,7 +276,7 @@ impl<D: Direction> Engine<D> {
             (engine_ready D.Direction self.new) lines notices (line_shown line.entry) result }
         ensures repeated { (at : At) → (engine_seen D.Direction self.old).phase ≡ Ended at → result ≡ Err at }
     {
-        let is_quiet = self.take_line(line.bytes());
+        let is_quiet = self.take_line(line);
         answer_given(is_quiet, self.answer)
     }
 
@@ -269,6 +293,8 @@ impl<D: Direction> Engine<D> {
         // That line is no longer pending; what is seen of the engine, and the answer that is stored, are the same.
         ensures* after_borrow { sem 𝓛 (Rests (the_row D.row D.Direction) self.entry (λ new. (engine_ready D.Direction new
             ≡ drop 1 (engine_ready D.Direction self.old)) × (engine_seen D.Direction new ≡ engine_seen D.Direction self.old)
+            × ((lines : List InputLine) → D.knows self.old.direction lines → D.knows new.direction lines)
+            × ((lines : List InputLine) → D.has_found self.old.direction lines → D.has_found new.direction lines)
             × (new.answer ≡ self.old.answer))) }
     {
         self.direction.next_line()
@@ -289,7 +315,7 @@ impl<D: Direction> crx_runs::Engine for Engine<D> {
 
     ghost is_open = { λ e. ⊤ };
 
-    ghost has_ended = { λ e lines. ⊤ };
+    ghost has_ended = { λ e lines. D.has_found e.direction lines };
 
     ghost counted = { λ e lines notices shown. shown.1 };
 
@@ -297,7 +323,7 @@ impl<D: Direction> crx_runs::Engine for Engine<D> {
 
     #[inline(always)]
     fn take(&mut self, line: Line<'_>) -> bool {
-        self.take_line(line.bytes())
+        self.take_line(line)
     }
 
     fn answer(&self) -> Result<Step, At> {

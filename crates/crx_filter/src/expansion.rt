@@ -6,6 +6,7 @@ use crate::engine::Engine;
 use crate::stage::Stage;
 use crx_base::{Fault, Options};
 use crx_compact::ExpandedLines;
+use crx_lines::Line;
 use std::alloc::{AllocError, Global};
 
 /// What an expansion keeps between two lines.
@@ -28,7 +29,7 @@ pub struct Expansion {
 pub type Expander = Engine<Expansion>;
 
 impl Direction for Expansion {
-    ghost use Rattle.std.specs.Prelude.{Option, true};
+    ghost use Rattle.std.specs.Prelude.{⊤, Option, true, []};
     ghost use Rattle.crx_compact.specs.OpenEpochs.{HeldEpoch, OpenRawEpoch};
     ghost use Rattle.crx_compact.specs.Tails.{Tail};
     ghost use Rattle.crx_filter.specs.ExpansionByLine.{expansion, expansion_seen};
@@ -43,7 +44,11 @@ impl Direction for Expansion {
 
     ghost by_line = { expansion };
 
+    ghost chosen = { λ choices. choices };
+
     ghost seen_after = { expansion_seen };
+
+    ghost closing_after = { λ choices lines. [] };
 
     ghost filter = { expansion_filter };
 
@@ -51,9 +56,21 @@ impl Direction for Expansion {
 
     ghost ready = { λ e. e.lines.lines };
 
+    ghost closing = { λ e. [] };
+
     ghost counted = { λ e. 0 };
 
     ghost serves = { λ e choices. true };
+
+    ghost knows = { λ e lines. ⊤ };
+
+    ghost has_found = { λ e lines. ⊤ };
+
+    ghost skipping = { λ e choices lines taken skips. (tt, tt) };
+
+    fn chosen(options: Options) -> Options {
+        options
+    }
 
     fn new(alloc: Global) -> Result<Expansion, AllocError> {
         let lines = ExpandedLines::new(alloc)?;
@@ -69,11 +86,12 @@ impl Direction for Expansion {
     }
 
     #[inline(always)]
-    fn go_on(&mut self, line: &[u8]) -> Result<bool, Fault> {
-        self.reader.go_on(line, &mut self.lines)
+    fn go_on(&mut self, line: Line<'_>) -> Result<bool, Fault> {
+        self.reader.go_on(line.bytes(), &mut self.lines)
     }
 
-    fn take(&mut self, _options: &Options, line: &[u8]) -> Result<bool, Fault> {
+    fn take(&mut self, _options: &Options, line: Line<'_>) -> Result<bool, Fault> {
+        let line = line.bytes();
         // The line may begin an epoch: one block of memory serves for the printed lines of all.
         if let Stage::Between | Stage::Looking = self.reader.stage {
             self.reader.take_room(&mut self.lines);
@@ -85,8 +103,13 @@ impl Direction for Expansion {
         Ok(is_copied)
     }
 
-    fn end_with(&mut self, stage: Stage, is_emptied: bool) {
-        self.reader.end_with(stage, is_emptied);
+    fn end_with(&mut self, stage: Stage) {
+        self.reader.end_with(stage);
+    }
+
+    fn conclude(&mut self) -> bool {
+        self.reader.stage = Stage::Closed;
+        false
     }
 
     fn is_drained(&self) -> bool {

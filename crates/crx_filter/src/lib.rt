@@ -2,7 +2,7 @@
 //! line by line, and whole runs of them, from a reader to a writer and messages.
 #![tactic(auto)]
 
-pub mod checker;
+pub mod checking;
 mod checks;
 mod compact_reader;
 pub mod compaction;

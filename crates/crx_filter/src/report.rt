@@ -13,6 +13,9 @@ use crx_text::appending::append;
 use crx_text::columns::trimmed;
 use itoa::Buffer;
 
+/// How many lines a report has.
+pub const REPORT_LINES: usize = 6;
+
 /// What a check counts.
 #[derive(Clone, Copy)]
 pub struct Totals {

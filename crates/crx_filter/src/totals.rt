@@ -1,6 +1,6 @@
 //! What a check counts, and which lines it finds standard.
 
-ghost use Rattle.std.specs.Prelude.{◌≡◌, ◌<◌, ◌+◌, ℕ};
+ghost use Rattle.std.specs.Prelude.{◌≡◌, ◌≤◌, ◌<◌, ◌+◌, ℕ};
 ghost use Rattle.std.specs.Str.{bytes_eq};
 ghost use Rattle.crx_base.specs.declared.limits.TheConstants.{INPUT_LIMIT};
 ghost use Rattle.crx_rinex.specs.meaning.EpochPlaces.{OpenEpoch};
@@ -34,6 +34,7 @@ pub fn counted(
         → totals_held result ≡ totals_made
         (totals_held totals) (is_before_header (reader_phase before)) made }
     ensures bounded { (number : ℕ) → AreBounded totals number → AreBounded result (number + 1) }
+    ensures count { result.epochs + result.events ≤ totals.epochs + totals.events + 1 }
 {
     match step {
         RinexStep::Header { is_first: true } => Totals {

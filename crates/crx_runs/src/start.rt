@@ -1,6 +1,6 @@
 //! The start of a run: an engine that was made, or couldn't be since memory ran out.
 
-ghost use Rattle.std.specs.Prelude.{◌≡◌, [], IfOk};
+ghost use Rattle.std.specs.Prelude.{◌≡◌, [], IfOk, OnErr, is_some, true};
 ghost use Rattle.crx_runs.specs.meaning.Filters.{Filter};
 ghost use Rattle.crx_runs.specs.Lawful.{IsLawful};
 ghost use Rattle.crx_runs.specs.Runs.{result_by};
@@ -30,6 +30,7 @@ pub fn start<E: Engine + Drop, R: Source, W: Sink, M: Sink>(
         (reader_span R.Source reader.old reader.new)
         (span W.Sink writer.old writer.new)
         (span M.Sink messages.old messages.new) result.status result.fault }
+    ensures memory { OnErr engine (is_some result.fault ≡ true) }
 {
     match engine {
         Ok(mut engine) => run(alloc, &mut engine, reader, writer, messages),

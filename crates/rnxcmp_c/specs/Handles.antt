@@ -11,7 +11,9 @@ use Rattle.crx_runs.specs.meaning.Results.{FilterResult, good_status}
 use Rattle.crx_runs.specs.meaning.Messages.{error_text, notices_text}
 use Rattle.crx_filter.specs.meaning.Standard.{report_status}
 use Rattle.crx_filter.specs.meaning.Directions.{check_filter}
-use Rattle.crx_filter.specs.CheckerState.{CheckerHasTaken, CheckerIsOpen, HasEnded as CheckerHasEnded, pending_report}
+use Rattle.crx_filter.specs.CheckByLine.{check_by_line, check_reading}
+use Rattle.crx_filter.specs.CheckerState.{checker_ready, checker_state}
+use Rattle.crx_filter.specs.CheckingParts.{HasFound, HasNoted}
 use Rattle.crx_filter.specs.CompactionByLine.{compaction, compaction_seen}
 use Rattle.crx_filter.specs.CompactorState.{compactor_ready, compactor_seen}
 use Rattle.crx_filter.specs.meaning.Directions.{compaction_filter, expansion_filter}
@@ -48,21 +50,21 @@ engine_filter (Checking c) = check_filter
 
 abbrev pub shows_of : AnyEngine → List InputLine → List Awaited → Type 0
 shows_of (Compacting c) lines notices =
-    HasTaken compaction (compaction_seen (compactor_seen c).choices) (compactor_seen c) lines notices
+    (HasTaken compaction (compaction_seen (compactor_seen c).choices) (compactor_seen c) lines notices × ⊤)
     × ((compactor_seen c).number ≡ length lines)
 shows_of (Expanding e) lines notices =
-    HasTaken expansion (expansion_seen e.options) (expander_state e) lines notices × (e.number ≡ length lines)
-shows_of (Checking c) lines notices = CheckerHasTaken c lines notices
+    (HasTaken expansion (expansion_seen e.options) (expander_state e) lines notices × ⊤) × (e.number ≡ length lines)
+shows_of (Checking c) lines notices =
+    (HasTaken check_by_line check_reading (checker_state c) lines notices × HasNoted c.direction lines)
+    × (c.number ≡ length lines)
 
 abbrev pub ready_of : AnyEngine → List (List ℕ)
 ready_of (Compacting c) = compactor_ready c
 ready_of (Expanding e) = expander_ready e
-ready_of (Checking c) = pending_report c
+ready_of (Checking c) = checker_ready c
 
 abbrev pub is_open_of : AnyEngine → Type 0
-is_open_of (Compacting c) = ⊤
-is_open_of (Expanding e) = ⊤
-is_open_of (Checking c) = CheckerIsOpen c
+is_open_of engine = ⊤
 
 -- it takes a line, or the end
 abbrev pub EngineIsReady : AnyEngine → Type 0
@@ -75,7 +77,7 @@ EngineGoesOn engine held past = IsGoing (engine_filter engine) (shows_of engine)
 abbrev pub has_ended_of : AnyEngine → List InputLine → Type 0
 has_ended_of (Compacting c) lines = ⊤
 has_ended_of (Expanding e) lines = ⊤
-has_ended_of (Checking c) lines = CheckerHasEnded c lines
+has_ended_of (Checking c) lines = HasFound c.direction lines
 
 -- an engine is of a task
 abbrev pub IsOf : Task → AnyEngine → Type 0
@@ -88,7 +90,7 @@ IsOf task engine = ⊥
 abbrev pub status_at_end : AnyEngine → Bool → ℕ
 status_at_end (Compacting c) warned = good_status warned
 status_at_end (Expanding e) warned = good_status warned
-status_at_end (Checking c) warned = report_status c.not_standard
+status_at_end (Checking c) warned = report_status c.direction.noted.not_standard
 
 -- ---- a reader
 

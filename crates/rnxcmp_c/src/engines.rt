@@ -13,7 +13,7 @@ ghost use Rattle.rnxcmp_c.specs.meaning.Handles.{Task};
 use crate::held::Held;
 use crate::lines::{take_bytes, take_last};
 use crate::stop::Stop;
-use crx_filter::checker::Checker;
+use crx_filter::checking::Checker;
 use crx_filter::{Compactor, Expander};
 
 /// The engine of a run.

@@ -26,7 +26,7 @@ use crate::loose::Loose;
 use crate::place::Place;
 use crate::reader::Reader;
 use crx_base::Fault;
-use crx_filter::checker::Checker;
+use crx_filter::checking::{Checker, no_options};
 use crx_filter::{Compactor, Expander, Options};
 use std::alloc::Global;
 use std::mem::replace;
@@ -172,12 +172,10 @@ pub extern "C" fn rnxcmp_c_open_check(alloc: Global, handle: &mut Handle) -> Ans
     let Ok(held) = Held::new(alloc, 0) else {
         return failed(0, Fault::OutOfMemory);
     };
-    open(
-        alloc,
-        handle,
-        AnyEngine::Checking(Checker::new(alloc)),
-        held,
-    )
+    match Checker::new(alloc, no_options()) {
+        Ok(checker) => open(alloc, handle, AnyEngine::Checking(checker), held),
+        Err(_) => failed(0, Fault::OutOfMemory),
+    }
 }
 
 /// Takes bytes of the input, which may end anywhere, as long as little enough waits to be taken; `used` becomes how many.

@@ -2,6 +2,11 @@
 use Rattle.crx_filter.proofs.Words.{◌≡◌, false, [], ◌++◌, map, Some, refl, ap, sym, ◌∙◌, map-append, seen}
 use Rattle.crx_filter.proofs.Words.{Epoch, WholeReading, IsLawful, whole_rinex, whole_reading_of, findings_of}
 use Rattle.crx_filter.proofs.{Words.check_filter, reading.FineReadings.{rinex-found, rinex-found-at-end}}
+use Rattle.crx_filter.proofs.Words.{common_steps, arith, ℕ, List, Option, None, At, Device, append-nil}
+use Rattle.crx_filter.proofs.Words.{lines_of}
+use Rattle.crx_filter.proofs.Words.{checked, whole_of}
+use Rattle.crx_filter.specs.meaning.Standard.{report_status}
+use Rattle.crx_runs.specs.{Runs.result_by, meaning.Runs.RunsAs, meaning.Spans.Input}
 use Rattle.crx_filter.{proofs.reading.StaysEnded.rinex-stays, specs.meaning.Directions.report_unless}
 
 pub check-lawful : IsLawful check_filter
@@ -22,3 +27,14 @@ check-lawful = record {
   found = λ lines at e. rinex-found false (map seen lines) at e;
   found_at_end = λ lines at e. rinex-found-at-end false (map seen lines) at e;
 }
+
+-- a run of the filter is a check once its status is judged: by what there is to find where there is no
+-- fault, and else
+-- it is as it was
+module _ (writer messages : Device) (status judged : ℕ) (fault : Option At)
+    (bad : (at : At) → fault ≡ Some at → judged ≡ status) where
+  pub run-judged : (input : Input) (given : List ℕ) → (fault ≡ None → judged ≡ report_status
+      (findings_of (lines_of given)).not_standard) → RunsAs (result_by check_filter) check_filter input given
+      writer messages status fault → RunsAs checked check_filter input given writer messages judged fault
+  run-judged input given good ran =
+      grind (arith, common_steps, whole_of, findings_of, lines_of, report_status, append-nil)

@@ -20,7 +20,7 @@ pub same-seen : (lines : List InputLine) → CheckSeen.reading (check_seen lines
     ≡ reading_seen (map seen lines)
 same-seen lines = cc (length-map lines seen)
 
-once-again : (lines : List ReadLine) (line : ReadLine)
+pub once-again : (lines : List ReadLine) (line : ReadLine)
     → is_again (seen_next checking (reading_seen lines) line).answer ≡ false
 once-again lines line = grind (arith, common_steps, reading_seen, never-again, made_in, checking)
 
@@ -30,18 +30,18 @@ printed_of lines = let r : Reading Epoch = rinex_reading false lines in
     printed_items r.items ++ printed_open (phase_of rinex_open r)
 
 -- the last line that printing gives for a line
-abbrev given_back : List ReadLine → ReadLine → List ℕ
+abbrev pub given_back : List ReadLine → ReadLine → List ℕ
 given_back lines line = let s : Seen OpenEpoch Totals = reading_seen lines in
     last_line (printed_made (made_in checking s.phase s.types s.kept line))
 
-record IsOneOn (lines : List ReadLine) (line : ReadLine) : Type 0 where
-  fault : fault_of_stop (rinex_reading false (lines ++ line ∷ [])).stop
+pub record IsOneOn (lines : List ReadLine) (line : ReadLine) : Type 0 where
+  pub fault : fault_of_stop (rinex_reading false (lines ++ line ∷ [])).stop
       ≡ failed_by (seen_next checking (reading_seen lines) line).answer
-  next : reading_seen (lines ++ line ∷ []) ≡ (seen_next checking (reading_seen lines) line).next
-  printed : fault_of_stop (rinex_reading false (lines ++ line ∷ [])).stop ≡ None
+  pub next : reading_seen (lines ++ line ∷ []) ≡ (seen_next checking (reading_seen lines) line).next
+  pub printed : fault_of_stop (rinex_reading false (lines ++ line ∷ [])).stop ≡ None
       → printed_of (lines ++ line ∷ []) ≡ printed_of lines ++ given_back lines line ∷ []
 
-one-on : (lines : List ReadLine) (line : ReadLine) → IsOneOn lines line
+pub one-on : (lines : List ReadLine) (line : ReadLine) → IsOneOn lines line
 one-on lines line =
     let s = reading_seen lines in
     let step = seen_next checking s line in

@@ -1,19 +1,18 @@
 -- Both directions go line by line, in the words of their filters.
 use Rattle.crx_filter.proofs.Words
 use Words.{ℕ, ◌≡◌, List, [], ◌∷◌, ◌++◌, map, ap, ◌∙◌, reverse, length-map, map-append, reverse-append}
-use Words.{flat_map-append, InputLine, ReadLine, seen, At, Choices, compaction, compaction_seen}
+use Words.{flat_map-append, InputLine, ReadLine, seen, At, compaction, compaction_seen}
 use Words.{rinex_reading, expansion, expansion_seen, compact_reading, compaction_filter, expansion_filter}
 use Words.{lines_text, noticed_by, fault_of_stop, warnings_in, seen_end, true, length, Option, Some, refl}
 use Words.{FileUnit, Item, Reading, WholeReading, written_lines, whole_course, memory_allowed}
 use Words.{compaction_takes, compact_unit, rinex_place, whole_rinex, expanded_unit, whole_compact}
 use Words.{compact_memory, course_so_far, Direction, Seen, Notice, seen_next, takes_memory, IsFollowed}
-use Words.{Overlong, LineTooLong, Fails, Count, IsEndedBy, IsReadyWhereHandedOut, fed}
+use Words.{Overlong, LineTooLong, Fails, Count, IsEndedBy, fed, append-nil}
 use Rattle.crx_filter.proofs.following.{CompactedOn.compacted-on, ExpandedOn.expanded-on}
 use Rattle.crx_filter.proofs.following.MemoryOfCompactText.{expansion-allowed, expansion-allowed-again}
 use Rattle.crx_filter.proofs.following.MemoryOfRinex.{compaction-allowed, compaction-allowed-again}
-use Rattle.crx_filter.proofs.output.Readiness.{compaction-ready, expansion-ready}
 use Rattle.crx_filter.proofs.reading.Ended.{compaction-ended, expansion-ended}
-use Rattle.crx_filter.specs.EngineLaws.{GoesLineByLine}
+use Rattle.crx_filter.specs.EngineLaws.{GoesLineByLine, IsLawfulDirection}
 
 text-then : (before after more : List (List ℕ))
     → after ≡ before ++ more → lines_text after ≡ lines_text before ++ lines_text more
@@ -38,14 +37,15 @@ goes-by : {E U O K : Type 0} (direction : Direction U O K) (seen_after : List Re
     → memory lines line ≡ Some []) → ((lines : List ReadLine) (line : ReadLine)
     (next : Seen O K) (notice : At) → record { answer = Notice notice true; handed_out = []; next = next }
     ≡ seen_next direction (seen_after lines) line → takes_memory direction next line ≡ true
-    → memory lines line ≡ Some (notice ∷ [])) → IsReadyWhereHandedOut direction → ((types : List Count)
+    → memory lines line ≡ Some (notice ∷ [])) → ((types : List Count)
     (kept : K) → direction.begins types kept Overlong ≡ Fails LineTooLong) → ((so_far : O)
-    → direction.continues so_far Overlong ≡ Fails LineTooLong) → GoesLineByLine direction seen_after (record {
+    → direction.continues so_far Overlong ≡ Fails LineTooLong) → GoesLineByLine direction (λ lines. [])
+    seen_after (record {
       so_far = λ lines. course_so_far unit_lines (reading (map seen lines));
       whole = λ lines. whole_course unit_lines (whole (map seen lines));
       memory_after = λ lines line. memory (map seen lines) (seen line);
     })
-goes-by direction seen_after unit_lines reading whole memory on ends number first again ready long_first
+goes-by direction seen_after unit_lines reading whole memory on ends number first again long_first
     long_next = record {
       follows = λ (lines : List InputLine) (line : InputLine).
           let h = on (map seen lines) (seen line) in
@@ -61,8 +61,11 @@ goes-by direction seen_after unit_lines reading whole memory on ends number firs
       ends = λ (lines : List InputLine).
           let h = ends (map seen lines) in
           record {
-            handed_out = h.handed_out;
-            output = cc (h.written);
+            output = cc (
+              h.written,
+              h.handed_out,
+              append-nil (lines_text (written_lines unit_lines (reading (map seen lines)).items)),
+            );
             warnings = warned-then (warnings_in (reading (map seen lines)).items) _
                 (noticed_by (seen_end direction (seen_after (map seen lines))).answer) h.warned;
             fault = h.failed;
@@ -70,22 +73,21 @@ goes-by direction seen_after unit_lines reading whole memory on ends number firs
       number = λ (lines : List InputLine). number (map seen lines) ∙ length-map lines seen;
       memory_first = λ (lines : List InputLine) (line : InputLine). first (map seen lines) (seen line);
       memory_again = λ (lines : List InputLine) (line : InputLine). again (map seen lines) (seen line);
-      ready = ready;
       too_long_first = long_first;
       too_long_next = long_next;
     }
 
-pub compaction-goes : (choices : Choices)
-    → GoesLineByLine compaction (compaction_seen choices) (compaction_filter choices)
-compaction-goes choices = goes-by compaction
+pub compaction-goes : IsLawfulDirection compaction (λ choices. choices) (λ choices lines. []) compaction_seen
+    compaction_filter
+compaction-goes choices taken = goes-by compaction
     (compaction_seen choices) (compact_unit choices) (rinex_reading choices.skip) (whole_rinex choices.skip)
     (λ lines line. memory_allowed rinex_place compaction_takes choices.skip (rinex_reading choices.skip lines)
     line) (compacted-on choices) (compaction-ended choices) (λ lines. refl) (compaction-allowed choices)
-    (compaction-allowed-again choices) compaction-ready (λ types kept. refl) (λ so_far. refl)
+    (compaction-allowed-again choices) (λ types kept. refl) (λ so_far. refl)
 
-pub expansion-goes : (choices : Choices) → GoesLineByLine expansion (expansion_seen choices)
-    (expansion_filter choices)
-expansion-goes choices = goes-by expansion (expansion_seen choices) expanded_unit
+pub expansion-goes : IsLawfulDirection expansion (λ choices. choices) (λ choices lines. []) expansion_seen
+    expansion_filter
+expansion-goes choices taken = goes-by expansion (expansion_seen choices) expanded_unit
     (compact_reading choices.skip) (whole_compact choices.skip) (compact_memory choices.skip)
     (expanded-on choices) (expansion-ended choices) (λ lines. refl) (expansion-allowed choices)
-    (expansion-allowed-again choices) expansion-ready (λ types kept. refl) (λ so_far. refl)
+    (expansion-allowed-again choices) (λ types kept. refl) (λ so_far. refl)

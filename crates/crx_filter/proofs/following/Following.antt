@@ -14,7 +14,8 @@ use Words.{seen_of, IsReadForward, IsFollowed, Fed, fed, fed_once, fed_twice, is
 use Words.{by_bool}
 use Rattle.crx_filter.proofs.reading.Resuming.{wrong-within, within-wrong, within-wanted}
 use Rattle.crx_filter.proofs.reading.Resuming.{fault-skipped, fault-ends, looked-here, looked-on}
-use Rattle.crx_filter.specs.LineByLine.{Ready, after_record, after_unit}
+use Rattle.crx_filter.proofs.Pending.{failed-lines, noticed-lines}
+use Rattle.crx_filter.specs.LineByLine.{after_record, after_unit, answer_of_lines}
 
 -- ---- what a direction has to keep to
 
@@ -231,12 +232,20 @@ module _ {E U O K : Type 0} {beginning : List (Item E) → List ReadLine → Pla
       → direction.kept_after (seen_at count phase items kept) same ≡ kept_of (Accepted unit ∷ items)
       → direction.written (seen_at count phase items kept) same ≡ unit_lines items unit → Follows
       (count + 1) items (record { items = Accepted unit ∷ items; stop = AtLines n [] }) (fed_once (record {
-        answer = Ready;
+        answer = answer_of_lines (direction.written (seen_at count phase items kept) same);
         handed_out = direction.written (seen_at count phase items kept) same;
         next = after_unit direction (seen_at count phase items kept) same;
       }))
   followed-unit count n items phase kept unit same none phases types keeps lines =
-      grind (arith, common_steps, phase_after_items, kept-with_records, kept-after_record)
+      grind (
+        arith,
+        common_steps,
+        phase_after_items,
+        kept-with_records,
+        kept-after_record,
+        noticed-lines,
+        failed-lines,
+      )
 
   -- the next line ends the run
   pub followed-end : (count : ℕ) (items : List (Item E)) (phase : Phase O) (kept : K) (line : ReadLine)

@@ -1,7 +1,7 @@
 -- One line more, wherever a reading has stopped.
 use Rattle.crx_filter.proofs
 use proofs.Words.{common_steps, ℕ, zero, suc, ◌≡◌, inl, inr, ◌+◌, ◌<◌, Bool, true, false, cond, List, [], ◌∷◌}
-use proofs.Words.{◌++◌, length, Option, Some, None, Result, refl, ap, sym, subst, ◌∙◌, arith}
+use proofs.Words.{◌++◌, length, Option, Some, None, Result, Ok, Err, refl, ap, sym, subst, ◌∙◌, arith}
 use proofs.Words.{length-append, append-nil, append_assoc, ◌&&◌, ◌==◌, ⊤, nat_lt, ReadLine, Content, Overlong}
 use proofs.Words.{Fault, LineTooLong, At, is_end_of_header, Count, types_of, with_line, none-some, Place}
 use proofs.Words.{Wanted, one_line, first_line, FileUnit, HeaderLine, EventRecord, Choices, Item, Accepted}
@@ -18,19 +18,22 @@ use proofs.following.Following.{IsCarriedOut, AreKept, IsInside, Follows, Agrees
 use proofs.following.Following.{emptied-same, skipped-same, body-place, body-phase, fed-once, fed-twice}
 use proofs.following.Following.{failed-ends, failed-skipped, followed-unit, followed-end, last-here}
 use proofs.following.Following.{last-ends, last-skipped, skipped-again, records-phase, body-once}
-use proofs.reading.Resuming.{enough-units, looked-here, looked-on}
+use proofs.{Words.Completes, Pending.again-lines, reading.Resuming.{enough-units, looked-here, looked-on}}
 use Rattle.crx_header.proofs.Counts.{types_of-push}
 
 -- only in an epoch does a line come again
 pub quiet-elsewhere : {U O K : Type 0} (direction : Direction U O K) (seen : Seen O K) (line : ReadLine)
     (made : Made U O) → is_in_epoch seen.phase ≡ false → is_again
     (step_of_made direction seen line made).answer ≡ false
-quiet-elsewhere direction seen line v1 e = grind (arith)
+quiet-elsewhere direction seen line (Fails fault) e = grind (arith, common_steps)
+quiet-elsewhere direction seen line (Completes unit) e = again-lines (direction.written seen unit)
+quiet-elsewhere direction seen line made e = refl
 
 -- ---- lines of the header, and an event's records
 
 pub never-before : (skip b : Bool) → (skip && (false && b)) ≡ false
-never-before other b = grind (arith, common_steps)
+never-before true b = refl
+never-before false b = refl
 
 header-phase : {E O : Type 0} (items : List (Item E)) (is_first : Bool) (line : List ℕ)
     → header_has_ended items ≡ false → phase_after_items {O = O} (Accepted (HeaderLine line) ∷ items) None
@@ -65,7 +68,8 @@ record-place beginning items left lines ended some = grind (arith, common_steps,
 
 -- one line decides what is there
 pub one_line-decided : {X : Type 0} (r : Result X Fault) → one_line r ≡ Wanted → ⊥
-one_line-decided v1 e = grind (arith)
+one_line-decided (Ok x) e = absurd (cc)
+one_line-decided (Err fault) e = absurd (cc)
 
 -- where the first line is wanted, none has come
 pub only_none : {X : Type 0} (read : List ℕ → Result X Fault) (ls : List ReadLine)
@@ -176,6 +180,8 @@ module _ {E U O K : Type 0} {beginning : List (Item E) → List ReadLine → Pla
           (h.wants (Warned at ∷ items)) (h.begins (Warned at ∷ items) line) refl (inl kept_then) kept_then
           (omega arith) (quiet-elsewhere direction looking line made_then refl)))))) (λ off. false-true
           (sym (ap (λ (s : Step _ _). is_again s.answer) (failed-ends direction seen line fault off)) ∙ on))
+      again (Completes unit) a on = false-true (sym (again-lines
+          (direction.written (seen_at h count phase items kept) unit)) ∙ on)
       again m a on = false-true on
 
   -- a line that is a unit of its own, or has a fault that is never skipped
@@ -194,7 +200,9 @@ module _ {E U O K : Type 0} {beginning : List (Item E) → List ReadLine → Pla
       (followed-unit h count (count + 1 + 1) items phase (kept_of items) unit same (h.none_open
       (Accepted unit ∷ items)) phases types keeps lines)
   simple-line units items count line phase (Some fault) unit same here never never_in phases types keeps
-      lines = grind (arith, common_steps, last-ends, followed-end)
+      lines = rw (last-ends h.forward choices.skip units items (count + 1) count [] line 0 fault
+      (h.forward.wants items) here (never fault) (omega arith)) (followed-end h count items phase
+      (kept_of items) line fault refl (never_in fault))
 
   -- a line outside an epoch is fed once
   line-once : (count : ℕ) (items : List (Item E)) (line : ReadLine) (phase : Phase O) (r : Reading E)
@@ -253,7 +261,8 @@ module _ {E U O K : Type 0} {beginning : List (Item E) → List ReadLine → Pla
 
       by_line : (l : ReadLine) → Follows h (count + 1) items (reads h (suc units) items (count + 1) (l ∷ []))
           (fed_once (seen_next direction (seen_at h count phase items (kept_of items)) l))
-      by_line Overlong = grind (arith, common_steps, record-place)
+      by_line Overlong = simple [] Overlong
+          (Some LineTooLong) (record-place beginning items left (Overlong ∷ []) ended some)
       by_line (Content content) = simple content (Content content) (cond (records_count_types items)
           (types_fault content) None) (record-place beginning items left (Content content ∷ []) ended some)
 
@@ -281,13 +290,17 @@ module _ {E U O K : Type 0} {beginning : List (Item E) → List ReadLine → Pla
     where
       both : {ls : List ReadLine} {p : Phase O} → P ls p → rest ≡ ls → phase_after_items items
           (open_with items rest) ≡ p → P rest (phase_after_items items (open_with items rest))
-      both {ls = ls} here lines phase = grind (arith)
+      both {ls = ls} here lines phase = subst (λ l. P l (phase_after_items items (open_with items rest)))
+          (sym lines) (subst (P ls) (sym phase) here)
 
       cases : (ended : Bool) → header_has_ended items ≡ ended → (left : ℕ) → records_left items ≡ left
           → (so_far : Option O) → open_with items rest ≡ so_far
           → P rest (phase_after_items items (open_with items rest))
-      cases false e left some so_far opens = grind (arith, only_none, header-place)
-      cases true e (suc left) some so_far opens = grind (arith, common_steps, only_none, record-place)
+      cases false e left some so_far opens = both (header e) (only_none (header_line {E = E} (is_at_start
+          items)) rest (sym (header-place beginning items rest e) ∙ wanted)) (rw e refl)
+      cases true e (suc left) some so_far opens = both (event left e some) (only_none (event_record
+          (records_count_types items)) rest (sym (record-place beginning items left rest e some) ∙ wanted))
+          (rw (e, some) refl)
       cases true e zero none None opens =
           grind (arith, common_steps, both, body-place, body-phase, phase_in_body, records_count_types)
       cases true e zero none (Some so_far) opens =
@@ -328,7 +341,8 @@ module _ {E U O K : Type 0} {beginning : List (Item E) → List ReadLine → Pla
       (place h) choices.skip (record { items = items; stop = stop }) (line ∷ [])) (fed direction
       (seen_of direction open_with kept_of choices count (record { items = items; stop = stop })) line)
   next-line items (AtFault at) count line stopped = grind (arith, common_steps, append-nil, written_lines)
-  next-line items (AtLines number rest) count line stopped = search (lines-line)
+  next-line items (AtLines number rest) count line stopped =
+      lines-line items number count rest line stopped.0 stopped.1
   next-line items (Looking number) count line stopped = by_bool (can_go_on line)
       (λ on. rw (looked-here (reading_from (place h) choices.skip items) items number line [] on)
       (fresh-line items number count line LookingOn stopped.1 stopped.2 refl refl stopped.0

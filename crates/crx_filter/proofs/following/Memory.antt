@@ -2,14 +2,15 @@
 use Rattle.crx_filter.proofs.Words
 use Words.{common_steps, ℕ, suc, ◌≡◌, ◌+◌, Bool, true, false, not, cond, List, [], ◌∷◌, ◌++◌, length, Option}
 use Words.{Some, None, refl, ap, sym, subst, ◌∙◌, arith, ◌&&◌, nat_lt, is_some, ReadLine, Content, Overlong}
-use Words.{At, begins_epoch, is_event_line, Count, count_in, is_types_line, Place, Wanted, first_line}
-use Words.{FileUnit, Choices, Item, Warned, is_at_start, header_has_ended, records_left}
+use Words.{Fault, At, begins_epoch, is_event_line, Count, count_in, is_types_line, Place, Wanted, first_line}
+use Words.{one_line, FileUnit, HeaderLine, Choices, Item, Warned, is_at_start, header_has_ended, records_left}
 use Words.{records_count_types, types_in_force, memory_allowed, place_takes, Stop, AtFault, AtLines, Looking}
-use Words.{is_skipped, can_go_on, event_record, header_line, header_line_fault, types_fault}
+use Words.{is_skipped, can_go_on, event_record, header_line, header_line_fault, types_fault, unless_wrong}
 use Words.{is_again, Answer, BetweenUnits, Direction, Failed, Fails, InEpoch, InEvent, InHeader, Made, Notice}
 use Words.{Phase, Seen, Step, after_warning, is_in_epoch, is_skipped_in, kept_in, phase_after_items}
 use Words.{seen_next, seen_of, step_of_made, may_take_memory, takes_memory, rules, none-some, and_parts}
-use Words.{by_bool, false-true}
+use Words.{by_bool, false-true, Completes}
+use Rattle.crx_filter.proofs.Pending.{again-lines}
 use Rattle.crx_filter.proofs.following.Following.{AgreeOn, IsCarriedOut, body-place, failed-ends, place}
 use Rattle.crx_filter.proofs.following.Following.{failed-skipped, seen_in, skipped-same, wrong-last}
 use Rattle.crx_filter.proofs.following.Lines.{IsStopped, by_phase, header-place, record-place}
@@ -28,20 +29,32 @@ counts-well line = by_types (is_types_line line) refl (count_in line) refl
     by_types : (b : Bool) → is_types_line line ≡ b → (o : Option Count) → count_in line ≡ o
         → is_some (cond b o None) ≡ true → (b ≡ true) × (types_fault line ≡ None)
     by_types true is None e h = false-true h
-    by_types true is (Some count) e h = grind (arith)
+    by_types true is (Some count) e h = (refl, none is e)
+      where
+        none : is_types_line line ≡ true → count_in line ≡ Some count → types_fault line ≡ None
+        none is e = rw (is, e) refl
     by_types false is o e h = false-true h
 
 -- a header line, by its fault
 header-takes : {E : Type 0} (takes : ℕ → Bool → Bool) (items : List (Item E)) (is_first : Bool)
     (line : List ℕ) → (is_some (count_of_types_line line) && is_none (header_line_fault is_first line)) ≡ true
     → place_takes takes items 0 (first_line (Content line ∷ []) (header_line is_first)) ≡ true
-header-takes {E = E} takes items is_first line = search (rules, counts-well, and_parts, false-true)
+header-takes {E = E} takes items is_first line = by_fault (header_line_fault is_first line) refl
+  where
+    by_fault : (o : Option Fault) → header_line_fault is_first line ≡ o
+        → (is_some (count_of_types_line line) && is_none o) ≡ true
+        → place_takes {E = E} takes items 0 (one_line (unless_wrong (HeaderLine line) o)) ≡ true
+    by_fault None e h = (counts-well line (and_parts (is_some (count_of_types_line line)) true h).0).0
+    by_fault (Some fault) e h = false-true (and_parts (is_some (count_of_types_line line)) false h).1
 
 -- a record of an event
 record-takes : {E : Type 0} (takes : ℕ → Bool → Bool) (items : List (Item E)) (line : List ℕ)
     → (records_count_types items && is_some (count_of_types_line line)) ≡ true → place_takes takes items 0
     (first_line (Content line ∷ []) (event_record (records_count_types items))) ≡ true
-record-takes {E = E} takes items line h = grind (arith, and_parts, counts-well)
+record-takes {E = E} takes items line h =
+    let each = and_parts (records_count_types items) (is_some (count_of_types_line line)) h in
+    let well = counts-well line each.1 in
+    cc (each.0, well.1, each.0, well.0)
 
 -- ---- a direction that takes memory by what is at its lines
 
@@ -78,7 +91,8 @@ module _ {E U O K : Type 0} {beginning : List (Item E) → List ReadLine → Pla
       → taken_in items Overlong phase ≡ false → ((content : List ℕ) → taken_in items (Content content) phase
       ≡ true → line_takes (place h) takes items rest (Content content) ≡ true)
       → taken_in items line phase ≡ true → line_takes (place h) takes items rest line ≡ true
-  by_content items rest phase v1 off on e = grind (arith, false-true)
+  by_content items rest phase Overlong off on e = false-true (sym off ∙ e)
+  by_content items rest phase (Content content) off on e = on content e
 
   -- where more lines are wanted
   lines-take : (items : List (Item E)) (rest : List ReadLine) (line : ReadLine) → place h items rest ≡ Wanted
@@ -101,7 +115,11 @@ module _ {E U O K : Type 0} {beginning : List (Item E) → List ReadLine → Pla
       (place h) items stop (count + 1) → takes_memory direction (seen_of direction open_with kept_of choices
       count (record { items = items; stop = stop })) line ≡ true → memory_allowed (place h) takes choices.skip
       (record { items = items; stop = stop }) line ≡ Some []
-  allowed-first items v1 count v2 stopped e = grind (arith, false-true, lines-take, and_parts, begins-takes)
+  allowed-first items (AtFault at) count (Content line) stopped e = false-true e
+  allowed-first items (AtLines number rest) count line stopped e = cc (lines-take _ _ _ stopped.0 e)
+  allowed-first items (Looking number) count (Content line) stopped e =
+      grind (arith, common_steps, and_parts, begins_epoch, begins-takes)
+  allowed-first items stop count Overlong stopped e = false-true e
 
   -- a line that cuts an epoch off, and is read anew after the warning
   cut-takes : (items : List (Item E)) (number count : ℕ) (rest : List ReadLine) (line : ReadLine) (so_far : O)
@@ -159,7 +177,15 @@ module _ {E U O K : Type 0} {beginning : List (Item E) → List ReadLine → Pla
       anew : (l : ReadLine) → takes_memory direction (after_warning direction before (can_go_on line))
           l ≡ true → line_takes (place h) takes (Warned at ∷ items) [] l ≡ true
       anew Overlong t = false-true t
-      anew (Content content) t = grind (arith, begins-takes, and_parts)
+      anew (Content content) t = begins-takes (Warned at ∷ items) content ended refl (subst
+          (λ (k : K). (not (is_event_line content) && direction.memory_first (types_in_force items) k content)
+          ≡ true) kept_then (and_parts (begins_epoch content) _ t).1)
+  cut-takes items number count rest line so_far next notice wanted counted ended none open_is
+      (Completes unit) a e taken = absurd (cc (
+        ap (λ (s : Step O K). is_again s.answer) e,
+        again-lines (direction.written (seen_in choices count (InEpoch so_far) (types_in_force items)
+            (direction.kept_open (kept_of items))) unit),
+      ))
   cut-takes items number count rest line so_far next notice wanted counted ended none open_is m a e taken =
       let no = ap (λ (s : Step O K). is_again s.answer) e in absurd (cc)
 

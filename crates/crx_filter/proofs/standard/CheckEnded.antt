@@ -1,6 +1,6 @@
 -- The end of the input, as a check takes it; and which files it names as standard.
 use Rattle.crx_filter.proofs.Words
-use Words.{common_steps, arith, ℕ, ◌≡◌, ◌+◌, false, List, [], ◌∷◌, ◌++◌, map, length, Option, Some, None}
+use Words.{common_steps, arith, ℕ, ◌≡◌, false, List, [], ◌∷◌, ◌++◌, map, length, Option, Some, None}
 use Words.{refl, ap, sym, ◌∙◌, append-nil, none-some, InputLine, ReadLine, seen, Fault, Count, Epoch}
 use Words.{HeaderLine, OpenEpoch, Item, Accepted, Warned, is_at_start, Reading, WholeReading}
 use Words.{fault_at_end, ended_with, whole_rinex, rinex_reading, Phase, InEpoch, Seen}

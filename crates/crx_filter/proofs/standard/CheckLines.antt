@@ -10,6 +10,7 @@ use Words.{Looking, reading_within, rinex_place, rinex_reading, made_of_epoch_st
 use Words.{rinex_open, Phase, InFirstLines, InHeader, BetweenUnits, InEvent, InEpoch, LookingOn, Closed, Made}
 use Words.{Completes, Step, made_of_unit, made_in, with_records_left, step_of_made, phase_in_body, phase_of}
 use Words.{failed_by, is_again, Totals, checking, printed_open, printed_made, no_choices, by_bool}
+use Rattle.crx_filter.proofs.{Pending.again-lines, Words.printed_unit}
 use Rattle.crx_filter.proofs.{Checkers.last-of, following.Following.seen_in, reading.Resuming.by_place}
 use Rattle.crx_filter.proofs.reading.Resuming.{within-here, within-wrong, within-wanted}
 use Rattle.crx_rinex.specs.meaning.Printing.{printed_head}
@@ -108,5 +109,5 @@ line-grows number phase types kept line h f =
 pub never-again : (number : ℕ) (phase : Phase OpenEpoch)
     (types : List Count) (kept : Totals) (line : ReadLine) (made : Made Epoch OpenEpoch)
     → is_again (step_of_made checking (seen_in no_choices number phase types kept) line made).answer ≡ false
-never-again number phase types kept line (Completes unit) = refl
+never-again number phase types kept line (Completes unit) = again-lines (printed_unit unit)
 never-again number phase types kept line made = refl

@@ -1,35 +1,43 @@
 -- A checker takes the end of the input.
 use Rattle.crx_filter.proofs.Words
-use Words.{common_steps, arith, ℕ, ◌≡◌, ◌+◌, true, List, Option, Some, None, refl, ap, ◌∙◌, false≢true}
-use Words.{InputLine, At, Fault, OpenEpoch, seen_stage, Stage, failed_by, reader_phase, whole_reading_of}
+use Words.{common_steps, arith, ℕ, ◌≡◌, true, [], List, Option, None, refl, ap, ◌∙◌}
+use Words.{false, map, length, seen, Choices, no_choices, check_reading, first_not_standard, printed_so_far}
+use Words.{epoch_open, InputLine, failed_by, reader_phase, whole_reading_of}
 use Words.{findings_of, checking, check_seen, checker_state_with, Held, RinexReader}
 use Rattle.crx_filter.proofs.{standard.CheckEnded.check-ended, steps.EngineFaults.by-stage}
+use Rattle.crx_filter.proofs.{following.Following.seen_in}
+use Rattle.crx_filter.proofs.{steps.CheckerSteps.{has-reached, reads-on, seen-there}}
+use Rattle.crx_filter.specs.{Stages.is_ended, Totals.totals_held}
 use Rattle.crx_filter.{proofs.steps.EngineLemmas.held-by_reader, specs.CheckByLine.found_by}
-use Rattle.crx_filter.specs.{CheckerState.is_reading, LineByLine.{end_step, fault_at_end_in}}
-use Rattle.crx_filter.specs.{Stages.bare_phase, Totals.found_held, declared.stage.Stage.TheVariants.Ended}
-
--- no fault has ended a checker that can take lines
-running : (held : Option OpenEpoch) (stage : Stage) → is_reading (seen_stage held stage) ≡ true
-    → (at : At) → stage ≡ Ended at → ⊥
-running held stage reads at is = false≢true (rw is at reads)
+use Rattle.crx_filter.specs.{CheckingParts.is_reading, LineByLine.{end_step, fault_at_end_in}}
+use Rattle.crx_filter.specs.{Stages.bare_phase, Totals.found_held}
 
 module _ (reader : RinexReader) (number : ℕ) (totals : Held) (named : Option ℕ) (lines : List InputLine)
     (reads : is_reading (reader_phase reader) ≡ true)
     (same : checker_state_with reader number totals named ≡ check_seen lines) where
   -- the fault of the whole reading is that of the stage
-  end-fault : (whole_reading_of lines).fault ≡ failed_by (end_step checking (checker_state_with reader number
-      totals named).reading (fault_at_end_in (bare_phase reader.stage))).answer
+  end-fault : (whole_reading_of lines).fault ≡ failed_by (end_step checking [] (checker_state_with reader
+      number totals named).reading (fault_at_end_in (bare_phase reader.stage))).answer
   end-fault = grind (arith, common_steps, check-ended, by-stage, held-by_reader)
 
-  pub good-end : None ≡ fault_at_end_in (bare_phase reader.stage) → (whole_reading_of lines).fault ≡ None
-  good-end is = end-fault ∙ rw (← is) refl
-
-  pub bad-end : (fault : Fault) → Some fault ≡ fault_at_end_in (bare_phase reader.stage)
-      → (whole_reading_of lines).fault ≡ Some (record { line = number + 1; fault = fault })
-  bad-end fault is = end-fault ∙ rw (← is) refl
+  pub good-end : fault_at_end_in (bare_phase reader.stage) ≡ None → (whole_reading_of lines).fault ≡ None
+  good-end is = end-fault ∙ rw is refl
 
 -- what is held then is what there is to find
 pub found-there : (reader : RinexReader) (number : ℕ) (totals : Held) (named : Option ℕ)
     (lines : List InputLine) → checker_state_with reader number totals named ≡ check_seen lines
     → (whole_reading_of lines).fault ≡ None → found_held totals reader.types named ≡ findings_of lines
 found-there reader number totals named lines same good = ap found_by same ∙ (check-ended lines).found good
+
+pub found-at-end : (choices : Choices) (reader : RinexReader) (totals : Held) (named : Option ℕ)
+    (lines : List InputLine) → no_choices ≡ choices → seen_in choices (length lines) (reader_phase reader)
+    reader.types (totals_held totals) ≡ check_reading (map seen lines)
+    → named ≡ first_not_standard 1 lines (printed_so_far lines) → is_ended reader.stage ≡ false
+    → fault_at_end_in (bare_phase reader.stage) ≡ None → found_held totals reader.types named ≡ findings_of
+    lines
+found-at-end choices reader totals named lines taken is named_is running good =
+    let same = seen-there choices reader totals lines taken is named named_is in
+    let reads = reads-on (epoch_open reader) reader.stage (has-reached choices reader totals lines taken is)
+    running in
+    found-there reader (length lines) totals named lines same
+    (good-end reader (length lines) totals named lines reads same good)

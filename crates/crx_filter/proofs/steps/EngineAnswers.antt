@@ -6,11 +6,16 @@ use Words.{Some, None, Result, Ok, Err, refl, ap, sym, subst, ◌∙◌, append-
 use Words.{◌&&◌, InputLine, is_long, ReadLine, Content, Overlong, seen, At, OutOfMemory, LINE_LIMIT, Choices}
 use Words.{with_next, lines_text, step_made, Steps, is_again, Fed, fed_once, fed_twice, fed, LookingOn, Seen}
 use Words.{Direction, Made, Fails, Notice, SeenStep, made_in, may_skip, is_in_epoch, is_skipped_in}
-use Words.{failed_step, step_of_made, seen_next, seen_end, takes_memory, can_go_on, is_skippable, Quiet}
-use Words.{Ready, by_bool}
+use Words.{failed_step, step_of_made, seen_next, takes_memory, can_go_on, is_skippable, Quiet, ◌++◌}
+use Words.{Ready, by_bool, Completes, false≢true, answer_of_step, noticed_by, reverse-append}
 use Rattle.crx_filter.proofs.following.Following.{fed-once as feeds-once, fed-twice as feeds-twice}
-use Rattle.crx_filter.specs.{EngineLaws.{FollowsBy, GoesLineByLine}, EngineLines.HasTaken, Laws.is_ready}
-use Rattle.crx_filter.specs.Laws.{has_lines}
+use Rattle.crx_filter.proofs.Pending.{again-lines, quiet-next, quiet-end}
+use Rattle.crx_filter.specs.EngineLaws.{EndsLineByLine, FollowsBy, GoesLineByLine}
+use Rattle.crx_filter.specs.{EngineLines.HasTaken, Laws.is_ready, LineByLine.seen_end_with}
+use Rattle.crx_filter.specs.DirectionParts.{EngineParts, IsAfterLines, seen_by}
+use Rattle.crx_filter.specs.EngineState.{EngineNotes, engine_ready, engine_seen, engine_took}
+use Rattle.crx_filter.specs.declared.direction.Direction.{Ghosts}
+use Rattle.std.specs.Prelude.{IfOk, ⊤}
 use Rattle.crx_runs.specs.Engines.{Awaited, IsAwaited, awaited_notices, GoesOn, EngineAnswers}
 use Rattle.crx_runs.specs.{Engines.Concludes, declared.engine.Step.Step}
 use Rattle.crx_runs.specs.{declared.engine.Step.TheVariants.Warned, meaning.Filters.Filter}
@@ -24,6 +29,7 @@ pub record ComesAgain {O K : Type 0} (before next : Seen O K) (line : ReadLine) 
   pub fits : can_go_on line ≡ true
   pub phase : next.phase ≡ LookingOn
   pub number : next.number ≡ before.number
+  pub choices : next.choices ≡ before.choices
 
 again-by-made : {U O K : Type 0} (direction : Direction U O K)
     (before next : Seen O K) (line : ReadLine) (at : At) (handed_out : List (List ℕ)) (made : Made U O)
@@ -54,6 +60,7 @@ again-by-made {O = O} {K = K} direction before next line at handed_out (Fails fa
       phase = ap (λ (s : Seen O K). s.phase) then;
       number = ap (λ (s : Seen O K). s.number)
           then ∙ ap (λ (b : Bool). cond b before.number (before.number + 1)) (sym yes);
+      choices = ap (λ (s : Seen O K). s.choices) then;
     })
     (λ off.
     let step : record { answer = Notice at true; handed_out = handed_out; next = next }
@@ -61,6 +68,8 @@ again-by-made {O = O} {K = K} direction before next line at handed_out (Fails fa
     let is : is_again (failed_step direction before line fault).answer ≡ false = rw off refl in
     let yes : true ≡ false = ap (λ (s : SeenStep O K). is_again s.answer) step ∙ is in
     absurd (cc))
+again-by-made {O = O} {K = K} direction before next line at handed_out (Completes unit) e =
+    absurd (cc (again-lines (direction.written before unit), ap (λ (s : SeenStep O K). is_again s.answer) e))
 again-by-made {O = O} {K = K} direction before next line at handed_out made e = grind (arith, common_steps)
 
 pub comes-again : {U O K : Type 0}
@@ -75,17 +84,13 @@ comes-again direction before next line at handed_out e = again-by-made direction
 abbrev earliest : List At → List At
 earliest notices = reverse notices
 
-none-handed_out : (lines : List (List ℕ)) → has_lines lines ≡ false → lines ≡ []
-none-handed_out [] e = refl
-none-handed_out (line ∷ lines) e = absurd (cc)
-
-module _ {U O K : Type 0} {direction : Direction U O K} {seen_after : List ReadLine → Seen O K}
-    {filter : Filter} (goes : GoesLineByLine direction seen_after filter) where
+module _ {U O K : Type 0} {direction : Direction U O K} {closing_after : List InputLine → List (List ℕ)}
+    {seen_after : List ReadLine → Seen O K} {filter : Filter}
+    (goes : GoesLineByLine direction closing_after seen_after filter) where
   -- only a step that is ready hands out lines
   quiet-handed_out : (before : Seen O K) (line : ReadLine) (step : SeenStep O K)
       → step ≡ seen_next direction before line → is_ready step.answer ≡ false → step.handed_out ≡ []
-  quiet-handed_out before line step e quiet =
-      grind (arith, common_steps, none-handed_out, step, has_lines, is_ready)
+  quiet-handed_out before line step e quiet = quiet-next direction before line step e quiet
 
   -- ---- a line that is fed once, or comes a second time
 
@@ -122,8 +127,47 @@ module _ {U O K : Type 0} {direction : Direction U O K} {seen_after : List ReadL
         (result : Result Step At) → ((ls : List InputLine) (ns : List Awaited) → HasTaken direction seen_after
         now ls ns → shows ls ns) → step_made result ready now ≡ seen_next direction first (seen line)
         → EngineAnswers filter shows ready lines [] line result
-    first-time shows now ready result showing e =
-        grind (arith, common_steps, goes-on, fed-once, quiet-handed_out, follows-fed, fed-again, append-nil)
+    first-time shows now ready result showing e = answers result e
+      where
+        answers : (r : Result Step At) → step_made r ready now ≡ seen_next direction first (seen line)
+            → EngineAnswers filter shows ready lines [] line r
+        answers (Ok Quiet) s =
+            let step : SeenStep O K = step_made (Ok Quiet) ready now in
+            goes-on shows (fed_once step) now [] [] showing (fed-once first (seen line) step s refl) refl
+            (quiet-handed_out first (seen line) step s refl) refl refl
+        answers (Ok Ready) s =
+            let step : SeenStep O K = step_made (Ok Ready) ready now in
+            goes-on shows (fed_once step) now ready [] showing (fed-once first (seen line) step s refl) refl
+            refl
+            refl refl
+        answers (Ok (Warned notice true)) s =
+            let step : SeenStep O K = step_made (Ok (Warned notice true)) ready now in
+            let two : SeenStep O K = seen_next direction now (seen line) in
+            let h = follows-fed (fed_twice step two) (fed-again first (seen line) step s refl) in
+            let none : ready ≡ [] = quiet-handed_out first (seen line) step s refl in (
+              showing lines (record { notice = notice; line = line } ∷ []) (ap (λ (ls : List (List ℕ)).
+                  step_made (Ok (Warned notice true)) ls now) (sym none) ∙ s),
+              refl,
+              (
+                reverse (noticed_by two.answer),
+                h.warnings ∙ ap (λ (ws : List At). (filter.so_far lines).warnings ++ ws)
+                    (reverse-append (noticed_by two.answer) (notice ∷ [])),
+              ),
+            )
+        answers (Ok (Warned notice false)) s =
+            let step : SeenStep O K = step_made (Ok (Warned notice false)) ready now in
+            goes-on shows (fed_once step) now [] (notice ∷ []) showing (fed-once first (seen line) step s
+            refl)
+            refl (quiet-handed_out first (seen line) step s refl) refl refl
+        answers (Err at) s =
+            let step : SeenStep O K = step_made (Err at) ready now in
+            let h = follows-fed (fed_once step) (fed-once first (seen line) step s refl) in
+            inr (record {
+              output = h.output ∙ ap (λ (ls : List (List ℕ)). (filter.so_far lines).output ++ lines_text ls)
+                  (quiet-handed_out first (seen line) step s refl) ∙ append-nil (filter.so_far lines).output;
+              warnings = h.warnings;
+              fault = h.fault;
+            })
 
     -- the second time, after a warning
     second-time : (shows : List InputLine → List Awaited → Type 0) (notice : At) (before now : Seen O K)
@@ -141,7 +185,9 @@ module _ {U O K : Type 0} {direction : Direction U O K} {seen_after : List ReadL
         answers : (r : Result Step At) → fed direction first (seen line) ≡ fed_twice step
             (step_made r ready now) → step_made r ready now ≡ seen_next direction before (seen line)
             → EngineAnswers filter shows ready lines (record { notice = notice; line = line } ∷ []) line r
-        answers (Ok Quiet) twice s = grind (arith, common_steps, goes-on, quiet-handed_out)
+        answers (Ok Quiet) twice s = goes-on shows (fed_twice step (step_made (Ok Quiet) ready now)) now []
+            (notice ∷ []) showing twice refl
+            (quiet-handed_out before (seen line) (step_made (Ok Quiet) ready now) s refl) refl refl
         answers (Ok Ready) twice s = goes-on shows (fed_twice step (step_made (Ok Ready) ready now)) now ready
             (notice ∷ []) showing twice refl refl refl refl
         answers (Ok (Warned next true)) twice s =
@@ -150,9 +196,19 @@ module _ {U O K : Type 0} {direction : Direction U O K} {seen_after : List ReadL
             let no : true ≡ false = sym again.epoch ∙ ap is_in_epoch looking.phase in
             absurd (cc)
         answers (Ok (Warned next false)) twice s =
-            grind (arith, common_steps, goes-on, fed_twice, step, step_made, quiet-handed_out, seen)
+            goes-on shows (fed_twice step (step_made (Ok (Warned next false)) ready now)) now []
+            (notice ∷ next ∷ []) showing twice refl
+            (quiet-handed_out before (seen line) (step_made (Ok (Warned next false)) ready now) s refl) refl
+            refl
         answers (Err at) twice s =
-            grind (arith, common_steps, follows-fed, lines_text, append-nil, quiet-handed_out)
+            let h = follows-fed (fed_twice step (step_made (Err at) ready now)) twice in
+            inr (record {
+              output = h.output ∙ ap (λ (ls : List (List ℕ)). (filter.so_far lines).output ++ lines_text ls)
+                  (quiet-handed_out before (seen line) (step_made (Err at) ready now) s refl)
+                  ∙ append-nil (filter.so_far lines).output;
+              warnings = h.warnings;
+              fault = h.fault;
+            })
 
     -- memory ran out, the first time or the second
     ran-out : (shows : List InputLine → List Awaited → Type 0) (ready : List (List ℕ))
@@ -199,10 +255,27 @@ module _ {U O K : Type 0} {direction : Direction U O K} {seen_after : List ReadL
   -- ---- the end of the input
 
   pub concludes : (before now : Seen O K) (lines : List InputLine) (ready : List (List ℕ))
-      (result : Result Step At) → HasTaken direction seen_after before lines []
-      → step_made result ready now ≡ seen_end direction before → Concludes filter ready lines result
-  concludes before now lines ready result taken e =
-      grind (arith, common_steps, seen_end, step_made, append-nil, lines_text)
+      (result : Result Step At) → HasTaken direction seen_after before lines [] → step_made result ready now
+      ≡ seen_end_with direction (closing_after lines) before → Concludes filter ready lines result
+  concludes before now lines ready result taken e = by-result result ended quiet
+    where
+      closing : List (List ℕ)
+      closing = closing_after lines
+
+      ended : EndsLineByLine filter lines (step_made result ready now)
+      ended = subst (λ (s : SeenStep O K). EndsLineByLine filter lines s)
+          (sym (e ∙ ap (λ (s : Seen O K). seen_end_with direction closing s) taken)) (goes.ends lines)
+
+      quiet : is_ready (answer_of_step result) ≡ false → ready ≡ []
+      quiet q = ap (λ (s : SeenStep O K). s.handed_out) e ∙ quiet-end direction closing before
+          (ap (λ (s : SeenStep O K). is_ready s.answer) (sym e) ∙ q)
+
+      by-result : (r : Result Step At) → EndsLineByLine filter lines (step_made r ready now)
+          → (is_ready (answer_of_step r) ≡ false → ready ≡ []) → Concludes filter ready lines r
+      by-result (Ok Quiet) h none = grind (arith, common_steps, append-nil, lines_text)
+      by-result (Ok Ready) h none = grind (arith, common_steps, append-nil, lines_text)
+      by-result (Ok (Warned notice again)) h none = grind (arith, common_steps, append-nil, lines_text)
+      by-result (Err at) h none = grind (arith, common_steps, append-nil, lines_text)
 
 -- ---- lines as they are seen
 
@@ -222,28 +295,123 @@ seen-within line bytes h e = grind (arith, common_steps, seen-short, short-line)
 
 -- ---- an engine with its choices
 
-module _ {U O K : Type 0} {direction : Direction U O K} {seen_by : Choices → List ReadLine → Seen O K}
-    {filter_by : Choices → Filter}
-    (goes : (choices : Choices) → GoesLineByLine direction (seen_by choices) (filter_by choices)) where
+module _ {U O K : Type 0} {direction : Direction U O K} {closing_after : List InputLine → List (List ℕ)}
+    {seen_after : List ReadLine → Seen O K} {filter : Filter}
+    (goes : GoesLineByLine direction closing_after seen_after filter) where
   -- the count of an engine that has taken some lines is that of the lines
-  taken-lines : (choices : Choices) (now : Seen O K) (lines : List InputLine) (notices : List Awaited)
-      → HasTaken direction (seen_by choices) now lines notices → now.number ≡ length lines
-  taken-lines choices now lines [] taken = ap (λ (s : Seen O K). s.number) taken ∙ (goes choices).number lines
-  taken-lines choices now lines (a ∷ []) taken = (comes-again direction (seen_by choices (map seen lines)) now
-      (seen a.line) a.notice [] taken).number ∙ (goes choices).number lines
-  taken-lines choices now lines (a ∷ b ∷ others) taken = absurd taken
+  pub taken-lines : (now : Seen O K) (lines : List InputLine) (notices : List Awaited)
+      → HasTaken direction seen_after now lines notices → now.number ≡ length lines
+  taken-lines now lines [] taken = ap (λ (s : Seen O K). s.number) taken ∙ goes.number lines
+  taken-lines now lines (a ∷ []) taken = (comes-again direction (seen_after (map seen lines)) now (seen
+      a.line)
+      a.notice [] taken).number ∙ goes.number lines
+  taken-lines now lines (a ∷ b ∷ others) taken = absurd taken
 
-  -- an engine whose choices are as they were answers a line by what is seen of it, and shows the lines taken
-  pub answers-seen : (shows : List InputLine → List Awaited → Type 0) (before now : Seen O K)
-      (lines : List InputLine) (notices : List Awaited) (line : InputLine) (read : ReadLine)
-      (ready : List (List ℕ)) (result : Result Step At) → ((ls : List InputLine) (ns : List Awaited)
-      → HasTaken direction (seen_by now.choices) now ls ns × (now.number ≡ length ls) → shows ls ns)
-      → now.choices ≡ before.choices → seen line ≡ read → HasTaken direction (seen_by before.choices) before
-      lines notices → IsAwaited notices line → Steps direction before read result ready now → EngineAnswers
-      (filter_by before.choices) shows ready lines notices line result
-  answers-seen shows before now lines notices line read ready result showing same is taken awaited steps =
-      answers-line (goes before.choices) shows before now lines notices line ready result
-      (λ ls ns then. showing ls ns (
-        subst (λ (c : Choices). HasTaken direction (seen_by c) now ls ns) (sym same) then,
-        taken-lines before.choices now ls ns then,
-      )) taken awaited (subst (λ (l : ReadLine). Steps direction before l result ready now) (sym is) steps)
+-- what is known after an answer to a line: the same of these lines where that one is to come again, and else
+-- of one
+-- more
+abbrev KnowsAfter : (List InputLine → Type 0) → List InputLine → InputLine → Result Step At → Type 0
+KnowsAfter knows lines line (Ok Quiet) = knows (with_next lines line)
+KnowsAfter knows lines line (Ok Ready) = knows (with_next lines line)
+KnowsAfter knows lines line (Ok (Warned notice true)) = knows lines
+KnowsAfter knows lines line (Ok (Warned notice false)) = knows (with_next lines line)
+KnowsAfter knows lines line (Err at) = ⊤
+
+module _ (knows : List InputLine → Type 0) (lines : List InputLine) (line : InputLine) where
+  all-known : (result : Result Step At) → ((ls : List InputLine) → knows ls)
+      → KnowsAfter knows lines line result
+  all-known (Ok Quiet) known = known (with_next lines line)
+  all-known (Ok Ready) known = known (with_next lines line)
+  all-known (Ok (Warned notice true)) known = known lines
+  all-known (Ok (Warned notice false)) known = known (with_next lines line)
+  all-known (Err at) known = tt
+
+  -- where no line is to come again
+  next-known : (result : Result Step At) → ((notice : At) → result ≡ Ok (Warned notice true) → ⊥)
+      → IfOk result (λ step. knows (with_next lines line)) → KnowsAfter knows lines line result
+  next-known (Ok Quiet) once known = known
+  next-known (Ok Ready) once known = known
+  next-known (Ok (Warned notice true)) once known = absurd (once notice refl)
+  next-known (Ok (Warned notice false)) once known = known
+  next-known (Err at) once known = tt
+
+  -- an answer shows what is known, too
+  answers-known : (filter : Filter) (shows : List InputLine → List Awaited → Type 0) (ready : List (List ℕ))
+      (notices : List Awaited) (result : Result Step At) → KnowsAfter knows lines line result
+      → EngineAnswers filter shows ready lines notices line result
+      → EngineAnswers filter (λ ls ns. shows ls ns × knows ls) ready lines notices line result
+  answers-known filter shows ready notices (Ok Quiet) known answers = ((answers.0, known), answers.1)
+  answers-known filter shows ready notices (Ok Ready) known answers = ((answers.0, known), answers.1)
+  answers-known filter shows ready notices (Ok (Warned notice true)) known answers =
+      ((answers.0, known), answers.1, answers.2)
+  answers-known filter shows ready notices (Ok (Warned notice false)) known answers =
+      ((answers.0, known), answers.1)
+  answers-known filter shows ready notices (Err at) known answers = answers
+
+module _ {D : Type 0} (d : Ghosts D) (before : EngineParts D)
+    (goes : GoesLineByLine d.by_line (d.closing_after before.options) (d.seen_after before.options)
+    (d.filter before.options)) (chosen : d.chosen before.options ≡ before.options) where
+  -- an engine that has taken some lines has come to them
+  pub after-lines : (lines : List InputLine) → engine_took d before lines []
+      → IsAfterLines d.chosen d.seen_after before.options lines (d.parts before.direction)
+  after-lines lines took = record {
+    taken_as = chosen;
+    is_seen = ap (λ (n : ℕ). seen_by before.options n (d.parts before.direction))
+        (sym (taken-lines goes (engine_seen d before) lines [] took.0)) ∙ took.0;
+  }
+
+  module _ (after : EngineParts D) (lines : List InputLine) (line : InputLine) (read : ReadLine)
+      (result : Result Step At)
+      (notes : EngineNotes d before line result after)
+      (steps : Steps d.by_line (engine_seen d before) read result (engine_ready d after) (engine_seen d
+      after))
+    where
+      -- no line is to come again where faults aren't skipped
+      never : before.options.skip ≡ false → Steps d.by_line (engine_seen d before) read result
+          (engine_ready d after) (engine_seen d after) → (notice : At) → result ≡ Ok (Warned notice true) → ⊥
+      never off (inl e) notice is = false≢true (sym off ∙ (comes-again d.by_line (engine_seen d before)
+          (engine_seen d after) read notice (engine_ready d after) (subst (λ (r : Result Step At). step_made r
+          (engine_ready d after) (engine_seen d after) ≡ seen_next d.by_line (engine_seen d before) read) is
+          e)).skips)
+      never off (inr out) notice is = absurd (cc (out.is, is))
+
+      known-then : (notices : List Awaited) → engine_took d before lines notices
+          → KnowsAfter (d.knows after.direction) lines line result
+      known-then notices took = by_bool before.options.skip
+          (λ on. all-known (d.knows after.direction) lines line result
+          (λ ls. (d.skipping after.direction before.options ls chosen on).0))
+          (λ off. by-notices off notices took)
+        where
+          with-off : (r : Result Step At) → before.options.skip ≡ false → IfOk r (λ step. before.options.skip
+              ≡ false → d.knows after.direction (with_next lines line))
+              → IfOk r (λ step. d.knows after.direction (with_next lines line))
+          with-off (Ok step) off h = h off
+          with-off (Err at) off h = tt
+
+          by-notices : before.options.skip ≡ false → (ns : List Awaited) → engine_took d before lines ns
+              → KnowsAfter (d.knows after.direction) lines line result
+          by-notices off [] took = next-known (d.knows after.direction) lines line result (never off steps)
+              (with-off result off (notes lines (taken-lines goes (engine_seen d before) lines [] took.0)
+              (after-lines lines took) took.1))
+          by-notices off (a ∷ []) took =
+              let again = comes-again d.by_line (d.seen_after before.options (map seen lines))
+              (engine_seen d before) (seen a.line) a.notice [] took.0 in
+              absurd (false≢true (sym off ∙ ap (λ (c : Choices). c.skip) again.choices ∙ again.skips))
+          by-notices off (a ∷ b ∷ others) took = absurd took.0
+
+      -- an engine whose choices are as they were answers a line by what is seen of it, and shows what it took
+      pub engine-answers : (notices : List Awaited) → after.options ≡ before.options → seen line ≡ read
+          → engine_took d before lines notices → IsAwaited notices line → EngineAnswers (d.filter
+          before.options)
+          (engine_took d after) (engine_ready d after) lines notices line result
+      engine-answers notices same is took awaited = answers-known (d.knows after.direction) lines line
+          (d.filter before.options)
+          (HasTaken d.by_line (d.seen_after after.options) (engine_seen d after)) (engine_ready d after)
+          notices
+          result (known-then notices took) (answers-line goes
+          (HasTaken d.by_line (d.seen_after after.options) (engine_seen d after))
+          (engine_seen d before) (engine_seen d after) lines notices line (engine_ready d after) result
+          (λ ls ns then. subst (λ (c : Choices). HasTaken d.by_line (d.seen_after c) (engine_seen d after) ls
+          ns)
+          (sym same) then) took.0 awaited (subst (λ (l : ReadLine). Steps d.by_line (engine_seen d before) l
+          result (engine_ready d after) (engine_seen d after)) (sym is) steps))

@@ -3,13 +3,15 @@ use Rattle.crx_filter.proofs.steps.EngineLemmas.{failed-at, fatal-counts, out-fa
 use Rattle.crx_filter.specs.declared.stage.Stage.TheVariants.{Looking, Closed, Ended}
 use Rattle.crx_filter.specs.DirectionParts.{DirectionParts, seen_by, Reads, RefusesLine, AnswersToFault}
 use Rattle.crx_filter.specs.{DirectionParts.TakesLine, Stages.{bare_phase, is_settled}, LineByLine.end_step}
-use Rattle.crx_filter.{specs.LineByLine.fault_at_end_in, proofs.Words.{common_steps, arith, ◌≡◌, inl, inr, ℕ}}
+use Rattle.crx_filter.specs.LineByLine.{answer_of_lines, fault_at_end_in, seen_end_with}
+use Rattle.crx_filter.{specs.EngineSteps.answer_of_step, proofs.Words.{common_steps, arith, ◌≡◌, inl, inr, ℕ}}
 use Rattle.crx_filter.proofs.Words.{◌+◌, Bool, true, false, ◌&&◌, List, [], Option, Some, None, Result, Ok}
 use Rattle.crx_filter.proofs.Words.{Err, refl, sym, ap, subst, ◌∙◌, Content, Overlong, At, Fault, LineTooLong}
 use Rattle.crx_filter.proofs.Words.{Count, Choices, Seen, Direction, Fails, made_in, SeenEnded, is_skipped_in}
-use Rattle.crx_filter.proofs.Words.{may_skip, is_skippable, failed_step, step_of_made, seen_next, seen_end}
-use Rattle.crx_filter.proofs.Words.{begins_epoch, step_made, Steps, is_held, seen_stage, Quiet, Stage}
-use Rattle.std.proofs.Common.{OnErr, IfErr}
+use Rattle.crx_filter.proofs.Words.{may_skip, is_skippable, failed_step, step_of_made, seen_next}
+use Rattle.crx_filter.proofs.Words.{begins_epoch, step_made, Steps, is_held, seen_stage, Stage}
+use Rattle.std.proofs.Common.{OnErr, IfErr, IfOk}
+use Rattle.crx_filter.proofs.Words.{false≢true}
 use Rattle.crx_runs.specs.declared.engine.Step.{Step, TheVariants.Warned}
 
 -- no fault is answered where one has ended the run, or after the end
@@ -21,6 +23,13 @@ not-settled stage a b c = grind (arith, common_steps)
 pub after-error : {A B P : Type 0} (result : Result A B) → P → OnErr result P
 after-error (Ok answer) is = tt
 after-error (Err error) is = is
+
+-- where nothing is skipped, an answer after a fault is an error
+pub notes-nothing : {A B : Type 0} (P : Type 0) (skip : Bool) (result : Result A B) → IfOk result (λ answer.
+    skip ≡ true)
+    → IfOk result (λ answer. skip ≡ false → P)
+notes-nothing P skip (Ok answer) on = λ off. absurd (false≢true (sym off ∙ on))
+notes-nothing P skip (Err error) on = tt
 
 module _ {U O K : Type 0} (direction : Direction U O K) where
   -- a fault that isn't skipped ends the run
@@ -96,28 +105,30 @@ module _ {U O K : Type 0} (direction : Direction U O K) where
 
   -- ---- the end of the input
 
-  pub by-stage : (choices : Choices) (number : ℕ) (stage : Stage) (begun : Option O) (types : List Count)
-      (kept : K) → is_held stage begun ≡ true → ((at : At) → stage ≡ Ended at → ⊥)
-      → seen_end direction (record {
-        choices = choices;
-        number = number;
-        phase = seen_stage begun stage;
-        types = types;
-        kept = kept;
-      }) ≡ end_step direction (record {
-        choices = choices;
-        number = number;
-        phase = seen_stage begun stage;
-        types = types;
-        kept = kept;
-      }) (fault_at_end_in (bare_phase stage))
-  by-stage choices number stage begun types kept held going = grind (arith, common_steps)
+  module _ (closing : List (List ℕ)) where
+    pub by-stage : (choices : Choices) (number : ℕ) (stage : Stage) (begun : Option O) (types : List Count)
+        (kept : K) → is_held stage begun ≡ true → ((at : At) → stage ≡ Ended at → ⊥)
+        → seen_end_with direction closing (record {
+          choices = choices;
+          number = number;
+          phase = seen_stage begun stage;
+          types = types;
+          kept = kept;
+        }) ≡ end_step direction closing (record {
+          choices = choices;
+          number = number;
+          phase = seen_stage begun stage;
+          types = types;
+          kept = kept;
+        }) (fault_at_end_in (bare_phase stage))
+    by-stage choices number stage begun types kept held going = grind (arith, common_steps)
 
   module _ (choices : Choices) (number : ℕ) (before after : DirectionParts O K) (stage : Stage)
       (was : stage ≡ before.stage) (held : is_held stage before.begun ≡ true)
-      (going : (at : At) → stage ≡ Ended at → ⊥) (typed : after.types ≡ before.types) where
-    ends : seen_end direction (seen_by choices number before)
-        ≡ end_step direction (seen_by choices number before) (fault_at_end_in (bare_phase stage))
+      (going : (at : At) → stage ≡ Ended at → ⊥) (typed : after.types ≡ before.types)
+      (closing : List (List ℕ)) where
+    ends : seen_end_with direction closing (seen_by choices number before)
+        ≡ end_step direction closing (seen_by choices number before) (fault_at_end_in (bare_phase stage))
     ends =
         grind (arith, common_steps, by-stage, stage, is_held, end_step, seen_by, fault_at_end_in, bare_phase)
 
@@ -125,20 +136,23 @@ module _ {U O K : Type 0} (direction : Direction U O K) where
         → c ≡ is_skippable fault → is_skipped_in (seen_by choices number before) fault ≡ ((a && b) && c)
     skips fault a b c is-a is-b is-c = grind (arith, common_steps)
 
-    pub ends-quietly : after.stage ≡ Closed → after.kept ≡ before.kept → fault_at_end_in (bare_phase stage)
-        ≡ None → step_made (Ok Quiet) [] (seen_by choices number after) ≡ seen_end direction
-        (seen_by choices number before)
-    ends-quietly staged kept none = rw (ends, none, staged, kept, typed) refl
+    -- a good end: what is answered is by the lines that are handed out
+    pub ends-well : (result : Result Step At) (ready : List (List ℕ)) → answer_of_step result
+        ≡ answer_of_lines closing → ready ≡ closing → after.stage ≡ Closed → after.kept ≡ before.kept
+        → fault_at_end_in (bare_phase stage) ≡ None → step_made result ready (seen_by choices number after)
+        ≡ seen_end_with direction closing (seen_by choices number before)
+    ends-well result ready answered handed_out staged kept none =
+        rw (ends, none, staged, kept, typed, answered, handed_out) refl
 
     module _ (fault : Fault) (a b c : Bool) (is-a : a ≡ choices.skip) (is-b : b ≡ may_skip (bare_phase stage))
         (is-c : c ≡ is_skippable fault) (some : fault_at_end_in (bare_phase stage) ≡ Some fault)
         (kept : after.kept ≡ direction.emptied before.kept) where
       pub ends-skipped : after.stage ≡ Closed → ((a && b) && c) ≡ true
           → step_made (Ok (Warned (record { line = number + 1; fault = fault }) false)) []
-          (seen_by choices number after) ≡ seen_end direction (seen_by choices number before)
+          (seen_by choices number after) ≡ seen_end_with direction closing (seen_by choices number before)
       ends-skipped staged on = grind (arith, common_steps, ends, skips)
 
       pub ends-failed : after.stage ≡ Ended (record { line = number + 1; fault = fault }) → ((a && b) && c)
           ≡ false → step_made (Err (record { line = number + 1; fault = fault })) []
-          (seen_by choices number after) ≡ seen_end direction (seen_by choices number before)
+          (seen_by choices number after) ≡ seen_end_with direction closing (seen_by choices number before)
       ends-failed staged off = grind (arith, common_steps, ends, skips)

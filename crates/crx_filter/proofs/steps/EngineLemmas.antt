@@ -1,9 +1,10 @@
 -- Facts of an engine's steps in either direction: held epochs, faults that count, memory that ran out, a
 -- fault that is answered again.
-use Rattle.crx_filter.{specs.EngineSteps.RanOut, proofs.Words.{common_steps, arith, ◌≡◌, inl, inr, ℕ, ◌+◌}}
+use Rattle.crx_filter.{specs.LineByLine.seen_end_with, specs.EngineSteps.RanOut}
+use Rattle.crx_filter.{proofs.Words.{common_steps, arith, ◌≡◌, inl, inr, ℕ, ◌+◌}}
 use Rattle.crx_filter.proofs.Words.{Bool, true, false, List, Result, Err, refl, ap, ◌∙◌, ◌&&◌, ReadLine, At}
 use Rattle.crx_filter.proofs.Words.{Fault, OutOfMemory, SeenEnded, Seen, Direction, Failed, SeenStep, made_in}
-use Rattle.crx_filter.proofs.Words.{may_skip, is_skipped_in, failed_step, step_of_made, seen_next, seen_end}
+use Rattle.crx_filter.proofs.Words.{may_skip, is_skipped_in, failed_step, step_of_made, seen_next}
 use Rattle.crx_filter.proofs.Words.{may_take_memory, takes_memory, is_skippable, answer_of_step, step_made}
 use Rattle.crx_filter.proofs.Words.{Steps, is_held, epoch_open, RinexReader, false-true}
 use Rattle.crx_runs.specs.declared.engine.Step.{Step}
@@ -47,8 +48,8 @@ repeats {O = O} direction before after line ready result at (inr ran) is =
     grind (arith, common_steps, may_take_memory)
 
 pub repeats-end : {U O K : Type 0} (direction : Direction U O K) (before after : Seen O K)
-    (ready : List (List ℕ)) (result : Result Step At) (at : At) → step_made result ready after ≡ seen_end
-    direction before → before.phase ≡ SeenEnded at → result ≡ Err at
-repeats-end {O = O} {K = K} direction before after ready result at step is =
-    let again : (seen_end direction before).answer ≡ Failed at = rw is refl in
+    (closing ready : List (List ℕ)) (result : Result Step At) (at : At) → step_made result ready after
+    ≡ seen_end_with direction closing before → before.phase ≡ SeenEnded at → result ≡ Err at
+repeats-end {O = O} {K = K} direction before after closing ready result at step is =
+    let again : (seen_end_with direction closing before).answer ≡ Failed at = rw is refl in
     failed-at result at (ap (λ (s : SeenStep O K). s.answer) step ∙ again)

@@ -3,7 +3,10 @@ use Rattle.crx_filter.proofs.Words
 use Words.{common_steps, arith, ◌≡◌, inl, inr, ℕ, ◌+◌, true, false, List, [], Result, length, length-append}
 use Words.{InputLine, sym, subst, ⊤, ReadLine, At, can_go_on, Direction, Seen, Made, Answer, Notice, Failed}
 use Words.{SeenStep, is_in_epoch, is_skipped_in, made_in, step_of_made, Steps, answer_of_step, step_made}
-use Rattle.crx_filter.specs.LineByLine.{Quiet as SeenQuiet, Ready as SeenReady}
+use Rattle.crx_filter.proofs.{Pending.quiet-end, Words.{Completes, ◌∷◌, refl, ap, ◌∙◌, Ok, Err, Quiet, Ready}}
+use Rattle.crx_filter.specs.{Laws.is_ready, LineByLine.seen_end_with}
+use Rattle.crx_runs.specs.declared.engine.Step.TheVariants.{Warned}
+use Rattle.crx_filter.specs.LineByLine.{Quiet as SeenQuiet, Ready as SeenReady, answer_of_lines}
 use Rattle.std.proofs.Common.{IfOk}
 use Rattle.crx_runs.specs.Engines.{Awaited, EngineAnswers, taken_after, IsDrainedAfter}
 use Rattle.crx_runs.specs.{declared.engine.Step.Step, meaning.Filters.Filter}
@@ -21,6 +24,11 @@ CountsIn before s = Counts before s.answer s.next.number s.handed_out
 
 made-counts : {U O K : Type 0} (direction : Direction U O K) (seen : Seen O K) (line : ReadLine)
     (made : Made U O) → CountsIn seen.number (step_of_made direction seen line made)
+made-counts direction seen line (Completes unit) = lines-count (direction.written seen unit)
+  where
+    lines-count : (lines : List (List ℕ)) → Counts seen.number (answer_of_lines lines) (seen.number + 1) lines
+    lines-count [] = (refl, refl)
+    lines-count (l ∷ ls) = refl
 made-counts direction seen line made = grind (arith, common_steps, is_skipped_in, is_in_epoch, can_go_on)
 
 counted-result : (before after : ℕ) (ready : List (List ℕ)) (result : Result Step At) → Counts before
@@ -58,3 +66,21 @@ pub answers-counted : (filter : Filter) (shows : List InputLine → List Awaited
     (λ ls ns. shows ls ns × (after ≡ length ls)) ready lines notices line result
 answers-counted filter shows before after ready lines notices line result was counts answers =
     grind (arith, common_steps, length-append)
+
+-- at the end, too, lines are borrowed only where they are said to be ready
+pub end-drained : {U O K : Type 0} (direction : Direction U O K) (closing ready : List (List ℕ))
+    (before now : Seen O K) (result : Result Step At)
+    → step_made result ready now ≡ seen_end_with direction closing before
+    → IfOk result (λ s. IsDrainedAfter s ready)
+end-drained {O = O} {K = K} direction closing ready before now result e = by-result result quiet
+  where
+    quiet : is_ready (answer_of_step result) ≡ false → ready ≡ []
+    quiet q = ap (λ (s : SeenStep O K). s.handed_out) e ∙ quiet-end direction closing before
+        (ap (λ (s : SeenStep O K). is_ready s.answer) (sym e) ∙ q)
+
+    by-result : (r : Result Step At) → (is_ready (answer_of_step r) ≡ false → ready ≡ [])
+        → IfOk r (λ s. IsDrainedAfter s ready)
+    by-result (Ok Quiet) none = none refl
+    by-result (Ok Ready) none = tt
+    by-result (Ok (Warned notice again)) none = none refl
+    by-result (Err at) none = tt

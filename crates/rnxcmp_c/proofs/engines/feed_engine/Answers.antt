@@ -40,3 +40,7 @@ take_bytes-requires-in-Expanding c =
 
 pub take_bytes-requires : goal.take_bytes-requires
 take_bytes-requires c = search (rules, c.requires.going, c.in-Compacting.is, c.requires.ready, going-as)
+
+pub take_bytes-requires-in-Checking : goal.take_bytes-requires-in-Checking
+take_bytes-requires-in-Checking c =
+    search (rules, c.requires.going, c.in-Checking.is, c.requires.ready, going-as)

@@ -1,11 +1,12 @@
-use Rattle.rnxcmp_c.proofs.Words.{Check}
+use Rattle.rnxcmp_c.proofs.Words.{ap, Check}
 use Rattle.rnxcmp_c.proofs.handle.rnxcmp_c_open_check.Goals as goal
 
-pub returns-clause-opened : goal.returns-clause-opened
-returns-clause-opened c =
+pub returns-in-Ok-new-clause-opened : goal.returns-in-Ok-new-clause-opened
+returns-in-Ok-new-clause-opened c =
+    let made = c.in-Ok-new.ensures in
     c.open.ensures.opened Check (record {
       is_of = tt;
-      drained = c.new-2.ensures.drained;
-      takes = c.new-2.ensures.running;
-      shown = c.new-2.ensures.taken;
+      drained = made.drained;
+      takes = tt;
+      shown = ((made.seen, made.knows), ap (λ s. s.number) made.seen);
     }) c.in-Ok.ensures

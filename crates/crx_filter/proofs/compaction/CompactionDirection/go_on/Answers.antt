@@ -22,7 +22,8 @@ pub returns-then-not-is_last-clause-reads : goal.returns-then-not-is_last-clause
 returns-then-not-is_last-clause-reads c =
     let drained = rw (← c.self.view_is) at c.requires.drained in
     let row = c.in_ok-is_last.ensures.written in
-    rw (← c.self.view_is, row.written) (moved-read (row-moves row _ c.if-not-is_last.true).0 drained)
+    rw (← c.self.view_is, row.written, ← c.bytes.ensures.content) (moved-read (row-moves row _
+    c.if-not-is_last.true).0 drained)
 
 pub end_epoch-requires : goal.end_epoch-requires
 end_epoch-requires c =
@@ -39,7 +40,7 @@ returns-in_err-end_epoch-clause-reads c =
     let p = err_from_is_err_and c.from_residual-in_err-end_epoch.result
     c.from_residual-in_err-end_epoch.ensures.1 in
     let ended = c.in_err-end_epoch.ensures in
-    rw (← c.self.view_is, p.1, p.2, ended.memory)
+    rw (← c.self.view_is, p.1, p.2, ended.memory, ← c.bytes.ensures.content)
     (lost-read (row-ends c.in_ok-is_last.ensures.written _ c.if-not-is_last.false) refl ended.forgotten)
 
 pub returns-in_err-end_epoch-clause-serves : goal.returns-in_err-end_epoch-clause-serves
@@ -55,7 +56,8 @@ returns-clause-reads c =
     let opened = rw (← c.self.view_is) at c.requires.open in
     let ended = c.in_ok-end_epoch.ensures in
     let row = c.in_ok-is_last.ensures.written in
-    rw (← c.self.view_is) (ended-read (row-ends row _ c.if-not-is_last.false) c.take_row.new.encoder
+    rw (← c.self.view_is, ← c.bytes.ensures.content) (ended-read (row-ends row _ c.if-not-is_last.false)
+    c.take_row.new.encoder
     c.end_epoch.new.encoder
     (λ choices chosen. ap (λ (e : EncoderState). e.in_full) row.written ∙ due-there _ _ _ opened chosen)
     (ap (λ (e : EncoderState). e.before) row.written) (ap (λ (e : EncoderState). e.rows) row.written)

@@ -30,7 +30,7 @@ returns-in-Nothing-clause-reads c =
     let drained = rw (← c.self.view_is) at c.requires.drained in
     let takes = rw c.in-Nothing.is at (c.in_ok-take.ensures.takes
     (record { index = c.self.inside.index; tail = c.self.inside.encoder.before })) in
-    rw (← c.self.view_is) (moved-read takes.0 drained)
+    rw (← c.self.view_is, ← c.bytes-line.ensures.content) (moved-read takes.0 drained)
 
 pub returns-in-Nothing-clause-serves : goal.returns-in-Nothing-clause-serves
 returns-in-Nothing-clause-serves c =
@@ -47,7 +47,8 @@ pub returns-then-not-is_whole-clause-reads : goal.returns-then-not-is_whole-clau
 returns-then-not-is_whole-clause-reads c =
     let begins = rw c.in-Begun.is at (c.in_ok-take.ensures.takes
     (record { index = c.self.inside.index; tail = c.self.inside.encoder.before })) in
-    rw (← c.self.view_is, c.begin.ensures.begun) (moved-read (begun-open _ _ _ _ begins
+    rw (← c.self.view_is, c.begin.ensures.begun, ← c.bytes-line.ensures.content) (moved-read (begun-open _ _ _
+    _ begins
     (not-false _ (sym c.is_whole.ensures.value ∙ c.if-not-is_whole.true))) refl)
 
 pub returns-then-not-is_whole-clause-serves : goal.returns-then-not-is_whole-clause-serves
@@ -73,7 +74,8 @@ returns-in_err-end_epoch-in-Begun-clause-reads c =
     let begins = rw c.in-Begun.is at (c.in_ok-take.ensures.takes
     (record { index = c.self.inside.index; tail = c.self.inside.encoder.before })) in
     let ended = c.in_err-end_epoch-in-Begun.ensures in
-    rw (← c.self.view_is, p.1, p.2, ended.memory) (lost-read (begun-whole _ _ _ _ begins
+    rw (← c.self.view_is, p.1, p.2, ended.memory, ← c.bytes-line.ensures.content) (lost-read (begun-whole _ _
+    _ _ begins
     (not-true _ (sym c.is_whole.ensures.value ∙ c.if-not-is_whole.false))) refl ended.forgotten)
 
 pub returns-in_err-end_epoch-in-Begun-clause-serves : goal.returns-in_err-end_epoch-in-Begun-clause-serves
@@ -90,7 +92,7 @@ returns-in_ok-end_epoch-in-Begun-clause-reads c =
     (record { index = c.self.inside.index; tail = c.self.inside.encoder.before })) in
     let begun = c.begin.ensures.begun in
     let ended = c.in_ok-end_epoch-in-Begun.ensures in
-    rw (← c.self.view_is) (ended-read (begun-whole _ _ _ _ begins
+    rw (← c.self.view_is, ← c.bytes-line.ensures.content) (ended-read (begun-whole _ _ _ _ begins
     (not-true _ (sym c.is_whole.ensures.value ∙ c.if-not-is_whole.false))) c.begin.new.self
     c.end_epoch.new.encoder
     (λ choices chosen. ap (λ (e : EncoderState). e.in_full) begun ∙ c.is_at_every.ensures
@@ -112,7 +114,7 @@ pub returns-in-Header-clause-reads : goal.returns-in-Header-clause-reads
 returns-in-Header-clause-reads c =
     let takes = rw c.in-Header.is at (c.in_ok-take.ensures.takes
     (record { index = c.self.inside.index; tail = c.self.inside.encoder.before })) in
-    rw (← c.self.view_is, c.copy_header.ensures.copied)
+    rw (← c.self.view_is, c.copy_header.ensures.copied, ← c.bytes-line.ensures.content)
     (header-read takes.0 (rw (c.date.ensures.value, takes.1) refl))
 
 pub returns-in-Header-clause-serves : goal.returns-in-Header-clause-serves
@@ -131,9 +133,10 @@ returns-in_default c =
     let done = of-event _ c.in_ok-take.ensures.steps c.in_default.not-Nothing c.in_default.not-Begun
     c.in_default.not-Header (c.in_ok-take.ensures.takes
     (record { index = c.self.inside.index; tail = c.self.inside.encoder.before })) in
-    rw (← c.self.view_is, c.copy.ensures.copied) (record {
+    rw (← c.self.view_is, c.copy.ensures.copied, ← c.bytes-line.ensures.content) (record {
       reads = event-read done;
       serves = served-closed _ _ _ (event-closed done);
       counted = omega (arith);
       same = tt;
+      knows = λ choices lines come known counted. tt;
     })

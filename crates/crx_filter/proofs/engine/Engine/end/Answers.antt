@@ -1,10 +1,19 @@
-use Rattle.crx_filter.proofs.steps.{EngineAnswers.concludes, EngineLemmas.repeats-end}
+use Rattle.crx_filter.proofs.steps.EngineAnswers.{concludes, after-lines}
+use Rattle.crx_filter.proofs.steps.EngineLemmas.{repeats-end}
 use Rattle.crx_filter.proofs.engine.Engine.end.Goals as goal
 
 pub returns-clause-concludes : goal.returns-clause-concludes
 returns-clause-concludes g c = λ lines taken.
-    concludes (c.close.ensures.lawful c.args.self.now.options) _ _ lines _ _ taken c.close.ensures.stops.steps
+    let come = after-lines g.D.Direction c.args.self.now
+    c.close.ensures.lawful c.close.ensures.chosen lines taken in
+    concludes c.close.ensures.lawful _ _ lines _ _ taken.0 (c.close.ensures.closing lines come taken.1).steps
+
+pub returns-clause-found : goal.returns-clause-found
+returns-clause-found g c = λ lines taken.
+    let come = after-lines g.D.Direction c.args.self.now
+    c.close.ensures.lawful c.close.ensures.chosen lines taken in
+    (c.close.ensures.closing lines come taken.1).found
 
 pub returns-clause-repeated : goal.returns-clause-repeated
 returns-clause-repeated g c = λ at is.
-    repeats-end g.D.Direction.by_line _ _ _ _ at c.close.ensures.stops.steps is
+    repeats-end g.D.Direction.by_line _ _ _ _ _ at c.close.ensures.stops.steps is

@@ -4,7 +4,7 @@ use Rattle.crx_filter.proofs.engine.Engine.skip.Goals as goal
 
 pub returns-in_default-clause-stops : goal.returns-in_default-clause-stops
 returns-in_default-clause-stops g c =
-    let law = c.stage-stage.ensures.lawful c.self.inside.options in
+    let law = c.stage-stage.ensures.lawful c.self.inside.options c.self.invariant.3 in
     rw (← c.self.view_is, ap (λ (e : EngineParts _). e.answer) c.self-in_default.view_is) (record {
       steps = long-failed g.D.Direction.by_line law.too_long_first law.too_long_next _ c.self.inside.number
           c.args.number c.stage-stage.result (g.D.Direction.parts c.self.inside.direction) _ _

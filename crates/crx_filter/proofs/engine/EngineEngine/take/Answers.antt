@@ -1,6 +1,7 @@
 use Rattle.crx_lines.specs.Reading.{line_shown}
-use Rattle.crx_filter.proofs.{Words.Content, steps.EngineAnswers.{answers-seen, seen-within}}
-use Rattle.crx_filter.proofs.steps.StepCounts.{steps-counted, steps-drained}
+use Rattle.crx_filter.proofs.{Words.{Content, refl}, steps.EngineAnswers.{engine-answers, seen-within}}
+use Rattle.crx_filter.proofs.steps.StepCounts.{answers-counted, steps-counted, steps-drained}
+use Rattle.crx_filter.specs.EngineState.{engine_ready, engine_took}
 use Rattle.crx_filter.proofs.engine.EngineEngine.take.Goals as goal
 
 pub returns-clause-drained : goal.returns-clause-drained
@@ -11,8 +12,12 @@ returns-clause-count g c = steps-counted g.D.Direction.by_line _ _ _ _ _ c.take_
 
 pub returns-clause-answers : goal.returns-clause-answers
 returns-clause-answers g c = λ lines notices shown awaited.
+    let d = g.D.Direction in
     let line = line_shown c.args.line in
-    answers-seen c.take_line.ensures.lawful _ _ _ lines notices line (Content c.bytes.result.now) _ _
-    (λ ls ns then. then) c.take_line.ensures.takes.choices
-    (seen-within line c.bytes.result.now c.args.line.short c.bytes.ensures.content) shown.0 awaited
-    c.take_line.ensures.takes.steps
+    let took = c.take_line.ensures in
+    answers-counted (d.filter c.args.self.now.options) (engine_took d c.take_line.new.self) _ _
+    (engine_ready d c.take_line.new.self) lines notices line _ shown.1 (returns-clause-count g c)
+    (engine-answers d c.args.self.now took.lawful c.take_line.ensures.chosen
+    c.take_line.new.self lines line (Content line.content)
+    _ took.notes took.takes.steps notices took.takes.choices (seen-within line line.content c.args.line.short
+    refl) shown.0 awaited)

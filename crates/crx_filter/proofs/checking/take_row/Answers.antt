@@ -1,10 +1,10 @@
 use Rattle.crx_filter.proofs.Words
 use Words.{◌≡◌, ℕ, Bool, true, false, not, List, [], None, length, take, inl, inr, refl, ap, ◌∙◌, Count}
 use Words.{has_satellite, Row, row_of, IsSameReader, is_open_stage, RinexReader}
-use Rattle.crx_filter.{proofs.steps.RowSteps.taken-from, specs.CheckerState.AreNamed}
+use Rattle.crx_filter.{proofs.steps.RowSteps.taken-from, specs.CheckingParts.AreNamed}
 use Rattle.crx_header.specs.meaning.Satellites.{is_among}
 use Rattle.crx_rinex.proofs.Rows.{by_names}
-use Rattle.crx_filter.proofs.checker.take_row.Goals as goal
+use Rattle.crx_filter.proofs.checking.take_row.Goals as goal
 
 -- once a row was read, the identifiers of those before it say whether its satellite has come already
 has-come : (names : List (List ℕ)) (before between : RinexReader) (row : Row) (count : ℕ) (name : List ℕ)
@@ -46,6 +46,7 @@ returns-in-Err-clause-refuses c kept =
     inr (
       refl,
       read.memory (has-come c.args.names.now.names c.args.reader.now c.read_row.new.self c.row.result.now
-          c.count.result c.name.result.now false c.requires.named c.requires.open read.same c.count.ensures.rows
+          c.count.result c.name.result.now false c.requires.named c.requires.open read.same
+          c.count.ensures.rows
           c.name.ensures.value c.row.ensures.value c.in-Err.ensures.err),
     )

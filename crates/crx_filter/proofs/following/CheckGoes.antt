@@ -1,0 +1,128 @@
+-- A check goes line by line, in the words of its filter: it hands out nothing before the end of the input,
+-- and then
+-- its report.
+use Rattle.crx_filter.proofs.Words
+use Words.{common_steps, arith, ℕ, ◌≡◌, false, List, [], ◌∷◌, map, Option, Some, None, refl}
+use Words.{ap, sym, subst, ◌∙◌, reverse, map-append, length-map, InputLine, ReadLine, seen, At, Choices}
+use Words.{Count, Epoch}
+use Words.{lines_text, with_next, noticed_by, failed_by, is_again, Completes, Made, Seen, Phase, OpenEpoch}
+use Words.{Fed}
+use Words.{fed, made_in, step_of_made, seen_next, seen_end, SeenStep, Totals, checking, check_by_line}
+use Words.{check_reading, check_filter, no_choices, whole_reading_of, findings_of, false-true, InFirstLines}
+use Words.{printed_unit}
+use Rattle.crx_filter.proofs.{Pending.{failed-lines, noticed-lines}, standard.CheckEnded.check-ended}
+use Rattle.crx_filter.proofs.following.CheckedOn.{one-on, same-seen}
+use Rattle.crx_filter.proofs.following.{Following.{fed-once, seen_in}, MemoryOfRinex.check-allowed}
+use Rattle.crx_filter.specs.EngineLaws.{EndsLineByLine, FollowsBy, GoesLineByLine}
+use Rattle.crx_filter.specs.LineByLine.{seen_end_with, fault_at_end_in}
+use Rattle.crx_filter.specs.meaning.Directions.{report_unless}
+use Rattle.crx_filter.specs.meaning.Standard.{Findings, report_lines}
+
+-- ---- a step
+
+-- what a line makes doesn't hang on what is written
+pub made-alike : (phase : Phase OpenEpoch) (types : List Count) (kept : Totals) (line : ReadLine)
+    → made_in check_by_line phase types kept line ≡ made_in checking phase types kept line
+made-alike (InFirstLines count) types kept line = refl
+made-alike phase types kept line = refl
+
+-- a step of a check is that of its reading, and hands out nothing
+pub record IsQuiet (step reads : SeenStep OpenEpoch Totals) : Type 0 where
+  pub next : step.next ≡ reads.next
+  pub failed : failed_by step.answer ≡ failed_by reads.answer
+  pub noticed : noticed_by step.answer ≡ []
+  pub once : is_again step.answer ≡ false
+  pub handed_out : step.handed_out ≡ []
+
+made-quiet : (number : ℕ) (phase : Phase OpenEpoch) (types : List Count) (kept : Totals) (line : ReadLine)
+    (made : Made Epoch OpenEpoch)
+    → IsQuiet (step_of_made check_by_line (seen_in no_choices number phase types kept) line made)
+    (step_of_made checking (seen_in no_choices number phase types kept) line made)
+made-quiet number phase types kept line (Completes unit) = record {
+  next = refl;
+  failed = sym (failed-lines (printed_unit unit));
+  noticed = refl;
+  once = refl;
+  handed_out = refl;
+}
+made-quiet number phase types kept line made =
+    record { next = refl; failed = refl; noticed = refl; once = refl; handed_out = refl }
+
+pub step-quiet : (lines : List ReadLine) (line : ReadLine) → IsQuiet
+    (seen_next check_by_line (check_reading lines) line) (seen_next checking (check_reading lines) line)
+step-quiet lines line =
+    let s = check_reading lines in
+    subst (λ (m : Made Epoch OpenEpoch). IsQuiet (step_of_made check_by_line s line m)
+    (seen_next checking s line)) (sym (made-alike s.phase s.types s.kept line))
+    (made-quiet s.number s.phase s.types s.kept line (made_in checking s.phase s.types s.kept line))
+
+-- ---- the end
+
+-- at a good end the report is handed out, and else nothing
+record IsReported (closing : List (List ℕ)) (step reads : SeenStep OpenEpoch Totals) : Type 0 where
+  failed : failed_by step.answer ≡ failed_by reads.answer
+  noticed : noticed_by step.answer ≡ []
+  good : failed_by step.answer ≡ None → step.handed_out ≡ closing
+  bad : (at : At) → failed_by step.answer ≡ Some at → step.handed_out ≡ []
+
+end-reported : (closing : List (List ℕ)) (number : ℕ) (phase : Phase OpenEpoch) (types : List Count)
+    (kept : Totals) → IsReported closing (seen_end_with check_by_line closing
+    (seen_in no_choices number phase types kept)) (seen_end checking (seen_in no_choices number phase types
+    kept))
+end-reported closing number phase types kept =
+    grind (arith, common_steps, failed-lines, noticed-lines, seen_end, seen_end_with, fault_at_end_in)
+
+report-text : (found : Findings) (o : Option At) (handed_out : List (List ℕ))
+    → (o ≡ None → handed_out ≡ report_lines found) → ((at : At) → o ≡ Some at → handed_out ≡ [])
+    → report_unless o found ≡ lines_text handed_out
+report-text found None handed_out good bad = ap lines_text (sym (good refl))
+report-text found (Some at) handed_out good bad = ap lines_text (sym (bad at refl))
+
+-- ---- line by line
+
+check-follows : (lines : List InputLine) (line : InputLine) → FollowsBy check_filter lines line
+    (check_reading (map seen (with_next lines line))) (fed check_by_line (check_reading (map seen lines))
+    (seen line))
+check-follows lines line =
+    let one = one-on (map seen lines) (seen line) in
+    let quiet = step-quiet (map seen lines) (seen line) in
+    let once = fed-once check_by_line (check_reading (map seen lines)) (seen line) quiet.once in
+    let all = map-append seen lines (line ∷ []) in
+    record {
+      next = ap check_reading all ∙ one.next ∙ sym quiet.next ∙ ap (λ (f : Fed OpenEpoch Totals). f.next) (sym
+          once);
+      output = ap lines_text (sym quiet.handed_out)
+          ∙ ap (λ (f : Fed OpenEpoch Totals). lines_text f.handed_out) (sym once);
+      warnings = ap reverse (sym quiet.noticed)
+          ∙ ap (λ (f : Fed OpenEpoch Totals). reverse f.warned) (sym once);
+      fault = cc (all, one.fault, quiet.failed, ap (λ (f : Fed OpenEpoch Totals). f.failed) once);
+    }
+
+check-ends : (lines : List InputLine) → EndsLineByLine check_filter lines
+    (seen_end_with check_by_line (report_lines (findings_of lines)) (check_reading (map seen lines)))
+check-ends lines =
+    let s = check_reading (map seen lines) in
+    let end = end-reported (report_lines (findings_of lines)) s.number s.phase s.types s.kept in
+    let fault = (check-ended lines).fault
+    ∙ ap (λ (seen : Seen OpenEpoch Totals). failed_by (seen_end checking seen).answer) (same-seen lines)
+    ∙ sym end.failed in
+    record {
+      output = report-text (findings_of lines) (whole_reading_of lines).fault _
+          (λ none. end.good (sym fault ∙ none)) (λ at is. end.bad at (sym fault ∙ is));
+      warnings = ap reverse (sym end.noticed);
+      fault = fault;
+    }
+
+pub check-goes : (choices : Choices) → no_choices ≡ choices → GoesLineByLine check_by_line
+    (λ lines. report_lines (findings_of lines)) check_reading check_filter
+check-goes choices taken = record {
+  follows = check-follows;
+  ends = check-ends;
+  number = λ lines. length-map lines seen;
+  memory_first = λ lines line. check-allowed (map seen lines) (seen line);
+  memory_again = λ lines line next notice is takes. false-true
+      (sym (step-quiet (map seen lines) (seen line)).once
+      ∙ ap (λ (s : SeenStep OpenEpoch Totals). is_again s.answer) (sym is));
+  too_long_first = λ types kept. refl;
+  too_long_next = λ so_far. refl;
+}

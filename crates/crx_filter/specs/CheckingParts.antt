@@ -1,0 +1,87 @@
+-- What a check has between two lines, and how its parts belong together.
+use Rattle.std.specs.Prelude.{◌≡◌, ◌≤◌, ◌+◌, ℕ, Bool, true, false, List, drop, take, map, length, Option}
+use Rattle.std.proofs.Common.{ap, ◌∙◌}
+use Rattle.std.proofs.lemmas.Bool.{false≢true}
+use Rattle.crx_base.specs.meaning.Choices.{Choices}
+use Rattle.crx_base.specs.meaning.Lines.{InputLine}
+use Rattle.crx_header.specs.Identifiers.{HeldIdentifiers}
+use Rattle.crx_rinex.specs.meaning.EpochPlaces.{OpenEpoch}
+use Rattle.crx_rinex.specs.meaning.Observations.{Row as ObservationRow}
+use Rattle.crx_filter.specs.CheckByLine.{CheckSeen, Totals as TotalsSeen, no_choices, printed_so_far}
+use Rattle.crx_filter.specs.DirectionParts.{DirectionParts}
+use Rattle.crx_filter.specs.LineByLine.{Phase, InHeader, BetweenUnits, InEvent, InEpoch}
+use Rattle.crx_filter.specs.RinexReaders.{epoch_open, reader_phase}
+use Rattle.crx_filter.specs.RinexStages.{is_open_stage}
+use Rattle.crx_filter.specs.Totals.{totals_held, found_held, AreBounded, IsObserved}
+use Rattle.crx_filter.specs.meaning.Standard.{findings_of, first_not_standard, report_lines}
+use Rattle.crx_filter.specs.declared.checking.Noted.{Noted}
+use Rattle.crx_filter.specs.declared.report.Totals.{Totals}
+use Rattle.crx_filter.specs.declared.rinex_reader.RinexReader.{RinexReader}
+
+-- the reader, the identifiers of the open epoch's rows, what was noted of the lines, and how many lines of the report
+-- were handed out
+pub record CheckingState : Type 0 where
+  pub reader : RinexReader
+  pub names : HeldIdentifiers
+  pub noted : Noted
+  pub handed_out : ℕ
+
+-- the first identifiers are those of some rows
+abbrev pub AreNamed : List (List ℕ) → List ObservationRow → Type 0
+AreNamed names rows = (length rows ≤ length names)
+    × (take (length rows) names ≡ map (λ (row : ObservationRow). row.name) rows)
+
+-- the rows of an open epoch are named and their observations counted, and the totals are those of so many units
+pub record AreCounted (reader : RinexReader) (names : List (List ℕ)) (noted : Noted) : Type 0 where
+  pub named : is_open_stage reader.stage ≡ true → AreNamed names reader.rows.rows
+  pub observed : is_open_stage reader.stage ≡ true → IsObserved noted.observed reader.rows.rows
+  pub bounded : AreBounded noted.totals (noted.totals.epochs + noted.totals.events)
+
+abbrev pub checking_parts : CheckingState → DirectionParts OpenEpoch TotalsSeen
+checking_parts c = record {
+  stage = c.reader.stage;
+  begun = epoch_open c.reader;
+  types = c.reader.types;
+  kept = totals_held c.noted.totals;
+}
+
+-- the lines of the report, by what was found so far; those that weren't handed out are pending
+abbrev pub report_of : CheckingState → List (List ℕ)
+report_of c = report_lines (found_held c.noted.totals c.reader.types c.noted.not_standard)
+
+abbrev pub pending_report : CheckingState → List (List ℕ)
+pending_report c = drop c.handed_out (report_of c)
+
+-- it has noted the first of these lines that isn't standard
+abbrev pub HasNoted : CheckingState → List InputLine → Type 0
+HasNoted c lines = c.noted.not_standard ≡ first_not_standard 1 lines (printed_so_far lines)
+
+-- and of a file that consists of these lines, once its end was good
+abbrev pub HasFound : CheckingState → List InputLine → Type 0
+HasFound c lines = c.noted.not_standard ≡ (findings_of lines).not_standard
+
+-- a check skips nothing
+pub never_skips : {X : Type 0} (choices : Choices) → no_choices ≡ choices → choices.skip ≡ true → X
+never_skips choices taken skips = absurd (false≢true (ap (λ (c : Choices). c.skip) taken ∙ skips))
+
+-- ---- what is seen of a reader that checks
+
+abbrev pub checker_state_with : RinexReader → ℕ → Totals → Option ℕ → CheckSeen
+checker_state_with reader number totals not_standard = record {
+  reading = record {
+    choices = no_choices;
+    number = number;
+    phase = reader_phase reader;
+    types = reader.types;
+    kept = totals_held totals;
+  };
+  not_standard = not_standard;
+}
+
+-- whether lines can come, where nothing is skipped
+abbrev pub is_reading : Phase OpenEpoch → Bool
+is_reading (InHeader is_first) = true
+is_reading BetweenUnits = true
+is_reading (InEvent left counted) = true
+is_reading (InEpoch so_far) = true
+is_reading phase = false

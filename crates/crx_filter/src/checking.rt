@@ -1,0 +1,275 @@
+//! The check of a RINEX file, line by line: what a line adds to what is found.
+
+ghost use Rattle.std.specs.Prelude.{◌≡◌, ◌≤◌, ◌<◌, ◌+◌, ◌++◌, ◌∷◌, ℕ, List, [], true, false, length, OnErr, OnOk, IfErr, IfOk};
+ghost use Rattle.crx_base.specs.declared.limits.TheConstants.{INPUT_LIMIT, SATELLITES_LIMIT};
+ghost use Rattle.crx_lines.specs.Reading.{line_number, line_shown};
+ghost use Rattle.crx_rinex.specs.Printing.{last_line};
+ghost use Rattle.crx_rinex.specs.meaning.EpochPlaces.{OpenEpoch};
+ghost use Rattle.crx_rinex.specs.meaning.Observations.{Epoch as ObservationEpoch};
+ghost use Rattle.crx_filter.specs.CheckByLine.{Totals as TotalsSeen, check_by_line, check_reading, earliest, no_choices, printed_made, totals_made};
+ghost use Rattle.crx_filter.specs.CheckingParts.{AreNamed};
+ghost use Rattle.crx_filter.specs.CompactionByLine.{is_before_header, Written};
+ghost use Rattle.crx_filter.specs.LineByLine.{Made};
+ghost use Rattle.crx_filter.specs.RinexReaders.{is_row, made_at, reader_phase, IsSameReader, RefusesRinexLine, TakesRinexLine};
+ghost use Rattle.crx_filter.specs.RinexStages.{is_open_stage};
+ghost use Rattle.crx_filter.specs.Totals.{AreBounded, HasPrinted, IsCounting, IsObserved, totals_held};
+ghost use Rattle.crx_filter.specs.meaning.Standard.{is_standard_line};
+ghost use Rattle.crx_filter.specs.declared.rinex_reader.RinexReader.{RinexReader};
+ghost use Rattle.crx_filter.specs.declared.rinex_reader.RinexStep.{RinexStep};
+
+use crate::direction::Direction;
+use crate::engine::Engine;
+use crate::report::{REPORT_LINES, Totals, print_report_line};
+use crate::rinex_reader::{RinexReader, RinexStep};
+use crate::stage::Stage;
+use crate::totals::{counted, is_given_back};
+use crx_base::limits::VERSION_WIDTH;
+use crx_base::{Fault, Options};
+use crx_header::Identifiers;
+use crx_lines::Line;
+use crx_text::Text;
+use std::alloc::{AllocError, Global};
+use std::marker::Model;
+
+/// What a check has noted of the lines so far.
+#[derive(Drop)]
+pub struct Noted {
+    /// How many observations the rows have that have come of the epoch that was begun last.
+    observed: u64,
+    totals: Totals,
+    /// The number of the first line that isn't standard.
+    not_standard: Option<u64>,
+    /// A printed line.
+    text: Text,
+}
+
+/// What a check keeps between two lines.
+#[derive(Drop)]
+pub struct Checking {
+    reader: RinexReader,
+    /// The identifiers of the open epoch's rows, and after them those of the epoch before.
+    names: Identifiers,
+    noted: Noted,
+    /// How many lines of the report were handed out; all before the end.
+    handed_out: usize,
+}
+
+/// Checks a RINEX file, whose lines it takes one at a time, and skips no fault, whatever its options are; once the whole input was
+/// accepted, the six lines of the report are borrowed from it. The faults are those of a [`Compactor`](crate::Compactor).
+pub type Checker = Engine<Checking>;
+
+impl Model for Checking {
+    ghost use Rattle.crx_filter.specs.CheckingParts.{AreCounted, CheckingState};
+
+    ghost Value = { CheckingState };
+
+    ghost view = { λ c. record { reader = c.reader; names = c.names; noted = c.noted; handed_out = c.handed_out } };
+
+    ghost invariant = { λ c. AreCounted c.reader c.names.names c.noted };
+}
+
+impl Noted {
+    /// Nothing, before the first line.
+    fn new() -> Noted
+        ensures totals { totals_held result.totals ≡ record { version = []; epochs = 0; events = 0; observations = 0 } }
+        ensures bounded { AreBounded result.totals 0 }
+        ensures standard { result.not_standard ≡ None }
+    {
+        Noted {
+            observed: 0,
+            totals: Totals {
+                version: [b' '; VERSION_WIDTH],
+                epochs: 0,
+                events: 0,
+                observations: 0,
+            },
+            not_standard: None,
+            text: Text::new(),
+        }
+    }
+
+    /// Notes a line that the reader has taken: what it adds to the totals, and whether it is standard.
+    fn note(&mut self, reader: &RinexReader, step: RinexStep, line: Line<'_>)
+        requires bounded { AreBounded self.old.totals (self.old.totals.epochs + self.old.totals.events) }
+        requires within { self.old.totals.epochs + self.old.totals.events < INPUT_LIMIT }
+        requires observed { IsCounting step self.old.observed reader.now }
+        ensures totals { (before : RinexReader) (made : Made ObservationEpoch OpenEpoch)
+            → TakesRinexLine made before (line_shown line.entry).content step reader.now
+            → totals_held self.new.totals ≡ totals_made
+            (totals_held self.old.totals) (is_before_header (reader_phase before)) made }
+        ensures standard { (before : RinexReader) (made : Made ObservationEpoch OpenEpoch)
+            → TakesRinexLine made before (line_shown line.entry).content step reader.now → HasPrinted made
+            → self.new.not_standard ≡ earliest self.old.not_standard (is_standard_line
+            (line_shown line.entry) (last_line (printed_made made))) (line_number line.entry) }
+        ensures observed { (before : RinexReader) (made : Made ObservationEpoch OpenEpoch)
+            → TakesRinexLine made before (line_shown line.entry).content step reader.now
+            → is_open_stage reader.now.stage ≡ true → IsObserved self.new.observed reader.now.rows.rows }
+        ensures bounded { AreBounded self.new.totals (self.new.totals.epochs + self.new.totals.events) }
+        ensures count { self.new.totals.epochs + self.new.totals.events
+            ≤ self.old.totals.epochs + self.old.totals.events + 1 }
+    {
+        let is_same = is_given_back(reader, step, line.bytes(), &mut self.text);
+        self.observed = observed_with(self.observed, reader, step);
+        self.totals = counted(self.totals, reader, step, self.observed, line.bytes());
+        if self.not_standard.is_none() && !(line.plain() && is_same) {
+            self.not_standard = Some(line.number());
+        }
+    }
+}
+
+/// The options that every check goes by: none.
+pub fn no_options() -> Options
+    ensures value { result ≡ no_choices }
+{
+    match Options::new(None, false, b"") {
+        Ok(options) => options,
+        Err(_) => unreachable!(),
+    }
+}
+
+/// Takes a line of an open epoch. `OutOfMemory` comes only at a good line of a new satellite.
+fn take_row(
+    reader: &mut RinexReader,
+    names: &mut Identifiers,
+    line: &[u8],
+) -> Result<RinexStep, Fault>
+    requires open { is_open_stage reader.old.stage ≡ true }
+    requires named { AreNamed names.old.names reader.old.rows.rows }
+    ensures takes { (kept : Written) → IfOk result
+        (λ step. TakesRinexLine (made_at reader.old line.now kept) reader.old line.now step reader.new) }
+    ensures refuses { (kept : Written) → IfErr result
+        (λ fault. RefusesRinexLine (made_at reader.old line.now kept) reader.old line.now fault) }
+    ensures steps { IfOk result (λ step. is_row step ≡ true) }
+    ensures same { OnErr result (IsSameReader reader.old reader.new) }
+    ensures named { is_open_stage reader.new.stage ≡ true → AreNamed names.new.names reader.new.rows.rows }
+    ensures rows { OnOk result (reader.new.rows.rows ≡ reader.old.rows.rows ++ reader.new.row ∷ []) }
+    ensures few { OnOk result (length reader.new.rows.rows ≤ SATELLITES_LIMIT) }
+{
+    reader.read_row(line)?;
+    match names.put(reader.count(), *reader.row().name()) {
+        Ok(true) => Ok(reader.take_row()),
+        Ok(false) => Err(Fault::RepeatedSatellite),
+        Err(_) => Err(Fault::OutOfMemory),
+    }
+}
+
+/// How many observations the rows of the epoch have, with those of a line that was taken.
+fn observed_with(observed: u64, reader: &RinexReader, step: RinexStep) -> u64
+    requires counting { IsCounting step observed reader.now }
+    ensures begun { step ≡ RinexStep.Begun → IsObserved result reader.now.rows.rows }
+    ensures row { is_row step ≡ true → IsObserved result reader.now.rows.rows }
+{
+    match step {
+        RinexStep::Begun => 0,
+        RinexStep::Row | RinexStep::Epoch => observed + reader.row().observations() as u64,
+        _ => observed,
+    }
+}
+
+impl Direction for Checking {
+    ghost use Rattle.crx_filter.specs.CheckingParts.{HasFound, HasNoted, checking_parts, never_skips, pending_report, report_of};
+    ghost use Rattle.crx_filter.specs.meaning.Directions.{check_filter};
+    ghost use Rattle.crx_filter.specs.meaning.Standard.{findings_of, report_lines};
+
+    ghost Whole = { ObservationEpoch };
+
+    ghost Open = { OpenEpoch };
+
+    ghost Kept = { TotalsSeen };
+
+    ghost by_line = { check_by_line };
+
+    ghost chosen = { λ choices. no_choices };
+
+    ghost seen_after = { λ choices. check_reading };
+
+    ghost closing_after = { λ choices lines. report_lines (findings_of lines) };
+
+    ghost filter = { λ choices. check_filter };
+
+    ghost parts = { checking_parts };
+
+    ghost ready = { pending_report };
+
+    ghost closing = { report_of };
+
+    ghost counted = { λ c. c.noted.totals.epochs + c.noted.totals.events };
+
+    ghost serves = { λ c choices. true };
+
+    ghost knows = { HasNoted };
+
+    ghost has_found = { HasFound };
+
+    ghost skipping = { λ c choices lines taken skips. never_skips choices taken skips };
+
+    fn chosen(_options: Options) -> Options {
+        no_options()
+    }
+
+    fn new(alloc: Global) -> Result<Checking, AllocError> {
+        Ok(Checking {
+            reader: RinexReader::new(alloc),
+            names: Identifiers::new(alloc),
+            noted: Noted::new(),
+            handed_out: REPORT_LINES,
+        })
+    }
+
+    fn stage(&self) -> Stage {
+        self.reader.stage
+    }
+
+    fn go_on(&mut self, line: Line<'_>) -> Result<bool, Fault> {
+        let step = take_row(&mut self.reader, &mut self.names, line.bytes())?;
+        self.noted.note(&self.reader, step, line);
+        Ok(false)
+    }
+
+    fn take(&mut self, _options: &Options, line: Line<'_>) -> Result<bool, Fault> {
+        let step = self.reader.take(line.bytes())?;
+        self.noted.note(&self.reader, step, line);
+        Ok(false)
+    }
+
+    fn end_with(&mut self, stage: Stage) {
+        self.reader.stage = stage;
+    }
+
+    fn conclude(&mut self) -> bool {
+        self.reader.stage = Stage::Closed;
+        self.handed_out = 0;
+        true
+    }
+
+    fn is_drained(&self) -> bool {
+        self.handed_out >= REPORT_LINES
+    }
+
+    fn next_line(&mut self) -> Option<&[u8]> {
+        if print_report_line(
+            self.handed_out,
+            &self.noted.totals,
+            self.reader.types(),
+            self.noted.not_standard,
+            &mut self.noted.text,
+        ) {
+            self.handed_out += 1;
+            return Some(self.noted.text.bytes());
+        }
+        None
+    }
+
+    fn take_text(&mut self) -> Option<&[u8]> {
+        None
+    }
+}
+
+impl Checker {
+    /// The number of the first line that isn't standard, among the lines so far.
+    pub fn not_standard(&self) -> Option<u64>
+        ensures value { result ≡ self.now.direction.noted.not_standard }
+    {
+        self.direction.noted.not_standard
+    }
+}
