@@ -17,7 +17,7 @@ use Rattle.crx_filter.specs.meaning.Stretches.{Saves}
 -- ---- where a reading is
 
 -- these lines were read as these items, which leave the same state as these units
-pub record HasCome (so_far : List ReadLine) (items : List (Item ReadEpoch)) (before : List
+pub record WereReadAs (so_far : List ReadLine) (items : List (Item ReadEpoch)) (before : List
     (Item Epoch)) : Type 0 where
   pub stops : IsOpen items (reading_from compact_place true [] 3 so_far)
   pub between : IsBetweenUnits items
@@ -39,7 +39,7 @@ pub record IsStepRead (choices : Choices) (before : List (Item Epoch)) (s : Stre
     (so_far : List ReadLine) (items : List (Item ReadEpoch)) : Type 0 where
   pub news : List (Item ReadEpoch)
   pub epochs : AreEpochs news
-  pub come : HasCome (so_far ++ stretch_lines choices.every before s)
+  pub come : WereReadAs (so_far ++ stretch_lines choices.every before s)
       (back_on choices.every s.kept (up_to_end before s) ++ (news ++ items)) (up_to_next before s)
 
 -- no line of a stretch is an event's first one
@@ -58,7 +58,7 @@ end-left choices before s sound anew = grind (arith, common_steps, anew-between,
 
 pub one-stretch : (choices : Choices) (before : List (Item Epoch)) (s : Stretch) (later : List Stretch)
     (so_far : List ReadLine) (items : List (Item ReadEpoch)) → IsStretch choices before s later → AllowsLines
-    s → IsSound before s → HasCome so_far items before → IsStepRead choices before s so_far items
+    s → IsSound before s → WereReadAs so_far items before → IsStepRead choices before s so_far items
 one-stretch choices before s later so_far items h allowed sound come =
     let block = up_to_end before s in
     let first = stretch-more items so_far (map seen (lines_of s.instead)) come.between come.stops allowed in
@@ -73,7 +73,7 @@ one-stretch choices before s later so_far items h allowed sound come =
     let k = kept-more choices s.kept block x (so_far ++ map seen (lines_of s.instead)) can h.anew first.stops
     in
     let front = back_on choices.every s.kept block in
-    let there : HasCome (so_far ++ stretch_lines choices.every before s) (front ++ (k.news ++ x))
+    let there : WereReadAs (so_far ++ stretch_lines choices.every before s) (front ++ (k.news ++ x))
     (up_to_next before s) = record {
       stops = rw (← append_assoc so_far
           (map seen (lines_of s.instead)) (map Content (lines_on choices.every s.kept block))) k.stops;
@@ -121,7 +121,7 @@ news-whole (Accepted unit ∷ news) items h good = absurd h
 pub record AreStretchesRead (choices : Choices) (before : List (Item Epoch)) (stretches : List Stretch)
     (so_far : List ReadLine) (items : List (Item ReadEpoch)) : Type 0 where
   pub more : List (Item ReadEpoch)
-  pub come : HasCome (so_far ++ lines_of_stretches choices.every before stretches)
+  pub come : WereReadAs (so_far ++ lines_of_stretches choices.every before stretches)
       (more ++ items) (with_stretches before stretches)
   pub saves : AreGoodEpochs (more ++ items) → Saves before stretches (expanded_lines more)
 
@@ -149,11 +149,11 @@ next-closed choices next (s ∷ later) h closed = IsStretch.between h.0
 
 pub stretches-read : (choices : Choices) (before : List (Item Epoch)) (stretches : List Stretch)
     (so_far : List ReadLine) (items : List (Item ReadEpoch)) → AreStretches choices before stretches
-    → AllowLines stretches → AreSound before stretches → HasCome so_far items before
+    → AllowLines stretches → AreSound before stretches → WereReadAs so_far items before
     → AreStretchesRead choices before stretches so_far items
 stretches-read choices before [] so_far items h allowed sound come = record {
   more = [];
-  come = subst (λ ls. HasCome ls items before) (sym (append-nil so_far)) come;
+  come = subst (λ ls. WereReadAs ls items before) (sym (append-nil so_far)) come;
   saves = λ good. refl;
 }
 stretches-read choices before (s ∷ later) so_far items h allowed sound come =
@@ -184,9 +184,9 @@ stretches-read choices before (s ∷ later) so_far items h allowed sound come =
     (epochs_of one.news) ++ (ls ++ expanded_lines rest.more)) (back-printed choices.every s.kept block) in
     record {
       more = all;
-      come = subst (λ (l : List (Item ReadEpoch)). HasCome (so_far ++ lines_of_stretches choices.every before
-          (s ∷ later)) l (with_stretches before (s ∷ later))) joined (subst (λ ls. HasCome ls (rest.more ++ x)
-          (with_stretches next later))
+      come = subst (λ (l : List (Item ReadEpoch)). WereReadAs (so_far ++ lines_of_stretches choices.every
+          before (s ∷ later)) l (with_stretches before (s ∷ later))) joined (subst (λ ls. WereReadAs ls
+          (rest.more ++ x) (with_stretches next later))
           (append_assoc so_far lines (lines_of_stretches choices.every next later)) rest.come);
       saves = λ good.
           let again = subst AreGoodEpochs (sym joined) good in (

@@ -13,7 +13,7 @@ use proofs.damage.{GoingOn.with_warnings, SavedText.{lines-append, lines-warned}
 use proofs.reading.{CompactPrefixes.{expanded-first, reading-at}, ForwardCompact.compact-forward}
 use proofs.reading.WhatWasRead.{items-read}
 use proofs.stretches.{OpenReading.IsOpen, StretchesCut.{AreGood, good-before, good-up_to, stretches-allowed}}
-use proofs.stretches.{StretchesCut.stretches-cut, StretchesRead.{HasCome, AreStretchesRead}}
+use proofs.stretches.{StretchesCut.stretches-cut, StretchesRead.{WereReadAs, AreStretchesRead}}
 use proofs.stretches.StretchesRead.{lines_of_stretches, next-closed, stretches-read}
 use proofs.wayback.{Carried.{started, types-same, reads-again}, ExpandedWhole.{AreGoodEpochs, epochs-good}}
 use proofs.wayback.{First.{first-lines_read, version-clean, program-clean}, Items.{known_back}}
@@ -75,7 +75,7 @@ rest-kept file choices expanding damaged dated skips d =
     let start : List (Item ReadEpoch) = read_back choices.every d.before in
     let last : ℕ = 3 + length (lines_back choices.every d.before) in
     let closed : records_left d.before ≡ 0 = next-closed choices d.before d.stretches d.each settled.none in
-    let come : HasCome old start d.before = record {
+    let come : WereReadAs old start d.before = record {
       stops = inl
           (last, [], tt, compact-forward.wants start, front-read true choices.every d.before front.in_place);
       between = back-between choices.every d.before front.in_place d.header closed;
@@ -87,7 +87,7 @@ rest-kept file choices expanding damaged dated skips d =
     let items : List (Item ReadEpoch) = r.more ++ start in
     let reading : Reading ReadEpoch = reading_from compact_place true [] 3 (old ++ new) in
     let end : EndsAfter items (ended_reading true reading) =
-    open-ends items reading (HasCome.between r.come) (HasCome.stops r.come) in
+    open-ends items reading (WereReadAs.between r.come) (WereReadAs.stops r.come) in
     let all : List (Item ReadEpoch) = with_warnings end.warnings items in
     let cut : map seen (lines_of damaged) ≡ Content version_line ∷ Content (program_line choices.date)
     ∷ (old ++ new) = ap (λ t. map seen (lines_of t)) d.text ∙ front-seen choices d.before _ dated front
@@ -99,7 +99,7 @@ rest-kept file choices expanding damaged dated skips d =
     } = ap (λ skip. whole_compact skip (map seen (lines_of damaged))) skips
     ∙ ap (whole_compact true) cut ∙ whole-after true choices.date (old ++ new) ∙ end.same in
     let read : AreGoodEpochs items = epochs-good items (subst (ItemsAreRead compact_place)
-    (open-items items reading (HasCome.stops r.come)) (items-read compact_place true 3 (old ++ new))) in
+    (open-items items reading (WereReadAs.stops r.come)) (items-read compact_place true 3 (old ++ new))) in
     let text : expanded_lines all ≡ printed_items d.before ++ expanded_lines r.more =
     lines-warned end.warnings items ∙ lines-append r.more start
     ∙ ap (λ ls. ls ++ expanded_lines r.more) (printed-same choices.every d.before) in
