@@ -1,17 +1,13 @@
 //! The check of a RINEX file.
 
-ghost use Rattle.std.specs.Prelude.{◌≡◌, [], None, Some};
+ghost use Rattle.std.specs.Prelude.{◌≡◌, None, Some};
 ghost use Rattle.crx_base.specs.declared.fault.At.{At};
-ghost use Rattle.crx_filter.specs.CheckByLine.{check_reading};
-ghost use Rattle.crx_filter.specs.CheckingParts.{HasNoted};
-ghost use Rattle.crx_filter.specs.CheckerState.{checker_ready, checker_state};
 ghost use Rattle.crx_filter.specs.meaning.Directions.{check_filter};
 ghost use Rattle.crx_filter.specs.meaning.Lossless.{SaysThatItComesBack};
-ghost use Rattle.crx_filter.specs.meaning.Promises.{JudgesStandard, Keeps};
-ghost use Rattle.crx_runs.specs.meaning.Runs.{Runs};
+ghost use Rattle.crx_filter.specs.meaning.Promises.{JudgesStandard, Keeps, KeepsPromise};
+ghost use Rattle.crx_runs.specs.meaning.Runs.{HasRun, ran_over};
+ghost use Rattle.crx_runs.specs.meaning.Spans.{reader_span, span};
 ghost use Rattle.crx_filter.specs.meaning.Standard.{checked, report_status};
-ghost use Rattle.crx_runs.specs.meaning.Spans.{span};
-ghost use Rattle.crx_runs.specs.meaning.Spans.{reader_span};
 
 use crate::checking::{Checker, no_options};
 use crx_lines::{Sink, Source};
@@ -37,26 +33,6 @@ fn outcome_of_check(outcome: Outcome, not_standard: Option<u64>) -> Outcome
     }
 }
 
-/// Checks a RINEX file by a checker that has taken no line.
-fn check_by<R: Source, W: Sink, M: Sink>(
-    alloc: Global,
-    checker: &mut Checker,
-    reader: &mut R,
-    writer: &mut W,
-    messages: &mut M,
-) -> Outcome
-    requires taken { HasNoted checker.old.direction [] }
-    requires seen { checker_state checker.old ≡ check_reading [] }
-    requires drained { checker_ready checker.old ≡ [] }
-    ensures runs { Runs checked check_filter
-        (reader_span R.Source reader.old reader.new)
-        (span W.Sink writer.old writer.new)
-        (span M.Sink messages.old messages.new) result.status result.fault }
-{
-    let outcome = run(alloc, checker, reader, writer, messages);
-    outcome_of_check(outcome, checker.not_standard())
-}
-
 /// Checks a RINEX file: writes its report once the whole input is accepted, and else reports the fault that ended the check. The status
 /// is 0 where the file is standard, 2 where it isn't, and 1 after a fault: one of a line, or `ReadFailed`, `WriteFailed`, `InputTooLong` and
 /// `OutOfMemory` where a device or memory failed or the input is longer. A file with status 0 comes back from its compact text byte for
@@ -68,19 +44,20 @@ pub fn check<R: Source, W: Sink, M: Sink>(
     writer: &mut W,
     messages: &mut M,
 ) -> Outcome
-    ensures runs { Runs checked check_filter
-        (reader_span R.Source reader.old reader.new)
-        (span W.Sink writer.old writer.new)
-        (span M.Sink messages.old messages.new) result.status result.fault }
+    ensures runs { HasRun checked check_filter (ran_over R.Source reader.old reader.new
+        W.Sink writer.old writer.new M.Sink messages.old messages.new result) }
     ensures lossless { Keeps (SaysThatItComesBack result.status)
         (reader_span R.Source reader.old reader.new)
         (span W.Sink writer.old writer.new) (span M.Sink messages.old messages.new) result.fault }
-    ensures standard { Keeps (JudgesStandard (span W.Sink writer.old writer.new) result.status)
-        (reader_span R.Source reader.old reader.new)
-        (span W.Sink writer.old writer.new) (span M.Sink messages.old messages.new) result.fault }
+    ensures standard { KeepsPromise (λ writer _ status _. JudgesStandard writer status)
+        (ran_over R.Source reader.old reader.new
+        W.Sink writer.old writer.new M.Sink messages.old messages.new result) }
 {
     match Checker::new(alloc, no_options()) {
-        Ok(mut checker) => check_by(alloc, &mut checker, reader, writer, messages),
+        Ok(mut checker) => {
+            let outcome = run(alloc, &mut checker, reader, writer, messages);
+            outcome_of_check(outcome, checker.not_standard())
+        }
         Err(error) => start::<Checker, R, W, M>(alloc, Err(error), reader, writer, messages),
     }
 }

@@ -8,11 +8,10 @@ ghost use Rattle.crx_filter.specs.meaning.WrittenStandard.{WroteStandard};
 ghost use Rattle.crx_filter.specs.meaning.Compacted.{compacted};
 ghost use Rattle.crx_filter.specs.meaning.Directions.{compaction_filter, expansion_filter};
 ghost use Rattle.crx_filter.specs.meaning.Expanded.{expanded};
-ghost use Rattle.crx_filter.specs.meaning.Promises.{BringsBackWhatWasCompacted, Keeps, SavesAllElse};
+ghost use Rattle.crx_filter.specs.meaning.Promises.{BringsBackWhatWasCompacted, Keeps, KeepsPromise, SavesAllElse};
 ghost use Rattle.crx_filter.specs.meaning.Stretches.{KeepsUndamaged, WritesWholeUnits};
-ghost use Rattle.crx_runs.specs.meaning.Runs.{Runs};
-ghost use Rattle.crx_runs.specs.meaning.Spans.{span};
-ghost use Rattle.crx_runs.specs.meaning.Spans.{reader_span};
+ghost use Rattle.crx_runs.specs.meaning.Runs.{HasRun, ran_over};
+ghost use Rattle.crx_runs.specs.meaning.Spans.{reader_span, span};
 
 use crate::{Compactor, Expander, Options};
 use crx_lines::{Sink, Source};
@@ -37,18 +36,13 @@ pub fn compact<R: Source, W: Sink, M: Sink>(
     messages: &mut M,
     options: Options,
 ) -> Outcome
-    ensures runs { Runs (λ input. compacted input options) (compaction_filter options)
-        (reader_span R.Source reader.old reader.new)
-        (span W.Sink writer.old writer.new)
-        (span M.Sink messages.old messages.new) result.status result.fault }
-    ensures units { Keeps (WritesUnits options (span W.Sink writer.old writer.new)
-        (span M.Sink messages.old messages.new) result.status result.fault)
-        (reader_span R.Source reader.old reader.new)
-        (span W.Sink writer.old writer.new) (span M.Sink messages.old messages.new) result.fault }
-    ensures canonical { Keeps (DependsOnNormalForm options (span W.Sink writer.old writer.new)
-        (span M.Sink messages.old messages.new) result.status result.fault)
-        (reader_span R.Source reader.old reader.new)
-        (span W.Sink writer.old writer.new) (span M.Sink messages.old messages.new) result.fault }
+    ensures runs { HasRun (λ input. compacted input options) (compaction_filter options)
+        (ran_over R.Source reader.old reader.new
+        W.Sink writer.old writer.new M.Sink messages.old messages.new result) }
+    ensures units { KeepsPromise (WritesUnits options) (ran_over R.Source reader.old reader.new
+        W.Sink writer.old writer.new M.Sink messages.old messages.new result) }
+    ensures canonical { KeepsPromise (DependsOnNormalForm options) (ran_over R.Source reader.old reader.new
+        W.Sink writer.old writer.new M.Sink messages.old messages.new result) }
 {
     start(
         alloc,
@@ -75,34 +69,25 @@ pub fn expand<R: Source, W: Sink, M: Sink>(
     messages: &mut M,
     options: Options,
 ) -> Outcome
-    ensures runs { Runs (λ input. expanded input options) (expansion_filter options)
-        (reader_span R.Source reader.old reader.new)
-        (span W.Sink writer.old writer.new)
-        (span M.Sink messages.old messages.new) result.status result.fault }
+    ensures runs { HasRun (λ input. expanded input options) (expansion_filter options)
+        (ran_over R.Source reader.old reader.new
+        W.Sink writer.old writer.new M.Sink messages.old messages.new result) }
     ensures lossless { Keeps (BringsBackWhatPasses (span W.Sink writer.old writer.new)
         (span M.Sink messages.old messages.new) result.status result.fault)
         (reader_span R.Source reader.old reader.new)
         (span W.Sink writer.old writer.new) (span M.Sink messages.old messages.new) result.fault }
-    ensures units { Keeps (ReadsUnits (span W.Sink writer.old writer.new)
-        (span M.Sink messages.old messages.new) result.status result.fault)
-        (reader_span R.Source reader.old reader.new)
-        (span W.Sink writer.old writer.new) (span M.Sink messages.old messages.new) result.fault }
+    ensures units { KeepsPromise ReadsUnits (ran_over R.Source reader.old reader.new
+        W.Sink writer.old writer.new M.Sink messages.old messages.new result) }
     ensures standard { result.fault ≡ None → WroteStandard (span W.Sink writer.old writer.new) }
-    ensures way_back { Keeps (BringsBackWhatWasCompacted (span W.Sink writer.old writer.new)
-        (span M.Sink messages.old messages.new) result.status result.fault)
-        (reader_span R.Source reader.old reader.new)
-        (span W.Sink writer.old writer.new) (span M.Sink messages.old messages.new) result.fault }
-    ensures salvage { Keeps (SavesAllElse options (span W.Sink writer.old writer.new)
-        (span M.Sink messages.old messages.new) result.status result.fault)
-        (reader_span R.Source reader.old reader.new)
-        (span W.Sink writer.old writer.new) (span M.Sink messages.old messages.new) result.fault }
-    ensures damage { Keeps (KeepsUndamaged options (span W.Sink writer.old writer.new)
-        (span M.Sink messages.old messages.new) result.status result.fault)
-        (reader_span R.Source reader.old reader.new)
-        (span W.Sink writer.old writer.new) (span M.Sink messages.old messages.new) result.fault }
-    ensures whole_units { Keeps (WritesWholeUnits (span W.Sink writer.old writer.new))
-        (reader_span R.Source reader.old reader.new)
-        (span W.Sink writer.old writer.new) (span M.Sink messages.old messages.new) result.fault }
+    ensures way_back { KeepsPromise BringsBackWhatWasCompacted (ran_over R.Source reader.old reader.new
+        W.Sink writer.old writer.new M.Sink messages.old messages.new result) }
+    ensures salvage { KeepsPromise (SavesAllElse options) (ran_over R.Source reader.old reader.new
+        W.Sink writer.old writer.new M.Sink messages.old messages.new result) }
+    ensures damage { KeepsPromise (KeepsUndamaged options) (ran_over R.Source reader.old reader.new
+        W.Sink writer.old writer.new M.Sink messages.old messages.new result) }
+    ensures whole_units { KeepsPromise (λ writer _ _ _. WritesWholeUnits writer)
+        (ran_over R.Source reader.old reader.new
+        W.Sink writer.old writer.new M.Sink messages.old messages.new result) }
 {
     start(
         alloc,

@@ -17,7 +17,7 @@ use Rattle.crx_runs.specs.meaning.Results.{FilterResult}
 use Rattle.crx_base.specs.meaning.Lines.{lines_text}
 use Rattle.crx_filter.specs.meaning.Standard.{Findings, IsStandard, normal_form, printed_items, report_lines, whole_of}
 use Rattle.crx_runs.specs.meaning.Spans.{Input, Device}
-use Rattle.crx_runs.specs.meaning.Runs.{FaultIs, IsResult, NoneFailed}
+use Rattle.crx_runs.specs.meaning.Runs.{FaultIs, IsResult, NoneFailed, Ran}
 
 -- a promise about whole inputs holds of a run whose reader gave these bytes
 pub record IsPromiseKept (promise : List ℕ
@@ -35,6 +35,11 @@ pub record IsPromiseKept (promise : List ℕ
 abbrev pub Keeps : (List ℕ → Type 0) → Input → Device → Device → Option At → Type 0
 Keeps promise input writer messages fault = (given : List ℕ)
     × input.gave given × IsPromiseKept promise input given writer messages fault
+
+-- the same of a run that is over, where the promise speaks of what it wrote, reported and answered
+abbrev pub KeepsPromise : (Device → Device → ℕ → Option At → List ℕ → Type 0) → Ran → Type 0
+KeepsPromise promise run = Keeps (promise run.writer run.messages run.status run.fault) run.input run.writer
+    run.messages run.fault
 
 -- ---- the way back
 

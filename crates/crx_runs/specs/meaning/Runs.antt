@@ -8,7 +8,10 @@ use Rattle.crx_base.specs.declared.limits.TheConstants.{INPUT_LIMIT}
 use Rattle.crx_runs.specs.meaning.Filters.{Filter}
 use Rattle.crx_runs.specs.meaning.Interruptions.{Stands, IsFrontPart}
 use Rattle.crx_runs.specs.meaning.Results.{FilterResult}
-use Rattle.crx_runs.specs.meaning.Spans.{Device, Input}
+use Rattle.crx_runs.specs.meaning.Spans.{Device, Input, reader_span, span}
+use Rattle.crx_runs.specs.declared.outcome.Outcome.{Outcome}
+use Rattle.crx_lines.specs.declared.device.Sink.{Ghosts as SinkGhosts}
+use Rattle.crx_lines.specs.declared.device.Source.{Ghosts as SourceGhosts}
 
 -- ---- the whole run
 
@@ -59,3 +62,26 @@ pub record RunsAs (result_of : List ℕ → FilterResult) (filter : Filter)
 abbrev pub Runs : (List ℕ → FilterResult) → Filter → Input → Device → Device → ℕ → Option At → Type 0
 Runs result_of filter input writer messages status fault = (given : List ℕ)
     × input.gave given × RunsAs result_of filter input given writer messages status fault
+
+-- a run that is over: what went through its reader, its writer and its messages, and what it answered
+pub record Ran : Type 1 where
+  pub input : Input
+  pub writer : Device
+  pub messages : Device
+  pub status : ℕ
+  pub fault : Option At
+
+-- by the states of each before and after it, and its outcome
+abbrev pub ran_over : {R W M : Type 0} → SourceGhosts R → R → R → SinkGhosts W → W → W → SinkGhosts M → M → M
+    → Outcome → Ran
+ran_over source reader reader_then sink writer writer_then message_sink messages messages_then outcome = record {
+  input = reader_span source reader reader_then;
+  writer = span sink writer writer_then;
+  messages = span message_sink messages messages_then;
+  status = outcome.status;
+  fault = outcome.fault;
+}
+
+-- it is what its reader's bytes make
+abbrev pub HasRun : (List ℕ → FilterResult) → Filter → Ran → Type 0
+HasRun result_of filter run = Runs result_of filter run.input run.writer run.messages run.status run.fault

@@ -1,70 +1,72 @@
 use Rattle.crx_filter.proofs.{Kept.{kept, judges-standard}, Words.{check_filter, checked, Device}}
-use Rattle.crx_filter.proofs.Words.{ap, is_some, refl, sym, ◌∙◌, true≢false}
+use Rattle.crx_filter.proofs.Words.{At, Option, ap, is_some, refl, subst, sym, ◌∙◌, true≢false}
 use Rattle.crx_filter.proofs.following.CheckLawful.{check-lawful, run-judged}
 use Rattle.crx_filter.{proofs.standard.Lossless.says-so, specs.meaning.Lossless.SaysThatItComesBack}
-use Rattle.crx_filter.specs.meaning.Promises.{JudgesStandard}
-use Rattle.crx_runs.specs.meaning.Runs.{Runs}
+use Rattle.crx_filter.specs.meaning.{Promises.{JudgesStandard, KeepsPromise}, Standard.report_status}
+use Rattle.crx_runs.specs.meaning.Runs.{HasRun, Ran, Runs, RunsAs, ran_over}
 use Rattle.crx_runs.specs.meaning.Spans.{Input, reader_span, span}
 use Rattle.crx_filter.proofs.checks.check.Goals as goal
 
+pub run-outcome-requires-clause-lawful : goal.run-outcome-requires-clause-lawful
+run-outcome-requires-clause-lawful g c = check-lawful
+
+-- a run that is what an input makes keeps both promises
+promised : (run : Ran) → HasRun checked check_filter run
+    → KeepsPromise (λ _ _ status _. SaysThatItComesBack status) run
+    × KeepsPromise (λ writer _ status _. JudgesStandard writer status) run
+promised run ran = (
+  (
+    ran.0,
+    ran.1,
+    kept checked check_filter (SaysThatItComesBack run.status) run.input ran.0 run.writer run.messages
+        run.status run.fault (says-so run.writer run.messages run.status run.fault) ran.2,
+  ),
+  (
+    ran.0,
+    ran.1,
+    kept checked check_filter (JudgesStandard run.writer run.status) run.input ran.0 run.writer run.messages
+        run.status run.fault (judges-standard run.writer run.messages run.status run.fault) ran.2,
+  ),
+)
+
 pub returns-in-Ok : goal.returns-in-Ok
 returns-in-Ok g c =
-    let r = c.args.reader.now in
-    let then = c.check_by.new.reader in
-    let input : Input = reader_span g.R.Source r then in
-    let w0 = c.args.writer.now in
-    let m0 = c.args.messages.now in
-    let writer : Device = span g.W.Sink w0 c.check_by.new.writer in
-    let messages : Device = span g.M.Sink m0 c.check_by.new.messages in
-    let status = c.check_by.result.status in
-    let fault = c.check_by.result.fault in
-    let ran = c.check_by.ensures.runs in
-    record {
-      runs = ran;
-      lossless = (
-        ran.0,
-        ran.1,
-        kept checked check_filter (SaysThatItComesBack status)
-            input ran.0 writer messages status fault (says-so writer messages status fault) ran.2,
-      );
-      standard = (
-        ran.0,
-        ran.1,
-        kept checked check_filter (JudgesStandard writer status)
-            input ran.0 writer messages status fault (judges-standard writer messages status fault) ran.2,
-      );
-    }
+    let ran = c.run-outcome.ensures.runs in
+    let input : Input = reader_span g.R.Source c.args.reader.now c.run-outcome.new.reader in
+    let writer : Device = span g.W.Sink c.args.writer.now c.run-outcome.new.writer in
+    let messages : Device = span g.M.Sink c.args.messages.now c.run-outcome.new.messages in
+    let fault = c.run-outcome.result.fault in
+    let status = c.outcome_of_check.result.status in
+    let runs : RunsAs checked check_filter input ran.0 writer messages status fault =
+    run-judged writer messages c.run-outcome.result.status status fault c.outcome_of_check.ensures.bad input
+    ran.0
+    (λ none. c.outcome_of_check.ensures.good none
+    ∙ ap report_status (c.not_standard.ensures.value ∙ ran.3 none)) ran.2 in
+    let same = sym c.outcome_of_check.ensures.fault in
+    let is : Runs checked check_filter input writer messages status c.outcome_of_check.result.fault = (
+      ran.0,
+      ran.1,
+      subst (λ (o : Option At). RunsAs checked check_filter input ran.0 writer messages status o) same runs,
+    ) in
+    let both = promised (ran_over g.R.Source c.args.reader.now c.run-outcome.new.reader g.W.Sink
+    c.args.writer.now c.run-outcome.new.writer g.M.Sink c.args.messages.now c.run-outcome.new.messages
+    c.outcome_of_check.result) is in
+    record { runs = is; lossless = both.0; standard = both.1 }
 
 pub returns-in-Err : goal.returns-in-Err
 returns-in-Err g c =
-    let r = c.args.reader.now in
-    let then = c.start.new.reader in
-    let input : Input = reader_span g.R.Source r then in
-    let w0 = c.args.writer.now in
-    let m0 = c.args.messages.now in
-    let writer : Device = span g.W.Sink w0 c.start.new.writer in
-    let messages : Device = span g.M.Sink m0 c.start.new.messages in
+    let writer : Device = span g.W.Sink c.args.writer.now c.start.new.writer in
+    let messages : Device = span g.M.Sink c.args.messages.now c.start.new.messages in
     let status = c.start.result.status in
     let fault = c.start.result.fault in
     let started = c.start.ensures.runs check_filter check-lawful tt in
-    let ran : Runs checked check_filter input writer messages status fault = (
+    let input : Input = reader_span g.R.Source c.args.reader.now c.start.new.reader in
+    let is : Runs checked check_filter input writer messages status fault = (
       started.0,
       started.1,
       run-judged writer messages status status fault (λ at is. refl) input started.0
           (λ none. absurd (true≢false (sym c.start.ensures.memory ∙ ap is_some none))) started.2,
     ) in
-    record {
-      runs = ran;
-      lossless = (
-        ran.0,
-        ran.1,
-        kept checked check_filter (SaysThatItComesBack status)
-            input ran.0 writer messages status fault (says-so writer messages status fault) ran.2,
-      );
-      standard = (
-        ran.0,
-        ran.1,
-        kept checked check_filter (JudgesStandard writer status)
-            input ran.0 writer messages status fault (judges-standard writer messages status fault) ran.2,
-      );
-    }
+    let both = promised (ran_over g.R.Source c.args.reader.now c.start.new.reader g.W.Sink c.args.writer.now
+    c.start.new.writer g.M.Sink c.args.messages.now c.start.new.messages c.start.result) is in
+    record { runs = is; lossless = both.0; standard = both.1 }
