@@ -146,7 +146,7 @@ fn take_row(
     ensures few { OnOk result (length reader.new.rows.rows ≤ SATELLITES_LIMIT) }
 {
     reader.read_row(line)?;
-    match names.put(reader.count(), *reader.row().name()) {
+    match names.put(reader.count, *reader.row.name()) {
         Ok(true) => Ok(reader.take_row()),
         Ok(false) => Err(Fault::RepeatedSatellite),
         Err(_) => Err(Fault::OutOfMemory),
@@ -161,7 +161,7 @@ fn observed_with(observed: u64, reader: &RinexReader, step: RinexStep) -> u64
 {
     match step {
         RinexStep::Begun => 0,
-        RinexStep::Row | RinexStep::Epoch => observed + reader.row().observations() as u64,
+        RinexStep::Row | RinexStep::Epoch => observed + reader.row.observations() as u64,
         _ => observed,
     }
 }
@@ -250,7 +250,7 @@ impl Direction for Checking {
         if print_report_line(
             self.handed_out,
             &self.noted.totals,
-            self.reader.types(),
+            &self.reader.types,
             self.noted.not_standard,
             &mut self.noted.text,
         ) {

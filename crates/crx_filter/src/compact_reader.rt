@@ -25,7 +25,7 @@ use std::alloc::Global;
 pub struct CompactReader {
     pub stage: Stage,
     types: Types,
-    columns: Columns,
+    pub(crate) columns: Columns,
     ghost consistent: { is_compact_stage stage columns.state ≡ true },
 }
 
@@ -44,17 +44,6 @@ impl CompactReader {
             types: Types::new(alloc),
             columns: Columns::new(alloc),
         }
-    }
-
-    /// Takes the memory of lines that have been written back: see [`Columns::take_room`].
-    pub(crate) fn take_room(&mut self, lines: &mut ExpandedLines)
-        requires drained { lines.old.lines ≡ [] }
-        ensures drained { lines.new.lines ≡ [] }
-        ensures stage { self.new.stage ≡ self.old.stage }
-        ensures types { self.new.types ≡ self.old.types }
-        ensures columns { self.new.columns.state ≡ self.old.columns.state }
-    {
-        self.columns.take_room(lines);
     }
 
     /// Takes a line of the epoch that is open. `true` says that it is the last one, and that the lines of the epoch are ready.

@@ -72,7 +72,7 @@ fn take_row(reader: &mut RinexReader, encoder: &mut Encoder, line: &[u8]) -> Res
         (λ fault. HasRefusedRow reader.old encoder.old line.now fault reader.new encoder.new) }
 {
     reader.read_row(line)?;
-    match encoder.encode_row(reader.row()) {
+    match encoder.encode_row(&reader.row) {
         Ok(true) => {}
         Ok(false) => return Err(Fault::RepeatedSatellite),
         Err(_) => {
@@ -101,7 +101,7 @@ fn end_epoch(reader: &RinexReader, encoder: &mut Encoder) -> Result<(), Fault>
     ensures rows { encoder.new.rows ≡ [] }
     ensures memory { IfErr result (λ fault. fault ≡ Fault.OutOfMemory) }
 {
-    let Some(head) = reader.head() else {
+    let Some(head) = &reader.head else {
         unreachable!()
     };
     match encoder.end(head) {
@@ -186,7 +186,7 @@ impl Direction for Compaction {
             RinexStep::Nothing => Ok(false),
             RinexStep::Begun => {
                 self.encoder.begin(is_at_every(options.every(), self.index));
-                if !self.reader.is_whole() {
+                if self.reader.stage.is_in_epoch() {
                     return Ok(false);
                 }
                 end_epoch(&self.reader, &mut self.encoder)?;

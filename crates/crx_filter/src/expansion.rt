@@ -94,7 +94,7 @@ impl Direction for Expansion {
         let line = line.bytes();
         // The line may begin an epoch: one block of memory serves for the printed lines of all.
         if let Stage::Between | Stage::Looking = self.reader.stage {
-            self.reader.take_room(&mut self.lines);
+            self.reader.columns.take_room(&mut self.lines);
         }
         let is_copied = self.reader.read_between(line)?;
         if is_copied {

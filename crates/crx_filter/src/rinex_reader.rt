@@ -1,6 +1,6 @@
 //! RINEX observation files, one line at a time: what each line is, the types in force, and the row that was read last.
 
-ghost use Rattle.std.specs.Prelude.{ℕ, List, not, ◌≡◌, true};
+ghost use Rattle.std.specs.Prelude.{ℕ, List, ◌≡◌, true};
 ghost use Rattle.crx_filter.specs.RinexStages.{is_rinex_stage};
 
 use crate::stage::{Stage, after_header_line, counts_types, with_records_left};
@@ -37,13 +37,14 @@ pub enum RinexStep {
 #[derive(Drop)]
 pub struct RinexReader {
     pub stage: Stage,
-    types: Types,
+    /// The types in force.
+    pub(crate) types: Types,
     /// The line of the epoch whose rows come, or of the last one.
-    head: Option<EpochLine>,
+    pub(crate) head: Option<EpochLine>,
     /// How many rows of it have come.
-    count: usize,
+    pub(crate) count: usize,
     /// The row that was read last.
-    row: RowBuffer,
+    pub(crate) row: RowBuffer,
     /// The rows that have come.
     rows: RowsSoFar,
     ghost consistent: { is_rinex_stage stage head count rows.rows ≡ true },
@@ -51,7 +52,6 @@ pub struct RinexReader {
 
 impl RinexReader {
     ghost use Rattle.std.specs.Prelude.{◌⊎◌, ◌++◌, ◌∷◌, [], Ok, false, length, ◌≤◌, OnOk, IfOk, IfErr, OnErr};
-    ghost use Rattle.std.specs.Option.{option_copied};
     ghost use Rattle.crx_base.specs.declared.limits.TheConstants.{SATELLITES_LIMIT};
     ghost use Rattle.crx_base.specs.meaning.Seen.{Content};
     ghost use Rattle.crx_header.specs.meaning.EpochColumns.{begins_epoch};
@@ -78,37 +78,6 @@ impl RinexReader {
             row: RowBuffer::new(),
             rows: RowsSoFar::new(),
         }
-    }
-
-    /// The types in force.
-    pub fn types(&self) -> &Types
-        ensures value { result.now ≡ self.now.types }
-    {
-        &self.types
-    }
-
-    /// The line of the epoch that was begun last.
-    pub fn head(&self) -> Option<&EpochLine>
-        ensures value { option_copied result ≡ self.now.head }
-    {
-        self.head.as_ref()
-    }
-
-    /// The row that was read last.
-    #[inline(always)]
-    pub fn row(&self) -> &RowBuffer
-        ensures value { result.now ≡ self.now.row }
-    {
-        &self.row
-    }
-
-    /// How many rows of the epoch have come.
-    #[inline(always)]
-    pub fn count(&self) -> usize
-        ensures value { result ≡ self.now.count }
-        ensures rows { is_open_stage self.now.stage ≡ true → result ≡ length self.now.rows.rows }
-    {
-        self.count
     }
 
     /// Takes a line that is no row of an open epoch, where no fault has ended the reading; while a line that begins with `>` is looked for,
@@ -175,13 +144,6 @@ impl RinexReader {
                 Ok(RinexStep::Begun)
             }
         }
-    }
-
-    /// Whether all satellite lines of the epoch that was begun last have come.
-    pub fn is_whole(&self) -> bool
-        ensures value { result ≡ not (is_open_stage self.now.stage) }
-    {
-        !self.stage.is_in_epoch()
     }
 
     /// Reads a line of an open epoch: `Truncated` where it begins with `>`, else the faults of [`RowBuffer::read`]. Whether the satellite has

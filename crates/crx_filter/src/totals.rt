@@ -46,7 +46,7 @@ pub fn counted(
             ..totals
         },
         RinexStep::Begun | RinexStep::Epoch => {
-            if !reader.is_whole() {
+            if reader.stage.is_in_epoch() {
                 return totals;
             }
             Totals {
@@ -73,12 +73,12 @@ pub fn is_given_back(reader: &RinexReader, step: RinexStep, line: &[u8], text: &
             return true;
         }
         RinexStep::Begun => {
-            let Some(head) = reader.head() else {
+            let Some(head) = &reader.head else {
                 return false;
             };
             print_head(head, text);
         }
-        RinexStep::Row | RinexStep::Epoch => reader.row().print(text),
+        RinexStep::Row | RinexStep::Epoch => reader.row.print(text),
     }
     line == text.bytes()
 }

@@ -11,7 +11,8 @@ returns-in-Ok-false-clause-refused c =
     let encoded = c.in-Ok-false.ensures in
     row-refused _ _ _ _ _ c.requires.together read.same _ (encoded.repeated c.in-Ok-false.field-0-test)
     c.requires.drained (λ kept. inl (read.repeated kept (row-repeated _ _ _ _ _ encoded.answer
-    c.row.ensures.value (rows-there _ _ c.requires.together c.requires.open) c.in-Ok-false.field-0-test)))
+    (refl {a = c.read_row.new.self.row}) (rows-there _ _ c.requires.together c.requires.open)
+    c.in-Ok-false.field-0-test)))
 
 pub returns-in-Err-clause-refused : goal.returns-in-Err-clause-refused
 returns-in-Err-clause-refused c =
@@ -19,10 +20,7 @@ returns-in-Err-clause-refused c =
     let encoded = c.in-Err.ensures in
     row-lost _ _ _ _ _ c.requires.together read.same _ _ encoded.forgotten refl refl (λ kept. inr (
       refl,
-      read.memory (rw (
-        ← c.row.ensures.value,
-        ← rows-there _ _ c.requires.together c.requires.open,
-      ) encoded.memory),
+      read.memory (rw (← rows-there _ _ c.requires.together c.requires.open) encoded.memory),
     ))
 
 pub returns-in-Row-clause-written : goal.returns-in-Row-clause-written
@@ -31,7 +29,7 @@ returns-in-Row-clause-written c =
     let encoded = c.in-Ok-true.ensures in
     let took = c.take_row.ensures in
     row-written _ _ _ _ _ c.requires.together read.same _ _ _ _ _ c.requires.open read.ok read.row
-    c.row.ensures.value encoded.answer c.in-Ok-true.field-0-test (encoded.written c.in-Ok-true.field-0-test)
+    refl encoded.answer c.in-Ok-true.field-0-test (encoded.written c.in-Ok-true.field-0-test)
     took.takes took.steps took.rows c.in-Row.is
 
 pub returns : goal.returns
@@ -41,7 +39,7 @@ returns c =
     let took = c.take_row.ensures in
     record {
       written = row-written _ _ _ _ _ c.requires.together read.same _ _ _ _ _ c.requires.open read.ok read.row
-          c.row.ensures.value encoded.answer c.in-Ok-true.field-0-test
+          refl encoded.answer c.in-Ok-true.field-0-test
           (encoded.written c.in-Ok-true.field-0-test) took.takes took.steps took.rows
           (row-or-epoch _ took.steps c.in_default.not-Row);
       refused = tt;

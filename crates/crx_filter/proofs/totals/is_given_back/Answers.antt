@@ -3,7 +3,6 @@ use Rattle.crx_filter.proofs.{Checkers.whole-printed, Words.{common_steps, arith
 use Rattle.crx_filter.proofs.Words.{subst, ◌∙◌, bytes_eq, last_line, printed_row, printed_made}
 use Rattle.crx_filter.proofs.{Words.{TakesRinexLine, RinexStep}, totals.is_given_back.Goals.in-Begun+in-Some}
 use Rattle.crx_filter.{proofs.totals.is_given_back.Goals.in-Row, specs.Totals.HasRow}
-use Rattle.std.specs.Option.{option_copied}
 use Rattle.crx_filter.proofs.totals.is_given_back.Goals as goal
 
 pub returns-in-Header : goal.returns-in-Header
@@ -17,9 +16,8 @@ returns c = record {
       let at = λ (s : RinexStep). TakesRinexLine made before line s reader in
       elim c.match-step.branch [
         | in-Begun+in-Some w ↦ c.eq.ensures ∙ ap (bytes_eq line) (c.bytes.ensures.value ∙ w.text-is
-            ∙ w.print_head.ensures.value ∙ sym (begun-printed made before reader line w.in-Some.head.now
-            (subst at w.in-Begun.is takes)
-            (sym w.head.ensures.value ∙ ap (λ o. option_copied o) w.in-Some.is)))
+            ∙ w.print_head.ensures.value ∙ sym (begun-printed made before reader line w.in-Some.head
+            (subst at w.in-Begun.is takes) w.in-Some.is))
         | in-Row w ↦
             let printed : last_line (printed_made made) ≡ printed_row reader.row =
             elim w.in-Row.is as (λ _. last_line (printed_made made) ≡ printed_row reader.row) [
@@ -29,6 +27,6 @@ returns c = record {
                   (subst at e takes) (subst (λ s. HasRow s reader) e has)
             ] in
             c.eq.ensures ∙ ap (bytes_eq line) (c.bytes.ensures.value ∙ w.text-is
-            ∙ w.print.ensures.value ∙ ap printed_row w.row.ensures.value ∙ sym printed)
+            ∙ w.print.ensures.value ∙ sym printed)
       ];
 }

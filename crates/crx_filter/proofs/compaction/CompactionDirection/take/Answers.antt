@@ -1,10 +1,10 @@
-use Rattle.crx_filter.proofs.Words.{common_steps, None, arith, ap, sym, refl, ◌∙◌, not-true, is_open_stage}
+use Rattle.crx_filter.proofs.Words.{common_steps, None, arith, ap, sym, refl, ◌∙◌, is_open_stage}
 use Rattle.crx_filter.proofs.{Words.{Choices, is_at_every}, steps.CompactionSteps.{ended-read, event-closed}}
 use Rattle.crx_filter.proofs.steps.CompactionSteps.{event-read, header-read, lost-read, moved-read, of-event}
 use Rattle.crx_filter.proofs.steps.{CompactionSteps.refused-read, Together.{begun-asked, begun-open}}
 use Rattle.crx_filter.proofs.steps.Together.{begun-rows, begun-together, begun-whole, closed-together}
 use Rattle.crx_filter.proofs.steps.Together.{none-there, same-together, served-closed, served-open}
-use Rattle.std.proofs.lemmas.{Bool.not-false, Result.err_from_is_err_and}
+use Rattle.std.proofs.lemmas.Result.{err_from_is_err_and}
 use Rattle.crx_compact.specs.Encoding.{EncoderState}
 use Rattle.crx_filter.proofs.compaction.CompactionDirection.take.Goals as goal
 
@@ -37,22 +37,22 @@ returns-in-Nothing-clause-serves c =
     let takes = rw c.in-Nothing.is at (c.in_ok-take.ensures.takes (record { index = 0; tail = None })) in
     served-closed _ _ _ takes.1
 
-pub invariant_of-self-then-not-is_whole : goal.invariant_of-self-then-not-is_whole
-invariant_of-self-then-not-is_whole c =
+pub invariant_of-self-then-is_in_epoch : goal.invariant_of-self-then-is_in_epoch
+invariant_of-self-then-is_in_epoch c =
     let begins = rw c.in-Begun.is at (c.in_ok-take.ensures.takes (record { index = 0; tail = None })) in
     begun-together c.self.inside.encoder begins c.begin.ensures.begun
-    (not-false _ (sym c.is_whole.ensures.value ∙ c.if-not-is_whole.true))
+    (sym c.is_in_epoch.ensures.value ∙ c.if-is_in_epoch.true)
 
-pub returns-then-not-is_whole-clause-reads : goal.returns-then-not-is_whole-clause-reads
-returns-then-not-is_whole-clause-reads c =
+pub returns-then-is_in_epoch-clause-reads : goal.returns-then-is_in_epoch-clause-reads
+returns-then-is_in_epoch-clause-reads c =
     let begins = rw c.in-Begun.is at (c.in_ok-take.ensures.takes
     (record { index = c.self.inside.index; tail = c.self.inside.encoder.before })) in
     rw (← c.self.view_is, c.begin.ensures.begun, ← c.bytes-line.ensures.content) (moved-read (begun-open _ _ _
     _ begins
-    (not-false _ (sym c.is_whole.ensures.value ∙ c.if-not-is_whole.true))) refl)
+    (sym c.is_in_epoch.ensures.value ∙ c.if-is_in_epoch.true)) refl)
 
-pub returns-then-not-is_whole-clause-serves : goal.returns-then-not-is_whole-clause-serves
-returns-then-not-is_whole-clause-serves c = served-open _ _ _
+pub returns-then-is_in_epoch-clause-serves : goal.returns-then-is_in_epoch-clause-serves
+returns-then-is_in_epoch-clause-serves c = served-open _ _ _
     (ap (λ (e : EncoderState). e.in_full) c.begin.ensures.begun ∙ c.is_at_every.ensures
     ∙ ap (λ n. is_at_every n c.self.inside.index) c.every.ensures.value)
 
@@ -60,12 +60,13 @@ pub end_epoch-requires : goal.end_epoch-requires
 end_epoch-requires c =
     let begins = rw c.in-Begun.is at (c.in_ok-take.ensures.takes (record { index = 0; tail = None })) in
     let asked = begun-asked c.self.inside.encoder begins c.begin.ensures.begun
-    (not-true _ (sym c.is_whole.ensures.value ∙ c.if-not-is_whole.false)) in
+    (sym c.is_in_epoch.ensures.value ∙ c.if-is_in_epoch.false) in
     record { «open» = asked.0; whole = asked.1.0; begun = asked.1.1 }
 
 pub invariant_of-self-in_err-end_epoch-in-Begun : goal.invariant_of-self-in_err-end_epoch-in-Begun
-invariant_of-self-in_err-end_epoch-in-Begun c = closed-together _ _ (not-true _ (sym c.is_whole.ensures.value
-    ∙ c.if-not-is_whole.false)) c.end_epoch.ensures.closed c.end_epoch.ensures.rows
+invariant_of-self-in_err-end_epoch-in-Begun c = closed-together _ _
+    (sym c.is_in_epoch.ensures.value ∙ c.if-is_in_epoch.false) c.end_epoch.ensures.closed
+    c.end_epoch.ensures.rows
 
 pub returns-in_err-end_epoch-in-Begun-clause-reads : goal.returns-in_err-end_epoch-in-Begun-clause-reads
 returns-in_err-end_epoch-in-Begun-clause-reads c =
@@ -76,15 +77,16 @@ returns-in_err-end_epoch-in-Begun-clause-reads c =
     let ended = c.in_err-end_epoch-in-Begun.ensures in
     rw (← c.self.view_is, p.1, p.2, ended.memory, ← c.bytes-line.ensures.content) (lost-read (begun-whole _ _
     _ _ begins
-    (not-true _ (sym c.is_whole.ensures.value ∙ c.if-not-is_whole.false))) refl ended.forgotten)
+    (sym c.is_in_epoch.ensures.value ∙ c.if-is_in_epoch.false)) refl ended.forgotten)
 
 pub returns-in_err-end_epoch-in-Begun-clause-serves : goal.returns-in_err-end_epoch-in-Begun-clause-serves
 returns-in_err-end_epoch-in-Begun-clause-serves c = served-closed _ _ _
-    (not-true _ (sym c.is_whole.ensures.value ∙ c.if-not-is_whole.false))
+    (sym c.is_in_epoch.ensures.value ∙ c.if-is_in_epoch.false)
 
 pub invariant_of-self-in-Begun : goal.invariant_of-self-in-Begun
-invariant_of-self-in-Begun c = closed-together _ _ (not-true _ (sym c.is_whole.ensures.value
-    ∙ c.if-not-is_whole.false)) c.end_epoch.ensures.closed c.end_epoch.ensures.rows
+invariant_of-self-in-Begun c = closed-together _ _
+    (sym c.is_in_epoch.ensures.value ∙ c.if-is_in_epoch.false) c.end_epoch.ensures.closed
+    c.end_epoch.ensures.rows
 
 pub returns-in_ok-end_epoch-in-Begun-clause-reads : goal.returns-in_ok-end_epoch-in-Begun-clause-reads
 returns-in_ok-end_epoch-in-Begun-clause-reads c =
@@ -93,7 +95,7 @@ returns-in_ok-end_epoch-in-Begun-clause-reads c =
     let begun = c.begin.ensures.begun in
     let ended = c.in_ok-end_epoch-in-Begun.ensures in
     rw (← c.self.view_is, ← c.bytes-line.ensures.content) (ended-read (begun-whole _ _ _ _ begins
-    (not-true _ (sym c.is_whole.ensures.value ∙ c.if-not-is_whole.false))) c.begin.new.self
+    (sym c.is_in_epoch.ensures.value ∙ c.if-is_in_epoch.false)) c.begin.new.self
     c.end_epoch.new.encoder
     (λ choices chosen. ap (λ (e : EncoderState). e.in_full) begun ∙ c.is_at_every.ensures
     ∙ ap (λ n. is_at_every n c.self.inside.index) c.every.ensures.value
@@ -103,7 +105,7 @@ returns-in_ok-end_epoch-in-Begun-clause-reads c =
 
 pub returns-in_ok-end_epoch-in-Begun-clause-serves : goal.returns-in_ok-end_epoch-in-Begun-clause-serves
 returns-in_ok-end_epoch-in-Begun-clause-serves c = served-closed _ _ _
-    (not-true _ (sym c.is_whole.ensures.value ∙ c.if-not-is_whole.false))
+    (sym c.is_in_epoch.ensures.value ∙ c.if-is_in_epoch.false)
 
 pub invariant_of-self-in-Header : goal.invariant_of-self-in-Header
 invariant_of-self-in-Header c =
