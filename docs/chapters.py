@@ -27,7 +27,7 @@ OF_HANDLES = (
     *("HandleStands", "ByItsPast", "WhileItGoesOn", "OnceItHasEnded"),
     *("has_ended", "run_state", "texts_kept", "output_kept", "messages_kept"),
 )
-OF_ENGINES = ("AnyEngine", "IsOf", "ready_of", "is_open_of", "engine_filter", "shows_of")
+OF_ENGINES = ("AnyEngine", "IsOf", "ready_of", "engine_filter", "shows_of")
 
 CHAPTERS = (
     Chapter(

@@ -1,6 +1,6 @@
 -- What a direction has between two lines, and what it does with the next one.
-use Rattle.std.specs.Prelude.{◌≡◌, ◌⊎◌, ◌<◌, ℕ, ◌+◌, Bool, true, false, List, [], length, map, Option, Result}
-use Rattle.std.specs.Prelude.{IfOk, IfErr, OnErr}
+use Rattle.std.specs.Prelude.{◌≡◌, ◌⊎◌, ◌<◌, ◌≤◌, ℕ, ◌+◌, Bool, true, false, List, [], length, map, Option}
+use Rattle.std.specs.Prelude.{Result, Ok, Err, IfOk, IfErr, OnErr}
 use Rattle.crx_base.specs.declared.limits.TheConstants.{INPUT_LIMIT}
 use Rattle.crx_base.specs.meaning.Lines.{InputLine}
 use Rattle.crx_base.specs.meaning.Seen.{ReadLine, Content, seen}
@@ -17,6 +17,7 @@ use Rattle.crx_filter.specs.meaning.Reading.{can_go_on}
 use Rattle.crx_filter.specs.Stages.{is_held, seen_stage}
 use Rattle.crx_filter.specs.declared.stage.Stage.{Stage}
 use Rattle.crx_runs.specs.declared.engine.Step.{Step}
+use Rattle.crx_runs.specs.meaning.Filters.{with_next}
 
 -- the stage, with the epoch that was begun; the observation types in force; and the state of the epochs before
 pub record DirectionParts (O K : Type 0) : Type 0 where
@@ -86,10 +87,33 @@ pub record TakesLine {U O K : Type 0} (direction : Direction U O K) (before : Se
   pub nothing : OnErr result (ready ≡ [])
   pub choices : after.choices ≡ before.choices
 
--- an engine can be given a line: no line is ready, and one more is within the limit
-pub record AwaitsLine {O K : Type 0} (ready : List (List ℕ)) (before : Seen O K) : Type 0 where
+-- a direction can be given a line: none is ready, and it may count one unit more
+pub record AwaitsLine (ready : List (List ℕ)) (count : ℕ) : Type 0 where
   pub drained : ready ≡ []
-  pub within : before.number < INPUT_LIMIT
+  pub within : count < INPUT_LIMIT
+
+-- with a line it counts one unit at most, and none where it refuses the line
+abbrev pub CountsOneAtMost : Result Bool Fault → ℕ → ℕ → Type 0
+CountsOneAtMost (Ok is_ready) before after = after ≤ before + 1
+CountsOneAtMost (Err fault) before after = after ≤ before
+
+-- what it knows of the lines that it has taken, it knows then of the next one too, unless it refuses that
+abbrev pub KnowsNext : {O K : Type 0} → (Choices → Choices) → (Choices → List ReadLine → Seen O K)
+    → DirectionParts O K → (List InputLine → Type 0) → (List InputLine → Type 0) → ℕ → InputLine → Result Bool Fault
+    → Type 0
+KnowsNext chosen seen_after before knew knows number line result = (choices : Choices) (lines : List InputLine)
+    → IsAfterLines chosen seen_after choices lines before → knew lines → number ≡ length lines + 1
+    → IfOk result (λ is_ready. knows (with_next lines line))
+
+-- lines that are ready are borrowed from it, and all else stays: its parts, its count, the choices that it serves, what
+-- it knows of some lines, and what it has found in them
+abbrev pub KeepsAllBeside : {O K : Type 0} → DirectionParts O K → DirectionParts O K → ℕ → ℕ
+    → (Choices → Bool) → (Choices → Bool) → (List InputLine → Type 0) → (List InputLine → Type 0)
+    → (List InputLine → Type 0) → (List InputLine → Type 0) → Type 0
+KeepsAllBeside before after count counted served serves knew knows had_found has_found = (after ≡ before)
+    × (counted ≡ count) × ((choices : Choices) → served choices ≡ true → serves choices ≡ true)
+    × ((lines : List InputLine) → knew lines → knows lines)
+    × ((lines : List InputLine) → had_found lines → has_found lines)
 
 -- an engine has made this step, and no line is ready; its choices are as they were, and a fault that it
 -- answers has ended the run
@@ -101,8 +125,7 @@ pub record HasStopped {O K : Type 0} (step : SeenStep O K) (result : Result Step
   pub choices : after.choices ≡ before.choices
 
 -- an engine has taken the end of the input, at which it may hand out these lines: it has made this step; its choices
--- are
--- as they were, and after a fault, which has ended the run, no line is ready
+-- are as they were, and after a fault, which has ended the run, no line is ready
 pub record HasClosed {O K : Type 0} (closing : List (List ℕ)) (step : SeenStep O K) (result : Result Step At)
     (ready : List (List ℕ)) (before after : Seen O K) : Type 0 where
   pub steps : step_made result ready after ≡ step

@@ -4,10 +4,11 @@ use Rattle.crx_base.specs.declared.fault.At.{At}
 use Rattle.crx_base.specs.meaning.Lines.{InputLine}
 use Rattle.crx_base.specs.meaning.Seen.{Content, Overlong}
 use Rattle.crx_filter.specs.EngineLines.{HasTaken}
-use Rattle.crx_filter.specs.DirectionParts.{AwaitsLine, EngineParts, HasClosed, IsAfterLines, HasStopped, TakesLine}
+use Rattle.crx_filter.specs.DirectionParts.{EngineParts, HasClosed, IsAfterLines, HasStopped, TakesLine}
 use Rattle.crx_filter.specs.DirectionParts.{seen_by}
 use Rattle.crx_filter.specs.LineByLine.{Seen, seen_end_with, seen_next}
-use Rattle.crx_runs.specs.Engines.{Awaited, answer_given}
+use Rattle.crx_runs.specs.Engines.{Awaited, IsNextLine, answer_given}
+use Rattle.crx_filter.specs.EngineLaws.{GoesLineByLine}
 use Rattle.crx_filter.specs.EngineSteps.{step_made}
 use Rattle.crx_runs.specs.declared.engine.Step.{Step}
 use Rattle.crx_runs.specs.meaning.Filters.{with_next}
@@ -27,9 +28,14 @@ module _ {D : Type 0} (d : Ghosts D) where
   engine_took e lines notices = HasTaken d.by_line (d.seen_after e.options) (engine_seen e) lines notices
       × d.knows e.direction lines
 
-  -- it can be given a line
-  abbrev pub EngineAwaits : EngineParts D → Type 0
-  EngineAwaits e = AwaitsLine (engine_ready e) (engine_seen e)
+  -- it can be given a line of this number
+  abbrev pub EngineAwaits : EngineParts D → ℕ → Type 0
+  EngineAwaits e number = IsNextLine (engine_ready e) e.number number
+
+  -- it goes line by line as its filter says
+  pub record EngineGoes (e : EngineParts D) : Type 0 where
+    pub chosen : d.chosen e.options ≡ e.options
+    pub lawful : GoesLineByLine d.by_line (d.closing_after e.options) (d.seen_after e.options) (d.filter e.options)
 
   -- it has taken a line with this content, after which nothing is to be done, or what is stored is answered
   abbrev pub EngineTakes : EngineParts D → List ℕ → Bool → EngineParts D → Type 0
@@ -39,9 +45,15 @@ module _ {D : Type 0} (d : Ghosts D) where
   -- where nothing is skipped and no fault has ended the run, its direction has noted the next line too
   abbrev pub EngineNotes : EngineParts D → InputLine → Result Step At → EngineParts D → Type 0
   EngineNotes before line result after = (lines : List InputLine) → before.number ≡ length lines
-      → IsAfterLines d.chosen d.seen_after before.options lines (d.parts before.direction) → d.knows before.direction
-      lines
+      → IsAfterLines d.chosen d.seen_after before.options lines (d.parts before.direction)
+      → d.knows before.direction lines
       → IfOk result (λ step. before.options.skip ≡ false → d.knows after.direction (with_next lines line))
+
+  -- both
+  pub record EngineReads (before : EngineParts D) (line : InputLine) (is_quiet : Bool) (after : EngineParts D)
+      : Type 0 where
+    pub takes : EngineTakes before line.content is_quiet after
+    pub notes : EngineNotes before line (answer_given is_quiet after.answer) after
 
   -- it has taken a line that is too long, or the end of the input
   abbrev pub EngineSkips : EngineParts D → Result Step At → EngineParts D → Type 0

@@ -1,16 +1,15 @@
 //! What differs between the directions of an engine.
 
-ghost use Rattle.std.specs.Prelude.{◌≡◌, ◌≤◌, ◌<◌, ◌+◌, ◌↔◌, ℕ, Bool, List, [], None, drop, length, slice_get, Result, if◌then◌else◌, is_some, IfOk, IfSome, IsTrue, OnErr, true, false};
+ghost use Rattle.std.specs.Prelude.{◌≡◌, ◌≤◌, ◌↔◌, ℕ, Bool, List, [], None, drop, slice_get, Result, if◌then◌else◌, is_some, IfOk, IfSome, IsTrue, true, false};
 ghost use Rattle.std.specs.Borrow.{sem};
 ghost use Rattle.std.specs.Io.BufRead.{Rests};
 ghost use Rattle.std.specs.Option.{option_copied};
-ghost use Rattle.crx_base.specs.declared.limits.TheConstants.{INPUT_LIMIT};
 ghost use Rattle.crx_base.specs.meaning.Choices.{Choices};
 ghost use Rattle.crx_base.specs.meaning.Lines.{InputLine, lines_text};
 ghost use Rattle.crx_base.specs.meaning.Seen.{ReadLine};
 ghost use Rattle.crx_lines.specs.Reading.{line_number, line_shown};
 ghost use Rattle.crx_runs.specs.meaning.Filters.{Filter, with_next};
-ghost use Rattle.crx_filter.specs.DirectionParts.{DirectionParts, IsAfterLines, Reads, answer_for, seen_by};
+ghost use Rattle.crx_filter.specs.DirectionParts.{AwaitsLine, CountsOneAtMost, DirectionParts, IsAfterLines, KeepsAllBeside, KnowsNext, Reads, answer_for, seen_by};
 ghost use Rattle.crx_filter.specs.EngineLaws.{IsLawfulDirection};
 ghost use Rattle.crx_filter.specs.LineByLine.{Direction as DirectionByLine, Seen, answer_of_lines, fault_at_end_in};
 ghost use Rattle.crx_filter.specs.RinexStages.{is_open_stage};
@@ -92,33 +91,25 @@ pub trait Direction: Drop {
     /// Takes a line of an open epoch: `true` says that lines are ready.
     fn go_on(&mut self, line: Line<'_>) -> Result<bool, Fault>
         requires open { is_open_stage (parts self.old).stage ≡ true }
-        requires within { counted self.old < INPUT_LIMIT }
-        requires drained { ready self.old ≡ [] }
+        requires asked { AwaitsLine (ready self.old) (counted self.old) }
         ensures reads { Reads by_line (λ choices. serves self.old choices ≡ true) (parts self.old)
             (line_shown line.entry).content result (ready self.new) (parts self.new) }
         ensures serves { (choices : Choices) → serves self.old choices ≡ true → serves self.new choices ≡ true }
-        ensures counted { IfOk result (λ is_ready. counted self.new ≤ counted self.old + 1) }
-        ensures same { OnErr result (counted self.new ≤ counted self.old) }
-        ensures knows { (choices : Choices) (lines : List InputLine)
-            → IsAfterLines chosen seen_after choices lines (parts self.old) → knows self.old lines
-            → line_number line.entry ≡ length lines + 1
-            → IfOk result (λ is_ready. knows self.new (with_next lines (line_shown line.entry))) };
+        ensures counted { CountsOneAtMost result (counted self.old) (counted self.new) }
+        ensures knows { KnowsNext chosen seen_after (parts self.old) (knows self.old) (knows self.new)
+            (line_number line.entry) (line_shown line.entry) result };
 
     /// Takes a line where no epoch is open: `true` says that lines are ready.
     fn take(&mut self, options: &Options, line: Line<'_>) -> Result<bool, Fault>
         requires running { is_ended (parts self.old).stage ≡ false }
         requires closed { is_open_stage (parts self.old).stage ≡ false }
-        requires within { counted self.old < INPUT_LIMIT }
-        requires drained { ready self.old ≡ [] }
+        requires asked { AwaitsLine (ready self.old) (counted self.old) }
         ensures reads { Reads by_line (λ choices. choices ≡ options.now) (parts self.old)
             (line_shown line.entry).content result (ready self.new) (parts self.new) }
         ensures serves { serves self.new options.now ≡ true }
-        ensures counted { IfOk result (λ is_ready. counted self.new ≤ counted self.old + 1) }
-        ensures same { OnErr result (counted self.new ≤ counted self.old) }
-        ensures knows { (choices : Choices) (lines : List InputLine)
-            → IsAfterLines chosen seen_after choices lines (parts self.old) → knows self.old lines
-            → line_number line.entry ≡ length lines + 1
-            → IfOk result (λ is_ready. knows self.new (with_next lines (line_shown line.entry))) };
+        ensures counted { CountsOneAtMost result (counted self.old) (counted self.new) }
+        ensures knows { KnowsNext chosen seen_after (parts self.old) (knows self.old) (knows self.new)
+            (line_number line.entry) (line_shown line.entry) result };
 
     /// Goes to a stage after a fault, and forgets the epochs before.
     fn end_with(&mut self, stage: Stage)
@@ -138,9 +129,7 @@ pub trait Direction: Drop {
         requires drained { ready self.old ≡ [] }
         ensures value { answer_for result ≡ answer_of_lines (closing self.old) }
         ensures ready { ready self.new ≡ closing self.old }
-        ensures stage { (parts self.new).stage ≡ Stage.Closed }
-        ensures types { (parts self.new).types ≡ (parts self.old).types }
-        ensures kept { (parts self.new).kept ≡ (parts self.old).kept }
+        ensures parts { parts self.new ≡ record (parts self.old) { stage = Stage.Closed } }
         ensures serves { (choices : Choices) → serves self.new choices ≡ true }
         ensures counted { counted self.new ≤ counted self.old }
         ensures closing { (choices : Choices) (lines : List InputLine)
@@ -155,18 +144,14 @@ pub trait Direction: Drop {
     fn next_line(&mut self) -> Option<&[u8]>
         ensures value { option_copied result ≡ slice_get (ready self.old) 0 }
         ensures* after_borrow { sem 𝓛 (Rests Self.row self.entry (λ new.
-            (ready new ≡ drop 1 (ready self.old)) × (parts new ≡ parts self.old) × (counted new ≡ counted self.old)
-            × ((choices : Choices) → serves self.old choices ≡ true → serves new choices ≡ true)
-            × ((lines : List InputLine) → knows self.old lines → knows new lines)
-            × ((lines : List InputLine) → has_found self.old lines → has_found new lines))) };
+            (ready new ≡ drop 1 (ready self.old)) × KeepsAllBeside (parts self.old) (parts new) (counted self.old) (counted new)
+            (serves self.old) (serves new) (knows self.old) (knows new) (has_found self.old) (has_found new))) };
 
     /// Borrows all lines that are ready as one text, each followed by LF; after `None` they stay, and [`Direction::next_line`] gives them.
     fn take_text(&mut self) -> Option<&[u8]>
         ensures value { IfSome result (λ text. text.now ≡ lines_text (ready self.old)) }
         ensures* after_borrow { sem 𝓛 (Rests Self.row self.entry (λ new.
-            (ready new ≡ (if is_some result then [] else ready self.old)) × (parts new ≡ parts self.old)
-            × (counted new ≡ counted self.old)
-            × ((choices : Choices) → serves self.old choices ≡ true → serves new choices ≡ true)
-            × ((lines : List InputLine) → knows self.old lines → knows new lines)
-            × ((lines : List InputLine) → has_found self.old lines → has_found new lines))) };
+            (ready new ≡ (if is_some result then [] else ready self.old))
+            × KeepsAllBeside (parts self.old) (parts new) (counted self.old) (counted new)
+            (serves self.old) (serves new) (knows self.old) (knows new) (has_found self.old) (has_found new))) };
 }

@@ -44,8 +44,7 @@ impl<D: Direction> Engine<D> {
     ghost use Rattle.crx_base.specs.declared.fault.At.{At};
     ghost use Rattle.crx_lines.specs.Reading.{line_number, line_shown};
     ghost use Rattle.crx_filter.specs.DirectionParts.{AnswersToFault, IsAfterLines};
-    ghost use Rattle.crx_filter.specs.EngineLaws.{GoesLineByLine};
-    ghost use Rattle.crx_filter.specs.EngineState.{EngineAwaits, EngineConcludes, EngineEnds, EngineNotes, EngineSkips, EngineTakes, engine_ready, engine_seen, engine_took};
+    ghost use Rattle.crx_filter.specs.EngineState.{EngineAwaits, EngineConcludes, EngineEnds, EngineGoes, EngineReads, EngineSkips, engine_ready, engine_seen, engine_took};
     ghost use Rattle.crx_filter.specs.EngineSteps.{Steps};
     ghost use Rattle.crx_filter.specs.LineByLine.{Ended, may_skip};
     ghost use Rattle.crx_filter.specs.RinexStages.{is_open_stage};
@@ -104,14 +103,9 @@ impl<D: Direction> Engine<D> {
     /// call at every line.
     #[inline(always)]
     fn take_line(&mut self, line: Line<'_>) -> bool
-        requires asked { EngineAwaits D.Direction self.old }
-        requires next { line_number line ≡ self.old.number + 1 }
-        ensures takes { EngineTakes D.Direction self.old (line_shown line.entry).content result self.new }
-        ensures notes { EngineNotes D.Direction self.old (line_shown line.entry)
-            (answer_given result self.new.answer) self.new }
-        ensures chosen { D.chosen self.old.options ≡ self.old.options }
-        ensures lawful { GoesLineByLine D.by_line (D.closing_after self.old.options)
-            (D.seen_after self.old.options) (D.filter self.old.options) }
+        requires next { EngineAwaits D.Direction self.old (line_number line) }
+        ensures reads { EngineReads D.Direction self.old (line_shown line.entry) result self.new }
+        ensures goes { EngineGoes D.Direction self.old }
     {
         let Stage::Open = self.direction.stage() else {
             return self.take_between(line);
@@ -137,11 +131,8 @@ impl<D: Direction> Engine<D> {
     #[inline(never)]
     fn take_between(&mut self, line: Line<'_>) -> bool
         requires closed { is_open_stage (D.parts self.old.direction).stage ≡ false }
-        requires asked { EngineAwaits D.Direction self.old }
-        requires next { line_number line ≡ self.old.number + 1 }
-        ensures takes { EngineTakes D.Direction self.old (line_shown line.entry).content result self.new }
-        ensures notes { EngineNotes D.Direction self.old (line_shown line.entry)
-            (answer_given result self.new.answer) self.new }
+        requires next { EngineAwaits D.Direction self.old (line_number line) }
+        ensures reads { EngineReads D.Direction self.old (line_shown line.entry) result self.new }
     {
         let stage = self.direction.stage();
         if let Stage::Ended(at) = stage {
@@ -165,30 +156,6 @@ impl<D: Direction> Engine<D> {
         }
     }
 
-    /// Takes a line that is too long: see [`Engine::overlong`].
-    fn skip(&mut self, number: u64) -> Result<Step, At>
-        requires drained { engine_ready D.Direction self.old ≡ [] }
-        requires next { number ≡ (engine_seen D.Direction self.old).number + 1 }
-        requires within { number ≤ INPUT_LIMIT }
-        ensures stops { EngineSkips D.Direction self.old result self.new }
-        ensures notes { (line : InputLine) → EngineNotes D.Direction self.old line result self.new }
-        ensures chosen { D.chosen self.old.options ≡ self.old.options }
-        ensures lawful { GoesLineByLine D.by_line (D.closing_after self.old.options)
-            (D.seen_after self.old.options) (D.filter self.old.options) }
-    {
-        let stage = self.direction.stage();
-        self.number = number;
-        match stage {
-            Stage::Ended(at) => Err(at),
-            Stage::Looking | Stage::Closed => Ok(Step::Quiet),
-            _ => {
-                let is_open = stage.is_in_epoch();
-                self.fail(stage.may_skip(), is_open, Fault::LineTooLong, false);
-                self.answer
-            }
-        }
-    }
-
     /// Takes the end of the input: see [`Engine::end`].
     fn close(&mut self) -> Result<Step, At>
         requires drained { engine_ready D.Direction self.old ≡ [] }
@@ -196,9 +163,7 @@ impl<D: Direction> Engine<D> {
         ensures closing { (lines : List InputLine)
             → IsAfterLines D.chosen D.seen_after self.old.options lines (D.parts self.old.direction)
             → D.knows self.old.direction lines → EngineConcludes D.Direction self.old lines result self.new }
-        ensures chosen { D.chosen self.old.options ≡ self.old.options }
-        ensures lawful { GoesLineByLine D.by_line (D.closing_after self.old.options)
-            (D.seen_after self.old.options) (D.filter self.old.options) }
+        ensures goes { EngineGoes D.Direction self.old }
     {
         let stage = self.direction.stage();
         if let Stage::Ended(at) = stage {
@@ -239,7 +204,17 @@ impl<D: Direction> Engine<D> {
             (engine_took D.Direction self.new) (engine_ready D.Direction self.new) lines notices line result }
         ensures repeated { (at : At) → (engine_seen D.Direction self.old).phase ≡ Ended at → result ≡ Err at }
     {
-        self.skip(number)
+        let stage = self.direction.stage();
+        self.number = number;
+        match stage {
+            Stage::Ended(at) => Err(at),
+            Stage::Looking | Stage::Closed => Ok(Step::Quiet),
+            _ => {
+                let is_open = stage.is_in_epoch();
+                self.fail(stage.may_skip(), is_open, Fault::LineTooLong, false);
+                self.answer
+            }
+        }
     }
 
     /// Takes the end of the input. Lines are ready then where its direction hands out some at a good end, as a check does.
@@ -312,8 +287,6 @@ impl<D: Direction> crx_runs::Engine for Engine<D> {
     ghost ready = { engine_ready D.Direction };
 
     ghost taken = { λ e. e.number };
-
-    ghost is_open = { λ e. ⊤ };
 
     ghost has_ended = { λ e lines. D.has_found e.direction lines };
 

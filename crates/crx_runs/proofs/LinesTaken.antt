@@ -101,7 +101,6 @@ module _ {E : Type 0} (engine : Ghosts E) {before now : E} {can_be : InputLine �
       → LineIsTaken engine before now can_be writer messages (Err (Fault at))
   line-refused at writer messages a wrote reported = record {
     filter = a.filter;
-    running = tt;
     drained = tt;
     done = λ lines line shown is. tt;
     cut = λ lines line shown is. answer-ends _ _ _ _ [] _ (sym (append-nil _)) _ _ at (inl refl)
@@ -119,7 +118,6 @@ module _ {E : Type 0} (engine : Ghosts E) {before now : E} {can_be : InputLine �
       a.drained (a.answers lines [] line shown tt is) in
       record {
         filter = kept.filter ∙ a.filter;
-        running = on-ok result (kept.running a.running);
         drained = drained;
         done = λ lines line shown is. let goes = adds lines line shown is in
             step-done _ _ _ _ _ _ _ (kept.shows _ [] goes.0) goes.1 result settled;
@@ -135,7 +133,6 @@ module _ {E : Type 0} (engine : Ghosts E) {before now : E} {can_be : InputLine �
       → LineIsTaken engine before new can_be writer messages (Err halt)
   again-unreported notice new writer messages halt a kept settled = record {
     filter = kept.filter ∙ a.filter;
-    running = tt;
     drained = tt;
     done = λ lines line shown is. tt;
     cut = λ lines line shown is. let next = (a.answers lines [] line shown tt is).2 in
@@ -196,7 +193,6 @@ module _ {E : Type 0} (engine : Ghosts E) {before now : E} {can_be : InputLine �
         messages2 [] → LineIsTaken engine before then can_be writer messages (Err (Fault at))
     again-refused at b wrote reported = record {
       filter = b.filter ∙ kept.filter ∙ a.filter;
-      running = tt;
       drained = tt;
       done = λ lines line shown is. tt;
       cut = λ lines line shown is. second-ends lines line (Fault at) (answer-ends _ _ (its.so_far lines)
@@ -217,7 +213,6 @@ module _ {E : Type 0} (engine : Ghosts E) {before now : E} {can_be : InputLine �
         { notice = notice; line = line }) line second answers) b.drained answers in
         record {
           filter = kept2.filter ∙ b.filter ∙ kept.filter ∙ a.filter;
-          running = then-ok _ warned result (on-ok result (kept2.running b.running));
           drained = then-ok _ warned result drained;
           done = λ lines line shown is. let goes = adds lines line shown is in
               then-done w m _ _ _ notice _ _ (kept2.shows _ [] goes.0) goes.1 warned first-wrote

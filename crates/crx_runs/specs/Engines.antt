@@ -1,9 +1,10 @@
 -- What an engine answers, line by line.
-use Rattle.std.specs.Prelude.{◌≡◌, ◌⊎◌, ℕ, ◌+◌, ⊤, Bool, true, false, List, [], ◌∷◌, ◌++◌, length, Some, None, Result}
-use Rattle.std.specs.Prelude.{Ok, Err}
+use Rattle.std.specs.Prelude.{◌≡◌, ◌⊎◌, ◌≤◌, ℕ, ◌+◌, ⊤, Bool, true, false, List, [], ◌∷◌, ◌++◌, length, Some, None}
+use Rattle.std.specs.Prelude.{Result, Ok, Err, IfOk, OnErr}
 use Rattle.crx_base.specs.meaning.Lines.{InputLine}
 use Rattle.crx_base.specs.declared.fault.At.{At}
 use Rattle.crx_base.specs.declared.fault.Fault.TheVariants.{OutOfMemory}
+use Rattle.crx_base.specs.declared.limits.TheConstants.{INPUT_LIMIT}
 use Rattle.crx_runs.specs.meaning.Results.{Course}
 use Rattle.crx_runs.specs.meaning.Filters.{Filter, with_next}
 use Rattle.crx_base.specs.meaning.Lines.{lines_text}
@@ -27,6 +28,18 @@ IsDrainedAfter (Warned notice again) ready = ready ≡ []
 abbrev pub answer_given : Bool → Result Step At → Result Step At
 answer_given true kept = Ok Quiet
 answer_given false kept = kept
+
+-- a line of this number may be given to an engine that has taken so many: no line is pending, and it is the next one
+pub record IsNextLine (ready : List (List ℕ)) (taken number : ℕ) : Type 0 where
+  pub drained : ready ≡ []
+  pub next : number ≡ taken + 1
+  pub within : number ≤ INPUT_LIMIT
+
+-- an engine answers so to a line, or to the end: its filter is the same, and lines are pending only where it is ready
+pub record HasStepped (before after : Filter) (ready : List (List ℕ)) (answer : Result Step At) : Type 0 where
+  pub filter : after ≡ before
+  pub drained : IfOk answer (λ step. IsDrainedAfter step ready)
+  pub nothing : OnErr answer (ready ≡ [])
 
 -- a course goes on: these lines are written then, these warnings are reported, and no fault ends it
 pub record GoesOn (before after : Course) (texts : List (List ℕ)) (notices : List At) : Type 0 where
@@ -59,6 +72,14 @@ awaited_notices (a ∷ others) = a.notice ∷ awaited_notices others
 abbrev pub IsAwaited : List Awaited → InputLine → Type 0
 IsAwaited [] line = ⊤
 IsAwaited (a ∷ others) line = a.line ≡ line
+
+-- lines that were pending were borrowed, and nothing else of an engine changed: its filter, the lines that it took, and
+-- whether their end was taken
+pub record KeepsAllElse (before after : Filter) (took takes : List InputLine → List Awaited → Type 0)
+    (had_ended has_ended : List InputLine → Type 0) : Type 0 where
+  pub filter : after ≡ before
+  pub shows : (lines : List InputLine) (notices : List Awaited) → took lines notices → takes lines notices
+  pub ended : (lines : List InputLine) → had_ended lines → has_ended lines
 
 -- memory ran out at a line that may take some, after these of its warnings
 pub record RunsOutAt (filter : Filter)

@@ -1,9 +1,9 @@
 -- What becomes of one line of the input.
-use Rattle.std.specs.Prelude.{◌≡◌, ◌≤◌, ℕ, ◌+◌, ⊤, Bool, true, List, [], ◌∷◌, length, None, Result, Ok, Err, IfOk, IfErr, OnOk}
+use Rattle.std.specs.Prelude.{◌≡◌, ◌≤◌, ℕ, ⊤, Bool, true, List, [], ◌∷◌, length, None, Result, Ok, Err, IfOk, IfErr, OnOk}
 use Rattle.crx_base.specs.meaning.Lines.{InputLine, is_long, lines_text}
 use Rattle.crx_lines.specs.Reading.{line_shown, line_number}
 use Rattle.crx_base.specs.declared.fault.At.{At}
-use Rattle.crx_base.specs.declared.limits.TheConstants.{INPUT_LIMIT, LINE_LIMIT}
+use Rattle.crx_base.specs.declared.limits.TheConstants.{LINE_LIMIT}
 use Rattle.crx_runs.specs.declared.engine.Engine.{Ghosts as EngineGhosts}
 use Rattle.crx_runs.specs.declared.engine.Step.{Step}
 use Rattle.crx_runs.specs.declared.engine.Step.TheVariants.{Quiet, Ready, Warned}
@@ -12,7 +12,7 @@ use Rattle.crx_runs.specs.declared.one_line.Taken.{Taken}
 use Rattle.crx_runs.specs.declared.one_line.Taken.TheVariants.{Line, Overlong}
 use Rattle.crx_runs.specs.meaning.Results.{Course}
 use Rattle.crx_runs.specs.meaning.Filters.{with_next}
-use Rattle.crx_runs.specs.Engines.{Awaited, IsAwaited, IsDrainedAfter, EngineAnswers, taken_after}
+use Rattle.crx_runs.specs.Engines.{Awaited, IsAwaited, IsDrainedAfter, IsNextLine, EngineAnswers, KeepsAllElse, taken_after}
 use Rattle.crx_runs.specs.Endings.{Adds, EndsAt, IsAllOut, LineEndsRun}
 use Rattle.crx_runs.specs.meaning.Messages.{notices_text}
 pub use Rattle.crx_runs.specs.meaning.Results.{are_some}
@@ -36,17 +36,13 @@ step_notices (Warned notice again) = notice ∷ []
 -- ---- an engine
 
 -- an engine may be given the line of this number
-pub record MayTake {E : Type 0} (engine : EngineGhosts E) (now : E) (number : ℕ) : Type 0 where
-  pub drained : engine.ready now ≡ []
-  pub running : engine.is_open now
-  pub next : number ≡ engine.taken now + 1
-  pub within : number ≤ INPUT_LIMIT
+abbrev pub MayTake : {E : Type 0} → EngineGhosts E → E → ℕ → Type 0
+MayTake engine now number = IsNextLine (engine.ready now) (engine.taken now) number
 
 -- an engine answered so to a line, whichever line it is of those that it can be
 pub record HasAnswered {E : Type 0} (engine : EngineGhosts E)
     (before now : E) (can_be : InputLine → Type 0) (answer : Result Step At) : Type 0 where
   pub filter : engine.filter now ≡ engine.filter before
-  pub running : IfOk answer (λ step. engine.is_open now)
   pub drained : IfOk answer (λ step. IsDrainedAfter step (engine.ready now))
   pub count : IfOk answer (λ step. engine.taken now ≡ taken_after step (engine.taken before))
   pub answers : (lines : List InputLine) (notices : List Awaited) (line : InputLine)
@@ -65,12 +61,9 @@ pub record HoldsAnswer {E : Type 0} (engine : EngineGhosts E) (now : E) (content
       × HasAnswered engine before now (IsLine content is_plain) (engine.answer now)
 
 -- lines were taken over from an engine, and nothing else of it changed
-pub record KeepsLines {E : Type 0} (engine : EngineGhosts E) (before now : E) : Type 0 where
-  pub filter : engine.filter now ≡ engine.filter before
-  pub shows : (lines : List InputLine) (notices : List Awaited)
-      → engine.shows before lines notices → engine.shows now lines notices
-  pub running : engine.is_open before → engine.is_open now
-  pub ended : (lines : List InputLine) → engine.has_ended before lines → engine.has_ended now lines
+abbrev pub KeepsLines : {E : Type 0} → EngineGhosts E → E → E → Type 0
+KeepsLines engine before now = KeepsAllElse (engine.filter before) (engine.filter now) (engine.shows before)
+    (engine.shows now) (engine.has_ended before) (engine.has_ended now)
 
 -- ---- one step
 
@@ -107,7 +100,6 @@ pub record IsDone (before after : Course) (shown : Type 0) (writer messages : De
 pub record LineIsTaken {E : Type 0} (engine : EngineGhosts E) (before now : E)
     (can_be : InputLine → Type 0) (writer messages : Device) (result : Result Bool Halt) : Type 0 where
   pub filter : engine.filter now ≡ engine.filter before
-  pub running : OnOk result (engine.is_open now)
   pub drained : OnOk result (engine.ready now ≡ [])
   pub done : (lines : List InputLine) (line : InputLine) → engine.shows before lines [] → can_be line
       → IfOk result (IsDone ((engine.filter before).so_far lines) ((engine.filter before).so_far

@@ -1,6 +1,6 @@
 //! Engines: they take the lines of an input one at a time, and what is to be written is borrowed from them.
 
-ghost use Rattle.std.specs.Prelude.{◌≡◌, ◌≤◌, ◌+◌, ℕ, List, [], drop, length, slice_get, Result, if◌then◌else◌, is_some, IfOk, IfSome, OnErr, true};
+ghost use Rattle.std.specs.Prelude.{◌≡◌, ◌≤◌, ℕ, List, [], drop, length, slice_get, Result, if◌then◌else◌, is_some, IfOk, IfSome, true};
 ghost use Rattle.std.specs.Borrow.{sem};
 ghost use Rattle.std.specs.Io.BufRead.{Rests};
 ghost use Rattle.std.specs.Option.{option_copied};
@@ -10,7 +10,7 @@ ghost use Rattle.crx_base.specs.declared.fault.At.{At};
 ghost use Rattle.crx_base.specs.declared.limits.TheConstants.{INPUT_LIMIT};
 ghost use Rattle.crx_runs.specs.meaning.Filters.{Filter};
 ghost use Rattle.crx_base.specs.meaning.Lines.{lines_text};
-ghost use Rattle.crx_runs.specs.Engines.{EngineAnswers, answer_given, Awaited, IsAwaited, Concludes, IsDrainedAfter, taken_after};
+ghost use Rattle.crx_runs.specs.Engines.{EngineAnswers, answer_given, Awaited, IsAwaited, Concludes, HasStepped, IsNextLine, KeepsAllElse, taken_after};
 
 use crx_base::At;
 use crx_lines::Line;
@@ -54,9 +54,6 @@ pub trait Engine {
     // The number of the last line that was taken, 0 before the first.
     ghost taken: { Self → ℕ };
 
-    // The end of the input wasn't answered yet.
-    ghost is_open: { Self → Type 0 };
-
     // The answer to the line that `take` took last, where it answered `false`.
     ghost answer: { Self → Result Step At };
 
@@ -66,15 +63,9 @@ pub trait Engine {
     /// Takes a line. `true` says that nothing is to be written yet and nothing to be reported; after `false`
     /// [`Engine::answer`] says what is.
     fn take(&mut self, line: Line<'_>) -> bool
-        requires drained { ready self.old ≡ [] }
-        requires running { is_open self.old }
-        requires next { line_number line ≡ taken self.old + 1 }
-        requires within { line_number line ≤ INPUT_LIMIT }
-        ensures filter { filter self.new ≡ filter self.old }
-        ensures running { IfOk (answer_given result (answer self.new)) (λ _. is_open self.new) }
-        ensures drained { IfOk (answer_given result (answer self.new))
-            (λ step. IsDrainedAfter step (ready self.new)) }
-        ensures nothing { OnErr (answer_given result (answer self.new)) (ready self.new ≡ []) }
+        requires next { IsNextLine (ready self.old) (taken self.old) (line_number line) }
+        ensures stepped { HasStepped (filter self.old) (filter self.new) (ready self.new)
+            (answer_given result (answer self.new)) }
         ensures count { IfOk (answer_given result (answer self.new))
             (λ step. taken self.new ≡ taken_after step (taken self.old)) }
         ensures answers { (lines : List InputLine) (notices : List Awaited) → shows self.old lines notices
@@ -88,14 +79,8 @@ pub trait Engine {
 
     /// Takes a line that is too long, by its number.
     fn overlong(&mut self, number: u64) -> Result<Step, At>
-        requires drained { ready self.old ≡ [] }
-        requires running { is_open self.old }
-        requires next { number ≡ taken self.old + 1 }
-        requires within { number ≤ INPUT_LIMIT }
-        ensures filter { filter self.new ≡ filter self.old }
-        ensures running { IfOk result (λ _. is_open self.new) }
-        ensures drained { IfOk result (λ step. IsDrainedAfter step (ready self.new)) }
-        ensures nothing { OnErr result (ready self.new ≡ []) }
+        requires next { IsNextLine (ready self.old) (taken self.old) number }
+        ensures stepped { HasStepped (filter self.old) (filter self.new) (ready self.new) result }
         ensures count { IfOk result (λ step. taken self.new ≡ taken_after step (taken self.old)) }
         ensures answers { (lines : List InputLine) (notices : List Awaited) (line : InputLine)
             → shows self.old lines notices
@@ -106,11 +91,8 @@ pub trait Engine {
     /// Takes the end of the input.
     fn end(&mut self) -> Result<Step, At>
         requires drained { ready self.old ≡ [] }
-        requires running { is_open self.old }
         requires within { taken self.old ≤ INPUT_LIMIT }
-        ensures filter { filter self.new ≡ filter self.old }
-        ensures drained { IfOk result (λ step. IsDrainedAfter step (ready self.new)) }
-        ensures nothing { OnErr result (ready self.new ≡ []) }
+        ensures stepped { HasStepped (filter self.old) (filter self.new) (ready self.new) result }
         ensures concludes { (lines : List InputLine) → shows self.old lines []
             → Concludes (filter self.old) (ready self.new) lines result }
         ensures ended { (lines : List InputLine)
@@ -120,22 +102,16 @@ pub trait Engine {
     fn next_line(&mut self) -> Option<&[u8]>
         ensures value { option_copied result ≡ slice_get (ready self.old) 0 }
         ensures* after_borrow { sem 𝓛 (Rests Self.row self.entry (λ new.
-            (ready new ≡ drop 1 (ready self.old)) × (filter new ≡ filter self.old)
-            × ((lines : List InputLine) (notices : List Awaited)
-            → shows self.old lines notices → shows new lines notices)
-            × (is_open self.old → is_open new)
-            × ((lines : List InputLine) → has_ended self.old lines → has_ended new lines))) };
+            (ready new ≡ drop 1 (ready self.old)) × KeepsAllElse (filter self.old) (filter new) (shows self.old) (shows new)
+            (has_ended self.old) (has_ended new))) };
 
     /// Borrows all lines that are ready as one text, each followed by LF, after which none is pending. After `None` they stay as they
     /// are, and [`Engine::next_line`] gives them.
     fn take_text(&mut self) -> Option<&[u8]>
         ensures value { IfSome result (λ text. text.now ≡ lines_text (ready self.old)) }
         ensures* after_borrow { sem 𝓛 (Rests Self.row self.entry (λ new.
-            (ready new ≡ (if is_some result then [] else ready self.old)) × (filter new ≡ filter self.old)
-            × ((lines : List InputLine) (notices : List Awaited)
-            → shows self.old lines notices → shows new lines notices)
-            × (is_open self.old → is_open new)
-            × ((lines : List InputLine) → has_ended self.old lines → has_ended new lines))) };
+            (ready new ≡ (if is_some result then [] else ready self.old))
+            × KeepsAllElse (filter self.old) (filter new) (shows self.old) (shows new) (has_ended self.old) (has_ended new))) };
 
     ghost counted: { (e : Self) (lines : List InputLine) (notices : List Awaited) → shows e lines notices → taken e ≡ length lines };
 }

@@ -212,7 +212,6 @@ pub fn take_end<E: Engine, W: Sink, M: Sink>(
     messages: &mut M,
 ) -> Result<bool, Halt>
     requires drained { E.ready engine.old ≡ [] }
-    requires running { E.is_open engine.old }
     requires within { E.taken engine.old ≤ INPUT_LIMIT }
     ensures filter { E.filter engine.new ≡ E.filter engine.old }
     ensures done { (lines : List InputLine) → E.shows engine.old lines []

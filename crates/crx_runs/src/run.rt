@@ -42,7 +42,6 @@ pub fn run<E: Engine, R: Source, W: Sink, M: Sink>(
     messages: &mut M,
 ) -> Outcome
     requires drained { E.ready engine.old ≡ [] }
-    requires running { E.is_open engine.old }
     requires shown { E.shows engine.old [] [] }
     requires lawful { IsLawful (E.filter engine.old) }
     ensures runs { (given : List ℕ)

@@ -23,7 +23,7 @@ pub fn start<E: Engine + Drop, R: Source, W: Sink, M: Sink>(
     writer: &mut W,
     messages: &mut M,
 ) -> Outcome
-    requires fresh { IfOk engine (λ e. (E.ready e ≡ []) × E.is_open e × E.shows e [] []) }
+    requires fresh { IfOk engine (λ e. (E.ready e ≡ []) × E.shows e [] []) }
     requires lawful { IfOk engine (λ e. IsLawful (E.filter e)) }
     ensures runs { (filter : Filter) → IsLawful filter → IfOk engine (λ e. E.filter e ≡ filter)
         → Runs (result_by filter) filter

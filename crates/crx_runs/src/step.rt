@@ -23,12 +23,10 @@ pub(crate) fn step<E: Engine, R: Source, W: Sink, M: Sink>(
     messages: &mut M,
 ) -> Result<Option<bool>, Halt>
     requires drained { E.ready engine.old ≡ [] }
-    requires running { E.is_open engine.old }
     requires going { ((reading input.old).phase ≡ Phase.Open) ⊎ ((reading input.old).phase ≡ Phase.Ended) }
     requires next { (reading input.old).number ≡ E.taken engine.old }
     requires counted { IsWithinLimit (reading input.old) }
     ensures filter { E.filter engine.new ≡ E.filter engine.old }
-    ensures running { OnOk result (E.is_open engine.new) }
     ensures drained { OnOk result (E.ready engine.new ≡ []) }
     ensures counted { OnOk result (IsWithinLimit (reading input.new)) }
     ensures farther { IfOk result (λ o. IfSome o (λ _.

@@ -33,7 +33,6 @@ pub(crate) fn take_all<E: Engine, R: Source, W: Sink, M: Sink>(
     messages: &mut M,
 ) -> Work
     requires drained { E.ready engine.old ≡ [] }
-    requires running { E.is_open engine.old }
     requires shown { E.shows engine.old [] [] }
     requires first { reading input.old ≡ record { rest = []; passed = 0; number = 0; phase = Phase.Open } }
     requires nothing { (E.filter engine.old).so_far [] ≡ record { output = []; warnings = []; fault = None } }

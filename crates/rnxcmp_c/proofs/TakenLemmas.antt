@@ -75,7 +75,6 @@ module _ (task : Task) (old : Reader) (past : HandlePast) (output messages : Pen
   stands-by None runs = record {
     is_of = runs.is_of;
     drained = runs.drained;
-    takes = runs.takes;
     limit = runs.limit;
     going = record {
       shown = runs.going.shown;

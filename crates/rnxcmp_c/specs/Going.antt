@@ -31,10 +31,6 @@ use Rattle.rnxcmp_c.specs.declared.stop.Stop.TheVariants.{Fault, Limit}
 abbrev pub piece_line : List ℕ → Bool → InputLine
 piece_line bytes is_ended = line_of (record { bytes = bytes; is_ended = is_ended })
 
--- an engine takes a line, or the end: nothing that it made is left to be written, and its run is open
-abbrev pub IsReady : List (List ℕ) → Type 0 → Type 0
-IsReady ready is_open = (ready ≡ []) × is_open
-
 -- the same run goes on: its filter is the same, and so is the limit of its output
 abbrev pub IsSameRun : Filter → Filter → Held → Held → Type 0
 IsSameRun filter then old new = (then ≡ filter) × (new.limit ≡ old.limit)
@@ -291,9 +287,9 @@ GoesOnOrBreaks taken filter shows held past bytes =
 -- ---- any engine, with what is held beside it
 
 module _ {E : Type 0} (e : Ghosts E) where
-  -- it takes a line, or the end
+  -- it takes a line, or the end: nothing that it made is left to be written
   abbrev pub CanTake : E → Type 0
-  CanTake engine = IsReady (e.ready engine) (e.is_open engine)
+  CanTake engine = e.ready engine ≡ []
 
   -- a step keeps its run, and where the run isn't over, it takes what comes next
   abbrev pub KeepsItsRun : {A : Type 0} → E → E → Held → Held → Result A Stop → Type 0

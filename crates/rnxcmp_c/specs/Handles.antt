@@ -23,7 +23,7 @@ use Rattle.crx_filter.specs.ExpanderState.{expander_ready, expander_state}
 use Rattle.crx_filter.specs.ExpansionByLine.{expansion, expansion_seen}
 use Rattle.crx_runs.specs.declared.outcome.Outcome.{Outcome}
 use Rattle.crx_runs.specs.meaning.Runs.{FaultIs}
-use Rattle.rnxcmp_c.specs.Going.{IsGoing, IsLineEnded, IsReady}
+use Rattle.rnxcmp_c.specs.Going.{IsGoing, IsLineEnded}
 use Rattle.rnxcmp_c.specs.Past.{HandlePast, HidesFault, IsMadeByLines, IsShortOfMemory, StopsSoon}
 use Rattle.rnxcmp_c.specs.Past.{allowed_after, fed_with, filter_for, limit_for, memory_next, result_for}
 use Rattle.rnxcmp_c.specs.Past.{texts_made}
@@ -63,12 +63,9 @@ ready_of (Compacting c) = compactor_ready c
 ready_of (Expanding e) = expander_ready e
 ready_of (Checking c) = checker_ready c
 
-abbrev pub is_open_of : AnyEngine → Type 0
-is_open_of engine = ⊤
-
 -- it takes a line, or the end
 abbrev pub EngineIsReady : AnyEngine → Type 0
-EngineIsReady engine = IsReady (ready_of engine) (is_open_of engine)
+EngineIsReady engine = ready_of engine ≡ []
 
 -- its run goes on between two calls
 abbrev pub EngineGoesOn : AnyEngine → Held → HandlePast → Type 0
@@ -98,7 +95,6 @@ status_at_end (Checking c) warned = report_status c.direction.noted.not_standard
 pub record ReaderRuns (task : Task) (reader : Reader) (past : HandlePast) : Type 0 where
   pub is_of : IsOf task reader.engine
   pub drained : ready_of reader.engine ≡ []
-  pub takes : is_open_of reader.engine
   pub limit : reader.held.limit ≡ limit_for task
   pub going : IsGoing (engine_filter reader.engine) (shows_of reader.engine) reader.held past
   pub counted : reader.fed ≡ length past.fed
@@ -300,5 +296,4 @@ Ends task old new past answer = ReaderEndsBy task old new past answer old.outcom
 pub record IsFresh (task : Task) (engine : AnyEngine) : Type 0 where
   pub is_of : IsOf task engine
   pub drained : ready_of engine ≡ []
-  pub takes : is_open_of engine
   pub shown : shows_of engine [] []

@@ -61,9 +61,8 @@ loop-line-preserved g c =
             (λ ls. (so_far.0 ++ line ++ 10 ∷ []) ++ lines_text ls) (sym kept.0),
       ),
       record {
-        filter = kept.1 ∙ i.1.filter;
-        shows = λ ls notices h. kept.2 ls notices (i.1.shows ls notices h);
-        running = λ h. kept.3 (i.1.running h);
-        ended = λ ls h. kept.4 ls (i.1.ended ls h);
+        filter = kept.1.filter ∙ i.1.filter;
+        shows = λ ls notices h. kept.1.shows ls notices (i.1.shows ls notices h);
+        ended = λ ls h. kept.1.ended ls (i.1.ended ls h);
       },
     )

@@ -10,8 +10,8 @@ invariant-lines g l = ((lines : List InputLine) × g.E.Engine.shows l.engine lin
     g.R.Source l.initial.reader l.reader) (span g.W.Sink l.initial.writer l.writer) (span g.M.Sink
     l.initial.messages l.messages) (reading l.input) lines ((g.E.Engine.filter l.initial.engine).so_far lines)
     × (l.warned ≡ are_some ((g.E.Engine.filter l.initial.engine).so_far lines).warnings)) × (g.E.Engine.ready
-    l.engine ≡ []) × g.E.Engine.is_open l.engine × (g.E.Engine.filter l.engine ≡ g.E.Engine.filter
-    l.initial.engine) × IsWithinLimit (reading l.input)
+    l.engine ≡ []) × (g.E.Engine.filter l.engine ≡ g.E.Engine.filter l.initial.engine)
+    × IsWithinLimit (reading l.input)
 
 abbrev pub decreases-lines : goal.decreases-lines
 decreases-lines g l = INPUT_LIMIT - (reading l.input).passed

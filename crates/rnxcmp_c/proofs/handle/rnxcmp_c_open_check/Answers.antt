@@ -7,6 +7,5 @@ returns-in-Ok-new-clause-opened c =
     c.open.ensures.opened Check (record {
       is_of = tt;
       drained = made.drained;
-      takes = tt;
       shown = ((made.seen, made.knows), ap (λ s. s.number) made.seen);
     }) c.in-Ok.ensures

@@ -9,6 +9,5 @@ returns-in-Ok-new-2-clause-opened c =
     c.open.ensures.opened _ (record {
       is_of = ap compaction_filter (same ∙ c.in-Ok.ensures.value.0);
       drained = c.in-Ok-new-2.ensures.drained;
-      takes = tt;
       shown = ((seen ∙ ap (λ o. compaction_seen o []) (sym same), tt), ap (λ s. s.number) seen);
     }) c.in-Ok-new.ensures

@@ -37,9 +37,8 @@ bytes-preserved g c =
             (rw (one-less count left taken.count.0) taken.piece) (omega (arith, more, long)) low,
       ),
       c.take_to_line_end.ensures.keeps.0.0 ∙ i.1,
-      taken.keeps.1.0,
-      taken.keeps.1.1,
-      c.take_to_line_end.ensures.keeps.0.1 ∙ i.4,
+      taken.keeps.1,
+      c.take_to_line_end.ensures.keeps.0.1 ∙ i.3,
     )
 
 pub returns-in_err-count-clause-fed : goal.returns-in_err-count-clause-fed

@@ -12,7 +12,7 @@ invariant-bytes g l =
     → IsGoing (g.E.Engine.filter l.initial.engine) (g.E.Engine.shows l.initial.engine) l.initial.held past
     → StopsSoon (g.E.Engine.filter l.initial.engine) past l.initial.left (length done))) ×
     (g.E.Engine.filter l.engine ≡ g.E.Engine.filter l.initial.engine) × (g.E.Engine.ready l.engine ≡ [])
-    × g.E.Engine.is_open l.engine × (l.held.limit ≡ l.initial.held.limit)
+    × (l.held.limit ≡ l.initial.held.limit)
 
 abbrev pub decreases-bytes : goal.decreases-bytes
 decreases-bytes g l = length l.left

@@ -10,7 +10,7 @@ use Rattle.crx_filter.proofs.checking.CheckingDirection.go_on.Goals as goal
 pub returns-in_err-step-clause-reads : goal.returns-in_err-step-clause-reads
 returns-in_err-step-clause-reads c =
     let p = err_from_is_err_and c.from_residual.result c.from_residual.ensures.1 in
-    let drained = rw (← c.self.view_is) at c.requires.drained in
+    let drained = rw (← c.self.view_is) at c.requires.asked.drained in
     rw (← c.self.view_is, p.1, p.2, ← c.bytes.ensures.content) (refused-reads _ c.self.inside.reader
     c.take_row.new.reader
     c.self.inside.noted.totals c.bytes.result.now _ _ c.in_err-step.ensures.same
@@ -46,7 +46,7 @@ returns-clause-reads c =
     let takes = subst (λ t. TakesRinexLine (made_at before t (record { index = 0; tail = None })) before t
     c.in_ok-step.step c.take_row.new.reader) c.bytes.ensures.content
     (c.in_ok-step.ensures.takes (record { index = 0; tail = None })) in
-    let drained = rw (← c.self.view_is) at c.requires.drained in
+    let drained = rw (← c.self.view_is) at c.requires.asked.drained in
     rw (← c.self.view_is) (taken-reads _ before c.take_row.new.reader c.self.inside.noted.totals content _
     c.note.new.self.totals
     c.in_ok-step.step takes (c.note.ensures.totals before _ takes)

@@ -20,7 +20,7 @@ invariant_of-self-then-not-is_last c =
 
 pub returns-then-not-is_last-clause-reads : goal.returns-then-not-is_last-clause-reads
 returns-then-not-is_last-clause-reads c =
-    let drained = rw (← c.self.view_is) at c.requires.drained in
+    let drained = rw (← c.self.view_is) at c.requires.asked.drained in
     let row = c.in_ok-is_last.ensures.written in
     rw (← c.self.view_is, row.written, ← c.bytes.ensures.content) (moved-read (row-moves row _
     c.if-not-is_last.true).0 drained)

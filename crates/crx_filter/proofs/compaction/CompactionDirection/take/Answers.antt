@@ -27,7 +27,7 @@ invariant_of-self-in-Nothing c =
 
 pub returns-in-Nothing-clause-reads : goal.returns-in-Nothing-clause-reads
 returns-in-Nothing-clause-reads c =
-    let drained = rw (← c.self.view_is) at c.requires.drained in
+    let drained = rw (← c.self.view_is) at c.requires.asked.drained in
     let takes = rw c.in-Nothing.is at (c.in_ok-take.ensures.takes
     (record { index = c.self.inside.index; tail = c.self.inside.encoder.before })) in
     rw (← c.self.view_is, ← c.bytes-line.ensures.content) (moved-read takes.0 drained)
@@ -139,6 +139,5 @@ returns-in_default c =
       reads = event-read done;
       serves = served-closed _ _ _ (event-closed done);
       counted = omega (arith);
-      same = tt;
       knows = λ choices lines come known counted. tt;
     })

@@ -5,13 +5,14 @@ use Rattle.crx_filter.proofs.engine.Engine.end.Goals as goal
 pub returns-clause-concludes : goal.returns-clause-concludes
 returns-clause-concludes g c = λ lines taken.
     let come = after-lines g.D.Direction c.args.self.now
-    c.close.ensures.lawful c.close.ensures.chosen lines taken in
-    concludes c.close.ensures.lawful _ _ lines _ _ taken.0 (c.close.ensures.closing lines come taken.1).steps
+    c.close.ensures.goes.lawful c.close.ensures.goes.chosen lines taken in
+    concludes c.close.ensures.goes.lawful _ _ lines _ _ taken.0
+    (c.close.ensures.closing lines come taken.1).steps
 
 pub returns-clause-found : goal.returns-clause-found
 returns-clause-found g c = λ lines taken.
     let come = after-lines g.D.Direction c.args.self.now
-    c.close.ensures.lawful c.close.ensures.chosen lines taken in
+    c.close.ensures.goes.lawful c.close.ensures.goes.chosen lines taken in
     (c.close.ensures.closing lines come taken.1).found
 
 pub returns-clause-repeated : goal.returns-clause-repeated

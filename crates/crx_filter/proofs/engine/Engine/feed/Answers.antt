@@ -10,12 +10,12 @@ returns-clause-answers g c = λ lines notices taken awaited.
     let d = g.D.Direction in
     let before = c.args.self.now in
     let after = c.take_line-is_quiet.new.self in
-    let took = c.take_line-is_quiet.ensures in
+    let took = c.take_line-is_quiet.ensures.reads in
+    let goes = c.take_line-is_quiet.ensures.goes in
     let line = line_shown c.args.line in
     let given = sym (c.answer_given.ensures.value
     ∙ ap (λ (e : EngineParts _). answer_given c.take_line-is_quiet.result e.answer) c.self.view_is) in
-    engine-answers d c.args.self.now took.lawful c.take_line-is_quiet.ensures.chosen
-    after lines line (Content line.content)
+    engine-answers d c.args.self.now goes.lawful goes.chosen after lines line (Content line.content)
     c.answer_given.result
     (subst (λ (r : Result Step At). EngineNotes d before line r after) given took.notes)
     (subst (λ (r : Result Step At). Steps d.by_line (engine_seen d before) (Content line.content) r

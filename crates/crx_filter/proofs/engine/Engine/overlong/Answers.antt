@@ -1,17 +1,54 @@
-use Rattle.crx_filter.proofs.{Words.{inl, ap, ◌∙◌, List, ℕ, Overlong, step_made}, steps.EngineLemmas.repeats}
-use Rattle.crx_filter.{proofs.steps.EngineAnswers.{engine-answers, seen-long}, specs.EngineState.engine_seen}
+use Rattle.crx_filter.proofs.Words.{ap, ◌∙◌, sym, ◌+◌, ◌≡◌, inl, List, ℕ, At, Err, Overlong, Result}
+use Rattle.crx_filter.proofs.Words.{SeenEnded, step_made, true, InputLine}
+use Rattle.crx_filter.proofs.{steps.EngineAnswers.{engine-answers, seen-long}, steps.EngineLemmas.repeats}
+use Rattle.crx_filter.proofs.steps.EngineFaults.{long-failed, not-settled, notes-nothing}
+use Rattle.crx_base.specs.meaning.Lines.{is_long}
+use Rattle.crx_filter.specs.{DirectionParts.EngineParts, EngineState.{EngineGoes, EngineNotes, EngineSkips}}
+use Rattle.crx_filter.specs.EngineState.{engine_ready, engine_seen, engine_took}
+use Rattle.crx_filter.specs.declared.direction.Direction.{Ghosts}
+use Rattle.crx_runs.specs.{Engines.{Awaited, EngineAnswers, IsAwaited}, declared.engine.Step.Step}
 use Rattle.crx_filter.proofs.engine.Engine.overlong.Goals as goal
 
-pub returns-clause-answers : goal.returns-clause-answers
-returns-clause-answers g c = λ lines notices line taken awaited long.
-    let stops = c.skip.ensures.stops in
-    engine-answers g.D.Direction c.args.self.now c.skip.ensures.lawful
-    c.skip.ensures.chosen c.skip.new.self lines line
-    Overlong c.skip.result (c.skip.ensures.notes line) (inl (ap (λ (ls : List (List ℕ)).
-    step_made c.skip.result ls (engine_seen g.D.Direction c.skip.new.self)) stops.drained ∙ stops.steps))
-    notices
-    stops.choices (seen-long line long) taken awaited
+-- an engine that has stepped over a line that is too long, and noted it, answers as its filter says
+module _ {D : Type 0} (d : Ghosts D) (before after : EngineParts D) (result : Result Step At)
+    (stops : EngineSkips d before result after) where
+  answers-long : EngineGoes d before → ((line : InputLine) → EngineNotes d before line result after)
+      → (lines : List InputLine) (notices : List Awaited) (line : InputLine)
+      → engine_took d before lines notices → IsAwaited notices line → is_long line ≡ true
+      → EngineAnswers (d.filter before.options) (engine_took d after) (engine_ready d after) lines notices
+      line result
+  answers-long goes notes lines notices line taken awaited long =
+      engine-answers d before goes.lawful goes.chosen after lines line Overlong result (notes line)
+      (inl (ap (λ (ls : List (List ℕ)). step_made result ls (engine_seen d after)) stops.drained
+      ∙ stops.steps)) notices stops.choices (seen-long line long) taken awaited
 
-pub returns-clause-repeated : goal.returns-clause-repeated
-returns-clause-repeated g c = λ at is.
-    repeats g.D.Direction.by_line _ _ Overlong _ _ at (inl c.skip.ensures.stops.steps) is
+  repeats-long : (at : At) → (engine_seen d before).phase ≡ SeenEnded at → result ≡ Err at
+  repeats-long at is = repeats d.by_line _ _ Overlong _ _ at (inl stops.steps) is
+
+pub returns-in_default : goal.returns-in_default
+returns-in_default g c =
+    let d = g.D.Direction in
+    let then = c.fail.new.self in
+    let law = c.stage-stage.ensures.lawful c.self.inside.options c.self.invariant.3 in
+    let goes : EngineGoes d c.args.self.now =
+    rw (← c.self.view_is) (record { chosen = c.self.invariant.3; lawful = law }) in
+    let stops : EngineSkips d c.args.self.now then.answer then = rw (← c.self.view_is) (record {
+      steps = long-failed d.by_line law.too_long_first law.too_long_next _ c.self.inside.number
+          c.args.number c.stage-stage.result (d.parts c.self.inside.direction) _ _
+          (c.fail.ensures.fails _ c.may_skip.ensures.value c.is_in_epoch-is_open.ensures.value)
+          (c.requires.next ∙ ap (λ (e : EngineParts _). e.number + 1) (sym c.self.view_is))
+          c.stage-stage.ensures.value c.stage-stage.ensures.held
+          (not-settled c.stage-stage.result c.in_default.not-Looking c.in_default.not-Closed
+          c.in_default.not-Ended);
+      ended = c.fail.ensures.ended;
+      drained = c.fail.ensures.drained;
+      choices = c.fail.ensures.options;
+    }) in
+    let notes : (line : InputLine) → EngineNotes d c.args.self.now line then.answer then = λ line.
+    rw (← c.self.view_is) (λ lines counted come known. notes-nothing _ c.self.inside.options.skip _
+    c.fail.ensures.skips) in
+    rw (ap (λ (e : EngineParts _). e.answer) c.self-in_default.view_is) (record {
+      stops = stops;
+      answers = answers-long d c.args.self.now then then.answer stops goes notes;
+      repeated = repeats-long d c.args.self.now then then.answer stops;
+    })

@@ -3,13 +3,12 @@ use Rattle.crx_filter.specs.declared.stage.Stage.TheVariants.{Open}
 use Rattle.crx_filter.proofs.{Words.begins_epoch, steps.EngineFaults.{notes-nothing, refused-line}}
 use Rattle.crx_filter.proofs.engine.Engine.take_line.Goals as goal
 
-pub returns-in-Err-clause-takes : goal.returns-in-Err-clause-takes
-returns-in-Err-clause-takes g c = rw (← c.self.view_is) (refused-line g.D.Direction.by_line _ _ _
-    c.in-Err.fault c.begins_epoch.result _ (g.D.Direction.parts c.self.inside.direction) _ _ _ _ _ _
-    (c.fail.ensures.fails Open refl refl) (sym c.in-Open.ensures.value) c.in-Open.ensures.held
-    (sym (c.begins_epoch.ensures.value ∙ ap begins_epoch c.bytes.ensures.content)) c.in-Err.ensures.reads
-    c.fail.ensures.drained c.fail.ensures.ended c.fail.ensures.options)
-
-pub returns-in-Err-clause-notes : goal.returns-in-Err-clause-notes
-returns-in-Err-clause-notes g c = rw (← c.self.view_is)
-    (λ lines counted come known. notes-nothing _ c.self.inside.options.skip _ c.fail.ensures.skips)
+pub returns-in-Err-clause-reads : goal.returns-in-Err-clause-reads
+returns-in-Err-clause-reads g c = rw (← c.self.view_is) (record {
+  takes = refused-line g.D.Direction.by_line _ _ _
+      c.in-Err.fault c.begins_epoch.result _ (g.D.Direction.parts c.self.inside.direction) _ _ _ _ _ _
+      (c.fail.ensures.fails Open refl refl) (sym c.in-Open.ensures.value) c.in-Open.ensures.held
+      (sym (c.begins_epoch.ensures.value ∙ ap begins_epoch c.bytes.ensures.content)) c.in-Err.ensures.reads
+      c.fail.ensures.drained c.fail.ensures.ended c.fail.ensures.options;
+  notes = λ lines counted come known. notes-nothing _ c.self.inside.options.skip _ c.fail.ensures.skips;
+})

@@ -1,23 +1,30 @@
 use Rattle.crx_lines.specs.Reading.{line_shown}
-use Rattle.crx_filter.proofs.{Words.{Content, refl}, steps.EngineAnswers.{engine-answers, seen-within}}
+use Rattle.crx_filter.proofs.{Words.{Content, ap, refl}, steps.EngineAnswers.{engine-answers, seen-within}}
 use Rattle.crx_filter.proofs.steps.StepCounts.{answers-counted, steps-counted, steps-drained}
 use Rattle.crx_filter.specs.EngineState.{engine_ready, engine_took}
 use Rattle.crx_filter.proofs.engine.EngineEngine.take.Goals as goal
 
-pub returns-clause-drained : goal.returns-clause-drained
-returns-clause-drained g c = steps-drained g.D.Direction.by_line _ _ _ _ _ c.take_line.ensures.takes.steps
+pub returns-clause-stepped : goal.returns-clause-stepped
+returns-clause-stepped g c =
+    let takes = c.take_line.ensures.reads.takes in
+    record {
+      filter = ap g.D.Direction.filter takes.choices;
+      drained = steps-drained g.D.Direction.by_line _ _ _ _ _ takes.steps;
+      nothing = takes.nothing;
+    }
 
 pub returns-clause-count : goal.returns-clause-count
-returns-clause-count g c = steps-counted g.D.Direction.by_line _ _ _ _ _ c.take_line.ensures.takes.steps
+returns-clause-count g c = steps-counted g.D.Direction.by_line _ _ _ _ _ c.take_line.ensures.reads.takes.steps
 
 pub returns-clause-answers : goal.returns-clause-answers
 returns-clause-answers g c = λ lines notices shown awaited.
     let d = g.D.Direction in
     let line = line_shown c.args.line in
-    let took = c.take_line.ensures in
+    let took = c.take_line.ensures.reads in
+    let goes = c.take_line.ensures.goes in
     answers-counted (d.filter c.args.self.now.options) (engine_took d c.take_line.new.self) _ _
     (engine_ready d c.take_line.new.self) lines notices line _ shown.1 (returns-clause-count g c)
-    (engine-answers d c.args.self.now took.lawful c.take_line.ensures.chosen
+    (engine-answers d c.args.self.now goes.lawful goes.chosen
     c.take_line.new.self lines line (Content line.content)
     _ took.notes took.takes.steps notices took.takes.choices (seen-within line line.content c.args.line.short
     refl) shown.0 awaited)
