@@ -89,6 +89,7 @@ impl Noted {
     }
 
     /// Notes a line that the reader has taken: what it adds to the totals, and whether it is standard.
+    #[inline(always)]
     fn note(&mut self, reader: &RinexReader, step: RinexStep, line: Line<'_>)
         requires bounded { AreBounded self.old.totals (self.old.totals.epochs + self.old.totals.events) }
         requires within { self.old.totals.epochs + self.old.totals.events < INPUT_LIMIT }
@@ -128,6 +129,7 @@ pub fn no_options() -> Options
 }
 
 /// Takes a line of an open epoch. `OutOfMemory` comes only at a good line of a new satellite.
+#[inline(always)]
 fn take_row(
     reader: &mut RinexReader,
     names: &mut Identifiers,
@@ -216,10 +218,12 @@ impl Direction for Checking {
         })
     }
 
+    #[inline(always)]
     fn stage(&self) -> Stage {
         self.reader.stage
     }
 
+    #[inline(always)]
     fn go_on(&mut self, line: Line<'_>) -> Result<bool, Fault> {
         let step = take_row(&mut self.reader, &mut self.names, line.bytes())?;
         self.noted.note(&self.reader, step, line);

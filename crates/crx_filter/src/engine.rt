@@ -1,7 +1,7 @@
 //! Engines of every direction: they take the lines of an input one at a time, and the lines to be written are borrowed from them.
 
 ghost use Rattle.std.specs.Prelude.{◌≡◌, ◌≤◌, true};
-ghost use Rattle.crx_base.specs.declared.limits.TheConstants.{INPUT_LIMIT};
+ghost use Rattle.crx_base.specs.declared.limits.TheConstants.{INPUT_LIMIT, LINE_LIMIT};
 ghost use Rattle.crx_filter.specs.DirectionParts.{EngineParts};
 
 use crate::direction::Direction;
@@ -35,7 +35,7 @@ impl<D: Direction> Model for Engine<D> {
 }
 
 impl<D: Direction> Engine<D> {
-    ghost use Rattle.std.specs.Prelude.{◌+◌, ◌<◌, ◌↔◌, List, [], drop, slice_get, OnErr, IfOk, IfErr, Err, IsTrue, false};
+    ghost use Rattle.std.specs.Prelude.{◌+◌, ◌<◌, ◌↔◌, List, [], drop, length, slice_get, OnErr, IfOk, IfErr, Err, IsTrue, false};
     ghost use Rattle.std.specs.Borrow.{sem};
     ghost use Rattle.std.specs.Io.BufRead.{Rests};
     ghost use Rattle.std.specs.Option.{option_copied};
@@ -108,7 +108,7 @@ impl<D: Direction> Engine<D> {
         ensures goes { EngineGoes D.Direction self.old }
     {
         let Stage::Open = self.direction.stage() else {
-            return self.take_between(line);
+            return self.take_between(line.bytes(), line.number(), line.plain());
         };
         let taken = self.direction.go_on(line);
         self.number += 1;
@@ -126,14 +126,17 @@ impl<D: Direction> Engine<D> {
         }
     }
 
-    /// Takes the content of a line where no epoch is open as [`Engine::take_line`] does. An answer that took its place within that one
-    /// would be set to zero at every line.
+    /// Takes a line where no epoch is open as [`Engine::take_line`] does, by its parts. An answer that took its place within that one, or a
+    /// place for the line, would be set to zero at every line.
     #[inline(never)]
-    fn take_between(&mut self, line: Line<'_>) -> bool
+    fn take_between(&mut self, content: &[u8], number: u64, is_plain: bool) -> bool
         requires closed { is_open_stage (D.parts self.old.direction).stage ≡ false }
-        requires next { EngineAwaits D.Direction self.old (line_number line) }
-        ensures reads { EngineReads D.Direction self.old (line_shown line.entry) result self.new }
+        requires short { length content.now ≤ LINE_LIMIT }
+        requires next { EngineAwaits D.Direction self.old number }
+        ensures reads { EngineReads D.Direction self.old
+            (record { content = content.now; is_plain = is_plain }) result self.new }
     {
+        let line = Line::of(content, number, is_plain);
         let stage = self.direction.stage();
         if let Stage::Ended(at) = stage {
             self.number += 1;
@@ -150,7 +153,7 @@ impl<D: Direction> Engine<D> {
             }
             Err(fault) => {
                 let is_open = stage.is_in_epoch();
-                self.fail(stage.may_skip(), is_open, fault, begins_epoch(line.bytes()));
+                self.fail(stage.may_skip(), is_open, fault, begins_epoch(content));
                 false
             }
         }
