@@ -1,15 +1,14 @@
 -- What a checker counts, and what it prints, by what a line makes.
-use Rattle.crx_filter.proofs.{RinexSteps.in-epoch, Words.{common_steps, arith, ℕ, ◌≡◌, Some, Bool, true}}
-use Rattle.crx_filter.proofs.Words.{List, [], ◌∷◌, ◌++◌, refl, bytes_eq, map-append, last_line}
-use Rattle.crx_filter.proofs.Words.{ObservationHead, OpenEpoch, Row, Epoch as ObservationEpoch, printed_epoch}
-use Rattle.crx_filter.proofs.Words.{printed_row, epoch_by_rows, Made, reader_phase, TakesRinexLine, Totals}
-use Rattle.crx_filter.proofs.Words.{printed_made, RinexReader, RinexStep, Header, false-true}
+use Rattle.crx_filter.specs.declared.rinex_reader.RinexStep.TheVariants as Steps
+use Rattle.crx_filter.proofs.Words.{common_steps, arith, ℕ, ◌≡◌, Some, Bool, true, List, [], ◌∷◌, ◌++◌, refl}
+use Rattle.crx_filter.proofs.Words.{bytes_eq, map-append, last_line, ObservationHead, OpenEpoch, Row}
+use Rattle.crx_filter.proofs.Words.{Epoch as ObservationEpoch, printed_epoch, printed_row, epoch_by_rows}
+use Rattle.crx_filter.proofs.Words.{Made, reader_phase, TakesRinexLine, Totals, printed_made, RinexReader}
+use Rattle.crx_filter.proofs.Words.{RinexStep, Header, false-true}
+use Rattle.{crx_compact.proofs.Characters.bytes_eq-same, crx_filter.proofs.RinexSteps.in-epoch}
 use Rattle.crx_filter.specs.{CheckByLine.{totals_with, totals_made}, CompactionByLine.is_before_header}
 use Rattle.crx_filter.specs.{Totals.{HasPrinted, IsLastRow}, meaning.Standard.version_in}
-use Rattle.std.proofs.lemmas.Option.{same_Some}
-use Rattle.crx_rinex.specs.meaning.Printing.{printed_head}
-use Rattle.crx_compact.proofs.Characters.{bytes_eq-same}
-use Rattle.crx_filter.specs.declared.rinex_reader.RinexStep.TheVariants as Steps
+use Rattle.{crx_rinex.specs.meaning.Printing.printed_head, std.proofs.lemmas.Option.same_Some}
 
 -- the header's first line says the version
 pub first-line : (totals : Totals) (made : Made ObservationEpoch OpenEpoch) (before after : RinexReader)
@@ -21,14 +20,10 @@ first-line totals made before after line step is_first is on takes =
 
 -- ---- the printed line
 
-pub not-none : {X : Type 0} (lines : List (List ℕ)) (line : List ℕ) → [] ≡ lines ++ line ∷ [] → X
-not-none [] line e = absurd (cc)
-not-none (first ∷ lines) line e = absurd (cc)
-
 -- so nothing is printed for a line that was passed over
 pub none-passed : {X : Type 0} (made : Made ObservationEpoch OpenEpoch) (before after : RinexReader)
     (line : List ℕ) → TakesRinexLine made before line Steps.Nothing after → HasPrinted made → X
-none-passed made before after line takes some = grind (arith, common_steps, not-none, false-true)
+none-passed made before after line takes some = grind (arith, common_steps, false-true)
 
 -- the line of an epoch, where none of its rows has come
 pub begun-printed : (made : Made ObservationEpoch OpenEpoch) (before after : RinexReader) (line : List ℕ)

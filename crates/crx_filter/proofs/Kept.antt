@@ -1,14 +1,12 @@
 -- What runs bring back, save and judge follows from what they are, by the laws.
-use Rattle.crx_filter.proofs.Words
-use Words.{common_steps, arith, ℕ, ◌≡◌, List, ◌++◌, Option, None, sym, subst, ◌∙◌, lines_of, At}
-use Words.{Choices, compacted, expanded, FilterResult, findings_of, checked_by, checked, Device, IsResult}
-use Rattle.crx_filter.proofs.{damage.DamageStays.saved-lines, standard.CheckStandard.named-where_not}
-use Rattle.crx_filter.proofs.standard.CheckStandard.{standard-exactly_where_same}
+use Rattle.crx_filter.proofs.Words.{common_steps, arith, ℕ, ◌≡◌, List, ◌++◌, Option, None, sym, subst, ◌∙◌}
+use Rattle.crx_filter.proofs.Words.{lines_of, At, Choices, compacted, expanded, FilterResult, findings_of}
+use Rattle.crx_filter.proofs.{Words.{checked_by, checked, Device, IsResult}, damage.DamageStays.saved-lines}
+use Rattle.crx_filter.proofs.standard.CheckStandard.{named-where_not, standard-exactly_where_same}
 use Rattle.crx_filter.proofs.wayback.{Standard.{normal-comes_back, standard-comes_back}, WayBack.comes-back}
 use Rattle.crx_filter.specs.meaning.Promises.{IsPromiseKept, BringsBackWhatWasCompacted, SavesAllElse}
 use Rattle.crx_filter.specs.meaning.{Promises.JudgesStandard, Standard.{Findings, report_status}}
-use Rattle.std.specs.Prelude.{◌↔◌}
-use Rattle.crx_runs.specs.meaning.{Filters.Filter, Runs.RunsAs, Spans.Input}
+use Rattle.{crx_runs.specs.meaning.{Filters.Filter, Runs.RunsAs, Spans.Input}, std.specs.Prelude.◌↔◌}
 
 -- a promise that the result of each whole input keeps is kept by a run
 pub kept : (result_of : List ℕ → FilterResult) (filter : Filter) (promise : List ℕ → Type 0) (input : Input)

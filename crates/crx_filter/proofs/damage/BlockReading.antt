@@ -1,18 +1,17 @@
 -- The reading of a block of compact text whose lines but the first don't begin with >: some epochs, and then
 -- it ends between two units, inside an epoch, or, after a warning, looking for a line that begins with >.
-use Rattle.crx_filter.proofs.Words
-use Words.{common_steps, ℕ, zero, suc, ◌≡◌, ◌+◌, ◌<◌, max, ◌⊎◌, inl, inr, true, false, List, [], ◌∷◌, ◌++◌}
-use Words.{length, drop, refl, ap, sym, ◌∙◌, subst, arith, append_assoc, ⊤, AllByRecursion, length-drop}
-use Words.{character_at, ReadLine, Content, Overlong, At, Fault, Truncated, begins_epoch, is_event_flag}
-use Words.{is_event_line, Place, Here, Wrong, Wanted, FileUnit, Observation, ReadEpoch, epoch_at, Item}
-use Words.{Accepted, Warned, types_in_force, Reading, AtLines, Looking, is_skipped, looked_for}
-use Words.{reading_within, reading_from, is_skippable, raws_kept, as_observation, compact_epoch_place}
-use Words.{compact_place, IsBetweenUnits}
-use Rattle.crx_filter.proofs.{damage.CutOff.epoch-cut, following.Expansion.observation-wanted}
-use Rattle.crx_filter.proofs.reading.{Each.all-drop, EpochFaults.{IsSkippableAt, epoch-skippable}}
-use Rattle.crx_filter.proofs.reading.{EpochFaults.place-observation, ForwardCompact.compact-forward}
-use Rattle.crx_filter.proofs.reading.Resuming.{by_place, here-within, wrong-stays, within-here, within-wrong}
-use Rattle.crx_filter.proofs.reading.Resuming.{within-wanted, fault-skipped}
+use Rattle.crx_filter.proofs
+use proofs.Words.{common_steps, ℕ, zero, suc, ◌≡◌, ◌+◌, ◌<◌, max, ◌⊎◌, inl, inr, true, false, List, [], ◌∷◌}
+use proofs.Words.{◌++◌, length, drop, refl, ap, sym, ◌∙◌, subst, arith, append_assoc, ⊤, AllByRecursion}
+use proofs.Words.{length-drop, character_at, ReadLine, Content, Overlong, At, Fault, Truncated, begins_epoch}
+use proofs.Words.{is_event_flag, is_event_line, Place, Here, Wrong, Wanted, FileUnit, Observation, ReadEpoch}
+use proofs.Words.{epoch_at, Item, Accepted, Warned, types_in_force, Reading, AtLines, Looking, is_skipped}
+use proofs.Words.{looked_for, reading_within, reading_from, is_skippable, raws_kept, as_observation}
+use proofs.Words.{compact_epoch_place, compact_place, IsBetweenUnits}
+use proofs.{damage.CutOff.epoch-cut, following.Expansion.observation-wanted}
+use proofs.reading.{Each.all-drop, EpochFaults.{IsSkippableAt, epoch-skippable, place-observation}}
+use proofs.reading.{ForwardCompact.compact-forward, Resuming.{by_place, here-within, wrong-stays}}
+use proofs.reading.Resuming.{within-here, within-wrong, within-wanted, fault-skipped}
 
 -- ---- the lines of a block
 

@@ -1,15 +1,14 @@
 -- After a damaged block: reading goes on at the next line that begins with >, with at most one warning before
 -- it.
-use Rattle.crx_filter.proofs.Words
-use Words.{ℕ, suc, ◌≡◌, ◌+◌, ◌≤◌, max, inl, inr, true, false, List, [], ◌∷◌, ◌++◌, length, drop, Some, None}
-use Words.{refl, ap, ◌∙◌, arith, length-append, drop-append_seam, ReadLine, Content, Overlong, At, Truncated}
-use Words.{begins_epoch, is_event_line, Wanted, ReadEpoch, Item, Warned, types_in_force, Reading}
-use Words.{WholeReading, AtLines, is_skipped, looked_for, reading_within, reading_from, ended_with}
-use Words.{ended_reading, continued_reading, compact_place, IsBetweenUnits}
-use Rattle.crx_filter.proofs.reading.Resuming.{enough-units, within-wrong, fault-skipped, looked-here}
-use Rattle.crx_filter.proofs.reading.ForwardCompact.{compact-forward}
-use Rattle.crx_filter.proofs.damage.BlockReading.{IsBlockText, EndsBlock, IsBlockRead, with_reads}
-use Rattle.crx_filter.proofs.damage.BlockReading.{reads-between, skipped-here, place-cut}
+use Rattle.crx_filter.proofs
+use proofs.Words.{ℕ, suc, ◌≡◌, ◌+◌, ◌≤◌, max, inl, inr, true, false, List, [], ◌∷◌, ◌++◌, length, drop, Some}
+use proofs.Words.{None, refl, ap, ◌∙◌, arith, length-append, drop-append_seam, ReadLine, Content, Overlong}
+use proofs.Words.{At, Truncated, begins_epoch, is_event_line, Wanted, ReadEpoch, Item, Warned, types_in_force}
+use proofs.Words.{Reading, WholeReading, AtLines, is_skipped, looked_for, reading_within, reading_from}
+use proofs.Words.{ended_with, ended_reading, continued_reading, compact_place, IsBetweenUnits}
+use proofs.damage.BlockReading.{IsBlockText, EndsBlock, IsBlockRead, with_reads, reads-between, skipped-here}
+use proofs.{damage.BlockReading.place-cut, reading.ForwardCompact.compact-forward}
+use proofs.reading.Resuming.{enough-units, within-wrong, fault-skipped, looked-here}
 
 -- some warnings after these items, the newest first
 abbrev pub with_warnings : List At → List (Item ReadEpoch) → List (Item ReadEpoch)

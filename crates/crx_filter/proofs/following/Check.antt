@@ -41,6 +41,5 @@ pub check-end : (lines : List ReadLine) → IsEndedBy (printed_items (rinex_read
     (seen_of checking rinex_open totals_of no_choices (length lines) (rinex_reading false lines)))
 check-end lines =
     let r = rinex_reading false lines in
-    next-end _ checking rinex_open totals_of printed_after no_choices check-carried_out r.items r.stop
-    (length lines)
+    next-end check-carried_out r.items r.stop (length lines)
     (reading-stopped rinex_place rinex-forward false [] 1 (length lines + 1) lines (omega arith))

@@ -2,21 +2,16 @@
 -- and then
 -- its report.
 use Rattle.crx_filter.proofs.Words
-use Words.{common_steps, arith, ℕ, ◌≡◌, false, List, [], ◌∷◌, map, Option, Some, None, refl}
-use Words.{ap, sym, subst, ◌∙◌, reverse, map-append, length-map, InputLine, ReadLine, seen, At, Choices}
-use Words.{Count, Epoch}
-use Words.{lines_text, with_next, noticed_by, failed_by, is_again, Completes, Made, Seen, Phase, OpenEpoch}
-use Words.{Fed}
-use Words.{fed, made_in, step_of_made, seen_next, seen_end, SeenStep, Totals, checking, check_by_line}
-use Words.{check_reading, check_filter, no_choices, whole_reading_of, findings_of, false-true, InFirstLines}
-use Words.{printed_unit}
-use Rattle.crx_filter.proofs.{Pending.{failed-lines, noticed-lines}, standard.CheckEnded.check-ended}
-use Rattle.crx_filter.proofs.following.CheckedOn.{one-on, same-seen}
-use Rattle.crx_filter.proofs.following.{Following.{fed-once, seen_in}, MemoryOfRinex.check-allowed}
+use Words.{common_steps, arith, ℕ, ◌≡◌, false, List, [], ◌∷◌, map, Option, Some, None, refl, ap, sym, ◌∙◌}
+use Words.{reverse, map-append, length-map, InputLine, ReadLine, seen, At, Choices, Count, Epoch, lines_text}
+use Words.{with_next, noticed_by, failed_by, is_again, Made, Seen, Phase, OpenEpoch, Fed, fed, made_in}
+use Words.{step_of_made, seen_next, seen_end, SeenStep, Totals, checking, check_by_line, check_reading}
+use Words.{check_filter, no_choices, whole_reading_of, findings_of, false-true, InFirstLines}
+use Rattle.crx_filter.proofs.following.{CheckedOn.{one-on, same-seen}, Following.{fed-once, seen_in}}
+use Rattle.crx_filter.proofs.{following.MemoryOfRinex.check-allowed, standard.CheckEnded.check-ended}
 use Rattle.crx_filter.specs.EngineLaws.{EndsLineByLine, FollowsBy, GoesLineByLine}
 use Rattle.crx_filter.specs.LineByLine.{seen_end_with, fault_at_end_in}
-use Rattle.crx_filter.specs.meaning.Directions.{report_unless}
-use Rattle.crx_filter.specs.meaning.Standard.{Findings, report_lines}
+use Rattle.crx_filter.specs.meaning.{Directions.report_unless, Standard.{Findings, report_lines}}
 
 -- ---- a step
 
@@ -34,27 +29,15 @@ pub record IsQuiet (step reads : SeenStep OpenEpoch Totals) : Type 0 where
   pub once : is_again step.answer ≡ false
   pub handed_out : step.handed_out ≡ []
 
-made-quiet : (number : ℕ) (phase : Phase OpenEpoch) (types : List Count) (kept : Totals) (line : ReadLine)
+pub made-quiet : (number : ℕ) (phase : Phase OpenEpoch) (types : List Count) (kept : Totals) (line : ReadLine)
     (made : Made Epoch OpenEpoch)
     → IsQuiet (step_of_made check_by_line (seen_in no_choices number phase types kept) line made)
     (step_of_made checking (seen_in no_choices number phase types kept) line made)
-made-quiet number phase types kept line (Completes unit) = record {
-  next = refl;
-  failed = sym (failed-lines (printed_unit unit));
-  noticed = refl;
-  once = refl;
-  handed_out = refl;
-}
-made-quiet number phase types kept line made =
-    record { next = refl; failed = refl; noticed = refl; once = refl; handed_out = refl }
+made-quiet number phase types kept line made = grind (arith, common_steps)
 
 pub step-quiet : (lines : List ReadLine) (line : ReadLine) → IsQuiet
     (seen_next check_by_line (check_reading lines) line) (seen_next checking (check_reading lines) line)
-step-quiet lines line =
-    let s = check_reading lines in
-    subst (λ (m : Made Epoch OpenEpoch). IsQuiet (step_of_made check_by_line s line m)
-    (seen_next checking s line)) (sym (made-alike s.phase s.types s.kept line))
-    (made-quiet s.number s.phase s.types s.kept line (made_in checking s.phase s.types s.kept line))
+step-quiet lines line = grind (arith, common_steps, made-alike, made-quiet)
 
 -- ---- the end
 
@@ -70,7 +53,7 @@ end-reported : (closing : List (List ℕ)) (number : ℕ) (phase : Phase OpenEpo
     (seen_in no_choices number phase types kept)) (seen_end checking (seen_in no_choices number phase types
     kept))
 end-reported closing number phase types kept =
-    grind (arith, common_steps, failed-lines, noticed-lines, seen_end, seen_end_with, fault_at_end_in)
+    grind (arith, common_steps, seen_end, seen_end_with, fault_at_end_in)
 
 report-text : (found : Findings) (o : Option At) (handed_out : List (List ℕ))
     → (o ≡ None → handed_out ≡ report_lines found) → ((at : At) → o ≡ Some at → handed_out ≡ [])

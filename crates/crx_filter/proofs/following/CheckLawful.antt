@@ -1,13 +1,11 @@
 -- A check as a filter: a fault of the lines so far is that of all lines.
 use Rattle.crx_filter.proofs.Words.{◌≡◌, false, [], ◌++◌, map, Some, refl, ap, sym, ◌∙◌, map-append, seen}
 use Rattle.crx_filter.proofs.Words.{Epoch, WholeReading, IsLawful, whole_rinex, whole_reading_of, findings_of}
-use Rattle.crx_filter.proofs.{Words.check_filter, reading.FineReadings.{rinex-found, rinex-found-at-end}}
-use Rattle.crx_filter.proofs.Words.{common_steps, arith, ℕ, List, Option, None, At, Device, append-nil}
-use Rattle.crx_filter.proofs.Words.{lines_of}
-use Rattle.crx_filter.proofs.Words.{checked, whole_of}
-use Rattle.crx_filter.specs.meaning.Standard.{report_status}
-use Rattle.crx_runs.specs.{Runs.result_by, meaning.Runs.RunsAs, meaning.Spans.Input}
-use Rattle.crx_filter.{proofs.reading.StaysEnded.rinex-stays, specs.meaning.Directions.report_unless}
+use Rattle.crx_filter.proofs.Words.{check_filter, common_steps, arith, ℕ, List, Option, None, At, Device}
+use Rattle.crx_filter.proofs.Words.{append-nil, lines_of, checked, whole_of}
+use Rattle.crx_filter.proofs.reading.{FineReadings.{rinex-found, rinex-found-at-end}, StaysEnded.rinex-stays}
+use Rattle.crx_filter.specs.meaning.{Directions.report_unless, Standard.report_status}
+use Rattle.crx_runs.specs.{Runs.result_by, meaning.{Runs.RunsAs, Spans.Input}}
 
 pub check-lawful : IsLawful check_filter
 check-lawful = record {

@@ -8,7 +8,7 @@ use Words.{is_standard_line, first_not_standard, Totals, checking, totals_of, pr
 use Words.{earliest, CheckSeen, no_choices, check_seen, OpenEpoch}
 use Rattle.crx_filter.proofs.following.{Check.check-carried_out, Following.fed-once, MoreLines.more-line}
 use Rattle.crx_filter.proofs.{reading.StaysEnded.rinex-stays, standard.CheckLines.{phase-reached, line-grows}}
-use Rattle.crx_filter.{proofs.standard.CheckLines.never-again, specs.CheckingLaws.IsCheckedOn}
+use Rattle.crx_filter.specs.CheckingLaws.{IsCheckedOn}
 
 -- ---- what is seen of the lines
 
@@ -22,7 +22,7 @@ same-seen lines = cc (length-map lines seen)
 
 pub once-again : (lines : List ReadLine) (line : ReadLine)
     → is_again (seen_next checking (reading_seen lines) line).answer ≡ false
-once-again lines line = grind (arith, common_steps, reading_seen, never-again, made_in, checking)
+once-again lines line = grind (arith, common_steps, reading_seen, made_in, checking)
 
 -- the printed lines of a reading
 abbrev pub printed_of : List ReadLine → List (List ℕ)
@@ -67,23 +67,14 @@ one-on lines line =
 
 -- ---- as many lines are printed as have come
 
-one-less : (lines : List ReadLine) (line : ReadLine)
-    → fault_of_stop (rinex_reading false (lines ++ line ∷ [])).stop ≡ None → (o : Option At) → fault_of_stop
-    (rinex_reading false lines).stop ≡ o → fault_of_stop (rinex_reading false lines).stop ≡ None
-one-less lines line none None e = e
-one-less lines line none (Some at) e =
-    let stays = rinex-stays false lines (line ∷ []) at e in
-    absurd (none-some at (cc (none, stays.same, e)))
-
-good-before : (lines : List ReadLine) (line : ReadLine) → fault_of_stop (rinex_reading false
-    (lines ++ line ∷ [])).stop ≡ None → fault_of_stop (rinex_reading false lines).stop ≡ None
-good-before lines line none = one-less lines line none (fault_of_stop (rinex_reading false lines).stop) refl
-
-all-before : (more lines : List ReadLine) → fault_of_stop (rinex_reading false (lines ++ more)).stop ≡ None
+-- no fault after more lines, none before them
+good-before : (lines more : List ReadLine) → fault_of_stop (rinex_reading false (lines ++ more)).stop ≡ None
     → fault_of_stop (rinex_reading false lines).stop ≡ None
-all-before [] lines none = rw (← append-nil lines) none
-all-before (line ∷ more) lines none = good-before lines line (all-before more (lines ++ line ∷ [])
-    (rw (append_assoc lines (line ∷ []) more) none))
+good-before lines more none = by_fault (fault_of_stop (rinex_reading false lines).stop) refl
+  where
+    by_fault : (o : Option At) → fault_of_stop (rinex_reading false lines).stop ≡ o → o ≡ None
+    by_fault None e = refl
+    by_fault (Some at) e = absurd (none-some at (cc (none, (rinex-stays false lines more at e).same, e)))
 
 as-many-on : (more lines : List ReadLine) → length (printed_of lines) ≡ length lines → fault_of_stop
     (rinex_reading false (lines ++ more)).stop ≡ None → length (printed_of (lines ++ more))
@@ -93,7 +84,7 @@ as-many-on (line ∷ more) lines h none =
     let same = append_assoc lines (line ∷ []) more in
     let good = subst (λ ls. fault_of_stop (rinex_reading false ls).stop ≡ None) (sym same) none in
     let first : length (printed_of (lines ++ line ∷ [])) ≡ length (lines ++ line ∷ []) = ap length ((one-on
-    lines line).printed (all-before more (lines ++ line ∷ []) good)) ∙ length-append (printed_of lines)
+    lines line).printed (good-before (lines ++ line ∷ []) more good)) ∙ length-append (printed_of lines)
     (given_back lines line ∷ []) ∙ ap (λ n. n + 1) h ∙ sym (length-append lines (line ∷ [])) in
     rw same at (as-many-on more (lines ++ line ∷ []) first good)
 

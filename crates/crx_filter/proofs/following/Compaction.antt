@@ -1,14 +1,13 @@
 -- Compaction line by line reads, keeps and writes as the compaction of all lines does.
-use Rattle.crx_filter.proofs.Words
-use Words.{common_steps, arith, ◌≡◌, ◌+◌, List, Some, refl, ap, sym, ◌∙◌, Epoch, Observation, epoch_place}
-use Words.{Marked, Tail, lines_after_tail, Choices, Item, types_in_force, epochs_accepted, is_at_every}
-use Words.{is_in_full, marked_epochs, compact_unit, Written, compaction, written_of, rinex_open}
-use Rattle.crx_filter.proofs.following.{Following.{seen_in, IsCarriedOut}, Rinex.{AreSame, either-same}}
-use Rattle.crx_filter.proofs.following.Rinex.{agree-begins, agree-continues, no-lines}
-use Rattle.crx_filter.proofs.reading.{Forward.rinex-forward, Types.counts-in_force}
-use Rattle.crx_rinex.proofs.SoundEpochs.{sound-epoch_place}
+use Rattle.crx_filter.proofs.Words.{common_steps, arith, ◌≡◌, ◌+◌, List, Some, refl, ap, sym, ◌∙◌, Epoch}
+use Rattle.crx_filter.proofs.Words.{Observation, epoch_place, Marked, Tail, lines_after_tail, Choices, Item}
+use Rattle.crx_filter.proofs.Words.{types_in_force, epochs_accepted, is_at_every, is_in_full, marked_epochs}
+use Rattle.crx_filter.proofs.Words.{compact_unit, Written, compaction, written_of, rinex_open}
 use Rattle.crx_compact.{proofs.wayback.Tailing.epoch-by_tail, specs.Laws.tail_before}
-use Rattle.crx_compact.specs.Steps.{tail_written_after}
+use Rattle.{crx_compact.specs.Steps.tail_written_after, crx_filter.proofs.following.Following.seen_in}
+use Rattle.crx_filter.proofs.following.{Following.IsCarriedOut, Rinex.{AreSame, either-same, agree-begins}}
+use Rattle.crx_filter.proofs.{following.Rinex.{agree-continues, no-lines}, reading.Forward.rinex-forward}
+use Rattle.{crx_filter.proofs.reading.Types.counts-in_force, crx_rinex.proofs.SoundEpochs.sound-epoch_place}
 
 -- ---- an epoch that is read
 

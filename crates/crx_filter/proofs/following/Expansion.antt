@@ -1,20 +1,20 @@
 -- Expansion line by line reads, keeps and writes as the expansion of all lines does.
-use Rattle.crx_filter.proofs.Words
-use Words.{common_steps, arith, ℕ, suc, ◌≡◌, Bool, true, false, cond, List, [], ◌∷◌, ◌++◌, length, Option}
-use Words.{Some, None, Result, Ok, Err, refl, ap, sym, ◌∙◌, true≢false, is_some, none-some, ReadLine, Content}
-use Words.{Overlong, Fault, BadEpoch, is_event_line, records_in, Place, Here, Wrong, Wanted, one_line}
-use Words.{FileUnit, EventLine, RawEpoch, ReadEpoch, epoch_at, Tail, OpenRawEpoch, RawStep, first_step}
-use Words.{next_step, open_raw_after, open_raw_with, Choices, Item, types_in_force, raws_kept, event_line}
-use Words.{as_observation, expanded_unit, Made, made_of_unit, made_of_raw_step, expansion, tail_of_items}
-use Words.{begins_event, compact_open, by_bool}
-use Rattle.crx_filter.proofs.following.Following.{IsSameEpoch, AgreeOn, IsCarriedOut}
-use Rattle.crx_filter.proofs.{following.Lines.one_line-decided, reading.ForwardCompact.compact-forward}
-use Rattle.crx_filter.{proofs.reading.ForwardCompact.compact_beginning, specs.ExpansionByLine.compact_begins}
+use Rattle.crx_filter.proofs
+use proofs.Words.{common_steps, arith, ℕ, suc, ◌≡◌, Bool, true, false, cond, List, [], ◌∷◌, ◌++◌, length}
+use proofs.Words.{Option, Some, None, Result, Ok, Err, refl, ap, sym, ◌∙◌, true≢false, is_some, none-some}
+use proofs.Words.{ReadLine, Content, Overlong, Fault, BadEpoch, is_event_line, records_in, Place, Here, Wrong}
+use proofs.Words.{Wanted, FileUnit, EventLine, RawEpoch, ReadEpoch, epoch_at, Tail, OpenRawEpoch, RawStep}
+use proofs.Words.{first_step, next_step, open_raw_after, open_raw_with, Choices, Item, types_in_force}
+use proofs.Words.{raws_kept, event_line, as_observation, expanded_unit, Made, made_of_unit, made_of_raw_step}
+use proofs.Words.{expansion, tail_of_items, begins_event, compact_open, by_bool}
 use Rattle.crx_compact.proofs.reading.LineByLine.{steps-agree, wanted-where_open, steps-from_open}
 use Rattle.crx_compact.proofs.reading.RawTailing.{place-by_tail, left-by_tail}
-use Rattle.crx_compact.{proofs.soundness.Soundness.reads-soundly, specs.OpenEpochs.{epoch_after, HeldEpoch}}
-use Rattle.crx_compact.specs.OpenEpochs.{Going, Whole, Faulty, placed_as, held_after, place_of_step}
-use Rattle.crx_compact.specs.{OpenEpochs.place_of_steps, ReadingLaws.is_wanted, Tails.tail_left}
+use Rattle.crx_compact.proofs.soundness.Soundness.{reads-soundly}
+use Rattle.crx_compact.specs.OpenEpochs.{epoch_after, HeldEpoch, Going, Whole, Faulty, placed_as, held_after}
+use Rattle.crx_compact.specs.{OpenEpochs.{place_of_step, place_of_steps}, ReadingLaws.is_wanted}
+use Rattle.{crx_compact.specs.Tails.tail_left, crx_filter.specs.ExpansionByLine.compact_begins}
+use proofs.following.{Following.{IsSameEpoch, AgreeOn, IsCarriedOut}, Lines.one_line-decided}
+use proofs.reading.ForwardCompact.{compact-forward, compact_beginning}
 
 abbrev pub Agrees : Choices → List (Item ReadEpoch) → List ReadLine → Made HeldEpoch OpenRawEpoch → Type 0
 Agrees choices items lines made =
@@ -148,9 +148,8 @@ observation-wanted p e = absurd (cc)
 
 event-not_wanted : (items : List (Item ReadEpoch)) (line : ReadLine) (lines : List ReadLine)
     → begins_event (line ∷ lines) ≡ true → compact_beginning items (line ∷ lines) ≡ Wanted → ⊥
-event-not_wanted items Overlong lines e wanted = absurd (true≢false (sym e))
-event-not_wanted items (Content content) lines e wanted =
-    grind (arith, common_steps, one_line-decided, is_event_line, compact_beginning, one_line, event_line)
+event-not_wanted items line lines e wanted =
+    grind (arith, common_steps, one_line-decided, compact_beginning)
 
 no-lines : (items : List (Item ReadEpoch)) (lines : List ReadLine)
     → compact_beginning items lines ≡ Wanted → compact_open items lines ≡ None → lines ≡ []

@@ -1,28 +1,23 @@
 -- One line more, as it is fed and as it is read: the same in both directions.
-use Rattle.crx_filter.proofs.Words
-use Words.{common_steps, ℕ, zero, suc, ◌≡◌, ◌⊎◌, inl, inr, ◌+◌, ◌-◌, max, ◌<◌, ◌≤◌, Bool, true, false, List}
-use Words.{[], ◌∷◌, ◌++◌, length, drop, Option, Some, None, refl, ap, sym, subst, ◌∙◌, arith, length-append}
-use Words.{append-nil, ◌&&◌, drop-append_seam, ReadLine, Fault, At, Count, Place, Here, Wrong, Wanted}
-use Words.{IsDecidedAfter, FileUnit, HeaderLine, EventLine, EventRecord, Observation, Choices, Item, Accepted}
-use Words.{Warned, is_at_start, header_has_ended, records_announced, records_left, counts_types}
-use Words.{records_count_types, types_in_force, unit_place, Reading, AtFault, AtLines, Looking, is_skipped}
-use Words.{can_go_on, looked_for, reading_within, written_lines, warnings_in, Phase, InHeader}
-use Words.{InEvent, InEpoch, Ended, Seen, Made, Completes, Moves, Fails, Direction, Notice, Failed, Step}
-use Words.{with_records_left, phase_after, types_after, may_skip, is_in_epoch, is_skipped_in, kept_in}
-use Words.{with_phase, after_warning, failed_step, step_of_made, seen_next, phase_in_body, phase_after_items}
-use Words.{seen_of, IsReadForward, IsFollowed, Fed, fed, fed_once, fed_twice, is_again, fault_of_stop}
-use Words.{by_bool}
-use Rattle.crx_filter.proofs.reading.Resuming.{wrong-within, within-wrong, within-wanted}
-use Rattle.crx_filter.proofs.reading.Resuming.{fault-skipped, fault-ends, looked-here, looked-on}
-use Rattle.crx_filter.proofs.Pending.{failed-lines, noticed-lines}
-use Rattle.crx_filter.specs.LineByLine.{after_record, after_unit, answer_of_lines}
+use Rattle.crx_filter.proofs
+use proofs.Words.{common_steps, ℕ, zero, suc, ◌≡◌, ◌⊎◌, inl, inr, ◌+◌, ◌-◌, max, ◌<◌, ◌≤◌, Bool, true, false}
+use proofs.Words.{List, [], ◌∷◌, ◌++◌, length, drop, Option, Some, None, refl, ap, sym, subst, ◌∙◌, arith}
+use proofs.Words.{length-append, append-nil, ◌&&◌, drop-append_seam, ReadLine, Fault, At, Count, Place, Here}
+use proofs.Words.{Wrong, Wanted, IsDecidedAfter, FileUnit, HeaderLine, EventLine, EventRecord, Observation}
+use proofs.Words.{Choices, Item, Accepted, Warned, is_at_start, header_has_ended, records_announced}
+use proofs.Words.{records_left, counts_types, records_count_types, types_in_force, unit_place, Reading}
+use proofs.Words.{AtFault, AtLines, Looking, is_skipped, can_go_on, looked_for, reading_within, written_lines}
+use proofs.Words.{warnings_in, Phase, InHeader, InEvent, InEpoch, Ended, Seen, Made, Completes, Moves, Fails}
+use proofs.Words.{Direction, Notice, Failed, Step, with_records_left, phase_after, types_after, may_skip}
+use proofs.Words.{is_in_epoch, is_skipped_in, kept_in, with_phase, after_warning, failed_step, step_of_made}
+use proofs.Words.{seen_next, phase_in_body, phase_after_items, seen_of, IsReadForward, IsFollowed, Fed, fed}
+use proofs.Words.{fed_once, fed_twice, is_again, fault_of_stop, by_bool}
+use Rattle.crx_filter.specs.LineByLine.{after_unit, answer_of_lines}
+use proofs.{Pending.{noticed-lines, failed-lines}, reading.Resuming.wrong-within}
+use proofs.reading.Resuming.{within-wrong, within-wanted, fault-skipped, fault-ends, looked-here, looked-on}
+pub use Rattle.crx_filter.proofs.Pending.{seen_in}
 
 -- ---- what a direction has to keep to
-
--- what is seen in a phase, some types in force and this kept
-abbrev pub seen_in : {O K : Type 0} → Choices → ℕ → Phase O → List Count → K → Seen O K
-seen_in choices number phase types kept =
-    record { choices = choices; number = number; phase = phase; types = types; kept = kept }
 
 -- an epoch that is read, and the same as it comes line by line: what is kept after it, and its lines
 pub record IsSameEpoch {E U O K : Type 0} (direction : Direction U O K)
@@ -107,10 +102,6 @@ module _ {U O K : Type 0} (direction : Direction U O K) where
       → kept_in direction (with_records_left left counted) kept ≡ kept
   kept-with_records zero counted kept = refl
   kept-with_records (suc left) counted kept = refl
-
-  kept-after_record : (phase : Phase O) (kept : K) → kept_in direction (after_record phase) kept ≡ kept
-  kept-after_record (InEvent left counted) kept = kept-with_records (left - 1) counted kept
-  kept-after_record phase kept = refl
 
   -- ---- how a line is fed
 
@@ -237,15 +228,7 @@ module _ {E U O K : Type 0} {beginning : List (Item E) → List ReadLine → Pla
         next = after_unit direction (seen_at count phase items kept) same;
       }))
   followed-unit count n items phase kept unit same none phases types keeps lines =
-      grind (
-        arith,
-        common_steps,
-        phase_after_items,
-        kept-with_records,
-        kept-after_record,
-        noticed-lines,
-        failed-lines,
-      )
+      grind (arith, common_steps, phase_after_items, kept-with_records, noticed-lines, failed-lines)
 
   -- the next line ends the run
   pub followed-end : (count : ℕ) (items : List (Item E)) (phase : Phase O) (kept : K) (line : ReadLine)
@@ -301,9 +284,8 @@ module _ {E U O K : Type 0} {beginning : List (Item E) → List ReadLine → Pla
       (line : ReadLine) (at : At) → 0 < length rest → number + length rest ≡ count + 1 → can_go_on line ≡ true
       → looked_for (reads units (Warned at ∷ items)) (Warned at ∷ items) (number + max (length rest) 1) (drop
       (max (length rest) 1) (rest ++ line ∷ [])) ≡ reads units (Warned at ∷ items) (count + 1) (line ∷ [])
-  skipped-again units items number count [] line at some counted on = absurd (omega (arith, some))
-  skipped-again units items number count (first ∷ rest) line at some counted on =
-      grind (arith, common_steps, looked_for, reads, max, looked-through-later, looked-here)
+  skipped-again units items number count rest line at some counted on =
+      grind (arith, common_steps, looked-through-later, looked-here)
 
   -- the next line, where it is given once
   pub body-once : (units : ℕ) (items : List (Item E)) (number count : ℕ) (rest : List ReadLine)
@@ -320,10 +302,9 @@ module _ {E U O K : Type 0} {beginning : List (Item E) → List ReadLine → Pla
       let all : length (rest ++ line ∷ []) ≡ length rest + 1 = length-append rest (line ∷ []) in
       let one : length (rest ++ line ∷ []) ≡ 1 = agree.2 in
       let same : kept ≡ kept_of items = first_kept rest inside (omega (arith, all, one)) in
-      subst (λ r. Follows (count + 1) items r (fed_once (step_of_made direction (seen_at count phase items
-      kept) line (Completes (EventLine l))))) (sym (last-here h.forward choices.skip units items number rest
-      line (EventLine l) agree.0 wanted_here here)) (followed-unit count (number + agree.0) items phase kept
-      (EventLine l) (EventLine l) (h.none_open (Accepted (EventLine l) ∷ items)) event-phase refl
+      rw (last-here h.forward choices.skip units items number rest line (EventLine l) agree.0 wanted_here here)
+      (followed-unit count (number + agree.0) items phase kept (EventLine l) (EventLine l) (h.none_open
+      (Accepted (EventLine l) ∷ items)) event-phase refl
       (ap (λ k. direction.kept_after (seen_at count phase items k) (EventLine l)) same ∙ h.event_kept items
       count phase (types_in_force items) l) (h.event_lines items count phase (types_in_force items) kept l))
     where
@@ -340,10 +321,8 @@ module _ {E U O K : Type 0} {beginning : List (Item E) → List ReadLine → Pla
       let wanted_here = body-place beginning items rest ended none ∙ wanted in
       let here = body-place beginning items (rest ++ line ∷ []) ended none ∙ agree.2 in
       let same = agree.3 in
-      subst (λ r. Follows (count + 1) items r (fed_once (step_of_made direction
-      (seen_at count phase items kept) line (Completes (Observation held))))) (sym (last-here
-      h.forward choices.skip units items number rest line (Observation agree.1) agree.0 wanted_here here))
-      (followed-unit count (number + agree.0) items phase kept (Observation agree.1) (Observation held)
+      rw (last-here h.forward choices.skip units items number rest line (Observation agree.1) agree.0
+      wanted_here here) (followed-unit count (number + agree.0) items phase kept (Observation agree.1) (Observation held)
       (h.none_open (Accepted (Observation agree.1) ∷ items)) (rw ended refl) refl (same.kept count phase
       (types_in_force items) kept keeps) (same.lines count phase (types_in_force items) kept keeps))
   body-once units items number count rest line phase kept (Moves next) ended none wanted agree may keeps
@@ -359,12 +338,10 @@ module _ {E U O K : Type 0} {beginning : List (Item E) → List ReadLine → Pla
       let off : (is_in_epoch phase && can_go_on line) ≡ false = sym (ap (λ (s : Step _ _). is_again s.answer)
       (failed-skipped direction (seen_at count phase items kept) line fault on)) ∙ quiet in
       let looking = skipped-looking units items phase kept number rest line at inside off in
-      subst (λ r. Follows (count + 1) items r (fed_once (failed_step direction (seen_at
-      count phase items kept) line fault))) (sym (last-skipped h.forward choices.skip units items number
-      count rest line agree.0 fault wanted_here here (tested ∙ on) counted ∙ looking.1)) (followed-skip count
-      looking.0 items phase kept line fault (emptied ∙ h.warned items at) on off)) (λ off. subst (λ r. Follows
-      (count + 1) items r (fed_once (failed_step direction (seen_at count phase items kept) line fault)))
-      (sym (last-ends h.forward choices.skip units items number count rest line agree.0 fault wanted_here here
-      (tested ∙ off) counted)) (followed-end count items phase kept line fault emptied off))
+      rw (last-skipped h.forward choices.skip units items number count rest line agree.0 fault wanted_here here
+      (tested ∙ on) counted ∙ looking.1) (followed-skip count looking.0 items phase kept line fault
+      (emptied ∙ h.warned items at) on off)) (λ off. rw (last-ends h.forward choices.skip units items number
+      count rest line agree.0 fault wanted_here here (tested ∙ off) counted) (followed-end count items phase
+      kept line fault emptied off))
   body-once units items number count rest line phase kept
       made ended none wanted agree may keeps inside counted quiet = absurd agree

@@ -13,21 +13,19 @@ use proofs.Words.{is_again, written_lines, warnings_in, Phase, InHeader, Between
 use proofs.Words.{LookingOn, Seen, Made, Fails, Direction, Notice, Step, made_of_unit, made_in, phase_after}
 use proofs.Words.{types_after, may_skip, is_in_epoch, is_skipped_in, kept_in, after_warning, failed_step}
 use proofs.Words.{step_of_made, seen_next, phase_in_body, phase_after_items, seen_of, and_parts, by_bool}
-use proofs.Words.{false-true}
-use proofs.following.Following.{IsCarriedOut, AreKept, IsInside, Follows, Agrees, place, reads, seen_at}
-use proofs.following.Following.{emptied-same, skipped-same, body-place, body-phase, fed-once, fed-twice}
-use proofs.following.Following.{failed-ends, failed-skipped, followed-unit, followed-end, last-here}
-use proofs.following.Following.{last-ends, last-skipped, skipped-again, records-phase, body-once}
-use proofs.{Words.Completes, Pending.again-lines, reading.Resuming.{enough-units, looked-here, looked-on}}
+use proofs.Words.{false-true, Completes}
 use Rattle.crx_header.proofs.Counts.{types_of-push}
+use proofs.{Pending.again-lines, following.Following.{IsCarriedOut, AreKept, IsInside, Follows, Agrees}}
+use proofs.following.Following.{place, reads, seen_at, emptied-same, skipped-same, body-place, body-phase}
+use proofs.following.Following.{fed-once, fed-twice, failed-ends, failed-skipped, followed-unit, followed-end}
+use proofs.following.Following.{last-here, last-ends, last-skipped, skipped-again, records-phase, body-once}
+use proofs.reading.Resuming.{enough-units, looked-here, looked-on}
 
 -- only in an epoch does a line come again
 pub quiet-elsewhere : {U O K : Type 0} (direction : Direction U O K) (seen : Seen O K) (line : ReadLine)
     (made : Made U O) → is_in_epoch seen.phase ≡ false → is_again
     (step_of_made direction seen line made).answer ≡ false
-quiet-elsewhere direction seen line (Fails fault) e = grind (arith, common_steps)
-quiet-elsewhere direction seen line (Completes unit) e = again-lines (direction.written seen unit)
-quiet-elsewhere direction seen line made e = refl
+quiet-elsewhere direction seen line made e = grind (arith, common_steps)
 
 -- ---- lines of the header, and an event's records
 
@@ -120,11 +118,10 @@ module _ {E U O K : Type 0} {beginning : List (Item E) → List ReadLine → Pla
       → made_in direction phase (types_in_force items) kept line ≡ made → Follows h (count + 1) items (reads h
       (suc units) items number (rest ++ line ∷ [])) (fed direction (seen_at h count phase items kept) line)
   body-line units items number count rest line phase kept made ended none wanted agree may keeps inside
-      within counted enough e = by_bool (is_again (step made).answer) (λ on. subst (λ f. Follows h (count + 1)
-      items after f) (sym (fed-twice direction seen line (ap (λ m. is_again (step m).answer) e ∙ on)
-      ∙ ap (λ m. fed_twice (step m) (seen_next direction (step m).next line)) e)) (again made agree on))
-      (λ off. subst (λ f. Follows h (count + 1) items after f) (sym (fed-once direction seen line
-      (ap (λ m. is_again (step m).answer) e ∙ off) ∙ ap (λ m. fed_once (step m)) e)) (body-once h units
+      within counted enough e = by_bool (is_again (step made).answer) (λ on. rw (fed-twice direction seen line
+      (ap (λ m. is_again (step m).answer) e ∙ on) ∙ ap (λ m. fed_twice (step m) (seen_next direction
+      (step m).next line)) e) (again made agree on)) (λ off. rw (fed-once direction seen line
+      (ap (λ m. is_again (step m).answer) e ∙ off) ∙ ap (λ m. fed_once (step m)) e) (body-once h units
       items number count rest line phase kept made ended none wanted agree may keeps inside counted off))
     where
       seen : Seen O K
@@ -167,8 +164,7 @@ module _ {E U O K : Type 0} {beginning : List (Item E) → List ReadLine → Pla
           (types_in_force items) kept items fault ended none may ∙ skipped) counted ∙ skipped-again h units
           items number count rest line at some counted each.1 ∙ enough-units (place h) h.forward choices.skip
           units 2 (Warned at ∷ items) (count + 1) (line ∷ []) (omega (arith, enough, some)) (omega arith) in
-          subst (λ r. Follows h (count + 1) items r (fed_twice (step (Fails fault))
-          (seen_next direction (step (Fails fault)).next line))) (sym same_reading) (subst
+          rw same_reading (subst
           (λ (s : Step O K). Follows h (count + 1) items anew (fed_twice s (seen_next direction s.next line)))
           (sym is_one) (subst (λ m. Follows h (count + 1) items anew (fed_twice (record {
             answer = Notice at true;
@@ -306,6 +302,12 @@ module _ {E U O K : Type 0} {beginning : List (Item E) → List ReadLine → Pla
       cases true e zero none (Some so_far) opens =
           grind (arith, common_steps, both, body-phase, phase_in_body, records_count_types)
 
+  -- an epoch that is open has some lines
+  pub some_lines : (items : List (Item E)) (so_far : O) (ls : List ReadLine)
+      → open_with items ls ≡ Some so_far → 0 < length ls
+  some_lines items so_far [] e = absurd (none-some so_far (sym (h.none_open items) ∙ e))
+  some_lines items so_far (l ∷ ls) e = omega arith
+
   -- one line more, where more lines are wanted
   lines-line : (items : List (Item E)) (number count : ℕ) (rest : List ReadLine) (line : ReadLine)
       → place h items rest ≡ Wanted → number + length rest ≡ count + 1
@@ -324,16 +326,12 @@ module _ {E U O K : Type 0} {beginning : List (Item E) → List ReadLine → Pla
       (body-line (suc (length rest)) items number count rest line (InEpoch so_far) (direction.kept_open
       (kept_of items)) (direction.continues so_far line) e none (sym (body-place beginning items rest e none)
       ∙ wanted) (h.continues items rest line so_far opens) refl (inr refl)
-      (inside so_far rest opens) (λ in_epoch. some_lines so_far rest opens) counted (omega arith) refl))
+      (inside so_far rest opens) (λ in_epoch. some_lines items so_far rest opens) counted (omega arith) refl))
     where
       inside : (so_far : O) (ls : List ReadLine) → open_with items ls ≡ Some so_far
           → IsInside h items (InEpoch so_far) (direction.kept_open (kept_of items)) ls
       inside so_far [] e = absurd (none-some so_far (sym (h.none_open items) ∙ e))
       inside so_far (l ∷ ls) e = refl
-
-      some_lines : (so_far : O) (ls : List ReadLine) → open_with items ls ≡ Some so_far → 0 < length ls
-      some_lines so_far [] e = absurd (none-some so_far (sym (h.none_open items) ∙ e))
-      some_lines so_far (l ∷ ls) e = omega arith
 
   -- one line more, wherever a reading has stopped
   pub next-line : (items : List (Item E)) (stop : Stop) (count : ℕ) (line : ReadLine)

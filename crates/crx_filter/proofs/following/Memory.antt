@@ -10,14 +10,12 @@ use Words.{is_again, Answer, BetweenUnits, Direction, Failed, Fails, InEpoch, In
 use Words.{Phase, Seen, Step, after_warning, is_in_epoch, is_skipped_in, kept_in, phase_after_items}
 use Words.{seen_next, seen_of, step_of_made, may_take_memory, takes_memory, rules, none-some, and_parts}
 use Words.{by_bool, false-true, Completes}
-use Rattle.crx_filter.proofs.Pending.{again-lines}
-use Rattle.crx_filter.proofs.following.Following.{AgreeOn, IsCarriedOut, body-place, failed-ends, place}
-use Rattle.crx_filter.proofs.following.Following.{failed-skipped, seen_in, skipped-same, wrong-last}
-use Rattle.crx_filter.proofs.following.Lines.{IsStopped, by_phase, header-place, record-place}
-use Rattle.crx_filter.{proofs.steps.EngineAnswers.{ComesAgain, comes-again}, specs.LineByLine.{Quiet, Ready}}
-use Rattle.crx_filter.specs.meaning.Memory.{line_takes, takes_after_warning}
-use Rattle.std.specs.Prelude.{is_none}
-use Rattle.crx_header.specs.meaning.ObservationTypes.{count_of_types_line}
+use Rattle.crx_filter.proofs.{Pending.again-lines, following.Following.{AgreeOn, IsCarriedOut, body-place}}
+use Rattle.crx_filter.proofs.following.Following.{failed-ends, place, failed-skipped, seen_in, skipped-same}
+use Rattle.crx_filter.proofs.following.{Following.wrong-last, Lines.{IsStopped, by_phase, header-place}}
+use Rattle.crx_filter.proofs.{following.Lines.record-place, steps.EngineAnswers.{ComesAgain, comes-again}}
+use Rattle.crx_filter.specs.{LineByLine.{Quiet, Ready}, meaning.Memory.{line_takes, takes_after_warning}}
+use Rattle.{crx_header.specs.meaning.ObservationTypes.count_of_types_line, std.specs.Prelude.is_none}
 
 -- ---- types lines
 
@@ -115,11 +113,7 @@ module _ {E U O K : Type 0} {beginning : List (Item E) → List ReadLine → Pla
       (place h) items stop (count + 1) → takes_memory direction (seen_of direction open_with kept_of choices
       count (record { items = items; stop = stop })) line ≡ true → memory_allowed (place h) takes choices.skip
       (record { items = items; stop = stop }) line ≡ Some []
-  allowed-first items (AtFault at) count (Content line) stopped e = false-true e
-  allowed-first items (AtLines number rest) count line stopped e = cc (lines-take _ _ _ stopped.0 e)
-  allowed-first items (Looking number) count (Content line) stopped e =
-      grind (arith, common_steps, and_parts, begins_epoch, begins-takes)
-  allowed-first items stop count Overlong stopped e = false-true e
+  allowed-first items stop count line stopped e = grind (arith, common_steps, lines-take, begins-takes)
 
   -- a line that cuts an epoch off, and is read anew after the warning
   cut-takes : (items : List (Item E)) (number count : ℕ) (rest : List ReadLine) (line : ReadLine) (so_far : O)

@@ -1,18 +1,17 @@
 -- The memory that a compaction and a check take, by what is at their lines.
-use Rattle.crx_filter.proofs.Words
-use Words.{common_steps, ℕ, suc, ◌≡◌, Bool, true, false, List, [], ◌∷◌, ◌++◌, length, Some, Result}
-use Words.{refl, ◌+◌, arith, At, none-some, ReadLine, Content, Fault, OpenEpoch, next_row}
-use Words.{Epoch, Row, FileUnit, EpochStep, Faulty, after_row}
-use Words.{epoch_step, Choices, Item, types_in_force, compaction_takes, memory_allowed}
-use Words.{place_takes, rinex_reading, takes_memory, checking, no_choices, totals_of, compaction}
-use Words.{made_of_epoch_step, rinex_begins, Written, compaction_seen, rinex_open, written_of}
-use Words.{Direction, Made, Notice, Seen, seen_next, seen_of, compact_unit, rinex_place, false-true}
-use Rattle.crx_filter.proofs.following.Check.{check-carried_out, printed_after}
-use Rattle.crx_filter.proofs.following.{Compaction.compaction-carried_out, Following.AgreeOn}
-use Rattle.crx_filter.proofs.following.Memory.{TakesAsItStands, allowed-again, allowed-first}
-use Rattle.crx_filter.proofs.reading.{Forward.{rinex-forward, rinex_beginning}, Stopping.reading-stopped}
+use Rattle.crx_filter.proofs
+use proofs.Words.{common_steps, ℕ, suc, ◌≡◌, Bool, true, false, List, [], ◌∷◌, ◌++◌, length, Some, Result}
+use proofs.Words.{refl, ◌+◌, arith, At, none-some, ReadLine, Content, Fault, OpenEpoch, next_row, Epoch, Row}
+use proofs.Words.{FileUnit, EpochStep, Faulty, after_row, epoch_step, Choices, Item, types_in_force}
+use proofs.Words.{compaction_takes, memory_allowed, place_takes, rinex_reading, takes_memory, checking}
+use proofs.Words.{no_choices, totals_of, compaction, made_of_epoch_step, rinex_begins, Written}
+use proofs.Words.{compaction_seen, rinex_open, written_of, Direction, Made, Notice, Seen, seen_next, seen_of}
+use proofs.Words.{compact_unit, rinex_place, false-true}
 use Rattle.crx_filter.specs.{CompactionByLine.is_whole_at_once, meaning.Memory.check_takes}
 use Rattle.std.specs.Result.{is_ok}
+use proofs.following.{Check.{check-carried_out, printed_after}, Compaction.compaction-carried_out}
+use proofs.following.{Following.AgreeOn, Memory.{TakesAsItStands, allowed-again, allowed-first}}
+use proofs.reading.{Forward.{rinex-forward, rinex_beginning}, Stopping.reading-stopped}
 
 -- ---- satellites' lines
 

@@ -1,18 +1,17 @@
 -- Where the reading of compact text starts anew, it depends on the types in force alone.
-use Rattle.crx_filter.proofs.Words
-use Words.{common_steps, [], ℕ, zero, suc, ◌≡◌, ◌+◌, ◌<◌, max, Bool, true, cond, List, ◌∷◌, ◌++◌, drop}
-use Words.{Option, Some, None, refl, sym, ◌∙◌, arith, subst, append_assoc, and_parts, ⊤, ReadLine, Content}
-use Words.{Overlong, Fault, At, begins_epoch, is_event_line, records_in, Count, Place, Here, one_line}
-use Words.{first_line, FileUnit, HeaderLine, EventRecord, block_of, ReadEpoch, epoch_at, Item, Accepted}
-use Words.{Warned, header_has_ended, records_announced, records_left, records_count_types, types_in_force}
-use Words.{unless_wrong, types_fault, event_record, Reading, Stop, AtFault, AtLines, Looking, is_skipped}
-use Words.{looked_for, reading_within, after_fault, raws_kept, empties_state, event_line, as_observation}
-use Words.{compact_place, starts_anew, GoOnAlike, by_bool}
-use Rattle.crx_filter.proofs.following.{Following.body-place, Lines.record-place}
-use Rattle.crx_filter.proofs.reading.{ForwardCompact.compact_beginning, Resuming.by_place, WhatStands.OfHere}
-use Rattle.crx_filter.{proofs.reading.WhatStands.{of-unit, of-compact}, specs.Anew.DependsOnTypes}
+use Rattle.crx_filter.proofs
+use proofs.Words.{common_steps, [], ℕ, zero, suc, ◌≡◌, ◌+◌, ◌<◌, max, Bool, true, cond, List, ◌∷◌, ◌++◌, drop}
+use proofs.Words.{Option, Some, None, refl, sym, ◌∙◌, arith, subst, append_assoc, and_parts, ⊤, ReadLine}
+use proofs.Words.{Content, Overlong, Fault, At, begins_epoch, is_event_line, records_in, Count, Place, Here}
+use proofs.Words.{one_line, first_line, FileUnit, HeaderLine, EventRecord, block_of, ReadEpoch, epoch_at}
+use proofs.Words.{Item, Accepted, Warned, header_has_ended, records_announced, records_left}
+use proofs.Words.{records_count_types, types_in_force, unless_wrong, types_fault, event_record, Reading, Stop}
+use proofs.Words.{AtFault, AtLines, Looking, is_skipped, looked_for, reading_within, after_fault, raws_kept}
+use proofs.Words.{empties_state, event_line, as_observation, compact_place, starts_anew, GoOnAlike, by_bool}
+use Rattle.{crx_compact.proofs.reading.Forgetting.forgets, crx_filter.specs.Anew.DependsOnTypes}
 use Rattle.crx_header.proofs.Counts.{types_of-push}
-use Rattle.crx_compact.proofs.reading.Forgetting.{forgets}
+use proofs.{following.{Following.body-place, Lines.record-place}, reading.ForwardCompact.compact_beginning}
+use proofs.reading.{Resuming.by_place, WhatStands.{OfHere, of-unit, of-compact}}
 
 -- ---- two lists of items that are alike
 

@@ -1,21 +1,19 @@
 -- The end of the input, in both directions.
-use Rattle.crx_filter.proofs.Words
-use Words.{ℕ, ◌≡◌, ◌+◌, Bool, List, [], length, drop, Some, refl, subst, arith, append-nil, length-drop}
-use Words.{ReadLine, Place, Here, Wrong, Wanted, Remains, ReadEpoch, Choices, WholeReading, reading_from}
-use Words.{ended_reading, warnings_in, seen_end, rinex_place, compact_unit, rinex_reading, compaction}
-use Words.{rinex_open, written_of, compact_place, first_lines, fault_in_first_lines, expanded_unit}
-use Words.{expanded_lines, expansion, compact_open, tail_of_items, IsEndedBy}
-use Rattle.crx_filter.proofs.following.{Expansion.expansion-carried_out, Compaction.compaction-carried_out}
-use Rattle.crx_filter.proofs.{following.ExpandedOn.{reading_by, seen_by}, reading.Stopping.reading-stopped}
-use Rattle.crx_filter.proofs.reading.{Forward.rinex-forward, Ending.next-end, ForwardCompact.compact-forward}
-use Rattle.crx_filter.proofs.reading.ForwardCompact.{steady-first_lines, compact_beginning}
+use Rattle.crx_filter.proofs
+use proofs.Words.{ℕ, ◌≡◌, ◌+◌, Bool, List, [], length, drop, Some, refl, subst, arith, append-nil}
+use proofs.Words.{length-drop, ReadLine, Place, Here, Wrong, Wanted, Remains, ReadEpoch, Choices}
+use proofs.Words.{WholeReading, reading_from, ended_reading, warnings_in, seen_end, rinex_place}
+use proofs.Words.{rinex_reading, compact_place, first_lines, fault_in_first_lines, expanded_lines, expansion}
+use proofs.Words.{IsEndedBy}
 use Rattle.crx_filter.specs.Laws.{IsCompactionEnded, IsExpansionEnded}
+use proofs.following.{Compaction.compaction-carried_out, ExpandedOn.{reading_by, seen_by}}
+use proofs.{following.Expansion.expansion-carried_out, reading.{Ending.next-end, Forward.rinex-forward}}
+use proofs.reading.{ForwardCompact.{compact-forward, steady-first_lines}, Stopping.reading-stopped}
 
 pub compaction-ended : (choices : Choices) (lines : List ReadLine) → IsCompactionEnded choices lines
 compaction-ended choices lines =
     let r = rinex_reading choices.skip lines in
-    next-end _ compaction rinex_open (written_of choices.every)
-    (compact_unit choices) choices (compaction-carried_out choices) r.items r.stop (length lines)
+    next-end (compaction-carried_out choices) r.items r.stop (length lines)
     (reading-stopped rinex_place rinex-forward choices.skip [] 1 (length lines + 1) lines (omega arith))
 
 -- the whole reading of compact text by what is at its first two lines
@@ -43,8 +41,7 @@ by-first_lines choices lines (Here two count) e =
     let r = reading_from compact_place choices.skip [] (count + 1) (drop count lines) in
     let stopped = reading-stopped compact_place compact-forward choices.skip [] (count + 1) (length lines + 1)
     (drop count lines) (omega (arith, length-drop count lines, remains.0)) in
-    next-end compact_beginning expansion compact_open tail_of_items expanded_unit choices
-    (expansion-carried_out choices) r.items r.stop (length lines) stopped
+    next-end (expansion-carried_out choices) r.items r.stop (length lines) stopped
 by-first_lines choices lines other e = grind arith
 
 pub expansion-ended : (choices : Choices) (lines : List ReadLine) → IsExpansionEnded choices lines

@@ -2,14 +2,12 @@
 use Rattle.crx_filter.proofs.Words
 use Words.{common_steps, arith, ℕ, ℤ, suc, ◌≡◌, Bool, true, List, [], ◌∷◌, Option, Some, None, Result, Ok}
 use Words.{Err, refl, ⊤, list_all, is_blank, code_of, ReadLine, Fault, LineTooLong, Count, Place, Here, Wrong}
-use Words.{then_place, one_line, first_line, BegunEpoch, epoch_begun, cell_read}
-use Words.{satellite_line_read, rows_read, epoch_after_line, epoch_at, Satellite, RawEpoch, block_of, Past}
-use Words.{past_of_block, and_then, is_skippable, as_observation, BadField}
-use Rattle.crx_filter.proofs.reading.WhatStands.{chosen}
-use Rattle.crx_text.specs.declared.code.Code.{Code}
-use Rattle.crx_compact.{proofs.EpochLines.satellites_counted, specs.meaning.ArcValues.{is_within, value_of}}
-use Rattle.crx_compact.specs.meaning.{ArcValues.since_start, Cells.cells_read, Differences.value_at}
+use Words.{then_place, one_line, first_line, BegunEpoch, epoch_begun, cell_read, satellite_line_read}
+use Words.{rows_read, epoch_after_line, epoch_at, Satellite, RawEpoch, block_of, Past, past_of_block}
+use Words.{and_then, is_skippable, as_observation, BadField}
+use Rattle.crx_compact.{proofs.EpochLines.satellites_counted, specs.meaning.Cells.cells_read}
 use Rattle.crx_compact.specs.meaning.{EpochText.{satellites_named, names_in}, Sequences.before_all}
+use Rattle.{crx_filter.proofs.reading.WhatStands.chosen, crx_text.specs.declared.code.Code.Code}
 
 -- ---- results and places whose faults pass a test
 
@@ -53,16 +51,13 @@ skippable-before x v1 a = grind (arith)
 
 -- ---- an epoch's lines
 
-value-skippable : (width : ℕ) (cells : List Code) → IsSkippableResult (value_of width cells)
-value-skippable width cells = grind (arith, common_steps, chosen, is_within, value_at, since_start)
-
 -- what is given to the lines of an epoch refuses them by faults that can be skipped
 record IsSkippablePast (past : Past) : Type 0 where
   clock : (code : Code) → IsSkippableResult (past.clock code)
   value : (name : List ℕ) (place : ℕ) (code : Code) → IsSkippableResult (past.value name place code)
 
 block-skippable : (block : List RawEpoch) → IsSkippablePast (past_of_block block)
-block-skippable block = search (value-skippable)
+block-skippable block = search (arith)
 
 abbrev IsSkippableOption : Option Past → Type 0
 IsSkippableOption None = ⊤

@@ -1,13 +1,12 @@
 -- A reading stops at faults of lines alone, and so does the end of the input.
-use Rattle.crx_filter.proofs
-use proofs.Words.{common_steps, arith, ℕ, zero, suc, ◌≡◌, ◌+◌, max, Bool, true, List, [], ◌∷◌, length, drop}
-use proofs.Words.{Option, Some, None, subst, ⊤, nat_lt, ReadLine, At, Place, FileUnit, Item, Accepted}
-use proofs.Words.{Warned, header_has_ended, records_left, Reading, Stop, AtFault, is_skipped, can_go_on}
-use proofs.Words.{looked_for, reading_within, reading_from, fault_at_end, after_fault}
-use proofs.Words.{ended_reading, whole_reading, rinex_place, whole_rinex, rinex_reading, whole_compact}
-use proofs.Words.{compact_reading, fault_of_stop, is_of_lines, by_bool}
-use proofs.reading.LineFaults.{IsFineAt, IsFineFault, rinex-fine, compact-fine, first_lines-fine}
-use proofs.reading.Resuming.{by_place, within-here, within-wrong, within-wanted}
+use Rattle.crx_filter.proofs.Words.{common_steps, arith, ℕ, zero, suc, ◌≡◌, ◌+◌, max, Bool, true, List, []}
+use Rattle.crx_filter.proofs.Words.{◌∷◌, length, drop, Option, Some, None, subst, ⊤, ReadLine, At, Place}
+use Rattle.crx_filter.proofs.Words.{FileUnit, Item, Accepted, Warned, Reading, Stop, AtFault, is_skipped}
+use Rattle.crx_filter.proofs.Words.{can_go_on, looked_for, reading_within, reading_from, after_fault}
+use Rattle.crx_filter.proofs.Words.{whole_reading, rinex_place, whole_rinex, rinex_reading, whole_compact}
+use Rattle.crx_filter.proofs.Words.{compact_reading, fault_of_stop, is_of_lines, by_bool}
+use Rattle.crx_filter.proofs.reading.LineFaults.{IsFineAt, rinex-fine, compact-fine, first_lines-fine}
+use Rattle.crx_filter.proofs.reading.Resuming.{by_place, within-here, within-wrong, within-wanted}
 
 abbrev IsFineStop : Stop → Type 0
 IsFineStop (AtFault at) = is_of_lines at.fault ≡ true
@@ -48,18 +47,10 @@ abbrev IsFineEnd : Option At → Type 0
 IsFineEnd None = ⊤
 IsFineEnd (Some at) = is_of_lines at.fault ≡ true
 
-at_end-fine : {E : Type 0} (items : List (Item E)) (lines : List ReadLine)
-    → IsFineFault (fault_at_end items lines)
-at_end-fine items lines = grind (arith, common_steps, by_bool, header_has_ended, nat_lt, records_left)
-
-ended-fine : {E : Type 0} (skip : Bool) (items : List (Item E)) (stop : Stop)
-    → IsFineStop stop → IsFineEnd (ended_reading skip (record { items = items; stop = stop })).fault
-ended-fine skip items stop h = grind (arith, common_steps, by_bool, is_skipped, at_end-fine)
-
 whole-fine : {E : Type 0} (place : List (Item E) → List ReadLine → Place (FileUnit E)) → IsFinePlace place
     → (skip : Bool) (number : ℕ) (lines : List ReadLine)
     → IsFineEnd (whole_reading place skip number lines).fault
-whole-fine place h skip number lines = grind (arith, common_steps, reading_from, ended-fine, from-fine)
+whole-fine place h skip number lines = grind (arith, common_steps, reading_from, from-fine)
 
 -- ---- both directions
 

@@ -1,13 +1,12 @@
 -- What is at a line of compact text is certain as soon as its last line has come.
-use Rattle.crx_filter.proofs.Words.{ℕ, suc, ◌<◌, List, [], ◌∷◌, ◌++◌, length, Result, refl}
-use Rattle.crx_filter.proofs.Words.{arith, ReadLine, Content, Overlong, FileUnit, Fault, Place}
-use Rattle.crx_filter.proofs.Words.{one_line, IsSteady, Remains, IsDecidedAfter, is_event_line}
-use Rattle.crx_filter.proofs.Words.{Count, RawEpoch, ReadEpoch}
-use Rattle.crx_filter.proofs.Words.{epoch_at, Item, types_in_force, raws_kept, event_line, as_observation}
+use Rattle.crx_filter.proofs.Words.{ℕ, suc, ◌<◌, List, [], ◌∷◌, ◌++◌, length, Result, refl, arith, ReadLine}
+use Rattle.crx_filter.proofs.Words.{Content, Overlong, FileUnit, Fault, Place, one_line, IsSteady, Remains}
+use Rattle.crx_filter.proofs.Words.{IsDecidedAfter, is_event_line, Count, RawEpoch, ReadEpoch, epoch_at, Item}
+use Rattle.crx_filter.proofs.Words.{types_in_force, raws_kept, event_line, as_observation}
 use Rattle.crx_filter.proofs.Words.{compact_epoch_place, compact_place, first_lines, IsReadForward, by_bool}
-use Rattle.crx_rinex.proofs.Steady.{steady-here, steady-first_line, steady-then}
-use Rattle.crx_filter.proofs.reading.Forward.{unit_place-forward}
 use Rattle.crx_compact.proofs.reading.SteadyEpochs.{steady-after_line}
+use Rattle.crx_filter.proofs.reading.Forward.{unit_place-forward}
+use Rattle.crx_rinex.proofs.Steady.{steady-here, steady-first_line, steady-then}
 
 -- where an epoch or an event may begin in compact text
 abbrev pub compact_beginning : List (Item ReadEpoch) → List ReadLine → Place (FileUnit ReadEpoch)

@@ -75,11 +75,8 @@ epoch_head-fine line count = grind (arith, common_steps, chosen, list_all, is_bl
 begun-fine : (line : List ℕ) (r : Result HeadLine Fault) → IsFine r → IsFine (begun_by line r)
 begun-fine line r a = grind (arith, common_steps)
 
-row_with-fine : (m : ℕ) (line : List ℕ) (values : Option (List (Option ℤ))) → IsFine (row_with m line values)
-row_with-fine m line values = grind (arith, common_steps, chosen, list_all, is_blank, is_kept, flags_in)
-
 next_row-fine : (so_far : OpenEpoch) (line : List ℕ) → IsFine (next_row so_far line)
-next_row-fine so_far line = grind (arith, common_steps, chosen, has_satellite, row_with-fine, values_in)
+next_row-fine so_far line = grind (arith, common_steps, chosen, has_satellite, values_in)
 
 rows-fine : (so_far : OpenEpoch) (count : ℕ) (lines : List ReadLine) → IsFineAt (rows_at so_far count lines)
 rows-fine so_far zero lines = tt

@@ -44,14 +44,7 @@ module _ {E : Type 0} (P : Place (FileUnit E) → Type 0) (wanted : P Wanted)
   copied-line : (unit : List ℕ → FileUnit E) (fault_in : List ℕ → Option Fault) (lines : List ReadLine)
       → ((line : List ℕ) (rest : List ReadLine) → lines ≡ Content line ∷ rest → fault_in line ≡ None
       → P (Here (unit line) 1)) → P (first_line lines (λ line. unless_wrong (unit line) (fault_in line)))
-  copied-line unit fault_in [] h = wanted
-  copied-line unit fault_in (Overlong ∷ lines) h = wrong 0 LineTooLong
-  copied-line unit fault_in (Content line ∷ lines) h = by_fault (fault_in line) (h line lines refl)
-    where
-      by_fault : (o : Option Fault) → (o ≡ None → P (Here (unit line) 1))
-          → P (one_line (unless_wrong (unit line) o))
-      by_fault None good = good refl
-      by_fault (Some fault) good = wrong 0 fault
+  copied-line unit fault_in lines h = grind (arith, common_steps)
 
   -- a header line, an event's record, or what may begin there
   pub of-unit : (beginning : List (Item E) → List ReadLine → Place (FileUnit E)) (items : List (Item E))

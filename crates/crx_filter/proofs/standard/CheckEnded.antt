@@ -1,11 +1,10 @@
 -- The end of the input, as a check takes it; and which files it names as standard.
 use Rattle.crx_filter.proofs.Words
-use Words.{common_steps, arith, ℕ, ◌≡◌, false, List, [], ◌∷◌, ◌++◌, map, length, Option, Some, None}
-use Words.{refl, ap, sym, ◌∙◌, append-nil, none-some, InputLine, ReadLine, seen, Fault, Count, Epoch}
-use Words.{HeaderLine, OpenEpoch, Item, Accepted, Warned, is_at_start, Reading, WholeReading}
-use Words.{fault_at_end, ended_with, whole_rinex, rinex_reading, Phase, InEpoch, Seen}
-use Words.{kept_in, seen_end, AreInPlace, failed_by, printed_items, whole_reading_of, Totals}
-use Words.{checking, totals_of, printed_open, no_choices, check_seen}
+use Words.{common_steps, arith, ℕ, ◌≡◌, false, List, [], ◌∷◌, ◌++◌, map, length, Option, Some, None, refl, ap}
+use Words.{sym, ◌∙◌, append-nil, none-some, InputLine, ReadLine, seen, Fault, Count, Epoch, HeaderLine}
+use Words.{OpenEpoch, Item, Accepted, Warned, is_at_start, Reading, WholeReading, fault_at_end, ended_with}
+use Words.{whole_rinex, rinex_reading, Phase, InEpoch, Seen, kept_in, seen_end, AreInPlace, failed_by}
+use Words.{printed_items, whole_reading_of, Totals, checking, totals_of, printed_open, no_choices, check_seen}
 use Rattle.crx_filter.proofs.following.{Check.check-end, CheckedOn.{same-seen, as-many}, Following.seen_in}
 use Rattle.crx_filter.proofs.reading.{InPlace.items-in_place, WhatWasRead.items-read}
 use Rattle.crx_filter.{proofs.wayback.Carried.started, specs.CheckByLine.version_accepted}

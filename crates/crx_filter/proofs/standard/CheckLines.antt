@@ -1,18 +1,15 @@
 -- The lines that printing gives back for some lines of a file, and for one line more.
 use Rattle.crx_filter.proofs.Words
-use Words.{common_steps, arith, ℕ, zero, suc, ◌≡◌, ◌+◌, ◌-◌, Bool, true, false, cond, List, [], ◌∷◌, ◌++◌}
-use Words.{length, drop, Option, Some, None, Result, Ok, Err, refl, sym, append-nil, ⊤, map-append, none-some}
-use Words.{ReadLine, Content, Fault, is_end_of_header, Row, Epoch, Count, HeaderLine, EventRecord, last_line}
-use Words.{printed_row, printed_epoch, OpenEpoch, Beginning, EventBegins, EpochBegins, opened, rows_wanted}
-use Words.{epoch_of, with_next_row, after_row, Item, Accepted, header_has_ended, records_left}
-use Words.{records_count_types, records_announced, counts_types, unless_wrong, Stop, AtFault, AtLines}
+use Words.{common_steps, arith, ℕ, zero, suc, ◌≡◌, ◌+◌, ◌-◌, Bool, false, List, [], ◌∷◌, ◌++◌, length, drop}
+use Words.{Option, Some, None, Result, Ok, Err, refl, sym, append-nil, ⊤, map-append, none-some, ReadLine}
+use Words.{Content, Fault, Row, Epoch, Count, HeaderLine, EventRecord, last_line, printed_row, printed_epoch}
+use Words.{OpenEpoch, Beginning, epoch_of, with_next_row, after_row, Item, Accepted, unless_wrong, Stop}
 use Words.{Looking, reading_within, rinex_place, rinex_reading, made_of_epoch_step, made_of_beginning}
 use Words.{rinex_open, Phase, InFirstLines, InHeader, BetweenUnits, InEvent, InEpoch, LookingOn, Closed, Made}
-use Words.{Completes, Step, made_of_unit, made_in, with_records_left, step_of_made, phase_in_body, phase_of}
-use Words.{failed_by, is_again, Totals, checking, printed_open, printed_made, no_choices, by_bool}
-use Rattle.crx_filter.proofs.{Pending.again-lines, Words.printed_unit}
-use Rattle.crx_filter.proofs.{Checkers.last-of, following.Following.seen_in, reading.Resuming.by_place}
-use Rattle.crx_filter.proofs.reading.Resuming.{within-here, within-wrong, within-wanted}
+use Words.{Step, made_of_unit, made_in, with_records_left, step_of_made, phase_in_body, phase_of, failed_by}
+use Words.{Totals, checking, printed_open, printed_made, no_choices}
+use Rattle.crx_filter.proofs.{Checkers.last-of, following.Following.seen_in}
+use Rattle.crx_filter.proofs.reading.Resuming.{by_place, within-here, within-wrong, within-wanted}
 use Rattle.crx_rinex.specs.meaning.Printing.{printed_head}
 
 -- ---- where nothing is skipped, no line is looked for
@@ -43,10 +40,7 @@ body-reached left counted so_far = grind (arith, common_steps)
 
 stop-reached : (items : List (Item Epoch)) (stop : Stop)
     → IsFound stop → IsReached (phase_of rinex_open (record { items = items; stop = stop }))
-stop-reached items (AtFault at) h = tt
-stop-reached items (AtLines number lines) h = by_bool (header_has_ended items) (λ on. rw on (body-reached
-    (records_left items) (records_count_types items) (rinex_open items lines))) (λ off. rw off tt)
-stop-reached items (Looking number) h = absurd h
+stop-reached items stop h = grind (arith, common_steps, body-reached)
 
 pub phase-reached : (lines : List ReadLine) → IsReached (phase_of rinex_open (rinex_reading false lines))
 phase-reached lines = let r = rinex_reading false lines in
@@ -77,9 +71,7 @@ none-open (suc left) counted = refl
 header-grows : (number : ℕ) (is_first : Bool)
     (types : List Count) (kept : Totals) (content : List ℕ) (fault : Option Fault) → Grows number
     (InHeader is_first) types kept (Content content) (made_of_unit (unless_wrong (HeaderLine content) fault))
-header-grows number is_first types kept content None f = elim (is_end_of_header content) as (λ b. content
-    ∷ printed_open (cond b BetweenUnits (InHeader false)) ≡ content ∷ []) [ true ↦ refl | false ↦ refl ]
-header-grows number is_first types kept content (Some fault) f = absurd (none-some _ (sym f))
+header-grows number is_first types kept content fault f = grind (arith, common_steps, none-some)
 
 record-grows : (number left : ℕ) (counted : Bool) (types : List Count)
     (kept : Totals) (content : List ℕ) (fault : Option Fault) → Grows number (InEvent left counted) types kept
@@ -90,9 +82,7 @@ record-grows number left counted types kept content (Some fault) f = absurd (non
 module _ (number : ℕ) (types : List Count) (kept : Totals) (content : List ℕ) where
   beginning-grows : (b : Result Beginning Fault)
       → Grows number BetweenUnits types kept (Content content) (made_of_beginning types b)
-  beginning-grows (Err fault) f = absurd (none-some _ (sym f))
-  beginning-grows (Ok (EventBegins line)) f = cc (none-open (records_announced line) (counts_types line))
-  beginning-grows (Ok (EpochBegins head)) f = grind (arith, common_steps, rows_wanted, opened)
+  beginning-grows b f = grind (arith, common_steps, none-some, none-open)
 
   row-grows : (so_far : OpenEpoch) (row : Result Row Fault)
       → Grows number (InEpoch so_far) types kept (Content content) (made_of_epoch_step (after_row so_far row))
@@ -103,11 +93,3 @@ pub line-grows : (number : ℕ) (phase : Phase OpenEpoch) (types : List Count) (
     → IsReached phase → Grows number phase types kept line (made_in checking phase types kept line)
 line-grows number phase types kept line h f =
     grind (arith, common_steps, header-grows, beginning-grows, record-grows, row-grows, none-some)
-
--- ---- no line comes again
-
-pub never-again : (number : ℕ) (phase : Phase OpenEpoch)
-    (types : List Count) (kept : Totals) (line : ReadLine) (made : Made Epoch OpenEpoch)
-    → is_again (step_of_made checking (seen_in no_choices number phase types kept) line made).answer ≡ false
-never-again number phase types kept line (Completes unit) = again-lines (printed_unit unit)
-never-again number phase types kept line made = refl

@@ -1,16 +1,14 @@
 -- A checker takes the end of the input.
-use Rattle.crx_filter.proofs.Words
-use Words.{common_steps, arith, ℕ, ◌≡◌, true, [], List, Option, None, refl, ap, ◌∙◌}
-use Words.{false, map, length, seen, Choices, no_choices, check_reading, first_not_standard, printed_so_far}
-use Words.{epoch_open, InputLine, failed_by, reader_phase, whole_reading_of}
-use Words.{findings_of, checking, check_seen, checker_state_with, Held, RinexReader}
-use Rattle.crx_filter.proofs.{standard.CheckEnded.check-ended, steps.EngineFaults.by-stage}
-use Rattle.crx_filter.proofs.{following.Following.seen_in}
-use Rattle.crx_filter.proofs.{steps.CheckerSteps.{has-reached, reads-on, seen-there}}
-use Rattle.crx_filter.specs.{Stages.is_ended, Totals.totals_held}
-use Rattle.crx_filter.{proofs.steps.EngineLemmas.held-by_reader, specs.CheckByLine.found_by}
-use Rattle.crx_filter.specs.{CheckingParts.is_reading, LineByLine.{end_step, fault_at_end_in}}
-use Rattle.crx_filter.specs.{Stages.bare_phase, Totals.found_held}
+use Rattle.crx_filter.proofs.Words.{common_steps, arith, ℕ, ◌≡◌, true, [], List, Option, None, refl, ap, ◌∙◌}
+use Rattle.crx_filter.proofs.Words.{false, map, length, seen, Choices, no_choices, check_reading}
+use Rattle.crx_filter.proofs.Words.{first_not_standard, printed_so_far, epoch_open, InputLine, failed_by}
+use Rattle.crx_filter.proofs.Words.{reader_phase, whole_reading_of, findings_of, checking, check_seen}
+use Rattle.crx_filter.proofs.Words.{checker_state_with, Held, RinexReader}
+use Rattle.crx_filter.proofs.{following.Following.seen_in, standard.CheckEnded.check-ended}
+use Rattle.crx_filter.proofs.steps.{CheckerSteps.{has-reached, reads-on, seen-there}, EngineFaults.by-stage}
+use Rattle.crx_filter.specs.{CheckByLine.found_by, CheckingParts.is_reading}
+use Rattle.crx_filter.specs.{LineByLine.{end_step, fault_at_end_in}, Stages.{is_ended, bare_phase}}
+use Rattle.crx_filter.specs.Totals.{totals_held, found_held}
 
 module _ (reader : RinexReader) (number : ℕ) (totals : Held) (named : Option ℕ) (lines : List InputLine)
     (reads : is_reading (reader_phase reader) ≡ true)
@@ -18,7 +16,7 @@ module _ (reader : RinexReader) (number : ℕ) (totals : Held) (named : Option �
   -- the fault of the whole reading is that of the stage
   end-fault : (whole_reading_of lines).fault ≡ failed_by (end_step checking [] (checker_state_with reader
       number totals named).reading (fault_at_end_in (bare_phase reader.stage))).answer
-  end-fault = grind (arith, common_steps, check-ended, by-stage, held-by_reader)
+  end-fault = grind (arith, common_steps, check-ended, by-stage)
 
   pub good-end : fault_at_end_in (bare_phase reader.stage) ≡ None → (whole_reading_of lines).fault ≡ None
   good-end is = end-fault ∙ rw is refl

@@ -1,24 +1,16 @@
 -- What a compaction makes of a line: a fault, another stage, a line that is copied, or an epoch.
 use Rattle.crx_filter.proofs.Words
 use Words.{common_steps, arith, ◌≡◌, ◌⊎◌, inl, inr, ℕ, ◌+◌, true, false, List, [], Some, None, Ok, Err, ◌++◌}
-use Words.{◌∷◌, refl, ReadLine, Content, Fault, OutOfMemory, ObservationEpoch, Bool, and_parts, false≢true}
-use Words.{begins_epoch, is_event_line, OpenEpoch, EventLine, EventRecord, HeaderLine, FileUnit}
-use Words.{epoch_by_rows, Choices, Written, compact_written, compaction, written_kept, Phase, Made, Completes}
-use Words.{Moves, phase_after, types_after, may_take_memory, seen_stage, epoch_open, is_row, made_at}
+use Words.{◌∷◌, refl, Fault, OutOfMemory, ObservationEpoch, Bool, OpenEpoch, EventLine, EventRecord}
+use Words.{HeaderLine, FileUnit, epoch_by_rows, Choices, Written, compact_written, compaction, written_kept}
+use Words.{Made, Completes, Moves, phase_after, types_after, seen_stage, epoch_open, is_row, made_at}
 use Words.{Completed, CompletedEpoch, TakesRinexLine, is_open_stage, RinexStep, Nothing, Header, Begun}
 use Words.{MovesReader, is_at_every, lines_after_tail, tail_after, reader_phase, RinexReader, ObservationHead}
-use Rattle.crx_filter.specs.{CompactionByLine.is_before_header, DirectionParts.{DirectionParts, Reads}}
-use Rattle.crx_filter.specs.DirectionParts.{RefusesLine, made_at_parts, seen_by}
-use Rattle.crx_filter.specs.{RinexReaders.RefusesRinexLine, Stages.is_ended}
 use Rattle.crx_compact.specs.Encoding.{EncoderState, tail_in}
+use Rattle.crx_filter.specs.CompactionByLine.{is_before_header}
+use Rattle.crx_filter.specs.DirectionParts.{DirectionParts, Reads, RefusesLine, made_at_parts, seen_by}
+use Rattle.crx_filter.specs.{RinexReaders.RefusesRinexLine, Stages.is_ended}
 use Rattle.crx_header.specs.meaning.CompactHeader.{lines_before_header}
-
--- where the reading may take memory, the compaction may
-pub read-or-written : (first : List ℕ → Bool) (next : OpenEpoch → List ℕ → Bool) (phase : Phase OpenEpoch)
-    (line : ReadLine) → may_take_memory (λ (l : List ℕ). false) next phase line ≡ true
-    → may_take_memory first next phase line ≡ true
-read-or-written first next phase line e =
-    grind (arith, common_steps, false≢true, and_parts, is_event_line, begins_epoch)
 
 -- ---- a line's step, by what it makes
 
@@ -57,9 +49,8 @@ pub refused-read : {serves : Choices → Type 0} (before after : RinexReader) {k
     {line : List ℕ} {ready : List (List ℕ)} {fault : Fault} → RefusesRinexLine (made_at before line kept)
     before line fault → after.types ≡ before.types → now.index ≡ kept.index → ready ≡ [] → Reads compaction
     serves (parts_with before kept) line (Err fault) ready (parts_with after now)
-refused-read before after (inl made) typed counted none = refused-reads (inl made) typed counted none
-refused-read before after {line = line} (inr out) typed counted none =
-    refused-reads (inr (out.0, read-or-written _ _ _ (Content line) out.1)) typed counted none
+refused-read before after known typed counted none =
+    grind (arith, common_steps, refused-reads)
 
 module _ {serves : Choices → Type 0} {before after : RinexReader} {kept : Written} {line : List ℕ} where
   pub moved-read : {ready : List (List ℕ)} → MovesReader (made_at before line kept) before after → ready ≡ []

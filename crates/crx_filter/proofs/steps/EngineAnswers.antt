@@ -1,24 +1,23 @@
 -- From the steps of an engine of either direction to what every engine answers, and to the lines it has
 -- taken.
-use Rattle.crx_filter.proofs.Words
-use Words.{common_steps, arith, ℕ, ◌≡◌, inl, inr, ◌+◌, Bool, true, false, cond, List, [], ◌∷◌, map, length}
-use Words.{Some, None, Result, Ok, Err, refl, ap, sym, subst, ◌∙◌, append-nil, ◌≤◌, rules, and_parts, reverse}
-use Words.{◌&&◌, InputLine, is_long, ReadLine, Content, Overlong, seen, At, OutOfMemory, LINE_LIMIT, Choices}
-use Words.{with_next, lines_text, step_made, Steps, is_again, Fed, fed_once, fed_twice, fed, LookingOn, Seen}
-use Words.{Direction, Made, Fails, Notice, SeenStep, made_in, may_skip, is_in_epoch, is_skipped_in}
-use Words.{failed_step, step_of_made, seen_next, takes_memory, can_go_on, is_skippable, Quiet, ◌++◌}
-use Words.{Ready, by_bool, Completes, false≢true, answer_of_step, noticed_by, reverse-append}
-use Rattle.crx_filter.proofs.following.Following.{fed-once as feeds-once, fed-twice as feeds-twice}
-use Rattle.crx_filter.proofs.Pending.{again-lines, quiet-next, quiet-end}
-use Rattle.crx_filter.specs.EngineLaws.{EndsLineByLine, FollowsBy, GoesLineByLine}
-use Rattle.crx_filter.specs.{EngineLines.HasTaken, Laws.is_ready, LineByLine.seen_end_with}
-use Rattle.crx_filter.specs.DirectionParts.{EngineParts, IsAfterLines, seen_by}
+use Rattle.crx_filter.proofs
+use proofs.Words.{common_steps, arith, ℕ, ◌≡◌, inl, inr, ◌+◌, true, false, List, [], ◌∷◌, map, length, Some}
+use proofs.Words.{None, Result, Ok, Err, refl, ap, sym, subst, ◌∙◌, append-nil, ◌≤◌, rules, and_parts}
+use proofs.Words.{reverse, ◌&&◌, InputLine, is_long, ReadLine, Content, Overlong, seen, At, OutOfMemory}
+use proofs.Words.{LINE_LIMIT, Choices, with_next, lines_text, step_made, Steps, is_again, Fed, fed_once}
+use proofs.Words.{fed_twice, fed, LookingOn, Seen, Direction, Made, Fails, Notice, SeenStep, made_in}
+use proofs.Words.{may_skip, is_in_epoch, is_skipped_in, step_of_made, seen_next, takes_memory, can_go_on}
+use proofs.Words.{is_skippable, Quiet, ◌++◌, Ready, by_bool, Completes, false≢true, answer_of_step}
+use proofs.Words.{noticed_by, reverse-append, false-true, after_warning, failed_by}
+use Rattle.crx_filter.specs.DirectionParts.{EngineParts, IsAfterLines}
+use Rattle.crx_filter.specs.{EngineLaws.{FollowsBy, GoesLineByLine}, EngineLines.HasTaken}
 use Rattle.crx_filter.specs.EngineState.{EngineNotes, engine_ready, engine_seen, engine_took}
-use Rattle.crx_filter.specs.declared.direction.Direction.{Ghosts}
+use Rattle.crx_filter.specs.{Laws.is_ready, LineByLine.seen_end_with, declared.direction.Direction.Ghosts}
+use Rattle.crx_runs.specs.Engines.{Awaited, IsAwaited, awaited_notices, GoesOn, EngineAnswers, Concludes}
+use Rattle.crx_runs.specs.{declared.engine.Step.{Step, TheVariants.Warned}, meaning.Filters.Filter}
 use Rattle.std.specs.Prelude.{IfOk, ⊤}
-use Rattle.crx_runs.specs.Engines.{Awaited, IsAwaited, awaited_notices, GoesOn, EngineAnswers}
-use Rattle.crx_runs.specs.{Engines.Concludes, declared.engine.Step.Step}
-use Rattle.crx_runs.specs.{declared.engine.Step.TheVariants.Warned, meaning.Filters.Filter}
+use proofs.Pending.{again-lines, quiet-next, quiet-end}
+use proofs.following.Following.{fed-once as feeds-once, fed-twice as feeds-twice, failed-ends, failed-skipped}
 
 -- ---- a line that comes again
 
@@ -36,38 +35,20 @@ again-by-made : {U O K : Type 0} (direction : Direction U O K)
     → record { answer = Notice at true; handed_out = handed_out; next = next }
     ≡ step_of_made direction before line made → ComesAgain before next line
 again-by-made {O = O} {K = K} direction before next line at handed_out (Fails fault) e =
-    let again : Bool = is_in_epoch before.phase && can_go_on line in
-    by_bool (is_skipped_in before fault)
-    (λ on.
-    let step : record { answer = Notice at true; handed_out = handed_out; next = next }
-    ≡ failed_step direction before line fault = e in
-    let is : failed_step direction before line fault ≡ record {
-      answer = Notice (record { line = before.number + 1; fault = fault }) again;
-      handed_out = [];
-      next = record before {
-        number = cond again before.number (before.number + 1);
-        phase = LookingOn;
-        kept = direction.emptied before.kept;
-      };
-    } = rw on refl in
-    let yes : true ≡ again = ap (λ (s : SeenStep O K). is_again s.answer) (step ∙ is) in
+    by_bool (is_skipped_in before fault) (λ on.
+    let is = e ∙ failed-skipped direction before line fault on in
+    let yes = ap (λ (s : SeenStep O K). is_again s.answer) is in
     let both = and_parts (is_in_epoch before.phase) (can_go_on line) (sym yes) in
-    let then = ap (λ (s : SeenStep O K). s.next) (step ∙ is) in
+    let then = ap (λ (s : SeenStep O K). s.next) is ∙ ap (after_warning direction before) (sym yes) in
     record {
       skips = (and_parts before.choices.skip (may_skip before.phase && is_skippable fault) on).0;
       epoch = both.0;
       fits = both.1;
       phase = ap (λ (s : Seen O K). s.phase) then;
-      number = ap (λ (s : Seen O K). s.number)
-          then ∙ ap (λ (b : Bool). cond b before.number (before.number + 1)) (sym yes);
+      number = ap (λ (s : Seen O K). s.number) then;
       choices = ap (λ (s : Seen O K). s.choices) then;
-    })
-    (λ off.
-    let step : record { answer = Notice at true; handed_out = handed_out; next = next }
-    ≡ failed_step direction before line fault = e in
-    let is : is_again (failed_step direction before line fault).answer ≡ false = rw off refl in
-    let yes : true ≡ false = ap (λ (s : SeenStep O K). is_again s.answer) step ∙ is in
-    absurd (cc))
+    }) (λ off. false-true (sym (ap (λ (s : SeenStep O K). is_again s.answer)
+    (e ∙ failed-ends direction before line fault off))))
 again-by-made {O = O} {K = K} direction before next line at handed_out (Completes unit) e =
     absurd (cc (again-lines (direction.written before unit), ap (λ (s : SeenStep O K). is_again s.answer) e))
 again-by-made {O = O} {K = K} direction before next line at handed_out made e = grind (arith, common_steps)
@@ -81,17 +62,9 @@ comes-again direction before next line at handed_out e = again-by-made direction
 
 -- ---- one answer
 
-abbrev earliest : List At → List At
-earliest notices = reverse notices
-
 module _ {U O K : Type 0} {direction : Direction U O K} {closing_after : List InputLine → List (List ℕ)}
     {seen_after : List ReadLine → Seen O K} {filter : Filter}
     (goes : GoesLineByLine direction closing_after seen_after filter) where
-  -- only a step that is ready hands out lines
-  quiet-handed_out : (before : Seen O K) (line : ReadLine) (step : SeenStep O K)
-      → step ≡ seen_next direction before line → is_ready step.answer ≡ false → step.handed_out ≡ []
-  quiet-handed_out before line step e quiet = quiet-next direction before line step e quiet
-
   -- ---- a line that is fed once, or comes a second time
 
   fed-once : (before : Seen O K) (line : ReadLine) (step : SeenStep O K) → step ≡ seen_next direction before
@@ -113,102 +86,82 @@ module _ {U O K : Type 0} {direction : Direction U O K} {closing_after : List In
         → FollowsBy filter lines line (seen_after (map seen (with_next lines line))) f
     follows-fed f e = grind (arith, common_steps, seen, with_next)
 
-    -- it goes on
-    goes-on : (shows : List InputLine → List Awaited → Type 0) (f : Fed O K) (now : Seen O K)
-        (texts : List (List ℕ)) (notices : List At) → ((ls : List InputLine) (ns : List Awaited) → HasTaken
-        direction seen_after now ls ns → shows ls ns) → fed direction first (seen line) ≡ f → f.next ≡ now
-        → f.handed_out ≡ texts → reverse f.warned ≡ notices → f.failed ≡ None → shows (with_next lines line)
-        [] × GoesOn (filter.so_far lines) (filter.so_far (with_next lines line)) texts notices
-    goes-on shows f now texts notices showing e next handed_out warned good =
-        grind (arith, common_steps, follows-fed, with_next, lines_text)
+    module _ (shows : List InputLine → List Awaited → Type 0) (now : Seen O K) (ready : List (List ℕ))
+        (showing : (ls : List InputLine) (ns : List Awaited) → HasTaken direction seen_after now ls ns
+        → shows ls ns) where
+      -- it goes on
+      goes-on : (f : Fed O K) (texts : List (List ℕ)) (notices : List At)
+          → fed direction first (seen line) ≡ f → f.next ≡ now → f.handed_out ≡ texts
+          → reverse f.warned ≡ notices → f.failed ≡ None → shows (with_next lines line) []
+          × GoesOn (filter.so_far lines) (filter.so_far (with_next lines line)) texts notices
+      goes-on f texts notices e next handed_out warned good =
+          grind (arith, common_steps, follows-fed, with_next, lines_text)
 
-    -- the first time
-    first-time : (shows : List InputLine → List Awaited → Type 0) (now : Seen O K) (ready : List (List ℕ))
-        (result : Result Step At) → ((ls : List InputLine) (ns : List Awaited) → HasTaken direction seen_after
-        now ls ns → shows ls ns) → step_made result ready now ≡ seen_next direction first (seen line)
-        → EngineAnswers filter shows ready lines [] line result
-    first-time shows now ready result showing e = answers result e
-      where
-        answers : (r : Result Step At) → step_made r ready now ≡ seen_next direction first (seen line)
-            → EngineAnswers filter shows ready lines [] line r
-        answers (Ok Quiet) s =
-            let step : SeenStep O K = step_made (Ok Quiet) ready now in
-            goes-on shows (fed_once step) now [] [] showing (fed-once first (seen line) step s refl) refl
-            (quiet-handed_out first (seen line) step s refl) refl refl
-        answers (Ok Ready) s =
-            let step : SeenStep O K = step_made (Ok Ready) ready now in
-            goes-on shows (fed_once step) now ready [] showing (fed-once first (seen line) step s refl) refl
-            refl
-            refl refl
-        answers (Ok (Warned notice true)) s =
-            let step : SeenStep O K = step_made (Ok (Warned notice true)) ready now in
-            let two : SeenStep O K = seen_next direction now (seen line) in
-            let h = follows-fed (fed_twice step two) (fed-again first (seen line) step s refl) in
-            let none : ready ≡ [] = quiet-handed_out first (seen line) step s refl in (
-              showing lines (record { notice = notice; line = line } ∷ []) (ap (λ (ls : List (List ℕ)).
-                  step_made (Ok (Warned notice true)) ls now) (sym none) ∙ s),
-              refl,
-              (
-                reverse (noticed_by two.answer),
-                h.warnings ∙ ap (λ (ws : List At). (filter.so_far lines).warnings ++ ws)
-                    (reverse-append (noticed_by two.answer) (notice ∷ [])),
-              ),
-            )
-        answers (Ok (Warned notice false)) s =
-            let step : SeenStep O K = step_made (Ok (Warned notice false)) ready now in
-            goes-on shows (fed_once step) now [] (notice ∷ []) showing (fed-once first (seen line) step s
-            refl)
-            refl (quiet-handed_out first (seen line) step s refl) refl refl
-        answers (Err at) s =
-            let step : SeenStep O K = step_made (Err at) ready now in
-            let h = follows-fed (fed_once step) (fed-once first (seen line) step s refl) in
-            inr (record {
-              output = h.output ∙ ap (λ (ls : List (List ℕ)). (filter.so_far lines).output ++ lines_text ls)
-                  (quiet-handed_out first (seen line) step s refl) ∙ append-nil (filter.so_far lines).output;
-              warnings = h.warnings;
-              fault = h.fault;
-            })
+      -- what is answered where the line was fed so, and doesn't come again
+      fed-answers : (notices : List Awaited) (warned : List At) (result : Result Step At)
+          → fed direction first (seen line) ≡ record {
+            warned = warned;
+            failed = failed_by (answer_of_step result);
+            handed_out = ready;
+            next = now;
+          } → reverse warned ≡ awaited_notices notices ++ noticed_by (answer_of_step result)
+          → is_again (answer_of_step result) ≡ false → (is_ready (answer_of_step result) ≡ false → ready ≡ [])
+          → EngineAnswers filter shows ready lines notices line result
+      fed-answers notices warned (Ok Quiet) e noted once quiet = goes-on _ [] (awaited_notices notices) e refl
+          (quiet refl) (noted ∙ append-nil (awaited_notices notices)) refl
+      fed-answers notices warned (Ok Ready) e noted once quiet = goes-on _ ready (awaited_notices notices) e
+          refl refl (noted ∙ append-nil (awaited_notices notices)) refl
+      fed-answers notices warned (Ok (Warned notice true)) e noted once quiet = false-true (sym once)
+      fed-answers notices warned (Ok (Warned notice false)) e noted once quiet =
+          goes-on _ [] (awaited_notices notices ++ notice ∷ []) e refl (quiet refl) noted refl
+      fed-answers notices warned (Err at) e noted once quiet =
+          let h = follows-fed _ e in
+          inr (record {
+            output = h.output ∙ ap (λ (ls : List (List ℕ)). (filter.so_far lines).output ++ lines_text ls)
+                (quiet refl) ∙ append-nil (filter.so_far lines).output;
+            warnings = h.warnings ∙ ap (λ (ws : List At). (filter.so_far lines).warnings ++ ws)
+                (noted ∙ append-nil (awaited_notices notices));
+            fault = h.fault;
+          })
 
-    -- the second time, after a warning
-    second-time : (shows : List InputLine → List Awaited → Type 0) (notice : At) (before now : Seen O K)
-        (ready : List (List ℕ)) (result : Result Step At) → record
-        { answer = Notice notice true; handed_out = []; next = before } ≡ seen_next direction first
-        (seen line) → ((ls : List InputLine) (ns : List Awaited) → HasTaken direction seen_after now ls ns
-        → shows ls ns) → step_made result ready now ≡ seen_next direction before (seen line) → EngineAnswers
-        filter shows ready lines (record { notice = notice; line = line } ∷ []) line result
-    second-time shows notice before now ready result one showing e = answers result (fed-again first (seen
-        line) step one refl ∙ ap (λ (s : SeenStep O K). fed_twice step s) (sym e)) e
-      where
-        step : SeenStep O K
-        step = record { answer = Notice notice true; handed_out = []; next = before }
+      -- the first time
+      first-time : (result : Result Step At) → step_made result ready now ≡ seen_next direction first
+          (seen line) → EngineAnswers filter shows ready lines [] line result
+      first-time (Ok (Warned notice true)) s =
+          let step : SeenStep O K = step_made (Ok (Warned notice true)) ready now in
+          let two : SeenStep O K = seen_next direction now (seen line) in
+          let h = follows-fed (fed_twice step two) (fed-again first (seen line) step s refl) in
+          let none : ready ≡ [] = quiet-next direction first (seen line) step s refl in (
+            showing lines (record { notice = notice; line = line } ∷ []) (ap (λ (ls : List (List ℕ)).
+                step_made (Ok (Warned notice true)) ls now) (sym none) ∙ s),
+            refl,
+            (
+              reverse (noticed_by two.answer),
+              h.warnings ∙ ap (λ (ws : List At). (filter.so_far lines).warnings ++ ws)
+                  (reverse-append (noticed_by two.answer) (notice ∷ [])),
+            ),
+          )
+      first-time result s =
+          let step : SeenStep O K = step_made result ready now in
+          fed-answers [] (noticed_by (answer_of_step result)) result
+          (fed-once first (seen line) step s refl) refl refl (quiet-next direction first (seen line) step s)
 
-        answers : (r : Result Step At) → fed direction first (seen line) ≡ fed_twice step
-            (step_made r ready now) → step_made r ready now ≡ seen_next direction before (seen line)
-            → EngineAnswers filter shows ready lines (record { notice = notice; line = line } ∷ []) line r
-        answers (Ok Quiet) twice s = goes-on shows (fed_twice step (step_made (Ok Quiet) ready now)) now []
-            (notice ∷ []) showing twice refl
-            (quiet-handed_out before (seen line) (step_made (Ok Quiet) ready now) s refl) refl refl
-        answers (Ok Ready) twice s = goes-on shows (fed_twice step (step_made (Ok Ready) ready now)) now ready
-            (notice ∷ []) showing twice refl refl refl refl
-        answers (Ok (Warned next true)) twice s =
-            let again = comes-again direction before now (seen line) next ready s in
-            let looking = comes-again direction first before (seen line) notice [] one in
-            let no : true ≡ false = sym again.epoch ∙ ap is_in_epoch looking.phase in
-            absurd (cc)
-        answers (Ok (Warned next false)) twice s =
-            goes-on shows (fed_twice step (step_made (Ok (Warned next false)) ready now)) now []
-            (notice ∷ next ∷ []) showing twice refl
-            (quiet-handed_out before (seen line) (step_made (Ok (Warned next false)) ready now) s refl) refl
-            refl
-        answers (Err at) twice s =
-            let h = follows-fed (fed_twice step (step_made (Err at) ready now)) twice in
-            inr (record {
-              output = h.output ∙ ap (λ (ls : List (List ℕ)). (filter.so_far lines).output ++ lines_text ls)
-                  (quiet-handed_out before (seen line) (step_made (Err at) ready now) s refl)
-                  ∙ append-nil (filter.so_far lines).output;
-              warnings = h.warnings;
-              fault = h.fault;
-            })
+      -- the second time, after a warning
+      second-time : (notice : At) (before : Seen O K) (result : Result Step At) → record
+          { answer = Notice notice true; handed_out = []; next = before } ≡ seen_next direction first
+          (seen line) → step_made result ready now ≡ seen_next direction before (seen line) → EngineAnswers
+          filter shows ready lines (record { notice = notice; line = line } ∷ []) line result
+      second-time notice before (Ok (Warned next true)) one s =
+          let again = comes-again direction before now (seen line) next ready s in
+          let looking = comes-again direction first before (seen line) notice [] one in
+          false-true (sym (ap is_in_epoch looking.phase) ∙ again.epoch)
+      second-time notice before result one s =
+          let step : SeenStep O K = record { answer = Notice notice true; handed_out = []; next = before } in
+          fed-answers (record { notice = notice; line = line } ∷ [])
+          (noticed_by (answer_of_step result) ++ notice ∷ []) result
+          (fed-again first (seen line) step one refl
+          ∙ ap (λ (two : SeenStep O K). fed_twice step two) (sym s)) refl refl
+          (quiet-next direction before (seen line) (step_made result ready now) s)
 
     -- memory ran out, the first time or the second
     ran-out : (shows : List InputLine → List Awaited → Type 0) (ready : List (List ℕ))
@@ -219,13 +172,12 @@ module _ {U O K : Type 0} {direction : Direction U O K} {closing_after : List In
 
   -- an engine's own step, or memory that ran out, is an answer
   answers-line : (shows : List InputLine → List Awaited → Type 0) (before now : Seen O K)
-      (lines : List InputLine)
-      (notices : List Awaited) (line : InputLine) (ready : List (List ℕ)) (result : Result Step At)
-      → ((ls : List InputLine) (ns : List Awaited) → HasTaken direction seen_after now ls ns → shows ls ns)
+      (lines : List InputLine) (notices : List Awaited) (line : InputLine) (ready : List (List ℕ))
+      (result : Result Step At) → ((ls : List InputLine) (ns : List Awaited) → HasTaken direction seen_after now ls ns → shows ls ns)
       → HasTaken direction seen_after before lines notices → IsAwaited notices line → Steps direction before
       (seen line) result ready now → EngineAnswers filter shows ready lines notices line result
   answers-line shows before now lines [] line ready result showing taken awaited (inl e) =
-      first-time lines line shows now ready result showing
+      first-time lines line shows now ready showing result
       (subst (λ (s : Seen O K). step_made result ready now ≡ seen_next direction s (seen line)) taken e)
   answers-line shows before now lines [] line ready result showing taken awaited (inr r) =
       grind (arith, common_steps, ran-out, takes_memory, seen)
@@ -240,7 +192,7 @@ module _ {U O K : Type 0} {direction : Direction U O K} {closing_after : List In
 
       answers : Steps direction before (seen line) result ready now → EngineAnswers filter shows ready lines
           (record { notice = a.notice; line = line } ∷ []) line result
-      answers (inl e) = second-time lines line shows a.notice before now ready result one showing e
+      answers (inl e) = second-time lines line shows now ready showing a.notice before result one e
       answers (inr r) =
           let again = comes-again direction (seen_after (map seen lines)) before
           (seen line) a.notice [] one in
@@ -257,25 +209,8 @@ module _ {U O K : Type 0} {direction : Direction U O K} {closing_after : List In
   pub concludes : (before now : Seen O K) (lines : List InputLine) (ready : List (List ℕ))
       (result : Result Step At) → HasTaken direction seen_after before lines [] → step_made result ready now
       ≡ seen_end_with direction (closing_after lines) before → Concludes filter ready lines result
-  concludes before now lines ready result taken e = by-result result ended quiet
-    where
-      closing : List (List ℕ)
-      closing = closing_after lines
-
-      ended : EndsLineByLine filter lines (step_made result ready now)
-      ended = subst (λ (s : SeenStep O K). EndsLineByLine filter lines s)
-          (sym (e ∙ ap (λ (s : Seen O K). seen_end_with direction closing s) taken)) (goes.ends lines)
-
-      quiet : is_ready (answer_of_step result) ≡ false → ready ≡ []
-      quiet q = ap (λ (s : SeenStep O K). s.handed_out) e ∙ quiet-end direction closing before
-          (ap (λ (s : SeenStep O K). is_ready s.answer) (sym e) ∙ q)
-
-      by-result : (r : Result Step At) → EndsLineByLine filter lines (step_made r ready now)
-          → (is_ready (answer_of_step r) ≡ false → ready ≡ []) → Concludes filter ready lines r
-      by-result (Ok Quiet) h none = grind (arith, common_steps, append-nil, lines_text)
-      by-result (Ok Ready) h none = grind (arith, common_steps, append-nil, lines_text)
-      by-result (Ok (Warned notice again)) h none = grind (arith, common_steps, append-nil, lines_text)
-      by-result (Err at) h none = grind (arith, common_steps, append-nil, lines_text)
+  concludes before now lines ready result taken e =
+      grind (arith, common_steps, goes.ends, quiet-end, append-nil)
 
 -- ---- lines as they are seen
 
@@ -302,51 +237,32 @@ module _ {U O K : Type 0} {direction : Direction U O K} {closing_after : List In
   pub taken-lines : (now : Seen O K) (lines : List InputLine) (notices : List Awaited)
       → HasTaken direction seen_after now lines notices → now.number ≡ length lines
   taken-lines now lines [] taken = ap (λ (s : Seen O K). s.number) taken ∙ goes.number lines
-  taken-lines now lines (a ∷ []) taken = (comes-again direction (seen_after (map seen lines)) now (seen
-      a.line)
-      a.notice [] taken).number ∙ goes.number lines
+  taken-lines now lines (a ∷ []) taken = (comes-again direction (seen_after (map seen lines)) now
+      (seen a.line) a.notice [] taken).number ∙ goes.number lines
   taken-lines now lines (a ∷ b ∷ others) taken = absurd taken
 
--- what is known after an answer to a line: the same of these lines where that one is to come again, and else
--- of one
--- more
+-- what is known after an answer to a line: of these lines where that one is to come again, else of one more
 abbrev KnowsAfter : (List InputLine → Type 0) → List InputLine → InputLine → Result Step At → Type 0
-KnowsAfter knows lines line (Ok Quiet) = knows (with_next lines line)
-KnowsAfter knows lines line (Ok Ready) = knows (with_next lines line)
 KnowsAfter knows lines line (Ok (Warned notice true)) = knows lines
-KnowsAfter knows lines line (Ok (Warned notice false)) = knows (with_next lines line)
+KnowsAfter knows lines line (Ok step) = knows (with_next lines line)
 KnowsAfter knows lines line (Err at) = ⊤
 
 module _ (knows : List InputLine → Type 0) (lines : List InputLine) (line : InputLine) where
   all-known : (result : Result Step At) → ((ls : List InputLine) → knows ls)
       → KnowsAfter knows lines line result
-  all-known (Ok Quiet) known = known (with_next lines line)
-  all-known (Ok Ready) known = known (with_next lines line)
-  all-known (Ok (Warned notice true)) known = known lines
-  all-known (Ok (Warned notice false)) known = known (with_next lines line)
-  all-known (Err at) known = tt
+  all-known result known = grind (arith, common_steps)
 
   -- where no line is to come again
   next-known : (result : Result Step At) → ((notice : At) → result ≡ Ok (Warned notice true) → ⊥)
       → IfOk result (λ step. knows (with_next lines line)) → KnowsAfter knows lines line result
-  next-known (Ok Quiet) once known = known
-  next-known (Ok Ready) once known = known
-  next-known (Ok (Warned notice true)) once known = absurd (once notice refl)
-  next-known (Ok (Warned notice false)) once known = known
-  next-known (Err at) once known = tt
+  next-known result once known = grind (arith, common_steps)
 
   -- an answer shows what is known, too
   answers-known : (filter : Filter) (shows : List InputLine → List Awaited → Type 0) (ready : List (List ℕ))
       (notices : List Awaited) (result : Result Step At) → KnowsAfter knows lines line result
       → EngineAnswers filter shows ready lines notices line result
       → EngineAnswers filter (λ ls ns. shows ls ns × knows ls) ready lines notices line result
-  answers-known filter shows ready notices (Ok Quiet) known answers = ((answers.0, known), answers.1)
-  answers-known filter shows ready notices (Ok Ready) known answers = ((answers.0, known), answers.1)
-  answers-known filter shows ready notices (Ok (Warned notice true)) known answers =
-      ((answers.0, known), answers.1, answers.2)
-  answers-known filter shows ready notices (Ok (Warned notice false)) known answers =
-      ((answers.0, known), answers.1)
-  answers-known filter shows ready notices (Err at) known answers = answers
+  answers-known filter shows ready notices result known answers = grind (arith, common_steps)
 
 module _ {D : Type 0} (d : Ghosts D) (before : EngineParts D)
     (goes : GoesLineByLine d.by_line (d.closing_after before.options) (d.seen_after before.options)
@@ -354,64 +270,54 @@ module _ {D : Type 0} (d : Ghosts D) (before : EngineParts D)
   -- an engine that has taken some lines has come to them
   pub after-lines : (lines : List InputLine) → engine_took d before lines []
       → IsAfterLines d.chosen d.seen_after before.options lines (d.parts before.direction)
-  after-lines lines took = record {
-    taken_as = chosen;
-    is_seen = ap (λ (n : ℕ). seen_by before.options n (d.parts before.direction))
-        (sym (taken-lines goes (engine_seen d before) lines [] took.0)) ∙ took.0;
-  }
+  after-lines lines took = grind (arith, common_steps, taken-lines)
 
   module _ (after : EngineParts D) (lines : List InputLine) (line : InputLine) (read : ReadLine)
-      (result : Result Step At)
-      (notes : EngineNotes d before line result after)
-      (steps : Steps d.by_line (engine_seen d before) read result (engine_ready d after) (engine_seen d
-      after))
-    where
-      -- no line is to come again where faults aren't skipped
-      never : before.options.skip ≡ false → Steps d.by_line (engine_seen d before) read result
-          (engine_ready d after) (engine_seen d after) → (notice : At) → result ≡ Ok (Warned notice true) → ⊥
-      never off (inl e) notice is = false≢true (sym off ∙ (comes-again d.by_line (engine_seen d before)
-          (engine_seen d after) read notice (engine_ready d after) (subst (λ (r : Result Step At). step_made r
-          (engine_ready d after) (engine_seen d after) ≡ seen_next d.by_line (engine_seen d before) read) is
-          e)).skips)
-      never off (inr out) notice is = absurd (cc (out.is, is))
+      (result : Result Step At) (notes : EngineNotes d before line result after)
+      (steps : Steps d.by_line (engine_seen d before) read result (engine_ready d after)
+      (engine_seen d after)) where
+    -- no line is to come again where faults aren't skipped
+    never : before.options.skip ≡ false → Steps d.by_line (engine_seen d before) read result
+        (engine_ready d after) (engine_seen d after) → (notice : At) → result ≡ Ok (Warned notice true) → ⊥
+    never off (inl e) notice is = false≢true (sym off ∙ (comes-again d.by_line (engine_seen d before)
+        (engine_seen d after) read notice (engine_ready d after) (subst (λ (r : Result Step At). step_made r
+        (engine_ready d after) (engine_seen d after) ≡ seen_next d.by_line (engine_seen d before) read) is
+        e)).skips)
+    never off (inr out) notice is = absurd (cc (out.is, is))
 
-      known-then : (notices : List Awaited) → engine_took d before lines notices
-          → KnowsAfter (d.knows after.direction) lines line result
-      known-then notices took = by_bool before.options.skip
-          (λ on. all-known (d.knows after.direction) lines line result
-          (λ ls. (d.skipping after.direction before.options ls chosen on).0))
-          (λ off. by-notices off notices took)
-        where
-          with-off : (r : Result Step At) → before.options.skip ≡ false → IfOk r (λ step. before.options.skip
-              ≡ false → d.knows after.direction (with_next lines line))
-              → IfOk r (λ step. d.knows after.direction (with_next lines line))
-          with-off (Ok step) off h = h off
-          with-off (Err at) off h = tt
+    known-then : (notices : List Awaited) → engine_took d before lines notices
+        → KnowsAfter (d.knows after.direction) lines line result
+    known-then notices took = by_bool before.options.skip
+        (λ on. all-known (d.knows after.direction) lines line result
+        (λ ls. (d.skipping after.direction before.options ls chosen on).0))
+        (λ off. by-notices off notices took)
+      where
+        with-off : (r : Result Step At) → before.options.skip ≡ false → IfOk r (λ step. before.options.skip
+            ≡ false → d.knows after.direction (with_next lines line))
+            → IfOk r (λ step. d.knows after.direction (with_next lines line))
+        with-off (Ok step) off h = h off
+        with-off (Err at) off h = tt
 
-          by-notices : before.options.skip ≡ false → (ns : List Awaited) → engine_took d before lines ns
-              → KnowsAfter (d.knows after.direction) lines line result
-          by-notices off [] took = next-known (d.knows after.direction) lines line result (never off steps)
-              (with-off result off (notes lines (taken-lines goes (engine_seen d before) lines [] took.0)
-              (after-lines lines took) took.1))
-          by-notices off (a ∷ []) took =
-              let again = comes-again d.by_line (d.seen_after before.options (map seen lines))
-              (engine_seen d before) (seen a.line) a.notice [] took.0 in
-              absurd (false≢true (sym off ∙ ap (λ (c : Choices). c.skip) again.choices ∙ again.skips))
-          by-notices off (a ∷ b ∷ others) took = absurd took.0
+        by-notices : before.options.skip ≡ false → (ns : List Awaited) → engine_took d before lines ns
+            → KnowsAfter (d.knows after.direction) lines line result
+        by-notices off [] took = next-known (d.knows after.direction) lines line result (never off steps)
+            (with-off result off (notes lines (taken-lines goes (engine_seen d before) lines [] took.0)
+            (after-lines lines took) took.1))
+        by-notices off (a ∷ []) took =
+            let again = comes-again d.by_line (d.seen_after before.options (map seen lines))
+            (engine_seen d before) (seen a.line) a.notice [] took.0 in
+            absurd (false≢true (sym off ∙ ap (λ (c : Choices). c.skip) again.choices ∙ again.skips))
+        by-notices off (a ∷ b ∷ others) took = absurd took.0
 
-      -- an engine whose choices are as they were answers a line by what is seen of it, and shows what it took
-      pub engine-answers : (notices : List Awaited) → after.options ≡ before.options → seen line ≡ read
-          → engine_took d before lines notices → IsAwaited notices line → EngineAnswers (d.filter
-          before.options)
-          (engine_took d after) (engine_ready d after) lines notices line result
-      engine-answers notices same is took awaited = answers-known (d.knows after.direction) lines line
-          (d.filter before.options)
-          (HasTaken d.by_line (d.seen_after after.options) (engine_seen d after)) (engine_ready d after)
-          notices
-          result (known-then notices took) (answers-line goes
-          (HasTaken d.by_line (d.seen_after after.options) (engine_seen d after))
-          (engine_seen d before) (engine_seen d after) lines notices line (engine_ready d after) result
-          (λ ls ns then. subst (λ (c : Choices). HasTaken d.by_line (d.seen_after c) (engine_seen d after) ls
-          ns)
-          (sym same) then) took.0 awaited (subst (λ (l : ReadLine). Steps d.by_line (engine_seen d before) l
-          result (engine_ready d after) (engine_seen d after)) (sym is) steps))
+    -- an engine whose choices are as they were answers a line by what is seen of it, and shows what it took
+    pub engine-answers : (notices : List Awaited) → after.options ≡ before.options → seen line ≡ read
+        → engine_took d before lines notices → IsAwaited notices line → EngineAnswers
+        (d.filter before.options) (engine_took d after) (engine_ready d after) lines notices line result
+    engine-answers notices same is took awaited = answers-known (d.knows after.direction) lines line
+        (d.filter before.options) (HasTaken d.by_line (d.seen_after after.options) (engine_seen d after))
+        (engine_ready d after) notices result (known-then notices took) (answers-line goes
+        (HasTaken d.by_line (d.seen_after after.options) (engine_seen d after)) (engine_seen d before)
+        (engine_seen d after) lines notices line (engine_ready d after) result (λ ls ns then. subst
+        (λ (c : Choices). HasTaken d.by_line (d.seen_after c) (engine_seen d after) ls ns) (sym same) then)
+        took.0 awaited (subst (λ (l : ReadLine). Steps d.by_line (engine_seen d before) l result
+        (engine_ready d after) (engine_seen d after)) (sym is) steps))

@@ -1,18 +1,17 @@
--- What an engine of a direction answers to a line with a fault, to one that is too long, and at the input's end.
-use Rattle.crx_filter.proofs.steps.EngineLemmas.{failed-at, fatal-counts, out-fatal, no-skip, ran-out}
-use Rattle.crx_filter.specs.declared.stage.Stage.TheVariants.{Looking, Closed, Ended}
-use Rattle.crx_filter.specs.DirectionParts.{DirectionParts, seen_by, Reads, RefusesLine, AnswersToFault}
-use Rattle.crx_filter.specs.{DirectionParts.TakesLine, Stages.{bare_phase, is_settled}, LineByLine.end_step}
-use Rattle.crx_filter.specs.LineByLine.{answer_of_lines, fault_at_end_in, seen_end_with}
-use Rattle.crx_filter.{specs.EngineSteps.answer_of_step, proofs.Words.{common_steps, arith, ◌≡◌, inl, inr, ℕ}}
-use Rattle.crx_filter.proofs.Words.{◌+◌, Bool, true, false, ◌&&◌, List, [], Option, Some, None, Result, Ok}
-use Rattle.crx_filter.proofs.Words.{Err, refl, sym, ap, subst, ◌∙◌, Content, Overlong, At, Fault, LineTooLong}
-use Rattle.crx_filter.proofs.Words.{Count, Choices, Seen, Direction, Fails, made_in, SeenEnded, is_skipped_in}
-use Rattle.crx_filter.proofs.Words.{may_skip, is_skippable, failed_step, step_of_made, seen_next}
-use Rattle.crx_filter.proofs.Words.{begins_epoch, step_made, Steps, is_held, seen_stage, Stage}
-use Rattle.std.proofs.Common.{OnErr, IfErr, IfOk}
-use Rattle.crx_filter.proofs.Words.{false≢true}
-use Rattle.crx_runs.specs.declared.engine.Step.{Step, TheVariants.Warned}
+-- What an engine answers to a line with a fault, to one that is too long, and at the input's end.
+use Rattle.crx_filter.proofs
+use Rattle.crx_filter.specs
+use proofs.Words.{common_steps, arith, ◌≡◌, inl, inr, ℕ, ◌+◌, Bool, true, false, ◌&&◌, List, [], Option, Some}
+use proofs.Words.{None, Result, Ok, Err, refl, sym, ap, subst, ◌∙◌, Content, Overlong, At, Fault, LineTooLong}
+use proofs.Words.{Count, Choices, Seen, Direction, Fails, made_in, SeenEnded, is_skipped_in, may_skip}
+use proofs.Words.{is_skippable, failed_step, step_of_made, seen_next, begins_epoch, step_made, Steps, is_held}
+use proofs.Words.{seen_stage, Stage, false≢true}
+use Rattle.crx_runs.specs.declared.engine.Step.{Step}
+use Rattle.{crx_runs.specs.declared.engine.Step.TheVariants.Warned, std.proofs.Common.{OnErr, IfErr, IfOk}}
+use proofs.{Pending.seen_in, steps.EngineLemmas.{failed-at, fatal-counts, out-fatal, no-skip, ran-out}}
+use specs.DirectionParts.{DirectionParts, seen_by, Reads, RefusesLine, AnswersToFault, TakesLine}
+use specs.{EngineSteps.answer_of_step, LineByLine.{end_step, answer_of_lines, fault_at_end_in, seen_end_with}}
+use specs.{Stages.{bare_phase, is_settled}, declared.stage.Stage.TheVariants.{Looking, Closed, Ended}}
 
 -- no fault is answered where one has ended the run, or after the end
 pub not-settled : (stage : Stage) → (stage ≡ Looking → ⊥) → (stage ≡ Closed → ⊥)
@@ -108,19 +107,9 @@ module _ {U O K : Type 0} (direction : Direction U O K) where
   module _ (closing : List (List ℕ)) where
     pub by-stage : (choices : Choices) (number : ℕ) (stage : Stage) (begun : Option O) (types : List Count)
         (kept : K) → is_held stage begun ≡ true → ((at : At) → stage ≡ Ended at → ⊥)
-        → seen_end_with direction closing (record {
-          choices = choices;
-          number = number;
-          phase = seen_stage begun stage;
-          types = types;
-          kept = kept;
-        }) ≡ end_step direction closing (record {
-          choices = choices;
-          number = number;
-          phase = seen_stage begun stage;
-          types = types;
-          kept = kept;
-        }) (fault_at_end_in (bare_phase stage))
+        → seen_end_with direction closing (seen_in choices number (seen_stage begun stage) types kept)
+        ≡ end_step direction closing (seen_in choices number (seen_stage begun stage) types kept)
+        (fault_at_end_in (bare_phase stage))
     by-stage choices number stage begun types kept held going = grind (arith, common_steps)
 
   module _ (choices : Choices) (number : ℕ) (before after : DirectionParts O K) (stage : Stage)

@@ -1,17 +1,10 @@
 -- Facts of an engine's steps in either direction: held epochs, faults that count, memory that ran out, a
 -- fault that is answered again.
-use Rattle.crx_filter.{specs.LineByLine.seen_end_with, specs.EngineSteps.RanOut}
-use Rattle.crx_filter.{proofs.Words.{common_steps, arith, ◌≡◌, inl, inr, ℕ, ◌+◌}}
-use Rattle.crx_filter.proofs.Words.{Bool, true, false, List, Result, Err, refl, ap, ◌∙◌, ◌&&◌, ReadLine, At}
-use Rattle.crx_filter.proofs.Words.{Fault, OutOfMemory, SeenEnded, Seen, Direction, Failed, SeenStep, made_in}
-use Rattle.crx_filter.proofs.Words.{may_skip, is_skipped_in, failed_step, step_of_made, seen_next}
-use Rattle.crx_filter.proofs.Words.{may_take_memory, takes_memory, is_skippable, answer_of_step, step_made}
-use Rattle.crx_filter.proofs.Words.{Steps, is_held, epoch_open, RinexReader, false-true}
-use Rattle.crx_runs.specs.declared.engine.Step.{Step}
-
--- a reader of RINEX holds the epoch that its stage has open
-pub held-by_reader : (r : RinexReader) → is_held r.stage (epoch_open r) ≡ true
-held-by_reader r = grind (arith, common_steps, false-true)
+use Rattle.crx_filter.proofs.Words.{common_steps, arith, ◌≡◌, ℕ, ◌+◌, Bool, true, false, List, Result, Err}
+use Rattle.crx_filter.proofs.Words.{ap, ◌&&◌, ReadLine, At, Fault, OutOfMemory, SeenEnded, Seen, Direction}
+use Rattle.crx_filter.proofs.Words.{Failed, may_skip, is_skipped_in, failed_step, takes_memory, is_skippable}
+use Rattle.crx_filter.{proofs.Words.{answer_of_step, step_made, Steps}, specs.EngineSteps.RanOut}
+use Rattle.{crx_filter.specs.LineByLine.seen_end_with, crx_runs.specs.declared.engine.Step.Step}
 
 -- memory that ran out isn't skipped
 pub out-fatal : (fault : Fault) → fault ≡ OutOfMemory → is_skippable fault ≡ false
@@ -42,14 +35,10 @@ failed-at r at e = grind (arith, common_steps)
 pub repeats : {U O K : Type 0} (direction : Direction U O K)
     (before after : Seen O K) (line : ReadLine) (ready : List (List ℕ)) (result : Result Step At) (at : At)
     → Steps direction before line result ready after → before.phase ≡ SeenEnded at → result ≡ Err at
-repeats {O = O} {K = K} direction before after line ready result at (inl step) is =
-    grind (arith, common_steps, seen_next, step_of_made, made_in, failed-at)
-repeats {O = O} direction before after line ready result at (inr ran) is =
-    grind (arith, common_steps, may_take_memory)
+repeats direction before after line ready result at known is = grind (arith, common_steps, failed-at)
 
 pub repeats-end : {U O K : Type 0} (direction : Direction U O K) (before after : Seen O K)
     (closing ready : List (List ℕ)) (result : Result Step At) (at : At) → step_made result ready after
     ≡ seen_end_with direction closing before → before.phase ≡ SeenEnded at → result ≡ Err at
-repeats-end {O = O} {K = K} direction before after closing ready result at step is =
-    let again : (seen_end_with direction closing before).answer ≡ Failed at = rw is refl in
-    failed-at result at (ap (λ (s : SeenStep O K). s.answer) step ∙ again)
+repeats-end direction before after closing ready result at step is =
+    grind (arith, common_steps, failed-at)

@@ -1,8 +1,7 @@
 -- A row that was read, and then taken: what is said of the reader between is said of the one before.
-use Rattle.crx_filter.proofs.Words.{common_steps, arith, ◌≡◌, true, List, ℕ, false≢true, Written}
-use Rattle.crx_filter.proofs.Words.{compaction, made_in, made_at, reader_phase, is_row}
-use Rattle.crx_filter.proofs.Words.{IsSameReader, TakesRinexLine, RinexReader, RinexStep}
-use Rattle.crx_filter.specs.declared.rinex_reader.RinexStep.TheVariants.{Row, Epoch}
+use Rattle.crx_filter.proofs.Words.{common_steps, arith, ◌≡◌, true, List, ℕ, Written, compaction, made_in}
+use Rattle.crx_filter.proofs.Words.{made_at, reader_phase, is_row, IsSameReader, TakesRinexLine, RinexReader}
+use Rattle.crx_filter.proofs.Words.{RinexStep}
 
 pub same-made : (before mid : RinexReader) (line : List ℕ) (kept : Written) → IsSameReader before mid
     → made_at mid line kept ≡ made_at before line kept
@@ -12,6 +11,4 @@ same-made before mid line kept same = grind (arith, common_steps, made_in, compa
 pub taken-from : (before mid after : RinexReader) (line : List ℕ) (kept : Written) (step : RinexStep) → is_row
     step ≡ true → IsSameReader before mid → TakesRinexLine (made_at mid line kept) mid line step after
     → TakesRinexLine (made_at before line kept) before line step after
-taken-from before mid after line kept Row row same takes = grind (arith, common_steps, same-made)
-taken-from before mid after line kept Epoch row same takes = grind (arith, common_steps)
-taken-from before mid after line kept step row same takes = absurd (false≢true row)
+taken-from before mid after line kept step row same takes = grind (arith, common_steps, same-made)

@@ -4,10 +4,9 @@ use Rattle.crx_filter.proofs.Words
 use Words.{common_steps, ℕ, zero, suc, ◌≡◌, ◌+◌, ◌<◌, max, ◌⊎◌, inl, inr, true, false, List, [], ◌∷◌, ◌++◌}
 use Words.{length, drop, refl, ap, sym, ◌∙◌, subst, arith, append_assoc, ⊤, AllByRecursion, length-drop}
 use Words.{is_skippable, ReadLine, Content, Overlong, At, Fault, begins_epoch, is_event_line, BadEpoch}
-use Words.{announces_records, Option, None, is_some, Here, Wrong, Wanted, FileUnit}
-use Words.{Observation, ReadEpoch, epoch_at, Item, Accepted, Warned, types_in_force, Reading, AtLines}
-use Words.{Looking, can_go_on, looked_for, reading_within, reading_from, raws_kept, compact_place}
-use Words.{IsBetweenUnits, continued_reading, by_bool}
+use Words.{announces_records, Option, None, is_some, Here, Wrong, Wanted, FileUnit, Observation, ReadEpoch}
+use Words.{epoch_at, Item, Accepted, Warned, types_in_force, Reading, AtLines, Looking, can_go_on, looked_for}
+use Words.{reading_within, reading_from, raws_kept, compact_place, IsBetweenUnits, continued_reading, by_bool}
 use Rattle.crx_filter.proofs.damage.BlockReading.{place-between, place-inside, observation-here, skipped-here}
 use Rattle.crx_filter.proofs.{damage.GoingOn.{with_warnings, GoesOnAt, open-goes_on}, reading.Each.all-append}
 use Rattle.crx_filter.proofs.reading.{Each.all-drop, EpochFaults.{IsSkippableAt, epoch-skippable}}

@@ -1,18 +1,17 @@
 -- The reading of a text that is damaged in stretches: after each stretch the units that are kept, exactly.
-use Rattle.crx_filter.proofs.Words
-use Words.{common_steps, arith, ℕ, ◌≡◌, true, List, [], ◌∷◌, ◌++◌, map, Option, refl, ap, sym, ◌∙◌, subst}
-use Words.{append_assoc, append-nil, ⊤, AllByRecursion, flat_map, flat_map-append, lines_of, ReadLine}
-use Words.{Content, seen, Epoch, IsWholeEpoch, printed_epoch, Observation, IsGood, ReadEpoch, Choices, Item}
-use Words.{Accepted, Warned, header_has_ended, records_left, types_in_force, reading_from, compact_place}
-use Words.{BeginsAnew, printed_items, IsBetweenUnits, expanded_lines, AreInPlace, Stretch, up_to_end}
-use Words.{up_to_next, with_stretches, IsStretch, AreStretches}
-use Rattle.crx_filter.proofs.damage.{BlockSaved.rest-in_place, SavedText.{lines-append, epochs_of}}
-use Rattle.crx_filter.proofs.{damage.TextAfter.lines_on, reading.Each.{all-append, header-append}}
-use Rattle.crx_filter.proofs.stretches.KeptReading.{back_on, back-printed, anew-between, CanBeKept, kept-more}
-use Rattle.crx_filter.proofs.stretches.OpenReading.{IsNoEvent, AreEpochs, IsOpen, stretch-more, epochs-append}
-use Rattle.crx_filter.proofs.{stretches.OpenReading.{epochs-between, epochs-types}, wayback.Carried.left-same}
-use Rattle.crx_filter.proofs.wayback.{Carried.types-same, ExpandedWhole.AreGoodEpochs, Items.known_back}
+use Rattle.crx_filter.proofs
+use proofs.Words.{common_steps, arith, ℕ, ◌≡◌, true, List, [], ◌∷◌, ◌++◌, map, Option, refl, ap, sym, ◌∙◌}
+use proofs.Words.{subst, append_assoc, append-nil, ⊤, AllByRecursion, flat_map, flat_map-append, lines_of}
+use proofs.Words.{ReadLine, Content, seen, Epoch, IsWholeEpoch, printed_epoch, Observation, IsGood, ReadEpoch}
+use proofs.Words.{Choices, Item, Accepted, Warned, header_has_ended, records_left, types_in_force}
+use proofs.Words.{reading_from, compact_place, BeginsAnew, printed_items, IsBetweenUnits, expanded_lines}
+use proofs.Words.{AreInPlace, Stretch, up_to_end, up_to_next, with_stretches, IsStretch, AreStretches}
 use Rattle.crx_filter.specs.meaning.Stretches.{Saves}
+use proofs.damage.{BlockSaved.rest-in_place, SavedText.{lines-append, epochs_of}, TextAfter.lines_on}
+use proofs.{reading.Each.{all-append, header-append}, stretches.KeptReading.{back_on, back-printed}}
+use proofs.stretches.{KeptReading.{anew-between, CanBeKept, kept-more}, OpenReading.{IsNoEvent, AreEpochs}}
+use proofs.stretches.OpenReading.{IsOpen, stretch-more, epochs-append, epochs-between, epochs-types}
+use proofs.wayback.{Carried.{left-same, types-same}, ExpandedWhole.AreGoodEpochs, Items.known_back}
 
 -- ---- where a reading is
 

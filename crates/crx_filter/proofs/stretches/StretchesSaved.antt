@@ -8,19 +8,18 @@ use proofs.Words.{is_at_start, records_left, Reading, AtLines, reading_from, end
 use proofs.Words.{compact_place, expanded_unit, whole_compact, expanded, printed_items, warnings_in}
 use proofs.Words.{result_of, notices_text, Begins, IsBetweenUnits, expanded_lines, expanded_so_far}
 use proofs.Words.{AreInPlace, ItemsAreRead, IsWrittenFirst, with_stretches}
-use proofs.damage.{BlockSaved.back-between, DamagedText.front-cut, GoingOn.{EndsAfter, ends-inside}}
-use proofs.damage.{GoingOn.with_warnings, SavedText.{lines-append, lines-warned}}
-use proofs.reading.{CompactPrefixes.{expanded-first, reading-at}, ForwardCompact.compact-forward}
-use proofs.reading.WhatWasRead.{items-read}
-use proofs.stretches.{OpenReading.IsOpen, StretchesCut.{AreGood, good-before, good-up_to, stretches-allowed}}
-use proofs.stretches.{StretchesCut.stretches-cut, StretchesRead.{WereReadAs, AreStretchesRead}}
-use proofs.stretches.StretchesRead.{lines_of_stretches, next-closed, stretches-read}
-use proofs.wayback.{Carried.{started, types-same, reads-again}, ExpandedWhole.{AreGoodEpochs, epochs-good}}
-use proofs.wayback.{First.{first-lines_read, version-clean, program-clean}, Items.{known_back}}
-use proofs.wayback.{Items.{read_back, unit-here}, Reading.lines_back, WayBack.{IsSettled, whole-settled}}
-use proofs.wayback.WayBack.{lines-same, lines-clean, printed-same, whole-after}
 use Rattle.crx_filter.specs.meaning.Stretches.{read_of_file, IsReadWhole, HasStretches, KeepsTheRest}
 use Rattle.crx_filter.specs.meaning.Stretches.{BeginsWhole}
+use proofs.damage.{BlockSaved.back-between, DamagedText.front-cut}
+use proofs.damage.{GoingOn.{EndsAfter, ends-inside, with_warnings}, SavedText.{lines-append, lines-warned}}
+use proofs.reading.{CompactPrefixes.{expanded-first, reading-at}, ForwardCompact.compact-forward}
+use proofs.{reading.WhatWasRead.items-read, stretches.OpenReading.IsOpen}
+use proofs.stretches.StretchesCut.{AreGood, good-before, good-up_to, stretches-allowed, stretches-cut}
+use proofs.stretches.StretchesRead.{WereReadAs, AreStretchesRead, lines_of_stretches, next-closed}
+use proofs.{stretches.StretchesRead.stretches-read, wayback.Carried.{started, types-same, reads-again}}
+use proofs.wayback.{ExpandedWhole.{AreGoodEpochs, epochs-good}, First.{first-lines_read, version-clean}}
+use proofs.wayback.{First.program-clean, Items.{known_back, read_back, unit-here}, Reading.lines_back}
+use proofs.wayback.WayBack.{IsSettled, whole-settled, lines-same, lines-clean, printed-same, whole-after}
 
 -- ---- the file
 

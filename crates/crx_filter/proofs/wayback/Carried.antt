@@ -1,15 +1,14 @@
 -- What was accepted of a RINEX file, written again and read again: the units without the warnings between
 -- them, with the same header, events and types in force.
-use Rattle.crx_filter.proofs
-use proofs.Words.{common_steps, ℕ, ◌≡◌, ◌+◌, ◌-◌, ◌<◌, Bool, true, false, cond, List, [], ◌∷◌, map}
-use proofs.Words.{length, None, refl, ap, sym, ◌∙◌, arith, length-append, map-append, length-map, ReadLine}
-use proofs.Words.{Content, Epoch, Place, Here, FileUnit, HeaderLine, EventLine, EventRecord, Observation}
-use proofs.Words.{types_of, Item, Accepted, Warned, is_at_start, header_has_ended, records_left}
-use proofs.Words.{records_count_types, declaring_lines, types_in_force, types_fault, header_line_fault}
-use proofs.Words.{unit_place, Reading, AtLines, reading_from, ended_reading, whole_reading, continued_reading}
-use proofs.Words.{IsReadForward, AreInPlace, written_lines}
-use proofs.reading.{Ending.closes-well, Resuming.{within-here, within-wanted, enough-units, resumed}}
-use Rattle.std.proofs.lemmas.List.{drop_all}
+use Rattle.crx_filter.proofs.Words
+use Words.{common_steps, ℕ, ◌≡◌, ◌+◌, ◌-◌, ◌<◌, Bool, true, false, cond, List, [], ◌∷◌, map, length, None}
+use Words.{refl, ap, sym, ◌∙◌, arith, length-append, map-append, length-map, ReadLine, Content, Epoch, Place}
+use Words.{Here, FileUnit, HeaderLine, EventLine, EventRecord, Observation, types_of, Item, Accepted, Warned}
+use Words.{is_at_start, header_has_ended, records_left, records_count_types, declaring_lines, types_in_force}
+use Words.{types_fault, header_line_fault, unit_place, Reading, AtLines, reading_from, ended_reading}
+use Words.{whole_reading, continued_reading, IsReadForward, AreInPlace, written_lines}
+use Rattle.crx_filter.proofs.reading.{Ending.closes-well, Resuming.{within-here, within-wanted, enough-units}}
+use Rattle.{crx_filter.proofs.reading.Resuming.resumed, std.proofs.lemmas.List.drop_all}
 
 -- a unit with what is known of its epoch where it is read again
 abbrev pub carried_unit : {E : Type 0}

@@ -1,23 +1,21 @@
 -- A file comes back only where it is standard: the lines that are written are plain, and printed as they are.
-use Rattle.crx_filter.proofs.Words
-use Words.{ℕ, ℤ, zero, suc, ◌≡◌, ◌+◌, ◌-◌, ◌<◌, ◌≤◌, true, false, List, [], ◌∷◌, ◌++◌, map, length, take}
-use Words.{drop, replicate, Option, Some, None, refl, ap, sym, ◌∙◌, arith, All, AllByRecursion, list_all}
-use Words.{All-head, All-tail, and_parts, and_from, clock_text, IsSoundRow, IsWholeEpoch, Count}
-use Words.{OBSERVATION_WIDTH, CLOCK_WIDTH, InputLine, ends_with_return, lines_of, HasNoFeed, is_printable}
-use Words.{is_kept, Row, Epoch, printed_row, printed_epoch, printed_cells, lines_text, Observation, Choices}
-use Words.{is_date, compacted, expanded, Item, Accepted, Warned, WholeReading, FilterResult}
-use Words.{printed_items, whole_of, IsStandard, AreInPlace, OfCopiedLines, HaveNoReturns}
-use Rattle.crx_filter.proofs.{reading.Each.{all-append, contents}, wayback.Cut.{CanStand, return-kept}}
-use Rattle.crx_filter.proofs.wayback.{Cut.first-cut, First.{append-printable, take-printable}}
-use Rattle.crx_filter.proofs.wayback.First.{printable-no_feed, printable-no_return}
-use Rattle.crx_filter.proofs.wayback.{Standard.normal-comes_back, WayBack.whole-settled}
-use Rattle.std.proofs.{Common.{pos, negsuc, ◌^◌, decimal}, Math.Nat.pow-le-pow_right}
-use Rattle.std.specs.{Char.is_ascii_digit, Str.all_ascii_digits}
+use Rattle.crx_filter.proofs
+use proofs.Words.{ℕ, ℤ, zero, suc, ◌≡◌, ◌+◌, ◌-◌, ◌<◌, ◌≤◌, true, false, List, [], ◌∷◌, ◌++◌, map, length}
+use proofs.Words.{take, drop, replicate, Option, Some, None, refl, ap, sym, ◌∙◌, arith, All, AllByRecursion}
+use proofs.Words.{list_all, All-head, All-tail, and_parts, and_from, clock_text, IsSoundRow, IsWholeEpoch}
+use proofs.Words.{Count, OBSERVATION_WIDTH, CLOCK_WIDTH, InputLine, ends_with_return, lines_of, HasNoFeed}
+use proofs.Words.{is_printable, is_kept, Row, Epoch, printed_row, printed_epoch, printed_cells, lines_text}
+use proofs.Words.{Observation, Choices, is_date, compacted, expanded, Item, Accepted, Warned, WholeReading}
+use proofs.Words.{FilterResult, printed_items, whole_of, IsStandard, AreInPlace, OfCopiedLines, HaveNoReturns}
+use Rattle.crx_base.specs.declared.limits.TheConstants.{OBSERVATION_DECIMALS, CLOCK_DECIMALS}
+use Rattle.crx_compact.proofs.wayback.{Facts.{head-kept, sound-name_kept}, Standing.trimmed-printable}
 use Rattle.crx_text.proofs.{ReadBack.decimal_is_digits, Spellings.abs_within}
 use Rattle.crx_text.specs.meaning.Numbers.{IsMissingOrWithin, number_text, size_text, observation_text}
-use Rattle.crx_text.specs.meaning.Numbers.{IsValue}
-use Rattle.crx_compact.proofs.wayback.{Facts.{head-kept, sound-name_kept}, Standing.trimmed-printable}
-use Rattle.crx_base.specs.declared.limits.TheConstants.{OBSERVATION_DECIMALS, CLOCK_DECIMALS}
+use Rattle.{crx_text.specs.meaning.Numbers.IsValue, std.proofs.Common.{pos, negsuc, ◌^◌, decimal}}
+use Rattle.std.{proofs.Math.Nat.pow-le-pow_right, specs.{Char.is_ascii_digit, Str.all_ascii_digits}}
+use proofs.{reading.Each.{all-append, contents}, wayback.Cut.{CanStand, return-kept, first-cut}}
+use proofs.wayback.First.{append-printable, take-printable, printable-no_feed, printable-no_return}
+use proofs.wayback.{Standard.normal-comes_back, WayBack.whole-settled}
 
 -- a line that is plain wherever it is written
 pub record IsPlainLine (line : List ℕ) : Type 0 where

@@ -1,13 +1,11 @@
 -- Lines that are written and cut again are these lines; and what is read of an input holds no LF and isn't
 -- too long.
-use Rattle.crx_filter.proofs.Words.{common_steps, arith, ℕ, ◌≡◌, ◌≢◌, ◌≤◌, true, false, cond, ◌⊎◌}
-use Rattle.crx_filter.proofs.Words.{List, [], ◌∷◌, map, length, refl, ap, append_assoc, ⊤, ◌==◌}
-use Rattle.crx_filter.proofs.Words.{AllByRecursion, All-head, All-tail, All-cons, All-nil, ltb-false}
-use Rattle.crx_filter.proofs.Words.{eqb_tells, Piece, InputLine, pieces_of, onto_first, ends_with_return}
-use Rattle.crx_filter.proofs.Words.{without_return, line_of, lines_of, HasNoFeed, ReadLine, Content}
-use Rattle.crx_filter.proofs.Words.{Overlong, seen, LINE_LIMIT, lines_text, by_bool}
-use Rattle.std.proofs.lemmas.Bool.{le-ltb}
-use Rattle.crx_lines.proofs.PieceLemmas.{pieces-first, NoFeed}
+use Rattle.crx_filter.proofs.Words
+use Words.{common_steps, arith, ℕ, ◌≡◌, ◌≢◌, ◌≤◌, true, false, cond, ◌⊎◌, List, [], ◌∷◌, map, length, refl}
+use Words.{ap, append_assoc, ⊤, ◌==◌, AllByRecursion, All-head, All-tail, All-cons, All-nil, ltb-false}
+use Words.{eqb_tells, Piece, InputLine, pieces_of, onto_first, ends_with_return, without_return, line_of}
+use Words.{lines_of, HasNoFeed, ReadLine, Content, Overlong, seen, LINE_LIMIT, lines_text, by_bool}
+use Rattle.{crx_lines.proofs.PieceLemmas.{pieces-first, NoFeed}, std.proofs.lemmas.Bool.le-ltb}
 
 -- a line that is read as it was written
 pub record IsClean (line : List ℕ) : Type 0 where

@@ -1,15 +1,13 @@
 -- The two lines that compact text begins with are read, and can be cut off again.
-use Rattle.crx_filter.proofs.Words
-use Words.{common_steps, ℕ, zero, suc, ◌≡◌, ◌≢◌, true, false, List, [], ◌∷◌, ◌++◌, take, replicate, length}
-use Words.{refl, arith, length-append, Ok, list_all, drop-append_seam, All-nil, ne_eqb, and_parts, HasNoFeed}
-use Words.{ends_with_return, ReadLine, Content, is_printable, Here, CRINEX_PROGRAM_LABEL, is_date}
-use Words.{version_line, program_line, crinex_program, first_lines}
-use Rattle.crx_filter.proofs.wayback.Cut.{IsClean}
-use Rattle.std.{proofs.lemmas.List.length-take-le, specs.Prelude.nat_le}
-use Rattle.crx_base.specs.declared.limits.TheConstants.{DATE_LIMIT}
+use Rattle.crx_filter.proofs.Words.{common_steps, ℕ, zero, suc, ◌≡◌, ◌≢◌, true, false, List, [], ◌∷◌, ◌++◌}
+use Rattle.crx_filter.proofs.Words.{take, replicate, length, refl, arith, length-append, Ok, list_all}
+use Rattle.crx_filter.proofs.Words.{drop-append_seam, All-nil, ne_eqb, and_parts, HasNoFeed, ends_with_return}
+use Rattle.crx_filter.proofs.Words.{ReadLine, Content, is_printable, Here, CRINEX_PROGRAM_LABEL, is_date}
+use Rattle.crx_filter.proofs.Words.{version_line, program_line, crinex_program, first_lines}
+use Rattle.{crx_base.specs.declared.limits.TheConstants.DATE_LIMIT, crx_filter.proofs.wayback.Cut.IsClean}
 use Rattle.crx_header.specs.declared.crinex.TheConstants.{CRINEX_PROGRAM}
-use Rattle.crx_header.specs.meaning.CompactHeader.{left_justified}
-use Rattle.crx_lines.proofs.PieceLemmas.{NoFeed}
+use Rattle.{crx_header.specs.meaning.CompactHeader.left_justified, crx_lines.proofs.PieceLemmas.NoFeed}
+use Rattle.std.{proofs.lemmas.List.length-take-le, specs.Prelude.nat_le}
 
 -- ---- the date's columns
 

@@ -1,17 +1,16 @@
 -- What was accepted by a compaction, and how its compact text is read: the same header, events and types in
 -- force.
 use Rattle.crx_filter.proofs.Words
-use Words.{common_steps, ℕ, ◌≡◌, ◌+◌, true, false, List, [], ◌∷◌, map, length, Option, Ok, refl}
-use Words.{arith, append-nil, is_some, length-map, Content, Row, Epoch, Here, FileUnit, HeaderLine, EventLine}
+use Words.{common_steps, ℕ, ◌≡◌, ◌+◌, true, false, List, [], ◌∷◌, map, length, Option, Ok, refl, arith}
+use Words.{append-nil, is_some, length-map, Content, Row, Epoch, Here, FileUnit, HeaderLine, EventLine}
 use Words.{EventRecord, Observation, is_event_line, records_in, Count, Marked, compact_epoch, RawEpoch}
 use Words.{block_of, ReadEpoch, LinesCanStand, Item, Accepted, types_in_force, is_interrupted, is_in_full}
 use Words.{marked_epochs, raws_kept, event_line, compact_epoch_place, compact_place, AreInPlace, by_bool}
-use Rattle.crx_filter.proofs.{following.Following.body-place, wayback.Carried.{carried_unit, carried}}
-use Rattle.crx_filter.proofs.wayback.Carried.{header-same, left-same, count-same, types-same}
-use Rattle.crx_filter.proofs.wayback.Carried.{record-here}
 use Rattle.crx_compact.proofs.wayback.{Reading.each-reads_back, Standing.lines-stand}
 use Rattle.crx_compact.specs.{Laws.AreWhole, ReadingLaws.{raws_of, read_of, lines_of_epoch, EpochReadsBack}}
 use Rattle.crx_compact.specs.meaning.Compaction.{since_full, run_of, satellite_line}
+use Rattle.crx_filter.proofs.{following.Following.body-place, wayback.Carried.{carried_unit, carried}}
+use Rattle.crx_filter.proofs.wayback.Carried.{header-same, left-same, count-same, types-same, record-here}
 
 -- an epoch with its mark
 abbrev pub marked_now : Option ℕ → List (Item Epoch) → Epoch → Marked

@@ -1,23 +1,21 @@
 -- What was accepted, printed and read again; the normal form of a file, and a file that is in order.
-use Rattle.crx_filter.proofs.Words
-use Words.{ℕ, ◌≡◌, ◌+◌, ◌*◌, ◌≤◌, true, false, List, [], ◌∷◌, ◌++◌, map, length, Option, None, refl, ap}
-use Words.{◌∙◌, arith, append-nil, All, AllByRecursion, is_some, length-map, All-head, All-tail, and_parts}
-use Words.{ReadLine, Content, clock_text, without_end_blanks, LINE_LIMIT, TYPES_LIMIT, Row, Epoch, Count}
-use Words.{is_event_line, records_in, IsSoundRow, IsWholeEpoch, epoch_place, Here, printed_row, printed_epoch}
-use Words.{printed_cells, lines_text, FileUnit, HeaderLine, EventLine, EventRecord, Observation, printed_unit}
-use Words.{Item, Accepted, Warned, types_in_force, WholeReading, warnings_in, rinex_place, whole_rinex}
-use Words.{rinex_reading, printed_items, whole_of, normal_form, IsStandard, AreInPlace, OfCopiedLines}
-use Words.{HaveNoReturns, HasNormalForm, sym}
-use Rattle.crx_filter.proofs.wayback.Converse.{IsPlainLine, lines-plain, printed-plain, all-plain}
-use Rattle.crx_filter.proofs.wayback.{Converse.contents-plain, Cut.{IsClean, CanStand, lines-cut}}
-use Rattle.crx_filter.proofs.reading.{KeptThroughout.within-kept, WhatWasRead.of-ended, Each.all-append}
-use Rattle.crx_filter.proofs.{following.Following.body-place, wayback.WayBack.{IsSettled, whole-settled}}
-use Rattle.crx_filter.proofs.wayback.Carried.{carried_unit, carried, header-same, start-same, left-same}
-use Rattle.crx_filter.proofs.wayback.Carried.{count-same, types-same, header-here, record-here, StandsAgain}
-use Rattle.crx_filter.proofs.{wayback.Carried.whole-again, reading.Forward.{rinex-forward, rinex_beginning}}
-use Rattle.crx_header.specs.meaning.EpochColumns.{satellites_of}
-use Rattle.crx_rinex.proofs.ReadingBack.{epoch-back, length-row, length-head}
-use Rattle.crx_text.proofs.EndBlanks.{few_kept}
+use Rattle.crx_filter.proofs
+use proofs.Words.{ℕ, ◌≡◌, ◌+◌, ◌*◌, ◌≤◌, true, false, List, [], ◌∷◌, ◌++◌, map, length, Option, None, refl}
+use proofs.Words.{ap, ◌∙◌, arith, append-nil, All, AllByRecursion, is_some, length-map, All-head, All-tail}
+use proofs.Words.{and_parts, ReadLine, Content, clock_text, without_end_blanks, LINE_LIMIT, TYPES_LIMIT, Row}
+use proofs.Words.{Epoch, Count, is_event_line, records_in, IsSoundRow, IsWholeEpoch, epoch_place, Here}
+use proofs.Words.{printed_row, printed_epoch, printed_cells, lines_text, FileUnit, HeaderLine, EventLine}
+use proofs.Words.{EventRecord, Observation, printed_unit, Item, Accepted, Warned, types_in_force}
+use proofs.Words.{WholeReading, warnings_in, rinex_place, whole_rinex, rinex_reading, printed_items, whole_of}
+use proofs.Words.{normal_form, IsStandard, AreInPlace, OfCopiedLines, HaveNoReturns, HasNormalForm, sym}
+use Rattle.{crx_header.specs.meaning.EpochColumns.satellites_of, crx_rinex.proofs.ReadingBack.epoch-back}
+use Rattle.{crx_rinex.proofs.ReadingBack.{length-row, length-head}, crx_text.proofs.EndBlanks.few_kept}
+use proofs.{following.Following.body-place, reading.{Each.all-append, Forward.rinex-forward}}
+use proofs.reading.{Forward.rinex_beginning, KeptThroughout.within-kept, WhatWasRead.of-ended}
+use proofs.wayback.Carried.{carried_unit, carried, header-same, start-same, left-same, count-same, types-same}
+use proofs.wayback.Carried.{header-here, record-here, StandsAgain, whole-again}
+use proofs.wayback.Converse.{IsPlainLine, lines-plain, printed-plain, all-plain, contents-plain}
+use proofs.wayback.{Cut.{IsClean, CanStand, lines-cut}, WayBack.{IsSettled, whole-settled}}
 
 -- ---- what is at a unit's printed lines
 

@@ -1,13 +1,12 @@
 -- The bytes 13 of the lines that are copied are those of the lines that were read.
-use Rattle.crx_filter.proofs.Words
-use Words.{[], ℕ, ◌≡◌, ◌+◌, ◌≤◌, Bool, List, ◌∷◌, length, take, drop, arith, subst, ⊤, ReadLine, Content}
-use Words.{Epoch, Place, Here, FileUnit, HeaderLine, EventLine, EventRecord, Observation, ReadEpoch, Item}
-use Words.{Accepted, Warned, types_in_force, WholeReading, reading_from, ended_reading, rinex_place}
-use Words.{whole_rinex, raws_kept, compact_place, first_lines, whole_compact}
-use Rattle.crx_filter.proofs.reading.{Forward.rinex_beginning, ForwardCompact.compact_beginning}
-use Rattle.crx_filter.proofs.reading.{KeptThroughout.within-kept, Resuming.by_place, WhatStands.of-unit}
-use Rattle.crx_filter.proofs.reading.{WhatStands.{of-rinex, of-compact}, WhatWasRead.of-ended}
-use Rattle.crx_filter.proofs.wayback.Returns.{returns, returns_read, read-cut}
+use Rattle.crx_filter.proofs
+use proofs.Words.{[], ℕ, ◌≡◌, ◌+◌, ◌≤◌, Bool, List, ◌∷◌, length, take, drop, arith, subst, ⊤, ReadLine}
+use proofs.Words.{Content, Epoch, Place, Here, FileUnit, HeaderLine, EventLine, EventRecord, Observation}
+use proofs.Words.{ReadEpoch, Item, Accepted, Warned, types_in_force, WholeReading, reading_from}
+use proofs.Words.{ended_reading, rinex_place, whole_rinex, raws_kept, compact_place, first_lines}
+use proofs.{Words.whole_compact, reading.{Forward.rinex_beginning, ForwardCompact.compact_beginning}}
+use proofs.reading.{KeptThroughout.within-kept, Resuming.by_place, WhatStands.{of-unit, of-rinex, of-compact}}
+use proofs.{reading.WhatWasRead.of-ended, wayback.Returns.{returns, returns_read, read-cut}}
 
 -- ---- of items
 

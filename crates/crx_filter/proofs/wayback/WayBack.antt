@@ -1,25 +1,24 @@
 -- What was compacted comes back.
-use Rattle.crx_filter.proofs.Words
-use Words.{common_steps, ℕ, ◌≡◌, ◌+◌, ◌*◌, ◌≤◌, Bool, true, false, cond, List, [], ◌∷◌, map, length, Option}
-use Words.{Some, None, refl, arith, nat_lt, not, AllByRecursion, list_all, ltb-false, lines_of}
-use Words.{ends_with_return, ReadLine, Content, seen, is_printable, Fault, TYPES_LIMIT, Epoch, lines_text}
-use Words.{FileUnit, HeaderLine, Observation, compact_epoch, ReadEpoch, Choices}
-use Words.{is_date, Item, Accepted, Warned, is_at_start, header_has_ended, records_left, types_in_force}
-use Words.{WholeReading, Stop, AtFault, AtLines, Looking, is_skipped, reading_from, fault_at_end, ended_with}
-use Words.{ended_reading, warnings_in, written_lines, result_of, rinex_place, marked_epochs, whole_rinex}
-use Words.{version_line, program_line, compact_lines, rinex_reading, compact_place, whole_compact}
-use Words.{expanded_unit, expanded, printed_items, AreInPlace, OfCopiedLine, OfCopiedLines, HaveNoReturns}
-use Words.{written_well, Place, ap, ◌∙◌, by_bool}
-use Rattle.crx_filter.proofs.{following.Lines.IsStopped, reading.WhatWasRead.{items-read, allowed, of-ended}}
-use Rattle.crx_filter.proofs.reading.{Each.all-append, Stopping.reading-stopped, InPlace.items-in_place}
-use Rattle.crx_filter.proofs.reading.{ForwardCompact.compact-forward, Forward.rinex-forward}
-use Rattle.crx_filter.proofs.wayback.Items.{marked_now, body_unit, known_back, read_back, unit-here}
-use Rattle.crx_filter.proofs.wayback.{Items.{whole-next, epoch-stands}, Carried.{started, whole-again}}
-use Rattle.crx_filter.proofs.wayback.First.{first-lines_read, program-clean, version-clean, printable-no_feed}
-use Rattle.crx_filter.proofs.wayback.{First.printable-no_return, Reading.{lines_back, items-copied}}
-use Rattle.crx_filter.proofs.wayback.Cut.{IsClean, CanStand, lines-cut, input-stands}
-use Rattle.crx_filter.specs.{WayBack.ComesBack, meaning.Expanded.expansion_result}
+use Rattle.crx_filter.proofs
+use proofs.Words.{common_steps, ℕ, ◌≡◌, ◌+◌, ◌*◌, ◌≤◌, Bool, true, false, cond, List, [], ◌∷◌, map, length}
+use proofs.Words.{Option, Some, None, refl, arith, nat_lt, not, AllByRecursion, list_all, ltb-false, lines_of}
+use proofs.Words.{ends_with_return, ReadLine, Content, seen, is_printable, Fault, TYPES_LIMIT, Epoch}
+use proofs.Words.{lines_text, FileUnit, HeaderLine, Observation, compact_epoch, ReadEpoch, Choices, is_date}
+use proofs.Words.{Item, Accepted, Warned, is_at_start, header_has_ended, records_left, types_in_force}
+use proofs.Words.{WholeReading, Stop, AtFault, AtLines, Looking, is_skipped, reading_from, fault_at_end}
+use proofs.Words.{ended_with, ended_reading, warnings_in, written_lines, result_of, rinex_place}
+use proofs.Words.{marked_epochs, whole_rinex, version_line, program_line, compact_lines, rinex_reading}
+use proofs.Words.{compact_place, whole_compact, expanded_unit, expanded, printed_items, AreInPlace}
+use proofs.Words.{OfCopiedLine, OfCopiedLines, HaveNoReturns, written_well, Place, ap, ◌∙◌, by_bool}
 use Rattle.crx_compact.proofs.wayback.Standing.{lines-short}
+use Rattle.crx_filter.specs.{WayBack.ComesBack, meaning.Expanded.expansion_result}
+use proofs.{following.Lines.IsStopped, reading.{Each.all-append, Forward.rinex-forward}}
+use proofs.reading.{ForwardCompact.compact-forward, InPlace.items-in_place, Stopping.reading-stopped}
+use proofs.{reading.WhatWasRead.{items-read, allowed, of-ended}, wayback.Carried.{started, whole-again}}
+use proofs.wayback.{Cut.{IsClean, CanStand, lines-cut, input-stands}, First.first-lines_read}
+use proofs.wayback.First.{program-clean, version-clean, printable-no_feed, printable-no_return}
+use proofs.wayback.Items.{marked_now, body_unit, known_back, read_back, unit-here, whole-next, epoch-stands}
+use proofs.wayback.Reading.{lines_back, items-copied}
 
 -- ---- the end of the compaction
 
