@@ -1,16 +1,19 @@
 -- Damage to compact text stays in its block: what an expansion writes and reports, from the lines of the
 -- damaged text on.
 use Rattle.crx_filter.proofs
-use proofs.Words.{common_steps, arith, ℕ, suc, ◌≡◌, ◌+◌, ◌⊎◌, true, List, [], ◌∷◌, ◌++◌, map}
-use proofs.Words.{length, drop, take, reverse, Option, None, refl, ap, sym, ◌∙◌, subst, append_assoc}
-use proofs.Words.{append-nil, AllByRecursion, flat_map, list_all, map-append, drop-append_seam, Piece}
-use proofs.Words.{pieces_of, lines_of, ReadLine, Content, seen, At, Epoch, IsWholeEpoch, printed_epoch}
-use proofs.Words.{lines_text, Observation, epoch_line, ReadEpoch, LinesCanStand, Choices, is_date, Item}
-use proofs.Words.{Accepted, header_has_ended, records_left, types_in_force, Reading, reading_from}
-use proofs.Words.{ended_reading, notices_text, warnings_in, result_of, marked_epochs, compact_unit}
-use proofs.Words.{compact_lines, version_line, program_line, compact_place, expanded_unit, whole_compact}
-use proofs.Words.{expanded, expanded_lines, printed_items, AreInPlace, IsBetweenUnits, lines_of_epochs}
-use proofs.Words.{with_epochs, lines_after, IsDamaged, WholeReading}
+use proofs.Words.{common_steps, arith, ℕ, suc, ◌≡◌, ◌+◌, ◌⊎◌, true, List, [], ◌∷◌, ◌++◌, map, length, drop}
+use proofs.Words.{take, reverse, Option, None, refl, ap, sym, ◌∙◌, subst, append_assoc, append-nil}
+use proofs.Words.{AllByRecursion, flat_map, list_all, map-append, drop-append_seam, Piece, pieces_of}
+use proofs.Words.{lines_of, ReadLine, Content, seen, At, Epoch, IsWholeEpoch, printed_epoch, lines_text}
+use proofs.Words.{Observation, epoch_line, ReadEpoch, Choices, is_date, Item, Accepted, header_has_ended}
+use proofs.Words.{records_left, types_in_force, Reading, reading_from, ended_reading, notices_text}
+use proofs.Words.{warnings_in, result_of, marked_epochs, compact_unit, compact_lines, version_line}
+use proofs.Words.{program_line, compact_place, expanded_unit, whole_compact, expanded, expanded_lines}
+use proofs.Words.{printed_items, AreInPlace, IsBetweenUnits, lines_of_epochs, with_epochs, lines_after}
+use proofs.Words.{IsDamaged, WholeReading}
+use Rattle.crx_filter.specs.{Damage.IsOfCompaction, meaning.Damage.IsSalvaged}
+use Rattle.crx_runs.specs.meaning.Results.{status_after}
+use Rattle.std.proofs.lemmas.List.{append_cancel_left, take-append-drop}
 use proofs.damage.BlockReading.{IsInside, IsBlockText, IsBlockRead, inside-text, with_reads, block-read}
 use proofs.damage.BlockSaved.{epochs-append, epochs-in_place, rest-in_place, epochs-header, epochs-left}
 use proofs.damage.BlockSaved.{epochs-types, epochs-lines, back-between, up_to, IsUndamaged, tail-saved}
@@ -23,9 +26,6 @@ use proofs.reading.{Each.{all-append, all-parts, contents}, WhatWasRead.items-re
 use proofs.wayback.{Carried.{started, types-same}, Cut.IsClean, First.{version-clean, program-clean}}
 use proofs.wayback.{Items.{marked_now, read_back, epoch-stands}, Reading.lines_back, Standard.same-reading}
 use proofs.wayback.WayBack.{lines-same, lines-clean, printed-same, no-warnings, whole-after}
-use Rattle.crx_filter.specs.{Damage.IsOfCompaction, meaning.Damage.IsSalvaged}
-use Rattle.std.proofs.lemmas.List.{append_cancel_left, take-append-drop}
-use Rattle.crx_runs.specs.meaning.Results.{status_after}
 
 -- ---- the parts of a damaged text
 
@@ -65,12 +65,9 @@ module _ (choices : Choices) (before : List (Item Epoch)) (first : Epoch)
   pub undamaged : IsUndamaged choices.every after (block_of before first others)
   undamaged = grind (arith, common_steps, block-header, epochs-left, before-left)
 
-  first-stands : LinesCanStand (marked_now choices.every before first) (marked_epochs choices.every before)
-  first-stands = epoch-stands choices.every before first first-in_place
-
   pub block_text : (lines : List ReadLine)
       → AllByRecursion IsInside lines → IsBlockText (Content (first_line_of choices before first) ∷ lines)
-  block_text lines inside = ((first-stands.no_event).0, inside)
+  block_text lines inside = ((epoch-stands choices.every before first first-in_place).no_event.0, inside)
 
   before-types : types_in_force (read_back choices.every before) ≡ types_in_force before
   before-types = types-same _ before first-in_place.1

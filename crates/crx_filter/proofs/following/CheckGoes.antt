@@ -4,7 +4,7 @@
 use Rattle.crx_filter.proofs.Words
 use Words.{common_steps, arith, ℕ, ◌≡◌, false, List, [], ◌∷◌, map, Option, Some, None, refl, ap, sym, ◌∙◌}
 use Words.{reverse, map-append, length-map, InputLine, ReadLine, seen, At, Choices, Count, Epoch, lines_text}
-use Words.{with_next, noticed_by, failed_by, is_again, Made, Seen, Phase, OpenEpoch, Fed, fed, made_in}
+use Words.{with_next, noticed_by, failed_by, is_again, Made, Seen, Phase, OpenEpoch, fed, made_in}
 use Words.{step_of_made, seen_next, seen_end, SeenStep, Totals, checking, check_by_line, check_reading}
 use Words.{check_filter, no_choices, whole_reading_of, findings_of, false-true, InFirstLines}
 use Rattle.crx_filter.proofs.following.{CheckedOn.{one-on, same-seen}, Following.{fed-once, seen_in}}
@@ -66,20 +66,14 @@ report-text found (Some at) handed_out good bad = ap lines_text (sym (bad at ref
 check-follows : (lines : List InputLine) (line : InputLine) → FollowsBy check_filter lines line
     (check_reading (map seen (with_next lines line))) (fed check_by_line (check_reading (map seen lines))
     (seen line))
-check-follows lines line =
-    let one = one-on (map seen lines) (seen line) in
-    let quiet = step-quiet (map seen lines) (seen line) in
-    let once = fed-once check_by_line (check_reading (map seen lines)) (seen line) quiet.once in
-    let all = map-append seen lines (line ∷ []) in
-    record {
-      next = ap check_reading all ∙ one.next ∙ sym quiet.next ∙ ap (λ (f : Fed OpenEpoch Totals). f.next) (sym
-          once);
-      output = ap lines_text (sym quiet.handed_out)
-          ∙ ap (λ (f : Fed OpenEpoch Totals). lines_text f.handed_out) (sym once);
-      warnings = ap reverse (sym quiet.noticed)
-          ∙ ap (λ (f : Fed OpenEpoch Totals). reverse f.warned) (sym once);
-      fault = cc (all, one.fault, quiet.failed, ap (λ (f : Fed OpenEpoch Totals). f.failed) once);
-    }
+check-follows lines line = grind (
+  arith,
+  common_steps,
+  one-on (map seen lines) (seen line),
+  step-quiet (map seen lines) (seen line),
+  fed-once check_by_line (check_reading (map seen lines)) (seen line),
+  map-append seen lines (line ∷ []),
+)
 
 check-ends : (lines : List InputLine) → EndsLineByLine check_filter lines
     (seen_end_with check_by_line (report_lines (findings_of lines)) (check_reading (map seen lines)))

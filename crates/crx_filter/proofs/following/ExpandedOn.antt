@@ -2,14 +2,14 @@
 use Rattle.crx_filter.proofs.Words
 use Words.{common_steps, ℕ, ◌≡◌, ◌+◌, Bool, List, [], ◌∷◌, ◌++◌, length, drop, Option, Some, None, Result, Ok}
 use Words.{Err, refl, sym, subst, arith, length-append, drop-append-le, length-drop, ReadLine, Content}
-use Words.{Overlong, Fault, LineTooLong, Place, Here, Wrong, Wanted, Remains, ReadEpoch, OpenRawEpoch, Tail}
-use Words.{Choices, Reading, AtFault, AtLines, reading_from, IsFollowed, Fed, fed, fed_once, fault_of_stop}
+use Words.{Overlong, Fault, LineTooLong, Place, Here, Wrong, Wanted, ReadEpoch, OpenRawEpoch, Tail, Choices}
+use Words.{Reading, AtFault, AtLines, reading_from, IsFollowed, Fed, fed, fed_once, fault_of_stop}
 use Words.{warnings_in, Phase, InFirstLines, Ended, Seen, Fails, made_in, step_of_made, seen_next, seen_of}
 use Words.{compact_place, crinex_version, crinex_program, first_lines, expanded_lines, expansion}
 use Words.{compact_open, tail_of_items}
 use Rattle.crx_filter.proofs.following.{Expansion.expansion-carried_out, Following.{seen_in, fed-once}}
 use Rattle.crx_filter.proofs.following.{Lines.quiet-elsewhere, MoreLines.more-line}
-use Rattle.crx_filter.{proofs.reading.ForwardCompact.steady-first_lines, specs.Laws.IsExpandedOn}
+use Rattle.crx_filter.{proofs.reading.CompactPrefixes.remains, specs.Laws.IsExpandedOn}
 
 -- ---- the reading by where the first two lines are
 
@@ -127,23 +127,18 @@ by-first_lines : (choices : Choices) (lines : List ReadLine) (line : ReadLine) (
     → first_lines lines ≡ p → FollowsBy choices lines line (first_lines lines)
     (first_lines (lines ++ line ∷ []))
 by-first_lines choices lines line (Here two count) e =
-    let remains = subst (λ p. Remains (length lines) p (first_lines (lines ++ line ∷ []))) e
-    (steady-first_lines lines (line ∷ [])) in
-    subst (λ p. FollowsBy choices lines line p (first_lines (lines ++ line ∷ []))) (sym e) (subst
-    (λ q. FollowsBy choices lines line (Here two count) q) (sym remains.1) (more-line (expansion-carried_out
-    choices) (count + 1) (length lines) (length (lines ++ line ∷ [])) (drop count lines)
-    (drop count (lines ++ line ∷ [])) line (omega (arith, length-drop count lines, remains.0))
-    (length-append lines (line ∷ [])) (drop-append-le count lines (line ∷ []) remains.0)))
+    let h = remains lines (line ∷ []) (Here two count) e in
+    rw (e, h.1) (more-line (expansion-carried_out choices) (count + 1) (length lines)
+    (length (lines ++ line ∷ [])) (drop count lines) (drop count (lines ++ line ∷ [])) line
+    (omega (arith, length-drop count lines, h.0)) (length-append lines (line ∷ []))
+    (drop-append-le count lines (line ∷ []) h.0))
 by-first_lines choices lines line (Wrong offset fault) e =
-    let remains = subst (λ p. Remains (length lines) p (first_lines (lines ++ line ∷ []))) e
-    (steady-first_lines lines (line ∷ [])) in
-    subst (λ p. FollowsBy choices lines line p (first_lines (lines ++ line ∷ [])))
-    (sym e) (subst (λ q. FollowsBy choices lines line (Wrong offset fault) q) (sym remains.1) (record {
+    rw (e, (remains lines (line ∷ []) (Wrong offset fault) e).1) (record {
       next = cc (length-append lines (line ∷ []));
       handed_out = refl;
       warned = refl;
       failed = refl;
-    }))
+    })
 by-first_lines choices lines line Wanted e = by_lines (before-header lines e)
   where
     by_lines : IsBeforeHeader lines

@@ -302,11 +302,11 @@ module _ {E U O K : Type 0} {beginning : List (Item E) → List ReadLine → Pla
       let all : length (rest ++ line ∷ []) ≡ length rest + 1 = length-append rest (line ∷ []) in
       let one : length (rest ++ line ∷ []) ≡ 1 = agree.2 in
       let same : kept ≡ kept_of items = first_kept rest inside (omega (arith, all, one)) in
-      rw (last-here h.forward choices.skip units items number rest line (EventLine l) agree.0 wanted_here here)
-      (followed-unit count (number + agree.0) items phase kept (EventLine l) (EventLine l) (h.none_open
-      (Accepted (EventLine l) ∷ items)) event-phase refl
-      (ap (λ k. direction.kept_after (seen_at count phase items k) (EventLine l)) same ∙ h.event_kept items
-      count phase (types_in_force items) l) (h.event_lines items count phase (types_in_force items) kept l))
+      rw (last-here h.forward choices.skip units items number rest line (EventLine l) agree.0 wanted_here
+      here) (followed-unit count (number + agree.0) items phase kept (EventLine l) (EventLine l)
+      (h.none_open (Accepted (EventLine l) ∷ items)) event-phase refl (ap (λ k. direction.kept_after
+      (seen_at count phase items k) (EventLine l)) same ∙ h.event_kept items count phase
+      (types_in_force items) l) (h.event_lines items count phase (types_in_force items) kept l))
     where
       first_kept : (rest : List ReadLine) → IsInside items phase kept rest → length rest ≡ 0 → kept
           ≡ kept_of items
@@ -322,9 +322,10 @@ module _ {E U O K : Type 0} {beginning : List (Item E) → List ReadLine → Pla
       let here = body-place beginning items (rest ++ line ∷ []) ended none ∙ agree.2 in
       let same = agree.3 in
       rw (last-here h.forward choices.skip units items number rest line (Observation agree.1) agree.0
-      wanted_here here) (followed-unit count (number + agree.0) items phase kept (Observation agree.1) (Observation held)
-      (h.none_open (Accepted (Observation agree.1) ∷ items)) (rw ended refl) refl (same.kept count phase
-      (types_in_force items) kept keeps) (same.lines count phase (types_in_force items) kept keeps))
+      wanted_here here) (followed-unit count (number + agree.0) items phase kept (Observation agree.1)
+      (Observation held) (h.none_open (Accepted (Observation agree.1) ∷ items)) (rw ended refl) refl
+      (same.kept count phase (types_in_force items) kept keeps)
+      (same.lines count phase (types_in_force items) kept keeps))
   body-once units items number count rest line phase kept (Moves next) ended none wanted agree may keeps
       inside counted quiet = grind (arith, common_steps, body-place, within-wanted)
   body-once units items number count rest line phase kept
@@ -338,8 +339,8 @@ module _ {E U O K : Type 0} {beginning : List (Item E) → List ReadLine → Pla
       let off : (is_in_epoch phase && can_go_on line) ≡ false = sym (ap (λ (s : Step _ _). is_again s.answer)
       (failed-skipped direction (seen_at count phase items kept) line fault on)) ∙ quiet in
       let looking = skipped-looking units items phase kept number rest line at inside off in
-      rw (last-skipped h.forward choices.skip units items number count rest line agree.0 fault wanted_here here
-      (tested ∙ on) counted ∙ looking.1) (followed-skip count looking.0 items phase kept line fault
+      rw (last-skipped h.forward choices.skip units items number count rest line agree.0 fault wanted_here
+      here (tested ∙ on) counted ∙ looking.1) (followed-skip count looking.0 items phase kept line fault
       (emptied ∙ h.warned items at) on off)) (λ off. rw (last-ends h.forward choices.skip units items number
       count rest line agree.0 fault wanted_here here (tested ∙ off) counted) (followed-end count items phase
       kept line fault emptied off))

@@ -1,16 +1,13 @@
 -- Both directions are lawful filters.
-use Rattle.crx_filter.proofs.Words
-use Words.{◌≡◌, List, ◌++◌, map, Option, Some, refl, sym, ap, ◌∙◌, map-append, InputLine, ReadLine, seen, At}
-use Words.{Epoch, ReadEpoch, Choices, WholeReading, whole_course, fault_of_stop, rinex_place, compact_unit}
-use Words.{whole_rinex, rinex_reading, expanded_unit, whole_compact, compact_reading, course_so_far}
-use Words.{compaction_filter, expansion_filter, IsLawful}
+use Rattle.crx_filter.proofs.Words.{◌≡◌, List, map, Option, Some, refl, sym, ap, ◌∙◌, map-append, InputLine}
+use Rattle.crx_filter.proofs.Words.{ReadLine, seen, At, Epoch, ReadEpoch, Choices, WholeReading, whole_course}
+use Rattle.crx_filter.proofs.Words.{fault_of_stop, rinex_place, compact_unit, whole_rinex, rinex_reading}
+use Rattle.crx_filter.proofs.Words.{expanded_unit, whole_compact, compact_reading, course_so_far}
+use Rattle.crx_filter.proofs.Words.{compaction_filter, expansion_filter, IsLawful}
 use Rattle.crx_filter.proofs.reading.{CompactPrefixes.{whole-more, expanded-first}, FineReadings.rinex-found}
 use Rattle.crx_filter.proofs.reading.FineReadings.{rinex-found-at-end, compact-found, compact-found-at-end}
 use Rattle.crx_filter.proofs.reading.{Forward.rinex-forward, Prefixes.{text-more, whole-items}}
 use Rattle.crx_filter.proofs.reading.{RinexPrefixes.compacted-first, StaysEnded.{rinex-stays, compact-stays}}
-
-both : (lines more : List InputLine) → map seen (lines ++ more) ≡ map seen lines ++ map seen more
-both lines more = map-append seen lines more
 
 pub compaction-lawful : (choices : Choices) → IsLawful (compaction_filter choices)
 compaction-lawful choices = record {
@@ -18,12 +15,14 @@ compaction-lawful choices = record {
   decided = λ (lines more : List InputLine)
       (at : At) (e : fault_of_stop (rinex_reading choices.skip (map seen lines)).stop ≡ Some at).
       ap (λ (ls : List ReadLine). whole_course (compact_unit choices) (whole_rinex choices.skip ls))
-      (both lines more) ∙ ap (λ (w : WholeReading Epoch). whole_course (compact_unit choices) w) (rinex-stays
-      choices.skip (map seen lines) (map seen more) at e).ended ∙ ap (λ (f : Option At). record (course_so_far
-      (compact_unit choices) (rinex_reading choices.skip (map seen lines))) { fault = f }) (sym e);
+      (map-append seen lines more) ∙ ap (λ (w : WholeReading Epoch). whole_course (compact_unit choices) w)
+      (rinex-stays choices.skip (map seen lines) (map seen more) at e).ended ∙ ap (λ (f : Option At). record
+      (course_so_far (compact_unit choices) (rinex_reading choices.skip (map seen lines))) { fault = f })
+      (sym e);
   grows = λ (lines more : List InputLine).
-      rw (both lines more) ((compacted-first choices (map seen lines)).longer (map seen more));
-  goes_on = λ (lines more : List InputLine). rw (both lines more) (text-more (compact_unit choices) _ _
+      rw (map-append seen lines more) ((compacted-first choices (map seen lines)).longer (map seen more));
+  goes_on = λ (lines more : List InputLine). rw (map-append seen lines more)
+      (text-more (compact_unit choices) _ _
       (whole-items rinex_place rinex-forward choices.skip 1 (map seen lines) (map seen more)));
   found = λ lines at e. rinex-found choices.skip (map seen lines) at e;
   found_at_end = λ lines at e. rinex-found-at-end choices.skip (map seen lines) at e;
@@ -34,12 +33,13 @@ expansion-lawful choices = record {
   nothing = refl;
   decided = λ (lines more : List InputLine) (at : At) (e : fault_of_stop (compact_reading choices.skip
       (map seen lines)).stop ≡ Some at). ap (λ (ls : List ReadLine). whole_course expanded_unit (whole_compact
-      choices.skip ls)) (both lines more) ∙ ap (λ (w : WholeReading ReadEpoch). whole_course expanded_unit w)
-      (compact-stays choices.skip (map seen lines) (map seen more) at e).ended ∙ ap (λ (f : Option At). record
-      (course_so_far expanded_unit (compact_reading choices.skip (map seen lines))) { fault = f }) (sym e);
+      choices.skip ls)) (map-append seen lines more) ∙ ap (λ (w : WholeReading ReadEpoch). whole_course
+      expanded_unit w) (compact-stays choices.skip (map seen lines) (map seen more) at e).ended
+      ∙ ap (λ (f : Option At). record (course_so_far expanded_unit (compact_reading choices.skip
+      (map seen lines))) { fault = f }) (sym e);
   grows = λ (lines more : List InputLine).
-      rw (both lines more) ((expanded-first choices (map seen lines)).longer (map seen more));
-  goes_on = λ (lines more : List InputLine). rw (both lines more)
+      rw (map-append seen lines more) ((expanded-first choices (map seen lines)).longer (map seen more));
+  goes_on = λ (lines more : List InputLine). rw (map-append seen lines more)
       (text-more expanded_unit _ _ (whole-more choices.skip (map seen lines) (map seen more) _ refl));
   found = λ lines at e. compact-found choices.skip (map seen lines) at e;
   found_at_end = λ lines at e. compact-found-at-end choices.skip (map seen lines) at e;

@@ -1,20 +1,20 @@
 -- The memory that an expansion takes, by what is at its lines.
-use Rattle.crx_filter.proofs.Words
-use Words.{common_steps, ℕ, ◌≡◌, Bool, true, false, List, [], ◌∷◌, ◌++◌, length, Option, Some, None, Result}
-use Words.{Ok, refl, none-some, ReadLine, Content, Overlong, Fault, Count, ReadEpoch}
-use Words.{Satellite, OpenRawEpoch, RawStep, first_step, next_step, open_raw_after, Tail, and_then, Choices}
-use Words.{Item, types_in_force, place_takes, begins_event, compact_open, expansion, made_of_raw_step}
-use Words.{tail_of_items, subst, ◌+◌, drop, arith, length-drop, At, Remains, Place, Here, Wrong, Wanted}
-use Words.{expansion_seen, Notice, Seen, seen_next, takes_memory, compact_memory, compact_place, first_lines}
-use Words.{memory_allowed, reading_from, and_parts, not-true, false-true}
-use Rattle.crx_filter.proofs.following.{ExpandedOn.{reading_by, seen_by}, Expansion.{Agrees, agree-content}}
-use Rattle.crx_filter.proofs.following.{Expansion.{agree-continues, expansion-carried_out}, Lines.IsStopped}
-use Rattle.crx_filter.proofs.following.Memory.{TakesAsItStands, allowed-again, allowed-first}
-use Rattle.crx_filter.proofs.reading.ForwardCompact.{compact_beginning, compact-forward, steady-first_lines}
-use Rattle.crx_filter.proofs.{reading.Stopping.reading-stopped, steps.EngineAnswers.comes-again}
+use Rattle.crx_filter.proofs
+use proofs.Words.{common_steps, ℕ, ◌≡◌, Bool, true, false, List, [], ◌∷◌, ◌++◌, length, Option, Some, None}
+use proofs.Words.{Result, Ok, refl, none-some, ReadLine, Content, Overlong, Fault, Count, ReadEpoch}
+use proofs.Words.{Satellite, OpenRawEpoch, RawStep, first_step, next_step, open_raw_after, Tail, and_then}
+use proofs.Words.{Choices, Item, types_in_force, place_takes, begins_event, compact_open, expansion}
+use proofs.Words.{made_of_raw_step, tail_of_items, ◌+◌, drop, arith, length-drop, At, Place, Here, Wrong}
+use proofs.Words.{Wanted, expansion_seen, Notice, Seen, seen_next, takes_memory, compact_memory}
+use proofs.Words.{compact_place, first_lines, memory_allowed, reading_from, and_parts, not-true, false-true}
+use Rattle.crx_compact.specs.OpenEpochs.{Going, is_faulty, before_clock, has_come, makes_epoch, tail_opened}
+use Rattle.crx_compact.specs.OpenEpochs.{opened_raw, opening}
 use Rattle.crx_filter.specs.meaning.Memory.{expansion_takes}
-use Rattle.crx_compact.specs.{OpenEpochs.{Going, is_faulty, before_clock}}
-use Rattle.crx_compact.specs.OpenEpochs.{has_come, makes_epoch, tail_opened, opened_raw, opening}
+use proofs.following.ExpandedOn.{reading_by, seen_by}
+use proofs.following.Expansion.{Agrees, agree-content, agree-continues, expansion-carried_out}
+use proofs.following.{Lines.IsStopped, Memory.{TakesAsItStands, allowed-again, allowed-first}}
+use proofs.reading.{CompactPrefixes.remains, ForwardCompact.{compact_beginning, compact-forward}}
+use proofs.{reading.Stopping.reading-stopped, steps.EngineAnswers.comes-again}
 
 -- a step without a fault takes memory, where its line does
 step-takes : (choices : Choices) (items : List (Item ReadEpoch)) (lines : List ReadLine) (count : ℕ)
@@ -99,10 +99,9 @@ stopped-after : (choices : Choices) (lines : List ReadLine) (two : List (List �
     (reading_from compact_place choices.skip [] (count + 1) (drop count lines)).items
     (reading_from compact_place choices.skip [] (count + 1) (drop count lines)).stop (length lines + 1)
 stopped-after choices lines two count e =
-    let remains = subst
-    (λ p. Remains (length lines) p (first_lines (lines ++ []))) e (steady-first_lines lines []) in
+    let h = remains lines [] (Here two count) e in
     reading-stopped compact_place compact-forward choices.skip [] (count + 1) (length lines + 1)
-    (drop count lines) (omega (arith, length-drop count lines, remains.0))
+    (drop count lines) (omega (arith, length-drop count lines, h.0))
 
 pub expansion-allowed : (choices : Choices) (lines : List ReadLine) (line : ReadLine) → takes_memory expansion
     (expansion_seen choices lines) line ≡ true → compact_memory choices.skip lines line ≡ Some []

@@ -1,14 +1,13 @@
 -- The end of the input, in both directions.
 use Rattle.crx_filter.proofs
-use proofs.Words.{ℕ, ◌≡◌, ◌+◌, Bool, List, [], length, drop, Some, refl, subst, arith, append-nil}
-use proofs.Words.{length-drop, ReadLine, Place, Here, Wrong, Wanted, Remains, ReadEpoch, Choices}
-use proofs.Words.{WholeReading, reading_from, ended_reading, warnings_in, seen_end, rinex_place}
-use proofs.Words.{rinex_reading, compact_place, first_lines, fault_in_first_lines, expanded_lines, expansion}
-use proofs.Words.{IsEndedBy}
+use proofs.Words.{ℕ, ◌≡◌, ◌+◌, Bool, List, [], length, drop, Some, refl, arith, length-drop, ReadLine, Place}
+use proofs.Words.{Here, Wrong, Wanted, ReadEpoch, Choices, WholeReading, reading_from, ended_reading}
+use proofs.Words.{warnings_in, seen_end, rinex_place, rinex_reading, compact_place, first_lines}
+use proofs.Words.{fault_in_first_lines, expanded_lines, expansion, IsEndedBy}
 use Rattle.crx_filter.specs.Laws.{IsCompactionEnded, IsExpansionEnded}
 use proofs.following.{Compaction.compaction-carried_out, ExpandedOn.{reading_by, seen_by}}
-use proofs.{following.Expansion.expansion-carried_out, reading.{Ending.next-end, Forward.rinex-forward}}
-use proofs.reading.{ForwardCompact.{compact-forward, steady-first_lines}, Stopping.reading-stopped}
+use proofs.{following.Expansion.expansion-carried_out, reading.{CompactPrefixes.remains, Ending.next-end}}
+use proofs.reading.{Forward.rinex-forward, ForwardCompact.compact-forward, Stopping.reading-stopped}
 
 pub compaction-ended : (choices : Choices) (lines : List ReadLine) → IsCompactionEnded choices lines
 compaction-ended choices lines =
@@ -36,11 +35,10 @@ EndsBy choices lines p = IsEndedBy (expanded_lines (reading_by choices.skip line
 by-first_lines : (choices : Choices) (lines : List ReadLine) (p : Place (List (List ℕ)))
     → first_lines lines ≡ p → EndsBy choices lines p
 by-first_lines choices lines (Here two count) e =
-    let remains = subst (λ p. Remains (length lines) p (first_lines lines)) e (subst (λ ls. Remains
-    (length lines) (first_lines lines) (first_lines ls)) (append-nil lines) (steady-first_lines lines [])) in
+    let h = remains lines [] (Here two count) e in
     let r = reading_from compact_place choices.skip [] (count + 1) (drop count lines) in
     let stopped = reading-stopped compact_place compact-forward choices.skip [] (count + 1) (length lines + 1)
-    (drop count lines) (omega (arith, length-drop count lines, remains.0)) in
+    (drop count lines) (omega (arith, length-drop count lines, h.0)) in
     next-end (expansion-carried_out choices) r.items r.stop (length lines) stopped
 by-first_lines choices lines other e = grind arith
 

@@ -28,9 +28,7 @@ closes-well (item ∷ before) e f = rw (e, f) refl
 
 in-epoch : {E : Type 0} (items : List (Item E)) (lines : List ReadLine)
     → header_has_ended items ≡ true → 0 < length lines → fault_at_end items lines ≡ Some Truncated
-in-epoch items [] e some = absurd (omega (arith, some))
-in-epoch [] (line ∷ lines) e some = absurd (cc)
-in-epoch (item ∷ before) (line ∷ lines) e some = refl
+in-epoch items lines e some = grind (arith, common_steps)
 
 module _ {E U O K : Type 0} {beginning : List (Item E) → List ReadLine → Place (FileUnit E)}
     {direction : Direction U O K} {open_with : List (Item E) → List ReadLine → Option O}

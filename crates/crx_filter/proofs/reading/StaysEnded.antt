@@ -42,10 +42,9 @@ by-first_lines : (skip : Bool) (lines more : List ReadLine) (at : At) (p : Place
 by-first_lines skip lines more at (Here two count) e f =
     let h = remains lines more (Here two count) e in
     let split : drop count (lines ++ more) ≡ drop count lines ++ more = drop-append-le count lines more h.0 in
-    let now : compact_reading skip lines ≡ reading_from compact_place skip [] (count + 1) (drop count lines) =
-    reading-at skip lines two count e in
-    let s = stays-from compact_place compact-forward skip (count + 1)
-    (drop count lines) more at (sym (ap (λ (r : Reading ReadEpoch). fault_of_stop r.stop) now) ∙ f) in
+    let now = reading-at skip lines two count e in
+    let s = stays-from compact_place compact-forward skip (count + 1) (drop count lines) more at
+    (rw now at f) in
     record {
       same = cc (reading-at skip (lines ++ more) two count h.1, split, s.same, now);
       ended = cc (whole-at skip (lines ++ more) two count h.1, split, s.ended, now);

@@ -2,21 +2,21 @@
 use Rattle.crx_filter.proofs
 use proofs.Words.{common_steps, arith, ℕ, ◌≡◌, ◌+◌, true, false, List, [], Option, None, refl, ap, sym, subst}
 use proofs.Words.{◌∙◌, InputLine, is_long, ReadLine, Content, seen, Fault, OpenEpoch, ObservationEpoch, Count}
-use proofs.Words.{last_line, compaction, with_next, failed_by, Phase, InFirstLines, Seen, Step, Made, Moves}
-use proofs.Words.{made_in, step_of_made, epoch_by_rows, reader_phase, made_at, TakesRinexLine}
-use proofs.Words.{is_standard_line, Totals, checking, printed_made, earliest, CheckSeen, no_choices}
-use proofs.Words.{check_seen, check_next, checker_state_with, Held, RinexReader, RinexStep, false-true}
-use proofs.Words.{first_not_standard, printed_so_far, Stage, seen_stage, epoch_open, ◌≤◌, is_open_stage}
-use proofs.Words.{is_row, drop, Row as ObservationRow, Ok, Err, IsSameReader, Choices, length-drop}
-use proofs.Words.{check_by_line, check_reading, map, length, false≢true}
-use Rattle.crx_filter.specs.{CheckByLine.{totals_made, check_step}, CheckingParts.{AreNamed, is_reading}}
+use proofs.Words.{last_line, compaction, with_next, Phase, InFirstLines, Seen, Made, Moves, made_in}
+use proofs.Words.{step_of_made, epoch_by_rows, reader_phase, made_at, TakesRinexLine, is_standard_line}
+use proofs.Words.{Totals, checking, printed_made, earliest, CheckSeen, no_choices, check_seen}
+use proofs.Words.{checker_state_with, Held, RinexReader, RinexStep, false-true, first_not_standard}
+use proofs.Words.{printed_so_far, Stage, seen_stage, epoch_open, ◌≤◌, is_open_stage, is_row, drop}
+use proofs.Words.{Row as ObservationRow, Ok, Err, IsSameReader, Choices, length-drop, check_by_line}
+use proofs.Words.{check_reading, map, length, false≢true}
+use Rattle.crx_filter.specs.{CheckByLine.totals_made, CheckingParts.{AreNamed, is_reading}}
 use Rattle.crx_filter.specs.{CompactionByLine.is_before_header, DirectionParts.{DirectionParts, Reads}}
 use Rattle.crx_filter.specs.{LineByLine.Quiet as SeenQuiet, RinexReaders.RefusesRinexLine, Stages.is_ended}
 use Rattle.crx_filter.specs.{Stages.is_passing, Totals.{IsBehindARow, IsCounting, totals_held, HasPrinted}}
 use Rattle.crx_filter.specs.meaning.{Directions.fault_so_far, Standard.{Findings, report_lines}}
 use Rattle.std.proofs.lemmas.List.{drop_all}
-use proofs.following.CheckGoes.{made-alike, made-quiet}
-use proofs.{following.{CheckedOn.{checked-on, same-seen}, Following.seen_in}, standard.CheckEnded.kept-always}
+use proofs.following.{CheckGoes.{made-alike, made-quiet}, CheckedOn.{checked-on, same-seen}}
+use proofs.{following.Following.seen_in, standard.CheckEnded.kept-always}
 use proofs.{standard.CheckLines.{IsReached, Grows, line-grows, phase-reached}, steps.EngineAnswers.seen-short}
 
 -- what a reader's line makes, where nothing is kept of the epochs
@@ -86,42 +86,19 @@ pub took-line : (before after : RinexReader) (number : ℕ) (totals then : Held)
     line.content)))) (number + 1) → checker_state_with before number totals named ≡ check_seen lines
     → (fault_so_far (with_next lines line) ≡ None) × (checker_state_with after (number + 1) then named_then
     ≡ check_seen (with_next lines line))
-took-line before after number totals then named named_then line step lines short takes totals_then
-    named_is same =
-    let made : Made ObservationEpoch OpenEpoch = made_there before line.content in
-    let now : CheckSeen = checker_state_with before number totals named in
-    let held : Totals = totals_held totals in
-    let is : made_in checking (reader_phase before) before.types held (seen line) ≡ made =
-    ap (λ l. made_in checking (reader_phase before) before.types held l) (seen-short line short)
-    ∙ made-same (reader_phase before) before.types held (Content line.content) in
-    let steps : StepsTo no_choices number held (seen line) before after made =
-    steps-to no_choices number held (seen line) line.content before after made step takes in
-    let quiet = made-quiet number (reader_phase before) before.types held (seen line) made in
-    let good : failed_by (check_step now line).answer ≡ None =
-    ap (λ m. failed_by (step_of_made checking now.reading (seen line) m).answer) is
-    ∙ sym quiet.failed ∙ ap (λ (s : Step OpenEpoch Totals). failed_by s.answer) steps in
-    let on = checked-on lines line in
-    let none : fault_so_far (with_next lines line) ≡ None = on.fault
-    ∙ ap (λ (b : CheckSeen). failed_by (check_step b line).answer) (sym same) ∙ good in
-    let reading : (check_step now line).next ≡ seen_in no_choices (number + 1) (reader_phase after)
-    after.types (totals_held then) = ap (λ m. (step_of_made checking now.reading (seen line) m).next) is
-    ∙ sym quiet.next ∙ ap (λ (s : Step OpenEpoch Totals). s.next) steps ∙ ap (λ t. seen_in no_choices (number
-    + 1) (reader_phase after) after.types t) (sym
-    totals_then) in
-    let named_same : earliest named (is_standard_line line (last_line (printed_made (made_in checking
-    (reader_phase before) before.types held (seen line))))) (number + 1) ≡ named_then = ap (λ m. earliest
-    named (is_standard_line line (last_line (printed_made m))) (number + 1)) is ∙ sym named_is in
-    let next : check_next now line ≡ checker_state_with after (number + 1) then named_then =
-    ap (λ (s : Seen OpenEpoch Totals). record {
-      reading = s;
-      not_standard = earliest named (is_standard_line line (last_line (printed_made (made_in checking
-          (reader_phase before) before.types held (seen line))))) (number + 1);
-    }) reading
-    ∙ ap (λ n. record {
-      reading = seen_in no_choices (number + 1) (reader_phase after) after.types (totals_held then);
-      not_standard = n;
-    }) named_same in
-    (none, sym next ∙ ap (λ (b : CheckSeen). check_next b line) same ∙ sym (on.next none))
+took-line before after number totals then named named_then line step lines short takes totals_then named_is
+    same = grind (
+      arith,
+      common_steps,
+      seen-short line short,
+      made-same (reader_phase before) before.types (totals_held totals) (Content line.content),
+      steps-to no_choices number (totals_held totals) (seen line) line.content before after
+          (made_there before line.content) step takes,
+      made-quiet number (reader_phase before) before.types (totals_held totals) (seen line)
+          (made_there before line.content),
+      (checked-on lines line).fault,
+      (checked-on lines line).next,
+    )
 
 -- ---- what a check's direction answers
 

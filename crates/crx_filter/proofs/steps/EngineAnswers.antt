@@ -2,18 +2,18 @@
 -- taken.
 use Rattle.crx_filter.proofs
 use proofs.Words.{common_steps, arith, ℕ, ◌≡◌, inl, inr, ◌+◌, true, false, List, [], ◌∷◌, map, length, Some}
-use proofs.Words.{None, Result, Ok, Err, refl, ap, sym, subst, ◌∙◌, append-nil, ◌≤◌, rules, and_parts}
-use proofs.Words.{reverse, ◌&&◌, InputLine, is_long, ReadLine, Content, Overlong, seen, At, OutOfMemory}
-use proofs.Words.{LINE_LIMIT, Choices, with_next, lines_text, step_made, Steps, is_again, Fed, fed_once}
-use proofs.Words.{fed_twice, fed, LookingOn, Seen, Direction, Made, Fails, Notice, SeenStep, made_in}
-use proofs.Words.{may_skip, is_in_epoch, is_skipped_in, step_of_made, seen_next, takes_memory, can_go_on}
-use proofs.Words.{is_skippable, Quiet, ◌++◌, Ready, by_bool, Completes, false≢true, answer_of_step}
-use proofs.Words.{noticed_by, reverse-append, false-true, after_warning, failed_by}
+use proofs.Words.{Result, Ok, Err, refl, ap, sym, subst, ◌∙◌, append-nil, ◌≤◌, rules, and_parts, reverse}
+use proofs.Words.{◌&&◌, InputLine, is_long, ReadLine, Content, Overlong, seen, At, OutOfMemory, LINE_LIMIT}
+use proofs.Words.{Choices, with_next, step_made, Steps, is_again, Fed, fed_once, fed_twice, fed, LookingOn}
+use proofs.Words.{Seen, Direction, Made, Fails, Notice, SeenStep, made_in, may_skip, is_in_epoch}
+use proofs.Words.{is_skipped_in, step_of_made, seen_next, takes_memory, can_go_on, is_skippable, ◌++◌}
+use proofs.Words.{by_bool, Completes, false≢true, answer_of_step, noticed_by, reverse-append, false-true}
+use proofs.Words.{after_warning, failed_by}
 use Rattle.crx_filter.specs.DirectionParts.{EngineParts, IsAfterLines}
 use Rattle.crx_filter.specs.{EngineLaws.{FollowsBy, GoesLineByLine}, EngineLines.HasTaken}
 use Rattle.crx_filter.specs.EngineState.{EngineNotes, engine_ready, engine_seen, engine_took}
 use Rattle.crx_filter.specs.{Laws.is_ready, LineByLine.seen_end_with, declared.direction.Direction.Ghosts}
-use Rattle.crx_runs.specs.Engines.{Awaited, IsAwaited, awaited_notices, GoesOn, EngineAnswers, Concludes}
+use Rattle.crx_runs.specs.Engines.{Awaited, IsAwaited, awaited_notices, EngineAnswers, Concludes}
 use Rattle.crx_runs.specs.{declared.engine.Step.{Step, TheVariants.Warned}, meaning.Filters.Filter}
 use Rattle.std.specs.Prelude.{IfOk, ⊤}
 use proofs.Pending.{again-lines, quiet-next, quiet-end}
@@ -89,14 +89,6 @@ module _ {U O K : Type 0} {direction : Direction U O K} {closing_after : List In
     module _ (shows : List InputLine → List Awaited → Type 0) (now : Seen O K) (ready : List (List ℕ))
         (showing : (ls : List InputLine) (ns : List Awaited) → HasTaken direction seen_after now ls ns
         → shows ls ns) where
-      -- it goes on
-      goes-on : (f : Fed O K) (texts : List (List ℕ)) (notices : List At)
-          → fed direction first (seen line) ≡ f → f.next ≡ now → f.handed_out ≡ texts
-          → reverse f.warned ≡ notices → f.failed ≡ None → shows (with_next lines line) []
-          × GoesOn (filter.so_far lines) (filter.so_far (with_next lines line)) texts notices
-      goes-on f texts notices e next handed_out warned good =
-          grind (arith, common_steps, follows-fed, with_next, lines_text)
-
       -- what is answered where the line was fed so, and doesn't come again
       fed-answers : (notices : List Awaited) (warned : List At) (result : Result Step At)
           → fed direction first (seen line) ≡ record {
@@ -107,22 +99,8 @@ module _ {U O K : Type 0} {direction : Direction U O K} {closing_after : List In
           } → reverse warned ≡ awaited_notices notices ++ noticed_by (answer_of_step result)
           → is_again (answer_of_step result) ≡ false → (is_ready (answer_of_step result) ≡ false → ready ≡ [])
           → EngineAnswers filter shows ready lines notices line result
-      fed-answers notices warned (Ok Quiet) e noted once quiet = goes-on _ [] (awaited_notices notices) e refl
-          (quiet refl) (noted ∙ append-nil (awaited_notices notices)) refl
-      fed-answers notices warned (Ok Ready) e noted once quiet = goes-on _ ready (awaited_notices notices) e
-          refl refl (noted ∙ append-nil (awaited_notices notices)) refl
-      fed-answers notices warned (Ok (Warned notice true)) e noted once quiet = false-true (sym once)
-      fed-answers notices warned (Ok (Warned notice false)) e noted once quiet =
-          goes-on _ [] (awaited_notices notices ++ notice ∷ []) e refl (quiet refl) noted refl
-      fed-answers notices warned (Err at) e noted once quiet =
-          let h = follows-fed _ e in
-          inr (record {
-            output = h.output ∙ ap (λ (ls : List (List ℕ)). (filter.so_far lines).output ++ lines_text ls)
-                (quiet refl) ∙ append-nil (filter.so_far lines).output;
-            warnings = h.warnings ∙ ap (λ (ws : List At). (filter.so_far lines).warnings ++ ws)
-                (noted ∙ append-nil (awaited_notices notices));
-            fault = h.fault;
-          })
+      fed-answers notices warned result e noted once quiet =
+          grind (arith, common_steps, follows-fed, append-nil)
 
       -- the first time
       first-time : (result : Result Step At) → step_made result ready now ≡ seen_next direction first
@@ -173,7 +151,8 @@ module _ {U O K : Type 0} {direction : Direction U O K} {closing_after : List In
   -- an engine's own step, or memory that ran out, is an answer
   answers-line : (shows : List InputLine → List Awaited → Type 0) (before now : Seen O K)
       (lines : List InputLine) (notices : List Awaited) (line : InputLine) (ready : List (List ℕ))
-      (result : Result Step At) → ((ls : List InputLine) (ns : List Awaited) → HasTaken direction seen_after now ls ns → shows ls ns)
+      (result : Result Step At)
+      → ((ls : List InputLine) (ns : List Awaited) → HasTaken direction seen_after now ls ns → shows ls ns)
       → HasTaken direction seen_after before lines notices → IsAwaited notices line → Steps direction before
       (seen line) result ready now → EngineAnswers filter shows ready lines notices line result
   answers-line shows before now lines [] line ready result showing taken awaited (inl e) =
