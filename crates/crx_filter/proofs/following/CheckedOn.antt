@@ -3,9 +3,9 @@ use Rattle.crx_filter.proofs.Words
 use Words.{common_steps, ℕ, ◌≡◌, ◌+◌, true, false, cond, List, [], ◌∷◌, ◌++◌, map, length, Option, Some, None}
 use Words.{refl, ap, sym, ◌∙◌, subst, arith, length-append, append-nil, append_assoc, length-map, none-some}
 use Words.{InputLine, ReadLine, seen, At, Epoch, last_line, Reading, rinex_reading, rinex_open, Seen, made_in}
-use Words.{seen_next, seen_of, phase_of, Fed, failed_by, is_again, fault_of_stop, printed_items}
-use Words.{is_standard_line, first_not_standard, Totals, checking, totals_of, printed_open, printed_made}
-use Words.{earliest, CheckSeen, no_choices, check_seen, OpenEpoch}
+use Words.{seen_next, seen_of, phase_of, failed_by, is_again, fault_of_stop, printed_items, is_standard_line}
+use Words.{first_not_standard, Totals, checking, totals_of, printed_open, printed_made, earliest, CheckSeen}
+use Words.{no_choices, check_seen, OpenEpoch}
 use Rattle.crx_filter.proofs.following.{Check.check-carried_out, Following.fed-once, MoreLines.more-line}
 use Rattle.crx_filter.proofs.{reading.StaysEnded.rinex-stays, standard.CheckLines.{phase-reached, line-grows}}
 use Rattle.crx_filter.specs.CheckingLaws.{IsCheckedOn}
@@ -42,28 +42,16 @@ pub record IsOneOn (lines : List ReadLine) (line : ReadLine) : Type 0 where
       → printed_of (lines ++ line ∷ []) ≡ printed_of lines ++ given_back lines line ∷ []
 
 pub one-on : (lines : List ReadLine) (line : ReadLine) → IsOneOn lines line
-one-on lines line =
-    let s = reading_seen lines in
-    let step = seen_next checking s line in
-    let once = fed-once checking s line (once-again lines line) in
-    let h = more-line check-carried_out 1 (length lines) (length (lines ++ line ∷ [])) lines
-    (lines ++ line ∷ []) line (omega arith) (length-append lines (line ∷ [])) refl in
-    let before = rinex_reading false lines in
-    let next = h.next ∙ ap (λ (f : Fed OpenEpoch Totals). f.next) once in
-    let handed_out = h.handed_out ∙ ap (λ (f : Fed OpenEpoch Totals). printed_items before.items ++
-    f.handed_out) once in
-    let failed = h.failed ∙ ap (λ (f : Fed OpenEpoch Totals). f.failed) once in
-    record {
-      fault = failed;
-      next = next;
-      printed = λ none. ap (λ ls. ls ++ printed_open (phase_of rinex_open (rinex_reading false
-          (lines ++ line ∷ [])))) handed_out ∙ ap (λ p. (printed_items before.items ++ step.handed_out) ++
-          printed_open p) (ap (λ (t : Seen OpenEpoch Totals). t.phase) next)
-          ∙ append_assoc (printed_items before.items) step.handed_out (printed_open step.next.phase)
-          ∙ ap (λ ls. printed_items before.items ++ ls) (line-grows (length lines) s.phase s.types s.kept line
-          (phase-reached lines) (sym failed ∙ none)) ∙ sym (append_assoc (printed_items before.items)
-          (printed_open s.phase) (given_back lines line ∷ []));
-    }
+one-on lines line = grind (
+  arith,
+  common_steps,
+  fed-once checking (reading_seen lines) line (once-again lines line),
+  more-line check-carried_out 1 (length lines) (length (lines ++ line ∷ [])) lines (lines ++ line ∷ []) line
+      (omega arith) (length-append lines (line ∷ [])) refl,
+  line-grows (length lines) (reading_seen lines).phase (reading_seen lines).types (reading_seen lines).kept
+      line (phase-reached lines),
+  append_assoc,
+)
 
 -- ---- as many lines are printed as have come
 

@@ -1,10 +1,10 @@
 -- The end of the input, as a check takes it; and which files it names as standard.
 use Rattle.crx_filter.proofs.Words
 use Words.{common_steps, arith, ℕ, ◌≡◌, false, List, [], ◌∷◌, ◌++◌, map, length, Option, Some, None, refl, ap}
-use Words.{sym, ◌∙◌, append-nil, none-some, InputLine, ReadLine, seen, Fault, Count, Epoch, HeaderLine}
-use Words.{OpenEpoch, Item, Accepted, Warned, is_at_start, Reading, WholeReading, fault_at_end, ended_with}
-use Words.{whole_rinex, rinex_reading, Phase, InEpoch, Seen, kept_in, seen_end, AreInPlace, failed_by}
-use Words.{printed_items, whole_reading_of, Totals, checking, totals_of, printed_open, no_choices, check_seen}
+use Words.{sym, append-nil, none-some, InputLine, ReadLine, seen, Fault, Count, Epoch, HeaderLine, OpenEpoch}
+use Words.{Item, Accepted, Warned, is_at_start, Reading, WholeReading, fault_at_end, ended_with, whole_rinex}
+use Words.{rinex_reading, Phase, InEpoch, kept_in, seen_end, AreInPlace, failed_by, printed_items}
+use Words.{whole_reading_of, Totals, checking, printed_open, no_choices}
 use Rattle.crx_filter.proofs.following.{Check.check-end, CheckedOn.{same-seen, as-many}, Following.seen_in}
 use Rattle.crx_filter.proofs.reading.{InPlace.items-in_place, WhatWasRead.items-read}
 use Rattle.crx_filter.{proofs.wayback.Carried.started, specs.CheckByLine.version_accepted}
@@ -70,23 +70,17 @@ kept-always (InEpoch so_far) kept = refl
 kept-always phase kept = refl
 
 pub check-ended : (lines : List InputLine) → IsCheckEnded lines
-check-ended lines =
-    let r = rinex_reading false (map seen lines) in
-    let items = whole-items (map seen lines) in
-    let failed : WholeReading.fault (whole_reading_of lines) ≡ failed_by (seen_end checking
-    (check_seen lines).reading).answer = cc ((check-end (map seen lines)).failed, same-seen lines) in
-    record {
-      fault = failed;
-      found = λ good.
-          let s : Seen OpenEpoch Totals = (check_seen lines).reading in
-          let shut = none-open s.number s.phase s.types s.kept (sym failed ∙ good) in
-          rw (
-            items,
-            kept-always s.phase (totals_of r.items),
-            version-same (map seen lines),
-            ap (λ ls. printed_items r.items ++ ls) shut ∙ append-nil (printed_items r.items),
-          ) refl;
-    }
+check-ended lines = grind (
+  arith,
+  common_steps,
+  whole-items (map seen lines),
+  (check-end (map seen lines)).failed,
+  same-seen lines,
+  none-open,
+  kept-always,
+  version-same (map seen lines),
+  append-nil,
+)
 
 -- where the end is good, printing gives back as many lines as have come
 pub whole-many : (lines : List InputLine) → WholeReading.fault (whole_reading_of lines) ≡ None

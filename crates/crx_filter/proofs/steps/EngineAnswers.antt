@@ -105,24 +105,16 @@ module _ {U O K : Type 0} {direction : Direction U O K} {closing_after : List In
       -- the first time
       first-time : (result : Result Step At) → step_made result ready now ≡ seen_next direction first
           (seen line) → EngineAnswers filter shows ready lines [] line result
-      first-time (Ok (Warned notice true)) s =
-          let step : SeenStep O K = step_made (Ok (Warned notice true)) ready now in
-          let two : SeenStep O K = seen_next direction now (seen line) in
-          let h = follows-fed (fed_twice step two) (fed-again first (seen line) step s refl) in
-          let none : ready ≡ [] = quiet-next direction first (seen line) step s refl in (
-            showing lines (record { notice = notice; line = line } ∷ []) (ap (λ (ls : List (List ℕ)).
-                step_made (Ok (Warned notice true)) ls now) (sym none) ∙ s),
-            refl,
-            (
-              reverse (noticed_by two.answer),
-              h.warnings ∙ ap (λ (ws : List At). (filter.so_far lines).warnings ++ ws)
-                  (reverse-append (noticed_by two.answer) (notice ∷ [])),
-            ),
-          )
-      first-time result s =
-          let step : SeenStep O K = step_made result ready now in
-          fed-answers [] (noticed_by (answer_of_step result)) result
-          (fed-once first (seen line) step s refl) refl refl (quiet-next direction first (seen line) step s)
+      first-time result s = grind (
+        arith,
+        common_steps,
+        fed-answers,
+        fed-once first (seen line) (step_made result ready now) s,
+        fed-again first (seen line) (step_made result ready now) s,
+        quiet-next direction first (seen line) (step_made result ready now) s,
+        follows-fed,
+        reverse-append,
+      )
 
       -- the second time, after a warning
       second-time : (notice : At) (before : Seen O K) (result : Result Step At) → record

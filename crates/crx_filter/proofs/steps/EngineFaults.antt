@@ -1,14 +1,14 @@
 -- What an engine answers to a line with a fault, to one that is too long, and at the input's end.
-use Rattle.crx_filter.proofs
+use Rattle.crx_filter.proofs.Words
 use Rattle.crx_filter.specs
-use proofs.Words.{common_steps, arith, ◌≡◌, inl, inr, ℕ, ◌+◌, Bool, true, false, ◌&&◌, List, [], Option, Some}
-use proofs.Words.{None, Result, Ok, Err, refl, sym, ap, subst, ◌∙◌, Content, Overlong, At, Fault, LineTooLong}
-use proofs.Words.{Count, Choices, Seen, Direction, Fails, made_in, SeenEnded, is_skipped_in, may_skip}
-use proofs.Words.{is_skippable, failed_step, step_of_made, seen_next, begins_epoch, step_made, Steps, is_held}
-use proofs.Words.{seen_stage, Stage, false≢true}
+use Words.{common_steps, arith, ◌≡◌, inl, inr, ℕ, ◌+◌, Bool, true, false, ◌&&◌, List, [], Option, Some, None}
+use Words.{Result, Ok, Err, refl, sym, ap, ◌∙◌, Content, Overlong, At, Fault, LineTooLong, Count, Choices}
+use Words.{Seen, Direction, Fails, made_in, SeenEnded, is_skipped_in, may_skip, is_skippable, failed_step}
+use Words.{step_of_made, seen_next, begins_epoch, step_made, Steps, is_held, seen_stage, Stage, false≢true}
+use Rattle.crx_filter.proofs.{Pending.seen_in, steps.EngineLemmas.{failed-at, fatal-counts, out-fatal}}
+use Rattle.crx_filter.proofs.steps.EngineLemmas.{no-skip, ran-out}
 use Rattle.crx_runs.specs.declared.engine.Step.{Step}
 use Rattle.{crx_runs.specs.declared.engine.Step.TheVariants.Warned, std.proofs.Common.{OnErr, IfErr, IfOk}}
-use proofs.{Pending.seen_in, steps.EngineLemmas.{failed-at, fatal-counts, out-fatal, no-skip, ran-out}}
 use specs.DirectionParts.{DirectionParts, seen_by, Reads, RefusesLine, AnswersToFault, TakesLine}
 use specs.{EngineSteps.answer_of_step, LineByLine.{end_step, answer_of_lines, fault_at_end_in, seen_end_with}}
 use specs.{Stages.{bare_phase, is_settled}, declared.stage.Stage.TheVariants.{Looking, Closed, Ended}}
@@ -91,16 +91,12 @@ module _ {U O K : Type 0} (direction : Direction U O K) where
       → is_settled stage ≡ false → step_made result [] after ≡ seen_next direction
       (seen_by choices last parts) Overlong
   long-failed first next choices last number stage parts result after fails counted was held going =
-      fails parts Overlong last (record {
-        stage_was = sym was;
-        held = held;
-        types = refl;
-        kept = refl;
-        goes = refl;
-      }) counted ∙ ap (step_of_made direction (seen_by choices last parts) Overlong)
-      (sym (made-too_long first next parts.stage parts.begun parts.types parts.kept
-      (subst (λ (s : Stage). is_held s parts.begun ≡ true) was held)
-      (subst (λ (s : Stage). is_settled s ≡ false) was going)))
+      grind (
+        arith,
+        common_steps,
+        fails parts Overlong last,
+        made-too_long first next parts.stage parts.begun parts.types parts.kept,
+      )
 
   -- ---- the end of the input
 
