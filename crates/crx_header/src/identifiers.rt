@@ -63,24 +63,6 @@ impl Identifiers {
         if place < names.len() && is_same_identifier(names[place], name) {
             return Ok(true);
         }
-        self.put_other(place, name)
-    }
-
-    /// Puts an identifier at a place where another one is, or none: that one and those after it are dropped.
-    #[inline(never)]
-    fn put_other(&mut self, place: usize, name: [u8; NAME_WIDTH]) -> Result<bool, AllocError>
-        requires within { place ≤ length self.old.names }
-        ensures new { IfOk result
-            (λ is_new. is_among (λ (n : List ℕ). n) name (take place self.old.names) ≡ not is_new) }
-        ensures next { IfOk result (λ is_new. is_new ≡ true
-            → self.new.names ≡ take place self.old.names ++ name ∷ []) }
-        ensures repeated { IfOk result (λ is_new. is_new ≡ false → self.new.names ≡ take place self.old.names) }
-        ensures err { OnErr result (is_among (λ (n : List ℕ). n) name (take place self.old.names) ≡ false) }
-        ensures refused { OnErr result (self.new.names ≡ take place self.old.names) }
-        ensures asked { OnErr result (self.old.spare ≡ 0) }
-        ensures used_again { place < length self.old.names → 2 * place ≤ length self.old.names → IsOk result }
-        ensures room { self.old.spare ≤ self.new.spare + 1 }
-    {
         self.names.truncate(place);
         Ok(self.names.insert(name)?)
     }

@@ -3,23 +3,6 @@ ghost use Rattle.std.specs.Prelude.{◌≡◌, ◌≢◌, ℕ, ◌+◌, ◌<◌,
 
 use std::simd::prelude::*;
 
-/// The place of the first LF, from a place on, of the last 31 bytes at most.
-fn feed_in_rest(bytes: &[u8], from: usize) -> Option<usize>
-    requires within { from ≤ length bytes.now }
-    requires few { length bytes.now < from + 32 }
-    ensures within { IfSome result (λ at. (from ≤ at) × (at < length bytes.now)) }
-    ensures found { IfSome result (λ at. slice_index bytes.now at ≡ 10) }
-    ensures first { IfSome result (λ at. (k : ℕ) → from ≤ k → k < at → slice_index bytes.now k ≢ 10) }
-    ensures none { IfNone result ((k : ℕ) → from ≤ k → k < length bytes.now → slice_index bytes.now k ≢ 10) }
-{
-    for at in from..bytes.len() {
-        if bytes[at] == b'\n' {
-            return Some(at);
-        }
-    }
-    None
-}
-
 /// The place of the first LF, from a place on.
 pub fn feed_from(bytes: &[u8], from: usize) -> Option<usize>
     requires { from ≤ length bytes.now }
@@ -28,12 +11,8 @@ pub fn feed_from(bytes: &[u8], from: usize) -> Option<usize>
     ensures first { IfSome result (λ at. (k : ℕ) → from ≤ k → k < at → slice_index bytes.now k ≢ 10) }
     ensures none { IfNone result ((k : ℕ) → from ≤ k → k < length bytes.now → slice_index bytes.now k ≢ 10) }
 {
-    if bytes.len() < 32 {
-        return feed_in_rest(bytes, from);
-    }
-    let last = bytes.len() - 32;
     let mut at = from;
-    while at <= last {
+    while 32 <= bytes.len() - at {
         let feeds = u8x32::from_slice(&bytes[at..])
             .simd_eq(u8x32::splat(b'\n'))
             .to_bitmask();
@@ -42,5 +21,10 @@ pub fn feed_from(bytes: &[u8], from: usize) -> Option<usize>
         }
         at += 32;
     }
-    feed_in_rest(bytes, at)
+    for last in at..bytes.len() {
+        if bytes[last] == b'\n' {
+            return Some(last);
+        }
+    }
+    None
 }

@@ -70,13 +70,6 @@ struct Part {
     is_plain: bool,
 }
 
-/// Lines may come after a line with an end; after one without, the input is over.
-fn phase_after(is_ended: bool) -> Phase
-    ensures { result ≡ (if is_ended then Phase.Open else Phase.Ended) }
-{
-    if is_ended { Phase::Open } else { Phase::Ended }
-}
-
 /// Hands out the lines of an input one after another, from a buffer of its own.
 #[derive(Drop)]
 pub struct LineReader {
@@ -151,7 +144,6 @@ impl LineReader {
         requires { self.old.phase ≡ Phase.Open }
         ensures answers { TakesNextLine R.Source self.old self.new reader.old reader.new result }
         ensures place { IfOk result (λ next. IfSome next IsPlace) }
-        ensures unasked { Contains (kept self.old.window.value) 10 → reader.new ≡ reader.old }
     {
         let room = INPUT_LIMIT - self.passed - self.window.as_slice().len() as u64;
         let found = match seek(&mut self.window, room, reader) {
@@ -174,7 +166,12 @@ impl LineReader {
         self.window.skip(held);
         self.passed += found.passed + held as u64;
         self.number += 1;
-        self.phase = phase_after(found.is_ended);
+        // Lines may come after a line with an end; after one without, the input is over.
+        self.phase = if found.is_ended {
+            Phase::Open
+        } else {
+            Phase::Ended
+        };
         // Bytes of a line that is too long were discarded, or its content in the window is too long.
         if (found.passed > 0) | (place.to - place.from > LINE_LIMIT) {
             return Err(At {

@@ -14,12 +14,10 @@ pub fn character(line: &[u8], column: usize) -> u8
     line.get(column - 1).copied().unwrap_or(b' ')
 }
 
-/// The part of so many columns, from a first one on, that is inside the line.
-fn part(line: &[u8], first: usize, width: usize) -> &[u8]
-    requires from_one { 1 ≤ first }
-    ensures value { result.now ≡ take width (drop (first - 1) line.now) }
+/// The part of so many columns, after others, that is inside the line.
+fn part(line: &[u8], start: usize, width: usize) -> &[u8]
+    ensures value { result.now ≡ take width (drop start line.now) }
 {
-    let start = first - 1;
     if start < line.len() {
         let rest = &line[start..];
         let end = rest.len().min(width);
@@ -54,7 +52,7 @@ pub fn end_trimmed(line: &[u8], first: usize, width: usize) -> &[u8]
     requires from_one { 1 ≤ first }
     ensures value { result.now ≡ without_end_blanks (columns line.now first width) }
 {
-    trim_end(part(line, first, width))
+    trim_end(part(line, first - 1, width))
 }
 
 /// So many columns from a first one on, without the blanks at both ends.
@@ -64,7 +62,7 @@ pub fn trimmed(line: &[u8], first: usize, width: usize) -> &[u8]
     ensures value { result.now ≡ without_blanks (columns line.now first width) }
     ensures within { length result.now ≤ width }
 {
-    trim_end(trim_start(part(line, first, width)))
+    trim_end(trim_start(part(line, first - 1, width)))
 }
 
 /// What comes after so many columns.
@@ -84,7 +82,7 @@ pub fn padded<const N: usize>(line: &[u8], first: usize) -> [u8; N]
     ensures value { result ≡ columns line.now first N }
 {
     let mut text = [b' '; N];
-    let found = part(line, first, N);
+    let found = part(line, first - 1, N);
     text[..found.len()].copy_from_slice(found);
     text
 }

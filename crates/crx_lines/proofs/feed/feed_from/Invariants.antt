@@ -7,3 +7,6 @@ invariant-loop-at l =
 
 abbrev pub decreases-loop-at : goal.decreases-loop-at
 decreases-loop-at l = length l.bytes - l.at
+
+abbrev pub invariant-loop-last : goal.invariant-loop-last
+invariant-loop-last l = (k : ℕ) → l.from ≤ k → k < l.last → slice_index l.bytes k ≢ 10

@@ -7,6 +7,7 @@ use Rattle.crx_lines.{proofs.SeekLemmas.Seeking-sum, specs.{Readers.reading, Win
 use Rattle.crx_base.specs.declared.fault.Fault.TheVariants.{InputTooLong, ReadFailed}
 use Rattle.crx_base.specs.{declared.limits.TheConstants.INPUT_LIMIT, meaning.Lines.without_return}
 use Rattle.crx_base.specs.meaning.Lines.{ends_with_return}
+use Rattle.crx_lines.proofs.line.LineReader.advance_by_reading.Goals.{then-found-2, else-found-2}
 use Rattle.crx_lines.proofs.line.LineReader.advance_by_reading.Goals as goal
 
 pub invariant_of-self : goal.invariant_of-self
@@ -118,7 +119,8 @@ returns-then-found-place-clause-answers g c =
         piece,
         takes gave start held _ taken found.passed found.len at_end s found.is_ended c.in-Ok.ensures.end some
             (reading old) _ _ (sym same) (held-is found.len _ _ c.from.ensures) now refl
-            (omega (arith, limit)) refl c.phase_after-self.ensures,
+            (omega (arith, limit)) refl
+            (elim c.if-found-2.branch [ then-found-2 w ↦ search rules | else-found-2 w ↦ search rules ]),
         content-long gave start held _ taken found.passed found.len at_end s found.is_ended content
             (c.content-place.ensures.value ∙ ap (λ w. without_return (take found.len (kept w)))
             c.deref-2.ensures) over,
@@ -160,7 +162,8 @@ returns-clause-answers g c =
         piece,
         takes gave start held _ taken found.passed found.len at_end s found.is_ended c.in-Ok.ensures.end some
             (reading old) _ _ (sym same) (held-is found.len _ _ c.from.ensures) now refl
-            (omega (arith, limit)) refl c.phase_after-self.ensures,
+            (omega (arith, limit)) refl
+            (elim c.if-found-2.branch [ then-found-2 w ↦ search rules | else-found-2 w ↦ search rules ]),
         shown-line s.front (take found.len held) _ found.is_ended place.has_return _ whole
             content returns refl,
         refl,
