@@ -14,14 +14,6 @@ pub coded_number-cell : (text digits : List ℕ) → digits ≡ without_minus te
 unfolding coded_number
 coded_number-cell text digits is = grind arith
 
-pub no_cell : {A : Type 0} (r : Option (ℕ × A)) (counted : Option ℕ) (f : ℕ → ℤ)
-    → r ≡ None → option_map (λ cell. cell.0) r ≡ counted → option_map f counted ≡ None
-no_cell = grind (arith, common_steps)
-
-pub a_cell : {A : Type 0} (r : Option (ℕ × A)) (counted : Option ℕ) (f : ℕ → ℤ) (size : ℕ) (next : A)
-    → r ≡ Some (size, next) → option_map (λ cell. cell.0) r ≡ counted → option_map f counted ≡ Some (f size)
-a_cell r counted f size next is e = rw (← e, is) refl
-
 -- where no digit begins the cell, it has no number
 pub no_first_digit : (text : List ℕ)
     → (0 < length text → is_ascii_digit (get_or text 0 0) ≡ false) → counted_digits (first_cell text) ≡ None

@@ -1,8 +1,10 @@
 -- The digits that begin a cell, read one after another.
-use Rattle.std.specs.Prelude.{ℕ, Bool, false, ◌≡◌, ◌+◌, ◌<◌, ◌≤◌, ◌^◌, nat_lt, List, length, drop, slice_index}
+use Rattle.std.specs.Prelude.{ℕ, Bool, false, ◌≡◌, ◌+◌, ◌<◌, ◌≤◌, ◌^◌, nat_lt, List, length, drop, slice_index, Option}
+use Rattle.std.specs.Prelude.{None, Some, MatchOption}
 use Rattle.std.specs.Char.{is_ascii_digit}
 use Rattle.std.specs.Str.{all_ascii_digits}
 use Rattle.std.specs.Str.Parse.{digits_value, digits_value_after}
+use Rattle.crx_text.specs.Codes.{counted_digits}
 use Rattle.crx_text.specs.meaning.Codes.{after_cell, first_cell}
 use Rattle.crx_base.specs.declared.limits.TheConstants.{DIGITS_LIMIT}
 
@@ -22,3 +24,16 @@ pub record HasFirstDigits (text : List ℕ) (size count : ℕ) : Type 0 where
 
 abbrev pub is_below_ten : ℕ → Bool
 is_below_ten number = nat_lt number 10
+
+-- a number that the digits before a text's first blank write, or before its end, and the index after that blank, or of
+-- the end
+pub record IsDigitsCell (text : List ℕ) (cell : ℕ × ℕ) : Type 0 where
+  pub value : counted_digits (first_cell text) ≡ Some cell.0
+  pub next : drop cell.1 text ≡ after_cell text
+  pub small : cell.0 < 10 ^ DIGITS_LIMIT
+  pub within : cell.1 ≤ length text
+
+-- they were read, or they write no number
+abbrev pub ReadsDigits : List ℕ → Option (ℕ × ℕ) → Type 0
+ReadsDigits text result =
+    MatchOption result (counted_digits (first_cell text) ≡ None) (IsDigitsCell text)

@@ -4,12 +4,9 @@ ghost use Rattle.std.specs.Prelude.{◌≡◌, ◌+◌, ◌-◌, ◌*◌, ◌/�
 ghost use Rattle.std.specs.Char.{is_ascii_digit};
 ghost use Rattle.std.specs.Fmt.{signed_decimal};
 ghost use Rattle.std.specs.Int.{to_le_bytes, w32};
-ghost use Rattle.std.specs.Option.{option_map};
 ghost use Rattle.std.specs.List.{prefix_len};
 ghost use Rattle.std.specs.Str.Parse.{digits_value};
-ghost use Rattle.crx_text.specs.meaning.Codes.{after_cell, first_cell};
-ghost use Rattle.crx_text.specs.Codes.{counted_digits};
-ghost use Rattle.crx_text.specs.FirstDigits.{HasFirstDigits};
+ghost use Rattle.crx_text.specs.FirstDigits.{HasFirstDigits, IsDigitsCell, ReadsDigits};
 ghost use Rattle.crx_text.specs.declared.code_digits.TheConstants.{FEW, ROW};
 ghost use Rattle.crx_base.specs.declared.limits.TheConstants.{DIGITS_LIMIT};
 
@@ -21,9 +18,7 @@ use std::simd::prelude::*;
 // the text's end; None where there is no digit, too many, or something else.
 #[inline(always)]
 pub(crate) fn digits_before_blank(text: &[u8]) -> Option<(u64, usize)>
-    ensures value { option_map (λ cell. cell.0) result ≡ counted_digits (first_cell text.now) }
-    ensures next { IfSome result (λ cell. drop cell.1 text.now ≡ after_cell text.now) }
-    ensures within { IfSome result (λ cell. (cell.0 < 10 ^ DIGITS_LIMIT) × (cell.1 ≤ length text.now)) }
+    ensures { ReadsDigits text.now result }
 {
     if let Some(cell) = few_digits_before_blank(text) {
         return Some(cell);
@@ -45,9 +40,7 @@ pub(crate) fn digits_before_blank(text: &[u8]) -> Option<(u64, usize)>
 // row: a line's last code takes some 60 instructions so, and 50 to 100 digit by digit (bench/README.md).
 #[inline(always)]
 pub(crate) fn few_digits_before_blank(text: &[u8]) -> Option<(u64, usize)>
-    ensures value { IfSome result (λ cell. counted_digits (first_cell text.now) ≡ Some cell.0) }
-    ensures next { IfSome result (λ cell. drop cell.1 text.now ≡ after_cell text.now) }
-    ensures within { IfSome result (λ cell. (cell.0 < 10 ^ DIGITS_LIMIT) × (cell.1 ≤ length text.now)) }
+    ensures { IfSome result (IsDigitsCell text.now) }
 {
     if text.len() >= ROW {
         let (size, count) = row_number(text)?;
@@ -66,9 +59,7 @@ fn ended_digits(text: &[u8], size: u64, count: usize) -> Option<(u64, usize)>
     requires digits { HasFirstDigits text.now size count }
     requires some { 0 < count }
     requires few { count ≤ DIGITS_LIMIT }
-    ensures value { option_map (λ cell. cell.0) result ≡ counted_digits (first_cell text.now) }
-    ensures next { IfSome result (λ cell. drop cell.1 text.now ≡ after_cell text.now) }
-    ensures within { IfSome result (λ cell. (cell.0 < 10 ^ DIGITS_LIMIT) × (cell.1 ≤ length text.now)) }
+    ensures { ReadsDigits text.now result }
 {
     if count == text.len() {
         return Some((size, count));

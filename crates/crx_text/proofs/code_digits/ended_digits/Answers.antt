@@ -1,9 +1,11 @@
-use Rattle.std.proofs.Common.{rules}
+use Rattle.std.proofs.{Common.arith, lemmas.Grind.common_steps}
 use Rattle.crx_text.proofs.PowersOfTen.{small_number}
 use Rattle.crx_text.proofs.code_digits.ended_digits.Goals as goal
 
-pub returns-then-count-text-clause-within : goal.returns-then-count-text-clause-within
-returns-then-count-text-clause-within c = search (rules, c.requires.digits, small_number, c.requires.few)
+pub returns-then-count-text : goal.returns-then-count-text
+returns-then-count-text c =
+    grind (arith, common_steps, small_number _ _ 18 c.requires.few c.requires.digits.small)
 
-pub returns-then-text-count-eq32-clause-within : goal.returns-then-text-count-eq32-clause-within
-returns-then-text-count-eq32-clause-within c = search (rules, c.requires.digits, small_number, c.requires.few)
+pub returns-then-text-count-eq32 : goal.returns-then-text-count-eq32
+returns-then-text-count-eq32 c =
+    grind (arith, common_steps, small_number _ _ 18 c.requires.few c.requires.digits.small)
