@@ -1,5 +1,5 @@
 -- What is kept of a line says of the whole line all that counts: whether it is too long, and else its bytes.
-use Rattle.std.proofs.lemmas.Grind.{common_steps}
+use Rattle.std.proofs.{Common.min, Math.Nat.min_comm, lemmas.{Grind.common_steps, List.take_min}}
 use Rattle.rnxcmp_c.proofs.Words.{◌≡◌, ◌⊎◌, ⊎_elim, ℕ, ◌<◌, ◌≤◌, Bool, true, false, List, [], length, take}
 use Rattle.rnxcmp_c.proofs.Words.{ap, ◌∙◌, subst, arith, length-take, take_all, LINE_LIMIT, without_return}
 use Rattle.rnxcmp_c.proofs.Words.{LINE_ROOM}
@@ -13,6 +13,11 @@ within-or n m = grind arith
 
 pub none-or : (n : ℕ) → (n ≡ 0) ⊎ (0 < n)
 none-or n = grind arith
+
+-- the first of some bytes, as many as there is room for
+pub first-allowed : (bytes : List ℕ) (room count : ℕ) → count ≡ min (length bytes) room
+    → take count bytes ≡ take room bytes
+first-allowed bytes room count is = ap (λ n. take n bytes) (is ∙ min_comm _ room) ∙ take_min room bytes
 
 -- what has room is whole
 pub whole-where_short : (n : ℕ) (whole : List ℕ) → length (take n whole) < n → take n whole ≡ whole

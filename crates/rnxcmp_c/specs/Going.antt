@@ -291,6 +291,10 @@ module _ {E : Type 0} (e : Ghosts E) where
   abbrev pub CanTake : E → Type 0
   CanTake engine = e.ready engine ≡ []
 
+  -- the same, once it has shown what some lines make
+  abbrev pub HasShown : E → Type 0
+  HasShown engine = CanTake engine × ((lines : List InputLine) × e.shows engine lines [])
+
   -- a step keeps its run, and where the run isn't over, it takes what comes next
   abbrev pub KeepsItsRun : {A : Type 0} → E → E → Held → Held → Result A Stop → Type 0
   KeepsItsRun before after old new taken =
@@ -300,6 +304,12 @@ module _ {E : Type 0} (e : Ghosts E) where
   abbrev pub CanBeFed : E → Held → ℕ → Type 0
   CanBeFed engine held count = CanTake engine × ((past : HandlePast)
       × IsGoing (e.filter engine) (e.shows engine) held past × (length past.fed + count ≤ INPUT_LIMIT))
+
+  -- what is kept of a line was taken as a line, which comes after some lines
+  abbrev pub LineIsTaken : E → E → Held → Held → Bool → Result Unit Stop → Type 0
+  LineIsTaken before after old new is_ended taken = (lines : List InputLine) (whole : List ℕ)
+      → e.shows before lines [] → old.tail.bytes.items ≡ take LINE_ROOM whole
+      → LineStaysWithin taken (e.filter before) (e.shows after) lines (piece_line whole is_ended) old new
 
   -- its run goes on with the first of these bytes, or they ended it
   abbrev pub WasFed : E → E → Held → Held → List ℕ → Result ℕ Stop → Type 0

@@ -71,6 +71,11 @@ EngineIsReady engine = ready_of engine ≡ []
 abbrev pub EngineGoesOn : AnyEngine → Held → HandlePast → Type 0
 EngineGoesOn engine held past = IsGoing (engine_filter engine) (shows_of engine) held past
 
+-- and an input may have so many bytes more
+abbrev pub EngineCanBeFed : AnyEngine → Held → ℕ → Type 0
+EngineCanBeFed engine held count = EngineIsReady engine
+    × ((past : HandlePast) × EngineGoesOn engine held past × (length past.fed + count ≤ INPUT_LIMIT))
+
 abbrev pub has_ended_of : AnyEngine → List InputLine → Type 0
 has_ended_of (Compacting c) lines = ⊤
 has_ended_of (Expanding e) lines = ⊤
@@ -82,6 +87,10 @@ IsOf (Compact choices limit) (Compacting c) = compaction_filter (compactor_seen 
 IsOf (Expand choices limit) (Expanding e) = expansion_filter e.options ≡ expansion_filter choices
 IsOf Check (Checking c) = ⊤
 IsOf task engine = ⊥
+
+-- a step keeps the task of a run, and the limit of its output
+abbrev pub KeepsItsTask : AnyEngine → AnyEngine → Held → Held → Type 0
+KeepsItsTask before after old new = ((task : Task) → IsOf task before → IsOf task after) × (new.limit ≡ old.limit)
 
 -- the status after the end of the input where there is no fault
 abbrev pub status_at_end : AnyEngine → Bool → ℕ

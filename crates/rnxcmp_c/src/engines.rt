@@ -1,14 +1,12 @@
 //! The engines of the three tasks, as one type.
 
-ghost use Rattle.std.specs.Prelude.{◌≡◌, ◌<◌, ◌≤◌, ◌+◌, length, take, OnErr, OnOk, IfOk, IfErr};
-ghost use Rattle.crx_base.specs.declared.limits.TheConstants.{INPUT_LIMIT};
+ghost use Rattle.std.specs.Prelude.{◌≡◌, ◌<◌, length, take, OnErr, OnOk, IfOk, IfErr};
 ghost use Rattle.crx_base.specs.meaning.Lines.{lines_of};
 ghost use Rattle.rnxcmp_c.specs.Going.{IsTaken, LastIsTaken, RunBreaks};
 ghost use Rattle.rnxcmp_c.specs.Holding.{ready_in};
 ghost use Rattle.rnxcmp_c.specs.declared.limits.TheConstants.{READY_LIMIT};
-ghost use Rattle.rnxcmp_c.specs.Handles.{EngineGoesOn, EngineIsReady, IsOf, engine_filter, has_ended_of, status_at_end};
+ghost use Rattle.rnxcmp_c.specs.Handles.{EngineCanBeFed, EngineGoesOn, EngineIsReady, KeepsItsTask, engine_filter, has_ended_of, status_at_end};
 ghost use Rattle.rnxcmp_c.specs.Past.{HandlePast, StopsSoon, fed_with};
-ghost use Rattle.rnxcmp_c.specs.meaning.Handles.{Task};
 
 use crate::held::Held;
 use crate::lines::{take_bytes, take_last};
@@ -33,12 +31,9 @@ pub(crate) fn feed_engine(
     held: &mut Held,
     bytes: &[u8],
 ) -> Result<usize, Stop>
-    requires ready { EngineIsReady engine.old }
-    requires going { (past : HandlePast) × EngineGoesOn engine.old held.old past
-        × (length past.fed + length bytes.now ≤ INPUT_LIMIT) }
-    ensures of { (task : Task) → IsOf task engine.old → IsOf task engine.new }
+    requires { EngineCanBeFed engine.old held.old (length bytes.now) }
+    ensures keeps { KeepsItsTask engine.old engine.new held.old held.new }
     ensures ready { OnOk result (EngineIsReady engine.new) }
-    ensures limit { held.new.limit ≡ held.old.limit }
     ensures count { IfOk result (IsTaken held.old held.new (length bytes.now)) }
     ensures soon { (past : HandlePast) → EngineGoesOn engine.old held.old past
         → IfOk result (λ n. 0 < n → StopsSoon (engine_filter engine.old) past bytes.now n) }
@@ -57,11 +52,8 @@ pub(crate) fn feed_engine(
 
 /// Gives the end of the input to the engine of a run.
 pub(crate) fn end_engine(engine: &mut AnyEngine, held: &mut Held) -> Result<(), Stop>
-    requires ready { EngineIsReady engine.old }
-    requires going { (past : HandlePast) × EngineGoesOn engine.old held.old past
-        × (length past.fed ≤ INPUT_LIMIT) }
-    ensures of { (task : Task) → IsOf task engine.old → IsOf task engine.new }
-    ensures limit { held.new.limit ≡ held.old.limit }
+    requires { EngineCanBeFed engine.old held.old 0 }
+    ensures keeps { KeepsItsTask engine.old engine.new held.old held.new }
     ensures ends { (past : HandlePast) → EngineGoesOn engine.old held.old past
         → LastIsTaken result (engine_filter engine.old) (has_ended_of engine.new (lines_of past.fed)) held.new past }
 {

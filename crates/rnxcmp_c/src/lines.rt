@@ -5,7 +5,7 @@ ghost use Rattle.crx_base.specs.declared.limits.TheConstants.{INPUT_LIMIT};
 ghost use Rattle.crx_base.specs.meaning.Lines.{InputLine, ends_with_return, lines_of, without_return};
 ghost use Rattle.crx_lines.specs.Reading.{HasNoFeed};
 ghost use Rattle.crx_runs.specs.Lawful.{IsLawful};
-ghost use Rattle.rnxcmp_c.specs.Going.{CanBeFed, CanTake, EndStaysWithin, IsGoing, IsSameRun, IsTaken, KeepsItsRun, LastIsTaken, LineIsGiven, LineStaysWithin, WasFed, piece_line};
+ghost use Rattle.rnxcmp_c.specs.Going.{CanBeFed, CanTake, EndStaysWithin, HasShown, IsGoing, IsSameRun, IsTaken, KeepsItsRun, LastIsTaken, LineIsGiven, LineIsTaken, WasFed, piece_line};
 ghost use Rattle.rnxcmp_c.specs.Past.{HandlePast, StopsSoon};
 ghost use Rattle.rnxcmp_c.specs.Holding.{IsCounted, IsMarkWithin, StopsCounted, ready_in};
 ghost use Rattle.rnxcmp_c.specs.declared.limits.TheConstants.{LINE_ROOM, READY_LIMIT};
@@ -99,15 +99,12 @@ fn counted(held: &mut Held, mark: Mark, number: u64, taken: Result<bool, Halt>) 
 /// Takes what is kept of a line as a line, and lets go of it, if the output stays within its limit, also where memory ran out while it was
 /// written.
 fn take_within<E: Engine>(engine: &mut E, held: &mut Held, is_ended: bool) -> Result<(), Stop>
-    requires ready { CanTake E.Engine engine.old }
+    requires shown { HasShown E.Engine engine.old }
     requires next { held.old.number ≡ E.taken engine.old }
-    requires shown { (lines : List InputLine) × E.shows engine.old lines [] }
     requires within { held.old.number < INPUT_LIMIT }
     ensures keeps { KeepsItsRun E.Engine engine.old engine.new held.old held.new result }
     ensures next { OnOk result ((held.new.number ≡ held.old.number + 1) × (held.new.tail.bytes.items ≡ [])) }
-    ensures step { (lines : List InputLine) (whole : List ℕ) → E.shows engine.old lines []
-        → held.old.tail.bytes.items ≡ take LINE_ROOM whole → LineStaysWithin result (E.filter engine.old)
-        (E.shows engine.new) lines (piece_line whole is_ended) held.old held.new }
+    ensures step { LineIsTaken E.Engine engine.old engine.new held.old held.new is_ended result }
 {
     let mark = held.mark();
     let number = held.number + 1;
@@ -145,14 +142,6 @@ fn take_to_line_end<E: Engine>(engine: &mut E, held: &mut Held, bytes: &[u8]) ->
     }
 }
 
-/// The bytes after the first ones.
-fn rest_after(bytes: &[u8], count: usize) -> &[u8]
-    requires { count ≤ length bytes.now }
-    ensures { result.now ≡ drop count bytes.now }
-{
-    &bytes[count..]
-}
-
 /// Takes some bytes, a line's after another's, as long as little enough waits to be taken, and answers how many.
 pub(crate) fn take_bytes<E: Engine>(
     engine: &mut E,
@@ -170,15 +159,14 @@ pub(crate) fn take_bytes<E: Engine>(
     let mut left = bytes;
     'bytes: while !left.is_empty() && held.is_low() {
         let count = take_to_line_end(engine, held, left)?;
-        left = rest_after(left, count);
+        left = &left[count..];
     }
     Ok(bytes.len() - left.len())
 }
 
 /// Gives the end of the input to an engine, if the output stays within its limit.
 fn end_within<E: Engine>(engine: &mut E, held: &mut Held) -> Result<(), Stop>
-    requires ready { CanTake E.Engine engine.old }
-    requires shown { (lines : List InputLine) × E.shows engine.old lines [] }
+    requires shown { HasShown E.Engine engine.old }
     requires within { E.taken engine.old ≤ INPUT_LIMIT }
     ensures same { IsSameRun (E.filter engine.old) (E.filter engine.new) held.old held.new }
     ensures step { (lines : List InputLine) → E.shows engine.old lines [] → EndStaysWithin result (E.filter engine.old)
@@ -190,25 +178,15 @@ fn end_within<E: Engine>(engine: &mut E, held: &mut Held) -> Result<(), Stop>
     counted(held, mark, number, taken)
 }
 
-/// Whether there are no bytes.
-fn is_blank(bytes: &[u8]) -> bool
-    ensures none { result ≡ true → bytes.now ≡ [] }
-    ensures some { result ≡ false → 0 < length bytes.now }
-{
-    bytes.is_empty()
-}
-
 /// Takes the end of the input, and before it the last line, where no LF ended it.
 pub(crate) fn take_last<E: Engine>(engine: &mut E, held: &mut Held) -> Result<(), Stop>
-    requires ready { CanTake E.Engine engine.old }
     requires lawful { IsLawful (E.filter engine.old) }
-    requires going { (past : HandlePast) × IsGoing (E.filter engine.old) (E.shows engine.old) held.old past
-        × (length past.fed ≤ INPUT_LIMIT) }
+    requires going { CanBeFed E.Engine engine.old held.old 0 }
     ensures same { IsSameRun (E.filter engine.old) (E.filter engine.new) held.old held.new }
     ensures ends { (past : HandlePast) → IsGoing (E.filter engine.old) (E.shows engine.old) held.old past
         → LastIsTaken result (E.filter engine.old) (E.has_ended engine.new (lines_of past.fed)) held.new past }
 {
-    if is_blank(held.tail.as_slice()) {
+    if held.tail.as_slice().is_empty() {
         return end_within(engine, held);
     }
     take_within(engine, held, false)?;

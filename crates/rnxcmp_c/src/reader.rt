@@ -122,16 +122,6 @@ impl Reader {
         }
     }
 
-    /// The first of some bytes, as many as the input may still have.
-    fn allowed<'a>(&self, bytes: &'a [u8]) -> &'a [u8]
-        requires { self.now.fed ≤ INPUT_LIMIT }
-        ensures { result.now ≡ take (INPUT_LIMIT - self.now.fed) bytes.now }
-    {
-        let left = INPUT_LIMIT - self.fed;
-        let count = (bytes.len() as u64).min(left) as usize;
-        &bytes[..count]
-    }
-
     /// Takes some bytes of the input, if its run goes on, and answers how many.
     pub(crate) fn take_in(&mut self, bytes: &[u8]) -> (usize, Answer)
         requires { (task : Task) × (past : HandlePast) × ReaderStands task self.old past }
@@ -141,7 +131,9 @@ impl Reader {
         if self.outcome.is_some() {
             return (0, bare(MISUSED, 0, 0));
         }
-        let allowed = self.allowed(bytes);
+        // As many as the input may still have.
+        let count = (bytes.len() as u64).min(INPUT_LIMIT - self.fed) as usize;
+        let allowed = &bytes[..count];
         if allowed.is_empty() && !bytes.is_empty() {
             let at = At {
                 line: self.held.number + 1,

@@ -36,11 +36,11 @@ returns-in-Expanding-clause-soon c past is =
 
 pub take_bytes-requires-in-Expanding : goal.take_bytes-requires-in-Expanding
 take_bytes-requires-in-Expanding c =
-    search (rules, c.requires.going, c.in-Expanding.is, c.requires.ready, going-as)
+    search (rules, c.requires.1, c.in-Expanding.is, c.requires.0, going-as)
 
 pub take_bytes-requires : goal.take_bytes-requires
-take_bytes-requires c = search (rules, c.requires.going, c.in-Compacting.is, c.requires.ready, going-as)
+take_bytes-requires c = search (rules, c.requires.1, c.in-Compacting.is, c.requires.0, going-as)
 
 pub take_bytes-requires-in-Checking : goal.take_bytes-requires-in-Checking
 take_bytes-requires-in-Checking c =
-    search (rules, c.requires.going, c.in-Checking.is, c.requires.ready, going-as)
+    search (rules, c.requires.1, c.in-Checking.is, c.requires.0, going-as)

@@ -1,8 +1,8 @@
-use Rattle.std.proofs.{Common.{rules, length-take-le}, lemmas.Grind.common_steps}
+use Rattle.std.proofs.{Common.{rules, length-drop, length-take-le}, lemmas.Grind.common_steps}
 use Rattle.rnxcmp_c.proofs.{GoingLemmas.{breaks-after, ended-more, soon-by}, PieceLemmas.none-or, Words.rules}
 use Rattle.rnxcmp_c.proofs.Words.{ℕ, ◌≡◌, ◌+◌, ◌-◌, ◌≤◌, List, ◌++◌, length, take, drop, sym, ap, ◌∙◌, arith}
 use Rattle.rnxcmp_c.proofs.Words.{append_assoc, length-append, ⊎_elim, take-append-drop, err_from_is_err_and}
-use Rattle.rnxcmp_c.proofs.Words.{fed_with}
+use Rattle.rnxcmp_c.proofs.Words.{fed_with, take_all}
 use Rattle.rnxcmp_c.proofs.lines.take_bytes.Goals as goal
 
 -- all but the last of the first bytes
@@ -28,7 +28,7 @@ bytes-preserved g c =
       (
         done ++ some,
         whole ∙ sym (append_assoc done some _) ∙ ap (λ l. (done ++ some) ++ l)
-            (sym c.rest_after-left.ensures),
+            (sym (take_all _ (drop count left) (omega (arith, length-drop count left)))),
         λ past is. rw (i.1, append_assoc past.fed done some) at
             (taken.fed (fed_with past done) (rw i.1 (i.0.2 past is))).0,
         λ none. absurd (omega (arith, none, length-append done some, long, more)),

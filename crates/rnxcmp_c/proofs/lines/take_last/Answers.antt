@@ -1,20 +1,30 @@
 use Rattle.std.proofs.lemmas.Grind.{common_steps}
 use Rattle.rnxcmp_c.proofs.GoingLemmas.{all-ended, all-but_last, ends-well, ends-stopped, held-going}
 use Rattle.rnxcmp_c.proofs.{GoingLemmas.{held-last, last-stopped}, Words.{◌<◌, [], length, sym, subst, false}}
+use Rattle.rnxcmp_c.proofs.Words.{◌≡◌, ℕ, List, Bool, true}
+use Rattle.std.proofs.Common.{◌==◌}
 use Rattle.rnxcmp_c.proofs.Words.{◌∙◌, arith, on_ok_weaker, IfErr-weaker, err_from_is_err_and, ended_lines_of}
-use Rattle.rnxcmp_c.proofs.{Words.{with_next, piece_line}, lines.take_last.{Given.Over, Goals.Else-is_blank}}
+use Rattle.rnxcmp_c.proofs.{Words.{with_next, piece_line}, lines.take_last.{Given.Over, Goals.Else-is_empty}}
 use Rattle.rnxcmp_c.specs.Going.{EndStaysWithin}
 use Rattle.rnxcmp_c.proofs.lines.take_last.Goals as goal
 
--- there are bytes after the last LF
-is-some : (g : Over) (c : Else-is_blank g) → 0 < length c.args.held.now.tail.bytes.items
-is-some g c = grind arith
+-- there are no bytes, or some
+none-there : (bytes : List ℕ) (is_empty : Bool) → is_empty ≡ (length bytes == 0) → is_empty ≡ true → bytes ≡ []
+none-there = grind (arith, common_steps)
 
-pub returns-then-is_blank-clause-ends : goal.returns-then-is_blank-clause-ends
-returns-then-is_blank-clause-ends g c past is =
+some-there : (bytes : List ℕ) (is_empty : Bool) → is_empty ≡ (length bytes == 0) → is_empty ≡ false
+    → 0 < length bytes
+some-there = grind (arith, common_steps)
+
+is-some : (g : Over) (c : Else-is_empty g) → 0 < length c.args.held.now.tail.bytes.items
+is-some g c = subst (λ (l : List ℕ). 0 < length l) c.as_slice.ensures
+    (some-there _ _ c.is_empty.ensures c.if-is_empty.false)
+
+pub returns-then-is_empty-clause-ends : goal.returns-then-is_empty-clause-ends
+returns-then-is_empty-clause-ends g c past is =
     let new = c.end_within.new.held in
-    let whole = all-ended _ _ _ past is (sym c.as_slice.ensures ∙ c.is_blank.ensures.none c.if-is_blank.true)
-    in
+    let whole = all-ended _ _ _ past is
+    (sym c.as_slice.ensures ∙ none-there _ _ c.is_empty.ensures c.if-is_empty.true) in
     let after = held-going _ _ c.args.held.now past is in
     let step = c.end_within.ensures.step _ is.shown in (
       on_ok_weaker c.end_within.result
@@ -25,7 +35,7 @@ returns-then-is_blank-clause-ends g c past is =
 pub returns-clause-ends : goal.returns-clause-ends
 returns-clause-ends g c past is =
     let new = c.end_within-2.new.held in
-    let some = is-some g (goal.at.returns-clause-ends g c).Else-is_blank in
+    let some = is-some g (goal.at.returns-clause-ends g c).Else-is_empty in
     let within = (c.in_ok-take_within.ensures.step _ is.tail is.shown is.kept).0 in
     let whole = all-but_last _ _ c.args.held.now past is some in
     let after = held-last _ _ _ past is c.take_within.new.held _ within c.in_ok-take_within.ensures.next.0 in
@@ -41,7 +51,7 @@ returns-clause-ends g c past is =
 
 pub returns-in_err-take_within-clause-ends : goal.returns-in_err-take_within-clause-ends
 returns-in_err-take_within-clause-ends g c past is =
-    let some = is-some g (goal.at.returns-in_err-take_within-clause-ends g c).Else-is_blank in
+    let some = is-some g (goal.at.returns-in_err-take_within-clause-ends g c).Else-is_empty in
     let p = err_from_is_err_and c.from_residual.result c.from_residual.ensures.1 in
     rw (p.1, p.2) (
       tt,
@@ -51,14 +61,15 @@ returns-in_err-take_within-clause-ends g c past is =
 
 pub end_within-requires-2-clause-shown : goal.end_within-requires-2-clause-shown
 end_within-requires-2-clause-shown g c =
-    let is = c.requires.going.1 in
-    (_, (c.in_ok-take_within.ensures.step _ is.tail is.shown is.kept).0.moved.kept.is_shown)
+    let is = c.requires.going.1.1 in
+    let step = c.in_ok-take_within.ensures.step _ is.tail is.shown is.kept in
+    (c.in_ok-take_within.ensures.keeps.1, (_, step.0.moved.kept.is_shown))
 
 pub end_within-requires-2-clause-within : goal.end_within-requires-2-clause-within
 end_within-requires-2-clause-within g c =
-    let is = c.requires.going.1 in
-    let ended = ended_lines_of c.requires.going.0.fed in
-    let some = is-some g (goal.at.end_within-requires-2-clause-within g c).Else-is_blank in
+    let is = c.requires.going.1.1 in
+    let ended = ended_lines_of c.requires.going.1.0.fed in
+    let some = is-some g (goal.at.end_within-requires-2-clause-within g c).Else-is_empty in
     let counted = g.met.E.Engine.counted c.take_within.new.engine _ []
     (c.in_ok-take_within.ensures.step ended is.tail is.shown is.kept).0.moved.kept.is_shown in
     grind (arith, common_steps)

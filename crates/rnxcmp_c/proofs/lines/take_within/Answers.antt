@@ -13,7 +13,7 @@ counted-requires g c =
       messages = taken.new.messages;
     } in
     let kept = c.args.held.now.tail.bytes.items in
-    let step = taken.ensures.step c.requires.shown.0 kept c.requires.shown.1
+    let step = taken.ensures.step c.requires.shown.1.0 kept c.requires.shown.1.1
     (c.as_slice.ensures ∙ sym (take_all LINE_ROOM kept c.args.held.now.tail.within)) in
     marks-within _ _ _ _ _ _ mid _ c.mark-mark.ensures _ step.0 step.1
 

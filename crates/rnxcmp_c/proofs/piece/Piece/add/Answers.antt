@@ -1,6 +1,7 @@
+use Rattle.rnxcmp_c.proofs.PieceLemmas.{first-allowed}
 use Rattle.rnxcmp_c.proofs.Words.{ℕ, ◌≡◌, ◌+◌, ◌-◌, ◌++◌, List, length, take, sym, ap, ◌∙◌, arith}
 use Rattle.rnxcmp_c.proofs.Words.{take-append-add, LINE_ROOM}
-use Rattle.std.proofs.{Common.{min, vec_len}, Math.Nat.min_comm, lemmas.List.take_min}
+use Rattle.std.proofs.Common.{min, vec_len}
 use Rattle.rnxcmp_c.proofs.piece.Piece.add.Goals as goal
 
 pub returns : goal.returns
@@ -9,6 +10,6 @@ returns c =
     let bytes = c.args.bytes.now in
     let room : ℕ = LINE_ROOM - vec_len c.args.self.now.bytes in
     let whole : length kept + room ≡ LINE_ROOM = omega (arith, c.args.self.now.within) in
-    c.in-Ok.ensures.items ∙ ap (λ (l : List ℕ). kept ++ l) (ap (λ n. take n bytes) (c.min-count.ensures
-    ∙ ap (λ n. min (length bytes) (LINE_ROOM - n)) c.len.ensures ∙ min_comm _ room) ∙ take_min room bytes)
-    ∙ sym (take-append-add kept bytes room) ∙ ap (λ n. take n (kept ++ bytes)) whole
+    c.in-Ok.ensures.items ∙ ap (λ (l : List ℕ). kept ++ l) (first-allowed bytes room _ (c.min-count.ensures
+    ∙ ap (λ n. min (length bytes) (LINE_ROOM - n)) c.len.ensures)) ∙ sym (take-append-add kept bytes room)
+    ∙ ap (λ n. take n (kept ++ bytes)) whole
