@@ -12,11 +12,7 @@ none-not-some e = cc
 -- the first warnings by which a course goes on are first in its messages
 pub begins-next : (before after : Course) (here : List At) → AreNext before after here
     → Begins (notices_text after.warnings) (notices_text before.warnings ++ notices_text here)
-begins-next before after here next = record {
-  rest = notices_text next.0;
-  same = ap notices_text next.1 ∙ notices-both (before.warnings ++ here) next.0
-      ∙ ap (λ t. t ++ notices_text next.0) (notices-both before.warnings here);
-}
+begins-next before after here next = grind (arith, common_steps, notices-both)
 
 -- what came after a text is what is left of both
 rest-of : (first more rest : List ℕ) → first ++ rest ≡ first ++ more → more ≡ rest

@@ -1,4 +1,5 @@
 -- What the result of a run brings back, saves and judges follows from what it is, by the laws.
+use Rattle.std.proofs.Common.{rules}
 use Rattle.std.proofs.{Common.arith, lemmas.Grind.common_steps}
 use Rattle.rnxcmp_c.proofs.{Kept.{brings-back, judges-status, saves-all_else}, Lossless.brings-back_passed}
 use Rattle.rnxcmp_c.proofs.Words.{◌≡◌, ◌⊎◌, ℕ, List, true, code_of_fault, InputTooLong, Choices, expanded}
@@ -21,16 +22,8 @@ pub record KeepsPromises (holds : FilterResult → Type 0) (choices : Choices) (
 
 pub keeps-promises : (holds : FilterResult → Type 0) (choices : Choices) (text : List ℕ)
     → holds (expanded text choices) → KeepsPromises holds choices text
-keeps-promises holds choices text whole = record {
-  whole = whole;
-  lossless = brings-back_passed holds choices text whole;
-  way_back = brings-back holds choices text whole;
-  salvage = λ skips. saves-all_else holds choices text skips whole;
-  damage = λ skips file compacting dated damage.
-      (expanded text choices, rest-kept file compacting choices text dated skips damage, whole);
-  whole_units = λ file compacting dated first.
-      (expanded text choices, whole-first file compacting choices text dated first, whole);
-}
+keeps-promises holds choices text whole =
+    search (rules, brings-back_passed, brings-back, saves-all_else, rest-kept, whole-first)
 
 module _ (fed : List ℕ) (made kept : BothTexts) (answer : Answer) where
   abbrev Has : FilterResult → Type 0

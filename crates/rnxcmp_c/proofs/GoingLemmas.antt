@@ -3,7 +3,7 @@ use Rattle.std.proofs.{Common.{rules, ◌≢◌, slice_index}, lemmas.{Grind.com
 use Rattle.std.proofs.lemmas.List.Elements.{All-append, All-from_get_or}
 use Rattle.rnxcmp_c.proofs.{PieceLemmas.none-where_none, Words.{Some, ◌≡◌, inl, inr, ℕ, ◌+◌, ◌-◌, ◌<◌, ◌≤◌}}
 use Rattle.rnxcmp_c.proofs.Words.{true, false, List, [], ◌∷◌, ◌++◌, length, take, drop, None, refl, sym, ap}
-use Rattle.rnxcmp_c.proofs.Words.{◌∙◌, subst, arith, append-nil, Option, append_assoc, is_some, length-append}
+use Rattle.rnxcmp_c.proofs.Words.{◌∙◌, arith, append-nil, Option, append_assoc, is_some, length-append}
 use Rattle.rnxcmp_c.proofs.Words.{length-take, take-append-add, take-append-le, InputLine, lines_of}
 use Rattle.rnxcmp_c.proofs.Words.{ended_lines_of, HasNoFeed, At, IsLawful, Filter, with_next, notices_text}
 use Rattle.rnxcmp_c.proofs.Words.{Begins, Course, are_some, Held, waiting, IsText, IsGoing, MovesOn}
@@ -11,7 +11,7 @@ use Rattle.rnxcmp_c.proofs.Words.{EndsThere, HandlePast, fed_with, StopsSoon, wi
 use Rattle.rnxcmp_c.proofs.Words.{IsAll, IsCutBy, RanOutAt, StopsShort, IsPastLimit, MovesWithin, PassesLimit}
 use Rattle.rnxcmp_c.proofs.Words.{RunBreaks, RunFails, StepStops, IsMemoryLacking, ready_in, LINE_ROOM}
 use Rattle.rnxcmp_c.proofs.Words.{READY_LIMIT, Stop, Fault, Limit, line_reached, memory_next}
-use Rattle.rnxcmp_c.specs.{Counting.take-of_taken, Going.{RunsShort, IsBroken, IsFailed, AddsWithin}}
+use Rattle.rnxcmp_c.specs.{Counting.take-of_taken, Going.{RunsShort, IsBroken, AddsWithin}}
 use Rattle.rnxcmp_c.specs.{Going.IsKeptWithin, Holding.AreUnfailed, declared.piece.Piece.Piece}
 use Rattle.crx_lines.proofs.ProgressLemmas.{lines-first, lines-last, ended_lines-first, ended_lines-none}
 use Rattle.crx_runs.specs.Engines.{Awaited}
@@ -99,30 +99,13 @@ flag-grows before after shown old new flag moved = grind arith
 
 text-ends : (before after : Course) (old new : Held) (past : HandlePast) (at : At) → IsText before old past
     → EndsThere before after old.output new.output old.messages new.messages at → IsText after new past
-text-ends before after old new past at text ends = record {
-  wrote = ends.output_is ∙ text.wrote ∙ ap (λ t. past.output ++ t) (sym ends.wrote);
-  reported = more-text (notices_text before.warnings) past.messages (waiting old.messages)
-      (notices_text ends.notices)
-      (waiting new.messages) _ (ap notices_text ends.warnings_are ∙ notices-both before.warnings ends.notices)
-      text.reported ends.reported;
-}
+text-ends before after old new past at text ends = grind (arith, common_steps, more-text, notices-both)
 
 -- both texts where memory ran out at a line, or at the end
 pub cut-by : (before after : Course) (memory : Option (List At)) (old new : Held) (past : HandlePast)
     → before.fault ≡ None → IsText before old past → StopsShort memory before after old new
     → IsCutBy before after memory new past
-cut-by before after memory old new past good text short = record {
-  notices = short.notices;
-  asked = short.asked;
-  own = short.own;
-  made = record {
-    good = good;
-    output = text.wrote ∙ ap (λ t. past.output ++ t) (sym short.wrote);
-    messages = ap (λ t. t ++ notices_text short.notices) text.reported
-        ∙ append_assoc past.messages (waiting old.messages) (notices_text short.notices)
-        ∙ ap (λ t. past.messages ++ t) (sym short.reported);
-  };
-}
+cut-by before after memory old new past good text short = grind (arith, common_steps, append_assoc)
 
 -- where no write had failed before, one did
 pub lacking-by : (before after : Course) (memory : Option (List At)) (old new : Held) → AreUnfailed old
@@ -131,10 +114,7 @@ lacking-by before after memory old new good short = grind arith
 
 -- a prefix of a prefix
 pub begins-then : (all mid first : List ℕ) → Begins all mid → Begins mid first → Begins all first
-begins-then all mid first a b = record {
-  rest = b.rest ++ a.rest;
-  same = a.same ∙ ap (λ t. t ++ a.rest) b.same ∙ append_assoc first b.rest a.rest;
-}
+begins-then all mid first a b = grind (arith, common_steps, append_assoc)
 
 -- what was added within the limit leaves all within it
 pub adds-kept : (course : Course) (old new : Held) (past : HandlePast)
@@ -270,28 +250,12 @@ module _ {filter : Filter} {shows : List InputLine → List Awaited → Type 0} 
     passes-there : (new : Held) (rest : List ℕ)
         → PassesLimit (filter.so_far lines) (filter.so_far (with_next lines line)) mid new
         → IsPastLimit filter new (then-fed rest)
-    passes-there new rest passes =
-        let all : held.left + length (filter.so_far lines).output ≡ held.limit = is.left passes.limited in
-        record {
-          lines = lines;
-          line = line;
-          first = line-after rest;
-          good = is.good;
-          limited = omega (arith, passes.limited, passes.limit);
-          within = omega (arith, all, passes.limit);
-          over = omega (arith, all, passes.over, passes.limit);
-          text = text-fed (text-kept mid-text passes.output_is passes.messages_are);
-        }
+    passes-there new rest passes = grind (arith, common_steps, line-after, text-fed, text-kept, mid-text)
 
     breaks-there : (new : Held) (rest : List ℕ) (at : At)
         → EndsThere (filter.so_far lines) (filter.so_far (with_next lines line)) mid.output new.output
         mid.messages new.messages at → IsBroken filter new (then-fed rest) at
-    breaks-there new rest at ends = record {
-      lines = with_next lines line;
-      first = line-then rest;
-      fault = ends.fault;
-      text = text-fed (text-ends _ _ mid new past at mid-text ends);
-    }
+    breaks-there new rest at ends = grind (arith, common_steps, line-then, text-fed, text-ends, mid-text)
 
     breaks-short : (new : Held) (rest : List ℕ) (at : At) → RanOutAt (length lines + 1) at
         → StopsShort (filter.memory_after lines line) (filter.so_far lines)
@@ -330,11 +294,7 @@ breaks-after = grind arith
 pub ended-more : (filter : Filter) (shows : List InputLine → List Awaited → Type 0) (held : Held)
     (past : HandlePast) (more : List ℕ) → IsGoing filter shows held past
     → length (ended_lines_of past.fed) ≤ length (ended_lines_of (past.fed ++ more))
-ended-more filter shows held past more going = omega (
-  arith,
-  ap length (going.cut_ended more),
-  length-append (ended_lines_of past.fed) (ended_lines_of (going.tail ++ more)),
-)
+ended-more filter shows held past more going = grind (arith, common_steps, length-append)
 
 -- ---- the end
 
@@ -354,15 +314,7 @@ module _ {filter : Filter} {mid : Held} {past : HandlePast} {lines : List InputL
   pub ends-well : lines_of past.fed ≡ lines → (shown : Type 0)
       → MovesWithin (filter.so_far lines) (filter.whole lines) shown mid new
       → IsAll (filter.whole (lines_of past.fed)) new past
-  ends-well whole shown within =
-      let moved = within.moved in
-      let grown : IsText (filter.whole lines) new past = text-grows _ _ shown mid new past is.text moved in
-      subst (λ ls. IsAll (filter.whole ls) new past) (sym whole) (record {
-        good = moved.kept.good;
-        text = grown;
-        flag = flag-grows _ _ shown mid new is.flag moved;
-        within = grind (arith, common_steps, within.limit, is.left, within.left, grown.wrote);
-      })
+  ends-well whole shown within = grind (arith, common_steps, text-grows, flag-grows)
 
   -- the next line, or the end, ended the run
   pub stopped-after : (others : List InputLine) → lines_of past.fed ≡ lines ++ others
@@ -371,25 +323,10 @@ module _ {filter : Filter} {mid : Held} {past : HandlePast} {lines : List InputL
       → (number : ℕ) → number ≡ line_reached lines others → number ≡ length (lines_of past.fed) → (stop :
       Stop) → StepStops number (memory_next filter lines others) (filter.so_far lines)
       (with_one_more filter lines others) mid new stop → RunFails filter new past stop
-  stopped-after others first decided number reached last (Fault at) (inl memory, adds) = (
-    inl (record {
-      ran_out = (memory.0.0, memory.0.1 ∙ last);
-      lines = lines;
-      others = others;
-      first = first;
-      number = memory.0.1 ∙ reached;
-      cut = cut-by _ _ _ mid new past is.sound is.text memory.1;
-      lacking = lacking-by _ _ _ mid new is.unfailed memory.1;
-    }),
-    adds-kept (filter.so_far lines) mid new past is.text.wrote is.left adds,
-  )
-  stopped-after others first decided number reached last (Fault at) (inr ends, adds) = (
-    inr (subst (λ c. IsFailed c new past at) (sym (decided at ends.fault)) (record {
-      fault = ends.fault;
-      text = text-ends _ _ mid new past at is.text ends;
-    })),
-    adds-kept (filter.so_far lines) mid new past is.text.wrote is.left adds,
-  )
+  stopped-after others first decided number reached last (Fault at) (inl memory, adds) =
+      grind (arith, common_steps, cut-by, lacking-by, adds-kept)
+  stopped-after others first decided number reached last (Fault at) (inr ends, adds) =
+      grind (arith, common_steps, text-ends, adds-kept)
   stopped-after others first decided number reached last Limit passes = grind arith
 
   pub ends-stopped : lines_of past.fed ≡ lines → (stop : Stop)
@@ -423,20 +360,7 @@ module _ (filter : Filter) (shows : List InputLine → List Awaited → Type 0)
   pub held-last : (mid : Held) (shown : Type 0)
       → MovesWithin (filter.so_far ended) (filter.so_far last) shown held mid → mid.number ≡ held.number + 1
       → IsHeldAfter filter mid past last
-  held-last mid shown within number =
-      let moved = within.moved in
-      record {
-        text = text-grows _ _ shown held mid past is.text moved;
-        sound = moved.kept.good;
-        flag = flag-grows _ _ shown held mid is.flag moved;
-        unfailed = record {
-          output = moved.kept.output_good ∙ is.unfailed.output;
-          messages = moved.kept.messages_good ∙ is.unfailed.messages;
-        };
-        left = grind (arith, common_steps, within.limit, is.left, within.left);
-        number = number ∙ ap (λ n. n + 1) is.number ∙ sym (length-append ended (piece_line is.tail false ∷
-            []));
-      }
+  held-last mid shown within number = grind (arith, common_steps, text-grows, flag-grows, length-append)
 
   -- it ended the run
   pub last-stopped : (mid : Held) → 0 < length held.tail.bytes.items → IsLawful filter → (stop : Stop)

@@ -17,7 +17,8 @@ use Rattle.rnxcmp_c.proofs.Words.{past_of, result_for, texts_made, waiting, Answ
 use Rattle.rnxcmp_c.proofs.Words.{Reader, BothTexts, line_in, RunHasEnded, StopsAtLimit, StopsForMemory}
 use Rattle.rnxcmp_c.proofs.Words.{StopsWhenFull, Task, Compact, Expand, Check, handle_answer, run_for}
 use Rattle.rnxcmp_c.{proofs.Words.{with_one_more, bare_answer, MISUSED}, specs.Handles.fault_now}
-use Rattle.rnxcmp_c.specs.{Handles.{status_now, Feeds, Ends}, Opened.{EndsHandle, FeedsHandle, HandleStands}}
+use Rattle.rnxcmp_c.specs.Handles.{status_now, Feeds, Ends}
+use Rattle.rnxcmp_c.specs.Opened.{EndsHandle, FeedsHandle, HandleStands, IsSoundHandle}
 use Rattle.rnxcmp_c.specs.{Opened.{has_ended, run_state, texts_kept}, Past.AsksMemory}
 use Rattle.rnxcmp_c.specs.meaning.Handles.{HandlePromise, RunWasEnded, TakesBytes, joined_texts}
 use Rattle.crx_filter.proofs.reading.{CompactPrefixes.whole-more, Forward.rinex-forward, Prefixes.AreMore}
@@ -35,13 +36,7 @@ warnings-both (Warned at ∷ news) items = ap (λ w. at ∷ w) (warnings-both ne
 -- where there are more items, there are more warnings at the end
 items-warned : {E : Type 0} (items all : List (Item E)) → AreMore items all
     → Begins (notices_text (reverse (warnings_in all))) (notices_text (reverse (warnings_in items)))
-items-warned items all more = record {
-  rest = notices_text (reverse (warnings_in more.news));
-  same = ap (λ l. notices_text (reverse (warnings_in l))) more.same
-      ∙ ap (λ l. notices_text (reverse l)) (warnings-both more.news items)
-      ∙ ap notices_text (reverse-append (warnings_in more.news) (warnings_in items))
-      ∙ notices-both (reverse (warnings_in items)) (reverse (warnings_in more.news));
-}
+items-warned items all more = grind (arith, common_steps, warnings-both, reverse-append, notices-both)
 
 -- the warnings of the first lines are first in those of all
 pub warned-first : (task : Task) (lines more : List InputLine)
@@ -160,8 +155,6 @@ module _ (task : Task) (reader : Reader) (past : HandlePast) where
       let by = out.made in
       let at : At = record { line = line_in outcome.fault; fault = OutOfMemory } in
       let before : Course = (filter_for task).so_far by.lines in
-      let warned : List ℕ = notices_text before.warnings in
-      let own : List ℕ = notices_text by.notices in
       let answered = answered-by outcome ran.status (fault-at outcome.fault ran.memory) in
       record {
         result = result_of_course (record {
@@ -192,16 +185,14 @@ module _ (task : Task) (reader : Reader) (past : HandlePast) where
               faulty = refl;
               answered = answered;
               output = by.made.output;
-              messages = ap (λ t. t ++ error_text (Some at)) (notices-both before.warnings by.notices
-                  ∙ ap (λ t. warned ++ t) (sym (ap (λ t. own ++ t) none ∙ append-nil own))
-                  ∙ by.made.messages);
+              messages =
+                  grind (arith, common_steps, notices-both before.warnings by.notices, by.made.messages);
             }))
             (λ said. inl (record {
               answered = answered;
               output = by.made.output;
-              messages = ap (λ t. t ++ error_text (Some at)) (notices-both before.warnings by.notices)
-                  ∙ append_assoc warned own (error_text (Some at)) ∙ ap (λ t. warned ++ (own ++ t)) (sym said)
-                  ∙ by.made.messages;
+              messages =
+                  grind (arith, common_steps, notices-both before.warnings by.notices, by.made.messages);
             })) by.last_is;
       }) (λ hidden.
       let found = some-at (result_for task input).fault hidden.faulty in
@@ -375,6 +366,11 @@ module _ (task : Task) (old new : Reader) (fed : List ℕ) (taken : BothTexts) (
 
 -- ---- a handle
 
+-- a handle that is open and sound holds a reader
+pub sound-holds : {handle : Handle} → IsSoundHandle handle → handle.is_open ≡ true
+    → (reader : Reader) × Holds handle reader
+sound-holds sound is_open = let is = sound is_open in (is.3.reader, is.3.holds)
+
 -- a handle stands as the reader does that it holds
 pub stood : {task : Task} {handle : Handle} {fed : List ℕ} {taken : BothTexts} {reader : Reader}
     → Holds handle reader → HandleStands task handle fed taken → ReaderStands task reader (past_of fed taken)
@@ -452,9 +448,7 @@ module _ {task : Task} {old new : Handle} {fed : List ℕ} {taken : BothTexts} {
     pub feeds-was_ended : has_ended new ≡ true
         → RunWasEnded (run_for task) fed (fed ++ take used bytes) (drop used bytes)
         (joined_texts taken (texts_kept new)) (texts_kept new) answer
-    feeds-was_ended ended = rw (is.holds, answered)
-        (feeds-ended task is.before is.after fed taken bytes used answer is.before.outcome went-on
-        (rw is.holds at ended) is.feeds)
+    feeds-was_ended ended = search (rules, feeds-ended, went-on)
 
 -- and of one whose input has ended
 module _ {task : Task} {old new : Handle} {fed : List ℕ} {taken : BothTexts} {answer : Answer}
@@ -482,5 +476,4 @@ module _ {task : Task} {old new : Handle} {fed : List ℕ} {taken : BothTexts} {
 
     pub ends-was_ended : (has_ended new ≡ true) × RunHasEnded (Last task is.after (past_of fed taken))
         (joined_texts taken (texts_kept new)) (texts_kept new) answer
-    ends-was_ended =
-        rw (is.holds, came-to-end.1) (reader-ended task is.after (past_of fed taken) came-to-end.0)
+    ends-was_ended = search (rules, came-to-end, reader-ended)

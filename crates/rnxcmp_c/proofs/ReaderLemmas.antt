@@ -14,7 +14,7 @@ use Rattle.rnxcmp_c.proofs.Words.{limit_for, result_for, Task, Compact, Expand, 
 use Rattle.rnxcmp_c.proofs.Words.{memory_next, with_one_more, AnyEngine, Held, Reader, line_reached}
 use Rattle.rnxcmp_c.specs.{Going.{LineFails, EndsPastLimit, Breaks}, Handles.{IsOf, IsPut, EndsRunBy}}
 use Rattle.rnxcmp_c.specs.Handles.{EngineGoesOn, status_at_end}
-use Rattle.crx_runs.specs.meaning.Results.{good_status, status_after}
+use Rattle.crx_runs.specs.meaning.Results.{good_status}
 
 pub filter-is : (task : Task) (engine : AnyEngine) → IsOf task engine → engine_filter engine ≡ filter_for task
 filter-is = grind arith
@@ -100,15 +100,10 @@ module _ (task : Task) (reader : Reader) (mid : Held) (outcome : Outcome) (past 
               made = record {
                 good = cut.made.good;
                 output = cut.made.output ∙ ap (λ t. past.output ++ t) (sym put.output);
-                messages = sym (append_assoc (notices_text ((filter_for task).so_far lines).warnings)
-                    (notices_text cut.notices) said.0) ∙ ap (λ t. t ++ said.0) cut.made.messages
-                    ∙ append_assoc past.messages (waiting mid.messages) said.0 ∙ ap (λ t. past.messages ++ t)
-                    (sym said.2);
+                messages = grind (arith, common_steps, cut.made.messages, said.2);
               };
             };
-            lacking = ⊎_elim (λ takes. inl takes) (λ failed. inr (⊎_elim
-                (λ output. inl (λ none. output (sym put.output_good ∙ none)))
-                (λ messages. inr (λ none. messages (sym put.messages_good ∙ none))) failed)) lacking;
+            lacking = grind (arith, lacking, put.output_good, put.messages_good);
           });
           within = kept;
         }
@@ -157,11 +152,7 @@ length-begins text first begins = omega (arith, ap length begins.same, length-ap
 -- what some lines make with one more of those that follow, or with the end, is first in what all of them make
 pub one_more-first : (filter : Filter) → IsLawful filter → (lines others : List InputLine)
     → Begins (filter.whole (lines ++ others)).output (with_one_more filter lines others).output
-one_more-first filter lawful lines [] = record {
-  rest = [];
-  same = ap (λ ls. (filter.whole ls).output) (append-nil lines)
-      ∙ sym (append-nil (filter.whole lines).output);
-}
+one_more-first filter lawful lines [] = grind (arith, common_steps, append-nil)
 one_more-first filter lawful lines (line ∷ others) =
     rw (← (append_assoc lines (line ∷ []) others)) (lawful.goes_on (with_next lines line) others)
 
@@ -262,17 +253,7 @@ passed-over task before reader outcome past runs full put =
                 going.number,
             going.text.reported ∙ ap (λ t. past.messages ++ t) (sym silently.1),
           )) put.said;
-      within = λ limited.
-          let before : 0 < mid.limit = subst (λ (n : ℕ). 0 < n) (sym runs.limit) limited in
-          omega (
-            arith,
-            going.left before,
-            runs.limit,
-            ap length going.text.wrote,
-            ap length put.output,
-            length-append past.output (waiting mid.output),
-            length-append past.output (waiting reader.held.output),
-          );
+      within = grind (arith, common_steps, going.left, runs.limit, going.text.wrote, put.output);
     }
 
 -- ---- the end
@@ -280,14 +261,7 @@ passed-over task before reader outcome past runs full put =
 course-well : (limit : ℕ) (course : Course) (reader : Reader) (outcome : Outcome) (past : HandlePast)
     → reader.held.limit ≡ limit → outcome.fault ≡ None → outcome.status ≡ good_status reader.held.warned
     → IsAll course reader.held past → ReaderIsOver limit (result_of_course course) reader outcome past
-course-well limit course reader outcome past limited none status all = record {
-  status = status ∙ ap good_status all.flag ∙ ap (status_after course.warnings) (sym all.good);
-  fault = none ∙ sym all.good;
-  output = all.text.wrote;
-  messages = ap (λ f. notices_text course.warnings ++ error_text f) all.good
-      ∙ append-nil (notices_text course.warnings) ∙ all.text.reported;
-  within = subst (λ n. KeepsToLimit n (past.output ++ waiting reader.held.output)) limited all.within;
-}
+course-well limit course reader outcome past limited none status all = search (rules, append-nil)
 
 module _ (engine : AnyEngine) (reader : Reader) (outcome : Outcome) (past : HandlePast)
     (none : outcome.fault ≡ None) where

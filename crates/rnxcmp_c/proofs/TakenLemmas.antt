@@ -1,10 +1,11 @@
 -- What was taken from a handle was kept before, and its run's state doesn't change by that.
+use Rattle.std.proofs.lemmas.Grind.{common_steps}
+use Rattle.std.proofs.Common.{arith}
 use Rattle.rnxcmp_c.proofs.Words.{◌≡◌, ⊎_elim, inl, inr, ℕ, List, ◌++◌, Option, Some, None, sym, ap, ◌∙◌}
-use Rattle.rnxcmp_c.proofs.Words.{subst, append_assoc, ended_lines_of, Outcome, error_text, notices_text}
-use Rattle.rnxcmp_c.proofs.Words.{Course, IsLineReached, ReaderStands, StandsBy, too_long_after}
-use Rattle.rnxcmp_c.proofs.Words.{texts_of_held, HandlePast, HidesFault, filter_for, limit_for, Task}
-use Rattle.rnxcmp_c.proofs.Words.{result_for, taken_with, texts_made, KeepsToLimit, line_in, waiting, Pending}
-use Rattle.rnxcmp_c.{proofs.Words.Reader, specs.{Handles.{IsSaid, RanOutBy}, Past.IsMadeByLines}}
+use Rattle.rnxcmp_c.proofs.Words.{append_assoc, Outcome, Course, IsLineReached, ReaderStands, StandsBy}
+use Rattle.rnxcmp_c.proofs.Words.{texts_of_held, HandlePast, HidesFault, Task, result_for, taken_with}
+use Rattle.rnxcmp_c.proofs.Words.{texts_made, line_in, waiting, Pending}
+use Rattle.rnxcmp_c.{proofs.Words.Reader, specs.{Handles.{RanOutBy}, Past.IsMadeByLines}}
 
 -- what was taken, and then what is kept
 regrouped : (taken given kept before : List ℕ) → before ≡ given ++ kept
@@ -31,11 +32,7 @@ module _ (task : Task) (old : Reader) (past : HandlePast) (output messages : Pen
   same-made : (course : Course) (after : List ℕ)
       → IsMadeByLines course after (texts_made past (texts_of_held old.held))
       → IsMadeByLines course after (texts_made then (texts_of_held new.held))
-  same-made course after made = record {
-    good = made.good;
-    output = made.output ∙ same-output;
-    messages = made.messages ∙ same-messages;
-  }
+  same-made course after made = grind (arith, common_steps, same-output, same-messages)
 
   ran-out : (outcome : Outcome)
       → RanOutBy task (IsLineReached past.fed) past.fed old (line_in outcome.fault) past
@@ -54,22 +51,14 @@ module _ (task : Task) (old : Reader) (past : HandlePast) (output messages : Pen
       last_is = by.made.last_is;
       made = same-made _ _ by.made.made;
     };
-    lacking = ⊎_elim (λ takes. inl takes) (λ failed. inr (⊎_elim
-        (λ few. inl (λ none. few (sym output_good ∙ none)))
-        (λ few. inr (λ none. few (sym messages_good ∙ none))) failed)) by.lacking;
+    lacking = grind (arith, by.lacking);
   }
 
   hidden : (outcome : Outcome) → HidesFault (result_for task past.fed) (line_in outcome.fault)
       (texts_made past (texts_of_held old.held))
       → HidesFault (result_for task past.fed) (line_in outcome.fault)
       (texts_made then (texts_of_held new.held))
-  hidden outcome hides = record {
-    faulty = hides.faulty;
-    line_is = hides.line_is;
-    output_is = hides.output_is ∙ same-output;
-    messages_are = hides.messages_are
-        ∙ ap (λ t. t ++ error_text (result_for task past.fed).fault) same-messages;
-  }
+  hidden outcome hides = grind (arith, common_steps, same-output, same-messages)
 
   stands-by : (outcome : Option Outcome) → StandsBy task old past outcome → StandsBy task new then outcome
   stands-by None runs = record {
@@ -100,40 +89,10 @@ module _ (task : Task) (old : Reader) (past : HandlePast) (output messages : Pen
     counted = runs.counted;
     within = runs.within;
   }
-  stands-by (Some outcome) (inl ran) = inl (record {
-    memory = ran.memory;
-    status = ran.status;
-    made = ⊎_elim (λ by. inl (ran-out outcome by)) (λ hides. inr (hidden outcome hides)) ran.made;
-    within = subst (KeepsToLimit (limit_for task)) same-output ran.within;
-  })
-  stands-by (Some outcome) (inr (inl over)) = inr (inl (record {
-    status = over.status;
-    fault = over.fault;
-    limited = over.limited;
-    longer = over.longer;
-    lines = over.lines;
-    others = over.others;
-    first = over.first;
-    within = over.within;
-    over = over.over;
-    made = same-made _ _ over.made;
-  }))
-  stands-by (Some outcome) (inr (inr (inl long))) = inr (inr (inl (record {
-    full = long.full;
-    status = long.status;
-    good = long.good;
-    output = long.output ∙ same-output;
-    said = subst (λ t. IsSaid (too_long_after past.fed) (notices_text ((filter_for task).so_far
-        (ended_lines_of past.fed)).warnings) t outcome.fault) same-messages long.said;
-    within = subst (KeepsToLimit (limit_for task)) same-output long.within;
-  })))
-  stands-by (Some outcome) (inr (inr (inr over))) = inr (inr (inr (record {
-    status = over.status;
-    fault = over.fault;
-    output = over.output ∙ same-output;
-    messages = over.messages ∙ same-messages;
-    within = subst (KeepsToLimit (limit_for task)) same-output over.within;
-  })))
+  stands-by (Some outcome) (inl ran) = grind (arith, common_steps, ⊎_elim, ran-out, same-output)
+  stands-by (Some outcome) (inr (inl over)) = grind (arith, common_steps, same-made)
+  stands-by (Some outcome) (inr (inr (inl long))) = grind (arith, common_steps, same-output, same-messages)
+  stands-by (Some outcome) (inr (inr (inr over))) = grind (arith, common_steps, same-output, same-messages)
 
   pub taken-stands : ReaderStands task old past → ReaderStands task new then
   taken-stands stands = stands-by _ stands

@@ -1,10 +1,11 @@
 -- The output stays within its limit, or what a line made is let go of.
+use Rattle.std.proofs.Common.{rules}
 use Rattle.std.proofs.{Common.{Result, Ok, Err}, lemmas.{Grind.common_steps, Result.IfErr-at_err}}
-use Rattle.rnxcmp_c.proofs.Words.{◌≡◌, ℕ, ◌+◌, ◌<◌, List, [], ◌++◌, length, take, refl, sym, ap, ◌∙◌, subst}
-use Rattle.rnxcmp_c.proofs.Words.{arith, length-append, ◌⊎◌, inl, inr, ⊎_elim, append-nil, Bool, ◌||◌, Option}
-use Rattle.rnxcmp_c.proofs.Words.{IfErr, IfOk, At, OutOfMemory, Halt, Unwritten, Unreported, notices_text}
-use Rattle.rnxcmp_c.proofs.Words.{Begins, Course, IsKept, MovesOn, MovesWithin, PassesLimit, StepStops}
-use Rattle.rnxcmp_c.proofs.Words.{StopsBy, StopsShort, StopsCounted, waiting, Held, Stop, Fault, Limit}
+use Rattle.rnxcmp_c.proofs.Words.{◌≡◌, ℕ, ◌+◌, ◌<◌, List, [], ◌++◌, length, take, refl, sym, ap, ◌∙◌, arith}
+use Rattle.rnxcmp_c.proofs.Words.{length-append, ◌⊎◌, inl, inr, ⊎_elim, append-nil, Bool, ◌||◌, Option, IfErr}
+use Rattle.rnxcmp_c.proofs.Words.{IfOk, At, OutOfMemory, Halt, Unwritten, Unreported, Begins, Course, IsKept}
+use Rattle.rnxcmp_c.proofs.Words.{MovesWithin, PassesLimit, StepStops, StopsBy, StopsShort, StopsCounted}
+use Rattle.rnxcmp_c.proofs.Words.{waiting, Held, Stop, Fault, Limit}
 use Rattle.rnxcmp_c.{proofs.Words.take_at, specs.{Going.LosesText, Holding.{AreCutTo, IsCounted, IsCutBack}}}
 use Rattle.rnxcmp_c.specs.{Holding.{StaysWithin, IsMark, IsMarkWithin}, declared.held.Mark.Mark}
 use Rattle.crx_runs.specs.declared.one_line.Halt.TheVariants.{Fault as Faulty}
@@ -25,37 +26,14 @@ pub record HasPart (before after : Course) (old mid : Held) : Type 0 where
 module _ (before after : Course) (shown : Type 0) (old mid : Held) (warned : Bool)
     (kept : IsKept before after shown old.output mid.output old.messages mid.messages warned) where
   kept-part : HasPart before after old mid
-  kept-part = record {
-    text = kept.text;
-    told = notices_text kept.notices;
-    wrote = kept.wrote;
-    first = inr (record { rest = []; same = kept.output_is ∙ sym (append-nil (before.output ++ kept.text)) });
-    reported = kept.reported;
-  }
+  kept-part = search (rules, append-nil)
 
   stays-within : (new : Held) (mark : Mark) → IsMark mark old → mid.limit ≡ old.limit
       → mid.left ≡ old.left → mid.warned ≡ old.warned
       → new ≡ record mid { left = new.left; warned = mid.warned || warned }
       → (0 < mid.limit → new.left + length (waiting mid.output) ≡ mid.left + mark.output)
       → MovesWithin before after shown old new
-  stays-within new mark marked limit left flag same counted = record {
-    moved = subst (λ (h : Held). MovesOn before after shown old h) (sym same) (record {
-      warned = warned;
-      kept = kept;
-      flag = ap (λ (b : Bool). b || warned) flag;
-    });
-    limit = ap (λ (h : Held). h.limit) same ∙ limit;
-    left = λ limited. omega (
-      arith,
-      counted (subst (λ (n : ℕ). 0 < n) (sym limit) limited),
-      marked.output,
-      left,
-      ap length kept.wrote,
-      length-append (waiting old.output) kept.text,
-      ap length kept.output_is,
-      length-append before.output kept.text,
-    );
-  }
+  stays-within new mark marked limit left flag same counted = grind (arith, common_steps, length-append)
 
 module _ (number : ℕ) (memory : Option (List At)) (before after : Course) (old mid : Held) where
   abbrev Stops : Halt → Type 0
@@ -69,20 +47,8 @@ module _ (number : ℕ) (memory : Option (List At)) (before after : Course) (old
   lost-part = grind arith
 
   pub part-of : (halt : Halt) → Stops halt → HasPart before after old mid
-  part-of (Faulty at) (inl lacks) = record {
-    text = [];
-    told = notices_text lacks.1.notices;
-    wrote = same-output lacks.1.wrote;
-    first = inl refl;
-    reported = lacks.1.reported;
-  }
-  part-of (Faulty at) (inr ends) = record {
-    text = [];
-    told = notices_text ends.notices;
-    wrote = same-output ends.wrote;
-    first = inl refl;
-    reported = ends.reported;
-  }
+  part-of (Faulty at) (inl lacks) = grind (arith, common_steps, same-output)
+  part-of (Faulty at) (inr ends) = grind (arith, common_steps, same-output)
   part-of Unwritten loses = lost-part loses
   part-of Unreported loses = lost-part loses
 
@@ -114,27 +80,7 @@ module _ (number : ℕ) (memory : Option (List At)) (before after : Course) (old
     stops-lost at is loses counted stays cut = grind (arith, common_steps, lost-stops)
 
     stops-over : HasPart before after old mid → IsCutBack mark mid new → PassesLimit before after old new
-    stops-over part back = record {
-      limited = subst (λ (n : ℕ). 0 < n) limit back.limited;
-      limit = back.cut.limit ∙ limit;
-      over =
-          let wrote = length-append (waiting old.output) part.text in
-          ⊎_elim
-          (λ none. omega (arith, back.over, marked.output, ap length part.wrote, wrote, ap length none))
-          (λ begins. omega (
-            arith,
-            back.over,
-            marked.output,
-            left,
-            ap length part.wrote,
-            wrote,
-            ap length begins.same,
-            length-append (before.output ++ part.text) begins.rest,
-            length-append before.output part.text,
-          )) part.first;
-      output_is = cut-to _ _ _ part.text mark.output part.wrote marked.output back.cut.output_is;
-      messages_are = cut-to _ _ _ part.told mark.messages part.reported marked.messages back.cut.messages_are;
-    }
+    stops-over part back = grind (arith, common_steps, length-append, ⊎_elim, cut-to)
 
 -- whatever a step came to, its output was counted after a mark
 module _ (number : ℕ) (memory : Option (List At)) (before after : Course) (shown : Type 0)

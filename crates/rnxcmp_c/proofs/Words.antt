@@ -7,7 +7,6 @@ pub use Rattle.std.proofs.Common.{◌+◌, ◌≤◌, ◌||◌, map, IfErr, IfOk
 pub use Rattle.std.proofs.Math.Seq.{take-append-add}
 pub use Rattle.std.proofs.lemmas.List.{take-append-drop, take-append-le, take_all, take_at}
 pub use Rattle.std.proofs.lemmas.Result.{IfErr-weaker, IfOk-weaker, on_ok_weaker, err_from_is_err_and}
-pub use Rattle.std.specs.Prelude.{nat_le}
 pub use Rattle.crx_base.specs.declared.fault.At.{At}
 pub use Rattle.crx_base.specs.declared.fault.Fault.TheVariants.{InputTooLong, OutOfMemory}
 pub use Rattle.crx_base.specs.declared.limits.TheConstants.{INPUT_LIMIT, LINE_LIMIT}
@@ -19,11 +18,10 @@ pub use Rattle.crx_filter.proofs.following.CheckLawful.{check-lawful}
 pub use Rattle.crx_filter.proofs.following.Lawful.{compaction-lawful, expansion-lawful}
 pub use Rattle.crx_filter.proofs.standard.Lossless.{what-passes}
 pub use Rattle.crx_filter.specs.CompactorState.{compactor_seen}
-pub use Rattle.crx_filter.specs.LineByLine.{Seen}
 pub use Rattle.crx_filter.specs.meaning.Compacted.{compacted}
-pub use Rattle.crx_filter.specs.meaning.Directions.{compaction_filter, expansion_filter}
+pub use Rattle.crx_filter.specs.meaning.Directions.{compaction_filter}
 pub use Rattle.crx_filter.specs.meaning.Expanded.{expanded, whole_compact}
-pub use Rattle.crx_filter.specs.meaning.Standard.{checked, Findings, checked_by, findings_of, report_status}
+pub use Rattle.crx_filter.specs.meaning.Standard.{checked, report_status}
 pub use Rattle.crx_lines.proofs.ProgressLemmas.{ended_lines-come_first}
 pub use Rattle.crx_lines.specs.Reading.{HasNoFeed}
 pub use Rattle.crx_runs.specs.Lawful.{IsLawful}
@@ -44,13 +42,13 @@ pub use Rattle.rnxcmp_c.specs.Handles.{RunIsOverLimit, ReaderHasEnded, RunIsOutO
 pub use Rattle.rnxcmp_c.specs.Handles.{IsLineReached, RunIsTooLong, shows_of, too_long_after, engine_filter}
 pub use Rattle.rnxcmp_c.specs.Handles.{has_ended_of}
 pub use Rattle.rnxcmp_c.specs.Holding.{IsMemoryLacking, ready_in, texts_of_held, StopsCounted}
-pub use Rattle.rnxcmp_c.specs.Opened.{Holds, have_ended}
+pub use Rattle.rnxcmp_c.specs.Opened.{Holds}
 pub use Rattle.rnxcmp_c.specs.Past.{HandlePast, fed_with, StopsSoon, allowed_after, filter_for, memory_next}
 pub use Rattle.rnxcmp_c.specs.Past.{limit_for, nothing_fed, result_for, past_of, texts_made, HidesFault}
 pub use Rattle.rnxcmp_c.specs.Past.{taken_with}
 pub use Rattle.rnxcmp_c.specs.Waiting.{waiting}
 pub use Rattle.rnxcmp_c.specs.declared.answer.Answer.{Answer}
-pub use Rattle.rnxcmp_c.specs.declared.answer.TheConstants.{OUTPUT_LIMIT, MISUSED, NO_ROOM}
+pub use Rattle.rnxcmp_c.specs.declared.answer.TheConstants.{OUTPUT_LIMIT, MISUSED}
 pub use Rattle.rnxcmp_c.specs.declared.engines.AnyEngine.{AnyEngine}
 pub use Rattle.rnxcmp_c.specs.declared.engines.AnyEngine.TheVariants.{Compacting, Expanding, Checking}
 pub use Rattle.rnxcmp_c.specs.declared.handle.Handle.{Handle}

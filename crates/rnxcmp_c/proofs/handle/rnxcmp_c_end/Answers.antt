@@ -1,13 +1,12 @@
 use Rattle.std.proofs.Common.{arith}
 use Rattle.rnxcmp_c.proofs.{EndedLemmas.{result-where, run-check, run-expansion}, PromiseLemmas.ends-on}
-use Rattle.rnxcmp_c.proofs.PromiseLemmas.{ends-promise, ends-refused, ends-was_ended, handle-ends, stood}
+use Rattle.rnxcmp_c.proofs.PromiseLemmas.{ends-promise, ends-refused, ends-was_ended, handle-ends}
+use Rattle.rnxcmp_c.proofs.PromiseLemmas.{sound-holds, stood}
 use Rattle.rnxcmp_c.proofs.{Words.{Holds, past_of, Expand, Check}, handle.rnxcmp_c_end.Goals.After-deref_mut}
 use Rattle.rnxcmp_c.proofs.handle.rnxcmp_c_end.Goals as goal
 
 pub take_out-reader-requires : goal.take_out-reader-requires
-take_out-reader-requires c =
-    let sound = c.requires.sound c.if-not-handle.false in
-    (sound.3.reader, sound.3.holds)
+take_out-reader-requires c = sound-holds c.requires.sound c.if-not-handle.false
 
 held : (c : After-deref_mut) → Holds c.args.handle.now c.deref_mut.result.now
 held c = grind arith

@@ -1,13 +1,12 @@
 use Rattle.std.proofs.Common.{arith}
 use Rattle.rnxcmp_c.proofs.PromiseLemmas.{feeds-on, feeds-promise, feeds-refused, feeds-takes}
-use Rattle.rnxcmp_c.proofs.{PromiseLemmas.{feeds-was_ended, handle-feeds, stood}, Words.{Holds, past_of}}
+use Rattle.rnxcmp_c.proofs.PromiseLemmas.{feeds-was_ended, handle-feeds, sound-holds, stood}
+use Rattle.rnxcmp_c.proofs.Words.{Holds, past_of}
 use Rattle.rnxcmp_c.proofs.handle.rnxcmp_c_feed.Goals.{After-deref_mut}
 use Rattle.rnxcmp_c.proofs.handle.rnxcmp_c_feed.Goals as goal
 
 pub take_out-reader-requires : goal.take_out-reader-requires
-take_out-reader-requires c =
-    let sound = c.requires.sound c.if-not-handle.false in
-    (sound.3.reader, sound.3.holds)
+take_out-reader-requires c = sound-holds c.requires.sound c.if-not-handle.false
 
 held : (c : After-deref_mut) → Holds c.args.handle.now c.deref_mut.result.now
 held c = grind arith

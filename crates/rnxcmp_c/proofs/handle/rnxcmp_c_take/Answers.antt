@@ -1,14 +1,13 @@
 use Rattle.std.proofs.{Common.arith, lemmas.Grind.common_steps}
 use Rattle.rnxcmp_c.proofs.EndedLemmas.{ended-where, result-where, run-check, run-expansion}
-use Rattle.rnxcmp_c.proofs.{PromiseLemmas.{handle-promise, stood}, Words.{ℕ, List, Holds, past_of, BothTexts}}
+use Rattle.rnxcmp_c.proofs.PromiseLemmas.{handle-promise, sound-holds, stood}
+use Rattle.rnxcmp_c.proofs.Words.{ℕ, List, Holds, past_of, BothTexts}
 use Rattle.rnxcmp_c.proofs.{Words.{rooms, Task, Expand, Check}, handle.rnxcmp_c_take.Goals.After-deref_mut}
 use Rattle.rnxcmp_c.{proofs.handle.rnxcmp_c_take.Goals.After-put_in, specs.Opened.HandsOut}
 use Rattle.rnxcmp_c.proofs.handle.rnxcmp_c_take.Goals as goal
 
 pub take_out-reader-requires : goal.take_out-reader-requires
-take_out-reader-requires c =
-    let sound = c.requires.sound c.if-not-handle.false in
-    (sound.3.reader, sound.3.holds)
+take_out-reader-requires c = sound-holds c.requires.sound c.if-not-handle.false
 
 held : (c : After-deref_mut) → Holds c.args.handle.now c.deref_mut.result.now
 held c = grind arith

@@ -1,21 +1,10 @@
 use Rattle.std.proofs.Common.{rules}
 use Rattle.rnxcmp_c.proofs.{ReaderLemmas.{lawful-for, length-begins, one_more-first, output-for}, Words.◌≡◌}
 use Rattle.rnxcmp_c.proofs.Words.{⊎_elim, ℕ, List, length, arith, refl, sym, ap, ◌∙◌, FilterResult}
-use Rattle.rnxcmp_c.proofs.Words.{result_for, Answer, BothTexts, fault_code_in, line_in, placed, rooms}
+use Rattle.rnxcmp_c.proofs.Words.{result_for, Answer, fault_code_in, line_in, placed, rooms}
 use Rattle.rnxcmp_c.proofs.Words.{status_in, LacksLastMessage, StopsAtLimit, Task, handle_answer, run_for}
 use Rattle.rnxcmp_c.specs.meaning.Answers.{ExceedsLimit}
 use Rattle.rnxcmp_c.proofs.laws.a_handle_answers_as_a_call.Goals as goal
-
--- an answer by its parts
-abbrev answer-of : ℕ → ℕ → ℕ → ℕ → ℕ → Answer
-answer-of line output messages status code =
-    record { line = line; output_length = output; messages_length = messages; status = status; code = code }
-
-answer-is : (one other : Answer) (made : BothTexts) → one.status ≡ other.status → one.line ≡ other.line
-    → one.code ≡ other.code → one.output_length ≡ length made.output
-    → one.messages_length ≡ length made.messages
-    → one ≡ record other { output_length = length made.output; messages_length = length made.messages }
-answer-is one other made status line code output messages = grind arith
 
 -- what is made with one line more, or with the end, is first in the output of all
 exceeds : (task : Task) (fed : List ℕ) (result : FilterResult) → StopsAtLimit (run_for task) fed result
@@ -31,12 +20,9 @@ returns-clause-limit c = λ task fed made kept answer call before after ended an
     LacksLastMessage.faulty lacks in cc)) ended.ends in
     let answered : answer ≡ handle_answer ended.result.status ended.result.fault kept = has.answered in (
       more,
-      ap (λ (a : Answer). a.status) over ∙ sym (ap (λ (a : Answer). a.status) answered ∙ ap (λ r. r.status)
-          ended.is.result_is),
-      ap (λ a. a.code) over ∙ sym (ap (λ (a : Answer). a.code) answered ∙ ap
-          (λ (r : FilterResult). fault_code_in r.fault) ended.is.result_is),
-      ap (λ a. a.line) over ∙ sym (ap (λ (a : Answer). a.line) answered ∙ ap
-          (λ (r : FilterResult). line_in r.fault) ended.is.result_is),
+      cc (over, answered, ended.is.result_is),
+      cc (over, answered, ended.is.result_is),
+      cc (over, answered, ended.is.result_is),
     )
 
 pub returns-clause-instance : goal.returns-clause-instance

@@ -1,6 +1,6 @@
 use Rattle.std.proofs.{Common.{rules, length-drop, length-take-le}, lemmas.Grind.common_steps}
 use Rattle.rnxcmp_c.proofs.{GoingLemmas.{breaks-after, ended-more, soon-by}, PieceLemmas.none-or, Words.rules}
-use Rattle.rnxcmp_c.proofs.Words.{ℕ, ◌≡◌, ◌+◌, ◌-◌, ◌≤◌, List, ◌++◌, length, take, drop, sym, ap, ◌∙◌, arith}
+use Rattle.rnxcmp_c.proofs.Words.{ℕ, ◌≡◌, ◌-◌, ◌≤◌, List, ◌++◌, length, take, drop, sym, ap, ◌∙◌, arith}
 use Rattle.rnxcmp_c.proofs.Words.{append_assoc, length-append, ⊎_elim, take-append-drop, err_from_is_err_and}
 use Rattle.rnxcmp_c.proofs.Words.{fed_with, take_all}
 use Rattle.rnxcmp_c.proofs.lines.take_bytes.Goals as goal

@@ -9,7 +9,8 @@ use Rattle.rnxcmp_c.specs.Going.{EndStaysWithin}
 use Rattle.rnxcmp_c.proofs.lines.take_last.Goals as goal
 
 -- there are no bytes, or some
-none-there : (bytes : List ℕ) (is_empty : Bool) → is_empty ≡ (length bytes == 0) → is_empty ≡ true → bytes ≡ []
+none-there : (bytes : List ℕ) (is_empty : Bool) → is_empty ≡ (length bytes == 0) → is_empty ≡ true
+    → bytes ≡ []
 none-there = grind (arith, common_steps)
 
 some-there : (bytes : List ℕ) (is_empty : Bool) → is_empty ≡ (length bytes == 0) → is_empty ≡ false

@@ -1,5 +1,5 @@
-use Rattle.rnxcmp_c.proofs.Words.{inl, inr, List, ◌++◌, ℕ, length, refl, ap, subst, ◌∙◌, waiting}
-use Rattle.rnxcmp_c.specs.Waiting.{IsTextRefused}
+use Rattle.std.proofs.lemmas.Grind.{common_steps}
+use Rattle.rnxcmp_c.proofs.Words.{inl, List, ◌++◌, ℕ, arith, refl, ap, ◌∙◌, waiting}
 use Rattle.rnxcmp_c.proofs.reader.put_down.Goals as goal
 
 pub returns-then-add : goal.returns-then-add
@@ -16,15 +16,4 @@ returns-then-add c = record {
 }
 
 pub returns : goal.returns
-returns c = record {
-  status = refl;
-  output = refl;
-  output_good = refl;
-  messages_good = c.add.ensures.counts.failures;
-  said = inr (
-    refl,
-    c.add.ensures.unchanged c.if-add.false,
-    subst (λ (t : List ℕ). IsTextRefused c.args.held.now.messages (length t))
-        (c.bytes.ensures.value ∙ c.message.ensures.value) (c.add.ensures.refused c.if-add.false),
-  );
-}
+returns c = grind (arith, common_steps, c.bytes.ensures.value, c.message.ensures.value)

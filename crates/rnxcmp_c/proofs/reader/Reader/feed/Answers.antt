@@ -10,6 +10,7 @@ returns-in-Err-clause-fed c = λ task past is.
       held = c.outcome_of.new.held;
       outcome = Some _;
     } in
-    subst (λ fed. HasFed past.fed task new (fed_with past fed)) (sym (take_all (length bytes) bytes
-    (omega arith))) (stops-over task c.args.self.now.engine is.is_of new _ (c.in-Err.ensures.keeps.1 ∙ is.limit)
-    _ _ _ _ (c.in-Err.ensures.breaks past is.going) c.outcome_of.ensures)
+    subst (λ fed. HasFed past.fed task new (fed_with past fed))
+    (sym (take_all (length bytes) bytes (omega arith))) (stops-over task c.args.self.now.engine is.is_of new _
+    (c.in-Err.ensures.keeps.1 ∙ is.limit) _ _ _ _ (c.in-Err.ensures.breaks past is.going)
+    c.outcome_of.ensures)
