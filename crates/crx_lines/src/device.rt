@@ -153,6 +153,27 @@ impl<D> Std<D> {
     {
         self.inner
     }
+
+    /// Answers what a flush answered, and counts it, also among the failures if it failed.
+    fn counted(&mut self, flushed: io::Result<()>) -> Result<(), WriteFailed>
+        ensures ok { is_ok result ≡ is_ok flushed }
+        ensures good { OnOk result (self.new.failures ≡ self.old.failures) }
+        ensures failed { OnErr result (self.new.failures ≡ one_more self.old.failures) }
+        ensures flushed { self.new.flushed ≡ is_ok flushed }
+        ensures asked { self.new.flushes ≡ one_more self.old.flushes }
+        ensures inner { self.new.inner ≡ self.old.inner }
+        ensures ends { self.new.ends ≡ self.old.ends }
+    {
+        self.flushed = flushed.is_ok();
+        self.flushes = self.flushes.saturating_add(1);
+        match flushed {
+            Ok(()) => Ok(()),
+            Err(_) => {
+                self.failures = self.failures.saturating_add(1);
+                Err(WriteFailed)
+            }
+        }
+    }
 }
 
 impl<D: Read> Source for Std<D> {
@@ -211,15 +232,7 @@ impl<D: Write> Sink for Std<D> {
 
     fn flush(&mut self) -> Result<(), WriteFailed> {
         let flushed = self.inner.flush();
-        self.flushed = flushed.is_ok();
-        self.flushes = self.flushes.saturating_add(1);
-        match flushed {
-            Ok(()) => Ok(()),
-            Err(_) => {
-                self.failures = self.failures.saturating_add(1);
-                Err(WriteFailed)
-            }
-        }
+        self.counted(flushed)
     }
 
     ghost took_none = { λ s. Appends-nil (D.contents s.inner) };
