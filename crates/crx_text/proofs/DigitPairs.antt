@@ -1,5 +1,5 @@
 -- Two digits at a time.
-use Rattle.std.proofs.Common.{rules, bit_or, ◌≡◌, ℕ, ℤ, w64, zero, suc, ◌+◌, ◌-◌, ◌*◌, ◌/◌, ◌%◌, ◌<◌, ◌≤◌}
+use Rattle.std.proofs.Common.{rules, bit_and, ◌≡◌, ℕ, ℤ, w64, zero, suc, ◌+◌, ◌-◌, ◌*◌, ◌/◌, ◌%◌, ◌<◌, ◌≤◌}
 use Rattle.std.proofs.Common.{Bool, true, ◌&&◌, T, eqb, List, [], ◌∷◌, ◌++◌, length, take, drop, get_or}
 use Rattle.std.proofs.Common.{slice_set, arith, eqb→eq, eqb-true, append_assoc, decimal, ◌^◌, ap, sym, ◌∙◌}
 use Rattle.std.proofs.{Common.{refl, subst}, Math.{Dec.ltb, Seq.take-append-add}, lemmas.Bool.agree_below}
@@ -93,8 +93,9 @@ four_written = grind (arith, common_steps, joined, decimal_four)
 abbrev pub digits_beside : ℕ → ℕ
 digits_beside n = n / 100 / 10 + 256 * (n / 100 % 10) + 65536 * (n % 100 / 10) + 16777216 * (n % 100 % 10)
 
+-- four columns that begin with zeros, and in the last one a bit of every character
 abbrev pub lowest_of : ℕ → ℕ
-lowest_of n = count_trailing_zeros 32 (bit_or (digits_beside n) 268435456) / 8
+lowest_of n = count_trailing_zeros 32 (bit_and (808464432 + digits_beside n) 521080591) / 8
 
 all_agree : agree_below (λ n. eqb (lowest_of n) (zeros_of n)) (λ n. true) 10000 ≡ true
 unfolding count_trailing_zeros
@@ -107,9 +108,8 @@ lowest_is n small =
 
 -- a word whose bytes are a number's columns, and its digits
 pub zeros_found : (n word : ℕ) → n < 10000 → word < 2 ^ 32 → to_le_bytes w32 word ≡ four n
-    → count_trailing_zeros 32 (bit_or (word - 808464432) 268435456) / 8 ≡ zeros_of n
+    → count_trailing_zeros 32 (bit_and word 521080591) / 8 ≡ zeros_of n
 zeros_found n word small fits bytes =
     let whole : word ≡ 808464432 + digits_beside n =
     sym (from_le_bytes-to_le_bytes_4 word fits) ∙ ap (from_le_bytes w32) bytes ∙ omega arith in
-    let digits : word - 808464432 ≡ digits_beside n = omega (arith, whole) in
-    ap (λ d. count_trailing_zeros 32 (bit_or d 268435456) / 8) digits ∙ lowest_is n small
+    ap (λ d. count_trailing_zeros 32 (bit_and d 521080591) / 8) whole ∙ lowest_is n small

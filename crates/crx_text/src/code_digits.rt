@@ -223,9 +223,8 @@ fn write_short(buffer: &mut [u8], at: usize, size: u32) -> usize
 {
     let columns = four_digits(size);
     // The lowest bit that is set among the digits says where the first one is that isn't 0; a bit above the last one ends the search, since
-    // 0 has a digit of its own.
-    let digits = columns - u32::from_le_bytes(*b"0000");
-    let zeros = ((digits | 1 << 28).trailing_zeros() / 8) as usize;
+    // 0 has a digit of its own. That bit is one of every character: to take `0` from each column and to set it took 2 instructions more.
+    let zeros = ((columns & 0x1f0f_0f0f).trailing_zeros() / 8) as usize;
     write_word(buffer, at, columns >> (8 * zeros));
     at + 4 - zeros
 }

@@ -1,4 +1,4 @@
-use Rattle.std.{proofs.Common.{rules, ◌-◌, ap, ◌∙◌, arith}, specs.List.list_all}
+use Rattle.std.{proofs.Common.{rules, ap, ◌∙◌, arith}, specs.List.list_all}
 use Rattle.crx_text.proofs.LaneTexts.{list_all-piece, list_all-last_piece, list_all_ends}
 use Rattle.crx_text.proofs.LaneWords.{none_in_fold}
 use Rattle.crx_text.proofs.lanes.all_of.Goals as goal

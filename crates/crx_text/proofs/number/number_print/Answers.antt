@@ -1,4 +1,4 @@
-use Rattle.std.proofs.Common.{◌≡◌, ◌-◌, ◌<◌, ◌^◌, length, ℕ, take, replicate, true, w64, arith, rules, ap}
+use Rattle.std.proofs.Common.{◌≡◌, ◌-◌, ◌<◌, ◌^◌, length, ℕ, take, replicate, w64, arith, rules, ap}
 use Rattle.std.proofs.{Common.◌∙◌, lemmas.{Grind.common_steps, Int.to_z-of_z}}
 use lib.IntN.{nat_abs}
 use Rattle.crx_text.proofs.Spellings.{size_text_fits, abs_within, abs_within_below, printed_number}
