@@ -244,7 +244,8 @@ fn take_last_cell(line: &[u8], first: usize, values: &mut [Option<i64>], flags: 
     if first + 1 != values.len() || line.len() != start + OBSERVATION_WIDTH {
         return false;
     }
-    if !obs_read_into(&line[start..], &mut values[first]) {
+    // The compiler knows the length of this part: with the rest of the line it tests the length again, by 7 instructions a line.
+    if !obs_read_into(&line[start..start + OBSERVATION_WIDTH], &mut values[first]) {
         return false;
     }
     flags[2 * first] = b' ';

@@ -1,9 +1,8 @@
-use Rattle.std.proofs.Common.{◌≡◌, ℕ, ◌+◌, ◌*◌, ◌-◌, ◌≤◌, List, length, take, drop, ap, sym, ◌∙◌}
+use Rattle.std.proofs.Common.{◌≡◌, ℕ, ◌+◌, ◌*◌, ◌≤◌, List, length, drop, ap, sym, ◌∙◌}
 use Rattle.std.proofs.{Common.{arith, Bool, true}, lemmas.{Grind.common_steps}}
 use Rattle.std.{proofs.lemmas.List.{length-set, drop_all}, specs.{Bool.OnTrue, List.list_all}}
 use Rattle.crx_text.specs.meaning.{Columns.is_blank, Numbers.observation_of}
 use Rattle.crx_rinex.proofs.Cells.{cells_more, cells_whole, past, read_inside}
-use Rattle.crx_rinex.specs.meaning.SatelliteLines.{field}
 use Rattle.crx_rinex.proofs.satellite_row.take_last_cell.Goals as goal
 
 nothing-after : (line : List ℕ) (n : ℕ) → length line ≤ n → list_all is_blank (drop n line) ≡ true
@@ -18,9 +17,7 @@ returns-clause-read c =
     let last : first + 1 ≡ length values = omega (arith, c.if-first-values-2.false) in
     let start : ℕ = 16 * first + 3 in
     let long : length line ≡ start + 14 = c.if-line-start.false in
-    let field_is : take 14 (take (length line - start) (drop start line)) ≡ field line first =
-    ap (λ (n : ℕ). take 14 (take (n - start) (drop start line))) long
-    ∙ read_inside line first 14 (omega arith) (omega (arith, long)) in
+    let field_is = read_inside line first 14 (omega arith) (omega (arith, long)) in
     let more = cells_more line values c.args.flags.now first 32 32 value c.requires (omega (arith, last))
     (ap observation_of (sym field_is) ∙ c.if-not-obs_read_into.ensures.value)
     c.if-not-obs_read_into.ensures.in_range

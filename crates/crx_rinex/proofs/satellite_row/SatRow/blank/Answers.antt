@@ -1,4 +1,4 @@
-use Rattle.std.proofs.Common.{◌*◌, replicate, rules}
+use Rattle.std.proofs.Common.{replicate, rules}
 use Rattle.crx_rinex.proofs.Cells.{sound-blank}
 use Rattle.crx_rinex.proofs.satellite_row.SatRow.blank.Goals as goal
 
