@@ -1,11 +1,12 @@
 -- The cells of a satellite line after the arcs of its satellite in the epoch before.
 use Rattle.std.specs.Prelude.{◌≡◌, ◌≤◌, ℕ, ℤ, List, length, map, drop, slice_index_or, slice_set, Option, Some, None}
-use Rattle.std.specs.Prelude.{Result, Ok, take, ◌++◌, ◌+◌, IfSome, IfNone}
+use Rattle.std.specs.Prelude.{Result, Ok, Err, take, ◌++◌, ◌+◌, IfSome, IfNone, IfOk, IfErr}
 use Rattle.crx_text.specs.meaning.Codes.{code_of, first_cell, after_cell}
 use Rattle.crx_base.specs.declared.limits.TheConstants.{OBSERVATION_WIDTH}
 use Rattle.crx_text.specs.declared.code.Code.TheVariants.{Missing}
 use Rattle.crx_base.specs.declared.fault.Fault.{Fault}
-use Rattle.crx_compact.specs.meaning.Cells.{ReadCell, cell_text, cells_read, cells_of, after_cells}
+use Rattle.crx_base.specs.declared.fault.Fault.TheVariants.{BadField}
+use Rattle.crx_compact.specs.meaning.Cells.{ReadCell, cell_read, cell_text, cells_read, cells_of, after_cells}
 use Rattle.crx_text.specs.declared.code.Code.{Code}
 use Rattle.crx_text.specs.meaning.EachPlace.{each_place}
 use Rattle.crx_compact.specs.declared.cells.TheConstants.{CELL_ROOM}
@@ -50,6 +51,12 @@ pub record IsCellRead (before : List (Option ArcTail))
   pub left : new ≡ slice_set old place (arc_of_code code (slice_index_or before place None))
   pub after : drop taken text ≡ after_cell text
   pub within : taken ≤ length text
+
+-- the cell that a text begins with is read, or its fault is answered
+pub record AnswersCell (place : ℕ) (text : List ℕ) (old new : List (Option ArcTail)) (answer : Result ℕ Fault)
+    : Type 0 where
+  pub ok : IfOk answer (λ taken. IsCellRead old place text old new taken)
+  pub err : IfErr answer (λ fault. cell_read BadField (value_at_place old place) (code_of (first_cell text)) ≡ Err fault)
 
 -- the cell that a text begins with is read, or the arcs stay as they were
 pub record MayReadCell (place : ℕ) (text : List ℕ) (old new : List (Option ArcTail)) (taken : Option ℕ) : Type 0 where

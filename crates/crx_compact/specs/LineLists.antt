@@ -148,9 +148,16 @@ pub record IsLinePut (line : List ℕ) (room at : ℕ) (old new : List ℕ) (cou
   pub within : at + count < length new
   pub short : count ≤ room
 
--- a line was put after others, for which there was room: there is room for one less, and else nothing has changed but the room for bytes
-pub record HasTakenLine (old new : PendingLines) : Type 0 where
+-- there is room for a line more, of so many bytes with its LF
+pub record HasLineRoom (count : ℕ) (lines : PendingLines) : Type 0 where
+  pub line : 0 < lines.free_lines
+  pub bytes : count ≤ lines.free_bytes
+
+-- a line was put after others, for which there was room: there is room for one less, and for so many bytes less at most; else nothing has
+-- changed
+pub record HasTakenLine (count : ℕ) (old new : PendingLines) : Type 0 where
   pub free_lines : new.free_lines + 1 ≡ old.free_lines
+  pub free_bytes : old.free_bytes ≤ new.free_bytes + count
   pub all_lines : new.all_lines ≡ old.all_lines
   pub all_bytes : new.all_bytes ≡ old.all_bytes
   pub spare_lines : new.spare_lines ≡ old.spare_lines

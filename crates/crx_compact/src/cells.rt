@@ -1,17 +1,16 @@
 //! The cells of a satellite line: values to codes and back, each after its arc.
 
-ghost use Rattle.std.specs.Prelude.{All, ◌≡◌, ◌≤◌, ◌<◌, ◌+◌, ◌++◌, ◌*◌, None, Ok, Err, drop, length, map, take, IfOk, IfErr, Some, Option};
+ghost use Rattle.std.specs.Prelude.{All, ◌≡◌, ◌≤◌, ◌<◌, ◌+◌, ◌++◌, ◌*◌, None, Ok, Err, drop, length, map, take, IfOk, IfErr, IfSome, IfNone, OnSome, Some, Option};
 ghost use Rattle.std.specs.List.{flat_map};
 ghost use Rattle.crx_text.specs.meaning.Columns.{columns};
 ghost use Rattle.crx_text.specs.meaning.PrintedCells.{printed_cells};
 ghost use Rattle.crx_text.specs.meaning.Numbers.{IsValue};
-ghost use Rattle.crx_base.specs.declared.limits.TheConstants.{CELL_WIDTH};
-ghost use Rattle.crx_compact.specs.ArcSteps.{shown_value};
-ghost use Rattle.crx_text.specs.meaning.Codes.{after_cell, code_of, first_cell};
+ghost use Rattle.crx_base.specs.declared.limits.TheConstants.{CELL_WIDTH, OBSERVATION_WIDTH};
+ghost use Rattle.crx_compact.specs.ArcSteps.{arc_of_code, shown_value, value_of_code};
 ghost use Rattle.crx_text.specs.Codes.{IsShort};
 ghost use Rattle.crx_compact.specs.declared.cells.TheConstants.{CELL_ROOM};
-ghost use Rattle.crx_compact.specs.Cells.{arcs_of_cells, codes_of_cells, value_at_place, CellsAreRead, IsCellRead, IsCellWritten, MayReadCell};
-ghost use Rattle.crx_compact.specs.meaning.Cells.{cell_read, cells_of, cells_read};
+ghost use Rattle.crx_compact.specs.Cells.{AnswersCell, arcs_of_cells, codes_of_cells, value_at_place, CellsAreRead, IsCellWritten, MayReadCell};
+ghost use Rattle.crx_compact.specs.meaning.Cells.{cells_of, cells_read};
 ghost use Rattle.crx_base.specs.declared.fault.Fault.TheVariants.{BadField};
 ghost use Rattle.crx_text.specs.declared.code.Code.TheVariants.{Missing, Step};
 ghost use Rattle.crx_compact.specs.meaning.Cells.{cell_text};
@@ -25,21 +24,21 @@ use crx_text::{Code, code_before_blank, obs_print_cell, step_before_blank, write
 /// time. The cell's blank is one of the three.
 pub const CELL_ROOM: usize = DIGITS_LIMIT + 6;
 
-/// Writes the code of an arc's next value and a blank from an index on, gives the index after them, and the arc goes on. It takes
-/// values of any kind, and is called for the few that [`write_value_fast`] doesn't write itself.
+/// Writes the code of an arc's next value and a blank from an index on, gives the index after them, and the arc goes on. It is called for
+/// the few values that [`write_value_fast`] doesn't write itself.
 #[cold]
 #[inline(never)]
-fn write_value(arc: &mut ObsArc, value: Option<i64>, bytes: &mut [u8], at: usize) -> usize
-    requires value { IsValue value }
+fn write_value(arc: &mut ObsArc, value: i64, bytes: &mut [u8], at: usize) -> usize
+    requires value { IsValue (Some value) }
     requires room { at + CELL_ROOM ≤ length bytes.old }
-    ensures { IsCellWritten value arc.old arc.new bytes.old at bytes.new result }
+    ensures { IsCellWritten (Some value) arc.old arc.new bytes.old at bytes.new result }
 {
-    let code = arc.push(value);
+    let code = arc.push(Some(value));
     write_cell(bytes, at, code)
 }
 
-/// Does what [`write_value`] does. Most values are missing, or have a difference of order 3 as their code: these two are written here,
-/// without a call and without asking which code it is, and only the others by a call.
+/// Does what [`write_value`] does, where there may be no value. Most values are missing, or have a difference of order 3 as their code:
+/// these two are written here, without a call and without asking which code it is, and only the others by a call.
 #[inline(always)]
 fn write_value_fast(arc: &mut ObsArc, value: Option<i64>, bytes: &mut [u8], at: usize) -> usize
     requires value { IsValue value }
@@ -52,12 +51,14 @@ fn write_value_fast(arc: &mut ObsArc, value: Option<i64>, bytes: &mut [u8], at: 
     };
     match arc.push_third(present) {
         Some(difference) => write_cell(bytes, at, Code::Step(difference)),
-        None => write_value(arc, value, bytes, at),
+        None => write_value(arc, present, bytes, at),
     }
 }
 
 /// Writes the codes of the next values of some arcs, each followed by a blank, from an index on, gives the index after them, and the arcs
-/// go on. Each value fits its columns, and there are [`CELL_ROOM`] bytes for each. Arcs behind those of the values stay.
+/// go on. Each value fits its columns, and there are [`CELL_ROOM`] bytes for each. Arcs behind those of the values stay. Part of its
+/// callers, as a call takes 23 instructions for each line.
+#[inline(always)]
 pub fn write_cells(
     arcs: &mut [ObsArc],
     values: &[Option<i64>],
@@ -88,9 +89,7 @@ pub fn write_cells(
 #[inline(never)]
 fn read_cell(arcs: &mut [ObsArc], place: usize, text: &[u8]) -> Result<usize, Fault>
     requires within { place < length arcs.old }
-    ensures ok { IfOk result (λ taken. IsCellRead arcs.old place text.now arcs.old arcs.new taken) }
-    ensures err { IfErr result (λ fault.
-        cell_read BadField (value_at_place arcs.old place) (code_of (first_cell text.now)) ≡ Err fault) }
+    ensures { AnswersCell place text.now arcs.old arcs.new result }
 {
     let Ok((code, length)) = code_before_blank(text) else {
         return Err(Fault::BadField);
@@ -99,28 +98,20 @@ fn read_cell(arcs: &mut [ObsArc], place: usize, text: &[u8]) -> Result<usize, Fa
     Ok(length)
 }
 
-/// Reads the cell that a text begins with, whose code is a difference that was read with the index after it: the arc at a place goes on
-/// by it. It gives that index; `None` where the value has a fault, and then the arcs are as they were. It is called for the few
-/// differences that aren't of order 3, or whose value doesn't fit. In the loop over the cells the place for its answer would be cleared for
-/// each cell.
+/// The value that a difference gives, after which the arc goes on; `None` where the value has a fault, and then the arc is as it was. It
+/// is called for the few differences that aren't of order 3, or whose value doesn't fit. In the loop over the cells the place for the answer
+/// of [`ObsArc::apply`] would be cleared for each cell.
 #[inline(never)]
-fn apply_step(
-    arcs: &mut [ObsArc],
-    place: usize,
-    text: &[u8],
-    number: i64,
-    end: usize,
-) -> Option<usize>
-    requires within { place < length arcs.old }
+fn apply_step(arc: &mut ObsArc, number: i64) -> Option<i64>
     requires short { IsShort number }
-    requires code { code_of (first_cell text.now) ≡ Some (Step number) }
-    requires next { drop end text.now ≡ after_cell text.now }
-    requires inside { end ≤ length text.now }
-    ensures { MayReadCell place text.now arcs.old arcs.new result }
+    ensures value { IfSome result
+        (λ value. value_of_code OBSERVATION_WIDTH (Step number) arc.old ≡ Ok (Some value)) }
+    ensures arc { OnSome result (arc.new ≡ arc_of_code (Step number) arc.old) }
+    ensures none { IfNone result (arc.new ≡ arc.old) }
 {
-    match arcs[place].apply(Code::Step(number)) {
-        Ok(_) => Some(end),
-        Err(_) => None,
+    match arc.apply(Code::Step(number)) {
+        Ok(Some(value)) => Some(value),
+        _ => None,
     }
 }
 
@@ -147,7 +138,8 @@ fn read_cell_fast(arcs: &mut [ObsArc], place: usize, text: &[u8]) -> Option<usiz
     if arcs[place].apply_third(number).is_some() {
         return Some(end);
     }
-    apply_step(arcs, place, text, number, end)
+    apply_step(&mut arcs[place], number)?;
+    Some(end)
 }
 
 /// What is left of a text after so many bytes.

@@ -14,13 +14,12 @@ ghost use Rattle.crx_compact.specs.ArcSteps.{shown_value};
 ghost use Rattle.crx_compact.specs.EncodingRooms.{GrowsForEpoch, GrowsForRow, HasRoomForEpoch, HasRowRoom, HasSameMemory, HasTakenRow, HasTakenText, encoding_room};
 ghost use Rattle.crx_compact.specs.EpochLinesRead.{AnswersSatellites, AreSatellitesRefused, IsEpochLineRead, IsEpochLineRefused, history_cleared};
 ghost use Rattle.crx_compact.specs.HeldRows.{IsAwaitedSatellite, past_of_tail, row_held};
-ghost use Rattle.crx_compact.specs.LineLists.{HasTakenLine, KeepsLinesRoom, room_of_lines};
+ghost use Rattle.crx_compact.specs.LineLists.{HasLineRoom, HasSameRoom, HasTakenLine, KeepsLinesRoom, room_of_lines};
 ghost use Rattle.crx_compact.specs.meaning.CompactPlaces.{clock_line_read, satellites_of_text};
 ghost use Rattle.crx_compact.specs.meaning.EpochText.{names_in, satellites_named};
 ghost use Rattle.crx_compact.specs.Placing.{GrowsOnly, HasAllowedCount, HasAskedRoom, HasNoLessRoom, HasSameTexts, HaveRoom, IsAnnounced, IsAskedAmong, IsBetween, IsPlaced, IsRowRead, KeepsRooms, padded, row_of_parts, row_room, satellite_of, tail_of_history};
 ghost use Rattle.crx_compact.specs.Written.{AreRowsWritten, IsEpochWritten, IsRowWritten, epoch_by_rows};
 ghost use Rattle.crx_rinex.specs.meaning.SatelliteLines.{IsSoundRow};
-ghost use Rattle.crx_compact.specs.PrintedBlocks.{printed_room};
 ghost use Rattle.crx_compact.specs.RowsSoFar.{NamesSatellites, HasClock};
 ghost use Rattle.crx_compact.specs.ShownRows.{shown_epoch};
 ghost use Rattle.crx_compact.specs.Steps.{no_tail};
@@ -32,7 +31,7 @@ use crate::lines::{FIRST_LINES, Lines, lengthen};
 use crate::refusals::prepare_names;
 use crate::satellites::Satellites;
 use crx_base::Fault;
-use crx_base::limits::{CELL_WIDTH, HEAD_WIDTH, LINE_LIMIT, NAME_WIDTH, TYPES_LIMIT};
+use crx_base::limits::{HEAD_WIDTH, LINE_LIMIT, NAME_WIDTH, TYPES_LIMIT};
 use crx_header::{Types, after_columns, all_blank, identifier, padded, put_identifier};
 use crx_rinex::{Epoch, EpochLine, SatRow, begins_epoch, print_head, types_of_satellite};
 use crx_text::block::put_text;
@@ -149,8 +148,12 @@ impl History {
     pub(crate) fn begin_rows(&mut self, in_full: bool)
         requires between { IsBetween self.old }
         ensures begun { AreRowsWritten (if in_full then no_tail else tail_of_history self.old) [] self.new [] }
-        ensures texts { HasSameTexts self.old self.new }
-        ensures rooms { self.new.satellites.rooms ≡ self.old.satellites.rooms }
+        // No memory is asked for, and the text that is made next stays.
+        ensures memory { self.new ≡ record self.old {
+          text = self.new.text;
+          clock = self.new.clock;
+          satellites = record self.new.satellites { rooms = self.old.satellites.rooms };
+        } }
     {
         if in_full {
             self.clear();
@@ -210,7 +213,7 @@ impl History {
         ensures written { (after : Tail) (rows : List Row) → AreRowsWritten after rows self.old lines.old.lines
             → OnOk result (IsEpochWritten after (epoch_by_rows head.now rows) self.new lines.new.lines) }
         ensures between { IsBetween self.new }
-        ensures reserved { lines.new.reserved ≡ lines.old.reserved }
+        ensures lines { HasSameRoom lines.old lines.new }
         // Where room was asked for before, the answer isn't for want of memory.
         ensures known { HEAD_WIDTH + NAME_WIDTH * head.now.count ≤ length self.old.next_text → IsOk result }
         ensures asked { HEAD_WIDTH + NAME_WIDTH * head.now.count ≤ self.old.text_room → IsOk result }
@@ -364,12 +367,10 @@ impl History {
     /// then the columns are put as they are, which saves some 130 instructions.
     pub(crate) fn put_head(&self, lines: &mut Lines, part: &mut Text)
         requires announced { is_some (epoch_count (columns self.now.text 1 HEAD_WIDTH)) ≡ true }
-        requires free_line { 0 < lines.old.free_lines }
-        requires free_bytes { LINE_LIMIT < lines.old.free_bytes }
+        requires room { HasLineRoom (LINE_LIMIT + 1) lines.old }
         ensures lines { lines.new.lines ≡ lines.old.lines
             ++ printed_head (columns self.now.text 1 HEAD_WIDTH) (shown_value self.now.clock) ∷ [] }
-        ensures taken { HasTakenLine lines.old lines.new }
-        ensures free_bytes { lines.old.free_bytes ≤ lines.new.free_bytes + (LINE_LIMIT + 1) }
+        ensures taken { HasTakenLine (LINE_LIMIT + 1) lines.old lines.new }
     {
         let Some(_) = self.clock.value() else {
             lines.put(end_trimmed(&self.text, 1, HEAD_WIDTH));
@@ -377,18 +378,6 @@ impl History {
         };
         print_head(&self.head(), part);
         lines.put(part.bytes());
-    }
-
-    /// As many bytes as the printed lines of the history's epoch have at most, each with its LF.
-    pub(crate) fn printed_room(&self) -> usize
-        requires announced { IsAnnounced self.now }
-        ensures value { result ≡ LINE_LIMIT + 1 + sum (map printed_room self.now.satellites.rows) }
-    {
-        let mut room = LINE_LIMIT + 1;
-        for index in 0..self.satellites.placed() {
-            room += NAME_WIDTH + CELL_WIDTH * self.satellites.count_at(index) + 1;
-        }
-        room
     }
 
     /// Its satellites.
@@ -403,7 +392,6 @@ impl History {
 /// Asks for all memory that the lines of an epoch's rows need of their satellites. Gives as many bytes as these lines have at most, each
 /// with its LF.
 fn prepare_rows(satellites: &mut Satellites, epoch: &Epoch) -> Result<usize, AllocError>
-    requires sound { IsSoundEpoch epoch.now }
     ensures bytes { IfOk result (λ bytes. bytes ≡ sum (map row_room epoch.now.rows)) }
     ensures asked { HasAskedRoom satellites.old satellites.new }
     ensures room { OnOk result (HaveRoom epoch.now.rows satellites.new.rooms) }

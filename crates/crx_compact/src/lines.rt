@@ -7,7 +7,7 @@ ghost use Rattle.std.specs.Borrow.{sem};
 ghost use Rattle.std.specs.Io.BufRead.{Rests};
 ghost use Rattle.std.specs.Option.{option_copied};
 ghost use Rattle.crx_compact.specs.contracts.lines.Lines.{the_row};
-ghost use Rattle.crx_compact.specs.LineLists.{AllAreHeldFor, AreHeldFor, HasMoreRoom, HasNoMoreRoom, HasSameRoom, HasTakenLine, KeepsLinesRoom, block_room, cleared, lines_text, room_of_lines};
+ghost use Rattle.crx_compact.specs.LineLists.{AllAreHeldFor, AreHeldFor, HasLineRoom, HasMoreRoom, HasNoMoreRoom, HasSameRoom, HasTakenLine, KeepsLinesRoom, block_room, cleared, lines_text, room_of_lines};
 ghost use Rattle.crx_compact.specs.Placing.{HasRoom, KeepsRest, room_of_types, row_of_parts};
 ghost use Rattle.crx_compact.specs.PrintedBlocks.{printed_room};
 ghost use Rattle.crx_compact.specs.ShownRows.{shown_row};
@@ -198,11 +198,9 @@ impl Lines {
 
     /// Puts a line after the others, for which there is room.
     pub(crate) fn put(&mut self, line: &[u8])
-        requires free_line { 0 < self.old.free_lines }
-        requires free_bytes { length line.now < self.old.free_bytes }
+        requires room { HasLineRoom (length line.now + 1) self.old }
         ensures lines { self.new.lines ≡ self.old.lines ++ line.now ∷ [] }
-        ensures taken { HasTakenLine self.old self.new }
-        ensures free_bytes { self.new.free_bytes + (length line.now + 1) ≡ self.old.free_bytes }
+        ensures taken { HasTakenLine (length line.now + 1) self.old self.new }
     {
         put_line(&mut self.bytes, self.filled, line);
         self.lengths[self.count] = line.len();
@@ -221,8 +219,7 @@ impl Lines {
         flags: &[u8],
         part: &mut Text,
     )
-        requires free_line { 0 < self.old.free_lines }
-        requires free_bytes { room_of_types (length values.now) ≤ self.old.free_bytes }
+        requires room { HasLineRoom (room_of_types (length values.now)) self.old }
         requires within { index < length satellites.old.rows }
         requires sound { (old : RowTail) → slice_get satellites.old.rows index ≡ Some old
             → IsSoundRow (row_of_parts old.name values.now flags.now)
@@ -232,22 +229,17 @@ impl Lines {
             (row_tail_after (Some old) (row_of_parts old.name values.now flags.now)) }
         ensures lines { (old : RowTail) → slice_get satellites.old.rows index ≡ Some old → self.new.lines
             ≡ self.old.lines ++ row_line_after (Some old) (row_of_parts old.name values.now flags.now) ∷ [] }
-        ensures taken { HasTakenLine self.old self.new }
-        ensures free_bytes { self.old.free_bytes ≤ self.new.free_bytes + room_of_types (length values.now) }
+        ensures taken { HasTakenLine (room_of_types (length values.now)) self.old self.new }
         ensures kept { KeepsRest satellites.old satellites.new }
     {
-        let length = satellites.write_line(
-            index,
-            values,
-            flags,
-            part,
-            &mut self.bytes,
-            self.filled,
-        );
-        self.bytes[self.filled + length] = b'\n';
+        // The place of the bytes and the index are read once: after the line is written they would be read again, by 4 instructions.
+        let filled = self.filled;
+        let bytes = self.bytes.as_mut_slice();
+        let length = satellites.write_line(index, values, flags, part, bytes, filled);
+        bytes[filled + length] = b'\n';
         self.lengths[self.count] = length;
         self.count += 1;
-        self.filled += length + 1;
+        self.filled = filled + (length + 1);
     }
 
     /// Puts the printed line of the row that a satellite shows after the others, for which there is room; the satellite is at an index among
@@ -255,14 +247,12 @@ impl Lines {
     #[inline(always)]
     pub(crate) fn put_printed(&mut self, satellites: &Satellites, index: usize)
         requires within { index < length satellites.now.rows }
-        requires free_line { 0 < self.old.free_lines }
-        requires free_bytes { (old : RowTail) → slice_get satellites.now.rows index ≡ Some old
-            → printed_room old ≤ self.old.free_bytes }
+        requires room { (old : RowTail) → slice_get satellites.now.rows index ≡ Some old
+            → HasLineRoom (printed_room old) self.old }
         ensures lines { (old : RowTail) → slice_get satellites.now.rows index ≡ Some old
             → self.new.lines ≡ self.old.lines ++ printed_row (shown_row old) ∷ [] }
-        ensures taken { HasTakenLine self.old self.new }
-        ensures free_bytes { (old : RowTail) → slice_get satellites.now.rows index ≡ Some old
-            → self.old.free_bytes ≤ self.new.free_bytes + printed_room old }
+        ensures taken { (old : RowTail) → slice_get satellites.now.rows index ≡ Some old
+            → HasTakenLine (printed_room old) self.old self.new }
     {
         let length = satellites.print_line(index, &mut self.bytes, self.filled);
         self.bytes[self.filled + length] = b'\n';

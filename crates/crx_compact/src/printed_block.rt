@@ -59,7 +59,7 @@ impl PrintedBlock {
         self.has_head = false;
         self.rows = 0;
         self.lines
-            .make_room(history.count() + 1, history.printed_room())
+            .make_room(history.count() + 1, history.satellites().printed_room())
     }
 
     /// Prints the first line, and those of the first so many rows, where they aren't there yet.

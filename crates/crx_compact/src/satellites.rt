@@ -1,10 +1,10 @@
 //! The satellites of a history, in the order of the file: Hatanaka's Compact RINEX 3.0.
 
-ghost use Rattle.std.specs.Prelude.{List, ℕ, All, ◌≡◌, ◌≤◌, ◌<◌, ◌+◌, ◌*◌, ◌^◌, ◌++◌, ◌∷◌, [], true, false, is_some, None, Some, Ok, Err, length, take, map, slice_get, slice_set, OnOk, OnErr, IfOk, IfErr, IfSome, IsOk, IsTrue, ◌↔◌};
+ghost use Rattle.std.specs.Prelude.{List, ℕ, All, ◌≡◌, ◌≤◌, ◌<◌, ◌+◌, ◌*◌, ◌^◌, ◌++◌, ◌∷◌, [], true, false, is_some, None, Some, Ok, Err, length, take, map, slice_get, slice_set, OnOk, OnErr, IfOk, IfErr, IfSome, IsOk, IsTrue, ◌↔◌, sum};
 ghost use Rattle.std.specs.Bool.{OnTrue};
 ghost use Rattle.std.specs.Map.{lookup};
 ghost use Rattle.std.specs.Str.{bytes_eq};
-ghost use Rattle.crx_base.specs.declared.limits.TheConstants.{CELL_WIDTH, LINE_LIMIT, NAME_WIDTH, TYPES_LIMIT};
+ghost use Rattle.crx_base.specs.declared.limits.TheConstants.{CELL_WIDTH, LINE_LIMIT, NAME_WIDTH, SATELLITES_LIMIT, TYPES_LIMIT};
 ghost use Rattle.crx_header.specs.meaning.EpochColumns.{begins_epoch};
 ghost use Rattle.crx_header.specs.meaning.ObservationTypes.{IsAllowedCount};
 ghost use Rattle.crx_header.specs.meaning.Satellites.{is_among, is_identifier};
@@ -15,6 +15,7 @@ ghost use Rattle.crx_compact.specs.Entries.{Entry, IsFound, IsPutNext, IsRevived
 ghost use Rattle.crx_compact.specs.EpochLinesRead.{HaveComeAgain};
 ghost use Rattle.crx_compact.specs.HeldRows.{IsAwaitedSatellite, row_held};
 ghost use Rattle.crx_compact.specs.Placing.{AnswersPlacing, GrowsOnly, HasAskedRoom, HasRoom, IsAskedFor, IsPlaced, KeepsRest, KeepsRooms, SatelliteTail, padded, row_of_parts, satellite_of};
+ghost use Rattle.crx_compact.specs.PrintedBlocks.{printed_room};
 ghost use Rattle.crx_compact.specs.ShownRows.{shown_row};
 ghost use Rattle.crx_compact.specs.Steps.{row_line_after, row_tail_after};
 ghost use Rattle.crx_compact.specs.Tails.{RowTail};
@@ -22,7 +23,7 @@ ghost use Rattle.indexmap.specs.IndexMap.{IsUnique, spare};
 
 use crate::satellite::SatelliteHistory;
 use crx_base::Fault;
-use crx_base::limits::NAME_WIDTH;
+use crx_base::limits::{CELL_WIDTH, LINE_LIMIT, NAME_WIDTH};
 use crx_header::{Types, is_same_identifier};
 use crx_rinex::SatRow;
 use crx_text::Text;
@@ -313,16 +314,17 @@ impl Satellites {
         satellite.read(line, part)
     }
 
-    /// How many types the satellite of the row at an index has.
-    #[inline(always)]
-    pub(crate) fn count_at(&self, index: usize) -> usize
-        requires within { index < length self.now.rows }
-        ensures value { (old : RowTail) → slice_get self.now.rows index ≡ Some old
-            → result ≡ length old.cells }
-        ensures few { result ≤ TYPES_LIMIT }
+    /// As many bytes as the printed lines of an epoch of the rows have at most, each with its LF: its first line, and those of the rows.
+    pub(crate) fn printed_room(&self) -> usize
+        requires few { length self.now.rows ≤ SATELLITES_LIMIT }
+        ensures value { result ≡ LINE_LIMIT + 1 + sum (map printed_room self.now.rows) }
     {
-        let (_, satellite) = self.known.get_index(index).unwrap();
-        satellite.count()
+        let mut room = LINE_LIMIT + 1;
+        for index in 0..self.placed {
+            let (_, satellite) = self.known.get_index(index).unwrap();
+            room += NAME_WIDTH + CELL_WIDTH * satellite.count() + 1;
+        }
+        room
     }
 
     /// Prints the line of the row at an index in place of the bytes from another index on, and gives the line's length.
@@ -365,8 +367,8 @@ fn key_at(map: &IndexMap<[u8; NAME_WIDTH], SatelliteHistory>, index: usize) -> [
 {
     // No identifier is there twice: the length's clauses say so.
     let _count = map.len();
-    let (name, _) = map.get_index(index).unwrap();
-    *name
+    // A slice of the identifiers: to ask for the entry tests the index again, which takes 2 instructions.
+    map.keys().as_slice()[index]
 }
 
 /// Whether each of the first so many satellites has as many types as its system has now. Each has the form of an identifier, so its letter

@@ -35,7 +35,9 @@ loop-row-init c =
     let sized = c.in_ok-room.ensures in
     let front = c.in_ok-reserve_front.ensures in
     let made = c.in_ok-make_room.ensures in
-    let text = ap length c.begin_rows.ensures.texts.next_text in
+    let text = ap (λ (h : OpenHistory). length h.next_text) c.begin_rows.ensures.memory in
+    let rooms = ap (λ (h : OpenHistory). h.satellites.rooms) c.begin_rows.ensures.memory in
+    let texts = ap (λ (h : OpenHistory). h.text_room) c.begin_rows.ensures.memory in
     let before = ap (λ (h : OpenHistory). h.text_room) c.self.view_is in
     let known = ap (λ (h : OpenHistory). h.satellites.rooms) c.self.view_is in
     record {
@@ -45,7 +47,7 @@ loop-row-init c =
           same c.begin_rows.ensures.begun);
       room = record {
         text = omega (arith, held.0, held.1);
-        rows = subst (HaveRoom c.args.epoch.now.rows) (sym c.begin_rows.ensures.rooms)
+        rows = subst (HaveRoom c.args.epoch.now.rows) (sym rooms)
             c.in_ok-room.ensures.room;
         lines = omega arith;
         bytes = omega arith;
@@ -55,12 +57,12 @@ loop-row-init c =
       text = omega arith;
       front = c.make_room.ensures.grown.front ∙ front.front;
       reserved = c.make_room.ensures.grown.reserved ∙ front.reserved;
-      rooms_kept = λ name count has. subst (HasRoom name count) (sym c.begin_rows.ensures.rooms)
+      rooms_kept = λ name count has. subst (HasRoom name count) (sym rooms)
           (c.prepare_rows.ensures.asked.rooms name count (subst (HasRoom name count) (sym known) has));
       only = λ name count has. subst (λ (rooms : List (List ℕ × ℕ)). GrowsOnly
           (IsAskedAmong c.args.epoch.now.rows)
           rooms c.prepare_rows.new.satellites.rooms) known c.in_ok-room.ensures.only name count
-          (subst (HasRoom name count) c.begin_rows.ensures.rooms has);
+          (subst (HasRoom name count) rooms has);
       used_lines = omega arith;
       used_bytes = omega arith;
       held = omega arith;

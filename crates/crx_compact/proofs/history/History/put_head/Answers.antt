@@ -11,10 +11,10 @@ few text line is =
     let kept = few_kept (columns text 1 HEAD_WIDTH) in let all = length-columns text 1 HEAD_WIDTH in
     omega (arith, ap length is, kept, all)
 
-pub put-requires-clause-free_bytes : goal.put-requires-clause-free_bytes
-put-requires-clause-free_bytes c =
+pub put-requires : goal.put-requires
+put-requires c =
     let few = few c.deref.result.now c.end_trimmed.result.now c.end_trimmed.ensures.value in
-    let room = c.requires.free_bytes in omega (arith, few, room)
+    record { room = record { line = c.requires.room.line; bytes = omega (arith, few, c.requires.room.bytes) } }
 
 pub returns-in_default-clause-lines : goal.returns-in_default-clause-lines
 unfolding numbers.number_text
@@ -28,7 +28,17 @@ returns-in_default-clause-lines c =
     ∙ sym (end_blanks-more (columns c.args.self.now.text 1 HEAD_WIDTH) 15)
     ∙ ap (printed_head (columns c.args.self.now.text 1 HEAD_WIDTH)) (sym clock))
 
-pub returns-in_default-clause-free_bytes : goal.returns-in_default-clause-free_bytes
-returns-in_default-clause-free_bytes c =
+pub returns-in_default-clause-taken : goal.returns-in_default-clause-taken
+returns-in_default-clause-taken c =
     let few = few c.deref.result.now c.end_trimmed.result.now c.end_trimmed.ensures.value in
-    let put = c.put.ensures.free_bytes in omega (arith, few, put)
+    let put = c.put.ensures.taken in
+    record {
+      free_lines = put.free_lines;
+      free_bytes = omega (arith, few, put.free_bytes);
+      all_lines = put.all_lines;
+      all_bytes = put.all_bytes;
+      spare_lines = put.spare_lines;
+      spare_bytes = put.spare_bytes;
+      reserved = put.reserved;
+      front = put.front;
+    }

@@ -5,7 +5,7 @@ use Rattle.crx_compact.proofs.lines.Lines.put.Goals.{After-put_line}
 use Rattle.crx_compact.proofs.lines.Lines.put.Goals as goal
 
 room : (c : After-put_line) → c.self.inside.count < length c.self.inside.lengths.items
-room c = omega (arith, ap (λ (l : PendingLines). l.free_lines) c.self.view_is)
+room c = omega (arith, c.requires.room.line, ap (λ (l : PendingLines). l.free_lines) c.self.view_is)
 
 -- the line is put after the others, with its length after theirs
 pushed : (c : After-put_line) → Pushed (take c.self.inside.count c.self.inside.lengths.items)
@@ -29,7 +29,7 @@ invariant_of-self c =
     rw (take_at bytes (drop (length bytes) inside.bytes.items) inside.bytes.len (omega arith)) (
       (pushed at).still,
       omega (arith, room at, length-set inside.lengths.items inside.count (length c.args.line.now)),
-      omega (arith, ap length c.deref_mut.ensures.value, free'),
+      omega (arith, c.requires.room.bytes, ap length c.deref_mut.ensures.value, free'),
       c.self.invariant.3,
       front-kept _ _ _ _ _ c.self.invariant.4 (omega arith) (omega arith),
     )

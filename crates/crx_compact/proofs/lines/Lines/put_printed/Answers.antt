@@ -1,9 +1,22 @@
-use Rattle.crx_compact.proofs.Words.{rules, ◌≡◌, ◌+◌, Some, drop, length, set, slice_get, take, ap, arith}
+use Rattle.crx_compact.proofs.Words.{rules, ◌≡◌, ◌+◌, ◌<◌, refl, Some, drop, length, set, slice_get, take, ap, arith}
 use Rattle.crx_compact.proofs.Words.{length-set, take_at, printed_row, PendingLines, RowTail, shown_row}
 use Rattle.crx_compact.proofs.LineTexts.{Pushed, front-kept, row-pushed}
 use Rattle.crx_compact.proofs.RowByRow.{is-there}
 use Rattle.crx_compact.proofs.lines.Lines.put_printed.Goals.{After-print_line-length}
 use Rattle.crx_compact.proofs.lines.Lines.put_printed.Goals as goal
+
+-- there is room for the line's length
+free : (c : After-print_line-length) → c.self.inside.count < length c.self.inside.lengths.items
+free c =
+    let at = is-there c.args.satellites.now.rows c.args.index c.requires.within in
+    omega (
+      arith,
+      (c.requires.room at.item at.there).line,
+      ap (λ (l : PendingLines). l.free_lines) c.self.view_is,
+    )
+
+pub index_mut-requires-2 : goal.index_mut-requires-2
+index_mut-requires-2 c = search (rules, free (goal.at.index_mut-requires-2 c).After-print_line-length)
 
 -- the row's line is put after the others
 pushed : (c : After-print_line-length) (row : RowTail) → slice_get c.args.satellites.now.rows c.args.index ≡
@@ -19,7 +32,7 @@ pushed c row there =
     let inside = c.self.inside in
     row-pushed inside.lengths.items inside.bytes.items _ _ inside.count inside.filled
     c.print_line-length.result _ _
-    c.self.invariant.0 (omega (arith, ap (λ (l : PendingLines). l.free_lines) c.self.view_is))
+    c.self.invariant.0 (free c)
     c.self.invariant.2
     (search (rules, c.print_line-length.ensures.line, printed_row, shown_row, c.deref_mut.ensures.value))
     c.print_line-length.ensures.within
@@ -29,10 +42,10 @@ invariant_of-self c =
     let inside = c.self.inside in
     let bytes = c.print_line-length.new.bytes in
     let at = is-there c.args.satellites.now.rows c.args.index c.requires.within in
-    let view = ap (λ (l : PendingLines). l.free_lines) c.self.view_is in
+    let free = free (goal.at.invariant_of-self c).After-print_line-length in
     rw (take_at bytes (drop (length bytes) inside.bytes.items) inside.bytes.len (omega arith)) (
       (pushed (goal.at.invariant_of-self c).After-print_line-length at.item at.there).still,
-      omega (arith, view, length-set inside.lengths.items inside.count c.print_line-length.result),
+      omega (arith, free, length-set inside.lengths.items inside.count c.print_line-length.result),
       omega (arith, length-set bytes (inside.filled + c.print_line-length.result) 10),
       c.self.invariant.3,
       front-kept _ _ _ _ _ c.self.invariant.4 (omega arith) (omega arith),
@@ -41,3 +54,26 @@ invariant_of-self c =
 pub returns-clause-lines : goal.returns-clause-lines
 returns-clause-lines c = λ old there.
     search (rules, c.self.view_is, take_at, pushed)
+
+pub returns-clause-taken : goal.returns-clause-taken
+returns-clause-taken c = λ old there.
+    let inside = c.self.inside in
+    let bytes = c.print_line-length.new.bytes in
+    let whole = take_at bytes (drop (length bytes) inside.bytes.items) inside.bytes.len (omega arith) in
+    let many = length-set inside.lengths.items inside.count c.print_line-length.result in
+    let long = length-set bytes (inside.filled + c.print_line-length.result) 10 in
+    let line = (c.requires.room old there).line in
+    let room = (c.requires.room old there).bytes in
+    let short = c.print_line-length.ensures.short old there in
+    let lines = ap (λ (l : PendingLines). l.free_lines) c.self.view_is in
+    let view = ap (λ (l : PendingLines). l.free_bytes) c.self.view_is in
+    rw (← c.self.view_is, whole) (record {
+      free_lines = omega (arith, lines, many, line);
+      free_bytes = omega (arith, view, long, room, short);
+      all_lines = omega (arith, many);
+      all_bytes = omega (arith, long);
+      spare_lines = omega (arith, many);
+      spare_bytes = omega (arith, long);
+      reserved = refl;
+      front = refl;
+    })

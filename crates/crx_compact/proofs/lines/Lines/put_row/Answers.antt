@@ -26,19 +26,21 @@ pushed c row there =
     c.self.invariant.0 (omega (arith, ap (λ (l : PendingLines). l.free_lines) c.self.view_is))
     c.self.invariant.2
     (c.write_line-length.ensures.line row there
-    ∙ ap (λ (t : List ℕ). take inside.filled t ++ line) c.deref_mut.ensures.value)
+    ∙ ap (λ (t : List ℕ). take inside.filled t ++ line) c.as_mut_slice-bytes.ensures.value)
     c.write_line-length.ensures.within
 
 pub invariant_of-self : goal.invariant_of-self
 invariant_of-self c =
     let inside = c.self.inside in
-    let bytes = c.write_line-length.new.bytes in
+    let line = c.write_line-length.new.bytes in
+    let bytes : List ℕ = set line (inside.filled + c.write_line-length.result) 10 in
+    let long = length-set line (inside.filled + c.write_line-length.result) 10 in
     let at = is-there c.args.satellites.now.rows c.args.index c.requires.within in
     let view = ap (λ (l : PendingLines). l.free_lines) c.self.view_is in
-    rw (take_at bytes (drop (length bytes) inside.bytes.items) inside.bytes.len (omega arith)) (
+    rw (take_at bytes (drop (length bytes) inside.bytes.items) inside.bytes.len (omega (arith, long))) (
       (pushed (goal.at.invariant_of-self c).After-write_line-length at.item at.there).still,
       omega (arith, view, length-set inside.lengths.items inside.count c.write_line-length.result),
-      omega (arith, length-set bytes (inside.filled + c.write_line-length.result) 10),
+      omega (arith, long),
       c.self.invariant.3,
       front-kept _ _ _ _ _ c.self.invariant.4 (omega arith) (omega arith),
     )
@@ -46,7 +48,9 @@ invariant_of-self c =
 pub returns-clause-lines : goal.returns-clause-lines
 returns-clause-lines c = λ old there.
     let inside = c.self.inside in
-    let bytes = c.write_line-length.new.bytes in
+    let line = c.write_line-length.new.bytes in
+    let bytes : List ℕ = set line (inside.filled + c.write_line-length.result) 10 in
+    let long = length-set line (inside.filled + c.write_line-length.result) 10 in
     let at = (goal.at.returns-clause-lines c).After-write_line-length in
-    let whole = take_at bytes (drop (length bytes) inside.bytes.items) inside.bytes.len (omega arith) in
+    let whole = take_at bytes (drop (length bytes) inside.bytes.items) inside.bytes.len (omega (arith, long)) in
     rw (← c.self.view_is, whole) (pushed at old there).is
