@@ -54,23 +54,6 @@ impl<const WIDTH: usize> Model for Arc<WIDTH> {
     ghost invariant = { λ arc. IsArcInRange WIDTH arc.order arc.count (take arc.count arc.differences) };
 }
 
-/// Puts the differences of order 0, 1, .. at a next value in place of those at the value before it, and gives the
-/// difference of the next order.
-fn advance(differences: &mut [i64], value: i64) -> i64
-    requires few { length differences.old ≤ ORDER_LIMIT }
-    requires below { AreBelow value_bound differences.old }
-    requires next { IsBelow value_bound value }
-    ensures { differences.new ++ result ∷ [] ≡ differences_after value differences.old }
-{
-    let mut next = value;
-    for order in 0..differences.len() {
-        let before = differences[order];
-        differences[order] = next;
-        next -= before;
-    }
-    next
-}
-
 /// Puts the differences at a next value in place of those at the value before it, of order 0 up to the given one, and
 /// gives the difference of that order.
 fn go_on(differences: &mut [i64], order: usize, value: i64) -> i64
@@ -81,9 +64,14 @@ fn go_on(differences: &mut [i64], order: usize, value: i64) -> i64
     ensures after { take (order + 1) differences.new ≡ differences_after value (take order differences.old) }
     ensures highest { result ≡ highest (differences_after value (take order differences.old)) }
 {
-    let highest = advance(&mut differences[..order], value);
-    differences[order] = highest;
-    highest
+    let mut next = value;
+    for index in 0..order {
+        let before = differences[index];
+        differences[index] = next;
+        next -= before;
+    }
+    differences[order] = next;
+    next
 }
 
 /// Puts the differences of order 0 to 3 in place of others.

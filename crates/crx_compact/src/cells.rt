@@ -57,7 +57,7 @@ fn write_value_fast(arc: &mut ObsArc, value: Option<i64>, bytes: &mut [u8], at: 
 
 /// Writes the codes of the next values of some arcs, each followed by a blank, from an index on, gives the index after them, and the arcs
 /// go on. Each value fits its columns, and there are [`CELL_ROOM`] bytes for each. Arcs behind those of the values stay. Part of its
-/// callers, as a call takes 23 instructions for each line.
+/// callers, as a call takes up to 23 instructions for each line.
 #[inline(always)]
 pub fn write_cells(
     arcs: &mut [ObsArc],

@@ -254,11 +254,13 @@ impl Lines {
         ensures taken { (old : RowTail) → slice_get satellites.now.rows index ≡ Some old
             → HasTakenLine (printed_room old) self.old self.new }
     {
-        let length = satellites.print_line(index, &mut self.bytes, self.filled);
-        self.bytes[self.filled + length] = b'\n';
+        let filled = self.filled;
+        let bytes = self.bytes.as_mut_slice();
+        let length = satellites.print_line(index, bytes, filled);
+        bytes[filled + length] = b'\n';
         self.lengths[self.count] = length;
         self.count += 1;
-        self.filled += length + 1;
+        self.filled = filled + (length + 1);
     }
 
     /// Whether no line is pending.

@@ -183,7 +183,7 @@ pub(crate) fn print_row(
 
 /// Reads the cells of a satellite line, and looks at what is after the last. `BadField` comes where a field is neither
 /// blank nor a number, or something is after the last cell; then `BadFlags` where an indicator may not be there. Part of its callers, as
-/// a call takes 14 instructions for each line.
+/// a call takes some 8 instructions for each line.
 #[inline(always)]
 pub(crate) fn read_cells(
     line: &[u8],

@@ -7,7 +7,7 @@ use Rattle.crx_compact.proofs.Words.{value_of_code, arc_of_code, WRITTEN_ORDER, 
 use Rattle.crx_compact.proofs.Words.{drop-set-lt, differences_after, onto_sum, differences_by, highest}
 use Rattle.crx_compact.proofs.Words.{in_range, is_within, OutOfRange}
 use Rattle.std.proofs.Common.{FitsSigned, to_z, of_z, lit≤, lit<}
-use Rattle.std.proofs.lemmas.List.{length-take}
+use Rattle.std.proofs.lemmas.List.{drop_all, length-take, take_all}
 use Rattle.crx_compact.proofs.arcs.Bounds.{ten-more}
 use Rattle.std.proofs.Math.Nat.{pow-le-pow_right}
 use Rattle.crx_compact.specs.Arcs.{IsBelow, AreBelow, value_bound, kept_tail, IsArcInRange, IsNewestWithin}
@@ -112,6 +112,11 @@ advance-step k target ds next h a =
     let later = drop-set-lt (k + 1) ds k next (omega arith) in
     let small : IsBelow (order_bound (suc k)) (next -ℤ slice_index_or ds k (pos 0)) = omega (arith, ints) in
     record { done = grind (arith, common_steps); next_below = rw more small; rest_below = rw later b.rest }
+
+-- all of them
+pub advanced-all : (k : ℕ) (target ds : List ℤ) (next : ℤ) → length ds ≤ k
+    → Advanced k target ds next → ds ++ next ∷ [] ≡ target
+advanced-all k target ds next all a = grind (arith, common_steps, take_all, drop_all)
 
 -- ---- the same up to order 3, at once
 

@@ -1,4 +1,4 @@
-use Rattle.crx_compact.proofs.Words.{rules, ◌≡◌, ◌+◌, ◌<◌, refl, Some, drop, length, set, slice_get, take, ap, arith}
+use Rattle.crx_compact.proofs.Words.{rules, ◌≡◌, ◌+◌, ◌<◌, refl, List, ℕ, Some, drop, length, set, slice_get, take, ap, arith}
 use Rattle.crx_compact.proofs.Words.{length-set, take_at, printed_row, PendingLines, RowTail, shown_row}
 use Rattle.crx_compact.proofs.LineTexts.{Pushed, front-kept, row-pushed}
 use Rattle.crx_compact.proofs.RowByRow.{is-there}
@@ -15,8 +15,8 @@ free c =
       ap (λ (l : PendingLines). l.free_lines) c.self.view_is,
     )
 
-pub index_mut-requires-2 : goal.index_mut-requires-2
-index_mut-requires-2 c = search (rules, free (goal.at.index_mut-requires-2 c).After-print_line-length)
+pub index_mut-requires : goal.index_mut-requires
+index_mut-requires c = search (rules, free (goal.at.index_mut-requires c).After-print_line-length)
 
 -- the row's line is put after the others
 pushed : (c : After-print_line-length) (row : RowTail) → slice_get c.args.satellites.now.rows c.args.index ≡
@@ -34,19 +34,21 @@ pushed c row there =
     c.print_line-length.result _ _
     c.self.invariant.0 (free c)
     c.self.invariant.2
-    (search (rules, c.print_line-length.ensures.line, printed_row, shown_row, c.deref_mut.ensures.value))
+    (search (rules, c.print_line-length.ensures.line, printed_row, shown_row, c.as_mut_slice-bytes.ensures.value))
     c.print_line-length.ensures.within
 
 pub invariant_of-self : goal.invariant_of-self
 invariant_of-self c =
     let inside = c.self.inside in
-    let bytes = c.print_line-length.new.bytes in
+    let line = c.print_line-length.new.bytes in
+    let bytes : List ℕ = set line (inside.filled + c.print_line-length.result) 10 in
+    let long = length-set line (inside.filled + c.print_line-length.result) 10 in
     let at = is-there c.args.satellites.now.rows c.args.index c.requires.within in
     let free = free (goal.at.invariant_of-self c).After-print_line-length in
-    rw (take_at bytes (drop (length bytes) inside.bytes.items) inside.bytes.len (omega arith)) (
+    rw (take_at bytes (drop (length bytes) inside.bytes.items) inside.bytes.len (omega (arith, long))) (
       (pushed (goal.at.invariant_of-self c).After-print_line-length at.item at.there).still,
       omega (arith, free, length-set inside.lengths.items inside.count c.print_line-length.result),
-      omega (arith, length-set bytes (inside.filled + c.print_line-length.result) 10),
+      omega (arith, long),
       c.self.invariant.3,
       front-kept _ _ _ _ _ c.self.invariant.4 (omega arith) (omega arith),
     )
@@ -58,17 +60,18 @@ returns-clause-lines c = λ old there.
 pub returns-clause-taken : goal.returns-clause-taken
 returns-clause-taken c = λ old there.
     let inside = c.self.inside in
-    let bytes = c.print_line-length.new.bytes in
-    let whole = take_at bytes (drop (length bytes) inside.bytes.items) inside.bytes.len (omega arith) in
+    let line = c.print_line-length.new.bytes in
+    let bytes : List ℕ = set line (inside.filled + c.print_line-length.result) 10 in
+    let long = length-set line (inside.filled + c.print_line-length.result) 10 in
+    let whole = take_at bytes (drop (length bytes) inside.bytes.items) inside.bytes.len (omega (arith, long)) in
     let many = length-set inside.lengths.items inside.count c.print_line-length.result in
-    let long = length-set bytes (inside.filled + c.print_line-length.result) 10 in
-    let line = (c.requires.room old there).line in
+    let free = (c.requires.room old there).line in
     let room = (c.requires.room old there).bytes in
     let short = c.print_line-length.ensures.short old there in
     let lines = ap (λ (l : PendingLines). l.free_lines) c.self.view_is in
     let view = ap (λ (l : PendingLines). l.free_bytes) c.self.view_is in
     rw (← c.self.view_is, whole) (record {
-      free_lines = omega (arith, lines, many, line);
+      free_lines = omega (arith, lines, many, free);
       free_bytes = omega (arith, view, long, room, short);
       all_lines = omega (arith, many);
       all_bytes = omega (arith, long);
