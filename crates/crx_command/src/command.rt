@@ -130,20 +130,34 @@ fn titled<'a>(alloc: Global, name: &'a str, about: &'a str, help: &'a str) -> Co
     Command::new(alloc, name).about(about).after_help(help)
 }
 
+/// A flag of one letter.
+fn flag<'a>(alloc: Global, id: &'a str, letter: char, help: &'a str) -> Arg<'a>
+    ensures { HasRule result (flag_rule id.now letter) }
+{
+    Arg::new(alloc, id)
+        .short(letter)
+        .action(ArgAction::SetTrue)
+        .help(help)
+}
+
 /// A command with `-s` and `-f` after its other arguments.
 fn with_flags<'a>(alloc: Global, command: Command<'a>) -> Result<Command<'a>, AllocError>
     ensures { IfOk result (λ c. app_of c ≡ with_rule (with_rule (app_of command.entry)
         (flag_rule (codes "skip") 115)) (flag_rule (codes "force") 102)) }
 {
-    let skip = Arg::new(alloc, "skip")
-        .short('s')
-        .action(ArgAction::SetTrue)
-        .help("Warn about strange epochs and skip them");
-    let force = Arg::new(alloc, "force")
-        .short('f')
-        .action(ArgAction::SetTrue)
-        .help("Overwrite the output file where it exists");
-    command.arg(skip)?.arg(force)
+    command
+        .arg(flag(
+            alloc,
+            "skip",
+            's',
+            "Warn about strange epochs and skip them",
+        ))?
+        .arg(flag(
+            alloc,
+            "force",
+            'f',
+            "Overwrite the output file where it exists",
+        ))
 }
 
 /// `rnx2crx`.

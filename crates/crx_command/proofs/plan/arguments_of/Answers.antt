@@ -42,17 +42,19 @@ returns c =
     let files : length c.unwrap_or-names.result.now - c.count-dashes.result
     ≡ count_by is_file (texts c.unwrap_or-names.result.now) =
     omega (arith, all-counted c.unwrap_or-names.result.now, dashes) in
-    λ i. record {
-      dashes = (dashes ∙ ap (count_by is_dash) names) i;
-      files = (files ∙ ap (count_by is_file) names) i;
-      file = (c.file_among.ensures ∙ ap (find is_file) names) i;
-      every = (go (one_text (found_of c.args.found.now) (codes "every")) refl
-          ∙ ap (option_and_then counted_argument) (one_text-rows (found_of c.args.found.now) (codes "every")))
-          i;
-      skip = c.is_set.ensures i;
-      force = c.is_set-2.ensures i;
-      date = (c.get_str.ensures ∙ first_value-rows (found_of _) (codes "date")) i;
-    }
+    let file = c.file_among.ensures ∙ ap (find is_file) names in
+    let every = go (one_text (found_of c.args.found.now) (codes "every")) refl
+    ∙ ap (option_and_then counted_argument) (one_text-rows (found_of c.args.found.now) (codes "every")) in
+    let date = c.get_str.ensures ∙ first_value-rows (found_of _) (codes "date") in
+    grind (
+      arith,
+      common_steps,
+      dashes ∙ ap (count_by is_dash) names,
+      files ∙ ap (count_by is_file) names,
+      file,
+      every,
+      date,
+    )
   where
     go : (o : Option (List ℕ)) → one_text (found_of c.args.found.now) (codes "every") ≡ o
         → c.get_one.result ≡ option_and_then counted_argument o
