@@ -1,7 +1,8 @@
 #!/usr/bin/env python3
-"""Puts the numbers of the sources into the texts that state them: the limits, how many faults there are, how many definitions one has to
-believe; and what is listed: the faults in the manual page, the options in it, in the page of use and in the completions, the cases in the page
-of the tests. Who changes a limit, or adds a fault, an option or a case, runs `make numbers`; none of these texts needs a hand for it.
+"""Puts the numbers of the sources into the texts that state them: the limits, and how many definitions one has to believe; and what is
+listed: the faults in the manual page, the options in it, in the page of use and in the completions, the cases in the page of the tests. Who
+changes a limit, or adds a fault, an option or a case, runs `make numbers`; none of these texts needs a hand for it. A page says a limit's
+number only where this script puts it; code and tests cite the limit by its name.
 
     docs/stated.py           writes them
     docs/stated.py --check   says which text has another number, and ends with status 1 then
@@ -14,7 +15,7 @@ from dataclasses import dataclass
 from functools import cache
 from pathlib import Path
 
-from chapters import Book, is_definition, lines_of
+from chapters import Book, is_definition
 
 TOP = Path(__file__).resolve().parents[1]
 SOURCES = TOP / "crates/crx_base/src"
@@ -23,53 +24,41 @@ HELP = {"rnx2crx": "help_of_a_compaction", "crx2rnx": "help_of_an_expansion", "c
 
 # Texts that have one of these numbers: the file, and phrases with the name in place of the number.
 STATED = {
-    "README.md": ("DEFINITIONS, in DEFINITION_LINES lines", "on FIRST_DEFINITIONS definitions", "in some USUAL_MEMORY MB of memory"),
+    "README.md": ("The DEFINITIONS definitions of what RINEX", "on FIRST_DEFINITIONS definitions", "in some USUAL_MEMORY MB of memory"),
     "docs/FORMATS.md": (
         "content of more than LINE_LIMIT bytes is fault 1", "| a content of more than LINE_LIMIT bytes |", "input of more than INPUT_LIMIT bytes",
         "after the first INPUT_LIMIT |", "1 to TYPES_LIMIT (bound: profile)", "(0 to SATELLITES_LIMIT)", "1 to DIGITS_LIMIT digits",
         "one digit from 0 to ORDER_LIMIT", "with the order WRITTEN_ORDER;", "orders from 0 to ORDER_LIMIT",
     ),
-    "docs/DECISIONS.md": (
-        "an input beyond INPUT_LIMIT bytes", "`-e` is from 1 to EVERY.", "LINE_KEPT bytes: a content of LINE_LIMIT, a CR",
-        "two epochs of LINES_OF_EPOCH lines of LINE_ENDED bytes", "stand for PRINTED_ENDED bytes of RINEX",
-    ),
+    "docs/DECISIONS.md": ("`-e` is from 1 to EVERY.", "less than READY_LIMIT bytes, and then", "bytes?** Those are READY_LIMIT bytes"),
     "docs/GUARANTEES.md": (
-        "lines of at most LINE_LIMIT bytes", "grows past LINE_LIMIT bytes", "a code from 1 to FAULTS.", "stops after INPUT_LIMIT bytes",
-        "has at most INPUT_LIMIT bytes", "a byte past INPUT_LIMIT (2)", "at most INPUT_LIMIT bytes and the date",
-        "some USUAL_MEMORY MB over usual files, and some GREATEST_MEMORY MB at the limits", "at most PRINTED_ENDED times as long as its input",
-        "row of PRINTED_ENDED bytes",
+        "stops after INPUT_LIMIT bytes", "has at most INPUT_LIMIT bytes", "some USUAL_MEMORY MB over usual files, and some GREATEST_MEMORY MB at the limits",
+        "at most PRINTED_ENDED times as long as its input", "row of PRINTED_ENDED bytes", "unless READY_LIMIT are ready",
     ),
     "docs/LIBRARY.md": (
-        "if the input has at most INPUT_LIMIT bytes and memory", "the input has at most INPUT_LIMIT bytes and the date", "and the input has at most INPUT_LIMIT bytes.",
-        "no line end, at most LINE_KEPT bytes", "over that has some GREATEST_MEMORY MB", "at most PRINTED_ENDED times as long as its input",
+        "if the input has at most INPUT_LIMIT bytes and memory", "at most PRINTED_ENDED times as long as its input", "While READY_LIMIT bytes are ready",
+        "goes on and READY_LIMIT are ready", "is less than READY_LIMIT bytes", "bytes wait, WAITING_MEMORY MB", "over that has some GREATEST_MEMORY MB",
+        "parts of at most READY_LIMIT bytes",
     ),
-    "docs/PLANNING.md": ("has some USUAL_MEMORY MB over usual files", "has some GREATEST_MEMORY MB (bench", "expanded to PRINTED_ENDED times its size"),
-    "docs/USE.md": ("N is from 1 to EVERY", "at most DATE_LIMIT bytes", "lists the FAULTS codes"),
+    "docs/PLANNING.md": ("has some USUAL_MEMORY MB over usual files", "has some GREATEST_MEMORY MB (bench"),
+    "docs/USE.md": ("N is from 1 to EVERY", "at most DATE_LIMIT bytes"),
     "packaging/man/rnxcmp.1": (
         "at most DATE_LIMIT bytes", "Limits: LINE_LIMIT bytes a line", "INPUT_LIMIT bytes of input", "TYPES_LIMIT types of a system",
         "SATELLITES_LIMIT satellites of an epoch", "is from 1 to EVERY.", "N from 1 to EVERY",
     ),
     "packaging/completions/_rnxcmp": ("N from 1 to EVERY", "at most DATE_LIMIT bytes"),
-    "include/rnxcmp.h": (
-        "more than DATE_LIMIT bytes", "of faults, of FAULTS,", "ended the run, from 1 to FAULTS;", "isn't from 1 to FAULTS.", "at most INPUT_LIMIT.",
-        "where INPUT_LIMIT bytes were taken", "of the last line at most LINE_KEPT bytes",
+    "include/rnxcmp.h": ("more than DATE_LIMIT bytes", "at most INPUT_LIMIT.", "at most WAITING_MEMORY MB", "RNXCMP_READY READY_LIMIT"),
+    "include/rnxcmp.f90": ("RNXCMP_READY = READY_LIMIT",),
+    "python/rnxcmp/_calls.py": (
+        "bad date: at most DATE_LIMIT characters", "line, at most DATE_LIMIT printable", "output in parts of at most READY_LIMIT bytes",
     ),
-    "python/rnxcmp/_calls.py": ("number, from 1 to FAULTS;", "bad date: at most DATE_LIMIT characters", "line, at most DATE_LIMIT printable"),
-    "python/rnxcmp/files.py": ("int(found.every) <= EVERY)", "of -e is from 1 to EVERY"),
-    "crates/crx_base/src/fault.rt": ("in messages, from 1 to FAULTS.",),
-    "crates/crx_laws/src/compact_laws.rt": ("at most COMPACT_LINE bytes: TYPES_LIMIT codes",),
-    "crates/crx_laws/src/compact_reading.rt": ("at most SATELLITES_LIMIT satellites of TYPES_LIMIT types",),
-    "crates/crx_laws/src/filter_laws.rt": (
-        "at most SATELLITES_LIMIT rows", "at most TYPES_LIMIT values", "at most INDICATORS a satellite", "SATELLITES_LIMIT satellites of at most TYPES_LIMIT cells",
-        "at most LINES_OF_EPOCH lines, of at most LINE_LIMIT bytes each", "COMPACT_LINE bytes each in compact text", "PRINTED_LINE bytes each in RINEX",
+    "python/rnxcmp/_library.py": ("INTERFACE, READY = 2, READY_LIMIT",),
+    "python/rnxcmp/files.py": (
+        "int(found.every) <= EVERY)", "of -e is from 1 to EVERY", "len(text) <= DATE_LIMIT and", "bad date: at most DATE_LIMIT characters",
     ),
-    "crates/crx_laws/src/salvage.rt": ("at most LINE_LIMIT bytes",),
     "crates/crx_laws/src/sizes.rt": ("at most PRINTED_ENDED times as long as its input", "most_for_a_byte ≡ PRINTED_ENDED }"),
-    "crates/crx_laws/specs/Sizes.antt": ("with its LF, PRINTED_ENDED bytes",),
-    "crates/crx_command/src/command.rt": ("N from 1 to EVERY.", "at most EVERY", "at most DATE_LIMIT bytes"),
-    "crates/crx_command/src/job.rt": ("more than DATE_LIMIT bytes",),
-    "crates/crx_command/src/plan.rt": ("more than DATE_LIMIT bytes",),
-    "crates/rnxcmp_c/src/answer.rt": ("ended the run, from 1 to FAULTS;",),
+    "tests/library/promises.c": ("rnxcmp_words(0)[0] == 0 && rnxcmp_words(NO_FAULT)[0]",),
+    "crates/crx_command/src/command.rt": ("at most EVERY", "at most DATE_LIMIT bytes"),
 }
 
 # A space between two words of a phrase, which may be the end of a line of a comment.
@@ -84,14 +73,21 @@ def faults():
 
 
 @cache
+def limits():
+    """The limits of the formats and of a handle, by their names."""
+    sources = [path.read_text(encoding="utf-8") for path in (SOURCES / "limits.rt", TOP / "crates/rnxcmp_c/src/limits.rt")]
+    return {name: int(number) for name, number in re.findall(r"const (\w+): \w+ = ([\d_]+);", "".join(sources))}
+
+
+@cache
 def numbers():
-    """The limits by their names, and what follows from them: how long the longest lines of an epoch are, and how many it has. FAULTS is how
-    many faults there are, EVERY the greatest N of -e; then how many definitions one has to believe, and how many for the first promise; then the
-    greatest memory of the program over a usual file and at the limits, in MB, by the table of bench/README.md."""
-    limits = (SOURCES / "limits.rt").read_text(encoding="utf-8")
+    """The limits by their names, and what follows from them: the longest line of an epoch with its LF, and the most MB of a text that a handle
+    keeps. NO_FAULT is the first number that no fault has, EVERY the greatest N of -e. Then come how many definitions one has to believe, and how
+    many for the first promise, and the greatest memory of the program over a usual file and at the limits, in MB, by the table of
+    bench/README.md."""
+    found = limits()
     command = (TOP / "crates/crx_command/src/command.rt").read_text(encoding="utf-8")
-    found = {name: int(number) for name, number in re.findall(r"const (\w+): \w+ = ([\d_]+);", limits)}
-    printed = found["NAME_WIDTH"] + found["CELL_WIDTH"] * found["TYPES_LIMIT"]
+    waiting = found["READY_LIMIT"] + 2 * (found["SATELLITES_LIMIT"] + 2) * (found["LINE_LIMIT"] + 1)
     book = Book()
     trusted = book.trusted()
     measured = (TOP / "bench/README.md").read_text(encoding="utf-8")
@@ -99,17 +95,11 @@ def numbers():
     return {
         **found,
         "INPUT_LIMIT": f"2^{found['INPUT_LIMIT'].bit_length() - 1}",
-        "LINES_OF_EPOCH": found["SATELLITES_LIMIT"] + 2,
-        "COMPACT_LINE": 18 * found["TYPES_LIMIT"],
-        "PRINTED_LINE": printed,
-        "PRINTED_ENDED": printed + 1,
-        "LINE_KEPT": found["LINE_LIMIT"] + 2,
-        "LINE_ENDED": found["LINE_LIMIT"] + 1,
-        "INDICATORS": 2 * found["TYPES_LIMIT"],
-        "FAULTS": len(faults()),
+        "PRINTED_ENDED": found["NAME_WIDTH"] + found["CELL_WIDTH"] * found["TYPES_LIMIT"] + 1,
+        "WAITING_MEMORY": f"{waiting / 1e6:.1f}",
+        "NO_FAULT": len(faults()) + 1,
         "EVERY": int(re.search(r"range\(1\.\.=([\d_]+)\)", command)[1]),
         "DEFINITIONS": len(trusted),
-        "DEFINITION_LINES": lines_of(trusted),
         "FIRST_DEFINITIONS": sum(map(is_definition, book.contents[0].items)),
         "USUAL_MEMORY": round(usual / 1000),
         "GREATEST_MEMORY": round(max(at_the_limits) / 1000),
@@ -125,14 +115,26 @@ def with_numbers(phrase):
     return "".join(str(numbers().get(part, part)) for part in named(phrase))
 
 
-def found_in(phrase, text):
-    """The phrase in a text, with whatever numbers; a group for all between two numbers."""
+def found_in(phrase, text, by_name=False):
+    """A text with the numbers of a phrase as they are now, or with their names in place of them, and how often it has the phrase: with
+    whatever numbers; a group for all between two numbers."""
     parts = named(phrase)
     words = [SPACE.join(map(re.escape, re.split(r"\s+", part))) for part in parts[::2]]
     names = parts[1::2]
-    of_numbers = [r"\d+\^\d+" if "^" in str(numbers()[name]) else r"\d+(?![\^\d])" for name in names]
+    of_numbers = [r"\d+\^\d+" if "^" in str(numbers()[name]) else r"\d+(?:\.\d+)?(?![\^\d])" for name in names]
     pattern = "".join(f"({it}){number}" for it, number in zip(words, [*of_numbers, ""]))
-    return re.subn(pattern, lambda m: "".join(group + str(numbers().get(name, "")) for group, name in zip(m.groups(), [*names, ""])), text)
+    shown = [*(name if by_name else str(numbers()[name]) for name in names), ""]
+    return re.subn(pattern, lambda m: "".join(group + number for group, number in zip(m.groups(), shown)), text)
+
+
+def typed_in(file):
+    """The limits whose numbers, or the next two, a page says where no phrase puts them: those of four digits and more, which are that alone."""
+    text = (TOP / file).read_text(encoding="utf-8").replace(",", "")
+    for phrase in STATED.get(file, ()):
+        text, _ = found_in(phrase.replace(",", ""), text, by_name=True)
+    known = {str(limit + more): name for name, limit in limits().items() for more in (0, 1, 2) if limit > 999}
+    known |= {str(numbers()[name]): name for name in ("INPUT_LIMIT", "EVERY", "PRINTED_ENDED")}
+    return [f"{file} says {number}, typed by hand: {known[number]}" for number in re.findall(r"(?<![\d.^])\d+(?:\^\d+)?(?![\d.^])", text) if number in known]
 
 
 def with_codes(text):

@@ -32,7 +32,7 @@
  * What differs from version 1, whose library is librnxcmp.so.1:
  * - rnxcmp_options begins with its own size, and has `max_output`; the status RNXCMP_OUTPUT_LIMIT is new.
  * - rnxcmp_feed answers in `used` how many bytes it took: it takes none while RNXCMP_READY bytes are ready and not taken.
- * - Bytes over 2^40 end the run of a handle; before, they were refused, and the run went on.
+ * - Bytes over the limit of an input end the run of a handle; before, they were refused, and the run went on.
  * - A call whose rooms are small takes no memory for what doesn't fit.
  * - NULL with a length that isn't 0, and NULL for a handle, are RNXCMP_MISUSED; rnxcmp_close takes NULL.
  * - rnxcmp_status_words is new.
@@ -84,7 +84,7 @@ enum {
     RNXCMP_OUTPUT_LIMIT = 7
 };
 
-/* Two numbers of faults, of 22, that aren't of a line; rnxcmp_words has words for all. */
+/* Two numbers of faults that aren't of a line; rnxcmp_words has words for all. */
 enum { RNXCMP_INPUT_TOO_LONG = 2, RNXCMP_OUT_OF_MEMORY = 22 };
 
 /* What is chosen for a run. But for `size` all of it may be 0. */
@@ -120,7 +120,7 @@ typedef struct rnxcmp_answer {
     size_t messages_length;
     /* What the call also returns. */
     uint32_t status;
-    /* The number of the fault that ended the run, from 1 to 22; 0 where none did. */
+    /* The number of the fault that ended the run; 0 where none did. */
     uint32_t code;
 } rnxcmp_answer;
 
@@ -191,8 +191,8 @@ int rnxcmp_check(const void *input, size_t input_length, void *output, size_t ou
  *   at `line` couldn't be stored, both texts but for that message.
  * So there is one message of an error at most. The output never has more than `max_output` bytes (0: no limit).
  *
- * What a handle keeps is bounded, whatever was fed: of the last line at most 8194 bytes, as long as it has no line end (a longer one is
- * too long, whatever follows); what the run needs of earlier lines; what was made and not taken, of each text at most 16.5 MB, and while
+ * What a handle keeps is bounded, whatever was fed: of the last line, as long as it has no line end, a byte more than the longest has
+ * (that is too long, whatever follows); what the run needs of earlier lines; what was made and not taken, of each text at most 16.5 MB, and while
  * the run goes on, of both together, less than RNXCMP_READY bytes and then what one line makes; and of what was taken at most as many
  * bytes as wait.
  */
@@ -226,8 +226,8 @@ int rnxcmp_open_check(rnxcmp_handle *handle, rnxcmp_answer *answer);
  *
  * RNXCMP_GOOD: the run goes on. RNXCMP_FAULT: a fault has ended the run, whatever follows; `code` and `line` say which, and where.
  * RNXCMP_OUTPUT_LIMIT: the output would have more than `max_output` bytes, and the run has ended, whatever follows. In the last two `used`
- * is `length`, or as many as the input may still have, but for RNXCMP_INPUT_TOO_LONG: that comes where 2^40 bytes were taken and there is
- * one more; it has the number of the line after the last LF, and `used` is 0. RNXCMP_OUT_OF_MEMORY has the number of a line whose LF is
+ * is `length`, or as many as the input may still have, but for RNXCMP_INPUT_TOO_LONG: that comes where all that an input may have was taken and
+ * there is a byte more; it has the number of the line after the last LF, and `used` is 0. RNXCMP_OUT_OF_MEMORY has the number of a line whose LF is
  * among the bytes of this call, or that of the fault whose message couldn't be stored.
  */
 int rnxcmp_feed(rnxcmp_handle *handle, const void *bytes, size_t length, size_t *used, rnxcmp_answer *answer);
@@ -249,7 +249,7 @@ int rnxcmp_take(rnxcmp_handle *handle, void *output, size_t output_room, void *m
 /* Closes a handle and frees what it holds; a closed one stays as it is, and NULL does nothing. */
 void rnxcmp_close(rnxcmp_handle *handle);
 
-/* The words of a fault, as "bad satellite" of 13; "" of a number that isn't from 1 to 22. They stay for ever. */
+/* The words of a fault, as "bad satellite" of 13; "" of a number that no fault has. They stay for ever. */
 const char *rnxcmp_words(uint32_t code);
 
 /* The words of a status, as "the output is longer than its room" of 3; "" of a number that isn't from 0 to 7. They stay for ever. */

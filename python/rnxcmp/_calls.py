@@ -35,7 +35,7 @@ class RnxcmpError(Exception):
     """A fault ended a run.
 
     :ivar line: the line of the fault, from 1; 0 where no line was read.
-    :ivar code: the fault's number, from 1 to 22; 0 where it isn't the input's.
+    :ivar code: the fault's number; 0 where it isn't the input's.
     :ivar output: what was written before it.
     """
 

@@ -14,7 +14,7 @@ TOP = Path(__file__).resolve().parents[2]
 sys.path.insert(0, str(TOP / "docs"))
 from chapters import CHAPTERS, Book, is_definition  # noqa: E402
 from sources import crates, functions_in, public_functions  # noqa: E402
-from stated import WRITTEN, faults, wrong_in  # noqa: E402
+from stated import WRITTEN, faults, typed_in, wrong_in  # noqa: E402
 
 CRATE_PAGES = tuple(f"crates/{crate}/README.md" for crate in crates())
 PAGES = ("README.md", "CONTRIBUTING.md", "tests/README.md", "bench/README.md", "samples/README.md") + CRATE_PAGES + tuple(
@@ -227,6 +227,7 @@ def checks(program):
             continue
         yield f"{page}: files", lambda page=page: files_named(page)
         yield f"{page}: targets", lambda page=page: targets_named(page)
+        yield f"{page}: numbers typed by hand", lambda page=page: typed_in(page)
     for page in CRATE_PAGES:
         yield f"{page}: modules", lambda page=page: modules_named(page)
     words = sources()

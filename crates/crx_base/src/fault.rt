@@ -57,7 +57,7 @@ pub enum Fault {
 impl Fault {
     ghost use Rattle.crx_base.specs.meaning.Faults.{code_of_fault, is_skippable, words_of_fault};
 
-    /// The fault's number in messages, from 1 to 22.
+    /// The fault's number in messages, from 1 on.
     pub fn code(&self) -> u8
         ensures value { result ≡ code_of_fault self.now }
     {

@@ -91,7 +91,7 @@ const COMPACT_FILE: &str = "At most one compact file, and `-`, in any order";
 
 const CHECKED_FILE: &str = "At most one observation file, and `-`, which changes nothing";
 
-/// `-e N`, N from 1 to 1000000.
+/// `-e N`.
 fn every_option<'a>(alloc: Global) -> Arg<'a>
     ensures { HasRule result every_rule }
 {

@@ -58,7 +58,7 @@ pub enum UsageFault {
     DashTwice,
     /// There is more than one file name.
     TwoFiles,
-    /// The date has more than 20 bytes, or a byte outside 32 to 126.
+    /// The date has more than `DATE_LIMIT` bytes, or a byte outside 32 to 126.
     BadDate,
     /// The name of the input file, which has no ending from which the output's name is made.
     NoName(Word),

@@ -152,7 +152,7 @@ pub fn words_given(alloc: Global, arguments: Args) -> Result<Vec<String>, AllocE
 /// `Help` holds the help that `-h` or `--help` asks for. Arguments that aren't those of the command
 /// line are `Parse`, with the text for the user. Then come, in this order: `DashTwice` where `-` is
 /// more than once, `TwoFiles` where there is more than one file name, `BadDate` where the date has
-/// more than 20 bytes or a byte outside 32 to 126, and `NoName` where the output would go to a file
+/// more than `DATE_LIMIT` bytes or a byte outside 32 to 126, and `NoName` where the output would go to a file
 /// but the input's name has no ending that can be changed (see [`output_name`]). `Memory` comes where
 /// the system refused memory, at any of these places.
 ///

@@ -4,8 +4,8 @@ use Rattle.crx_base.specs.declared.limits.TheConstants.{NAME_WIDTH, CELL_WIDTH, 
 use Rattle.crx_base.specs.meaning.Choices.{Choices}
 use Rattle.crx_filter.specs.meaning.Expanded.{expanded}
 
--- the longest line of an epoch in RINEX with its LF, 6404 bytes: an identifier, and a cell for each of as
--- many types as a system may have. In compact text a line of one byte, its LF, can stand for it
+-- the longest line of an epoch in RINEX with its LF: an identifier, and a cell for each of as many types as a
+-- system may have. In compact text a line of one byte, its LF, can stand for it
 abbrev pub most_for_a_byte : ℕ
 most_for_a_byte = NAME_WIDTH + CELL_WIDTH * TYPES_LIMIT + 1
 

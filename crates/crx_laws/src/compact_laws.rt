@@ -53,8 +53,8 @@ pub fn printable_codes()
     ensures law { ArePrintable }
 {}
 
-/// Each of the compact lines of an epoch has at most 7200 bytes: 400 codes of 15 characters, each with a blank and two
-/// indicators. So none is longer than a line may be.
+/// Each of the compact lines of an epoch has at most 18 bytes for each of `TYPES_LIMIT` types: a code of 15 characters with a blank,
+/// and two indicators. So none is longer than a line may be.
 pub fn short_lines()
     ensures law { AreShort }
 {}

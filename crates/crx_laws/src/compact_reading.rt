@@ -86,7 +86,8 @@ pub fn steps_read_back()
 {}
 
 /// What is held of an epoch whose lines have come in part, and what a whole one leaves, is within the limits, whatever was read before:
-/// the text of one epoch, two indicators a type, at most ten differences a cell, and at most 999 satellites of 400 types each.
+/// the text of one epoch, two indicators a type, at most `ORDER_LIMIT` differences and a value a cell, and at most `SATELLITES_LIMIT` satellites of
+/// `TYPES_LIMIT` types each.
 pub fn bounded_reading()
     ensures law { ReadAreBounded }
 {}

@@ -97,23 +97,24 @@ pub fn what_was_accepted()
 
 /// What a compaction holds between two lines is bounded, however long the input is: at most seven counts of types; of the last epoch
 /// alone its text, its satellites' indicators, and four numbers for each of their cells; and of an epoch whose lines have come in
-/// part 41 columns, the types at its line, and at most 999 rows, each with an identifier of three characters and at most 400 values, with
-/// two indicators each.
+/// part 41 columns, the types at its line, and at most `SATELLITES_LIMIT` rows, each with an identifier of three characters and at most
+/// `TYPES_LIMIT` values, with two indicators each.
 pub fn bounded_compaction()
     ensures law { (choices : Choices) (lines : List ReadLine)
         → IsBoundedCompaction (compaction_seen choices lines) }
 {}
 
-/// What an expansion holds between two lines is bounded in the same way: of the last epoch its text of at most 3038 characters, at most
-/// 999 satellites of at most 400 cells with ten numbers each, and their indicators, at most 800 a satellite; and of an epoch whose
-/// lines have come in part no more satellites than that, those whose lines are awaited among them.
+/// What an expansion holds between two lines is bounded in the same way: of the last epoch its text, of 41 columns and identifiers, at most
+/// `SATELLITES_LIMIT` satellites of at most `TYPES_LIMIT` cells, each with two indicators and numbers up to order `ORDER_LIMIT`; and of an
+/// epoch whose lines have come in part no more satellites than that, those whose lines are awaited among them.
 pub fn bounded_expansion()
     ensures law { (choices : Choices) (lines : List ReadLine)
         → IsBoundedExpansion (expansion_seen choices lines) }
 {}
 
-/// What is borrowed of a unit is bounded: at most 1001 lines, of at most 8192 bytes each; and where they are those of an epoch, of at most
-/// 7200 bytes each in compact text, and of at most 6403 bytes each in RINEX.
+/// What is borrowed of a unit is bounded: two lines more than `SATELLITES_LIMIT` at most, of at most `LINE_LIMIT` bytes each; and where they
+/// are those of an epoch, of at most 18 bytes for each of `TYPES_LIMIT` types in compact text, and in RINEX of at most an identifier's bytes
+/// and `CELL_WIDTH` for each type.
 pub fn bounded_lines()
     ensures compaction { (choices : Choices) (lines : List ReadLine) → CompactIsReadyToHandOut choices lines }
     ensures expansion { (choices : Choices) (lines : List ReadLine) → ExpandedIsReadyToHandOut choices lines }

@@ -8,8 +8,8 @@ ghost use Rattle.crx_base.specs.meaning.Lines.{lines_text};
 ghost use Rattle.crx_laws.specs.SmallFiles.{file_of_five, with_event, plain_choices, in_full_every_second, with_skip, epoch_at_second, first_block, damaged_by, other_block, last_damaged_by, damaged_before_event};
 
 /// Damage to compact text stays in its block. Of the compact text of a standard file, the lines of one block of epochs, from an epoch in
-/// full up to the next line that begins with `>` or the end, are replaced but for the first, by any lines of at most 8192 bytes that don't begin
-/// with `>`. Then an expansion that skips faults writes exactly all units before the block, then some whole epochs (first those of the
+/// full up to the next line that begins with `>` or the end, are replaced but for the first, by any lines of at most `LINE_LIMIT` bytes that
+/// don't begin with `>`. Then an expansion that skips faults writes exactly all units before the block, then some whole epochs (first those of the
 /// block whose lines still are at its beginning), then exactly all units after it; it reports at most one warning, and its status
 /// is 2 with one and 0 without.
 pub fn damage_stays_in_its_block()

@@ -30,7 +30,7 @@ pub struct Answer {
     pub messages_length: usize,
     /// 0, 1 or 2, as the exit status of the program; or one of the statuses above.
     pub status: u32,
-    /// The number of the fault that ended the run, from 1 to 22; 0 where none did.
+    /// The number of the fault that ended the run; 0 where none did.
     pub code: u32,
 }
 
