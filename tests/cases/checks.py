@@ -59,12 +59,20 @@ class Answer:
     files: dict
 
 
+def limit_of(words):
+    """The number of a limit by its name, or the next one."""
+    name, *more = words.split(" + ")
+    return LIMITS[name] + sum(map(int, more))
+
+
 def text_of(lines, ending):
-    """The bytes of lines with their ends: a short name stands for its lines, and `<to N>` at a line's end for blanks up to N bytes."""
+    """The bytes of lines with their ends: a short name stands for its lines, `<to LIMIT>` at a line's end for blanks up to so many bytes, and
+    `<LIMIT>` for its number; a limit is named as in limits.rt, and one more is `LIMIT + 1`."""
     whole = []
     for line in lines:
-        filled = re.fullmatch(r"(.*)<to (\d+)>", line)
-        whole += SHORT.get(line, [filled[1].ljust(int(filled[2])) if filled else line])
+        named = re.sub(r"<(\w+_LIMIT(?: \+ 1)?)>", lambda m: str(limit_of(m[1])), line)
+        filled = re.fullmatch(r"(.*)<to (.+)>", named)
+        whole += SHORT.get(line, [filled[1].ljust(limit_of(filled[2])) if filled else named])
     return "".join(line + ending for line in whole).encode("latin-1")
 
 
