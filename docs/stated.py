@@ -24,21 +24,27 @@ HELP = {"rnx2crx": "help_of_a_compaction", "crx2rnx": "help_of_an_expansion", "c
 
 # Texts that have one of these numbers: the file, and phrases with the name in place of the number.
 STATED = {
-    "README.md": ("The DEFINITIONS definitions of what RINEX", "on FIRST_DEFINITIONS definitions", "in some USUAL_MEMORY MB of memory"),
+    "README.md": (
+        "keep its rules, C_LINES lines of C", "The DEFINITIONS definitions of what RINEX", "on FIRST_DEFINITIONS definitions",
+        "in some USUAL_MEMORY MB of memory",
+    ),
     "docs/FORMATS.md": (
         "content of more than LINE_LIMIT bytes is fault 1", "| a content of more than LINE_LIMIT bytes |", "input of more than INPUT_LIMIT bytes",
         "after the first INPUT_LIMIT |", "1 to TYPES_LIMIT (bound: profile)", "(0 to SATELLITES_LIMIT)", "1 to DIGITS_LIMIT digits",
         "one digit from 0 to ORDER_LIMIT", "with the order WRITTEN_ORDER;", "orders from 0 to ORDER_LIMIT",
     ),
     "docs/DECISIONS.md": ("`-e` is from 1 to EVERY.", "less than READY_LIMIT bytes, and then", "bytes?** Those are READY_LIMIT bytes"),
+    "docs/ARCHIVES.md": ("plants TOOL_BUGS bugs in the tool",),
     "docs/GUARANTEES.md": (
-        "stops after INPUT_LIMIT bytes", "has at most INPUT_LIMIT bytes", "some USUAL_MEMORY MB over usual files, and some GREATEST_MEMORY MB at the limits",
-        "at most PRINTED_ENDED times as long as its input", "row of PRINTED_ENDED bytes", "unless READY_LIMIT are ready",
+        "has the FIRST_DEFINITIONS definitions", "stops after INPUT_LIMIT bytes", "has at most INPUT_LIMIT bytes",
+        "some USUAL_MEMORY MB over usual files, and some GREATEST_MEMORY MB at the limits", "at most PRINTED_ENDED times as long as its input",
+        "row of PRINTED_ENDED bytes", "unless READY_LIMIT are ready",
     ),
     "docs/LIBRARY.md": (
-        "if the input has at most INPUT_LIMIT bytes and memory", "at most PRINTED_ENDED times as long as its input", "While READY_LIMIT bytes are ready",
-        "goes on and READY_LIMIT are ready", "is less than READY_LIMIT bytes", "bytes wait, WAITING_MEMORY MB", "over that has some GREATEST_MEMORY MB",
-        "parts of at most READY_LIMIT bytes",
+        "if the input has at most INPUT_LIMIT bytes and memory", "at most PRINTED_ENDED times as long as its input",
+        "While READY_LIMIT bytes are ready", "goes on and READY_LIMIT are ready", "is less than READY_LIMIT bytes",
+        "bytes wait, WAITING_MEMORY MB", "over that has some GREATEST_MEMORY MB", "parts of at most READY_LIMIT bytes",
+        "plants LIBRARY_BUGS bugs in the C",
     ),
     "docs/PLANNING.md": ("has some USUAL_MEMORY MB over usual files", "has some GREATEST_MEMORY MB (bench"),
     "docs/USE.md": ("N is from 1 to EVERY", "at most DATE_LIMIT bytes"),
@@ -83,8 +89,8 @@ def limits():
 def numbers():
     """The limits by their names, and what follows from them: the longest line of an epoch with its LF, and the most MB of a text that a handle
     keeps. NO_FAULT is the first number that no fault has, EVERY the greatest N of -e. Then come how many definitions one has to believe, and how
-    many for the first promise, and the greatest memory of the program over a usual file and at the limits, in MB, by the table of
-    bench/README.md."""
+    many for the first promise; the lines of C of the library; the bugs that tests plant; and the greatest memory of the program over a usual
+    file and at the limits, in MB, by the table of bench/README.md."""
     found = limits()
     command = (TOP / "crates/crx_command/src/command.rt").read_text(encoding="utf-8")
     waiting = found["READY_LIMIT"] + 2 * (found["SATELLITES_LIMIT"] + 2) * (found["LINE_LIMIT"] + 1)
@@ -101,6 +107,9 @@ def numbers():
         "EVERY": int(re.search(r"range\(1\.\.=([\d_]+)\)", command)[1]),
         "DEFINITIONS": len(trusted),
         "FIRST_DEFINITIONS": sum(map(is_definition, book.contents[0].items)),
+        "C_LINES": sum(len(path.read_text(encoding="utf-8").splitlines()) for path in (TOP / "library").glob("*.c")),
+        "TOOL_BUGS": sum(1 for _ in (TOP / "tests/mutants/files").rglob("*.edit")),
+        "LIBRARY_BUGS": sum(1 for _ in (TOP / "tests/mutants/library").rglob("*.edit")),
         "USUAL_MEMORY": round(usual / 1000),
         "GREATEST_MEMORY": round(max(at_the_limits) / 1000),
     }
