@@ -19,8 +19,8 @@
 # make debian11-test tries what make dist made in a root of Debian 11, in out/debian11 (tests/debian11)
 # make docs   writes what one reads to know what is claimed, from the sources, into out/docs (docs/READING.md): DEFINITIONS, with the
 #             definitions that the promises stand on, and CONTRACTS, with each public function's clauses, as Markdown and HTML
-# make numbers puts the limits, how many faults there are, and other numbers of the sources into the texts that state them, and writes what
-#             is listed: faults, options (completions, page of use, manual), cases
+# make numbers puts the limits and other numbers of the sources into the texts that state them, and writes what is listed: faults, options
+#             (completions, page of use, manual), cases
 # make install PREFIX=/usr/local
 #             puts the program that make built, its manual pages, completions and other names in place, and the tool for whole files,
 #             for which it builds the library where that isn't built
@@ -110,7 +110,7 @@ debian11-test:
 docs:
 	docs/pages.py out/docs
 
-# the limits, how many faults there are, and other numbers of the sources, in the texts that state them
+# the limits and other numbers of the sources, in the texts that state them
 numbers:
 	docs/stated.py
 
