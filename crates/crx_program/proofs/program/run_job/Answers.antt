@@ -1,5 +1,5 @@
 use Rattle.std.proofs.Common.{◌∙◌, Some, ap, inl, inr, refl, sym}
-use Rattle.crx_program.{proofs.FilterEnds.{from_file, still_not_begun}, specs.meaning.Jobs.CannotRead}
+use Rattle.crx_program.{proofs.FilterEnds.still_not_begun, specs.meaning.Jobs.CannotRead}
 use Rattle.crx_runs.specs.meaning.Spans.{span}
 use Rattle.crx_program.proofs.program.run_job.Goals as goal
 
@@ -11,9 +11,15 @@ returns-in-Ok-open_to_read-clause-done g c =
       | inl begun ↦ inl (
         c.in-Ok.options,
         c.in-Ok.ensures,
-        from_file _ _ _ _ _ _ _ _ (c.in-Some.is ∙ ap Some (sym c.text.ensures.value)) _ _ _ _ _ _
-            c.in-Ok-open_to_read.opened _ refl (opened.name, opened.log, opened.unread) opened.failures
-            opened.ends begun,
+        rw (c.in-Some.is ∙ ap Some (sym c.text.ensures.value)) (
+          c.in-Ok-open_to_read.opened,
+          c.run_to_target-ended.new.reader,
+          refl,
+          (opened.name, opened.log, opened.unread),
+          opened.failures,
+          opened.ends,
+          begun,
+        ),
       )
       | inr not_begun ↦ inr (still_not_begun c.args.job.now messages c.run_to_target-ended.result.status _ _
           not_begun (λ same. (refl, same.1, same.2)))
