@@ -268,12 +268,13 @@ impl<D: Direction> Engine<D> {
     /// Borrows the next of the lines that are ready, without its line end; `None` once none is pending.
     pub fn next_line(&mut self) -> Option<&[u8]>
         ensures value { option_copied result ≡ slice_get (engine_ready D.Direction self.old) 0 }
-        // That line is no longer pending; what is seen of the engine, and the answer that is stored, are the same.
+        // That line is no longer pending; all else of the engine is the same, and of its direction what is seen, known and found.
         ensures* after_borrow { sem 𝓛 (Rests (the_row D.row D.Direction) self.entry (λ new. (engine_ready D.Direction new
             ≡ drop 1 (engine_ready D.Direction self.old)) × (engine_seen D.Direction new ≡ engine_seen D.Direction self.old)
             × ((lines : List InputLine) → D.knows self.old.direction lines → D.knows new.direction lines)
             × ((lines : List InputLine) → D.has_found self.old.direction lines → D.has_found new.direction lines)
-            × (new.answer ≡ self.old.answer))) }
+            × (new ≡ record self.old { direction = new.direction })
+            × (D.parts new.direction ≡ D.parts self.old.direction))) }
     {
         self.direction.next_line()
     }
