@@ -9,7 +9,7 @@ use Rattle.rnxcmp_c.specs.Handles.{Ends, Feeds, ReaderStands, fault_now, status_
 use Rattle.rnxcmp_c.specs.Past.{past_of}
 use Rattle.rnxcmp_c.specs.meaning.Answers.{BothTexts, HasNoMemory, bare_answer, placed}
 use Rattle.rnxcmp_c.specs.meaning.Ended.{ExpansionPromises}
-use Rattle.rnxcmp_c.specs.meaning.Handles.{Task, Check, Expand, HandlePromise, handle_answer, joined_texts, run_for}
+use Rattle.rnxcmp_c.specs.meaning.Handles.{Task, Check, Expand, handle_answer, joined_texts}
 use Rattle.rnxcmp_c.specs.declared.answer.Answer.{Answer}
 use Rattle.rnxcmp_c.specs.declared.answer.TheConstants.{MISUSED, OUTPUT_LIMIT}
 use Rattle.rnxcmp_c.specs.declared.handle.Handle.{Handle}
@@ -84,10 +84,8 @@ WhileItGoesOn handle IsSo =
 abbrev pub OnceItHasEnded : Handle → Type 0 → Type 0
 OnceItHasEnded handle IsSo = ByItsPast handle (λ task fed taken. has_ended handle ≡ true → IsSo)
 
--- a call to open a handle has made a run that goes on, where it answers status 0; else it has done nothing to it, and
--- one that is open stays as it is
-pub record OpensOrKeeps (old new : Handle) (answer : Answer) : Type 0 where
-  pub running : answer.status ≡ 0 → has_ended new ≡ false
+-- a call to open a handle that answers no status 0 has done nothing to it, and one that is open stays as it is
+pub record KeepsHandle (old new : Handle) (answer : Answer) : Type 0 where
   pub unchanged : (answer.status ≡ 0 → ⊥) → IsUnchanged old new
   pub misused : old.is_open ≡ true → answer ≡ bare_answer MISUSED 0 0
 
@@ -103,15 +101,6 @@ ForExpansions handle IsSo = (choices : Choices) (limit : ℕ) (fed : List ℕ) (
 abbrev pub ForChecks : Handle → (List ℕ → Type 0) → Type 0
 ForChecks handle IsSo = (fed : List ℕ) (taken : BothTexts) → HandleStands Check handle fed taken → IsSo fed
 
--- all that was made of both texts: what was taken of them, and then what a handle keeps
-abbrev pub all_made : BothTexts → Handle → BothTexts
-all_made taken handle = joined_texts taken (texts_kept handle)
-
--- a handle is as is promised of a run of this task
-abbrev pub KeepsPromise : Task → Handle → List ℕ → BothTexts → Answer → Type 0
-KeepsPromise task handle fed taken answer =
-    HandlePromise (run_state handle) (run_for task) fed (all_made taken handle) (texts_kept handle) answer
-
 -- this is so where neither memory nor the limit of the output ended a run
 abbrev pub WhereItEnded : Answer → Type 0 → Type 0
 WhereItEnded answer is_so = (HasNoMemory answer → ⊥) → (answer.status ≡ OUTPUT_LIMIT → ⊥) → is_so
@@ -119,7 +108,7 @@ WhereItEnded answer is_so = (HasNoMemory answer → ⊥) → (answer.status ≡ 
 -- all that was made of these bytes is as an expansion promises, some of it taken and the others kept
 abbrev pub KeepsExpansion : Choices → List ℕ → BothTexts → Handle → Answer → Type 0
 KeepsExpansion choices fed taken handle answer =
-    ExpansionPromises choices fed (all_made taken handle) (texts_kept handle) answer
+    ExpansionPromises choices fed (joined_texts taken (texts_kept handle)) (texts_kept handle) answer
 
 -- what became of a handle's run by some bytes
 pub record FeedsHandle (task : Task) (old new : Handle) (fed : List ℕ) (taken : BothTexts) (bytes : List ℕ)

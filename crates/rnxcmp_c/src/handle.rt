@@ -10,9 +10,9 @@ ghost use Rattle.crx_base.specs.declared.fault.Fault.TheVariants.{InputTooLong};
 ghost use Rattle.crx_base.specs.meaning.Faults.{code_of_fault};
 ghost use Rattle.crx_base.specs.meaning.Lines.{lines_of};
 ghost use Rattle.rnxcmp_c.specs.Handles.{IsFresh};
-ghost use Rattle.rnxcmp_c.specs.meaning.Handles.{RunHasEnded, RunWasEnded, StopsAtLimit, StopsForMemory, TakesBytes, Task, joined_texts, run_for};
+ghost use Rattle.rnxcmp_c.specs.meaning.Handles.{HandlePromise, RunHasEnded, RunWasEnded, StopsAtLimit, StopsForMemory, TakesBytes, Task, joined_texts, run_for};
 ghost use Rattle.rnxcmp_c.specs.Holding.{HoldsNothing};
-ghost use Rattle.rnxcmp_c.specs.Opened.{AnswersOpening, ByItsPast, EndsHandle, FeedsHandle, ForChecks, ForExpansions, HandleStands, Holds, IsSoundHandle, IsUnchanged, KeepsExpansion, KeepsPromise, OnceItHasEnded, OpensOrKeeps, RefusesMisuse, WhereItEnded, WhileItGoesOn, all_made, has_ended, messages_kept, output_kept, run_state, texts_kept};
+ghost use Rattle.rnxcmp_c.specs.Opened.{AnswersOpening, ByItsPast, EndsHandle, FeedsHandle, ForChecks, ForExpansions, HandleStands, Holds, IsSoundHandle, IsUnchanged, KeepsExpansion, KeepsHandle, OnceItHasEnded, RefusesMisuse, WhereItEnded, WhileItGoesOn, has_ended, messages_kept, output_kept, run_state, texts_kept};
 ghost use Rattle.rnxcmp_c.specs.declared.reader.Reader.{Reader};
 ghost use Rattle.rnxcmp_c.specs.meaning.Answers.{BothTexts, bare_answer, placed, rooms};
 ghost use Rattle.rnxcmp_c.specs.meaning.Ended.{CheckPromises};
@@ -112,7 +112,8 @@ pub extern "C" fn rnxcmp_c_open_compact(
     ensures opened { result.status ≡ 0
         → HandleStands (Task.Compact (choices_of (Some every) skip date.now) max_output) handle.new []
         (rooms [] []) }
-    ensures kept { OpensOrKeeps handle.old handle.new result }
+    ensures running { result.status ≡ 0 → has_ended handle.new ≡ false }
+    ensures kept { KeepsHandle handle.old handle.new result }
     ensures date { handle.old.is_open ≡ false → is_date date.now ≡ false → result ≡ bare_answer BAD_DATE 0 0 }
     ensures answer { handle.old.is_open ≡ false → is_date date.now ≡ true → AnswersOpening result }
 {
@@ -141,7 +142,8 @@ pub extern "C" fn rnxcmp_c_open_expand(
 ) -> Answer
     ensures opened { result.status ≡ 0 → (choices : Choices) × (choices.skip ≡ skip)
         × HandleStands (Task.Expand choices max_output) handle.new [] (rooms [] []) }
-    ensures kept { OpensOrKeeps handle.old handle.new result }
+    ensures running { result.status ≡ 0 → has_ended handle.new ≡ false }
+    ensures kept { KeepsHandle handle.old handle.new result }
     ensures answer { handle.old.is_open ≡ false → AnswersOpening result }
 {
     if handle.is_open {
@@ -160,7 +162,8 @@ pub extern "C" fn rnxcmp_c_open_expand(
 #[unsafe(no_mangle)]
 pub extern "C" fn rnxcmp_c_open_check(alloc: Global, handle: &mut Handle) -> Answer
     ensures opened { result.status ≡ 0 → HandleStands Task.Check handle.new [] (rooms [] []) }
-    ensures kept { OpensOrKeeps handle.old handle.new result }
+    ensures running { result.status ≡ 0 → has_ended handle.new ≡ false }
+    ensures kept { KeepsHandle handle.old handle.new result }
     ensures answer { handle.old.is_open ≡ false → AnswersOpening result }
 {
     if handle.is_open {
@@ -190,12 +193,13 @@ pub extern "C" fn rnxcmp_c_feed(
     ensures stands { ByItsPast handle.old (λ task fed taken.
         HandleStands task handle.new (fed ++ take used.new bytes.now) taken) }
     ensures promise { WhileItGoesOn handle.old (λ task fed taken.
-        KeepsPromise task handle.new (fed ++ take used.new bytes.now) taken result) }
+        HandlePromise (run_state handle.new) (run_for task) (fed ++ take used.new bytes.now)
+        (joined_texts taken (texts_kept handle.new)) (texts_kept handle.new) result) }
     ensures takes { WhileItGoesOn handle.old (λ task fed taken. TakesBytes (run_for task) fed taken
         bytes.now used.new (texts_kept handle.old) (texts_kept handle.new) (has_ended handle.new)) }
     ensures ended { WhileItGoesOn handle.old (λ task fed taken. has_ended handle.new ≡ true
         → RunWasEnded (run_for task) fed (fed ++ take used.new bytes.now) (drop used.new bytes.now)
-        (all_made taken handle.new) (texts_kept handle.new) result) }
+        (joined_texts taken (texts_kept handle.new)) (texts_kept handle.new) result) }
     ensures misused { OnceItHasEnded handle.old ((result ≡ bare_answer MISUSED 0 0) × (used.new ≡ 0)
         × (handle.new.place.held ≡ handle.old.place.held)) }
     ensures sound { IsSoundHandle handle.new }
@@ -219,11 +223,12 @@ pub extern "C" fn rnxcmp_c_end(alloc: Global, handle: &mut Handle) -> Answer
     ensures ends { ByItsPast handle.old (λ task fed taken.
         EndsHandle task handle.old handle.new fed taken result) }
     ensures stands { ByItsPast handle.old (λ task fed taken. HandleStands task handle.new fed taken) }
-    ensures promise { WhileItGoesOn handle.old (λ task fed taken. KeepsPromise task handle.new fed taken result) }
+    ensures promise { WhileItGoesOn handle.old (λ task fed taken. HandlePromise (run_state handle.new)
+        (run_for task) fed (joined_texts taken (texts_kept handle.new)) (texts_kept handle.new) result) }
     ensures ended { WhileItGoesOn handle.old (λ task fed taken. (has_ended handle.new ≡ true)
         × RunHasEnded (λ ended. (ended ≡ (run_for task).result fed) ⊎ (StopsAtLimit (run_for task) fed ended
-        ⊎ StopsForMemory (λ line. line ≡ length (lines_of fed)) (run_for task) fed ended)) (all_made taken handle.new)
-        (texts_kept handle.new) result) }
+        ⊎ StopsForMemory (λ line. line ≡ length (lines_of fed)) (run_for task) fed ended))
+        (joined_texts taken (texts_kept handle.new)) (texts_kept handle.new) result) }
     ensures misused { OnceItHasEnded handle.old
         ((result ≡ bare_answer MISUSED 0 0) × (handle.new.place.held ≡ handle.old.place.held)) }
     ensures expansion { ForExpansions handle.old (λ choices fed taken. has_ended handle.old ≡ false
@@ -266,9 +271,10 @@ pub extern "C" fn rnxcmp_c_take(
         (take (length messages.old) (messages_kept handle.old.place.held))))) }
     ensures still { run_state handle.new ≡ run_state handle.old }
     ensures promise { ByItsPast handle.old (λ task fed taken. (run_state handle.new ≡ run_state handle.old)
-        × KeepsPromise task handle.new fed (joined_texts taken
+        × HandlePromise (run_state handle.new) (run_for task) fed (joined_texts (joined_texts taken
         (rooms (take (length output.old) (output_kept handle.old.place.held))
-        (take (length messages.old) (messages_kept handle.old.place.held)))) result) }
+        (take (length messages.old) (messages_kept handle.old.place.held)))) (texts_kept handle.new))
+        (texts_kept handle.new) result) }
     ensures expansion { ForExpansions handle.new (λ choices fed taken. has_ended handle.new ≡ true
         → WhereItEnded result ((result.code ≡ code_of_fault InputTooLong → ⊥)
         → KeepsExpansion choices fed taken handle.new result)) }
