@@ -2,6 +2,7 @@
 ghost use Rattle.std.specs.Prelude.{◌<◌};
 
 use crate::expecting::expect_at;
+use crx_base::limits::LINE_LIMIT;
 use crx_lines::{LineReader, Std};
 use std::alloc::Global;
 use std::process::Abort;
@@ -52,7 +53,7 @@ fn expect_each(rt: &impl Abort, alloc: Global, len: usize, step: usize) -> Resul
 
 #[test]
 fn finds_an_lf_at_each_place(rt: HostRuntime) -> Result<(), Fail> {
-    for (len, step) in [(130, 1), (192, 1), (8192, 97)] {
+    for (len, step) in [(130, 1), (192, 1), (LINE_LIMIT, 97)] {
         expect_each(&rt, rt.alloc(), len, step)?;
     }
     Ok(())
