@@ -28,10 +28,10 @@ const CONTINUATION: &[u8] =
     b"       C5Q                                                  SYS / # / OBS TYPES";
 
 const TOO_MANY: &[u8] =
-    b"G  401 C1C                                                  SYS / # / OBS TYPES";
+    b"G  999 C1C                                                  SYS / # / OBS TYPES";
 
 const OTHER_SYSTEM: &[u8] =
-    b"E  400 C1X                                                  SYS / # / OBS TYPES";
+    b"E  200 C1X                                                  SYS / # / OBS TYPES";
 
 const NO_SYSTEM: &[u8] =
     b"X    1 C1C                                                  SYS / # / OBS TYPES";
@@ -105,8 +105,8 @@ const TYPES_LINES: &[Accepted<'_>] = &[
     (TOO_MANY, Err(Fault::BadTypesLine), &[(b'G', 1)], None),
     (NO_SYSTEM, Err(Fault::BadTypesLine), &[(b'G', 1)], None),
     (TWO_TYPES, Ok(()), &[(b'G', 2)], None),
-    (OTHER_SYSTEM, Ok(()), &[(b'G', 2), (b'E', 400)], Some(400)),
-    (ONE_TYPE, Ok(()), &[(b'G', 1), (b'E', 400)], Some(400)),
+    (OTHER_SYSTEM, Ok(()), &[(b'G', 2), (b'E', 200)], Some(200)),
+    (ONE_TYPE, Ok(()), &[(b'G', 1), (b'E', 200)], Some(200)),
 ];
 
 #[test]
