@@ -17,7 +17,7 @@ use Rattle.rnxcmp_c.proofs.Words.{past_of, result_for, texts_made, waiting, Answ
 use Rattle.rnxcmp_c.proofs.Words.{Reader, BothTexts, line_in, RunHasEnded, StopsAtLimit, StopsForMemory}
 use Rattle.rnxcmp_c.proofs.Words.{StopsWhenFull, Task, Compact, Expand, Check, handle_answer, run_for}
 use Rattle.rnxcmp_c.{proofs.Words.{with_one_more, bare_answer, MISUSED}, specs.Handles.fault_now}
-use Rattle.rnxcmp_c.specs.Handles.{status_now, Feeds, Ends}
+use Rattle.rnxcmp_c.specs.Handles.{status_now}
 use Rattle.rnxcmp_c.specs.Opened.{EndsHandle, FeedsHandle, HandleStands, IsSoundHandle}
 use Rattle.rnxcmp_c.specs.{Opened.{has_ended, run_state, texts_kept}, Past.AsksMemory}
 use Rattle.rnxcmp_c.specs.meaning.Handles.{HandlePromise, RunWasEnded, TakesBytes, joined_texts}
@@ -382,36 +382,6 @@ pub handle-promise : {task : Task} {handle : Handle} {fed : List ℕ} {taken : B
     (texts_kept handle) answer
 handle-promise {task} {handle} {fed} {taken} {reader} {answer} stands holds answers =
     rw (holds, answers) (reader-promise task reader (past_of fed taken) (stood holds stands))
-
--- a reader was taken out of a handle, was fed or ended, and was put back
-module _ {old new : Handle} {before after : Reader} (held : Holds old before) (holds : Holds new after)
-    (is_open : new.is_open ≡ true) where
-  pub handle-feeds : {bytes : List ℕ} {used : ℕ} {answer : Answer}
-      → ((task : Task) (past : HandlePast) → ReaderStands task before past
-      → Feeds task before after past bytes used answer)
-      → (task : Task) (fed : List ℕ) (taken : BothTexts) → HandleStands task old fed taken
-      → FeedsHandle task old new fed taken bytes used answer
-  handle-feeds fed_by task fed taken stands = record {
-    before = before;
-    after = after;
-    held = held;
-    holds = holds;
-    is_open = is_open;
-    feeds = fed_by task (past_of fed taken) (stood held stands);
-  }
-
-  pub handle-ends : {answer : Answer}
-      → ((task : Task) (past : HandlePast) → ReaderStands task before past → Ends task before after past
-      answer) → (task : Task) (fed : List ℕ) (taken : BothTexts) → HandleStands task old fed taken
-      → EndsHandle task old new fed taken answer
-  handle-ends ended_by task fed taken stands = record {
-    before = before;
-    after = after;
-    held = held;
-    holds = holds;
-    is_open = is_open;
-    ends = ended_by task (past_of fed taken) (stood held stands);
-  }
 
 -- what is promised of a handle that was fed
 module _ {task : Task} {old new : Handle} {fed : List ℕ} {taken : BothTexts} {bytes : List ℕ} {used : ℕ}

@@ -1,6 +1,6 @@
 use Rattle.std.proofs.Common.{arith}
 use Rattle.rnxcmp_c.proofs.{EndedLemmas.{result-where, run-check, run-expansion}, PromiseLemmas.ends-on}
-use Rattle.rnxcmp_c.proofs.PromiseLemmas.{ends-promise, ends-refused, ends-was_ended, handle-ends}
+use Rattle.rnxcmp_c.proofs.PromiseLemmas.{ends-promise, ends-refused, ends-was_ended}
 use Rattle.rnxcmp_c.proofs.PromiseLemmas.{sound-holds, stood}
 use Rattle.rnxcmp_c.proofs.{Words.{Holds, past_of, Expand, Check}, handle.rnxcmp_c_end.Goals.After-deref_mut}
 use Rattle.rnxcmp_c.proofs.handle.rnxcmp_c_end.Goals as goal
@@ -19,8 +19,15 @@ take_end-answer-requires c =
 
 pub returns-clause-ends : goal.returns-clause-ends
 returns-clause-ends c = λ task fed taken stands.
-    handle-ends (held (goal.at.returns-clause-ends c).After-deref_mut) c.put_in.ensures.reader
-    c.put_in.ensures.opened c.take_end-answer.ensures task fed taken stands
+    let holds = held (goal.at.returns-clause-ends c).After-deref_mut in
+    record {
+      before = c.deref_mut.result.now;
+      after = c.take_end-answer.new.self;
+      held = holds;
+      holds = c.put_in.ensures.reader;
+      is_open = c.put_in.ensures.opened;
+      ends = c.take_end-answer.ensures task (past_of fed taken) (stood holds stands);
+    }
 
 pub returns-clause-stands : goal.returns-clause-stands
 returns-clause-stands c task fed taken stands = ends-on (returns-clause-ends c task fed taken stands) stands

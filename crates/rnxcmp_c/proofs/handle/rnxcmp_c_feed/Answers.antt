@@ -1,6 +1,6 @@
 use Rattle.std.proofs.Common.{arith}
 use Rattle.rnxcmp_c.proofs.PromiseLemmas.{feeds-on, feeds-promise, feeds-refused, feeds-takes}
-use Rattle.rnxcmp_c.proofs.PromiseLemmas.{feeds-was_ended, handle-feeds, sound-holds, stood}
+use Rattle.rnxcmp_c.proofs.PromiseLemmas.{feeds-was_ended, sound-holds, stood}
 use Rattle.rnxcmp_c.proofs.Words.{Holds, past_of}
 use Rattle.rnxcmp_c.proofs.handle.rnxcmp_c_feed.Goals.{After-deref_mut}
 use Rattle.rnxcmp_c.proofs.handle.rnxcmp_c_feed.Goals as goal
@@ -19,8 +19,15 @@ take_in-count-requires c =
 
 pub returns-clause-feeds : goal.returns-clause-feeds
 returns-clause-feeds c = λ task fed taken stands.
-    handle-feeds (held (goal.at.returns-clause-feeds c).After-deref_mut) c.put_in.ensures.reader
-    c.put_in.ensures.opened c.take_in-count.ensures task fed taken stands
+    let holds = held (goal.at.returns-clause-feeds c).After-deref_mut in
+    record {
+      before = c.deref_mut.result.now;
+      after = c.take_in-count.new.self;
+      held = holds;
+      holds = c.put_in.ensures.reader;
+      is_open = c.put_in.ensures.opened;
+      feeds = c.take_in-count.ensures task (past_of fed taken) (stood holds stands);
+    }
 
 pub returns-clause-stands : goal.returns-clause-stands
 returns-clause-stands c = λ task fed taken stands.
