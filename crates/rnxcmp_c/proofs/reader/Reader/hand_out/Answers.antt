@@ -3,14 +3,7 @@ use Rattle.rnxcmp_c.proofs.Words.{take-append-drop}
 use Rattle.rnxcmp_c.proofs.reader.Reader.hand_out.Goals as goal
 
 pub returns-clause-taken : goal.returns-clause-taken
-returns-clause-taken c = record {
-  output = c.hand_out.ensures.room;
-  messages = c.hand_out-2.ensures.room;
-  output_left = c.hand_out.ensures.left;
-  messages_left = c.hand_out-2.ensures.left;
-  same = search rules;
-  answered = search rules;
-}
+returns-clause-taken c = search (rules, c.hand_out.ensures, c.hand_out-2.ensures, c.answer.ensures)
 
 pub returns-clause-stands : goal.returns-clause-stands
 returns-clause-stands c = λ task past stands.
