@@ -13,10 +13,9 @@ use Rattle.clap.specs.{Faults.{walk_fault, word_fault}, Kinds.{IsAmong, Kinds, c
 use Rattle.clap.specs.{Kinds.{range_kinds, request_kinds, value_kinds, values_kinds}}
 use Rattle.clap.specs.{Lexer.short_of, Simple.{App, Shape, argument_words, built}}
 use Rattle.clap.specs.{ValueTests.accepts, Walk.{Held, Names, Row, Rule, Step}}
-use Rattle.clap.specs.Walk.{Text, Waiting, Walk, arg_by_long, arg_by_short}
-use Rattle.clap.specs.Walk.{attached_value, nothing_held, reacted}
-use Rattle.clap.specs.Walk.{subcommand_met, takes_values, walked}
-use Rattle.clap.specs.Walk.{with_default, idle, option, positional}
+use Rattle.clap.specs.Walk.{Text, Waiting, Walk, arg_by_long, arg_by_short, attached_value, nothing_held}
+use Rattle.clap.specs.Walk.{reacted, subcommand_met, takes_values, walked, with_default, idle, option}
+use Rattle.clap.specs.Walk.{positional}
 use Rattle.clap.specs.{declared.builder.{ArgAction.ArgAction, ValueParser.ValueParser}}
 use Rattle.clap.specs.declared.error.ErrorKind.{ErrorKind}
 use Rattle.crx_command.specs.meaning.{Commands.program, Planning.{Plan, by_kind, by_kinds}}

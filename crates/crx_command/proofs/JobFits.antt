@@ -6,7 +6,7 @@ use Rattle.clap.specs.{Faults.fault_of, Kinds.Kinds, Simple.subcommand_of, Walk.
 use Rattle.clap.specs.declared.error.ErrorKind.{ErrorKind}
 use Rattle.crx_base.specs.meaning.Choices.{is_date}
 use Rattle.crx_command.specs.{declared.job.{Job.Job, Tool.Tool}, meaning.{Commands.program, Planning.Given}}
-use Rattle.crx_command.specs.meaning.Planning.{Plan, Help, Run, Refused, by_kind, by_kinds, judged}
+use Rattle.crx_command.specs.meaning.Planning.{Plan, Help, Run, Refused, by_kind, by_kinds, decide}
 use Rattle.crx_command.specs.meaning.Planning.{of_subcommand, plan_of}
 
 -- whether the date of a plan fits, where it has one
@@ -24,11 +24,11 @@ kind_fits = grind arith
 kinds_fit : (kinds : Kinds) (plan : Plan) → fits plan ≡ true → fits (by_kinds kinds plan) ≡ true
 kinds_fit = grind (arith, common_steps, kind_fits)
 
-judged_fits : (tool : Tool) (given : Given) → fits (judged tool given) ≡ true
-judged_fits tool given = grind arith
+decide_fits : (tool : Tool) (given : Given) → fits (decide tool given) ≡ true
+decide_fits tool given = grind arith
 
 subcommand_fits : (found : Option (List ℕ × List Row)) → fits (of_subcommand found) ≡ true
-subcommand_fits = grind (arith, common_steps, judged_fits)
+subcommand_fits = grind (arith, common_steps, decide_fits)
 
 pub job_fits : (words : List (List ℕ)) (job : Job)
     → Run job ≡ plan_of words → option_map_or is_date job.date true ≡ true

@@ -3,7 +3,7 @@
 ghost use Rattle.std.specs.Prelude.{◌≡◌, IfOk, IfSome, drop, find, map, option_map, string_bytes};
 ghost use Rattle.std.specs.Vec.Iter.{into_iter_items};
 ghost use Rattle.clap.specs.Words.{found_of, rows_of};
-ghost use Rattle.crx_command.specs.meaning.Planning.{given_in, is_file, is_set, job_of, judged, plan_of, tool_named};
+ghost use Rattle.crx_command.specs.meaning.Planning.{given_in, is_file, is_set, job_of, decide, plan_of, tool_named};
 ghost use Rattle.crx_command.specs.Planning.{given_of, plan_in};
 
 use crate::command::command;
@@ -103,7 +103,7 @@ fn job(
 
 /// What the arguments of a subcommand ask for: the first refusal that fits, else the run.
 fn decide_for(alloc: Global, tool: Tool, given: &Arguments<'_>) -> Result<Decision, UsageFault>
-    ensures { IfSome (plan_in result) (λ plan. plan ≡ judged tool (given_of given.now)) }
+    ensures { IfSome (plan_in result) (λ plan. plan ≡ decide tool (given_of given.now)) }
 {
     if given.dashes > 1 {
         return Err(UsageFault::DashTwice);

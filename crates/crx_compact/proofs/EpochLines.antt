@@ -93,18 +93,18 @@ named-by_line types before line satellites e =
     record { earlier = types; named = cc (many types past line satellites facts, facts.read) }
 
 -- the same identifiers by other counts of types, which are those of the satellites
-pub named-again : (earlier types : List Count) (seen names : List (List ℕ)) (given : List Satellite)
-    → satellites_named earlier seen names ≡ Ok given
+pub named-again : (earlier types : List Count) (state names : List (List ℕ)) (given : List Satellite)
+    → satellites_named earlier state names ≡ Ok given
     → All (λ (s : Satellite). types_of_satellite types s.name ≡ Some s.count) given
-    → satellites_named types seen names ≡ Ok given
-named-again earlier types seen [] given e typed = e
-named-again earlier types seen (n ∷ ns) given e typed =
-    let others = satellites_named earlier (n ∷ seen) ns in
+    → satellites_named types state names ≡ Ok given
+named-again earlier types state [] given e typed = e
+named-again earlier types state (n ∷ ns) given e typed =
+    let others = satellites_named earlier (n ∷ state) ns in
     let P : Satellite → Type 0 = λ s. types_of_satellite types s.name ≡ Some s.count in
-    let step = satellite-before earlier seen n (types_of_satellite earlier n) others given refl e in
+    let step = satellite-before earlier state n (types_of_satellite earlier n) others given refl e in
     let whole = subst (All P) (sym step.made) typed in
     let here : types_of_satellite types n ≡ Some step.count = All-head P _ step.from whole in
-    let rest = named-again earlier types (n ∷ seen) ns step.from step.first (All-tail P _ step.from whole) in
+    let rest = named-again earlier types (n ∷ state) ns step.from step.first (All-tail P _ step.from whole) in
     cc
 
 -- an epoch line that was read announces its satellites, and names no two of them alike

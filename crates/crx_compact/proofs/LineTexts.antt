@@ -82,7 +82,7 @@ next-line lengths bytes filled past past_bytes count c kept past_within here =
     let next : past_bytes + count + 1 ≡ past_bytes + suc count = omega arith in
     let after : drop (past_bytes + count + 1) text ≡ drop (suc count) rest =
     cc (drop-drop (suc count) past_bytes text) in
-    let seen = drop-taken filled past_bytes bytes (omega (arith, within)) in
+    let state = drop-taken filled past_bytes bytes (omega (arith, within)) in
     record {
       is = cc (take-take count (filled - past_bytes) (drop past_bytes bytes) (omega (arith, within)));
       within = within;

@@ -8,7 +8,7 @@ pub use Rattle.crx_base.specs.declared.limits.TheConstants.{HEAD_WIDTH, NAME_WID
 pub use Rattle.crx_base.specs.declared.limits.TheConstants.{SATELLITES_LIMIT, OBSERVATION_WIDTH, DIGITS_LIMIT}
 pub use Rattle.crx_base.specs.declared.limits.TheConstants.{WRITTEN_ORDER, ORDER_LIMIT, TYPES_LIMIT}
 pub use Rattle.crx_base.specs.meaning.Lines.{is_printable}
-pub use Rattle.crx_base.specs.meaning.Seen.{Content, ReadLine, Overlong}
+pub use Rattle.crx_base.specs.meaning.AsRead.{Content, ReadLine, Overlong}
 pub use Rattle.crx_compact.specs.ArcSteps.{shown_value, arc_of_value, code_of_value, arc_of_code, highest}
 pub use Rattle.crx_compact.specs.ArcSteps.{value_of_code, differences_after, differences_by, onto_sum}
 pub use Rattle.crx_compact.specs.ArcTails.{ArcTail, arc_tail, started_tail, differences_of, values_of}
@@ -67,8 +67,8 @@ pub use Rattle.crx_rinex.proofs.Rows.{satellites_few}
 pub use Rattle.crx_rinex.specs.Epochs.{with_row, begun, is_full_epoch}
 pub use Rattle.crx_rinex.specs.meaning.Epochs.{has_satellite, are_different, IsWholeEpoch, IsSoundEpoch}
 pub use Rattle.crx_rinex.specs.meaning.Observations.{Row, Epoch, value_in}
-pub use Rattle.crx_rinex.specs.meaning.Places.{Place, Here, Wrong, Wanted, then_place, one_line, first_line}
-pub use Rattle.crx_rinex.specs.meaning.Places.{after_lines}
+pub use Rattle.crx_rinex.specs.meaning.Places.{Place, Done, Fails, NeedsMore, then_place, one_line}
+pub use Rattle.crx_rinex.specs.meaning.Places.{first_line, after_lines}
 pub use Rattle.crx_rinex.specs.meaning.Printing.{printed_epoch, printed_head, printed_row}
 pub use Rattle.crx_rinex.specs.meaning.SatelliteLines.{IsSoundRow, HasItsTypes}
 pub use Rattle.crx_text.proofs.Characters.{at, length-columns, at-without_end_blanks, columns-are, at-append}

@@ -88,7 +88,7 @@ columns_with one other = record one {
   count = other.count;
   block = other.block;
   lines = other.lines;
-  part = other.part;
+  scratch = other.scratch;
   alloc = other.alloc;
 }
 
@@ -109,7 +109,7 @@ encoder_with one other = record one {
   program = other.program;
   copied = other.copied;
   made = other.made;
-  part = other.part;
+  scratch = other.scratch;
   before = kept_tail_with one.before other.before;
   rows = rows_with one.rows other.rows;
 }

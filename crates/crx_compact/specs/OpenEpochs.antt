@@ -5,7 +5,7 @@ use Rattle.std.specs.Prelude.{map, Option, Some, None, Result, Ok, Err, if◌the
 use Rattle.std.specs.List.{AllByRecursion}
 use Rattle.std.specs.Option.{option_map}
 use Rattle.crx_text.specs.Texts.{patched}
-use Rattle.crx_base.specs.meaning.Seen.{ReadLine, Content, Overlong}
+use Rattle.crx_base.specs.meaning.AsRead.{ReadLine, Content, Overlong}
 use Rattle.crx_base.specs.declared.limits.TheConstants.{CLOCK_WIDTH, HEAD_WIDTH, NAME_WIDTH, ORDER_LIMIT}
 use Rattle.crx_base.specs.declared.limits.TheConstants.{SATELLITES_LIMIT}
 use Rattle.crx_base.specs.declared.fault.Fault.{Fault}
@@ -13,7 +13,7 @@ use Rattle.crx_base.specs.declared.fault.Fault.TheVariants.{LineTooLong, NotAnEp
 use Rattle.crx_rinex.specs.meaning.Observations.{Epoch}
 use Rattle.crx_rinex.specs.meaning.Printing.{printed_epoch}
 use Rattle.crx_header.specs.meaning.ObservationTypes.{Count}
-use Rattle.crx_rinex.specs.meaning.Places.{Place, Here, Wrong, Wanted}
+use Rattle.crx_rinex.specs.meaning.Places.{Place, Done, Fails, NeedsMore}
 use Rattle.crx_compact.specs.meaning.Sequences.{and_then}
 use Rattle.crx_header.specs.meaning.EpochColumns.{begins_epoch}
 use Rattle.crx_compact.specs.meaning.EpochText.{Satellite}
@@ -181,9 +181,9 @@ next_step begun (Content line) = line_step begun begun.clock line
 
 -- another thing in place of the one that is there
 abbrev pub placed_as : {X Y : Type 0} → (X → Y) → Place X → Place Y
-placed_as f (Here x count) = Here (f x) count
-placed_as f (Wrong offset fault) = Wrong offset fault
-placed_as f Wanted = Wanted
+placed_as f (Done x count) = Done (f x) count
+placed_as f (Fails offset fault) = Fails offset fault
+placed_as f NeedsMore = NeedsMore
 
 -- the tail after an epoch that was read, by the tail before it, or none
 abbrev pub held_after : Option Tail → ReadEpoch → HeldEpoch
@@ -192,19 +192,19 @@ held_after tail read =
 
 -- what is at some lines by the step that the last of them makes, so many being before that one
 abbrev pub place_of_step : ℕ → RawStep → Place HeldEpoch
-place_of_step count (Going begun) = Wanted
-place_of_step count (Whole held) = Here held (suc count)
-place_of_step count (Faulty fault) = Wrong count fault
+place_of_step count (Going begun) = NeedsMore
+place_of_step count (Whole held) = Done held (suc count)
+place_of_step count (Faulty fault) = Fails count fault
 
 -- what is at some lines, step by step, the count of those before them being given
 abbrev pub place_of_steps : ℕ → RawStep → List ReadLine → Place HeldEpoch
-place_of_steps count (Going begun) [] = Wanted
+place_of_steps count (Going begun) [] = NeedsMore
 place_of_steps count (Going begun) (line ∷ lines) = place_of_steps (suc count) (next_step begun line) lines
-place_of_steps count (Whole held) lines = Here held (suc count)
-place_of_steps count (Faulty fault) lines = Wrong count fault
+place_of_steps count (Whole held) lines = Done held (suc count)
+place_of_steps count (Faulty fault) lines = Fails count fault
 
 abbrev pub place_by_steps : List Count → Option Tail → List ReadLine → Place HeldEpoch
-place_by_steps types tail [] = Wanted
+place_by_steps types tail [] = NeedsMore
 place_by_steps types tail (line ∷ lines) = place_of_steps 0 (first_step types tail line) lines
 
 -- the open epoch that some lines make after a step, where they want more
@@ -219,7 +219,7 @@ abbrev pub open_raw_with : List Count → Option Tail → List ReadLine → Opti
 open_raw_with types tail [] = None
 open_raw_with types tail (line ∷ lines) = open_raw_after (first_step types tail line) lines
 
--- ---- what a reader of compact epochs is seen as
+-- ---- the state of a reader of compact epochs
 
 -- between two epochs: the tail of the block so far, or nothing; or an epoch whose lines have come in part
 pub data ColumnsState : Type 0 where

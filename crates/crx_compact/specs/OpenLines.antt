@@ -1,7 +1,7 @@
--- How code stores what a reader of compact epochs is seen as: how far the lines of an epoch have come, and the
+-- How code stores the state of a reader of compact epochs: how far the lines of an epoch have come, and the
 -- history.
 use Rattle.std.specs.Prelude.{◌≡◌, ◌≤◌, ⊤, ◌<◌, ◌==◌, ℕ, List, length, Bool, true, false, Some, None, if◌then◌else◌}
-use Rattle.crx_base.specs.meaning.Seen.{Content, ReadLine}
+use Rattle.crx_base.specs.meaning.AsRead.{Content, ReadLine}
 use Rattle.crx_header.specs.meaning.EpochColumns.{begins_epoch}
 use Rattle.crx_compact.specs.OpenEpochs.{OpenRawEpoch, RawStep, before_clock, step_in, step_with_rows, with_rows}
 use Rattle.crx_compact.specs.OpenEpochs.{ColumnsState, Idle, Reading}

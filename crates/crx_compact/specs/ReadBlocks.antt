@@ -2,10 +2,10 @@
 use Rattle.std.specs.Prelude.{◌≡◌, ◌⊎◌, List, [], ◌∷◌, ◌++◌, length, Option, Some, None, Result, IfOk, IfErr}
 use Rattle.crx_base.specs.declared.fault.Fault.{Fault}
 use Rattle.crx_base.specs.declared.fault.Fault.TheVariants.{OutOfMemory}
-use Rattle.crx_base.specs.meaning.Seen.{ReadLine}
+use Rattle.crx_base.specs.meaning.AsRead.{ReadLine}
 use Rattle.crx_rinex.specs.meaning.Observations.{Epoch}
 use Rattle.crx_header.specs.meaning.ObservationTypes.{Count}
-use Rattle.crx_rinex.specs.meaning.Places.{Here, Wrong}
+use Rattle.crx_rinex.specs.meaning.Places.{Done, Fails}
 use Rattle.crx_compact.specs.meaning.Expansion.{RawEpoch}
 use Rattle.crx_compact.specs.meaning.CompactPlaces.{ReadEpoch, epoch_at}
 use Rattle.crx_compact.specs.Tails.{tail_left}
@@ -22,12 +22,12 @@ IsReading types older lines state = (begun : OpenRawEpoch)
 abbrev pub HasReadTo : List Count → List RawEpoch → List ReadLine → ColumnsState → Option Epoch → Type 0
 HasReadTo types older lines state None = IsReading types older lines state
 HasReadTo types older lines state (Some epoch) =
-    (read : ReadEpoch) × (epoch_at types older lines ≡ Here read (length lines))
+    (read : ReadEpoch) × (epoch_at types older lines ≡ Done read (length lines))
     × (epoch ≡ read.epoch) × (state ≡ Idle (tail_left (read.raw ∷ older)))
 
 -- a line was read after some lines of an epoch: what was made of them all, or the fault of this one, or memory was wanting
 pub record AnswersLine (types : List Count) (older : List RawEpoch) (lines : List ReadLine) (line : ReadLine)
     (state : ColumnsState) (answer : Result (Option Epoch) Fault) : Type 0 where
   pub made : IfOk answer (λ given. HasReadTo types older (lines ++ line ∷ []) state given)
-  pub refused : IfErr answer (λ fault. (epoch_at types older (lines ++ line ∷ []) ≡ Wrong (length lines) fault)
+  pub refused : IfErr answer (λ fault. (epoch_at types older (lines ++ line ∷ []) ≡ Fails (length lines) fault)
       ⊎ (fault ≡ OutOfMemory))

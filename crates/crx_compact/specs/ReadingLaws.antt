@@ -5,11 +5,11 @@ use Rattle.std.specs.List.{list_all, AllByRecursion}
 use Rattle.std.specs.Option.{is_some}
 use Rattle.crx_text.specs.meaning.Texts.{text_difference}
 use Rattle.crx_base.specs.meaning.Lines.{is_printable}
-use Rattle.crx_base.specs.meaning.Seen.{ReadLine, Content}
+use Rattle.crx_base.specs.meaning.AsRead.{ReadLine, Content}
 use Rattle.crx_rinex.specs.meaning.Observations.{Row}
 use Rattle.crx_header.specs.meaning.ObservationTypes.{Count}
 use Rattle.crx_header.specs.ObservationTypes.{AreCounts}
-use Rattle.crx_rinex.specs.meaning.Places.{Place, Here, Wrong, Wanted, then_place}
+use Rattle.crx_rinex.specs.meaning.Places.{Place, Done, Fails, NeedsMore, then_place}
 use Rattle.crx_base.specs.declared.limits.TheConstants.{WRITTEN_ORDER, ORDER_LIMIT}
 use Rattle.crx_rinex.specs.meaning.Epochs.{IsWholeEpoch}
 use Rattle.crx_compact.specs.meaning.Differences.{code_at}
@@ -62,7 +62,7 @@ lines_of_epoch epochs = map Content (compact_epoch epochs)
 -- reader's block is that of the epochs before. Before an epoch in full the reader's block may be any
 pub record EpochReadsBack (types : List Count) (m : Marked) (older : List Marked) (raws : List RawEpoch) : Type 0 where
   pub reads : (rest : List ReadLine)
-      → epoch_at types raws (lines_of_epoch (m ∷ older) ++ rest) ≡ Here (read_of m older) (2 + length m.epoch.rows)
+      → epoch_at types raws (lines_of_epoch (m ∷ older) ++ rest) ≡ Done (read_of m older) (2 + length m.epoch.rows)
   pub block : block_of (raw_of m older ∷ raws) ≡ block_of (raws_of (m ∷ older))
 
 abbrev pub EachReadsBack : Type 0
@@ -78,11 +78,11 @@ text_lines (m ∷ older) = text_lines older ++ compact_epoch (m ∷ older)
 
 -- as many epochs as there are lists of counts of types, newest first: the older ones are read first
 abbrev pub epochs_at : List (List Count) → List ReadLine → Place (List ReadEpoch)
-epochs_at [] lines = Here [] 0
+epochs_at [] lines = Done [] 0
 epochs_at (types ∷ older) lines =
     then_place (epochs_at older lines) lines (λ epochs others.
     then_place (epoch_at types (map (λ (r : ReadEpoch). r.raw) epochs) others) others (λ epoch rest.
-    Here (epoch ∷ epochs) 0))
+    Done (epoch ∷ epochs) 0))
 
 -- an epoch and the counts of types in force at it
 pub record TypedEpoch : Type 0 where
@@ -111,7 +111,7 @@ abbrev pub ReadsBack : Type 0
 ReadsBack =
     (epochs : List TypedEpoch) (rest : List ReadLine) → AreWholeByTypes epochs
     → epochs_at (counts_of epochs) (map Content (text_lines (marked_of epochs)) ++ rest)
-    ≡ Here (reads_of (marked_of epochs)) (length (text_lines (marked_of epochs)))
+    ≡ Done (reads_of (marked_of epochs)) (length (text_lines (marked_of epochs)))
 
 -- ---- what is read
 
@@ -129,7 +129,7 @@ pub record IsSound (older : List RawEpoch) (read : ReadEpoch) (count : ℕ) : Ty
 abbrev pub ReadsSoundly : Type 0
 ReadsSoundly =
     (types : List Count) (older : List RawEpoch) (lines : List ReadLine) (read : ReadEpoch) (count : ℕ)
-    → epoch_at types older lines ≡ Here read count → IsSound older read count
+    → epoch_at types older lines ≡ Done read count → IsSound older read count
 
 -- the marks of a raw epoch's lines are characters 32 to 126
 abbrev pub HasPrintableMarks : RawEpoch → Type 0
@@ -144,7 +144,7 @@ abbrev pub ReadsWholeEpochs : Type 0
 ReadsWholeEpochs =
     (types : List Count) (older : List RawEpoch) (lines : List ReadLine) (read : ReadEpoch) (count : ℕ)
     → AreCounts types → AllByRecursion HasPrintableMarks older
-    → epoch_at types older lines ≡ Here read count → IsGood types read
+    → epoch_at types older lines ≡ Done read count → IsGood types read
 
 -- each of some epochs is whole, by the counts of types that it was read with
 abbrev pub AreGood : List (List Count) → List ReadEpoch → Type 0
@@ -157,7 +157,7 @@ AreGood (types ∷ counts) (read ∷ older) = IsGood types read × AreGood count
 abbrev pub ReadsWholeLists : Type 0
 ReadsWholeLists =
     (counts : List (List Count)) (lines : List ReadLine) (epochs : List ReadEpoch) (count : ℕ)
-    → AllByRecursion AreCounts counts → epochs_at counts lines ≡ Here epochs count → AreGood counts epochs
+    → AllByRecursion AreCounts counts → epochs_at counts lines ≡ Done epochs count → AreGood counts epochs
 
 -- ---- the tail decides
 
@@ -169,14 +169,14 @@ RawByTail raw block = tail_of_block (raw ∷ block) ≡ raw_tail_after (tail_of_
 -- read there
 pub record TailDecides (types : List Count) (older : List RawEpoch) (lines : List ReadLine) : Type 0 where
   pub place : epoch_at types older lines ≡ epoch_after types (tail_left older) lines
-  pub next : (read : ReadEpoch) (count : ℕ) → epoch_at types older lines ≡ Here read count
+  pub next : (read : ReadEpoch) (count : ℕ) → epoch_at types older lines ≡ Done read count
       → tail_left (read.raw ∷ older) ≡ Some (held_after (tail_left older) read).tail
 
 -- a line that begins with > forgets: what is there doesn't depend on older raw epochs, and its epoch is a block's
 -- first
 pub record Forgets (types : List Count) (older : List RawEpoch) (line : List ℕ) (lines : List ReadLine) : Type 0 where
   pub place : epoch_at types older (Content line ∷ lines) ≡ epoch_at types [] (Content line ∷ lines)
-  pub block : (read : ReadEpoch) (count : ℕ) → epoch_at types older (Content line ∷ lines) ≡ Here read count
+  pub block : (read : ReadEpoch) (count : ℕ) → epoch_at types older (Content line ∷ lines) ≡ Done read count
       → block_of (read.raw ∷ older) ≡ read.raw ∷ []
 
 -- the tail of what was written is the tail of its block as it is read
@@ -189,9 +189,9 @@ OneTail =
 
 -- whether more lines are wanted at a place
 abbrev pub is_wanted : {X : Type 0} → Place X → Bool
-is_wanted (Here x count) = false
-is_wanted (Wrong offset fault) = false
-is_wanted Wanted = true
+is_wanted (Done x count) = false
+is_wanted (Fails offset fault) = false
+is_wanted NeedsMore = true
 
 abbrev pub has_no_lines : List ReadLine → Bool
 has_no_lines [] = true
@@ -227,7 +227,7 @@ StepsReadBack =
     → AreWhole types (since_full (m ∷ older))
     → (m.in_full ≡ false → tail ≡ tail_or_nothing older)
     → place_by_steps types tail (lines_of_epoch (m ∷ older))
-    ≡ Here (record { epoch = m.epoch; tail = tail_of (m ∷ older) }) (2 + length m.epoch.rows)
+    ≡ Done (record { epoch = m.epoch; tail = tail_of (m ∷ older) }) (2 + length m.epoch.rows)
 
 -- ---- bounds
 

@@ -1,4 +1,4 @@
--- What columns are seen as: a reader of compact epochs, and for how much it has room.
+-- The state of columns: a reader of compact epochs, and for how much it has room.
 use Rattle.std.specs.Prelude.{◌≡◌, ◌≤◌, ◌<◌, ◌+◌, ℕ, List, [], All, length, map, sum, Result, IsOk, OnOk}
 use Rattle.crx_base.specs.declared.fault.Fault.{Fault}
 use Rattle.crx_base.specs.declared.limits.TheConstants.{LINE_LIMIT}

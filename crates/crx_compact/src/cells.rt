@@ -76,8 +76,8 @@ pub fn write_cells(
     ensures within { result ≤ at + CELL_ROOM * length values.now }
 {
     let mut end = at;
-    for place in 0..values.len() {
-        end = write_value_fast(&mut arcs[place], values[place], bytes, end);
+    for index in 0..values.len() {
+        end = write_value_fast(&mut arcs[index], values[index], bytes, end);
     }
     end
 }
@@ -87,14 +87,14 @@ pub fn write_cells(
 ///
 /// `BadField` comes where the cell is no code, `NoArc` and `OutOfRange` come as by [`ObsArc::apply`].
 #[inline(never)]
-fn read_cell(arcs: &mut [ObsArc], place: usize, text: &[u8]) -> Result<usize, Fault>
-    requires within { place < length arcs.old }
-    ensures { AnswersCell place text.now arcs.old arcs.new result }
+fn read_cell(arcs: &mut [ObsArc], index: usize, text: &[u8]) -> Result<usize, Fault>
+    requires within { index < length arcs.old }
+    ensures { AnswersCell index text.now arcs.old arcs.new result }
 {
     let Ok((code, length)) = code_before_blank(text) else {
         return Err(Fault::BadField);
     };
-    arcs[place].apply(code)?;
+    arcs[index].apply(code)?;
     Ok(length)
 }
 
@@ -122,23 +122,23 @@ fn apply_step(arc: &mut ObsArc, number: i64) -> Option<i64>
 /// Six digits and the blank after them are within a row of eight characters, and are read at once, the minus having been put aside.
 /// That takes 52 instructions; digit by digit one digit takes 60 and six take 115 (bench/README.md).
 #[inline(always)]
-fn read_cell_fast(arcs: &mut [ObsArc], place: usize, text: &[u8]) -> Option<usize>
-    requires within { place < length arcs.old }
-    ensures { MayReadCell place text.now arcs.old arcs.new result }
+fn read_cell_fast(arcs: &mut [ObsArc], index: usize, text: &[u8]) -> Option<usize>
+    requires within { index < length arcs.old }
+    ensures { MayReadCell index text.now arcs.old arcs.new result }
 {
     let Some(first) = text.first() else {
-        arcs[place].end();
+        arcs[index].end();
         return Some(0);
     };
     if *first == b' ' {
-        arcs[place].end();
+        arcs[index].end();
         return Some(1);
     }
     let (number, end) = step_before_blank(text)?;
-    if arcs[place].apply_third(number).is_some() {
+    if arcs[index].apply_third(number).is_some() {
         return Some(end);
     }
-    apply_step(&mut arcs[place], number)?;
+    apply_step(&mut arcs[index], number)?;
     Some(end)
 }
 
@@ -167,11 +167,11 @@ pub(crate) fn read_cells(arcs: &mut [ObsArc], count: usize, line: &[u8]) -> Resu
         cells_read (value_at_place (take count arcs.old)) (cells_of count line.now) ≡ Err fault) }
 {
     let mut rest = line;
-    for place in 0..count {
-        match read_cell_fast(arcs, place, rest) {
+    for index in 0..count {
+        match read_cell_fast(arcs, index, rest) {
             Some(length) => rest = rest_after(rest, length),
             None => {
-                let length = read_cell(arcs, place, rest)?;
+                let length = read_cell(arcs, index, rest)?;
                 rest = rest_after(rest, length);
             }
         }
@@ -190,8 +190,8 @@ pub fn print_cells(arcs: &[ObsArc], flags: &[u8], bytes: &mut [u8], at: usize) -
     ensures end { result ≡ at + CELL_WIDTH * length arcs.now }
 {
     let mut end = at;
-    for place in 0..arcs.len() {
-        obs_print_cell(arcs[place].value(), flags, 2 * place, bytes, end);
+    for index in 0..arcs.len() {
+        obs_print_cell(arcs[index].value(), flags, 2 * index, bytes, end);
         end += CELL_WIDTH;
     }
     end

@@ -4,9 +4,9 @@
 ghost use Rattle.std.specs.Prelude.{◌≡◌, ◌≤◌, ◌<◌, ◌++◌, ◌∷◌, List, if◌then◌else◌, [], Some, None, true, false, length, IfOk, IfErr, OnOk, OnErr, Err, IsOk};
 ghost use Rattle.crx_rinex.specs.Epochs.{is_full_epoch};
 ghost use Rattle.std.specs.Prelude.{◌⊎◌};
-ghost use Rattle.crx_base.specs.meaning.Seen.{Content, ReadLine};
+ghost use Rattle.crx_base.specs.meaning.AsRead.{Content, ReadLine};
 ghost use Rattle.crx_header.specs.meaning.ObservationTypes.{Count};
-ghost use Rattle.crx_rinex.specs.meaning.Places.{Wrong};
+ghost use Rattle.crx_rinex.specs.meaning.Places.{Fails};
 ghost use Rattle.crx_compact.specs.meaning.Expansion.{RawEpoch};
 ghost use Rattle.crx_compact.specs.meaning.CompactPlaces.{epoch_at};
 ghost use Rattle.crx_compact.specs.ReadBlocks.{AnswersLine, IsReading};
@@ -65,7 +65,7 @@ pub struct Columns {
     /// The open epoch's lines that are printed already.
     block: PrintedBlock,
     lines: Lines,
-    part: Text,
+    scratch: Text,
     alloc: Global,
 }
 
@@ -108,7 +108,7 @@ impl Columns {
             count: 0,
             block: PrintedBlock::new(alloc),
             lines: Lines::new(alloc),
-            part: Text::new(),
+            scratch: Text::new(),
             alloc,
         }
     }
@@ -181,7 +181,7 @@ impl Columns {
         let in_full = full || !self.is_kept;
         match self
             .history
-            .encode(&epoch, in_full, &mut self.part, &mut self.lines)
+            .encode(&epoch, in_full, &mut self.scratch, &mut self.lines)
         {
             Ok(()) => {
                 self.is_kept = true;
@@ -217,7 +217,7 @@ impl Columns {
         ensures block { (older : List RawEpoch) → tail_held self.old.state ≡ tail_left older
             → OnOk result (IsReading types.now older (Content line.now ∷ []) self.new.state) }
         ensures block_fault { (older : List RawEpoch) → tail_held self.old.state ≡ tail_left older
-            → IfErr result (λ fault. (epoch_at types.now older (Content line.now ∷ []) ≡ Wrong 0 fault)
+            → IfErr result (λ fault. (epoch_at types.now older (Content line.now ∷ []) ≡ Fails 0 fault)
             ⊎ (fault ≡ Fault.OutOfMemory)) }
         // Where there is room for all that the epoch's lines need, the answer isn't for want of memory. After `Ok` there is; and for printed
         // lines no more is held than before, or than twice what the epoch's need.
@@ -234,7 +234,7 @@ impl Columns {
         }
         match self
             .history
-            .read_epoch_line(types, line, is_named, &mut self.part)
+            .read_epoch_line(types, line, is_named, &mut self.scratch)
         {
             Ok(()) => match self.block.begin(&self.history) {
                 Ok(()) => {
@@ -315,7 +315,7 @@ impl Columns {
             &mut self.stage,
             &mut self.count,
             line,
-            &mut self.part,
+            &mut self.scratch,
         ) {
             Ok(false) => Ok(None),
             Ok(true) => match self.history.epoch() {
@@ -378,10 +378,11 @@ impl Columns {
             &mut self.stage,
             &mut self.count,
             line,
-            &mut self.part,
+            &mut self.scratch,
         ) {
             Ok(is_whole) => {
-                self.block.print(&self.history, self.count, &mut self.part);
+                self.block
+                    .print(&self.history, self.count, &mut self.scratch);
                 if !is_whole {
                     return Ok(false);
                 }
@@ -455,7 +456,7 @@ fn take_line(
     stage: &mut Stage,
     count: &mut usize,
     line: &[u8],
-    part: &mut Text,
+    scratch: &mut Text,
 ) -> Result<bool, Fault>
     requires sound { IsSoundState stage.old count.old history.old }
     requires short { length line.now ≤ LINE_LIMIT }
@@ -476,7 +477,7 @@ fn take_line(
         }
         Stage::Rows => {
             let all = history.count();
-            history.read_row(*count, line, part)?;
+            history.read_row(*count, line, scratch)?;
             *count += 1;
             Ok(*count == all)
         }

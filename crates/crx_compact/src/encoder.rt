@@ -55,7 +55,7 @@ pub struct Encoder {
     copied: CopiedLine,
     /// The compact lines of an epoch.
     made: Lines,
-    part: Box<Text>,
+    scratch: Box<Text>,
     /// The tail of the epochs before the open one, whose rows change the history in place.
     before: KeptTail,
     /// The rows of the open epoch so far.
@@ -103,7 +103,7 @@ impl Encoder {
         let copied = CopiedLine::new(alloc)?;
         let mut made = Lines::new(alloc);
         made.reserve_front(FIRST_LINES)?;
-        let part = Box::new(alloc, Text::new())?;
+        let scratch = Box::new(alloc, Text::new())?;
         Ok(Encoder {
             history: History::new(alloc),
             is_kept: false,
@@ -112,7 +112,7 @@ impl Encoder {
             program,
             copied,
             made,
-            part,
+            scratch,
             before: KeptTail::none(),
             rows: RowsSoFar::new(),
         })
@@ -204,7 +204,7 @@ impl Encoder {
             row.name(),
             row.values(),
             row.flags(),
-            &mut self.part,
+            &mut self.scratch,
             &mut self.made,
         ) {
             Ok(true) => {
@@ -248,7 +248,7 @@ impl Encoder {
     {
         if self
             .history
-            .end_rows(head, &mut self.part, &mut self.made)
+            .end_rows(head, &mut self.scratch, &mut self.made)
             .is_err()
         {
             self.turn = Turn::Made;

@@ -104,7 +104,7 @@ impl History {
         &mut self,
         epoch: &Epoch,
         in_full: bool,
-        part: &mut Text,
+        scratch: &mut Text,
         lines: &mut Lines,
     ) -> Result<(), AllocError>
         requires sound { IsSoundEpoch epoch.now }
@@ -136,11 +136,11 @@ impl History {
         self.begin_rows(in_full);
         let mut index = 0;
         while let Some(row) = epoch.row(index) {
-            self.write_row(&row.name(), row.values(), row.flags(), part, lines)
+            self.write_row(&row.name(), row.values(), row.flags(), scratch, lines)
                 .unwrap();
             index += 1;
         }
-        self.end_rows(epoch.head(), part, lines).unwrap();
+        self.end_rows(epoch.head(), scratch, lines).unwrap();
         Ok(())
     }
 
@@ -169,7 +169,7 @@ impl History {
         name: &[u8; NAME_WIDTH],
         values: &[Option<i64>],
         flags: &[u8],
-        part: &mut Text,
+        scratch: &mut Text,
         lines: &mut Lines,
     ) -> Result<bool, AllocError>
         requires sound { IsSoundRow (row_of_parts name.now values.now flags.now) }
@@ -197,7 +197,7 @@ impl History {
         }
         lines.make_room(1, CELL_ROOM * count + 2 * TYPES_LIMIT + 1)?;
         let last = self.satellites.placed() - 1;
-        lines.put_row(&mut self.satellites, last, values, flags, part);
+        lines.put_row(&mut self.satellites, last, values, flags, scratch);
         Ok(true)
     }
 
@@ -205,7 +205,7 @@ impl History {
     pub(crate) fn end_rows(
         &mut self,
         head: &EpochLine,
-        part: &mut Text,
+        scratch: &mut Text,
         lines: &mut Lines,
     ) -> Result<(), AllocError>
         requires counted { length self.old.satellites.rows ≡ head.now.count }
@@ -223,14 +223,14 @@ impl History {
     {
         self.satellites.end();
         renew_text(&mut self.next_text, head, &self.satellites)?;
-        part.clear();
-        code_print(self.clock.push(head.clock()), part).unwrap();
-        lines.put_front(part.bytes());
+        scratch.clear();
+        code_print(self.clock.push(head.clock()), scratch).unwrap();
+        lines.put_front(scratch.bytes());
         // The texts of two epochs mostly differ by their time alone.
-        part.clear();
-        append_difference(&self.text, &self.next_text, part);
-        part.trim_end_blanks();
-        lines.put_front(part.bytes());
+        scratch.clear();
+        append_difference(&self.text, &self.next_text, scratch);
+        scratch.trim_end_blanks();
+        lines.put_front(scratch.bytes());
         mem::swap(&mut self.text, &mut self.next_text);
         Ok(())
     }
@@ -246,7 +246,7 @@ impl History {
         types: &Types,
         line: &[u8],
         is_named: bool,
-        part: &mut Text,
+        scratch: &mut Text,
     ) -> Result<(), Fault>
         requires short { length line.now ≤ LINE_LIMIT }
         requires between { IsBetween self.old }
@@ -255,11 +255,11 @@ impl History {
         ensures err { IfErr result (IsEpochLineRefused types.now line.now self.old self.new) }
         ensures room { HasNoLessRoom self.old self.new }
     {
-        if patch_bytes(&self.text, line, part).is_err() {
+        if patch_bytes(&self.text, line, scratch).is_err() {
             return Err(Fault::BadEpoch);
         }
         self.satellites.begin();
-        let text = part.bytes();
+        let text = scratch.bytes();
         // Most lines have marks in the columns before the identifiers alone.
         let are_same = is_named & (line.len() <= HEAD_WIDTH);
         read_satellites(types, text, are_same, &mut self.satellites)?;
@@ -312,7 +312,7 @@ impl History {
         &mut self,
         index: usize,
         line: &[u8],
-        part: &mut Text,
+        scratch: &mut Text,
     ) -> Result<(), Fault>
         requires short { length line.now ≤ LINE_LIMIT }
         requires within { index < length self.old.satellites.rows }
@@ -326,7 +326,7 @@ impl History {
         if begins_epoch(line) {
             return Err(Fault::Truncated);
         }
-        self.satellites.read_line(index, line, part)
+        self.satellites.read_line(index, line, scratch)
     }
 
     /// Ends an epoch whose lines have all come.
@@ -365,7 +365,7 @@ impl History {
 
     /// Puts the first line of the epoch that the history shows after others, for which there is room. Most epochs have no clock offset:
     /// then the columns are put as they are, which saves some 130 instructions.
-    pub(crate) fn put_head(&self, lines: &mut Lines, part: &mut Text)
+    pub(crate) fn put_head(&self, lines: &mut Lines, scratch: &mut Text)
         requires announced { is_some (epoch_count (columns self.now.text 1 HEAD_WIDTH)) ≡ true }
         requires room { HasLineRoom (LINE_LIMIT + 1) lines.old }
         ensures lines { lines.new.lines ≡ lines.old.lines
@@ -376,8 +376,8 @@ impl History {
             lines.put(end_trimmed(&self.text, 1, HEAD_WIDTH));
             return;
         };
-        print_head(&self.head(), part);
-        lines.put(part.bytes());
+        print_head(&self.head(), scratch);
+        lines.put(scratch.bytes());
     }
 
     /// Its satellites.
@@ -512,8 +512,8 @@ fn read_names(
     ensures { AnswersSatellites (satellites_named types.now [] (names_in text.now count)) satellites.old
         satellites.new result }
 {
-    for place in 0..count {
-        let name = identifier(text, HEAD_WIDTH + 1 + NAME_WIDTH * place);
+    for index in 0..count {
+        let name = identifier(text, HEAD_WIDTH + 1 + NAME_WIDTH * index);
         let Some(cells) = types_of_satellite(types, &name) else {
             return Err(Fault::BadSatellite);
         };
@@ -537,8 +537,8 @@ fn place_name(
     cells: usize,
 ) -> Result<bool, Fault>
     requires few { count ≤ SATELLITES_LIMIT }
-    requires there { (place : ℕ) × (place < count)
-        × (name ≡ columns text.now (HEAD_WIDTH + 1 + NAME_WIDTH * place) NAME_WIDTH)
+    requires there { (index : ℕ) × (index < count)
+        × (name ≡ columns text.now (HEAD_WIDTH + 1 + NAME_WIDTH * index) NAME_WIDTH)
         × (types_of_satellite types.now name ≡ Some cells) }
     ensures ok { IfOk result (IsPlaced name cells satellites.old satellites.new) }
     ensures back { OnOk result ((is_ok (satellites_named types.now [] (names_in text.now count)) ≡ true)

@@ -217,7 +217,7 @@ impl Lines {
         index: usize,
         values: &[Option<i64>],
         flags: &[u8],
-        part: &mut Text,
+        scratch: &mut Text,
     )
         requires room { HasLineRoom (room_of_types (length values.now)) self.old }
         requires within { index < length satellites.old.rows }
@@ -235,7 +235,7 @@ impl Lines {
         // The place of the bytes and the index are read once: after the line is written they would be read again, by 4 instructions.
         let filled = self.filled;
         let bytes = self.bytes.as_mut_slice();
-        let length = satellites.write_line(index, values, flags, part, bytes, filled);
+        let length = satellites.write_line(index, values, flags, scratch, bytes, filled);
         bytes[filled + length] = b'\n';
         self.lengths[self.count] = length;
         self.count += 1;

@@ -64,7 +64,7 @@ impl PrintedBlock {
 
     /// Prints the first line, and those of the first so many rows, where they aren't there yet.
     #[inline(always)]
-    pub(crate) fn print(&mut self, history: &History, rows: usize, part: &mut Text)
+    pub(crate) fn print(&mut self, history: &History, rows: usize, scratch: &mut Text)
         requires announced { IsAnnounced history.now }
         requires block { IsBlock self.old.has_head self.old.rows self.old.lines history.now }
         requires within { rows ≤ length history.now.satellites.rows }
@@ -75,7 +75,7 @@ impl PrintedBlock {
         ensures room { HasSameRoom self.old.lines self.new.lines }
     {
         if !self.has_head {
-            history.put_head(&mut self.lines, part);
+            history.put_head(&mut self.lines, scratch);
             self.has_head = true;
         }
         while self.rows < rows {

@@ -36,8 +36,8 @@ fn is_among_first(text: &[u8], count: usize, name: [u8; NAME_WIDTH], marks: &[bo
     if !marks[place_of_mark(name)] {
         return false;
     }
-    for place in 0..count {
-        if identifier(text, HEAD_WIDTH + 1 + NAME_WIDTH * place) == name {
+    for index in 0..count {
+        if identifier(text, HEAD_WIDTH + 1 + NAME_WIDTH * index) == name {
             return true;
         }
     }
@@ -53,12 +53,12 @@ fn fault_of_names(types: &Types, text: &[u8], count: usize) -> Option<Fault>
     ensures none { result ≡ None → is_ok (satellites_named types.now [] (names_in text.now count)) ≡ true }
 {
     let mut marks = [false; MARKS];
-    for place in 0..count {
-        let name = identifier(text, HEAD_WIDTH + 1 + NAME_WIDTH * place);
+    for index in 0..count {
+        let name = identifier(text, HEAD_WIDTH + 1 + NAME_WIDTH * index);
         if types_of_satellite(types, &name).is_none() {
             return Some(Fault::BadSatellite);
         }
-        if is_among_first(text, place, name, &marks) {
+        if is_among_first(text, index, name, &marks) {
             return Some(Fault::RepeatedSatellite);
         }
         marks[place_of_mark(name)] = true;
@@ -92,8 +92,8 @@ pub(crate) fn prepare_names(
     if let Some(fault) = fault_of_names(types, text, count) {
         return Err(fault);
     }
-    for place in 0..count {
-        let name = identifier(text, HEAD_WIDTH + 1 + NAME_WIDTH * place);
+    for index in 0..count {
+        let name = identifier(text, HEAD_WIDTH + 1 + NAME_WIDTH * index);
         if let Some(cells) = types_of_satellite(types, &name) {
             if satellites.prepare(name, cells).is_err() {
                 return Err(Fault::OutOfMemory);

@@ -145,27 +145,27 @@ impl SatelliteHistory {
     /// Replaces the indicators by those of a row, and makes it have as many types as the row. Gives the difference of the indicators before
     /// and the row's: mostly they stay, and it is empty; else it is written into a text.
     #[inline(always)]
-    pub(crate) fn mark<'a>(&mut self, count: usize, flags: &[u8], part: &'a mut Text) -> &'a [u8]
+    pub(crate) fn mark<'a>(&mut self, count: usize, flags: &[u8], scratch: &'a mut Text) -> &'a [u8]
         requires fits { FitsFlags count flags.now self.old }
         ensures { IsMarked count flags.now self.old self.new result.now }
     {
         if is_same_text(flags, &self.indicators[..2 * self.count]) {
             return &[];
         }
-        part.clear();
-        self.change_indicators(count, flags, part);
-        part.bytes()
+        scratch.clear();
+        self.change_indicators(count, flags, scratch);
+        scratch.bytes()
     }
 
     /// Does what [`SatelliteHistory::mark`] does, where the indicators change, and the text is empty.
     #[inline(never)]
-    fn change_indicators(&mut self, count: usize, flags: &[u8], part: &mut Text)
+    fn change_indicators(&mut self, count: usize, flags: &[u8], scratch: &mut Text)
         requires fits { FitsFlags count flags.now self.old }
-        requires empty { part.old ≡ [] }
-        ensures { IsMarked count flags.now self.old self.new part.new }
+        requires empty { scratch.old ≡ [] }
+        ensures { IsMarked count flags.now self.old self.new scratch.new }
     {
-        append_difference(&self.indicators[..2 * self.count], flags, part);
-        part.trim_end_blanks();
+        append_difference(&self.indicators[..2 * self.count], flags, scratch);
+        scratch.trim_end_blanks();
         self.resize(count);
         self.copy_indicators(flags);
     }
@@ -208,7 +208,7 @@ impl SatelliteHistory {
     /// The first cell with a fault decides: `BadField` where its text is no code, then `NoArc` and `OutOfRange` as by [`ObsArc::apply`];
     /// then `BadFlags` where the marks hold a character outside 32 to 126, or anything but blanks past two for each type.
     #[inline(always)]
-    pub(crate) fn read(&mut self, line: &[u8], part: &mut Text) -> Result<(), Fault>
+    pub(crate) fn read(&mut self, line: &[u8], scratch: &mut Text) -> Result<(), Fault>
         requires short { length line.now ≤ LINE_LIMIT }
         requires other { begins_epoch line.now ≡ false }
         requires allowed { IsAllowedCount (length self.old.cells) }
@@ -225,7 +225,7 @@ impl SatelliteHistory {
         if marks.is_empty() {
             return Ok(());
         }
-        patch_indicators(&mut self.indicators, self.count, marks, part)
+        patch_indicators(&mut self.indicators, self.count, marks, scratch)
     }
 
     /// The row that it shows, of the satellite with an identifier. `OutOfMemory` is the one refusal.
@@ -237,8 +237,8 @@ impl SatelliteHistory {
     {
         let count = self.count;
         let mut row = SatRow::blank(alloc, name, count)?;
-        for place in 0..count {
-            row.set(place, self.arcs[place].value());
+        for index in 0..count {
+            row.set(index, self.arcs[index].value());
         }
         row.set_flags(&self.indicators[..2 * count]);
         Ok(row)
@@ -312,8 +312,8 @@ fn blank_types(indicators: &mut [u8], arcs: &mut [ObsArc], from: usize, to: usiz
     ensures arcs { take to arcs.new ≡ take from arcs.old ++ replicate (to - from) None }
 {
     put_blanks(&mut indicators[2 * from..2 * to]);
-    for place in from..to {
-        arcs[place].end();
+    for index in from..to {
+        arcs[index].end();
     }
 }
 
@@ -334,7 +334,7 @@ fn patch_indicators(
     indicators: &mut [u8],
     count: usize,
     marks: &[u8],
-    part: &mut Text,
+    scratch: &mut Text,
 ) -> Result<(), Fault>
     requires fitting { 2 * count ≤ length indicators.old }
     requires allowed { IsAllowedCount count }
@@ -349,10 +349,10 @@ fn patch_indicators(
     if !all_blank(after_columns(marks, 2 * count)) {
         return Err(Fault::BadFlags);
     }
-    let Ok(()) = patch_bytes(&indicators[..2 * count], marks, part) else {
+    let Ok(()) = patch_bytes(&indicators[..2 * count], marks, scratch) else {
         return Err(Fault::BadFlags);
     };
-    let text = part.bytes();
+    let text = scratch.bytes();
     put_flags(
         &mut indicators[..2 * count],
         &text[..(2 * count).min(text.len())],

@@ -265,7 +265,7 @@ impl Satellites {
         index: usize,
         values: &[Option<i64>],
         flags: &[u8],
-        part: &mut Text,
+        scratch: &mut Text,
         bytes: &mut [u8],
         at: usize,
     ) -> usize
@@ -283,7 +283,7 @@ impl Satellites {
         ensures kept { KeepsRest self.old self.new }
     {
         let (_, satellite) = self.known.pair_mut(index);
-        let marks = satellite.mark(values.len(), flags, part);
+        let marks = satellite.mark(values.len(), flags, scratch);
         satellite.write_line(values, marks, bytes, at)
     }
 
@@ -294,7 +294,7 @@ impl Satellites {
         &mut self,
         index: usize,
         line: &[u8],
-        part: &mut Text,
+        scratch: &mut Text,
     ) -> Result<(), Fault>
         requires within { index < length self.old.rows }
         requires allowed { (old : RowTail) → slice_get self.old.rows index ≡ Some old
@@ -311,7 +311,7 @@ impl Satellites {
         ensures kept { KeepsRest self.old self.new }
     {
         let (_, satellite) = self.known.pair_mut(index);
-        satellite.read(line, part)
+        satellite.read(line, scratch)
     }
 
     /// As many bytes as the printed lines of an epoch of the rows have at most, each with its LF: its first line, and those of the rows.

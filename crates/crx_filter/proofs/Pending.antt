@@ -1,12 +1,12 @@
 -- What is answered where lines are handed out.
-use Rattle.crx_filter.proofs.Words.{◌≡◌, ℕ, Bool, false, List, [], ◌∷◌, refl, ReadLine, At, Seen, Direction}
-use Rattle.crx_filter.proofs.Words.{Choices, Count, Notice, SeenStep, seen_next, is_again, arith}
+use Rattle.crx_filter.proofs.Words.{◌≡◌, ℕ, Bool, false, List, [], ◌∷◌, refl, ReadLine, At, RunState}
+use Rattle.crx_filter.proofs.Words.{Direction, Choices, Count, Notice, LineStep, state_next, is_again, arith}
 use Rattle.crx_filter.proofs.Words.{common_steps, None, Made, noticed_by, failed_by, step_of_made}
-use Rattle.crx_filter.specs.{Laws.is_ready, LineByLine.{answer_of_lines, Phase, seen_end_with}}
+use Rattle.crx_filter.specs.{Laws.is_ready, LineByLine.{answer_of_lines, Phase, state_end_with}}
 
 -- what is seen in a phase, some types in force and this kept
-abbrev pub seen_in : {O K : Type 0} → Choices → ℕ → Phase O → List Count → K → Seen O K
-seen_in choices number phase types kept =
+abbrev pub state_in : {O K : Type 0} → Choices → ℕ → Phase O → List Count → K → RunState O K
+state_in choices number phase types kept =
     record { choices = choices; number = number; phase = phase; types = types; kept = kept }
 
 pub noticed-lines : (lines : List (List ℕ)) → noticed_by (answer_of_lines lines) ≡ []
@@ -26,28 +26,28 @@ quiet-lines [] e = refl
 quiet-lines (line ∷ lines) e = absurd (cc)
 
 -- only a step that is ready hands out lines
-module _ {U O K : Type 0} (direction : Direction U O K) (before : Seen O K) where
+module _ {U O K : Type 0} (direction : Direction U O K) (before : RunState O K) where
   quiet-made : (line : ReadLine) (made : Made U O)
       → is_ready (step_of_made direction before line made).answer ≡ false
       → (step_of_made direction before line made).handed_out ≡ []
   quiet-made line made quiet = grind (arith, common_steps, quiet-lines)
 
-  pub quiet-next : (line : ReadLine) (step : SeenStep O K) → step ≡ seen_next direction before line
+  pub quiet-next : (line : ReadLine) (step : LineStep O K) → step ≡ state_next direction before line
       → is_ready step.answer ≡ false → step.handed_out ≡ []
   quiet-next line step e quiet = grind (arith, common_steps, quiet-made)
 
 -- nor does an end hand out any where it isn't ready
 module _ {U O K : Type 0} (direction : Direction U O K) (closing : List (List ℕ)) where
-  pub quiet-end : (before : Seen O K) → is_ready (seen_end_with direction closing before).answer ≡ false
-      → (seen_end_with direction closing before).handed_out ≡ []
+  pub quiet-end : (before : RunState O K) → is_ready (state_end_with direction closing before).answer ≡ false
+      → (state_end_with direction closing before).handed_out ≡ []
   quiet-end before quiet = grind (arith, common_steps)
 
 -- where a fault is skipped, the end is the same whatever it would hand out
 module _ {U O K : Type 0} (direction : Direction U O K) (closing other : List (List ℕ)) (at : At)
-    (again : Bool) (ready : List (List ℕ)) (now : Seen O K) where
-  abbrev pub warned : SeenStep O K
+    (again : Bool) (ready : List (List ℕ)) (now : RunState O K) where
+  abbrev pub warned : LineStep O K
   warned = record { answer = Notice at again; handed_out = ready; next = now }
 
-  pub warned-alike : (before : Seen O K) → warned ≡ seen_end_with direction closing before
-      → warned ≡ seen_end_with direction other before
+  pub warned-alike : (before : RunState O K) → warned ≡ state_end_with direction closing before
+      → warned ≡ state_end_with direction other before
   warned-alike before e = grind (arith, common_steps)

@@ -45,7 +45,7 @@ pub use Rattle.crx_base.specs.declared.limits.TheConstants.{CLOCK_WIDTH, HEAD_WI
 pub use Rattle.crx_base.specs.meaning.Faults.{is_skippable}
 pub use Rattle.crx_base.specs.meaning.Lines.{InputLine, lines_text, ends_with_return, Piece, pieces_of}
 pub use Rattle.crx_base.specs.meaning.Lines.{onto_first, without_return, line_of, lines_of, is_long}
-pub use Rattle.crx_base.specs.meaning.Seen.{ReadLine, Content, seen, Overlong}
+pub use Rattle.crx_base.specs.meaning.AsRead.{ReadLine, Content, as_read, Overlong}
 pub use Rattle.crx_filter.proofs.Choosing.{by_bool, false-true}
 pub use Rattle.crx_filter.specs.Anew.{IsBetweenUnits, starts_anew, GoOnAlike}
 pub use Rattle.crx_filter.specs.CheckingParts.{checker_state_with}
@@ -68,26 +68,26 @@ pub use Rattle.crx_header.specs.meaning.Satellites.{types_of_satellite}
 pub use Rattle.crx_lines.specs.Reading.{HasNoFeed}
 pub use Rattle.crx_base.specs.meaning.Choices.{Choices, is_date}
 pub use Rattle.crx_filter.specs.CheckByLine.{checking, no_choices, totals_of, Totals, printed_open}
-pub use Rattle.crx_filter.specs.CheckByLine.{printed_so_far, printed_made, earliest, CheckSeen, check_seen}
+pub use Rattle.crx_filter.specs.CheckByLine.{printed_so_far, printed_made, earliest, CheckState, check_state}
 pub use Rattle.crx_filter.specs.CheckByLine.{check_next, check_by_line, check_reading}
 pub use Rattle.crx_filter.specs.CompactionByLine.{compaction, made_of_epoch_step, rinex_begins, Written}
-pub use Rattle.crx_filter.specs.CompactionByLine.{compaction_seen, rinex_open, written_of, made_of_beginning}
+pub use Rattle.crx_filter.specs.CompactionByLine.{compaction_state, rinex_open, written_of, made_of_beginning}
 pub use Rattle.crx_filter.specs.CompactionByLine.{epoch_written, is_next_row, compact_written, written_kept}
-pub use Rattle.crx_filter.specs.ExpansionByLine.{expansion, expansion_seen, made_of_raw_step, tail_of_items}
+pub use Rattle.crx_filter.specs.ExpansionByLine.{expansion, expansion_state, made_of_raw_step, tail_of_items}
 pub use Rattle.crx_filter.specs.ExpansionByLine.{begins_event, compact_open}
-pub use Rattle.crx_filter.specs.LineByLine.{Direction, Seen, seen_of, Completes, Made, Notice, seen_next}
-pub use Rattle.crx_filter.specs.LineByLine.{seen_end, Phase, InHeader, BetweenUnits, InEvent, InEpoch}
-pub use Rattle.crx_filter.specs.LineByLine.{LookingOn, Ended, Moves, Fails, Repeats, Failed, Step}
+pub use Rattle.crx_filter.specs.LineByLine.{Direction, RunState, state_of, Completes, Made, Notice}
+pub use Rattle.crx_filter.specs.LineByLine.{state_next, state_end, Phase, InHeader, BetweenUnits, InEvent}
+pub use Rattle.crx_filter.specs.LineByLine.{InEpoch, LookingOn, Ended, Moves, Rejects, Repeats, Failed, Step}
 pub use Rattle.crx_filter.specs.LineByLine.{with_records_left, phase_after, types_after, may_skip}
 pub use Rattle.crx_filter.specs.LineByLine.{is_in_epoch, is_skipped_in, kept_in, with_phase, after_warning}
 pub use Rattle.crx_filter.specs.LineByLine.{failed_step, step_of_made, phase_in_body, phase_after_items}
 pub use Rattle.crx_filter.specs.LineByLine.{made_of_unit, made_in, phase_of, Answer, InFirstLines, Closed}
-pub use Rattle.crx_filter.specs.LineByLine.{Ended as SeenEnded, Step as SeenStep}
+pub use Rattle.crx_filter.specs.LineByLine.{Ended as RunEnded, Step as LineStep}
 pub use Rattle.crx_filter.specs.Memory.{takes_memory, may_take_memory}
 pub use Rattle.crx_filter.specs.RinexReaders.{epoch_open, made_at, reader_phase, is_row, CompletedEpoch}
 pub use Rattle.crx_filter.specs.RinexReaders.{IsSameReader, MovesReader, TakesRinexLine, Completed}
 pub use Rattle.crx_filter.specs.RinexStages.{is_open_stage}
-pub use Rattle.crx_filter.specs.Stages.{is_held, seen_stage}
+pub use Rattle.crx_filter.specs.Stages.{is_held, phase_of_stage}
 pub use Rattle.crx_filter.specs.declared.report.Totals.{Totals as Held}
 pub use Rattle.crx_filter.specs.declared.rinex_reader.RinexReader.{RinexReader}
 pub use Rattle.crx_filter.specs.declared.rinex_reader.RinexStep.{RinexStep}
@@ -136,8 +136,8 @@ pub use Rattle.crx_rinex.specs.meaning.EpochPlaces.{beginning_of, opened, epoch_
 pub use Rattle.crx_rinex.specs.meaning.EpochPlaces.{rest_at, unit_begun}
 pub use Rattle.crx_rinex.specs.meaning.Epochs.{IsWholeEpoch, has_satellite}
 pub use Rattle.crx_rinex.specs.meaning.Observations.{Epoch, Row, Epoch as ObservationEpoch}
-pub use Rattle.crx_rinex.specs.meaning.Places.{Place, Here, Wrong, Wanted, one_line, after_lines, then_place}
-pub use Rattle.crx_rinex.specs.meaning.Places.{first_line}
+pub use Rattle.crx_rinex.specs.meaning.Places.{Place, Done, Fails, NeedsMore, one_line, after_lines}
+pub use Rattle.crx_rinex.specs.meaning.Places.{then_place, first_line}
 pub use Rattle.crx_rinex.specs.meaning.Printing.{printed_epoch, printed_row}
 pub use Rattle.crx_rinex.specs.meaning.SatelliteLines.{IsSoundRow, row_of}
 pub use Rattle.crx_rinex.specs.meaning.Units.{Unit as FileUnit, Observation, HeaderLine, EventLine}

@@ -1,7 +1,7 @@
 -- Where the reading of compact text starts anew: what is from there on depends on the observation types in force,
 -- and on the lines from there on alone. Lists of items have the newest first.
 use Rattle.std.specs.Prelude.{◌≡◌, ℕ, zero, suc, Bool, true, false, ◌&&◌, List, [], ◌∷◌, ◌++◌, if◌then◌else◌}
-use Rattle.crx_base.specs.meaning.Seen.{ReadLine, Content, Overlong}
+use Rattle.crx_base.specs.meaning.AsRead.{ReadLine, Content, Overlong}
 use Rattle.crx_header.specs.meaning.EpochColumns.{begins_epoch, is_event_line}
 use Rattle.crx_compact.specs.meaning.CompactPlaces.{ReadEpoch}
 use Rattle.crx_filter.specs.meaning.Items.{Item, header_has_ended, records_announced, records_left, types_in_force}

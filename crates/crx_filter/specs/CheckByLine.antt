@@ -1,8 +1,8 @@
--- A check line by line: what it has seen after some lines, and what one line more makes of that. It holds no more than
+-- A check line by line: its state after some lines, and what one line more makes of that. It holds no more than
 -- the reading does, and four totals. Lists of items have the newest first.
 use Rattle.std.specs.Prelude.{ℕ, Bool, false, ◌+◌, List, [], ◌∷◌, ◌++◌, length, map, Option, Some, None, if◌then◌else◌}
 use Rattle.crx_base.specs.meaning.Lines.{InputLine}
-use Rattle.crx_base.specs.meaning.Seen.{ReadLine, seen}
+use Rattle.crx_base.specs.meaning.AsRead.{ReadLine, as_read}
 use Rattle.crx_rinex.specs.meaning.Observations.{Epoch, observations_in}
 use Rattle.crx_rinex.specs.meaning.Units.{Unit, HeaderLine, EventLine, EventRecord, Observation, printed_unit}
 use Rattle.crx_rinex.specs.meaning.Printing.{printed_epoch}
@@ -13,8 +13,8 @@ use Rattle.crx_filter.specs.meaning.Items.{Item, Accepted, Warned, is_at_start}
 use Rattle.crx_filter.specs.meaning.Reading.{Reading}
 use Rattle.crx_filter.specs.meaning.Compacted.{epochs_accepted}
 use Rattle.crx_filter.specs.meaning.Directions.{rinex_reading}
-use Rattle.crx_filter.specs.LineByLine.{Phase, InEpoch, Seen, Made, Completes, Moves, Fails, Repeats, Direction, Step}
-use Rattle.crx_filter.specs.LineByLine.{made_in, seen_next, seen_of, phase_of}
+use Rattle.crx_filter.specs.LineByLine.{Phase, InEpoch, RunState, Made, Completes, Moves, Rejects, Repeats, Direction, Step}
+use Rattle.crx_filter.specs.LineByLine.{made_in, state_next, state_of, phase_of}
 use Rattle.crx_filter.specs.CompactionByLine.{rinex_begins, rinex_continues, rinex_open, is_before_header, is_next_row}
 use Rattle.crx_filter.specs.meaning.Standard.{Findings, printed_items, version_in, events_accepted}
 use Rattle.crx_filter.specs.meaning.Standard.{observations_accepted, is_standard_line, first_not_standard}
@@ -37,14 +37,14 @@ totals_with totals is_first (EventRecord line) = totals
 totals_with totals is_first (Observation epoch) =
     record totals { epochs = totals.epochs + 1; observations = totals.observations + observations_in epoch }
 
-abbrev pub totals_after : Seen OpenEpoch Totals → Unit Epoch → Totals
-totals_after seen unit = totals_with seen.kept (is_before_header seen.phase) unit
+abbrev pub totals_after : RunState OpenEpoch Totals → Unit Epoch → Totals
+totals_after state unit = totals_with state.kept (is_before_header state.phase) unit
 
 -- the totals once a line has made this
 abbrev pub totals_made : Totals → Bool → Made Epoch OpenEpoch → Totals
 totals_made totals is_first (Completes unit) = totals_with totals is_first unit
 totals_made totals is_first (Moves phase) = totals
-totals_made totals is_first (Fails fault) = totals
+totals_made totals is_first (Rejects fault) = totals
 totals_made totals is_first (Repeats at) = totals
 
 -- a check's reading as a direction: it reads as compaction does, keeps the totals, and a unit's lines are those that
@@ -58,12 +58,12 @@ checking = record {
   kept_after = totals_after;
   kept_open = λ kept. kept;
   emptied = λ kept. kept;
-  written = λ seen. printed_unit;
+  written = λ state. printed_unit;
 }
 
 -- a check as an engine's direction: before the end of the input it hands out nothing
 abbrev pub check_by_line : Direction Epoch OpenEpoch Totals
-check_by_line = record checking { written = λ seen unit. [] }
+check_by_line = record checking { written = λ state unit. [] }
 
 -- the version in the first line of the header
 abbrev pub version_accepted : List (Item Epoch) → List ℕ
@@ -93,14 +93,14 @@ printed_open phase = []
 -- the lines that printing gives back for some lines: those of the units, and of the epoch that is open
 abbrev pub printed_so_far : List InputLine → List (List ℕ)
 printed_so_far lines =
-    let r : Reading Epoch = rinex_reading false (map seen lines) in
+    let r : Reading Epoch = rinex_reading false (map as_read lines) in
     printed_items r.items ++ printed_open (phase_of rinex_open r)
 
 -- the lines of the unit or the open epoch that a line makes; that line is the last of them
 abbrev pub printed_made : Made Epoch OpenEpoch → List (List ℕ)
 printed_made (Completes unit) = printed_unit unit
 printed_made (Moves phase) = printed_open phase
-printed_made (Fails fault) = []
+printed_made (Rejects fault) = []
 printed_made (Repeats at) = []
 
 -- the first line that isn't standard, with one line more
@@ -108,46 +108,46 @@ abbrev pub earliest : Option ℕ → Bool → ℕ → Option ℕ
 earliest (Some first) is_standard number = Some first
 earliest None is_standard number = if is_standard then None else Some number
 
--- ---- what is seen
+-- ---- the state
 
 -- how far the reading is, with the totals; and the number of the first line that isn't standard, if there is one
-pub record CheckSeen : Type 0 where
-  pub reading : Seen OpenEpoch Totals
+pub record CheckState : Type 0 where
+  pub reading : RunState OpenEpoch Totals
   pub not_standard : Option ℕ
 
 -- a check chooses nothing, and never skips
 abbrev pub no_choices : Choices
 no_choices = record { every = None; skip = false; date = [] }
 
--- what a check's reading has seen after some lines
-abbrev pub check_reading : List ReadLine → Seen OpenEpoch Totals
-check_reading lines = seen_of checking rinex_open totals_of no_choices (length lines) (rinex_reading false lines)
+-- the state of a check's reading after some lines
+abbrev pub check_reading : List ReadLine → RunState OpenEpoch Totals
+check_reading lines = state_of checking rinex_open totals_of no_choices (length lines) (rinex_reading false lines)
 
--- what a check has seen after some lines
-abbrev pub check_seen : List InputLine → CheckSeen
-check_seen lines = record {
-  reading = seen_of checking rinex_open totals_of no_choices (length lines) (rinex_reading false (map seen lines));
+-- the state of a check after some lines
+abbrev pub check_state : List InputLine → CheckState
+check_state lines = record {
+  reading = state_of checking rinex_open totals_of no_choices (length lines) (rinex_reading false (map as_read lines));
   not_standard = first_not_standard 1 lines (printed_so_far lines);
 }
 
 -- the step of the reading
-abbrev pub check_step : CheckSeen → InputLine → Step OpenEpoch Totals
-check_step before line = seen_next checking before.reading (seen line)
+abbrev pub check_step : CheckState → InputLine → Step OpenEpoch Totals
+check_step before line = state_next checking before.reading (as_read line)
 
 -- whether a line is standard, by what it makes
-abbrev pub is_standard_after : CheckSeen → InputLine → Bool
+abbrev pub is_standard_after : CheckState → InputLine → Bool
 is_standard_after before line = is_standard_line line (last_line
-    (printed_made (made_in checking before.reading.phase before.reading.types before.reading.kept (seen line))))
+    (printed_made (made_in checking before.reading.phase before.reading.types before.reading.kept (as_read line))))
 
--- what one line more makes of what was seen
-abbrev pub check_next : CheckSeen → InputLine → CheckSeen
+-- what one line more makes of the state
+abbrev pub check_next : CheckState → InputLine → CheckState
 check_next before line = record {
   reading = (check_step before line).next;
   not_standard = earliest before.not_standard (is_standard_after before line) (before.reading.number + 1);
 }
 
--- what a check finds at the end, by what it has seen
-abbrev pub found_by : CheckSeen → Findings
+-- what a check finds at the end, by its state
+abbrev pub found_by : CheckState → Findings
 found_by end = record {
   version = end.reading.kept.version;
   systems = end.reading.types;

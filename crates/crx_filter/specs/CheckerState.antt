@@ -1,14 +1,14 @@
--- What an engine of a check is seen as.
+-- The state of an engine of a check.
 use Rattle.std.specs.Prelude.{ℕ, List}
 use Rattle.crx_rinex.specs.meaning.EpochPlaces.{OpenEpoch}
 use Rattle.crx_filter.specs.CheckByLine.{Totals}
 use Rattle.crx_filter.specs.CheckingParts.{CheckingState, checking_parts, pending_report}
-use Rattle.crx_filter.specs.DirectionParts.{EngineParts, seen_by}
-use Rattle.crx_filter.specs.LineByLine.{Seen}
+use Rattle.crx_filter.specs.DirectionParts.{EngineParts, state_by}
+use Rattle.crx_filter.specs.LineByLine.{RunState}
 
--- what it has seen
-abbrev pub checker_state : EngineParts CheckingState → Seen OpenEpoch Totals
-checker_state e = seen_by e.options e.number (checking_parts e.direction)
+-- its state
+abbrev pub checker_state : EngineParts CheckingState → RunState OpenEpoch Totals
+checker_state e = state_by e.options e.number (checking_parts e.direction)
 
 -- the lines that are pending
 abbrev pub checker_ready : EngineParts CheckingState → List (List ℕ)

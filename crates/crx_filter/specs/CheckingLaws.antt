@@ -2,27 +2,27 @@
 use Rattle.std.specs.Prelude.{◌≡◌, ◌↔◌, ℕ, true, false, List, [], ◌∷◌, ◌++◌, None}
 use Rattle.crx_base.specs.meaning.Lines.{InputLine, lines_of}
 use Rattle.crx_base.specs.meaning.Choices.{Choices, is_date}
-use Rattle.crx_filter.specs.LineByLine.{seen_end}
+use Rattle.crx_filter.specs.LineByLine.{state_end}
 use Rattle.crx_filter.specs.Laws.{failed_by, is_again}
 use Rattle.crx_filter.specs.meaning.Compacted.{compacted}
 use Rattle.crx_filter.specs.meaning.Expanded.{expanded}
 use Rattle.crx_filter.specs.meaning.Standard.{whole_of, whole_reading_of, findings_of, checked, IsStandard}
-use Rattle.crx_filter.specs.CheckByLine.{checking, check_seen, check_step, check_next, found_by}
+use Rattle.crx_filter.specs.CheckByLine.{checking, check_state, check_step, check_next, found_by}
 use Rattle.crx_filter.specs.meaning.Directions.{fault_so_far}
 
 -- a check is given one line more: no line comes again; the line's fault is the one that ends the reading; and where
--- there is none, what is seen then is made of the line and of what was seen before it alone
+-- there is none, the state then is made of the line and of the state before it alone
 pub record IsCheckedOn (lines : List InputLine) (line : InputLine) : Type 0 where
-  pub once : is_again (check_step (check_seen lines) line).answer ≡ false
-  pub fault : fault_so_far (lines ++ line ∷ []) ≡ failed_by (check_step (check_seen lines) line).answer
+  pub once : is_again (check_step (check_state lines) line).answer ≡ false
+  pub fault : fault_so_far (lines ++ line ∷ []) ≡ failed_by (check_step (check_state lines) line).answer
   pub next : fault_so_far (lines ++ line ∷ []) ≡ None
-      → check_seen (lines ++ line ∷ []) ≡ check_next (check_seen lines) line
+      → check_state (lines ++ line ∷ []) ≡ check_next (check_state lines) line
 
 -- the end of the input: its fault is that of the whole reading, and where there is none, what was seen is what there is
 -- to find
 pub record IsCheckEnded (lines : List InputLine) : Type 0 where
-  pub fault : (whole_reading_of lines).fault ≡ failed_by (seen_end checking (check_seen lines).reading).answer
-  pub found : (whole_reading_of lines).fault ≡ None → found_by (check_seen lines) ≡ findings_of lines
+  pub fault : (whole_reading_of lines).fault ≡ failed_by (state_end checking (check_state lines).reading).answer
+  pub found : (whole_reading_of lines).fault ≡ None → found_by (check_state lines) ≡ findings_of lines
 
 -- a file that is read to its good end has no line to name exactly where it is standard
 abbrev pub IsNamedWhereNot : List ℕ → Type 0

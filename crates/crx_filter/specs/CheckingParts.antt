@@ -7,7 +7,7 @@ use Rattle.crx_base.specs.meaning.Lines.{InputLine}
 use Rattle.crx_header.specs.Identifiers.{HeldIdentifiers}
 use Rattle.crx_rinex.specs.meaning.EpochPlaces.{OpenEpoch}
 use Rattle.crx_rinex.specs.meaning.Observations.{Row as ObservationRow}
-use Rattle.crx_filter.specs.CheckByLine.{CheckSeen, Totals as TotalsSeen, no_choices, printed_so_far}
+use Rattle.crx_filter.specs.CheckByLine.{CheckState, Totals as TotalsNoted, no_choices, printed_so_far}
 use Rattle.crx_filter.specs.DirectionParts.{DirectionParts}
 use Rattle.crx_filter.specs.LineByLine.{Phase, InHeader, BetweenUnits, InEvent, InEpoch}
 use Rattle.crx_filter.specs.RinexReaders.{epoch_open, reader_phase}
@@ -37,7 +37,7 @@ pub record AreCounted (reader : RinexReader) (names : List (List ℕ)) (noted : 
   pub observed : is_open_stage reader.stage ≡ true → IsObserved noted.observed reader.rows.rows
   pub bounded : AreBounded noted.totals (noted.totals.epochs + noted.totals.events)
 
-abbrev pub checking_parts : CheckingState → DirectionParts OpenEpoch TotalsSeen
+abbrev pub checking_parts : CheckingState → DirectionParts OpenEpoch TotalsNoted
 checking_parts c = record {
   stage = c.reader.stage;
   begun = epoch_open c.reader;
@@ -64,9 +64,9 @@ HasFound c lines = c.noted.not_standard ≡ (findings_of lines).not_standard
 pub never_skips : {X : Type 0} (choices : Choices) → no_choices ≡ choices → choices.skip ≡ true → X
 never_skips choices taken skips = absurd (false≢true (ap (λ (c : Choices). c.skip) taken ∙ skips))
 
--- ---- what is seen of a reader that checks
+-- ---- the state of a reader that checks
 
-abbrev pub checker_state_with : RinexReader → ℕ → Totals → Option ℕ → CheckSeen
+abbrev pub checker_state_with : RinexReader → ℕ → Totals → Option ℕ → CheckState
 checker_state_with reader number totals not_standard = record {
   reading = record {
     choices = no_choices;

@@ -1,7 +1,7 @@
 -- Beside meaning/Compacted: what code and proofs see of it.
 use Rattle.crx_filter.specs.meaning.Directions.{rinex_reading}
 use Rattle.std.specs.Prelude.{ℕ, List}
-use Rattle.crx_base.specs.meaning.Seen.{ReadLine}
+use Rattle.crx_base.specs.meaning.AsRead.{ReadLine}
 use Rattle.crx_base.specs.meaning.Choices.{Choices}
 use Rattle.crx_base.specs.meaning.Lines.{lines_text}
 use Rattle.crx_filter.specs.meaning.Compacted.{compact_lines}

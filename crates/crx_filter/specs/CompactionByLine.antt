@@ -2,7 +2,7 @@
 use Rattle.std.specs.Prelude.{ℕ, Bool, true, false, ◌+◌, List, [], ◌∷◌, ◌++◌, length, Option, Some, None, Result, Ok}
 use Rattle.std.specs.Prelude.{Err, if◌then◌else◌}
 use Rattle.std.specs.Result.{is_ok}
-use Rattle.crx_base.specs.meaning.Seen.{ReadLine, Content}
+use Rattle.crx_base.specs.meaning.AsRead.{ReadLine, Content}
 use Rattle.crx_base.specs.declared.fault.Fault.{Fault}
 use Rattle.crx_rinex.specs.meaning.Observations.{Epoch}
 use Rattle.crx_rinex.specs.meaning.Units.{Unit, HeaderLine, EventLine, EventRecord, Observation}
@@ -14,8 +14,8 @@ use Rattle.crx_compact.specs.Tails.{Tail, tail_or_nothing}
 use Rattle.crx_compact.specs.Steps.{lines_after_tail, tail_after, tail_written_after}
 use Rattle.crx_base.specs.meaning.Choices.{Choices}
 use Rattle.crx_filter.specs.meaning.Items.{Item, types_in_force}
-use Rattle.crx_filter.specs.LineByLine.{Phase, InHeader, InEpoch, Seen, Made, Completes, Moves, Fails, Repeats}
-use Rattle.crx_filter.specs.LineByLine.{made_of_line, Direction, seen_of}
+use Rattle.crx_filter.specs.LineByLine.{Phase, InHeader, InEpoch, RunState, Made, Completes, Moves, Rejects, Repeats}
+use Rattle.crx_filter.specs.LineByLine.{made_of_line, Direction, state_of}
 use Rattle.crx_filter.specs.meaning.Compacted.{epochs_accepted, is_interrupted, is_at_every, marked_epochs}
 use Rattle.crx_header.specs.meaning.CompactHeader.{lines_before_header}
 use Rattle.crx_filter.specs.meaning.Directions.{rinex_reading}
@@ -31,10 +31,10 @@ pub record Written : Type 0 where
 abbrev pub made_of_epoch_step : EpochStep → Made Epoch OpenEpoch
 made_of_epoch_step (Going so_far) = Moves (InEpoch so_far)
 made_of_epoch_step (Whole epoch) = Completes (Observation epoch)
-made_of_epoch_step (Faulty fault) = Fails fault
+made_of_epoch_step (Faulty fault) = Rejects fault
 
 abbrev pub made_of_beginning : List Count → Result Beginning Fault → Made Epoch OpenEpoch
-made_of_beginning types (Err fault) = Fails fault
+made_of_beginning types (Err fault) = Rejects fault
 made_of_beginning types (Ok (EventBegins line)) = Completes (EventLine line)
 made_of_beginning types (Ok (EpochBegins head)) = made_of_epoch_step (whole_or_going (opened types head))
 
@@ -55,7 +55,7 @@ is_whole_at_once (Completes (EventLine line)) = false
 is_whole_at_once (Completes (EventRecord line)) = false
 is_whole_at_once (Completes (Observation epoch)) = true
 is_whole_at_once (Moves phase) = false
-is_whole_at_once (Fails fault) = false
+is_whole_at_once (Rejects fault) = false
 is_whole_at_once (Repeats at) = false
 
 -- an epoch's line takes memory where the epoch is whole with it, and is written
@@ -69,28 +69,28 @@ is_next_row so_far line = is_ok (next_row so_far line)
 -- ---- the state, and what is written
 
 -- the tail that the next epoch is written after: none where its index is one of every so many, or where there is none
-abbrev pub tail_before_epoch : Seen OpenEpoch Written → Tail
-tail_before_epoch seen = tail_written_after (is_at_every seen.choices.every seen.kept.index) seen.kept.tail
+abbrev pub tail_before_epoch : RunState OpenEpoch Written → Tail
+tail_before_epoch state = tail_written_after (is_at_every state.choices.every state.kept.index) state.kept.tail
 
 -- an event interrupts, a header line comes before all epochs
-abbrev pub written_kept : Seen OpenEpoch Written → Unit Epoch → Written
-written_kept seen (HeaderLine line) = record { index = seen.kept.index; tail = None }
-written_kept seen (EventLine line) = record { index = seen.kept.index; tail = None }
-written_kept seen (EventRecord line) = record { index = seen.kept.index; tail = None }
-written_kept seen (Observation epoch) =
-    record { index = seen.kept.index + 1; tail = Some (tail_after (tail_before_epoch seen) epoch) }
+abbrev pub written_kept : RunState OpenEpoch Written → Unit Epoch → Written
+written_kept state (HeaderLine line) = record { index = state.kept.index; tail = None }
+written_kept state (EventLine line) = record { index = state.kept.index; tail = None }
+written_kept state (EventRecord line) = record { index = state.kept.index; tail = None }
+written_kept state (Observation epoch) =
+    record { index = state.kept.index + 1; tail = Some (tail_after (tail_before_epoch state) epoch) }
 
 abbrev pub is_before_header : {O : Type 0} → Phase O → Bool
 is_before_header (InHeader is_first) = is_first
 is_before_header phase = false
 
 -- the compact lines of a unit
-abbrev pub compact_written : Seen OpenEpoch Written → Unit Epoch → List (List ℕ)
-compact_written seen (HeaderLine line) =
-    lines_before_header seen.choices.date (is_before_header seen.phase) ++ line ∷ []
-compact_written seen (EventLine line) = line ∷ []
-compact_written seen (EventRecord line) = line ∷ []
-compact_written seen (Observation epoch) = lines_after_tail (tail_before_epoch seen) epoch
+abbrev pub compact_written : RunState OpenEpoch Written → Unit Epoch → List (List ℕ)
+compact_written state (HeaderLine line) =
+    lines_before_header state.choices.date (is_before_header state.phase) ++ line ∷ []
+compact_written state (EventLine line) = line ∷ []
+compact_written state (EventRecord line) = line ∷ []
+compact_written state (Observation epoch) = lines_after_tail (tail_before_epoch state) epoch
 
 -- compaction as a direction
 abbrev pub compaction : Direction Epoch OpenEpoch Written
@@ -105,7 +105,7 @@ compaction = record {
   written = compact_written;
 }
 
--- ---- what is seen after some lines
+-- ---- the state after some lines
 
 -- the state after the epochs of some items
 abbrev pub written_of : Option ℕ → List (Item Epoch) → Written
@@ -118,7 +118,7 @@ written_of every items = record {
 abbrev pub rinex_open : List (Item Epoch) → List ReadLine → Option OpenEpoch
 rinex_open items lines = open_with (types_in_force items) lines
 
--- what a compaction has seen after some lines
-abbrev pub compaction_seen : Choices → List ReadLine → Seen OpenEpoch Written
-compaction_seen choices lines =
-    seen_of compaction rinex_open (written_of choices.every) choices (length lines) (rinex_reading choices.skip lines)
+-- the state of a compaction after some lines
+abbrev pub compaction_state : Choices → List ReadLine → RunState OpenEpoch Written
+compaction_state choices lines =
+    state_of compaction rinex_open (written_of choices.every) choices (length lines) (rinex_reading choices.skip lines)

@@ -3,18 +3,18 @@ use Rattle.std.specs.Prelude.{◌≡◌, ◌⊎◌, ◌<◌, ◌≤◌, ℕ, ◌
 use Rattle.std.specs.Prelude.{Result, Ok, Err, IfOk, IfErr, OnErr}
 use Rattle.crx_base.specs.declared.limits.TheConstants.{INPUT_LIMIT}
 use Rattle.crx_base.specs.meaning.Lines.{InputLine}
-use Rattle.crx_base.specs.meaning.Seen.{ReadLine, Content, seen}
+use Rattle.crx_base.specs.meaning.AsRead.{ReadLine, Content, as_read}
 use Rattle.crx_base.specs.meaning.Choices.{Choices}
 use Rattle.crx_base.specs.declared.fault.Fault.{Fault}
 use Rattle.crx_base.specs.declared.fault.Fault.TheVariants.{OutOfMemory}
 use Rattle.crx_header.specs.meaning.ObservationTypes.{Count}
 use Rattle.crx_base.specs.declared.fault.At.{At}
-use Rattle.crx_filter.specs.LineByLine.{Seen, Direction, Made, Fails, Ended, Answer, Quiet, Ready, made_in}
-use Rattle.crx_filter.specs.LineByLine.{Step as SeenStep, failed_step, seen_next}
+use Rattle.crx_filter.specs.LineByLine.{RunState, Direction, Made, Rejects, Ended, Answer, Quiet, Ready, made_in}
+use Rattle.crx_filter.specs.LineByLine.{Step as LineStep, failed_step, state_next}
 use Rattle.crx_filter.specs.Memory.{may_take_memory}
 use Rattle.crx_filter.specs.EngineSteps.{Steps, step_made}
 use Rattle.crx_filter.specs.meaning.Reading.{can_go_on}
-use Rattle.crx_filter.specs.Stages.{is_held, seen_stage}
+use Rattle.crx_filter.specs.Stages.{is_held, phase_of_stage}
 use Rattle.crx_filter.specs.declared.stage.Stage.{Stage}
 use Rattle.crx_runs.specs.declared.engine.Step.{Step}
 use Rattle.crx_runs.specs.meaning.Filters.{with_next}
@@ -27,11 +27,11 @@ pub record DirectionParts (O K : Type 0) : Type 0 where
   pub kept : K
 
 -- what is seen of a direction, by the user's choices and the number of the last line
-abbrev pub seen_by : {O K : Type 0} → Choices → ℕ → DirectionParts O K → Seen O K
-seen_by choices number parts = record {
+abbrev pub state_by : {O K : Type 0} → Choices → ℕ → DirectionParts O K → RunState O K
+state_by choices number parts = record {
   choices = choices;
   number = number;
-  phase = seen_stage parts.begun parts.stage;
+  phase = phase_of_stage parts.begun parts.stage;
   types = parts.types;
   kept = parts.kept;
 }
@@ -52,13 +52,13 @@ answer_for true = Ready
 -- what a line makes
 abbrev pub made_at_parts : {U O K : Type 0} → Direction U O K → DirectionParts O K → List ℕ → Made U O
 made_at_parts direction parts line =
-    made_in direction (seen_stage parts.begun parts.stage) parts.types parts.kept (Content line)
+    made_in direction (phase_of_stage parts.begun parts.stage) parts.types parts.kept (Content line)
 
 -- a fault is that of the line, or memory ran out at a line that may take some
 abbrev pub RefusesLine : {U O K : Type 0} → Direction U O K → DirectionParts O K → List ℕ → Fault → Type 0
-RefusesLine direction parts line fault = (made_at_parts direction parts line ≡ Fails fault) ⊎ ((fault ≡ OutOfMemory)
+RefusesLine direction parts line fault = (made_at_parts direction parts line ≡ Rejects fault) ⊎ ((fault ≡ OutOfMemory)
     × (may_take_memory (direction.memory_first parts.types parts.kept) direction.memory_next
-    (seen_stage parts.begun parts.stage) (Content line) ≡ true))
+    (phase_of_stage parts.begun parts.stage) (Content line) ≡ true))
 
 -- what a direction answers to a line, by the choices that it serves: whether lines are ready, as the line's step says,
 -- or a fault, after which none is, the types are the same, and so is what a fault leaves of the epochs before
@@ -66,22 +66,22 @@ pub record Reads {U O K : Type 0} (direction : Direction U O K) (serves : Choice
     (before : DirectionParts O K) (line : List ℕ) (result : Result Bool Fault) (ready : List (List ℕ))
     (after : DirectionParts O K) : Type 0 where
   pub takes : (choices : Choices) (number : ℕ) → serves choices → IfOk result (λ is_ready.
-      record { answer = answer_for is_ready; handed_out = ready; next = seen_by choices (number + 1) after }
-      ≡ seen_next direction (seen_by choices number before) (Content line))
+      record { answer = answer_for is_ready; handed_out = ready; next = state_by choices (number + 1) after }
+      ≡ state_next direction (state_by choices number before) (Content line))
   pub refuses : IfErr result (RefusesLine direction before line)
   pub types : OnErr result (after.types ≡ before.types)
   pub kept : OnErr result (direction.emptied after.kept ≡ direction.emptied before.kept)
   pub nothing : OnErr result (ready ≡ [])
 
 -- a direction that takes these choices has taken these lines by them: what is seen of it is what is seen after them
-pub record IsAfterLines {O K : Type 0} (chosen : Choices → Choices) (seen_after : Choices → List ReadLine → Seen O K)
+pub record IsAfterLines {O K : Type 0} (chosen : Choices → Choices) (state_after_lines : Choices → List ReadLine → RunState O K)
     (choices : Choices) (lines : List InputLine) (parts : DirectionParts O K) : Type 0 where
   pub taken_as : chosen choices ≡ choices
-  pub is_seen : seen_by choices (length lines) parts ≡ seen_after choices (map seen lines)
+  pub is_state : state_by choices (length lines) parts ≡ state_after_lines choices (map as_read lines)
 
 -- what an engine does with a line: its step, or memory ran out; after a fault that ends the run no line is ready
-pub record TakesLine {U O K : Type 0} (direction : Direction U O K) (before : Seen O K) (line : ReadLine)
-    (result : Result Step At) (ready : List (List ℕ)) (after : Seen O K) : Type 0 where
+pub record TakesLine {U O K : Type 0} (direction : Direction U O K) (before : RunState O K) (line : ReadLine)
+    (result : Result Step At) (ready : List (List ℕ)) (after : RunState O K) : Type 0 where
   pub steps : Steps direction before line result ready after
   pub ended : IfErr result (λ at. after.phase ≡ Ended at)
   pub nothing : OnErr result (ready ≡ [])
@@ -98,11 +98,11 @@ CountsOneAtMost (Ok is_ready) before after = after ≤ before + 1
 CountsOneAtMost (Err fault) before after = after ≤ before
 
 -- what it knows of the lines that it has taken, it knows then of the next one too, unless it refuses that
-abbrev pub KnowsNext : {O K : Type 0} → (Choices → Choices) → (Choices → List ReadLine → Seen O K)
+abbrev pub KnowsNext : {O K : Type 0} → (Choices → Choices) → (Choices → List ReadLine → RunState O K)
     → DirectionParts O K → (List InputLine → Type 0) → (List InputLine → Type 0) → ℕ → InputLine → Result Bool Fault
     → Type 0
-KnowsNext chosen seen_after before knew knows number line result = (choices : Choices) (lines : List InputLine)
-    → IsAfterLines chosen seen_after choices lines before → knew lines → number ≡ length lines + 1
+KnowsNext chosen state_after_lines before knew knows number line result = (choices : Choices) (lines : List InputLine)
+    → IsAfterLines chosen state_after_lines choices lines before → knew lines → number ≡ length lines + 1
     → IfOk result (λ is_ready. knows (with_next lines line))
 
 -- lines that are ready are borrowed from it, and all else stays: its parts, its count, the choices that it serves, what
@@ -117,8 +117,8 @@ KeepsAllBeside before after count counted served serves knew knows had_found has
 
 -- an engine has made this step, and no line is ready; its choices are as they were, and a fault that it
 -- answers has ended the run
-pub record HasStopped {O K : Type 0} (step : SeenStep O K) (result : Result Step At) (ready : List (List ℕ))
-    (before after : Seen O K) : Type 0 where
+pub record HasStopped {O K : Type 0} (step : LineStep O K) (result : Result Step At) (ready : List (List ℕ))
+    (before after : RunState O K) : Type 0 where
   pub steps : step_made result [] after ≡ step
   pub ended : IfErr result (λ at. after.phase ≡ Ended at)
   pub drained : ready ≡ []
@@ -126,8 +126,8 @@ pub record HasStopped {O K : Type 0} (step : SeenStep O K) (result : Result Step
 
 -- an engine has taken the end of the input, at which it may hand out these lines: it has made this step; its choices
 -- are as they were, and after a fault, which has ended the run, no line is ready
-pub record HasClosed {O K : Type 0} (closing : List (List ℕ)) (step : SeenStep O K) (result : Result Step At)
-    (ready : List (List ℕ)) (before after : Seen O K) : Type 0 where
+pub record HasClosed {O K : Type 0} (closing : List (List ℕ)) (step : LineStep O K) (result : Result Step At)
+    (ready : List (List ℕ)) (before after : RunState O K) : Type 0 where
   pub steps : step_made result ready after ≡ step
   pub ended : IfErr result (λ at. after.phase ≡ Ended at)
   pub drained : closing ≡ [] → ready ≡ []
@@ -145,8 +145,8 @@ pub record WasAt {U O K : Type 0} (direction : Direction U O K) (stage : Stage) 
 
 -- an engine answers to the fault of a line that was counted
 abbrev pub AnswersToFault : {U O K : Type 0} → Direction U O K → Choices → ℕ → Stage → Fault → Bool
-    → DirectionParts O K → Result Step At → Seen O K → Type 0
+    → DirectionParts O K → Result Step At → RunState O K → Type 0
 AnswersToFault {O = O} {K = K} direction choices number stage fault goes_on parts result after =
     (before : DirectionParts O K) (line : ReadLine) (last : ℕ)
     → WasAt direction stage goes_on line before parts → number ≡ last + 1
-    → step_made result [] after ≡ failed_step direction (seen_by choices last before) line fault
+    → step_made result [] after ≡ failed_step direction (state_by choices last before) line fault

@@ -1,20 +1,20 @@
 -- What a direction has to keep to, in the words of a filter.
 use Rattle.std.specs.Prelude.{◌≡◌, ℕ, true, List, [], ◌∷◌, ◌++◌, map, length, Some, reverse}
 use Rattle.crx_base.specs.meaning.Lines.{InputLine, lines_text}
-use Rattle.crx_base.specs.meaning.Seen.{ReadLine, Overlong, seen}
+use Rattle.crx_base.specs.meaning.AsRead.{ReadLine, Overlong, as_read}
 use Rattle.crx_base.specs.declared.fault.At.{At}
 use Rattle.crx_base.specs.meaning.Choices.{Choices}
 use Rattle.crx_runs.specs.meaning.Filters.{Filter, with_next}
 use Rattle.crx_filter.specs.Laws.{Fed, fed, noticed_by, failed_by}
 use Rattle.crx_base.specs.declared.fault.Fault.TheVariants.{LineTooLong}
 use Rattle.crx_header.specs.meaning.ObservationTypes.{Count}
-use Rattle.crx_filter.specs.LineByLine.{Seen, Direction, Fails, Notice, Step as SeenStep, seen_next, seen_end_with}
+use Rattle.crx_filter.specs.LineByLine.{RunState, Direction, Rejects, Notice, Step as LineStep, state_next, state_end_with}
 use Rattle.crx_filter.specs.Memory.{takes_memory}
 
 -- one line more, as it is fed, is what the filter makes of it
 pub record FollowsBy (filter : Filter) {O K : Type 0}
-    (lines : List InputLine) (line : InputLine) (seen_then : Seen O K) (line_fed : Fed O K) : Type 0 where
-  pub next : seen_then ≡ line_fed.next
+    (lines : List InputLine) (line : InputLine) (state_then : RunState O K) (line_fed : Fed O K) : Type 0 where
+  pub next : state_then ≡ line_fed.next
   pub output : (filter.so_far (with_next lines line)).output ≡ (filter.so_far lines).output
       ++ lines_text line_fed.handed_out
   pub warnings : (filter.so_far (with_next lines line)).warnings
@@ -23,36 +23,36 @@ pub record FollowsBy (filter : Filter) {O K : Type 0}
 
 -- the end of the input is what the filter makes of it
 pub record EndsLineByLine (filter : Filter) {O K : Type 0} (lines : List InputLine)
-    (end : SeenStep O K) : Type 0 where
+    (end : LineStep O K) : Type 0 where
   pub output : (filter.whole lines).output ≡ (filter.so_far lines).output ++ lines_text end.handed_out
   pub warnings : (filter.whole lines).warnings ≡ (filter.so_far lines).warnings ++ reverse
       (noticed_by end.answer)
   pub fault : (filter.whole lines).fault ≡ failed_by end.answer
 
--- a direction goes line by line as its filter says, by what is seen after some lines and by the lines that it hands
+-- a direction goes line by line as its filter says, by the state after some lines and by the lines that it hands
 -- out at
 -- a good end after them
 pub record GoesLineByLine {U O K : Type 0} (direction : Direction U O K) (closing_after : List InputLine
-    → List (List ℕ)) (seen_after : List ReadLine → Seen O K) (filter : Filter) : Type 0 where
+    → List (List ℕ)) (state_after_lines : List ReadLine → RunState O K) (filter : Filter) : Type 0 where
   pub follows : (lines : List InputLine) (line : InputLine) → FollowsBy filter lines line
-      (seen_after (map seen (with_next lines line))) (fed direction (seen_after (map seen lines)) (seen line))
+      (state_after_lines (map as_read (with_next lines line))) (fed direction (state_after_lines (map as_read lines)) (as_read line))
   pub ends : (lines : List InputLine) → EndsLineByLine filter lines
-      (seen_end_with direction (closing_after lines) (seen_after (map seen lines)))
-  pub number : (lines : List InputLine) → (seen_after (map seen lines)).number ≡ length lines
+      (state_end_with direction (closing_after lines) (state_after_lines (map as_read lines)))
+  pub number : (lines : List InputLine) → (state_after_lines (map as_read lines)).number ≡ length lines
   -- memory may run out at a line at once, or after the warning of one that comes again
   pub memory_first : (lines : List InputLine) (line : InputLine)
-      → takes_memory direction (seen_after (map seen lines)) (seen line) ≡ true
+      → takes_memory direction (state_after_lines (map as_read lines)) (as_read line) ≡ true
       → filter.memory_after lines line ≡ Some []
-  pub memory_again : (lines : List InputLine) (line : InputLine) (next : Seen O K) (notice : At)
+  pub memory_again : (lines : List InputLine) (line : InputLine) (next : RunState O K) (notice : At)
       → record { answer = Notice notice true; handed_out = []; next = next }
-      ≡ seen_next direction (seen_after (map seen lines)) (seen line)
-      → takes_memory direction next (seen line) ≡ true → filter.memory_after lines line ≡ Some (notice ∷ [])
+      ≡ state_next direction (state_after_lines (map as_read lines)) (as_read line)
+      → takes_memory direction next (as_read line) ≡ true → filter.memory_after lines line ≡ Some (notice ∷ [])
   -- a line that is too long is a fault
-  pub too_long_first : (types : List Count) (kept : K) → direction.begins types kept Overlong ≡ Fails LineTooLong
-  pub too_long_next : (so_far : O) → direction.continues so_far Overlong ≡ Fails LineTooLong
+  pub too_long_first : (types : List Count) (kept : K) → direction.begins types kept Overlong ≡ Rejects LineTooLong
+  pub too_long_next : (so_far : O) → direction.continues so_far Overlong ≡ Rejects LineTooLong
 
 -- a direction keeps to what its filter says, whatever the choices are that it takes of the user's
 abbrev pub IsLawfulDirection : {U O K : Type 0} → Direction U O K → (Choices → Choices)
-    → (Choices → List InputLine → List (List ℕ)) → (Choices → List ReadLine → Seen O K) → (Choices → Filter) → Type 0
-IsLawfulDirection direction chosen closing_after seen_after filter = (choices : Choices) → chosen choices ≡ choices
-    → GoesLineByLine direction (closing_after choices) (seen_after choices) (filter choices)
+    → (Choices → List InputLine → List (List ℕ)) → (Choices → List ReadLine → RunState O K) → (Choices → Filter) → Type 0
+IsLawfulDirection direction chosen closing_after state_after_lines filter = (choices : Choices) → chosen choices ≡ choices
+    → GoesLineByLine direction (closing_after choices) (state_after_lines choices) (filter choices)

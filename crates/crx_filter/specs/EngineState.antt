@@ -1,12 +1,12 @@
--- What an engine of a direction is seen as.
+-- The state of an engine of a direction.
 use Rattle.std.specs.Prelude.{◌≡◌, ℕ, Bool, false, List, length, Result, IfOk}
 use Rattle.crx_base.specs.declared.fault.At.{At}
 use Rattle.crx_base.specs.meaning.Lines.{InputLine}
-use Rattle.crx_base.specs.meaning.Seen.{Content, Overlong}
+use Rattle.crx_base.specs.meaning.AsRead.{Content, Overlong}
 use Rattle.crx_filter.specs.EngineLines.{HasTaken}
 use Rattle.crx_filter.specs.DirectionParts.{EngineParts, HasClosed, IsAfterLines, HasStopped, TakesLine}
-use Rattle.crx_filter.specs.DirectionParts.{seen_by}
-use Rattle.crx_filter.specs.LineByLine.{Seen, seen_end_with, seen_next}
+use Rattle.crx_filter.specs.DirectionParts.{state_by}
+use Rattle.crx_filter.specs.LineByLine.{RunState, state_end_with, state_next}
 use Rattle.crx_runs.specs.Engines.{Awaited, IsNextLine, answer_given}
 use Rattle.crx_filter.specs.EngineLaws.{GoesLineByLine}
 use Rattle.crx_filter.specs.EngineSteps.{step_made}
@@ -15,9 +15,9 @@ use Rattle.crx_runs.specs.meaning.Filters.{with_next}
 use Rattle.crx_filter.specs.declared.direction.Direction.{Ghosts}
 
 module _ {D : Type 0} (d : Ghosts D) where
-  -- what it has seen
-  abbrev pub engine_seen : EngineParts D → Seen d.Open d.Kept
-  engine_seen e = seen_by e.options e.number (d.parts e.direction)
+  -- its state
+  abbrev pub engine_state : EngineParts D → RunState d.Open d.Kept
+  engine_state e = state_by e.options e.number (d.parts e.direction)
 
   -- the lines that are pending
   abbrev pub engine_ready : EngineParts D → List (List ℕ)
@@ -25,7 +25,7 @@ module _ {D : Type 0} (d : Ghosts D) where
 
   -- it has taken these lines, and where one is to come a second time, has answered this warning to it
   abbrev pub engine_took : EngineParts D → List InputLine → List Awaited → Type 0
-  engine_took e lines notices = HasTaken d.by_line (d.seen_after e.options) (engine_seen e) lines notices
+  engine_took e lines notices = HasTaken d.by_line (d.state_after_lines e.options) (engine_state e) lines notices
       × d.knows e.direction lines
 
   -- it can be given a line of this number
@@ -35,17 +35,17 @@ module _ {D : Type 0} (d : Ghosts D) where
   -- it goes line by line as its filter says
   pub record EngineGoes (e : EngineParts D) : Type 0 where
     pub chosen : d.chosen e.options ≡ e.options
-    pub lawful : GoesLineByLine d.by_line (d.closing_after e.options) (d.seen_after e.options) (d.filter e.options)
+    pub lawful : GoesLineByLine d.by_line (d.closing_after e.options) (d.state_after_lines e.options) (d.filter e.options)
 
   -- it has taken a line with this content, after which nothing is to be done, or what is stored is answered
   abbrev pub EngineTakes : EngineParts D → List ℕ → Bool → EngineParts D → Type 0
-  EngineTakes before line is_quiet after = TakesLine d.by_line (engine_seen before) (Content line)
-      (answer_given is_quiet after.answer) (engine_ready after) (engine_seen after)
+  EngineTakes before line is_quiet after = TakesLine d.by_line (engine_state before) (Content line)
+      (answer_given is_quiet after.answer) (engine_ready after) (engine_state after)
 
   -- where nothing is skipped and no fault has ended the run, its direction has noted the next line too
   abbrev pub EngineNotes : EngineParts D → InputLine → Result Step At → EngineParts D → Type 0
   EngineNotes before line result after = (lines : List InputLine) → before.number ≡ length lines
-      → IsAfterLines d.chosen d.seen_after before.options lines (d.parts before.direction)
+      → IsAfterLines d.chosen d.state_after_lines before.options lines (d.parts before.direction)
       → d.knows before.direction lines
       → IfOk result (λ step. before.options.skip ≡ false → d.knows after.direction (with_next lines line))
 
@@ -57,17 +57,17 @@ module _ {D : Type 0} (d : Ghosts D) where
 
   -- it has taken a line that is too long, or the end of the input
   abbrev pub EngineSkips : EngineParts D → Result Step At → EngineParts D → Type 0
-  EngineSkips before result after = HasStopped (seen_next d.by_line (engine_seen before) Overlong)
-      result (engine_ready after) (engine_seen before) (engine_seen after)
+  EngineSkips before result after = HasStopped (state_next d.by_line (engine_state before) Overlong)
+      result (engine_ready after) (engine_state before) (engine_state after)
 
   abbrev pub EngineEnds : EngineParts D → Result Step At → EngineParts D → Type 0
-  EngineEnds before result after = HasClosed (d.closing before.direction) (seen_end_with d.by_line
-      (d.closing before.direction) (engine_seen before)) result (engine_ready after) (engine_seen before)
-      (engine_seen after)
+  EngineEnds before result after = HasClosed (d.closing before.direction) (state_end_with d.by_line
+      (d.closing before.direction) (engine_state before)) result (engine_ready after) (engine_state before)
+      (engine_state after)
 
   -- at a good end it hands out what it is to hand out after these lines, and has found what is to be found in them
   pub record EngineConcludes (before : EngineParts D) (lines : List InputLine) (result : Result Step At)
       (after : EngineParts D) : Type 0 where
-    pub steps : step_made result (engine_ready after) (engine_seen after)
-        ≡ seen_end_with d.by_line (d.closing_after before.options lines) (engine_seen before)
+    pub steps : step_made result (engine_ready after) (engine_state after)
+        ≡ state_end_with d.by_line (d.closing_after before.options lines) (engine_state before)
     pub found : IfOk result (λ step. d.has_found after.direction lines)

@@ -1,27 +1,27 @@
 -- What an engine of either direction does with a line.
 use Rattle.std.specs.Prelude.{◌≡◌, ◌⊎◌, ℕ, ◌+◌, true, List, Result, Ok, Err}
-use Rattle.crx_base.specs.meaning.Seen.{ReadLine}
+use Rattle.crx_base.specs.meaning.AsRead.{ReadLine}
 use Rattle.crx_base.specs.declared.fault.At.{At}
 use Rattle.crx_base.specs.declared.fault.Fault.TheVariants.{OutOfMemory}
-use Rattle.crx_filter.specs.LineByLine.{Seen, Direction, Answer, Quiet as SeenQuiet, Ready as SeenReady, Notice}
-use Rattle.crx_filter.specs.LineByLine.{Failed, Step as SeenStep, seen_next}
+use Rattle.crx_filter.specs.LineByLine.{RunState, Direction, Answer, Quiet as LineQuiet, Ready as LineReady, Notice}
+use Rattle.crx_filter.specs.LineByLine.{Failed, Step as LineStep, state_next}
 use Rattle.crx_filter.specs.Memory.{takes_memory}
 use Rattle.crx_runs.specs.declared.engine.Step.{Step}
 use Rattle.crx_runs.specs.declared.engine.Step.TheVariants.{Quiet, Ready, Warned}
 
 abbrev pub answer_of_step : Result Step At → Answer
-answer_of_step (Ok Quiet) = SeenQuiet
-answer_of_step (Ok Ready) = SeenReady
+answer_of_step (Ok Quiet) = LineQuiet
+answer_of_step (Ok Ready) = LineReady
 answer_of_step (Ok (Warned notice again)) = Notice notice again
 answer_of_step (Err at) = Failed at
 
 -- what an engine answers, what it then has ready, and what it is seen as then
-abbrev pub step_made : {O K : Type 0} → Result Step At → List (List ℕ) → Seen O K → SeenStep O K
+abbrev pub step_made : {O K : Type 0} → Result Step At → List (List ℕ) → RunState O K → LineStep O K
 step_made result ready after = record { answer = answer_of_step result; handed_out = ready; next = after }
 
 -- memory ran out at the next line, which is one that may take some; that line counts
 pub record RanOut {U O K : Type 0} (direction : Direction U O K)
-    (before : Seen O K) (line : ReadLine) (result : Result Step At) (after : Seen O K) : Type 0 where
+    (before : RunState O K) (line : ReadLine) (result : Result Step At) (after : RunState O K) : Type 0 where
   pub at : At
   pub is : result ≡ Err at
   pub fault : at.fault ≡ OutOfMemory
@@ -31,6 +31,6 @@ pub record RanOut {U O K : Type 0} (direction : Direction U O K)
 
 -- the step of a line, or memory ran out at it
 abbrev pub Steps : {U O K : Type 0}
-    → Direction U O K → Seen O K → ReadLine → Result Step At → List (List ℕ) → Seen O K → Type 0
-Steps direction before line result ready after = (step_made result ready after ≡ seen_next direction before line)
+    → Direction U O K → RunState O K → ReadLine → Result Step At → List (List ℕ) → RunState O K → Type 0
+Steps direction before line result ready after = (step_made result ready after ≡ state_next direction before line)
     ⊎ RanOut direction before line result after

@@ -1,8 +1,8 @@
 -- Expansion line by line: the state between two lines, by the tail of the epochs alone.
 use Rattle.std.specs.Prelude.{ℕ, Bool, false, not, ◌&&◌, List, [], ◌∷◌, length, Option, Some, None, if◌then◌else◌}
-use Rattle.crx_base.specs.meaning.Seen.{ReadLine, Content, Overlong}
+use Rattle.crx_base.specs.meaning.AsRead.{ReadLine, Content, Overlong}
 use Rattle.crx_header.specs.meaning.EpochColumns.{is_event_line}
-use Rattle.crx_rinex.specs.meaning.Places.{Here, Wrong, Wanted}
+use Rattle.crx_rinex.specs.meaning.Places.{Done, Fails, NeedsMore}
 use Rattle.crx_rinex.specs.meaning.Units.{Unit, HeaderLine, EventLine, EventRecord, Observation, printed_unit}
 use Rattle.crx_header.specs.meaning.ObservationTypes.{Count}
 use Rattle.crx_rinex.specs.meaning.Observations.{Epoch}
@@ -12,9 +12,9 @@ use Rattle.crx_compact.specs.OpenEpochs.{OpenRawEpoch, HeldEpoch, RawStep, Going
 use Rattle.crx_compact.specs.OpenEpochs.{has_come, is_faulty, makes_epoch, open_raw_with}
 use Rattle.crx_base.specs.meaning.Choices.{Choices}
 use Rattle.crx_filter.specs.meaning.Items.{Item, types_in_force}
-use Rattle.crx_filter.specs.LineByLine.{Phase, InFirstLines, InEpoch, Seen, Made, Completes, Moves, Fails}
+use Rattle.crx_filter.specs.LineByLine.{Phase, InFirstLines, InEpoch, RunState, Made, Completes, Moves, Rejects}
 use Rattle.crx_filter.specs.LineByLine.{made_of_line}
-use Rattle.crx_filter.specs.LineByLine.{made_of_unit, are_types_counted, Direction, seen_of}
+use Rattle.crx_filter.specs.LineByLine.{made_of_unit, are_types_counted, Direction, state_of}
 use Rattle.crx_filter.specs.meaning.Expanded.{raws_kept, empties_state, event_line, first_lines}
 use Rattle.crx_filter.specs.meaning.Directions.{compact_reading}
 
@@ -23,7 +23,7 @@ use Rattle.crx_filter.specs.meaning.Directions.{compact_reading}
 abbrev pub made_of_raw_step : RawStep → Made HeldEpoch OpenRawEpoch
 made_of_raw_step (Going so_far) = Moves (InEpoch so_far)
 made_of_raw_step (Whole held) = Completes (Observation held)
-made_of_raw_step (Faulty fault) = Fails fault
+made_of_raw_step (Faulty fault) = Rejects fault
 
 -- where an epoch or an event may begin, by the tail of the epochs before, or none
 abbrev pub compact_begins : List Count → Option Tail → ReadLine → Made HeldEpoch OpenRawEpoch
@@ -49,11 +49,11 @@ is_last_row so_far line = has_come so_far.clock && makes_epoch (next_step so_far
 
 -- a types line that is accepted among an event's records empties the reader's state, and so does all before the first
 -- epoch
-abbrev pub tail_kept : Seen OpenRawEpoch (Option Tail) → Unit HeldEpoch → Option Tail
-tail_kept seen (HeaderLine line) = None
-tail_kept seen (EventLine line) = seen.kept
-tail_kept seen (EventRecord line) = if empties_state (are_types_counted seen.phase) line then None else seen.kept
-tail_kept seen (Observation held) = Some held.tail
+abbrev pub tail_kept : RunState OpenRawEpoch (Option Tail) → Unit HeldEpoch → Option Tail
+tail_kept state (HeaderLine line) = None
+tail_kept state (EventLine line) = state.kept
+tail_kept state (EventRecord line) = if empties_state (are_types_counted state.phase) line then None else state.kept
+tail_kept state (Observation held) = Some held.tail
 
 -- a unit with its epoch
 abbrev pub held_unit : Unit HeldEpoch → Unit Epoch
@@ -72,10 +72,10 @@ expansion = record {
   kept_after = tail_kept;
   kept_open = λ tail. None;
   emptied = λ tail. None;
-  written = λ seen unit. printed_unit (held_unit unit);
+  written = λ state unit. printed_unit (held_unit unit);
 }
 
--- ---- what is seen after some lines
+-- ---- the state after some lines
 
 -- the state after the epochs of some items
 abbrev pub tail_of_items : List (Item ReadEpoch) → Option Tail
@@ -96,14 +96,14 @@ compact_open items lines = if begins_event lines then None
 abbrev pub phase_from_first_lines : {O : Type 0} → List ReadLine → Phase O → Phase O
 phase_from_first_lines lines phase =
     elim (first_lines lines) [
-      | Here two count ↦ phase
-      | Wrong offset fault ↦ phase
-      | Wanted ↦ InFirstLines (length lines)
+      | Done two count ↦ phase
+      | Fails offset fault ↦ phase
+      | NeedsMore ↦ InFirstLines (length lines)
     ]
 
--- what an expansion has seen after some lines
-abbrev pub expansion_seen : Choices → List ReadLine → Seen OpenRawEpoch (Option Tail)
-expansion_seen choices lines =
-    let seen : Seen OpenRawEpoch (Option Tail) =
-    seen_of expansion compact_open tail_of_items choices (length lines) (compact_reading choices.skip lines) in
-    record seen { phase = phase_from_first_lines lines seen.phase }
+-- the state of an expansion after some lines
+abbrev pub expansion_state : Choices → List ReadLine → RunState OpenRawEpoch (Option Tail)
+expansion_state choices lines =
+    let state : RunState OpenRawEpoch (Option Tail) =
+    state_of expansion compact_open tail_of_items choices (length lines) (compact_reading choices.skip lines) in
+    record state { phase = phase_from_first_lines lines state.phase }

@@ -2,8 +2,8 @@
 use Rattle.crx_filter.specs.meaning.Reading.{fault_of_stop}
 use Rattle.std.specs.Prelude.{◌≡◌, ℕ, Bool, true, false, List, [], ◌∷◌, ◌++◌, Option, Some, None}
 use Rattle.std.specs.Prelude.{map, ⊤}
-use Rattle.crx_base.specs.meaning.Seen.{ReadLine, seen}
-use Rattle.crx_rinex.specs.meaning.Places.{Place, Here, Wanted}
+use Rattle.crx_base.specs.meaning.AsRead.{ReadLine, as_read}
+use Rattle.crx_rinex.specs.meaning.Places.{Place, Done, NeedsMore}
 use Rattle.crx_rinex.specs.Steady.{IsSteady}
 use Rattle.crx_rinex.specs.meaning.Units.{Unit as FileUnit, Unit}
 use Rattle.crx_base.specs.meaning.Lines.{lines_of}
@@ -14,8 +14,8 @@ use Rattle.crx_filter.specs.meaning.Reading.{Reading, AtFault, AtLines, Looking,
 use Rattle.crx_filter.specs.meaning.Reading.{looked_for}
 use Rattle.crx_base.specs.meaning.Faults.{is_skippable}
 use Rattle.crx_filter.specs.meaning.Written.{warnings_in}
-use Rattle.crx_filter.specs.LineByLine.{Direction, Seen, Step, Answer, Quiet, Ready, Notice, Failed, seen_next}
-use Rattle.crx_filter.specs.LineByLine.{seen_end}
+use Rattle.crx_filter.specs.LineByLine.{Direction, RunState, Step, Answer, Quiet, Ready, Notice, Failed, state_next}
+use Rattle.crx_filter.specs.LineByLine.{state_end}
 use Rattle.crx_rinex.specs.meaning.Observations.{Epoch}
 use Rattle.crx_compact.specs.meaning.CompactPlaces.{ReadEpoch}
 use Rattle.crx_filter.specs.Compacted.{compaction_so_far}
@@ -25,8 +25,8 @@ use Rattle.crx_filter.specs.meaning.Compacted.{whole_rinex, compact_lines}
 use Rattle.crx_filter.specs.Expanded.{expanded_lines, expansion_so_far}
 use Rattle.crx_filter.specs.meaning.Directions.{compact_reading}
 use Rattle.crx_filter.specs.meaning.Expanded.{whole_compact}
-use Rattle.crx_filter.specs.CompactionByLine.{compaction, compaction_seen}
-use Rattle.crx_filter.specs.ExpansionByLine.{expansion, expansion_seen}
+use Rattle.crx_filter.specs.CompactionByLine.{compaction, compaction_state}
+use Rattle.crx_filter.specs.ExpansionByLine.{expansion, expansion_state}
 use Rattle.crx_runs.specs.meaning.Results.{Begins}
 
 -- a reading that is continued, once more lines have come
@@ -42,7 +42,7 @@ continued_reading place skip so_far more =
 -- what is at a place is certain as soon as its last line has come, and where there is no line yet, one is wanted
 pub record IsReadForward {E : Type 0} (place : List (Item E) → List ReadLine → Place (FileUnit E)) : Type 0 where
   pub steady : (items : List (Item E)) → IsSteady (place items)
-  pub wants : (items : List (Item E)) → place items [] ≡ Wanted
+  pub wants : (items : List (Item E)) → place items [] ≡ NeedsMore
 
 -- the reading of some lines and more goes on from the reading of the first
 abbrev pub IsResumed : {E : Type 0} → (List (Item E) → List ReadLine → Place (FileUnit E)) → Type 0
@@ -59,7 +59,7 @@ pub record IsWrittenFirst (so_far : List ReadLine
     → Choices → List ℕ) (output : List ℕ → Choices → List ℕ) (choices : Choices) (lines : List ReadLine) : Type 0 where
   pub longer : (more : List ReadLine) → Begins (so_far (lines ++ more) choices) (so_far lines choices)
   pub whole : (input : List ℕ) (more : List ReadLine)
-      → map seen (lines_of input) ≡ lines ++ more → Begins (output input choices) (so_far lines choices)
+      → map as_read (lines_of input) ≡ lines ++ more → Begins (output input choices) (so_far lines choices)
 
 -- ---- one line at a time
 
@@ -90,7 +90,7 @@ pub record Fed (O K : Type 0) : Type 0 where
   pub warned : List At
   pub failed : Option At
   pub handed_out : List (List ℕ)
-  pub next : Seen O K
+  pub next : RunState O K
 
 abbrev pub fed_once : {O K : Type 0} → Step O K → Fed O K
 fed_once step = record {
@@ -109,40 +109,40 @@ fed_twice one two = record {
 }
 
 -- a line is given once, or a second time where it is to come again
-abbrev pub fed : {U O K : Type 0} → Direction U O K → Seen O K → ReadLine → Fed O K
-fed direction seen line =
-    let one : Step _ _ = seen_next direction seen line in
-    elim (is_again one.answer) [ true ↦ fed_twice one (seen_next direction one.next line) | false ↦ fed_once one ]
+abbrev pub fed : {U O K : Type 0} → Direction U O K → RunState O K → ReadLine → Fed O K
+fed direction state line =
+    let one : Step _ _ = state_next direction state line in
+    elim (is_again one.answer) [ true ↦ fed_twice one (state_next direction one.next line) | false ↦ fed_once one ]
 
--- one line more, as it is fed and as it is read: what is seen then, the lines that are written more, the warnings that
+-- one line more, as it is fed and as it is read: the state then, the lines that are written more, the warnings that
 -- come, and the fault that has ended the run by then
-pub record IsFollowed {O K : Type 0} (seen_then : Seen O K) (written_before written_then : List (List ℕ))
+pub record IsFollowed {O K : Type 0} (state_then : RunState O K) (written_before written_then : List (List ℕ))
     (warned_before warned_then : List At) (failed_then : Option At) (line_fed : Fed O K) : Type 0 where
-  pub next : seen_then ≡ line_fed.next
+  pub next : state_then ≡ line_fed.next
   pub handed_out : written_then ≡ written_before ++ line_fed.handed_out
   pub warned : warned_then ≡ line_fed.warned ++ warned_before
   pub failed : failed_then ≡ line_fed.failed
 
 -- a compaction is given one line more: it has seen, written and reported what the compaction of all these lines has; a
--- line is fed by what was seen before it alone
+-- line is fed by the state before it alone
 abbrev pub IsCompactedOn : Choices → List ReadLine → ReadLine → Type 0
 IsCompactedOn choices lines line =
     let before : Reading Epoch = rinex_reading choices.skip lines in
     let after : Reading Epoch = rinex_reading choices.skip (lines ++ line ∷ []) in
-    IsFollowed (compaction_seen choices (lines ++ line ∷ []))
+    IsFollowed (compaction_state choices (lines ++ line ∷ []))
     (compaction_so_far choices lines) (compaction_so_far choices (lines ++ line ∷ []))
     (warnings_in before.items) (warnings_in after.items)
-    (fault_of_stop after.stop) (fed compaction (compaction_seen choices lines) line)
+    (fault_of_stop after.stop) (fed compaction (compaction_state choices lines) line)
 
 -- an expansion is given one line more: it has seen, written and reported what the expansion of all these lines has
 abbrev pub IsExpandedOn : Choices → List ReadLine → ReadLine → Type 0
 IsExpandedOn choices lines line =
     let before : Reading ReadEpoch = compact_reading choices.skip lines in
     let after : Reading ReadEpoch = compact_reading choices.skip (lines ++ line ∷ []) in
-    IsFollowed (expansion_seen choices (lines ++ line ∷ []))
+    IsFollowed (expansion_state choices (lines ++ line ∷ []))
     (expansion_so_far choices lines) (expansion_so_far choices (lines ++ line ∷ []))
     (warnings_in before.items) (warnings_in after.items)
-    (fault_of_stop after.stop) (fed expansion (expansion_seen choices lines) line)
+    (fault_of_stop after.stop) (fed expansion (expansion_state choices lines) line)
 
 -- ---- the end of the input
 
@@ -161,13 +161,13 @@ IsCompactionEnded choices lines =
     let whole : WholeReading Epoch = whole_rinex choices.skip lines in
     IsEndedBy (compaction_so_far choices lines)
     (compact_lines choices whole.items) (warnings_in (rinex_reading choices.skip lines).items)
-    (warnings_in whole.items) whole.fault (seen_end compaction (compaction_seen choices lines))
+    (warnings_in whole.items) whole.fault (state_end compaction (compaction_state choices lines))
 
 abbrev pub IsExpansionEnded : Choices → List ReadLine → Type 0
 IsExpansionEnded choices lines =
     let whole : WholeReading ReadEpoch = whole_compact choices.skip lines in
     IsEndedBy (expansion_so_far choices lines) (expanded_lines whole.items) (warnings_in (compact_reading choices.skip
-    lines).items) (warnings_in whole.items) whole.fault (seen_end expansion (expansion_seen choices lines))
+    lines).items) (warnings_in whole.items) whole.fault (state_end expansion (expansion_state choices lines))
 
 -- ---- a fault that ended the run
 
@@ -183,7 +183,7 @@ pub record StaysEnded {E : Type 0} (reading : List ReadLine
 abbrev pub ItemsAreRead : {E : Type 0} → (List (Item E) → List ReadLine → Place (FileUnit E)) → List (Item E) → Type 0
 ItemsAreRead place [] = ⊤
 ItemsAreRead place (Accepted unit ∷ before) =
-    ((lines : List ReadLine) × (count : ℕ) × (place before lines ≡ Here unit count)) × ItemsAreRead place before
+    ((lines : List ReadLine) × (count : ℕ) × (place before lines ≡ Done unit count)) × ItemsAreRead place before
 ItemsAreRead place (Warned at ∷ before) = ((header_has_ended before ≡ true)
     × (records_left before ≡ 0) × (is_skippable at.fault ≡ true)) × ItemsAreRead place before
 
@@ -208,6 +208,6 @@ has_lines (line ∷ lines) = true
 
 -- a line is answered as ready exactly where lines are borrowed, and for each unit some are
 pub record IsReadyWhereHandedOut {U O K : Type 0} (direction : Direction U O K) : Type 0 where
-  pub exactly : (seen : Seen O K) (line : ReadLine)
-      → is_ready (seen_next direction seen line).answer ≡ has_lines (seen_next direction seen line).handed_out
-  pub each_unit : (seen : Seen O K) (unit : Unit U) → has_lines (direction.written seen unit) ≡ true
+  pub exactly : (state : RunState O K) (line : ReadLine)
+      → is_ready (state_next direction state line).answer ≡ has_lines (state_next direction state line).handed_out
+  pub each_unit : (state : RunState O K) (unit : Unit U) → has_lines (direction.written state unit) ≡ true

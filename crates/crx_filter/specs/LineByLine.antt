@@ -3,7 +3,7 @@
 -- that of the epochs before, and U what a whole epoch gives.
 use Rattle.std.specs.Prelude.{ℕ, zero, suc, Bool, true, false, not, ◌&&◌, ◌+◌, ◌-◌, List, [], ◌∷◌, Option, Some, None}
 use Rattle.std.specs.Prelude.{Result, Ok, Err, if◌then◌else◌}
-use Rattle.crx_base.specs.meaning.Seen.{ReadLine, Content, Overlong}
+use Rattle.crx_base.specs.meaning.AsRead.{ReadLine, Content, Overlong}
 use Rattle.crx_base.specs.declared.fault.At.{At}
 use Rattle.crx_base.specs.declared.fault.Fault.{Fault}
 use Rattle.crx_base.specs.declared.fault.Fault.TheVariants.{LineTooLong, MissingVersion, NoEndOfHeader, Truncated}
@@ -19,7 +19,7 @@ use Rattle.crx_filter.specs.meaning.Reading.{Reading, AtFault, AtLines, Looking,
 use Rattle.crx_base.specs.meaning.Faults.{is_skippable}
 use Rattle.crx_filter.specs.meaning.Expanded.{crinex_version, crinex_program, fault_in_first_lines}
 
--- ---- what is seen between two lines
+-- ---- the state between two lines
 
 -- where a run is: so many of the first two lines of compact text are read; in the header, before its first line or
 -- later; between two units; in an event, with so many records still to come, among which types lines count or don't; in an
@@ -36,7 +36,7 @@ pub data Phase (O : Type 0) : Type 0 where
   Ended : At → Phase O
 
 -- the user's choices, the last line's number, the phase, the observation types in force, and the state of the epochs
-pub record Seen (O K : Type 0) : Type 0 where
+pub record RunState (O K : Type 0) : Type 0 where
   pub choices : Choices
   pub number : ℕ
   pub phase : Phase O
@@ -49,7 +49,7 @@ pub record Seen (O K : Type 0) : Type 0 where
 pub data Made (U O : Type 0) : Type 0 where
   Completes : Unit U → Made U O
   Moves : Phase O → Made U O
-  Fails : Fault → Made U O
+  Rejects : Fault → Made U O
   Repeats : At → Made U O
 
 -- what differs between the two directions: what a line makes where an epoch or an event may begin; what it makes in an
@@ -60,25 +60,25 @@ pub record Direction (U O K : Type 0) : Type 0 where
   pub continues : O → ReadLine → Made U O
   pub memory_first : List Count → K → List ℕ → Bool
   pub memory_next : O → List ℕ → Bool
-  pub kept_after : Seen O K → Unit U → K
+  pub kept_after : RunState O K → Unit U → K
   pub kept_open : K → K
   pub emptied : K → K
-  pub written : Seen O K → Unit U → List (List ℕ)
+  pub written : RunState O K → Unit U → List (List ℕ)
 
 -- what a line makes by its content; one that is too long is a fault
 abbrev pub made_of_line : {U O : Type 0} → (List ℕ → Made U O) → ReadLine → Made U O
-made_of_line make Overlong = Fails LineTooLong
+made_of_line make Overlong = Rejects LineTooLong
 made_of_line make (Content line) = make line
 
 -- a unit of one line, or the line's fault
 abbrev pub made_of_unit : {U O : Type 0} → Result (Unit U) Fault → Made U O
 made_of_unit (Ok unit) = Completes unit
-made_of_unit (Err fault) = Fails fault
+made_of_unit (Err fault) = Rejects fault
 
 -- another phase, or the line's fault
 abbrev pub moved_to : {U O : Type 0} → Phase O → Result (List ℕ) Fault → Made U O
 moved_to phase (Ok line) = Moves phase
-moved_to phase (Err fault) = Fails fault
+moved_to phase (Err fault) = Rejects fault
 
 -- the first line of compact text, or the second
 abbrev pub made_of_first_lines : {U O : Type 0} → ℕ → List ℕ → Made U O
@@ -128,7 +128,7 @@ types_after phase types (EventLine line) = types
 types_after phase types (EventRecord line) = if are_types_counted phase then with_line types line else types
 types_after phase types (Observation epoch) = types
 
--- ---- what is answered, what is borrowed, and what is seen then
+-- ---- what is answered, what is borrowed, and the state then
 
 -- nothing; lines are pending; a fault that is skipped, and whether reading goes on at the very line that was given,
 -- which then comes a second time and doesn't count yet; or the fault that ended the run
@@ -146,7 +146,7 @@ answer_of_lines (line ∷ lines) = Ready
 pub record Step (O K : Type 0) : Type 0 where
   pub answer : Answer
   pub handed_out : List (List ℕ)
-  pub next : Seen O K
+  pub next : RunState O K
 
 -- faults are skipped where an epoch or an event may begin and in an epoch
 abbrev pub may_skip : {O : Type 0} → Phase O → Bool
@@ -160,8 +160,8 @@ is_in_epoch (InEpoch so_far) = true
 is_in_epoch phase = false
 
 -- whether a fault is skipped
-abbrev pub is_skipped_in : {O K : Type 0} → Seen O K → Fault → Bool
-is_skipped_in seen fault = seen.choices.skip && (may_skip seen.phase && is_skippable fault)
+abbrev pub is_skipped_in : {O K : Type 0} → RunState O K → Fault → Bool
+is_skipped_in state fault = state.choices.skip && (may_skip state.phase && is_skippable fault)
 
 -- the state of the epochs in a phase: an open epoch may have it, and a fault empties it
 abbrev pub kept_in : {U O K : Type 0} → Direction U O K → Phase O → K → K
@@ -169,53 +169,53 @@ kept_in direction (InEpoch so_far) kept = direction.kept_open kept
 kept_in direction (Ended at) kept = direction.emptied kept
 kept_in direction phase kept = kept
 
-abbrev pub after_unit : {U O K : Type 0} → Direction U O K → Seen O K → Unit U → Seen O K
-after_unit direction seen unit = record {
-  choices = seen.choices;
-  number = seen.number + 1;
-  phase = phase_after seen.phase unit;
-  types = types_after seen.phase seen.types unit;
-  kept = direction.kept_after seen unit;
+abbrev pub after_unit : {U O K : Type 0} → Direction U O K → RunState O K → Unit U → RunState O K
+after_unit direction state unit = record {
+  choices = state.choices;
+  number = state.number + 1;
+  phase = phase_after state.phase unit;
+  types = types_after state.phase state.types unit;
+  kept = direction.kept_after state unit;
 }
 
 -- the next line's phase, and the state of the epochs in it
-abbrev pub with_phase : {U O K : Type 0} → Direction U O K → Seen O K → Phase O → Seen O K
-with_phase direction seen phase =
-    record seen { number = seen.number + 1; phase = phase; kept = kept_in direction phase seen.kept }
+abbrev pub with_phase : {U O K : Type 0} → Direction U O K → RunState O K → Phase O → RunState O K
+with_phase direction state phase =
+    record state { number = state.number + 1; phase = phase; kept = kept_in direction phase state.kept }
 
 -- after a warning: a line that is to come again doesn't count yet
-abbrev pub after_warning : {U O K : Type 0} → Direction U O K → Seen O K → Bool → Seen O K
-after_warning direction seen again = record seen {
-  number = if again then seen.number else seen.number + 1;
+abbrev pub after_warning : {U O K : Type 0} → Direction U O K → RunState O K → Bool → RunState O K
+after_warning direction state again = record state {
+  number = if again then state.number else state.number + 1;
   phase = LookingOn;
-  kept = direction.emptied seen.kept;
+  kept = direction.emptied state.kept;
 }
 
 -- a fault of a line: reading goes on at this very line where it is in an epoch and begins with >
-abbrev pub failed_step : {U O K : Type 0} → Direction U O K → Seen O K → ReadLine → Fault → Step O K
-failed_step direction seen line fault =
-    let at : At = record { line = seen.number + 1; fault = fault } in
-    let again : Bool = is_in_epoch seen.phase && can_go_on line in
-    if is_skipped_in seen fault
-    then record { answer = Notice at again; handed_out = []; next = after_warning direction seen again }
-    else record { answer = Failed at; handed_out = []; next = with_phase direction seen (Ended at) }
+abbrev pub failed_step : {U O K : Type 0} → Direction U O K → RunState O K → ReadLine → Fault → Step O K
+failed_step direction state line fault =
+    let at : At = record { line = state.number + 1; fault = fault } in
+    let again : Bool = is_in_epoch state.phase && can_go_on line in
+    if is_skipped_in state fault
+    then record { answer = Notice at again; handed_out = []; next = after_warning direction state again }
+    else record { answer = Failed at; handed_out = []; next = with_phase direction state (Ended at) }
 
-abbrev pub step_of_made : {U O K : Type 0} → Direction U O K → Seen O K → ReadLine → Made U O → Step O K
-step_of_made direction seen line (Completes unit) = record {
-  answer = answer_of_lines (direction.written seen unit);
-  handed_out = direction.written seen unit;
-  next = after_unit direction seen unit;
+abbrev pub step_of_made : {U O K : Type 0} → Direction U O K → RunState O K → ReadLine → Made U O → Step O K
+step_of_made direction state line (Completes unit) = record {
+  answer = answer_of_lines (direction.written state unit);
+  handed_out = direction.written state unit;
+  next = after_unit direction state unit;
 }
-step_of_made direction seen line (Moves phase) =
-    record { answer = Quiet; handed_out = []; next = with_phase direction seen phase }
-step_of_made direction seen line (Fails fault) = failed_step direction seen line fault
-step_of_made direction seen line (Repeats at) =
-    record { answer = Failed at; handed_out = []; next = record seen { number = seen.number + 1 } }
+step_of_made direction state line (Moves phase) =
+    record { answer = Quiet; handed_out = []; next = with_phase direction state phase }
+step_of_made direction state line (Rejects fault) = failed_step direction state line fault
+step_of_made direction state line (Repeats at) =
+    record { answer = Failed at; handed_out = []; next = record state { number = state.number + 1 } }
 
 -- what one line more makes
-abbrev pub seen_next : {U O K : Type 0} → Direction U O K → Seen O K → ReadLine → Step O K
-seen_next direction seen line =
-    step_of_made direction seen line (made_in direction seen.phase seen.types seen.kept line)
+abbrev pub state_next : {U O K : Type 0} → Direction U O K → RunState O K → ReadLine → Step O K
+state_next direction state line =
+    step_of_made direction state line (made_in direction state.phase state.types state.kept line)
 
 -- ---- the end of the input
 
@@ -231,37 +231,37 @@ fault_at_end_in Closed = None
 fault_at_end_in (Ended at) = None
 
 -- the input has ended, after a warning or without
-abbrev pub closed_after_warning : {U O K : Type 0} → Direction U O K → Seen O K → Seen O K
-closed_after_warning direction seen = record seen { phase = Closed; kept = direction.emptied seen.kept }
+abbrev pub closed_after_warning : {U O K : Type 0} → Direction U O K → RunState O K → RunState O K
+closed_after_warning direction state = record state { phase = Closed; kept = direction.emptied state.kept }
 
 -- the input has ended, well or with a fault; at a good end these lines are handed out
-abbrev pub end_step : {U O K : Type 0} → Direction U O K → List (List ℕ) → Seen O K → Option Fault → Step O K
-end_step direction closing seen None =
-    record { answer = answer_of_lines closing; handed_out = closing; next = record seen { phase = Closed } }
-end_step direction closing seen (Some fault) =
-    let at : At = record { line = seen.number + 1; fault = fault } in
-    if is_skipped_in seen fault
-    then record { answer = Notice at false; handed_out = []; next = closed_after_warning direction seen }
+abbrev pub end_step : {U O K : Type 0} → Direction U O K → List (List ℕ) → RunState O K → Option Fault → Step O K
+end_step direction closing state None =
+    record { answer = answer_of_lines closing; handed_out = closing; next = record state { phase = Closed } }
+end_step direction closing state (Some fault) =
+    let at : At = record { line = state.number + 1; fault = fault } in
+    if is_skipped_in state fault
+    then record { answer = Notice at false; handed_out = []; next = closed_after_warning direction state }
     else record {
       answer = Failed at;
       handed_out = [];
-      next = record seen { phase = Ended at; kept = direction.emptied seen.kept };
+      next = record state { phase = Ended at; kept = direction.emptied state.kept };
     }
 
 -- what the end of the input makes, where these lines are handed out at a good end: a fault that ended the run is
 -- answered again
-abbrev pub seen_end_with : {U O K : Type 0} → Direction U O K → List (List ℕ) → Seen O K → Step O K
-seen_end_with direction closing seen =
-    elim (seen.phase) [
-      | Ended at ↦ record { answer = Failed at; handed_out = []; next = seen }
-      | phase ↦ end_step direction closing seen (fault_at_end_in phase)
+abbrev pub state_end_with : {U O K : Type 0} → Direction U O K → List (List ℕ) → RunState O K → Step O K
+state_end_with direction closing state =
+    elim (state.phase) [
+      | Ended at ↦ record { answer = Failed at; handed_out = []; next = state }
+      | phase ↦ end_step direction closing state (fault_at_end_in phase)
     ]
 
 -- the same where nothing is handed out at the end
-abbrev pub seen_end : {U O K : Type 0} → Direction U O K → Seen O K → Step O K
-seen_end direction seen = seen_end_with direction [] seen
+abbrev pub state_end : {U O K : Type 0} → Direction U O K → RunState O K → Step O K
+state_end direction state = state_end_with direction [] state
 
--- ---- what is seen of a reading
+-- ---- the state that a reading leaves
 
 -- the phase where an epoch or an event may begin, or in one
 abbrev pub phase_in_body : {O : Type 0} → ℕ → Bool → Option O → Phase O
@@ -284,9 +284,9 @@ phase_of open_with r =
     ]
 
 -- the state after so many lines, by where their reading stops and by the epochs of its items
-abbrev pub seen_of : {E U O K : Type 0} → Direction U O K
-    → (List (Item E) → List ReadLine → Option O) → (List (Item E) → K) → Choices → ℕ → Reading E → Seen O K
-seen_of direction open_with kept_of choices count r = record {
+abbrev pub state_of : {E U O K : Type 0} → Direction U O K
+    → (List (Item E) → List ReadLine → Option O) → (List (Item E) → K) → Choices → ℕ → Reading E → RunState O K
+state_of direction open_with kept_of choices count r = record {
   choices = choices;
   number = count;
   phase = phase_of open_with r;

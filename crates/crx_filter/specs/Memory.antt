@@ -1,12 +1,12 @@
 -- Beside meaning/Memory: at which lines memory may run out, by what is seen before them.
 use Rattle.std.specs.Prelude.{ℕ, Bool, false, not, ◌&&◌, List, is_none}
 use Rattle.std.specs.Option.{is_some}
-use Rattle.crx_base.specs.meaning.Seen.{ReadLine, Content, Overlong}
+use Rattle.crx_base.specs.meaning.AsRead.{ReadLine, Content, Overlong}
 use Rattle.crx_header.specs.meaning.EpochColumns.{begins_epoch, is_event_line}
 use Rattle.crx_header.specs.meaning.ObservationTypes.{count_of_types_line}
 use Rattle.crx_filter.specs.meaning.UnitPlaces.{header_line_fault}
 use Rattle.crx_filter.specs.LineByLine.{Phase, InFirstLines, InHeader, BetweenUnits, InEvent, InEpoch, LookingOn}
-use Rattle.crx_filter.specs.LineByLine.{Closed, Ended, Seen, Direction}
+use Rattle.crx_filter.specs.LineByLine.{Closed, Ended, RunState, Direction}
 
 -- whether a line may take memory in a phase: a good types line where these count; where an epoch or an event may begin,
 -- a line that begins no event, as the direction says; and in an epoch a line that doesn't begin with >, as the
@@ -24,6 +24,6 @@ may_take_memory first next Closed (Content line) = false
 may_take_memory first next (Ended at) (Content line) = false
 
 -- whether a line may take memory, by what is seen before it
-abbrev pub takes_memory : {U O K : Type 0} → Direction U O K → Seen O K → ReadLine → Bool
+abbrev pub takes_memory : {U O K : Type 0} → Direction U O K → RunState O K → ReadLine → Bool
 takes_memory direction before line =
     may_take_memory (direction.memory_first before.types before.kept) direction.memory_next before.phase line

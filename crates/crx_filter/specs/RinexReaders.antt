@@ -1,7 +1,7 @@
 -- What a reader of RINEX makes of a line.
 use Rattle.std.specs.Prelude.{◌≡◌, ◌⊎◌, ℕ, Bool, true, false, List, [], Option, Some, Result, length}
 use Rattle.std.specs.Prelude.{IfOk, IfErr, OnErr}
-use Rattle.crx_base.specs.meaning.Seen.{Content}
+use Rattle.crx_base.specs.meaning.AsRead.{Content}
 use Rattle.crx_base.specs.declared.fault.Fault.{Fault}
 use Rattle.crx_base.specs.declared.fault.Fault.TheVariants.{OutOfMemory}
 use Rattle.crx_rinex.specs.meaning.EpochLines.{ObservationHead}
@@ -10,9 +10,9 @@ use Rattle.crx_rinex.specs.meaning.EpochPlaces.{OpenEpoch}
 use Rattle.crx_rinex.specs.meaning.Units.{Unit, HeaderLine, EventLine, EventRecord, Observation}
 use Rattle.crx_compact.specs.Written.{epoch_by_rows}
 use Rattle.crx_filter.specs.CompactionByLine.{compaction, epoch_written, is_before_header, is_next_row, Written}
-use Rattle.crx_filter.specs.LineByLine.{Phase, Made, Completes, Moves, Fails, made_in, phase_after, types_after}
+use Rattle.crx_filter.specs.LineByLine.{Phase, Made, Completes, Moves, Rejects, made_in, phase_after, types_after}
 use Rattle.crx_filter.specs.Memory.{may_take_memory}
-use Rattle.crx_filter.specs.Stages.{seen_stage, is_ended}
+use Rattle.crx_filter.specs.Stages.{phase_of_stage, is_ended}
 use Rattle.crx_filter.specs.RinexStages.{is_open_stage, open_epoch}
 use Rattle.crx_filter.specs.declared.rinex_reader.RinexReader.{RinexReader}
 use Rattle.crx_filter.specs.declared.rinex_reader.RinexStep.{RinexStep}
@@ -25,7 +25,7 @@ epoch_open r = open_epoch r.types r.head r.rows.rows
 
 -- where a reader is
 abbrev pub reader_phase : RinexReader → Phase OpenEpoch
-reader_phase r = seen_stage (epoch_open r) r.stage
+reader_phase r = phase_of_stage (epoch_open r) r.stage
 
 -- what a line makes
 abbrev pub made_at : RinexReader → List ℕ → Written → Made ObservationEpoch OpenEpoch
@@ -89,7 +89,7 @@ TakesRinexLine made before line Epoch after = CompletedEpoch made line before af
 -- a fault is that of the line, or memory ran out at a line that may take some: the reading of an epoch's line takes
 -- none
 abbrev pub RefusesRinexLine : Made ObservationEpoch OpenEpoch → RinexReader → List ℕ → Fault → Type 0
-RefusesRinexLine made before line fault = (made ≡ Fails fault) ⊎ ((fault ≡ OutOfMemory)
+RefusesRinexLine made before line fault = (made ≡ Rejects fault) ⊎ ((fault ≡ OutOfMemory)
     × (may_take_memory (λ first. false) is_next_row (reader_phase before) (Content line) ≡ true))
 
 -- what a reader answers to a line that is no row of an open epoch, whatever is kept of the epochs before; after

@@ -1,30 +1,30 @@
 -- The stage between two lines, as code stores it and as definitions see it.
 use Rattle.std.specs.Prelude.{⊤, Bool, true, false, Option, Some, None}
-use Rattle.crx_filter.specs.LineByLine.{Phase as SeenPhase, InFirstLines, InHeader, BetweenUnits, InEvent, InEpoch}
-use Rattle.crx_filter.specs.LineByLine.{LookingOn, Closed as SeenClosed, Ended as SeenEnded}
+use Rattle.crx_filter.specs.LineByLine.{Phase as RunPhase, InFirstLines, InHeader, BetweenUnits, InEvent, InEpoch}
+use Rattle.crx_filter.specs.LineByLine.{LookingOn, Closed as RunClosed, Ended as RunEnded}
 use Rattle.crx_filter.specs.declared.stage.Stage.{Stage}
 use Rattle.crx_filter.specs.declared.stage.Stage.TheVariants.{FirstLines, Header, Between, Event, Open, Looking}
 use Rattle.crx_filter.specs.declared.stage.Stage.TheVariants.{Closed, Ended}
 
 -- in the open epoch
-abbrev pub phase_of_open : {O : Type 0} → Option O → SeenPhase O
+abbrev pub phase_of_open : {O : Type 0} → Option O → RunPhase O
 phase_of_open None = BetweenUnits
 phase_of_open (Some so_far) = InEpoch so_far
 
 -- a stage with its open epoch
-abbrev pub seen_stage : {O : Type 0} → Option O → Stage → SeenPhase O
-seen_stage held (FirstLines count) = InFirstLines count
-seen_stage held (Header is_first) = InHeader is_first
-seen_stage held Between = BetweenUnits
-seen_stage held (Event left counted) = InEvent left counted
-seen_stage held Open = phase_of_open held
-seen_stage held Looking = LookingOn
-seen_stage held Closed = SeenClosed
-seen_stage held (Ended at) = SeenEnded at
+abbrev pub phase_of_stage : {O : Type 0} → Option O → Stage → RunPhase O
+phase_of_stage held (FirstLines count) = InFirstLines count
+phase_of_stage held (Header is_first) = InHeader is_first
+phase_of_stage held Between = BetweenUnits
+phase_of_stage held (Event left counted) = InEvent left counted
+phase_of_stage held Open = phase_of_open held
+phase_of_stage held Looking = LookingOn
+phase_of_stage held Closed = RunClosed
+phase_of_stage held (Ended at) = RunEnded at
 
 -- a stage without what is known of its open epoch
-abbrev pub bare_phase : Stage → SeenPhase ⊤
-bare_phase stage = seen_stage (Some tt) stage
+abbrev pub bare_phase : Stage → RunPhase ⊤
+bare_phase stage = phase_of_stage (Some tt) stage
 
 -- in the stage of an open epoch there is one
 abbrev pub is_held : {O : Type 0} → Stage → Option O → Bool

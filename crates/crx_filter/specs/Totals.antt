@@ -8,13 +8,13 @@ use Rattle.crx_filter.specs.declared.rinex_reader.RinexReader.{RinexReader}
 use Rattle.crx_filter.specs.declared.rinex_reader.RinexStep.{RinexStep}
 use Rattle.crx_filter.specs.declared.rinex_reader.RinexStep.TheVariants.{Begun, Row as StepRow, Epoch as StepEpoch}
 use Rattle.crx_header.specs.meaning.ObservationTypes.{Count}
-use Rattle.crx_filter.specs.LineByLine.{Made, Completes, Moves, Fails, Repeats}
+use Rattle.crx_filter.specs.LineByLine.{Made, Completes, Moves, Rejects, Repeats}
 use Rattle.crx_filter.specs.meaning.Standard.{Findings, version_in}
-use Rattle.crx_filter.specs.CheckByLine.{Totals as TotalsSeen, printed_open}
+use Rattle.crx_filter.specs.CheckByLine.{Totals as TotalsNoted, printed_open}
 use Rattle.crx_filter.specs.declared.report.Totals.{Totals}
 
 -- the totals in the state
-abbrev pub totals_held : Totals → TotalsSeen
+abbrev pub totals_held : Totals → TotalsNoted
 totals_held t = record {
   version = version_in t.version;
   epochs = t.epochs;
@@ -43,7 +43,7 @@ pub record AreBounded (t : Totals) (number : ℕ) : Type 0 where
 abbrev pub HasPrinted : Made Epoch OpenEpoch → Type 0
 HasPrinted (Completes unit) = ⊤
 HasPrinted (Moves phase) = (lines : List (List ℕ)) × (line : List ℕ) × (printed_open phase ≡ lines ++ line ∷ [])
-HasPrinted (Fails fault) = ⊤
+HasPrinted (Rejects fault) = ⊤
 HasPrinted (Repeats at) = ⊤
 
 -- the rows of an epoch so far have so many observations, and are no more than an epoch may have

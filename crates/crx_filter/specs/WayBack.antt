@@ -1,7 +1,7 @@
 -- Beside meaning/WayBack: what code and proofs see of it.
 use Rattle.std.specs.Prelude.{◌≡◌, ℕ, true, List, None, map}
 use Rattle.crx_base.specs.meaning.Lines.{lines_of}
-use Rattle.crx_base.specs.meaning.Seen.{seen}
+use Rattle.crx_base.specs.meaning.AsRead.{as_read}
 use Rattle.crx_rinex.specs.meaning.Observations.{Epoch}
 use Rattle.crx_base.specs.meaning.Choices.{Choices, is_date}
 use Rattle.crx_filter.specs.meaning.Reading.{WholeReading}
@@ -15,7 +15,7 @@ use Rattle.crx_filter.specs.meaning.WayBack.{HaveNoReturns, written_well}
 -- accepted, as RINEX prints them, and reports nothing; whatever was chosen for either
 abbrev pub ComesBack : List ℕ → Choices → Choices → Type 0
 ComesBack input compacting expanding =
-    let whole : WholeReading Epoch = whole_rinex compacting.skip (map seen (lines_of input)) in
+    let whole : WholeReading Epoch = whole_rinex compacting.skip (map as_read (lines_of input)) in
     is_date compacting.date ≡ true → whole.fault ≡ None → HaveNoReturns whole.items
     → expanded (compacted input compacting).output expanding ≡ written_well (lines_text (printed_items whole.items))
 

@@ -6,7 +6,7 @@ ghost use Rattle.crx_lines.specs.Reading.{line_number, line_shown};
 ghost use Rattle.crx_rinex.specs.Printing.{last_line};
 ghost use Rattle.crx_rinex.specs.meaning.EpochPlaces.{OpenEpoch};
 ghost use Rattle.crx_rinex.specs.meaning.Observations.{Epoch as ObservationEpoch};
-ghost use Rattle.crx_filter.specs.CheckByLine.{Totals as TotalsSeen, check_by_line, check_reading, earliest, no_choices, printed_made, totals_made};
+ghost use Rattle.crx_filter.specs.CheckByLine.{Totals as TotalsNoted, check_by_line, check_reading, earliest, no_choices, printed_made, totals_made};
 ghost use Rattle.crx_filter.specs.CheckingParts.{AreNamed};
 ghost use Rattle.crx_filter.specs.CompactionByLine.{is_before_header, Written};
 ghost use Rattle.crx_filter.specs.LineByLine.{Made};
@@ -177,13 +177,13 @@ impl Direction for Checking {
 
     ghost Open = { OpenEpoch };
 
-    ghost Kept = { TotalsSeen };
+    ghost Kept = { TotalsNoted };
 
     ghost by_line = { check_by_line };
 
     ghost chosen = { λ choices. no_choices };
 
-    ghost seen_after = { λ choices. check_reading };
+    ghost state_after_lines = { λ choices. check_reading };
 
     ghost closing_after = { λ choices lines. report_lines (findings_of lines) };
 

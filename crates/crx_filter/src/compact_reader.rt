@@ -31,13 +31,13 @@ pub struct CompactReader {
 
 impl CompactReader {
     ghost use Rattle.crx_filter.specs.CompactReaders.{ReadsCompactLine, compact_reader_parts, line_copied};
-    ghost use Rattle.crx_filter.specs.DirectionParts.{seen_by};
-    ghost use Rattle.crx_filter.specs.ExpansionByLine.{expansion_seen};
+    ghost use Rattle.crx_filter.specs.DirectionParts.{state_by};
+    ghost use Rattle.crx_filter.specs.ExpansionByLine.{expansion_state};
 
     /// A reader before the first line.
     pub fn new(alloc: Global) -> CompactReader
-        ensures start { (choices : Choices) → seen_by choices 0 (compact_reader_parts result)
-            ≡ expansion_seen choices [] }
+        ensures start { (choices : Choices) → state_by choices 0 (compact_reader_parts result)
+            ≡ expansion_state choices [] }
     {
         CompactReader {
             stage: Stage::FirstLines { count: 0 },

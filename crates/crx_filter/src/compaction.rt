@@ -114,7 +114,7 @@ impl Direction for Compaction {
     ghost use Rattle.std.specs.Prelude.{⊤};
     ghost use Rattle.crx_rinex.specs.meaning.EpochPlaces.{OpenEpoch};
     ghost use Rattle.crx_rinex.specs.meaning.Observations.{Epoch as ObservationEpoch};
-    ghost use Rattle.crx_filter.specs.CompactionByLine.{Written, compaction, compaction_seen};
+    ghost use Rattle.crx_filter.specs.CompactionByLine.{Written, compaction, compaction_state};
     ghost use Rattle.crx_filter.specs.CompactionParts.{compaction_parts, is_full_where_due};
     ghost use Rattle.crx_filter.specs.meaning.Directions.{compaction_filter};
 
@@ -128,7 +128,7 @@ impl Direction for Compaction {
 
     ghost chosen = { λ choices. choices };
 
-    ghost seen_after = { compaction_seen };
+    ghost state_after_lines = { compaction_state };
 
     ghost closing_after = { λ choices lines. [] };
 

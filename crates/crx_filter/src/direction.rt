@@ -6,12 +6,12 @@ ghost use Rattle.std.specs.Io.BufRead.{Rests};
 ghost use Rattle.std.specs.Option.{option_copied};
 ghost use Rattle.crx_base.specs.meaning.Choices.{Choices};
 ghost use Rattle.crx_base.specs.meaning.Lines.{InputLine, lines_text};
-ghost use Rattle.crx_base.specs.meaning.Seen.{ReadLine};
+ghost use Rattle.crx_base.specs.meaning.AsRead.{ReadLine};
 ghost use Rattle.crx_lines.specs.Reading.{line_number, line_shown};
 ghost use Rattle.crx_runs.specs.meaning.Filters.{Filter, with_next};
-ghost use Rattle.crx_filter.specs.DirectionParts.{AwaitsLine, CountsOneAtMost, DirectionParts, IsAfterLines, KeepsAllBeside, KnowsNext, Reads, answer_for, seen_by};
+ghost use Rattle.crx_filter.specs.DirectionParts.{AwaitsLine, CountsOneAtMost, DirectionParts, IsAfterLines, KeepsAllBeside, KnowsNext, Reads, answer_for, state_by};
 ghost use Rattle.crx_filter.specs.EngineLaws.{IsLawfulDirection};
-ghost use Rattle.crx_filter.specs.LineByLine.{Direction as DirectionByLine, Seen, answer_of_lines, fault_at_end_in};
+ghost use Rattle.crx_filter.specs.LineByLine.{Direction as DirectionByLine, RunState, answer_of_lines, fault_at_end_in};
 ghost use Rattle.crx_filter.specs.RinexStages.{is_open_stage};
 ghost use Rattle.crx_filter.specs.Stages.{bare_phase, is_ended, is_held, is_passing, is_settled};
 ghost use Rattle.crx_filter.specs.declared.stage.Stage.{Stage};
@@ -30,13 +30,13 @@ pub trait Direction: Drop {
 
     ghost Kept: { Type 0 };
 
-    // The direction that it is line by line, the user's choices as it takes them, what is seen after some lines, the lines that it hands
+    // The direction that it is line by line, the user's choices as it takes them, the state after some lines, the lines that it hands
     // out at a good end after them, and what it writes and reports.
     ghost by_line: { DirectionByLine Whole Open Kept };
 
     ghost chosen: { Choices → Choices };
 
-    ghost seen_after: { Choices → List ReadLine → Seen Open Kept };
+    ghost state_after_lines: { Choices → List ReadLine → RunState Open Kept };
 
     ghost closing_after: { Choices → List InputLine → List (List ℕ) };
 
@@ -72,8 +72,8 @@ pub trait Direction: Drop {
 
     /// A direction before the first line of its input.
     fn new(alloc: Global) -> Result<Self, AllocError>
-        ensures seen { (choices : Choices) → chosen choices ≡ choices
-            → IfOk result (λ d. seen_by choices 0 (parts d) ≡ seen_after choices []) }
+        ensures state { (choices : Choices) → chosen choices ≡ choices
+            → IfOk result (λ d. state_by choices 0 (parts d) ≡ state_after_lines choices []) }
         ensures drained { IfOk result (λ d. ready d ≡ []) }
         ensures counted { IfOk result (λ d. counted d ≡ 0) }
         ensures serves { (choices : Choices) → IfOk result (λ d. serves d choices ≡ true) }
@@ -83,9 +83,9 @@ pub trait Direction: Drop {
     fn stage(&self) -> Stage
         ensures value { result ≡ (parts self.now).stage }
         ensures held { is_held result (parts self.now).begun ≡ true }
-        ensures lawful { IsLawfulDirection by_line chosen closing_after seen_after filter }
+        ensures lawful { IsLawfulDirection by_line chosen closing_after state_after_lines filter }
         ensures passes { (choices : Choices) (lines : List InputLine) (line : InputLine)
-            → IsAfterLines chosen seen_after choices lines (parts self.now) → is_passing result ≡ true
+            → IsAfterLines chosen state_after_lines choices lines (parts self.now) → is_passing result ≡ true
             → knows self.now lines → knows self.now (with_next lines line) };
 
     /// Takes a line of an open epoch: `true` says that lines are ready.
@@ -96,7 +96,7 @@ pub trait Direction: Drop {
             (line_shown line.entry).content result (ready self.new) (parts self.new) }
         ensures serves { (choices : Choices) → serves self.old choices ≡ true → serves self.new choices ≡ true }
         ensures counted { CountsOneAtMost result (counted self.old) (counted self.new) }
-        ensures knows { KnowsNext chosen seen_after (parts self.old) (knows self.old) (knows self.new)
+        ensures knows { KnowsNext chosen state_after_lines (parts self.old) (knows self.old) (knows self.new)
             (line_number line.entry) (line_shown line.entry) result };
 
     /// Takes a line where no epoch is open: `true` says that lines are ready.
@@ -108,7 +108,7 @@ pub trait Direction: Drop {
             (line_shown line.entry).content result (ready self.new) (parts self.new) }
         ensures serves { serves self.new options.now ≡ true }
         ensures counted { CountsOneAtMost result (counted self.old) (counted self.new) }
-        ensures knows { KnowsNext chosen seen_after (parts self.old) (knows self.old) (knows self.new)
+        ensures knows { KnowsNext chosen state_after_lines (parts self.old) (knows self.old) (knows self.new)
             (line_number line.entry) (line_shown line.entry) result };
 
     /// Goes to a stage after a fault, and forgets the epochs before.
@@ -133,7 +133,7 @@ pub trait Direction: Drop {
         ensures serves { (choices : Choices) → serves self.new choices ≡ true }
         ensures counted { counted self.new ≤ counted self.old }
         ensures closing { (choices : Choices) (lines : List InputLine)
-            → IsAfterLines chosen seen_after choices lines (parts self.old) → knows self.old lines
+            → IsAfterLines chosen state_after_lines choices lines (parts self.old) → knows self.old lines
             → (closing self.old ≡ closing_after choices lines) × has_found self.new lines };
 
     /// Whether none of the lines that were ready is pending.

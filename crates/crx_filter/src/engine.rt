@@ -40,11 +40,11 @@ impl<D: Direction> Engine<D> {
     ghost use Rattle.std.specs.Io.BufRead.{Rests};
     ghost use Rattle.std.specs.Option.{option_copied};
     ghost use Rattle.crx_base.specs.meaning.Lines.{InputLine, is_long};
-    ghost use Rattle.crx_base.specs.meaning.Seen.{Content};
+    ghost use Rattle.crx_base.specs.meaning.AsRead.{Content};
     ghost use Rattle.crx_base.specs.declared.fault.At.{At};
     ghost use Rattle.crx_lines.specs.Reading.{line_number, line_shown};
     ghost use Rattle.crx_filter.specs.DirectionParts.{AnswersToFault, IsAfterLines};
-    ghost use Rattle.crx_filter.specs.EngineState.{EngineAwaits, EngineConcludes, EngineEnds, EngineGoes, EngineReads, EngineSkips, engine_ready, engine_seen, engine_took};
+    ghost use Rattle.crx_filter.specs.EngineState.{EngineAwaits, EngineConcludes, EngineEnds, EngineGoes, EngineReads, EngineSkips, engine_ready, engine_state, engine_took};
     ghost use Rattle.crx_filter.specs.EngineSteps.{Steps};
     ghost use Rattle.crx_filter.specs.LineByLine.{Ended, may_skip};
     ghost use Rattle.crx_filter.specs.RinexStages.{is_open_stage};
@@ -55,7 +55,7 @@ impl<D: Direction> Engine<D> {
 
     /// An engine before the first line of its input; `AllocError` comes where there is no memory for a line.
     pub fn new(alloc: Global, options: Options) -> Result<Engine<D>, AllocError>
-        ensures seen { IfOk result (λ e. engine_seen D.Direction e ≡ D.seen_after (D.chosen options) []) }
+        ensures state { IfOk result (λ e. engine_state D.Direction e ≡ D.state_after_lines (D.chosen options) []) }
         ensures drained { IfOk result (λ e. engine_ready D.Direction e ≡ []) }
         ensures knows { IfOk result (λ e. D.knows e.direction []) }
     {
@@ -76,10 +76,10 @@ impl<D: Direction> Engine<D> {
         requires drained { engine_ready D.Direction self.old ≡ [] }
         ensures fails { (stage : Stage) → skips ≡ may_skip (bare_phase stage) → is_open ≡ is_open_stage stage
             → AnswersToFault D.by_line self.old.options self.old.number stage fault goes_on
-            (D.parts self.old.direction) self.new.answer (engine_seen D.Direction self.new) }
+            (D.parts self.old.direction) self.new.answer (engine_state D.Direction self.new) }
         ensures drained { engine_ready D.Direction self.new ≡ [] }
         ensures options { self.new.options ≡ self.old.options }
-        ensures ended { IfErr self.new.answer (λ at. (engine_seen D.Direction self.new).phase ≡ Ended at) }
+        ensures ended { IfErr self.new.answer (λ at. (engine_state D.Direction self.new).phase ≡ Ended at) }
         ensures skips { IfOk self.new.answer (λ step. self.old.options.skip ≡ true) }
     {
         let notice = At {
@@ -164,7 +164,7 @@ impl<D: Direction> Engine<D> {
         requires drained { engine_ready D.Direction self.old ≡ [] }
         ensures stops { EngineEnds D.Direction self.old result self.new }
         ensures closing { (lines : List InputLine)
-            → IsAfterLines D.chosen D.seen_after self.old.options lines (D.parts self.old.direction)
+            → IsAfterLines D.chosen D.state_after_lines self.old.options lines (D.parts self.old.direction)
             → D.knows self.old.direction lines → EngineConcludes D.Direction self.old lines result self.new }
         ensures goes { EngineGoes D.Direction self.old }
     {
@@ -198,14 +198,14 @@ impl<D: Direction> Engine<D> {
     /// looked for: then it is passed over.
     pub fn overlong(&mut self, number: u64) -> Result<Step, At>
         requires drained { engine_ready D.Direction self.old ≡ [] }
-        requires next { number ≡ (engine_seen D.Direction self.old).number + 1 }
+        requires next { number ≡ (engine_state D.Direction self.old).number + 1 }
         requires within { number ≤ INPUT_LIMIT }
         ensures stops { EngineSkips D.Direction self.old result self.new }
         ensures answers { (lines : List InputLine) (notices : List Awaited) (line : InputLine)
             → engine_took D.Direction self.old lines notices → IsAwaited notices line → is_long line ≡ true
-            → EngineAnswers (D.filter (engine_seen D.Direction self.old).choices)
+            → EngineAnswers (D.filter (engine_state D.Direction self.old).choices)
             (engine_took D.Direction self.new) (engine_ready D.Direction self.new) lines notices line result }
-        ensures repeated { (at : At) → (engine_seen D.Direction self.old).phase ≡ Ended at → result ≡ Err at }
+        ensures repeated { (at : At) → (engine_state D.Direction self.old).phase ≡ Ended at → result ≡ Err at }
     {
         let stage = self.direction.stage();
         self.number = number;
@@ -226,11 +226,11 @@ impl<D: Direction> Engine<D> {
         ensures stops { EngineEnds D.Direction self.old result self.new }
         // After the lines that it has taken, the answer is what its direction makes of them all.
         ensures concludes { (lines : List InputLine) → engine_took D.Direction self.old lines []
-            → Concludes (D.filter (engine_seen D.Direction self.old).choices) (engine_ready D.Direction self.new) lines result }
+            → Concludes (D.filter (engine_state D.Direction self.old).choices) (engine_ready D.Direction self.new) lines result }
         // After a good end it has found in them what is to be found.
         ensures found { (lines : List InputLine) → engine_took D.Direction self.old lines []
             → IfOk result (λ step. D.has_found self.new.direction lines) }
-        ensures repeated { (at : At) → (engine_seen D.Direction self.old).phase ≡ Ended at → result ≡ Err at }
+        ensures repeated { (at : At) → (engine_state D.Direction self.old).phase ≡ Ended at → result ≡ Err at }
     {
         self.close()
     }
@@ -240,19 +240,19 @@ impl<D: Direction> Engine<D> {
     /// ends the run, at this line; from then on each call answers the same, and no line is ready.
     pub fn feed(&mut self, line: Line<'_>) -> Result<Step, At>
         requires drained { engine_ready D.Direction self.old ≡ [] }
-        requires next { line_number line ≡ (engine_seen D.Direction self.old).number + 1 }
+        requires next { line_number line ≡ (engine_state D.Direction self.old).number + 1 }
         requires within { line_number line ≤ INPUT_LIMIT }
-        ensures steps { Steps D.by_line (engine_seen D.Direction self.old) (Content
-            (line_shown line.entry).content) result (engine_ready D.Direction self.new) (engine_seen D.Direction self.new) }
-        ensures ended { IfErr result (λ at. (engine_seen D.Direction self.new).phase ≡ Ended at) }
+        ensures steps { Steps D.by_line (engine_state D.Direction self.old) (Content
+            (line_shown line.entry).content) result (engine_ready D.Direction self.new) (engine_state D.Direction self.new) }
+        ensures ended { IfErr result (λ at. (engine_state D.Direction self.new).phase ≡ Ended at) }
         ensures nothing { OnErr result (engine_ready D.Direction self.new ≡ []) }
-        ensures choices { (engine_seen D.Direction self.new).choices ≡ (engine_seen D.Direction self.old).choices }
+        ensures choices { (engine_state D.Direction self.new).choices ≡ (engine_state D.Direction self.old).choices }
         // After the lines that it has taken, the answer, and the lines that are ready, are what its direction makes of these and the next one.
         ensures answers { (lines : List InputLine) (notices : List Awaited)
             → engine_took D.Direction self.old lines notices → IsAwaited notices (line_shown line.entry)
-            → EngineAnswers (D.filter (engine_seen D.Direction self.old).choices) (engine_took D.Direction self.new)
+            → EngineAnswers (D.filter (engine_state D.Direction self.old).choices) (engine_took D.Direction self.new)
             (engine_ready D.Direction self.new) lines notices (line_shown line.entry) result }
-        ensures repeated { (at : At) → (engine_seen D.Direction self.old).phase ≡ Ended at → result ≡ Err at }
+        ensures repeated { (at : At) → (engine_state D.Direction self.old).phase ≡ Ended at → result ≡ Err at }
     {
         let is_quiet = self.take_line(line);
         answer_given(is_quiet, self.answer)
@@ -270,7 +270,7 @@ impl<D: Direction> Engine<D> {
         ensures value { option_copied result ≡ slice_get (engine_ready D.Direction self.old) 0 }
         // That line is no longer pending; all else of the engine is the same, and of its direction what is seen, known and found.
         ensures* after_borrow { sem 𝓛 (Rests (the_row D.row D.Direction) self.entry (λ new. (engine_ready D.Direction new
-            ≡ drop 1 (engine_ready D.Direction self.old)) × (engine_seen D.Direction new ≡ engine_seen D.Direction self.old)
+            ≡ drop 1 (engine_ready D.Direction self.old)) × (engine_state D.Direction new ≡ engine_state D.Direction self.old)
             × ((lines : List InputLine) → D.knows self.old.direction lines → D.knows new.direction lines)
             × ((lines : List InputLine) → D.has_found self.old.direction lines → D.has_found new.direction lines)
             × (new ≡ record self.old { direction = new.direction })

@@ -32,7 +32,7 @@ impl Direction for Expansion {
     ghost use Rattle.std.specs.Prelude.{⊤, Option, true, []};
     ghost use Rattle.crx_compact.specs.OpenEpochs.{HeldEpoch, OpenRawEpoch};
     ghost use Rattle.crx_compact.specs.Tails.{Tail};
-    ghost use Rattle.crx_filter.specs.ExpansionByLine.{expansion, expansion_seen};
+    ghost use Rattle.crx_filter.specs.ExpansionByLine.{expansion, expansion_state};
     ghost use Rattle.crx_filter.specs.ExpansionParts.{expansion_parts};
     ghost use Rattle.crx_filter.specs.meaning.Directions.{expansion_filter};
 
@@ -46,7 +46,7 @@ impl Direction for Expansion {
 
     ghost chosen = { λ choices. choices };
 
-    ghost seen_after = { expansion_seen };
+    ghost state_after_lines = { expansion_state };
 
     ghost closing_after = { λ choices lines. [] };
 

@@ -53,12 +53,12 @@ pub struct RinexReader {
 impl RinexReader {
     ghost use Rattle.std.specs.Prelude.{◌⊎◌, ◌++◌, ◌∷◌, [], Ok, false, length, ◌≤◌, OnOk, IfOk, IfErr, OnErr};
     ghost use Rattle.crx_base.specs.declared.limits.TheConstants.{SATELLITES_LIMIT};
-    ghost use Rattle.crx_base.specs.meaning.Seen.{Content};
+    ghost use Rattle.crx_base.specs.meaning.AsRead.{Content};
     ghost use Rattle.crx_header.specs.meaning.EpochColumns.{begins_epoch};
     ghost use Rattle.crx_rinex.specs.meaning.Epochs.{has_satellite};
     ghost use Rattle.crx_rinex.specs.meaning.SatelliteLines.{row_of};
     ghost use Rattle.crx_filter.specs.CompactionByLine.{Written, is_next_row};
-    ghost use Rattle.crx_filter.specs.LineByLine.{Fails, InHeader};
+    ghost use Rattle.crx_filter.specs.LineByLine.{Rejects, InHeader};
     ghost use Rattle.crx_filter.specs.Memory.{may_take_memory};
     ghost use Rattle.crx_filter.specs.RinexStages.{is_open_stage};
     ghost use Rattle.crx_filter.specs.Stages.{is_ended};
@@ -154,10 +154,10 @@ impl RinexReader {
         ensures ok { OnOk result (row_of self.old.types line.now ≡ Ok self.new.row) }
         ensures row { OnOk result (begins_epoch line.now ≡ false) }
         ensures repeated { (kept : Written) → OnOk result (has_satellite self.new.row.name self.old.rows.rows ≡ true
-            → made_at self.old line.now kept ≡ Fails Fault.RepeatedSatellite) }
+            → made_at self.old line.now kept ≡ Rejects Fault.RepeatedSatellite) }
         ensures memory { OnOk result (has_satellite self.new.row.name self.old.rows.rows ≡ false
             → may_take_memory (λ first. false) is_next_row (reader_phase self.old) (Content line.now) ≡ true) }
-        ensures refused { (kept : Written) → IfErr result (λ fault. made_at self.old line.now kept ≡ Fails fault) }
+        ensures refused { (kept : Written) → IfErr result (λ fault. made_at self.old line.now kept ≡ Rejects fault) }
         ensures same { IsSameReader self.old self.new }
     {
         if begins_epoch(line) {

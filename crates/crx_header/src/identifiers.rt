@@ -40,30 +40,30 @@ impl Identifiers {
     /// Puts an identifier at a place, where none of those before it is the same: `false` comes where one is. Those before it
     /// stay in any case.
     #[inline(always)]
-    pub fn put(&mut self, place: usize, name: [u8; NAME_WIDTH]) -> Result<bool, AllocError>
-        requires within { place ≤ length self.old.names }
+    pub fn put(&mut self, index: usize, name: [u8; NAME_WIDTH]) -> Result<bool, AllocError>
+        requires within { index ≤ length self.old.names }
         ensures new { IfOk result
-            (λ is_new. is_among (λ (n : List ℕ). n) name (take place self.old.names) ≡ not is_new) }
+            (λ is_new. is_among (λ (n : List ℕ). n) name (take index self.old.names) ≡ not is_new) }
         ensures next { IfOk result (λ is_new. is_new ≡ true
-            → take (place + 1) self.new.names ≡ take place self.old.names ++ name ∷ []) }
-        ensures kept { take place self.new.names ≡ take place self.old.names }
-        ensures within { place ≤ length self.new.names }
+            → take (index + 1) self.new.names ≡ take index self.old.names ++ name ∷ []) }
+        ensures kept { take index self.new.names ≡ take index self.old.names }
+        ensures within { index ≤ length self.new.names }
         // There are no more than before, or than the places up to this one.
-        ensures few { (n : ℕ) → length self.old.names ≤ n → place < n → length self.new.names ≤ n }
-        ensures err { OnErr result (is_among (λ (n : List ℕ). n) name (take place self.old.names) ≡ false) }
+        ensures few { (n : ℕ) → length self.old.names ≤ n → index < n → length self.new.names ≤ n }
+        ensures err { OnErr result (is_among (λ (n : List ℕ). n) name (take index self.old.names) ≡ false) }
         // Where there is room, or the same identifier was at the place, no memory is asked for; nor where at least as many of those that
         // were there are dropped as stay, since their memory is used again.
         ensures asked { OnErr result (self.old.spare ≡ 0) }
-        ensures known { slice_get self.old.names place ≡ Some name → IsOk result }
-        ensures used_again { place < length self.old.names → 2 * place ≤ length self.old.names → IsOk result }
+        ensures known { slice_get self.old.names index ≡ Some name → IsOk result }
+        ensures used_again { index < length self.old.names → 2 * index ≤ length self.old.names → IsOk result }
         // No more room is used than for this one.
         ensures room { self.old.spare ≤ self.new.spare + 1 }
     {
         let names = self.names.as_slice();
-        if place < names.len() && is_same_identifier(names[place], name) {
+        if index < names.len() && is_same_identifier(names[index], name) {
             return Ok(true);
         }
-        self.names.truncate(place);
+        self.names.truncate(index);
         Ok(self.names.insert(name)?)
     }
 }

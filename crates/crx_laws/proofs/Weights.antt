@@ -1,18 +1,16 @@
 -- What an expansion writes is bounded by the lines that it has read: each has a weight, and no unit's text is
 -- longer than its lines weigh.
-use Rattle.crx_filter.proofs.Words.{ℕ, zero, suc, ◌≡◌, ◌+◌, ◌-◌, ◌*◌, ◌<◌, ◌≤◌, Bool, cond, List, [], ◌∷◌}
-use Rattle.crx_filter.proofs.Words.{◌++◌, map, length, drop, Option, Some, None, refl, ap, sym, ◌∙◌, subst}
-use Rattle.crx_filter.proofs.Words.{arith, length-append, ⊤, ◌==◌, AllByRecursion, length-map}
-use Rattle.crx_filter.proofs.Words.{flat_map-append, Piece, pieces_of, onto_first, without_return, line_of}
-use Rattle.crx_filter.proofs.Words.{lines_of, is_long, lines_text, ReadLine, Content, Overlong, seen, Fault}
-use Rattle.crx_filter.proofs.Words.{IsDecidedAfter, Remains, IsWholeEpoch, Place, Here, Wrong, Wanted}
-use Rattle.crx_filter.proofs.Words.{one_line, first_line, printed_epoch, printed_row, FileUnit, HeaderLine}
-use Rattle.crx_filter.proofs.Words.{EventLine, EventRecord, Observation, IsGood, Count, ReadEpoch, epoch_at}
-use Rattle.crx_filter.proofs.Words.{RawEpoch, Choices, Item, Accepted, is_at_start, records_count_types}
-use Rattle.crx_filter.proofs.Words.{types_in_force, unless_wrong, types_fault, header_line_fault, header_line}
-use Rattle.crx_filter.proofs.Words.{event_record, Reading, WholeReading, reading_from, raws_kept}
-use Rattle.crx_filter.proofs.Words.{as_observation, compact_place, first_lines, expanded_unit, whole_compact}
-use Rattle.crx_filter.proofs.Words.{expanded, expanded_lines, ItemsAreRead}
+use Rattle.crx_filter.proofs.Words.{ℕ, zero, suc, ◌≡◌, ◌+◌, ◌-◌, ◌*◌, ◌<◌, ◌≤◌, Bool, List, [], ◌∷◌, ◌++◌}
+use Rattle.crx_filter.proofs.Words.{map, length, drop, refl, ap, sym, ◌∙◌, subst, arith, length-append, ⊤}
+use Rattle.crx_filter.proofs.Words.{◌==◌, AllByRecursion, length-map, flat_map-append, Piece, pieces_of}
+use Rattle.crx_filter.proofs.Words.{onto_first, without_return, line_of, lines_of, is_long, lines_text}
+use Rattle.crx_filter.proofs.Words.{ReadLine, Content, Overlong, as_read, IsDecidedAfter, Remains}
+use Rattle.crx_filter.proofs.Words.{IsWholeEpoch, Place, Done, Fails, NeedsMore, printed_epoch, printed_row}
+use Rattle.crx_filter.proofs.Words.{FileUnit, HeaderLine, EventLine, EventRecord, Observation, IsGood, Count}
+use Rattle.crx_filter.proofs.Words.{ReadEpoch, epoch_at, RawEpoch, Choices, Item, Accepted, types_in_force}
+use Rattle.crx_filter.proofs.Words.{Reading, WholeReading, reading_from, raws_kept, compact_place}
+use Rattle.crx_filter.proofs.Words.{first_lines, expanded_unit, whole_compact, expanded, expanded_lines}
+use Rattle.crx_filter.proofs.Words.{ItemsAreRead}
 use Rattle.crx_compact.proofs.soundness.Soundness.{EpochFacts, epoch-facts}
 use Rattle.crx_compact.specs.meaning.CompactPlaces.{ReadRow}
 use Rattle.crx_filter.proofs.Choosing.{by_bool}
@@ -70,12 +68,12 @@ drop-weight (suc n) (line ∷ lines) h =
 -- ---- a unit is no longer than its lines weigh
 
 abbrev Weighs : List ReadLine → List Count → Place (FileUnit ReadEpoch) → Type 0
-Weighs lines types (Here (HeaderLine line) count) =
+Weighs lines types (Done (HeaderLine line) count) =
     size (line ∷ []) + weight (drop count lines) ≤ weight lines
-Weighs lines types (Here (EventLine line) count) = size (line ∷ []) + weight (drop count lines) ≤ weight lines
-Weighs lines types (Here (EventRecord line) count) =
+Weighs lines types (Done (EventLine line) count) = size (line ∷ []) + weight (drop count lines) ≤ weight lines
+Weighs lines types (Done (EventRecord line) count) =
     size (line ∷ []) + weight (drop count lines) ≤ weight lines
-Weighs lines types (Here (Observation read) count) = IsWholeEpoch types read.epoch
+Weighs lines types (Done (Observation read) count) = IsWholeEpoch types read.epoch
     → count ≤ length lines → size (printed_epoch read.epoch) + weight (drop count lines) ≤ weight lines
 Weighs lines types p = ⊤
 
@@ -108,7 +106,7 @@ all-shorter (line ∷ lines) h = let first = h.0 in (omega (arith, first), all-s
 
 epoch-weight : (types : List Count) (older : List RawEpoch) (lines : List ReadLine) (read : ReadEpoch)
     (count : ℕ)
-    → epoch_at types older lines ≡ Here read count → IsWholeEpoch types read.epoch → count ≤ length lines
+    → epoch_at types older lines ≡ Done read count → IsWholeEpoch types read.epoch → count ≤ length lines
     → size (printed_epoch read.epoch) + weight (drop count lines) ≤ weight lines
 epoch-weight types older lines read count e whole within =
     let facts : EpochFacts types older read count = epoch-facts types older lines read count e in
@@ -137,14 +135,14 @@ unit-weighs items lines =
     (λ read count e. epoch-weight types (raws_kept items) lines read count e))
 
 written-weighs : (items : List (Item ReadEpoch)) (lines : List ReadLine) (unit : FileUnit ReadEpoch)
-    (count : ℕ) → compact_place items lines ≡ Here unit count → AreGoodEpochs (Accepted unit ∷ items)
+    (count : ℕ) → compact_place items lines ≡ Done unit count → AreGoodEpochs (Accepted unit ∷ items)
     → size (expanded_unit items unit) + weight (drop count lines) ≤ weight lines
 written-weighs items lines unit count e good =
     by_unit unit good (subst (Weighs lines (types_in_force items)) e (unit-weighs items lines))
     (here-within compact_place compact-forward items lines unit count e).1
   where
     by_unit : (unit : FileUnit ReadEpoch) → AreGoodEpochs (Accepted unit ∷ items)
-        → Weighs lines (types_in_force items) (Here unit count) → count ≤ length lines
+        → Weighs lines (types_in_force items) (Done unit count) → count ≤ length lines
         → size (expanded_unit items unit) + weight (drop count lines) ≤ weight lines
     by_unit (HeaderLine line) good h within = h
     by_unit (EventLine line) good h within = h
@@ -188,12 +186,12 @@ return-shorter [] = omega arith
 return-shorter (b ∷ []) = by_bool (b == 13) (λ on. rw on (omega arith)) (λ off. rw off (omega arith))
 return-shorter (b ∷ c ∷ bs) = let rest = return-shorter (c ∷ bs) in omega (arith, rest)
 
-line-lighter : (p : Piece) → cost (seen (line_of p)) ≤ most_for_a_byte * (length p.bytes + 1)
+line-lighter : (p : Piece) → cost (as_read (line_of p)) ≤ most_for_a_byte * (length p.bytes + 1)
 line-lighter p =
     let shorter = return-shorter p.bytes in
     by_bool (is_long (line_of p)) (λ on. rw on (omega arith)) (λ off. rw off (omega (arith, shorter)))
 
-pieces-lighter : (ps : List Piece) → weight (map seen (map line_of ps)) ≤ piece_weight ps
+pieces-lighter : (ps : List Piece) → weight (map as_read (map line_of ps)) ≤ piece_weight ps
 pieces-lighter [] = omega arith
 pieces-lighter (p ∷ ps) =
     let one = line-lighter p in
@@ -219,15 +217,15 @@ pub within-size : (text : List ℕ) (choices : Choices) → IsWithinSize text ch
 within-size text choices = by_first (first_lines lines) refl
   where
     lines : List ReadLine
-    lines = map seen (lines_of text)
+    lines = map as_read (lines_of text)
 
     by_first : (p : Place (List (List ℕ))) → first_lines lines ≡ p → IsWithinSize text choices
-    by_first (Wrong offset fault) e = rw (e, whole_compact) (omega arith)
-    by_first Wanted e = rw (e, whole_compact) (omega arith)
-    by_first (Here two count) e =
-        let some : IsDecidedAfter 0 (Here two count) =
+    by_first (Fails offset fault) e = rw (e, whole_compact) (omega arith)
+    by_first NeedsMore e = rw (e, whole_compact) (omega arith)
+    by_first (Done two count) e =
+        let some : IsDecidedAfter 0 (Done two count) =
         subst (IsDecidedAfter 0) e (steady-first_lines [] lines) in
-        let stays : Remains (length lines) (Here two count) (first_lines (lines ++ [])) =
+        let stays : Remains (length lines) (Done two count) (first_lines (lines ++ [])) =
         subst (λ q. Remains (length lines) q (first_lines (lines ++ []))) e (steady-first_lines lines []) in
         let within : count ≤ length lines = stays.0 in
         let rest : List ReadLine = drop count lines in

@@ -4,7 +4,7 @@ use Rattle.std.specs.Prelude.{ℕ, ◌≡◌, Bool, true, List, ◌++◌, Option
 use Rattle.std.specs.List.{list_all}
 use Rattle.std.specs.Option.{option_map}
 use Rattle.crx_base.specs.meaning.Lines.{Piece, pieces_of, lines_of, lines_text}
-use Rattle.crx_base.specs.meaning.Seen.{seen}
+use Rattle.crx_base.specs.meaning.AsRead.{as_read}
 use Rattle.crx_base.specs.declared.fault.At.{At}
 use Rattle.crx_base.specs.declared.fault.Fault.{Fault}
 use Rattle.crx_filter.specs.Anew.{starts_anew}
@@ -24,7 +24,7 @@ has_whole_lines text = list_all (λ (piece : Piece). piece.is_ended) (pieces_of 
 
 -- what is read of compact text
 abbrev pub read_of_text : List ℕ → Choices → WholeReading ReadEpoch
-read_of_text text choices = whole_compact choices.skip (map seen (lines_of text))
+read_of_text text choices = whole_compact choices.skip (map as_read (lines_of text))
 
 -- a text after which more can come: its lines end with LF, and no fault ends its expansion
 pub record CanGoOn (text : List ℕ) (choices : Choices) : Type 0 where
@@ -53,7 +53,7 @@ pub record GoOnWith (more : List ℕ) (one other : List ℕ) (choices : Choices)
 abbrev pub StandAlone : List ℕ → List ℕ → List ℕ → Choices → Type 0
 StandAlone more one other choices =
     CanGoOn one choices → CanGoOn other choices → HaveSameTypes one other choices
-    → starts_anew 0 (map seen (lines_of more)) ≡ true → GoOnWith more one other choices
+    → starts_anew 0 (map as_read (lines_of more)) ≡ true → GoOnWith more one other choices
 
 -- ---- blocks that a compaction wrote
 

@@ -5,7 +5,7 @@ use Rattle.crx_base.specs.declared.limits.TheConstants.{LINE_LIMIT}
 use Rattle.crx_base.specs.declared.fault.Fault.{Fault}
 use Rattle.crx_header.specs.meaning.EpochColumns.{is_event_line}
 use Rattle.crx_rinex.specs.meaning.Observations.{Epoch}
-use Rattle.crx_rinex.specs.meaning.Places.{Place, Here, Wrong, Wanted}
+use Rattle.crx_rinex.specs.meaning.Places.{Place, Done, Fails, NeedsMore}
 use Rattle.crx_compact.specs.OpenEpochs.{ColumnsState, HeldEpoch, Idle}
 
 -- a line that may be read as one of an observation epoch
@@ -18,10 +18,10 @@ AreReadable lines = AllByRecursion IsReadable lines
 
 -- what was made of lines, by what is there: the epoch, or none where more lines are wanted
 abbrev pub HasGiven : Place HeldEpoch → ColumnsState → Option Epoch → Type 0
-HasGiven place after None = place ≡ Wanted
+HasGiven place after None = place ≡ NeedsMore
 HasGiven place after (Some epoch) = (held : HeldEpoch)
-    × (count : ℕ) × (place ≡ Here held count) × (epoch ≡ held.epoch) × (after ≡ Idle (Some held.tail))
+    × (count : ℕ) × (place ≡ Done held count) × (epoch ≡ held.epoch) × (after ≡ Idle (Some held.tail))
 
 -- a fault that is there
 abbrev pub IsFaultAt : Place HeldEpoch → Fault → Type 0
-IsFaultAt place fault = (offset : ℕ) × (place ≡ Wrong offset fault)
+IsFaultAt place fault = (offset : ℕ) × (place ≡ Fails offset fault)

@@ -3,7 +3,7 @@ use Rattle.std.specs.Prelude.{ℕ, ◌≡◌, ◌≤◌, ◌+◌, ◌*◌, ⊤, 
 use Rattle.std.specs.List.{AllByRecursion}
 use Rattle.crx_base.specs.declared.limits.TheConstants.{LINE_LIMIT, SATELLITES_LIMIT, TYPES_LIMIT, HEAD_WIDTH}
 use Rattle.crx_base.specs.declared.limits.TheConstants.{NAME_WIDTH, CELL_WIDTH, ORDER_LIMIT, WRITTEN_ORDER}
-use Rattle.crx_base.specs.meaning.Seen.{ReadLine, Content, Overlong}
+use Rattle.crx_base.specs.meaning.AsRead.{ReadLine, Content, Overlong}
 use Rattle.crx_rinex.specs.meaning.Observations.{Row, Epoch}
 use Rattle.crx_rinex.specs.meaning.Units.{Unit as FileUnit, HeaderLine, EventLine, EventRecord, Observation}
 use Rattle.crx_rinex.specs.meaning.EpochPlaces.{OpenEpoch}
@@ -18,7 +18,7 @@ use Rattle.crx_filter.specs.meaning.Compacted.{compact_unit}
 use Rattle.crx_filter.specs.meaning.Directions.{rinex_reading}
 use Rattle.crx_filter.specs.meaning.Expanded.{expanded_unit}
 use Rattle.crx_filter.specs.meaning.Directions.{compact_reading}
-use Rattle.crx_filter.specs.LineByLine.{Phase, InEpoch, Seen}
+use Rattle.crx_filter.specs.LineByLine.{Phase, InEpoch, RunState}
 use Rattle.crx_filter.specs.CompactionByLine.{Written}
 
 -- a row within the limits: its identifier, a value for each type, and two indicators
@@ -43,18 +43,18 @@ OfOpen P phase = ⊤
 
 -- the state of a compaction: a count for each system at most; the tail of the epochs before, with the
 -- numbers of the order that is written; and of an epoch whose rows have come in part, as many rows as an epoch may have
-pub record IsBoundedCompaction (seen : Seen OpenEpoch Written) : Type 0 where
-  pub systems : length seen.types ≤ length system_letters
-  pub counts : AreCounts seen.types
-  pub tail : IfSome seen.kept.tail (IsBoundedTail WRITTEN_ORDER)
-  pub open_epoch : OfOpen IsBoundedEpoch seen.phase
+pub record IsBoundedCompaction (state : RunState OpenEpoch Written) : Type 0 where
+  pub systems : length state.types ≤ length system_letters
+  pub counts : AreCounts state.types
+  pub tail : IfSome state.kept.tail (IsBoundedTail WRITTEN_ORDER)
+  pub open_epoch : OfOpen IsBoundedEpoch state.phase
 
 -- the state of an expansion: as that of a compaction, with the numbers of the highest order that is read
-pub record IsBoundedExpansion (seen : Seen OpenRawEpoch (Option Tail)) : Type 0 where
-  pub systems : length seen.types ≤ length system_letters
-  pub counts : AreCounts seen.types
-  pub tail : IfSome seen.kept (IsBoundedTail ORDER_LIMIT)
-  pub open_epoch : OfOpen IsBoundedOpen seen.phase
+pub record IsBoundedExpansion (state : RunState OpenRawEpoch (Option Tail)) : Type 0 where
+  pub systems : length state.types ≤ length system_letters
+  pub counts : AreCounts state.types
+  pub tail : IfSome state.kept (IsBoundedTail ORDER_LIMIT)
+  pub open_epoch : OfOpen IsBoundedOpen state.phase
 
 -- ---- what is borrowed
 

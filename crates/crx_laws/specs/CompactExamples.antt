@@ -6,7 +6,7 @@ use Rattle.crx_compact.specs.meaning.Compaction.{Marked}
 use Rattle.crx_header.specs.meaning.ObservationTypes.{Count}
 use Rattle.crx_laws.specs.Examples.{one_type}
 use Rattle.crx_rinex.specs.meaning.Places.{Place}
-use Rattle.crx_base.specs.meaning.Seen.{ReadLine, Content}
+use Rattle.crx_base.specs.meaning.AsRead.{ReadLine, Content}
 use Rattle.crx_compact.specs.meaning.CompactPlaces.{ReadEpoch}
 use Rattle.crx_compact.specs.OpenEpochs.{After, OpenRawEpoch, placed_as}
 use Rattle.crx_compact.specs.ReadingLaws.{epochs_at, TypedEpoch}

@@ -2,7 +2,7 @@
 use Rattle.std.specs.Prelude.{ℕ, Bool, true, false, List, [], ◌∷◌, ◌++◌, Some, None, codes, length}
 use Rattle.crx_base.specs.declared.fault.Fault.{Fault}
 use Rattle.crx_base.specs.declared.fault.At.{At}
-use Rattle.crx_base.specs.meaning.Seen.{Content}
+use Rattle.crx_base.specs.meaning.AsRead.{Content}
 use Rattle.crx_base.specs.meaning.Lines.{InputLine, lines_of}
 use Rattle.crx_base.specs.meaning.Choices.{Choices}
 use Rattle.crx_runs.specs.meaning.Messages.{message_text, warning_text}
@@ -11,11 +11,11 @@ use Rattle.crx_base.specs.meaning.Lines.{lines_text}
 use Rattle.crx_filter.specs.meaning.Compacted.{compacted}
 use Rattle.crx_filter.specs.meaning.Expanded.{expanded}
 use Rattle.crx_filter.specs.meaning.Standard.{Findings, checked}
-use Rattle.crx_filter.specs.CheckByLine.{CheckSeen, check_seen, check_next, found_by}
-use Rattle.crx_filter.specs.LineByLine.{Direction, Seen, Step, Answer, Notice, seen_next}
+use Rattle.crx_filter.specs.CheckByLine.{CheckState, check_state, check_next, found_by}
+use Rattle.crx_filter.specs.LineByLine.{Direction, RunState, Step, Answer, Notice, state_next}
 use Rattle.crx_filter.specs.Laws.{is_again}
-use Rattle.crx_filter.specs.CompactionByLine.{compaction, compaction_seen}
-use Rattle.crx_filter.specs.ExpansionByLine.{expansion, expansion_seen}
+use Rattle.crx_filter.specs.CompactionByLine.{compaction, compaction_state}
+use Rattle.crx_filter.specs.ExpansionByLine.{expansion, expansion_state}
 use Rattle.crx_laws.specs.SmallFiles.{blanks}
 
 -- two types of GPS
@@ -49,21 +49,21 @@ abbrev pub answered : {O K : Type 0} → Step O K → Answer × ℕ
 answered step = (step.answer, length step.handed_out)
 
 -- what is answered to some lines one after another; a line that is to come again is given again
-abbrev pub answers_to : {U O K : Type 0} → Direction U O K → Seen O K → List (List ℕ) → List (Answer × ℕ)
-answers_to direction seen [] = []
-answers_to direction seen (line ∷ lines) =
-    let one : Step _ _ = seen_next direction seen (Content line) in
+abbrev pub answers_to : {U O K : Type 0} → Direction U O K → RunState O K → List (List ℕ) → List (Answer × ℕ)
+answers_to direction state [] = []
+answers_to direction state (line ∷ lines) =
+    let one : Step _ _ = state_next direction state (Content line) in
     elim (is_again one.answer) [
-      | true ↦ answered one ∷ answered (seen_next direction one.next (Content line))
-          ∷ answers_to direction (seen_next direction one.next (Content line)).next lines
+      | true ↦ answered one ∷ answered (state_next direction one.next (Content line))
+          ∷ answers_to direction (state_next direction one.next (Content line)).next lines
       | false ↦ answered one ∷ answers_to direction one.next lines
     ]
 
 abbrev pub compaction_answers : Choices → List (List ℕ) → List (Answer × ℕ)
-compaction_answers choices lines = answers_to compaction (compaction_seen choices []) lines
+compaction_answers choices lines = answers_to compaction (compaction_state choices []) lines
 
 abbrev pub expansion_answers : Choices → List (List ℕ) → List (Answer × ℕ)
-expansion_answers choices lines = answers_to expansion (expansion_seen choices []) lines
+expansion_answers choices lines = answers_to expansion (expansion_state choices []) lines
 
 -- a warning that is answered
 abbrev pub notice : ℕ → Fault → Bool → Answer
@@ -82,11 +82,11 @@ reported systems epochs events observations standard status = record {
   fault = None;
 }
 
--- what a check has seen after some lines more, line by line
-abbrev pub check_seen_on : CheckSeen → List InputLine → CheckSeen
-check_seen_on before [] = before
-check_seen_on before (line ∷ lines) = check_seen_on (check_next before line) lines
+-- the state of a check after some lines more, line by line
+abbrev pub check_state_on : CheckState → List InputLine → CheckState
+check_state_on before [] = before
+check_state_on before (line ∷ lines) = check_state_on (check_next before line) lines
 
 -- what a check finds at the end of an input, line by line
 abbrev pub found_line_by_line : List ℕ → Findings
-found_line_by_line input = found_by (check_seen_on (check_seen []) (lines_of input))
+found_line_by_line input = found_by (check_state_on (check_state []) (lines_of input))

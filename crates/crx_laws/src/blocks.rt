@@ -2,7 +2,7 @@
 
 ghost use Rattle.std.specs.Prelude.{◌≡◌, ◌++◌, [], List, ℕ, true, map};
 ghost use Rattle.crx_base.specs.meaning.Lines.{lines_of, lines_text};
-ghost use Rattle.crx_base.specs.meaning.Seen.{seen};
+ghost use Rattle.crx_base.specs.meaning.AsRead.{as_read};
 ghost use Rattle.crx_filter.specs.Anew.{starts_anew};
 ghost use Rattle.crx_filter.specs.meaning.Stretches.{read_of_file};
 ghost use Rattle.crx_laws.specs.Blocks.{CanGoOn, HaveSameTypes, StandAlone, IsPieceAfter};
@@ -37,7 +37,7 @@ pub fn premises()
     ensures one { CanGoOn first_epoch_text plain_choices }
     ensures other { CanGoOn (lines_text (first_two ++ header)) plain_choices }
     ensures types { HaveSameTypes first_epoch_text (lines_text (first_two ++ header)) plain_choices }
-    ensures more { starts_anew 0 (map seen (lines_of second_block_text)) ≡ true }
+    ensures more { starts_anew 0 (map as_read (lines_of second_block_text)) ≡ true }
     ensures piece { IsPieceAfter (lines_text (file_of_five [])) (lines_text header) in_full_every_second
         (lines_text (first_two ++ header) ++ second_block_text) }
 {}

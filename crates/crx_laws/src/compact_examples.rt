@@ -5,8 +5,8 @@ ghost use Rattle.std.specs.List.{AllByRecursion};
 ghost use Rattle.crx_base.specs.declared.fault.Fault.TheVariants.{LineTooLong, NotAnEpoch, BadEpoch, BadClock, BadSatellite, RepeatedSatellite, NoArc, OutOfRange, BadField, BadFlags, Truncated};
 ghost use Rattle.crx_laws.specs.Examples.{one_type};
 ghost use Rattle.crx_laws.specs.CompactExamples.{head_at, full_line, epoch_of_one, five_epochs, five_epochs_restarted, one_missing, one_away, ending, clocks, extremes, no_satellites, two_systems, e05, epoch_of_systems, epochs_read, epochs_in, half_open_raw, two_epochs, two_typed};
-ghost use Rattle.crx_base.specs.meaning.Seen.{Content, Overlong};
-ghost use Rattle.crx_rinex.specs.meaning.Places.{Here, Wrong, Wanted};
+ghost use Rattle.crx_base.specs.meaning.AsRead.{Content, Overlong};
+ghost use Rattle.crx_rinex.specs.meaning.Places.{Done, Fails, NeedsMore};
 ghost use Rattle.crx_header.specs.ObservationTypes.{AreCounts};
 ghost use Rattle.crx_compact.specs.OpenEpochs.{open_raw_with, first_step, state_after, tail_held};
 ghost use Rattle.crx_compact.specs.OpenEpochs.RawStep.{Faulty};
@@ -67,16 +67,16 @@ pub fn extreme_values()
 /// A difference of an arc that never started, and a value past its columns, are faults of their line.
 pub fn bad_values()
     ensures no_arc { epochs_in (one_type ∷ [])
-        (full_line 0 1 (codes "G01") ∷ [] ∷ codes "5" ∷ []) ≡ Wrong 2 NoArc }
+        (full_line 0 1 (codes "G01") ∷ [] ∷ codes "5" ∷ []) ≡ Fails 2 NoArc }
     ensures out_of_range { epochs_in (one_type ∷ one_type ∷ []) (full_line 0 1 (codes "G01") ∷ [] ∷ codes
-        "3&9999999999999" ∷ codes "                    1" ∷ [] ∷ codes "1" ∷ []) ≡ Wrong 5 OutOfRange }
+        "3&9999999999999" ∷ codes "                    1" ∷ [] ∷ codes "1" ∷ []) ≡ Fails 5 OutOfRange }
 {}
 
 /// Differences of order 1; and & where there is nothing is a blank.
 pub fn order_one()
     ensures epochs { epochs_in (one_type ∷ one_type ∷ one_type ∷ []) (full_line 0 1 (codes "G01") ∷ []
         ∷ codes "1&1000" ∷ codes "                    1                              &&&" ∷ [] ∷ codes "500"
-        ∷ codes "                    2" ∷ [] ∷ codes "500" ∷ []) ≡ Here (epoch_of_one 0 (Some (pos 1000))
+        ∷ codes "                    2" ∷ [] ∷ codes "500" ∷ []) ≡ Done (epoch_of_one 0 (Some (pos 1000))
         ∷ epoch_of_one 1 (Some (pos 1500)) ∷ epoch_of_one 2 (Some (pos 2000)) ∷ []) 9 }
 {}
 
@@ -86,7 +86,7 @@ pub fn order_two()
         (full_line 0 1 (codes "G01") ∷ [] ∷ codes "2&1000" ∷ codes "                    1"
         ∷ [] ∷ codes "500" ∷ codes "                    2"
         ∷ [] ∷ codes "100" ∷ codes "                    3" ∷ [] ∷ codes "100" ∷ [])
-        ≡ Here (epoch_of_one 0 (Some (pos 1000)) ∷ epoch_of_one 1 (Some (pos 1500))
+        ≡ Done (epoch_of_one 0 (Some (pos 1000)) ∷ epoch_of_one 1 (Some (pos 1500))
         ∷ epoch_of_one 2 (Some (pos 2100)) ∷ epoch_of_one 3 (Some (pos 2800)) ∷ []) 12 }
 {}
 
@@ -94,7 +94,7 @@ pub fn order_two()
 pub fn order_zero()
     ensures epochs { epochs_in (one_type ∷ one_type ∷ []) (full_line 0 1 (codes "G01")
         ∷ [] ∷ codes "0&1000" ∷ codes "                    1" ∷ [] ∷ codes "7" ∷ [])
-        ≡ Here (epoch_of_one 0 (Some (pos 1000)) ∷ epoch_of_one 1 (Some (pos 7)) ∷ []) 6 }
+        ≡ Done (epoch_of_one 0 (Some (pos 1000)) ∷ epoch_of_one 1 (Some (pos 7)) ∷ []) 6 }
 {}
 
 /// A start in the middle of an arc begins another, of its own order.
@@ -103,14 +103,14 @@ pub fn start_in_mid_arc()
         (full_line 0 1 (codes "G01") ∷ [] ∷ codes "3&1000" ∷ codes "                    1"
         ∷ [] ∷ codes "500" ∷ codes "                    2"
         ∷ [] ∷ codes "1&7000" ∷ codes "                    3" ∷ [] ∷ codes "1" ∷ [])
-        ≡ Here (epoch_of_one 0 (Some (pos 1000)) ∷ epoch_of_one 1 (Some (pos 1500))
+        ≡ Done (epoch_of_one 0 (Some (pos 1000)) ∷ epoch_of_one 1 (Some (pos 1500))
         ∷ epoch_of_one 2 (Some (pos 7000)) ∷ epoch_of_one 3 (Some (pos 7001)) ∷ []) 12 }
 {}
 
 /// An order above the limit is a malformed code.
 pub fn order_too_high()
     ensures fault { epochs_in (one_type ∷ [])
-        (full_line 0 1 (codes "G01") ∷ [] ∷ codes "10&1000" ∷ []) ≡ Wrong 2 BadField }
+        (full_line 0 1 (codes "G01") ∷ [] ∷ codes "10&1000" ∷ []) ≡ Fails 2 BadField }
 {}
 
 /// Differences of an order above those that are written.
@@ -119,7 +119,7 @@ pub fn order_four()
         (full_line 0 1 (codes "G01") ∷ [] ∷ codes "4&1000" ∷ codes "                    1"
         ∷ [] ∷ codes "1" ∷ codes "                    2" ∷ [] ∷ codes "1" ∷ codes "                    3"
         ∷ [] ∷ codes "1" ∷ codes "                    4" ∷ [] ∷ codes "1" ∷ codes "                    5"
-        ∷ [] ∷ codes "1" ∷ []) ≡ Here (epoch_of_one 0 (Some (pos 1000)) ∷ epoch_of_one 1 (Some (pos 1001))
+        ∷ [] ∷ codes "1" ∷ []) ≡ Done (epoch_of_one 0 (Some (pos 1000)) ∷ epoch_of_one 1 (Some (pos 1001))
         ∷ epoch_of_one 2 (Some (pos 1003)) ∷ epoch_of_one 3 (Some (pos 1007))
         ∷ epoch_of_one 4 (Some (pos 1015)) ∷ epoch_of_one 5 (Some (pos 1030)) ∷ []) 18 }
 {}
@@ -129,7 +129,7 @@ pub fn no_satellite()
     ensures written { text_lines no_satellites
         ≡ codes "> 2024 01 01 00 00  0.0000000  0  0" ∷ [] ∷ [] ∷ [] ∷ [] }
     ensures read { epochs_in (one_type ∷ one_type ∷ [])
-        (codes "> 2024 01 01 00 00  0.0000000  0  0" ∷ [] ∷ [] ∷ [] ∷ []) ≡ Here (record {
+        (codes "> 2024 01 01 00 00  0.0000000  0  0" ∷ [] ∷ [] ∷ [] ∷ []) ≡ Done (record {
           head = head_at 0 0;
           clock = None;
           rows = [];
@@ -141,45 +141,45 @@ pub fn satellites_of_two_systems()
     ensures epochs { epochs_in (two_systems ∷ two_systems ∷ [])
         (full_line 0 2 (codes "G01E05") ∷ [] ∷ codes "3&1000"
         ∷ codes "3&5000 3&-70   7" ∷ codes "                    1" ∷ [] ∷ codes "500" ∷ codes "10" ∷ [])
-        ≡ Here (epoch_of_systems 0 (pos 1000) (e05 (Some (pos 5000)) (Some (neg_ℤ (pos 70))) (codes "  7 "))
+        ≡ Done (epoch_of_systems 0 (pos 1000) (e05 (Some (pos 5000)) (Some (neg_ℤ (pos 70))) (codes "  7 "))
         ∷ epoch_of_systems 1 (pos 1500) (e05 (Some (pos 5010)) None (codes "  7 ")) ∷ []) 8 }
 {}
 
 /// Lines that are too long, and epoch lines with a fault.
 pub fn bad_epoch_lines()
     ensures long { epochs_read (one_type ∷ [])
-        (Content (full_line 0 1 (codes "G01")) ∷ Overlong ∷ []) ≡ Wrong 1 LineTooLong }
+        (Content (full_line 0 1 (codes "G01")) ∷ Overlong ∷ []) ≡ Fails 1 LineTooLong }
     ensures nothing_before { epochs_in
-        (one_type ∷ []) (codes "                    1" ∷ [] ∷ []) ≡ Wrong 0 NotAnEpoch }
-    ensures no_epoch { epochs_in (one_type ∷ []) (codes ">" ∷ []) ≡ Wrong 0 BadEpoch }
-    ensures too_many { epochs_in (one_type ∷ []) (full_line 0 1 (codes "G01G02") ∷ []) ≡ Wrong 0 BadEpoch }
+        (one_type ∷ []) (codes "                    1" ∷ [] ∷ []) ≡ Fails 0 NotAnEpoch }
+    ensures no_epoch { epochs_in (one_type ∷ []) (codes ">" ∷ []) ≡ Fails 0 BadEpoch }
+    ensures too_many { epochs_in (one_type ∷ []) (full_line 0 1 (codes "G01G02") ∷ []) ≡ Fails 0 BadEpoch }
     ensures unprintable { epochs_in
-        (one_type ∷ []) (full_line 0 1 (71 ∷ 48 ∷ 200 ∷ []) ∷ []) ≡ Wrong 0 BadEpoch }
+        (one_type ∷ []) (full_line 0 1 (71 ∷ 48 ∷ 200 ∷ []) ∷ []) ≡ Fails 0 BadEpoch }
     ensures unknown_system { epochs_in (one_type ∷ []) (full_line 0 1 (codes "E05") ∷ [])
-        ≡ Wrong 0 BadSatellite }
+        ≡ Fails 0 BadSatellite }
     ensures twice { epochs_in (one_type ∷ []) (full_line 0 2 (codes "G01G01") ∷ [])
-        ≡ Wrong 0 RepeatedSatellite }
+        ≡ Fails 0 RepeatedSatellite }
 {}
 
 /// Clock and satellite lines with a fault; the first cell with one decides, then the indicators.
 pub fn bad_lines()
     ensures clock { epochs_in (one_type ∷ [])
-        (full_line 0 1 (codes "G01") ∷ codes "xyz" ∷ []) ≡ Wrong 1 BadClock }
+        (full_line 0 1 (codes "G01") ∷ codes "xyz" ∷ []) ≡ Fails 1 BadClock }
     ensures cell_first { epochs_in
-        (one_type ∷ []) (full_line 0 1 (codes "G01") ∷ [] ∷ codes "x  7x" ∷ []) ≡ Wrong 2 BadField }
+        (one_type ∷ []) (full_line 0 1 (codes "G01") ∷ [] ∷ codes "x  7x" ∷ []) ≡ Fails 2 BadField }
     ensures mark { epochs_in (one_type ∷ [])
-        (full_line 0 1 (codes "G01") ∷ [] ∷ codes "3&1000  7x" ∷ []) ≡ Wrong 2 BadFlags }
+        (full_line 0 1 (codes "G01") ∷ [] ∷ codes "3&1000  7x" ∷ []) ≡ Fails 2 BadFlags }
     ensures unprintable { epochs_in (one_type ∷ [])
-        (full_line 0 1 (codes "G01") ∷ [] ∷ (codes "3&1000 " ++ 200 ∷ []) ∷ []) ≡ Wrong 2 BadFlags }
+        (full_line 0 1 (codes "G01") ∷ [] ∷ (codes "3&1000 " ++ 200 ∷ []) ∷ []) ≡ Fails 2 BadFlags }
     ensures no_clock_line { epochs_in
-        (one_type ∷ []) (full_line 0 1 (codes "G01") ∷ full_line 1 1 (codes "G01") ∷ []) ≡ Wrong 1 Truncated }
+        (one_type ∷ []) (full_line 0 1 (codes "G01") ∷ full_line 1 1 (codes "G01") ∷ []) ≡ Fails 1 Truncated }
     ensures no_satellite_line { epochs_in (one_type ∷ [])
-        (full_line 0 1 (codes "G01") ∷ [] ∷ full_line 1 1 (codes "G01") ∷ []) ≡ Wrong 2 Truncated }
+        (full_line 0 1 (codes "G01") ∷ [] ∷ full_line 1 1 (codes "G01") ∷ []) ≡ Fails 2 Truncated }
 {}
 
 /// An epoch whose satellite line hasn't come wants more lines, and is open.
 pub fn a_line_wanted()
-    ensures wanted { epochs_in (one_type ∷ []) (full_line 0 1 (codes "G01") ∷ [] ∷ []) ≡ Wanted }
+    ensures wanted { epochs_in (one_type ∷ []) (full_line 0 1 (codes "G01") ∷ [] ∷ []) ≡ NeedsMore }
     ensures left_open { open_raw_with one_type None
         (Content (full_line 0 1 (codes "G01")) ∷ Content [] ∷ []) ≡ Some half_open_raw }
 {}

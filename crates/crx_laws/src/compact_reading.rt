@@ -1,7 +1,7 @@
 //! Laws of reading compact text: each is the contract of a function that does nothing.
 
 ghost use Rattle.std.specs.Prelude.{◌≡◌, true, ℕ, List, Option};
-ghost use Rattle.crx_base.specs.meaning.Seen.{ReadLine};
+ghost use Rattle.crx_base.specs.meaning.AsRead.{ReadLine};
 ghost use Rattle.crx_header.specs.meaning.ObservationTypes.{Count};
 ghost use Rattle.crx_compact.specs.meaning.Expansion.{RawEpoch};
 ghost use Rattle.crx_compact.specs.ReadingLaws.{EachReadsBack, ReadsBack, ReadsSoundly, HasSingleLines, RawByTail, TailDecides, StepsAgree, WantedWhereOpen, StepsFromOpen, Forgets, OneTail, ReadsWholeEpochs, StepsReadBack, ReadsWholeLists, ReadAreBounded};

@@ -1,16 +1,16 @@
 //! Laws over the definitions of both filters: each is the contract of a function that does nothing.
 
 ghost use Rattle.std.specs.Prelude.{◌≡◌, ◌∷◌, ◌++◌, [], List, Bool, true, false, Some, codes, map, take, drop};
-ghost use Rattle.crx_base.specs.meaning.Seen.{ReadLine, Content, seen};
+ghost use Rattle.crx_base.specs.meaning.AsRead.{ReadLine, Content, as_read};
 ghost use Rattle.crx_base.specs.meaning.Lines.{lines_of};
 ghost use Rattle.crx_base.specs.declared.fault.Fault.TheVariants.{NotAnEpoch, NotCompact};
 ghost use Rattle.crx_base.specs.declared.fault.At.{At};
 ghost use Rattle.crx_filter.specs.Anew.{starts_anew, DependsOnTypes};
 ghost use Rattle.crx_laws.specs.Bounds.{IsBoundedCompaction, IsBoundedExpansion, CompactIsReadyToHandOut, ExpandedIsReadyToHandOut};
 ghost use Rattle.crx_base.specs.meaning.Choices.{Choices};
-ghost use Rattle.crx_filter.specs.CompactionByLine.{compaction, compaction_seen};
+ghost use Rattle.crx_filter.specs.CompactionByLine.{compaction, compaction_state};
 ghost use Rattle.crx_laws.specs.SmallFiles.{header, line_at, one_type_line, full_line_at, second_changed};
-ghost use Rattle.crx_filter.specs.ExpansionByLine.{expansion, expansion_seen};
+ghost use Rattle.crx_filter.specs.ExpansionByLine.{expansion, expansion_state};
 ghost use Rattle.crx_filter.specs.meaning.Compacted.{rinex_place, whole_rinex, compacted};
 ghost use Rattle.crx_filter.specs.Compacted.{compacted_so_far};
 ghost use Rattle.crx_filter.specs.meaning.Directions.{rinex_reading};
@@ -101,7 +101,7 @@ pub fn what_was_accepted()
 /// `TYPES_LIMIT` values, with two indicators each.
 pub fn bounded_compaction()
     ensures law { (choices : Choices) (lines : List ReadLine)
-        → IsBoundedCompaction (compaction_seen choices lines) }
+        → IsBoundedCompaction (compaction_state choices lines) }
 {}
 
 /// What an expansion holds between two lines is bounded in the same way: of the last epoch its text, of 41 columns and identifiers, at most
@@ -109,7 +109,7 @@ pub fn bounded_compaction()
 /// epoch whose lines have come in part no more satellites than that, those whose lines are awaited among them.
 pub fn bounded_expansion()
     ensures law { (choices : Choices) (lines : List ReadLine)
-        → IsBoundedExpansion (expansion_seen choices lines) }
+        → IsBoundedExpansion (expansion_state choices lines) }
 {}
 
 /// What is borrowed of a unit is bounded: two lines more than `SATELLITES_LIMIT` at most, of at most `LINE_LIMIT` bytes each; and where they
@@ -150,7 +150,7 @@ pub fn lawful_directions()
 
 /// What the laws ask for can be met: some lines at the beginning of an input, and a fault that ends a run.
 pub fn premises()
-    ensures lines_first { map seen (lines_of (lines_text header))
+    ensures lines_first { map as_read (lines_of (lines_text header))
         ≡ map Content (take 1 header) ++ map Content (drop 1 header) }
     ensures ended { fault_of_stop (rinex_reading false (map Content (header ++ codes "x" ∷ []))).stop
         ≡ Some (record { line = 4; fault = NotAnEpoch }) }

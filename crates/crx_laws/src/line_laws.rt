@@ -5,7 +5,7 @@ ghost use Rattle.crx_lines.specs.Reading.{HasNoFeed};
 ghost use Rattle.crx_base.specs.meaning.Lines.{InputLine, line_of, lines_of};
 ghost use Rattle.crx_lines.specs.Progress.{AtAnswer, HasRead};
 ghost use Rattle.crx_lines.specs.Reading.{ReaderAnswers, ReaderState};
-ghost use Rattle.crx_base.specs.meaning.Seen.{ended_lines_of};
+ghost use Rattle.crx_base.specs.meaning.AsRead.{ended_lines_of};
 ghost use Rattle.crx_base.specs.declared.fault.At.{At};
 ghost use Rattle.crx_base.specs.declared.limits.TheConstants.{INPUT_LIMIT};
 ghost use Rattle.crx_lines.specs.declared.line.Line.{Line};

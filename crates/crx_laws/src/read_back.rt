@@ -1,7 +1,7 @@
 //! The way back: what one `Columns` makes of an epoch, another one reads.
 
 ghost use Rattle.std.specs.Prelude.{◌≡◌, ◌⊎◌, ◌↔◌, ◌∷◌, List, Some, true, false, map, IfOk, IfErr, IsTrue};
-ghost use Rattle.crx_base.specs.meaning.Seen.{Content};
+ghost use Rattle.crx_base.specs.meaning.AsRead.{Content};
 ghost use Rattle.crx_compact.specs.meaning.Compaction.{Marked, compact_epoch, since_full};
 ghost use Rattle.crx_compact.specs.Laws.{AreWhole};
 ghost use Rattle.crx_laws.specs.BorrowedLines.{AreReadable, HasGiven, IsReadable, IsFaultAt};

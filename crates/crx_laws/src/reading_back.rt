@@ -2,14 +2,14 @@
 //! that does nothing.
 
 ghost use Rattle.std.specs.Prelude.{◌≡◌, ◌+◌, ◌++◌, List, Ok, length, map};
-ghost use Rattle.crx_base.specs.meaning.Seen.{ReadLine, Content};
+ghost use Rattle.crx_base.specs.meaning.AsRead.{ReadLine, Content};
 ghost use Rattle.crx_rinex.specs.meaning.Observations.{Row, Epoch};
 ghost use Rattle.crx_header.specs.meaning.ObservationTypes.{Count};
 ghost use Rattle.crx_rinex.specs.meaning.EpochLines.{EpochHead, ObservationHead, IsObservationHead, head_of};
 ghost use Rattle.crx_rinex.specs.meaning.SatelliteLines.{IsSoundRow, HasItsTypes, row_of};
 ghost use Rattle.crx_rinex.specs.meaning.Epochs.{IsWholeEpoch};
 ghost use Rattle.crx_rinex.specs.meaning.EpochPlaces.{epoch_place};
-ghost use Rattle.crx_rinex.specs.meaning.Places.{Here};
+ghost use Rattle.crx_rinex.specs.meaning.Places.{Done};
 ghost use Rattle.crx_rinex.specs.meaning.Printing.{printed_row, printed_head, printed_epoch};
 ghost use Rattle.crx_rinex.specs.meaning.Units.{Observation};
 ghost use Rattle.crx_laws.specs.Examples.{one_type, g02, epoch_of_two};
@@ -31,7 +31,7 @@ pub fn an_epoch_line_is_read_back()
 pub fn an_epoch_is_read_back()
     ensures law { (types : List Count) (epoch : Epoch) (after : List ReadLine) → IsWholeEpoch types epoch
         → epoch_place types (map Content (printed_epoch epoch) ++ after)
-        ≡ Here (Observation epoch) (length epoch.rows + 1) }
+        ≡ Done (Observation epoch) (length epoch.rows + 1) }
 {}
 
 /// What these laws ask for can be met: by a row of one value with an indicator, and by an epoch of two satellites.

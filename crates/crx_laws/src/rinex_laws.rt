@@ -3,12 +3,12 @@
 ghost use Rattle.std.specs.Prelude.{◌≡◌, ◌≤◌, ◌+◌, ◌∷◌, [], ℕ, List, Some, length};
 ghost use Rattle.std.specs.Prelude.{Result};
 ghost use Rattle.crx_base.specs.declared.fault.Fault.{Fault};
-ghost use Rattle.crx_base.specs.meaning.Seen.{ReadLine};
+ghost use Rattle.crx_base.specs.meaning.AsRead.{ReadLine};
 ghost use Rattle.crx_header.specs.meaning.ObservationTypes.{Count};
 ghost use Rattle.crx_header.specs.ObservationTypes.{AreCounts};
 ghost use Rattle.crx_rinex.specs.meaning.Observations.{Epoch};
 ghost use Rattle.crx_rinex.specs.meaning.Epochs.{IsWholeEpoch};
-ghost use Rattle.crx_rinex.specs.meaning.Places.{Place, Here, Wrong, Wanted, first_line, then_place};
+ghost use Rattle.crx_rinex.specs.meaning.Places.{Place, Done, Fails, NeedsMore, first_line, then_place};
 ghost use Rattle.crx_laws.specs.Examples.{one_type, first_line_of_two, g01_line, g02_line, half_open, epoch_of_two};
 ghost use Rattle.crx_base.specs.declared.fault.Fault.TheVariants.{Truncated, RepeatedSatellite};
 ghost use Rattle.crx_rinex.specs.meaning.Units.{Observation};
@@ -55,7 +55,7 @@ pub fn next_line_by_open()
 /// it took its epoch line and one line for each satellite.
 pub fn epochs_are_whole()
     ensures law { (types : List Count) → AreCounts types → (lines : List ReadLine) (epoch : Epoch) (count : ℕ)
-        → epoch_place types lines ≡ Here (Observation epoch) count
+        → epoch_place types lines ≡ Done (Observation epoch) count
         → IsWholeEpoch types epoch × (count ≡ length epoch.rows + 1) }
 {}
 
@@ -68,12 +68,12 @@ pub fn few_systems()
 /// line or by its first satellite again.
 pub fn an_epoch_of_two()
     ensures left_open { open_with one_type (first_line_of_two ∷ g01_line ∷ []) ≡ Some half_open }
-    ensures wanted { epoch_place one_type (first_line_of_two ∷ g01_line ∷ []) ≡ Wanted }
+    ensures wanted { epoch_place one_type (first_line_of_two ∷ g01_line ∷ []) ≡ NeedsMore }
     ensures whole { epoch_place one_type (first_line_of_two ∷ g01_line ∷ g02_line ∷ first_line_of_two ∷ [])
-        ≡ Here (Observation epoch_of_two) 3 }
+        ≡ Done (Observation epoch_of_two) 3 }
     ensures cut { epoch_place one_type
-        (first_line_of_two ∷ g01_line ∷ first_line_of_two ∷ []) ≡ Wrong 2 Truncated }
+        (first_line_of_two ∷ g01_line ∷ first_line_of_two ∷ []) ≡ Fails 2 Truncated }
     ensures repeated { epoch_place one_type (first_line_of_two ∷ g01_line ∷ g01_line ∷ [])
-        ≡ Wrong 2 RepeatedSatellite }
+        ≡ Fails 2 RepeatedSatellite }
     ensures counts { AreCounts one_type }
 {}

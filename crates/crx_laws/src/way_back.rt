@@ -1,7 +1,7 @@
 //! The way back: each law is the contract of a function that does nothing.
 
 ghost use Rattle.std.specs.Prelude.{◌≡◌, ◌∷◌, ◌++◌, [], List, ℕ, None, true, codes, map};
-ghost use Rattle.crx_base.specs.meaning.Seen.{seen};
+ghost use Rattle.crx_base.specs.meaning.AsRead.{as_read};
 ghost use Rattle.crx_base.specs.meaning.Lines.{lines_of};
 ghost use Rattle.crx_base.specs.meaning.Choices.{Choices, is_date};
 ghost use Rattle.crx_filter.specs.meaning.Compacted.{whole_rinex, compacted};
@@ -50,9 +50,9 @@ pub fn premises()
         ++ epoch_line_at 0 1 ∷ observed (codes "1.000") ∷ [])) plain_choices).output plain_choices).output
         ≡ lines_text (header ++ epoch_line_at 0 1 ∷ observed (codes "1.000") ∷ []) }
     ensures skipped_good { (whole_rinex true
-        (map seen (lines_of (lines_text (header ++ epoch_line_at 0 1 ∷ codes ">" ∷ line_at 1 4 1 ∷ (blanks 60
+        (map as_read (lines_of (lines_text (header ++ epoch_line_at 0 1 ∷ codes ">" ∷ line_at 1 4 1 ∷ (blanks 60
         ++ codes "COMMENT") ∷ epoch_line_at 1 1 ∷ observed (codes "1.000") ∷ []))))).fault ≡ None }
     ensures skipped_kept { HaveNoReturns (whole_rinex true
-        (map seen (lines_of (lines_text (header ++ epoch_line_at 0 1 ∷ codes ">" ∷ line_at 1 4 1
+        (map as_read (lines_of (lines_text (header ++ epoch_line_at 0 1 ∷ codes ">" ∷ line_at 1 4 1
         ∷ (blanks 60 ++ codes "COMMENT") ∷ epoch_line_at 1 1 ∷ observed (codes "1.000") ∷ []))))).items }
 {}

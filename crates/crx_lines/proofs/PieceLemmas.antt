@@ -2,7 +2,7 @@
 use Rattle.std.proofs.Common.{◌≡◌, ◌≢◌, ℕ, ◌<◌, Bool, true, false, cond, eqb, ◌⊎◌, inl, inr, List, [], ◌∷◌}
 use Rattle.std.proofs.{Common.{◌++◌, length, refl, sym, ap, subst, arith}, lemmas.Bool.ne_eqb}
 use Rattle.std.proofs.lemmas.{Bool.Decides.eqb_tells, List.Elements.{All-head, All-tail, All-cons}}
-use Rattle.crx_base.specs.meaning.{Lines.{Piece, pieces_of, onto_first}, Seen.ended_pieces}
+use Rattle.crx_base.specs.meaning.{Lines.{Piece, pieces_of, onto_first}, AsRead.ended_pieces}
 use Rattle.crx_lines.specs.Reading.{HasNoFeed}
 
 abbrev pub NoFeed : ℕ → Type 0

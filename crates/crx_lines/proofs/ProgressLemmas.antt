@@ -11,8 +11,9 @@ use Rattle.crx_lines.{proofs.PieceLemmas.ended-none, specs.meaning.Devices.{one_
 use Rattle.crx_lines.specs.declared.{line.Line.Line, phase.Phase.TheVariants.{Open, Ended, Stopped}}
 use Rattle.crx_base.specs.declared.fault.{At.At, Fault.{Fault, TheVariants.{LineTooLong, InputTooLong}}}
 use Rattle.crx_base.specs.declared.{fault.Fault.TheVariants.ReadFailed, limits.TheConstants.INPUT_LIMIT}
-use Rattle.crx_base.specs.meaning.{Lines.{InputLine, Piece, pieces_of, lines_of, line_of}, Seen.ended_pieces}
-use Rattle.crx_base.specs.meaning.Seen.{ended_lines_of}
+use Rattle.crx_base.specs.meaning.Lines.{InputLine, Piece, pieces_of, lines_of, line_of}
+use Rattle.crx_base.specs.meaning.AsRead.{ended_pieces}
+use Rattle.crx_base.specs.meaning.AsRead.{ended_lines_of}
 
 abbrev ended_piece : List ℕ → Piece
 ended_piece bytes = record { bytes = bytes; is_ended = true }

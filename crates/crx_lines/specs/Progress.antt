@@ -4,7 +4,7 @@ use Rattle.std.specs.Prelude.{length, take}
 use Rattle.crx_lines.specs.meaning.Devices.{Tally, with_failure}
 use Rattle.crx_lines.specs.Devices.{with_end}
 use Rattle.crx_base.specs.meaning.Lines.{InputLine, lines_of, is_long}
-use Rattle.crx_base.specs.meaning.Seen.{ended_lines_of}
+use Rattle.crx_base.specs.meaning.AsRead.{ended_lines_of}
 use Rattle.crx_lines.specs.Reading.{ReaderState, line_shown, line_number}
 use Rattle.crx_base.specs.declared.limits.TheConstants.{INPUT_LIMIT}
 use Rattle.crx_base.specs.declared.fault.At.{At}

@@ -13,7 +13,7 @@ use crx_base::limits::LINE_LIMIT;
 
 /// The first line of an input: what was discarded of it, and what is in the window.
 #[derive(Clone, Copy)]
-pub(crate) struct Sought {
+pub(crate) struct Found {
     /// How many of its bytes were discarded: none, or more than a line may have.
     pub(crate) passed: u64,
     /// How many of its bytes are at the front of the window.
@@ -43,7 +43,7 @@ pub(crate) fn seek<R: Source>(
     window: &mut Window,
     room: u64,
     reader: &mut R,
-) -> Result<Sought, Fault>
+) -> Result<Found, Fault>
     requires { room ≤ INPUT_LIMIT }
     ensures ok { IfOk result (λ s. (taken : ℕ) × Seeking (λ given. R.gave reader.old given reader.new)
         (kept window.old) (kept window.new) room taken s.passed s.len) }
@@ -71,7 +71,7 @@ pub(crate) fn seek<R: Source>(
     let mut searched = 0;
     'seeking: loop {
         if let Some(len) = feed_from(window.as_slice(), searched) {
-            return Ok(Sought {
+            return Ok(Found {
                 passed,
                 len,
                 is_ended: true,
@@ -83,7 +83,7 @@ pub(crate) fn seek<R: Source>(
             // One byte more is a fault; where there is none, the input has ended.
             let mut byte = [0];
             return match reader.read(&mut byte) {
-                Ok(0) => Ok(Sought {
+                Ok(0) => Ok(Found {
                     passed,
                     len: searched,
                     is_ended: false,
@@ -94,7 +94,7 @@ pub(crate) fn seek<R: Source>(
         }
         let most = (room - taken).min(SIZE as u64) as usize;
         match window.fill(reader, most) {
-            Ok(0) => return Ok(Sought {
+            Ok(0) => return Ok(Found {
                 passed,
                 len: searched,
                 is_ended: false,

@@ -1,9 +1,8 @@
 -- Epochs whose lines come one after another.
-use Rattle.std.proofs.Common.{rules}
-use Rattle.std.proofs.Common.{◌≡◌, ℕ, ◌-◌, ◌<◌, zero, suc, List, [], ◌∷◌, ◌++◌, length, Option, Some, None}
-use Rattle.std.proofs.Common.{Result, refl, ap, sym, subst, ◌∙◌, inl, inr, arith, append-nil}
+use Rattle.std.proofs.Common.{rules, ◌≡◌, ℕ, ◌-◌, ◌<◌, zero, suc, List, [], ◌∷◌, ◌++◌, length, Option, Some}
+use Rattle.std.proofs.Common.{None, Result, refl, ap, sym, subst, ◌∙◌, inl, inr, arith, append-nil}
 use Rattle.std.{proofs.lemmas.{Grind.common_steps, Option.none-some}, specs.Prelude.⊤}
-use Rattle.crx_base.specs.{declared.fault.Fault.Fault, meaning.Seen.{ReadLine, Content, Overlong}}
+use Rattle.crx_base.specs.{declared.fault.Fault.Fault, meaning.AsRead.{ReadLine, Content, Overlong}}
 use Rattle.crx_rinex.proofs.Steady.{steady-here, steady-first_line, steady-then}
 use Rattle.crx_rinex.specs.EpochPlaces.{EpochStep, Going, Whole, Faulty, when_wanted, whole_or_going}
 use Rattle.crx_rinex.specs.EpochPlaces.{after_row, epoch_step, still_open, opened_by, opened_at, open_after}
@@ -11,7 +10,7 @@ use Rattle.crx_rinex.specs.{EpochPlaces.{open_with, place_after}, Laws.{IsWanted
 use Rattle.crx_rinex.specs.{Steady.IsSteady, meaning.EpochPlaces.{OpenEpoch, Beginning, EventBegins}}
 use Rattle.crx_rinex.specs.meaning.EpochPlaces.{EpochBegins, opened, rows_wanted, with_next_row, row_at}
 use Rattle.crx_rinex.specs.meaning.EpochPlaces.{rows_at, rest_at, beginning_of, unit_begun, epoch_place}
-use Rattle.crx_rinex.specs.meaning.{Observations.{Row, Epoch}, Places.{Place, Here, Wrong, Wanted}}
+use Rattle.crx_rinex.specs.meaning.{Observations.{Row, Epoch}, Places.{Place, Done, Fails, NeedsMore}}
 use Rattle.crx_rinex.specs.meaning.{Places.{after_lines, then_place, one_line}, Units.Unit}
 use Rattle.crx_rinex.specs.meaning.Units.{Observation}
 use Rattle.crx_header.specs.meaning.ObservationTypes.{Count}
@@ -30,7 +29,7 @@ steady-rest so_far = steady-rows _ so_far
 pub steady-begun : (types : List Count) (beginning : Beginning) → IsSteady (unit_begun types beginning)
 steady-begun types (EventBegins line) = steady-here _
 steady-begun types (EpochBegins head) = steady-then (rest_at (opened types head)) (λ epoch rest.
-    Here _ 0) (steady-rest (opened types head)) (λ epoch. steady-here (Observation epoch))
+    Done _ 0) (steady-rest (opened types head)) (λ epoch. steady-here (Observation epoch))
 
 pub steady-epoch_place : (types : List Count) → IsSteady (epoch_place types)
 steady-epoch_place = search (rules, steady-then, steady-first_line, steady-begun)
@@ -39,8 +38,8 @@ steady-epoch_place = search (rules, steady-then, steady-first_line, steady-begun
 
 abbrev after_step : EpochStep → List ReadLine → Place Epoch
 after_step (Going so_far) lines = after_lines 1 (rest_at so_far lines)
-after_step (Whole epoch) lines = Here epoch 1
-after_step (Faulty fault) lines = Wrong 0 fault
+after_step (Whole epoch) lines = Done epoch 1
+after_step (Faulty fault) lines = Fails 0 fault
 
 whole_or_rest : (n : ℕ) (so_far : OpenEpoch) (lines : List ReadLine) → rows_wanted so_far ≡ n
     → after_lines 1 (rows_at so_far n lines) ≡ after_step (whole_or_going so_far) lines
@@ -81,7 +80,7 @@ step_at : (so_far : OpenEpoch) (line : ReadLine) (lines : List ReadLine)
     → 0 < rows_wanted so_far → rest_at so_far (line ∷ lines) ≡ after_step (epoch_step so_far line) lines
 step_at so_far line lines h = rest_by_step (rows_wanted so_far - 1) so_far line lines (omega (arith, h))
 
-nothing_yet : (so_far : OpenEpoch) → 0 < rows_wanted so_far → rest_at so_far [] ≡ Wanted
+nothing_yet : (so_far : OpenEpoch) → 0 < rows_wanted so_far → rest_at so_far [] ≡ NeedsMore
 nothing_yet so_far h = grind arith
 
 one_more_before : {X : Type 0} (count : ℕ) (p : Place X)
@@ -112,26 +111,26 @@ abbrev IsOpen : Option OpenEpoch → List ReadLine → Type 0
 IsOpen begun lines = (later : OpenEpoch) × (open_after begun lines ≡ Some later)
 
 abbrev IsFound : {X : Type 0} → Place X → Type 0
-IsFound (Here x n) = ⊤
-IsFound (Wrong k fault) = ⊤
-IsFound Wanted = ⊥
+IsFound (Done x n) = ⊤
+IsFound (Fails k fault) = ⊤
+IsFound NeedsMore = ⊥
 
-not_here : {X : Type 0} (x : X) (n : ℕ) → ◌≡◌ {A = Place X} (Here x n) Wanted → ⊥
+not_here : {X : Type 0} (x : X) (n : ℕ) → ◌≡◌ {A = Place X} (Done x n) NeedsMore → ⊥
 not_here x n h = subst IsFound h tt
 
-not_wrong : {X : Type 0} (k : ℕ) (fault : Fault) → ◌≡◌ {A = Place X} (Wrong k fault) Wanted → ⊥
+not_wrong : {X : Type 0} (k : ℕ) (fault : Fault) → ◌≡◌ {A = Place X} (Fails k fault) NeedsMore → ⊥
 not_wrong k fault h = subst IsFound h tt
 
-wanted_before : {X : Type 0} (count : ℕ) (p : Place X) → after_lines count p ≡ Wanted → p ≡ Wanted
+wanted_before : {X : Type 0} (count : ℕ) (p : Place X) → after_lines count p ≡ NeedsMore → p ≡ NeedsMore
 wanted_before = grind (arith, common_steps, not_here, not_wrong)
 
 open_by : (so_far : OpenEpoch) (line : ReadLine) (lines : List ReadLine) (step : EpochStep)
-    → ((next : OpenEpoch) → 0 < rows_wanted next → rest_at next lines ≡ Wanted → IsOpen (Some next) lines)
-    → IsGoing step → after_step step lines ≡ Wanted → IsOpen (still_open step) lines
+    → ((next : OpenEpoch) → 0 < rows_wanted next → rest_at next lines ≡ NeedsMore → IsOpen (Some next) lines)
+    → IsGoing step → after_step step lines ≡ NeedsMore → IsOpen (still_open step) lines
 open_by = grind (arith, common_steps, not_here, not_wrong)
 
 open_where_wanted : (lines : List ReadLine) (so_far : OpenEpoch)
-    → 0 < rows_wanted so_far → rest_at so_far lines ≡ Wanted → IsOpen (Some so_far) lines
+    → 0 < rows_wanted so_far → rest_at so_far lines ≡ NeedsMore → IsOpen (Some so_far) lines
 open_where_wanted [] so_far wants h = (so_far, refl)
 open_where_wanted (line ∷ lines) so_far wants h =
     open_by so_far line lines _ (λ next. open_where_wanted lines next) (step_wants so_far line)
@@ -155,9 +154,9 @@ open_next lines begun line so_far h = grind (arith, common_steps, open_push, ope
 -- ---- from the epoch line on
 
 abbrev as_unit : Place Epoch → Place (Unit Epoch)
-as_unit (Here epoch n) = Here (Observation epoch) n
-as_unit (Wrong k fault) = Wrong k fault
-as_unit Wanted = Wanted
+as_unit (Done epoch n) = Done (Observation epoch) n
+as_unit (Fails k fault) = Fails k fault
+as_unit NeedsMore = NeedsMore
 
 -- an open epoch at a line goes on in the lines after it
 record Begins (types : List Count) (line : ReadLine) (so_far : OpenEpoch) : Type 0 where
@@ -179,18 +178,18 @@ begins types (Content line) so_far h =
 
 decided_by : (types : List Count) (line : List ℕ) (r : Result Beginning Fault) (lines : List ReadLine)
     → opened_by types r ≡ None
-    → then_place (one_line r) (Content line ∷ lines) (unit_begun types) ≡ Wanted → ⊥
+    → then_place (one_line r) (Content line ∷ lines) (unit_begun types) ≡ NeedsMore → ⊥
 decided_by = grind (arith, common_steps, not_wrong, not_here)
 
 decided : (types : List Count) (line : ReadLine) (lines : List ReadLine)
-    → opened_at types line ≡ None → epoch_place types (line ∷ lines) ≡ Wanted → ⊥
+    → opened_at types line ≡ None → epoch_place types (line ∷ lines) ≡ NeedsMore → ⊥
 decided = grind (arith, common_steps, not_wrong, decided_by)
 
-unit_wanted : (p : Place Epoch) → as_unit p ≡ Wanted → p ≡ Wanted
+unit_wanted : (p : Place Epoch) → as_unit p ≡ NeedsMore → p ≡ NeedsMore
 unit_wanted = grind (arith, common_steps, not_here, not_wrong)
 
 wanted_from : (types : List Count) (line : ReadLine) (lines : List ReadLine) (begun : Option OpenEpoch)
-    → opened_at types line ≡ begun → epoch_place types (line ∷ lines) ≡ Wanted → IsOpen begun lines
+    → opened_at types line ≡ begun → epoch_place types (line ∷ lines) ≡ NeedsMore → IsOpen begun lines
 wanted_from types line lines None e w = absurd (decided types line lines e w)
 wanted_from types line lines (Some so_far) e w =
     grind (arith, common_steps, begins, open_where_wanted, unit_wanted, wanted_before)
@@ -214,7 +213,7 @@ place_by_open types line lines later h =
     let on = from.2 in (on.wants, λ more. b.place _ ∙ ap (λ p. after_lines 1 (as_unit p)) (on.rest more))
 
 wanted_by_open : (types : List Count) (lines : List ReadLine) (later : OpenEpoch)
-    → open_with types lines ≡ Some later → epoch_place types lines ≡ Wanted
+    → open_with types lines ≡ Some later → epoch_place types lines ≡ NeedsMore
 wanted_by_open types [] later h = refl
 wanted_by_open types (line ∷ lines) later h =
     let by = place_by_open types line lines later h in

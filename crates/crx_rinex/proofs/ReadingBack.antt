@@ -11,14 +11,14 @@ use Rattle.crx_text.specs.meaning.{Columns.{character_at, columns, is_blank}, Ea
 use Rattle.crx_text.specs.meaning.Numbers.{number_of, observation_of, observation_text, clock_of, clock_text}
 use Rattle.crx_text.specs.meaning.{Numbers.IsValue, PrintedCells.printed_cells, Texts.is_kept}
 use Rattle.crx_base.specs.declared.limits.TheConstants.{OBSERVATION_DECIMALS, CLOCK_DECIMALS}
-use Rattle.crx_base.specs.meaning.Seen.{ReadLine, Content}
+use Rattle.crx_base.specs.meaning.AsRead.{ReadLine, Content}
 use Rattle.crx_rinex.{proofs.SoundEpochs.name_types, specs.meaning.EpochLines.{EpochHead, ObservationHead}}
 use Rattle.crx_rinex.specs.meaning.EpochLines.{IsObservationHead, IsClockOffset, head_of}
 use Rattle.crx_rinex.specs.meaning.EpochPlaces.{OpenEpoch, EpochBegins, opened, rows_wanted, epoch_of}
 use Rattle.crx_rinex.specs.meaning.EpochPlaces.{with_next_row, next_row, rows_at, rest_at, begun_by}
 use Rattle.crx_rinex.specs.meaning.{EpochPlaces.{beginning_of, epoch_place}, Epochs.has_satellite}
 use Rattle.crx_rinex.specs.meaning.{Epochs.{are_different, IsWholeEpoch}, Observations.{Row, Epoch}}
-use Rattle.crx_rinex.specs.meaning.{Places.{Here, after_lines, then_place}, Printing.printed_row}
+use Rattle.crx_rinex.specs.meaning.{Places.{Done, after_lines, then_place}, Printing.printed_row}
 use Rattle.crx_rinex.specs.meaning.{Printing.{printed_head, printed_epoch}, SatelliteLines.{all_some, field}}
 use Rattle.crx_rinex.specs.meaning.SatelliteLines.{flags_at, flags_in, row_with, row_of_types, row_of}
 use Rattle.crx_rinex.specs.meaning.{SatelliteLines.{IsSoundRow, HasItsTypes}, Units.Observation}
@@ -253,7 +253,7 @@ with_rows so_far rows = record so_far { rows = so_far.rows ++ rows }
 rows-back : (so_far : OpenEpoch) (rows : List Row) (lines : List ReadLine)
     → All IsSoundRow rows → All (HasItsTypes so_far.types) rows → are_different (so_far.rows ++ rows) ≡ true
     → rows_at so_far (length rows) (map Content (map printed_row rows) ++ lines)
-    ≡ Here (epoch_of (with_rows so_far rows)) (length rows)
+    ≡ Done (epoch_of (with_rows so_far rows)) (length rows)
 rows-back so_far [] lines h typed apart = grind (arith, common_steps, epoch_of, append-nil)
 rows-back so_far (row ∷ rows) lines h typed apart =
     let sound : IsSoundRow row = All-head IsSoundRow row rows h in
@@ -261,22 +261,22 @@ rows-back so_far (row ∷ rows) lines h typed apart =
     let same : (so_far.rows ++ row ∷ []) ++ rows ≡ so_far.rows ++ row ∷ rows =
     append_assoc so_far.rows (row ∷ []) rows in
     let rest : rows_at (with_next_row so_far row) (length rows) (map Content (map printed_row rows) ++ lines)
-    ≡ Here (epoch_of (with_rows (with_next_row so_far row) rows)) (length rows) =
+    ≡ Done (epoch_of (with_rows (with_next_row so_far row) rows)) (length rows) =
     rows-back (with_next_row so_far row) rows lines (All-tail IsSoundRow row rows h)
     (All-tail (HasItsTypes so_far.types) row rows typed) (ap are_different same ∙ apart) in
     let one : 1 + length rows ≡ suc (length rows) = omega arith in
     row-then so_far row (length rows) (printed_row row) (map Content (map printed_row rows) ++ lines)
     (next-read so_far row sound its (row-new so_far.rows row rows apart)) ∙ ap (after_lines 1) rest
-    ∙ ap (λ (all : List Row). Here (epoch_of (record so_far { rows = all })) (1 + length rows)) same
-    ∙ ap (λ n. Here (epoch_of (with_rows so_far (row ∷ rows))) n) one
+    ∙ ap (λ (all : List Row). Done (epoch_of (record so_far { rows = all })) (1 + length rows)) same
+    ∙ ap (λ n. Done (epoch_of (with_rows so_far (row ∷ rows))) n) one
 
 epoch-begun : (types : List Count) (line : List ℕ) (head : ObservationHead) (lines : List ReadLine)
     → beginning_of line ≡ Ok (EpochBegins head) → epoch_place types (Content line ∷ lines) ≡ after_lines 1
-    (then_place (rest_at (opened types head) lines) lines (λ epoch rest. Here (Observation epoch) 0))
+    (then_place (rest_at (opened types head) lines) lines (λ epoch rest. Done (Observation epoch) 0))
 epoch-begun types line head lines e = grind arith
 
 pub epoch-back : (types : List Count) (epoch : Epoch) (lines : List ReadLine) → IsWholeEpoch types epoch
-    → epoch_place types (map Content (printed_epoch epoch) ++ lines) ≡ Here (Observation epoch)
+    → epoch_place types (map Content (printed_epoch epoch) ++ lines) ≡ Done (Observation epoch)
     (length epoch.rows + 1)
 epoch-back types epoch lines h =
     let head : ObservationHead =
@@ -287,12 +287,12 @@ epoch-back types epoch lines h =
     ap (begun_by (printed_head epoch.head epoch.clock)) (head-back head h.sound.head_sound) in
     let wanted : rows_wanted (opened types head) ≡ length epoch.rows =
     (let full = h.full in omega (arith, full)) in
-    let read : rest_at (opened types head) (map Content (map printed_row epoch.rows) ++ lines) ≡ Here epoch
+    let read : rest_at (opened types head) (map Content (map printed_row epoch.rows) ++ lines) ≡ Done epoch
     (length epoch.rows) =
     ap (λ n. rows_at (opened types head) n (map Content (map printed_row epoch.rows) ++ lines)) wanted
     ∙ rows-back (opened types head) epoch.rows lines h.sound.rows_sound h.typed h.sound.apart in
     let count : 1 + (length epoch.rows + 0) ≡ length epoch.rows + 1 = omega arith in
     epoch-begun types (printed_head epoch.head epoch.clock) head
     (map Content (map printed_row epoch.rows) ++ lines) begins ∙ ap (λ p. after_lines 1 (then_place p
-    (map Content (map printed_row epoch.rows) ++ lines) (λ e others. Here (Observation e) 0))) read
-    ∙ ap (λ n. Here (Observation epoch) n) count
+    (map Content (map printed_row epoch.rows) ++ lines) (λ e others. Done (Observation e) 0))) read
+    ∙ ap (λ n. Done (Observation epoch) n) count

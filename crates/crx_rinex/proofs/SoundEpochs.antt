@@ -9,8 +9,8 @@ use Rattle.crx_text.proofs.{Characters.length-columns, EachPlace.{each_place-all
 use Rattle.crx_text.specs.meaning.{Columns.{character_at, columns, is_blank}, EachPlace.each_place}
 use Rattle.crx_text.specs.meaning.{Numbers.{observation_of, clock_of, IsValue}, Texts.is_kept}
 use Rattle.crx_base.specs.declared.fault.Fault.{Fault, TheVariants.{BadEpoch, BadField, BadClock, BadFlags}}
-use Rattle.crx_base.specs.{declared.limits.TheConstants.SATELLITES_LIMIT, meaning.Seen.{ReadLine, Content}}
-use Rattle.crx_base.specs.meaning.Seen.{Overlong}
+use Rattle.crx_base.specs.{declared.limits.TheConstants.SATELLITES_LIMIT, meaning.AsRead.{ReadLine, Content}}
+use Rattle.crx_base.specs.meaning.AsRead.{Overlong}
 use Rattle.crx_header.proofs.{Apart.apart-push, Counts.{allowed_of, system_of}}
 use Rattle.crx_header.{proofs.FirstColumns.identifier_columns, specs.ObservationTypes.AreCounts}
 use Rattle.crx_header.specs.meaning.{EpochColumns.epoch_count, InOrder.◌or_else◌with◌, ObservationTypes.Count}
@@ -23,7 +23,7 @@ use Rattle.crx_rinex.specs.meaning.{EpochLines.head_of, EpochPlaces.{OpenEpoch, 
 use Rattle.crx_rinex.specs.meaning.EpochPlaces.{EpochBegins, opened, rows_wanted, with_next_row, row_if_new}
 use Rattle.crx_rinex.specs.meaning.EpochPlaces.{next_row, rows_at, rest_at, begun_by, unit_begun, epoch_place}
 use Rattle.crx_rinex.specs.meaning.{Epochs.{has_satellite, are_different, IsWholeEpoch}, Observations.Row}
-use Rattle.crx_rinex.specs.meaning.{Observations.Epoch, Places.{Place, Here, Wrong, Wanted, after_lines}}
+use Rattle.crx_rinex.specs.meaning.{Observations.Epoch, Places.{Place, Done, Fails, NeedsMore, after_lines}}
 use Rattle.crx_rinex.specs.meaning.{Places.{then_place, one_line}, SatelliteLines.{row_of, row_of_types}}
 use Rattle.crx_rinex.specs.meaning.SatelliteLines.{row_with, values_in, flags_in, flags_at, field, all_some}
 use Rattle.crx_rinex.specs.meaning.{SatelliteLines.{IsSoundRow, HasItsTypes}, Units.{Unit, Observation}}
@@ -203,10 +203,10 @@ sound-next_row so_far row h n =
 
 -- the epoch that is read, and how many lines it took
 abbrev AreGood : List Count → ℕ → ℕ → Place Epoch → Type 0
-AreGood types total count (Here epoch n) = IsWholeEpoch types epoch × (n ≡ count)
+AreGood types total count (Done epoch n) = IsWholeEpoch types epoch × (n ≡ count)
     × (length epoch.rows ≡ total)
-AreGood types total count (Wrong k fault) = ⊤
-AreGood types total count Wanted = ⊤
+AreGood types total count (Fails k fault) = ⊤
+AreGood types total count NeedsMore = ⊤
 
 good_row : (count : ℕ) (so_far : OpenEpoch) (line : List ℕ) (lines : List ReadLine)
     → ((row : Row) → IsNext so_far (Ok row)
@@ -230,12 +230,12 @@ good_rows (suc count) so_far (Content line ∷ lines) counts h sum =
 -- ---- where an epoch or an event may begin
 
 abbrev IsReadWell : List Count → Place (Unit Epoch) → Type 0
-IsReadWell types (Here (Observation epoch) n) = IsWholeEpoch types epoch × (n ≡ suc (length epoch.rows))
+IsReadWell types (Done (Observation epoch) n) = IsWholeEpoch types epoch × (n ≡ suc (length epoch.rows))
 IsReadWell types _ = ⊤
 
 good_unit : (types : List Count) (count : ℕ) (p : Place Epoch) (lines : List ReadLine)
     → AreGood types count count p
-    → IsReadWell types (after_lines 1 (then_place p lines (λ epoch rest. Here (Observation epoch) 0)))
+    → IsReadWell types (after_lines 1 (then_place p lines (λ epoch rest. Done (Observation epoch) 0)))
 good_unit = grind (arith, common_steps)
 
 -- what an epoch line begins is sound
@@ -266,6 +266,6 @@ read_well : (types : List Count) (lines : List ReadLine) → AreCounts types
 read_well = grind (arith, common_steps, good_begun, begun_sound, sound-head_of)
 
 pub sound-epoch_place : (types : List Count) (lines : List ReadLine) (epoch : Epoch) (count : ℕ)
-    → AreCounts types → epoch_place types lines ≡ Here (Observation epoch) count
+    → AreCounts types → epoch_place types lines ≡ Done (Observation epoch) count
     → IsWholeEpoch types epoch × (count ≡ suc (length epoch.rows))
 sound-epoch_place types lines epoch count counts h = subst (IsReadWell types) h (read_well types lines counts)

@@ -1,12 +1,12 @@
 -- Steady places: one after another, and their parts.
 use Rattle.std.proofs.Common.{ℕ, ◌+◌, suc, List, ◌++◌, length, Result, refl, arith}
 use Rattle.std.proofs.lemmas.Grind.{common_steps}
-use Rattle.crx_base.specs.{declared.fault.Fault.Fault, meaning.Seen.ReadLine}
-use Rattle.crx_rinex.specs.{Steady.{IsSteady, Remains, IsDecidedAfter}, meaning.Places.{Place, Here}}
+use Rattle.crx_base.specs.{declared.fault.Fault.Fault, meaning.AsRead.ReadLine}
+use Rattle.crx_rinex.specs.{Steady.{IsSteady, Remains, IsDecidedAfter}, meaning.Places.{Place, Done}}
 use Rattle.crx_rinex.specs.meaning.Places.{after_lines, then_place, one_line, first_line}
 
 -- a thing of no lines
-pub steady-here : {X : Type 0} (x : X) → IsSteady (λ lines. Here x 0)
+pub steady-here : {X : Type 0} (x : X) → IsSteady (λ lines. Done x 0)
 steady-here x lines more = (omega arith, refl)
 
 first_decided : {X : Type 0} (read : List ℕ → Result X Fault) (lines : List ReadLine)

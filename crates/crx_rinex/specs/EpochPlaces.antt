@@ -1,11 +1,11 @@
 -- Beside meaning/EpochPlaces: what code and proofs see of it.
 use Rattle.std.specs.Prelude.{ℕ, zero, suc, List, [], ◌∷◌, Option, Some, None, Result, Ok, Err}
-use Rattle.crx_base.specs.meaning.Seen.{ReadLine, Content, Overlong}
+use Rattle.crx_base.specs.meaning.AsRead.{ReadLine, Content, Overlong}
 use Rattle.crx_base.specs.declared.fault.Fault.{Fault}
 use Rattle.crx_base.specs.declared.fault.Fault.TheVariants.{LineTooLong}
 use Rattle.crx_rinex.specs.meaning.Observations.{Row, Epoch}
 use Rattle.crx_rinex.specs.meaning.Units.{Unit, Observation}
-use Rattle.crx_rinex.specs.meaning.Places.{Place, Here, Wrong, Wanted}
+use Rattle.crx_rinex.specs.meaning.Places.{Place, Done, Fails, NeedsMore}
 use Rattle.crx_header.specs.meaning.ObservationTypes.{Count}
 use Rattle.crx_rinex.specs.meaning.EpochPlaces.{OpenEpoch, opened, rows_wanted, epoch_of, with_next_row, next_row}
 use Rattle.crx_rinex.specs.meaning.EpochPlaces.{Beginning, EventBegins, EpochBegins, beginning_of}
@@ -63,6 +63,6 @@ open_with types (line ∷ lines) = open_after (opened_at types line) lines
 
 -- what is where an epoch began, so many lines before the one that this step took
 abbrev pub place_after : ℕ → EpochStep → Place (Unit Epoch)
-place_after before (Going so_far) = Wanted
-place_after before (Whole epoch) = Here (Observation epoch) (suc before)
-place_after before (Faulty fault) = Wrong before fault
+place_after before (Going so_far) = NeedsMore
+place_after before (Whole epoch) = Done (Observation epoch) (suc before)
+place_after before (Faulty fault) = Fails before fault

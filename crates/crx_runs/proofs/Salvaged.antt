@@ -5,7 +5,7 @@ use Rattle.std.proofs.lemmas.List.{take-append-drop}
 use Rattle.crx_lines.specs.{Progress.{HasRead, StandsAt, IsOpen, IsStopped}, Reading.ReaderState}
 use Rattle.crx_lines.specs.{declared.phase.Phase.TheVariants.{Open, Ended}, meaning.Devices.{Tally, one_more}}
 use Rattle.crx_base.specs.declared.fault.Fault.{TheVariants.{InputTooLong, ReadFailed}, Fault}
-use Rattle.crx_base.specs.{declared.limits.TheConstants.INPUT_LIMIT, meaning.Seen.ended_lines_of}
+use Rattle.crx_base.specs.{declared.limits.TheConstants.INPUT_LIMIT, meaning.AsRead.ended_lines_of}
 use Rattle.crx_base.specs.meaning.Lines.{InputLine, lines_of}
 use Rattle.crx_runs.specs.{Lawful.IsLawful, meaning.Interruptions.{complete_lines, AreAll, AreTaken, IsTurn}}
 use Rattle.crx_runs.specs.meaning.{Results.{Course, Begins}, Filters.Filter, Spans.Input}

@@ -1,6 +1,6 @@
 -- Reading the number in a cell, up to the first blank of a line.
-use Rattle.std.proofs.Common.{true, false, ℕ, ℤ, ◌≡◌, ◌<◌, Bool, List, [], ◌∷◌, length, Option, Some}
-use Rattle.std.proofs.Common.{None, ◌&&◌, inl, inr, arith, refl, ap, get_or, eqb}
+use Rattle.std.proofs.Common.{true, false, ℕ, ℤ, ◌≡◌, ◌<◌, Bool, List, [], ◌∷◌, length, Some, None, ◌&&◌, inl}
+use Rattle.std.proofs.Common.{inr, arith, refl, ap, get_or, eqb}
 use Rattle.std.proofs.lemmas.{Bool.{cases_eq, ne_eqb, Decides.nat_tests}, Grind.common_steps}
 use Rattle.std.specs.{Char.is_ascii_digit, List.list_any, Option.option_map, Str.all_ascii_digits}
 use Rattle.std.specs.Str.Parse.{starts_with_minus}

@@ -9,7 +9,7 @@ use Rattle.crx_text.{proofs.EndBlanks.{few_kept, take_kept}, specs.meaning.Colum
 
 -- what was written from an index on, and the line that it makes
 pub record LineWritten (bytes old cells marks : List ℕ) (at end : ℕ) : Type 0 where
-  pub seen : take (end - at) (drop at bytes) ≡ cells ++ marks
+  pub state : take (end - at) (drop at bytes) ≡ cells ++ marks
   pub is : take (at + length (without_end_blanks (cells ++ marks))) bytes
       ≡ take at old ++ without_end_blanks (cells ++ marks)
   pub within : at + length (without_end_blanks (cells ++ marks)) ≤ end
@@ -27,7 +27,7 @@ line-written bytes old cells marks at end written long room =
     (λ n. n + length whole) before in
     let few : length kept ≤ length whole = few_kept whole in
     record {
-      seen =
+      state =
           sym (drop-take at (end - at) bytes) ∙ ap (λ n. drop at (take n bytes)) {x = at + (end - at)}
           {y = end} (omega (arith, all)) ∙ ap (drop at) together ∙ drop_at (take at old) whole at before;
       is =

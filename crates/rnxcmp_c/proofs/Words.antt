@@ -1,5 +1,4 @@
 -- The words in which these proofs speak: the definitions of this crate, of the crates below, and of std.
-use Rattle.std.proofs.Common.{arith, rules}
 pub use Rattle.std.proofs.Common.{◌≡◌, inl, inr, ℕ, Bool, true, List, [], ◌∷◌, ◌++◌, take, drop, Option, Some}
 pub use Rattle.std.proofs.Common.{None, refl, sym, ap, ◌∙◌, append-nil, append_assoc, arith, length}
 pub use Rattle.std.proofs.Common.{length-append, ◌⊎◌, ⊎_elim, subst, ◌-◌, ◌<◌, false, is_some, length-take}
@@ -13,11 +12,11 @@ pub use Rattle.crx_base.specs.declared.limits.TheConstants.{INPUT_LIMIT, LINE_LI
 pub use Rattle.crx_base.specs.meaning.Choices.{Choices}
 pub use Rattle.crx_base.specs.meaning.Faults.{code_of_fault}
 pub use Rattle.crx_base.specs.meaning.Lines.{InputLine, lines_of, without_return}
-pub use Rattle.crx_base.specs.meaning.Seen.{ended_lines_of, seen}
+pub use Rattle.crx_base.specs.meaning.AsRead.{ended_lines_of, as_read}
 pub use Rattle.crx_filter.proofs.following.CheckLawful.{check-lawful}
 pub use Rattle.crx_filter.proofs.following.Lawful.{compaction-lawful, expansion-lawful}
 pub use Rattle.crx_filter.proofs.standard.Lossless.{what-passes}
-pub use Rattle.crx_filter.specs.CompactorState.{compactor_seen}
+pub use Rattle.crx_filter.specs.CompactorState.{compactor_state}
 pub use Rattle.crx_filter.specs.meaning.Compacted.{compacted}
 pub use Rattle.crx_filter.specs.meaning.Directions.{compaction_filter}
 pub use Rattle.crx_filter.specs.meaning.Expanded.{expanded, whole_compact}

@@ -2,7 +2,7 @@
 use Rattle.std.specs.Prelude.{is_some, true, ◌≡◌, ◌⊎◌, ◌<◌, ◌≤◌, ⊤, ℕ, ◌+◌, Bool, List, [], ◌++◌, length}
 use Rattle.std.specs.Prelude.{take, Option, Some, None}
 use Rattle.crx_base.specs.meaning.Lines.{InputLine, lines_of}
-use Rattle.crx_base.specs.meaning.Seen.{ended_lines_of}
+use Rattle.crx_base.specs.meaning.AsRead.{ended_lines_of}
 use Rattle.crx_base.specs.declared.limits.TheConstants.{INPUT_LIMIT}
 use Rattle.crx_base.specs.declared.fault.At.{At}
 use Rattle.crx_base.specs.declared.fault.Fault.TheVariants.{InputTooLong, OutOfMemory}
@@ -14,13 +14,13 @@ use Rattle.crx_filter.specs.meaning.Directions.{check_filter}
 use Rattle.crx_filter.specs.CheckByLine.{check_by_line, check_reading}
 use Rattle.crx_filter.specs.CheckerState.{checker_ready, checker_state}
 use Rattle.crx_filter.specs.CheckingParts.{HasFound, HasNoted}
-use Rattle.crx_filter.specs.CompactionByLine.{compaction, compaction_seen}
-use Rattle.crx_filter.specs.CompactorState.{compactor_ready, compactor_seen}
+use Rattle.crx_filter.specs.CompactionByLine.{compaction, compaction_state}
+use Rattle.crx_filter.specs.CompactorState.{compactor_ready, compactor_state}
 use Rattle.crx_filter.specs.meaning.Directions.{compaction_filter, expansion_filter}
 use Rattle.crx_filter.specs.EngineLines.{HasTaken}
 use Rattle.crx_runs.specs.Engines.{Awaited}
 use Rattle.crx_filter.specs.ExpanderState.{expander_ready, expander_state}
-use Rattle.crx_filter.specs.ExpansionByLine.{expansion, expansion_seen}
+use Rattle.crx_filter.specs.ExpansionByLine.{expansion, expansion_state}
 use Rattle.crx_runs.specs.declared.outcome.Outcome.{Outcome}
 use Rattle.crx_runs.specs.meaning.Runs.{FaultIs}
 use Rattle.rnxcmp_c.specs.Going.{IsGoing, IsLineEnded}
@@ -44,16 +44,16 @@ use Rattle.rnxcmp_c.specs.declared.stop.Stop.TheVariants.{Fault, Limit}
 -- ---- the engine of a run
 
 abbrev pub engine_filter : AnyEngine → Filter
-engine_filter (Compacting c) = compaction_filter (compactor_seen c).choices
+engine_filter (Compacting c) = compaction_filter (compactor_state c).choices
 engine_filter (Expanding e) = expansion_filter e.options
 engine_filter (Checking c) = check_filter
 
 abbrev pub shows_of : AnyEngine → List InputLine → List Awaited → Type 0
 shows_of (Compacting c) lines notices =
-    (HasTaken compaction (compaction_seen (compactor_seen c).choices) (compactor_seen c) lines notices × ⊤)
-    × ((compactor_seen c).number ≡ length lines)
+    (HasTaken compaction (compaction_state (compactor_state c).choices) (compactor_state c) lines notices × ⊤)
+    × ((compactor_state c).number ≡ length lines)
 shows_of (Expanding e) lines notices =
-    (HasTaken expansion (expansion_seen e.options) (expander_state e) lines notices × ⊤) × (e.number ≡ length lines)
+    (HasTaken expansion (expansion_state e.options) (expander_state e) lines notices × ⊤) × (e.number ≡ length lines)
 shows_of (Checking c) lines notices =
     (HasTaken check_by_line check_reading (checker_state c) lines notices × HasNoted c.direction lines)
     × (c.number ≡ length lines)
@@ -83,7 +83,7 @@ has_ended_of (Checking c) lines = HasFound c.direction lines
 
 -- an engine is of a task
 abbrev pub IsOf : Task → AnyEngine → Type 0
-IsOf (Compact choices limit) (Compacting c) = compaction_filter (compactor_seen c).choices ≡ compaction_filter choices
+IsOf (Compact choices limit) (Compacting c) = compaction_filter (compactor_state c).choices ≡ compaction_filter choices
 IsOf (Expand choices limit) (Expanding e) = expansion_filter e.options ≡ expansion_filter choices
 IsOf Check (Checking c) = ⊤
 IsOf task engine = ⊥

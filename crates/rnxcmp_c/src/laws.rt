@@ -5,7 +5,7 @@ ghost use Rattle.crx_base.specs.declared.fault.At.{At};
 ghost use Rattle.crx_base.specs.declared.fault.Fault.TheVariants.{InputTooLong, OutOfMemory};
 ghost use Rattle.crx_base.specs.meaning.Faults.{code_of_fault};
 ghost use Rattle.crx_base.specs.meaning.Lines.{InputLine, lines_of};
-ghost use Rattle.crx_base.specs.meaning.Seen.{ended_lines_of};
+ghost use Rattle.crx_base.specs.meaning.AsRead.{ended_lines_of};
 ghost use Rattle.crx_runs.specs.meaning.Messages.{notices_text};
 ghost use Rattle.crx_runs.specs.meaning.Results.{Begins};
 ghost use Rattle.crx_runs.specs.meaning.Spans.{AreNext};

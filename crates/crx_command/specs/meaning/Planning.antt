@@ -100,8 +100,8 @@ with_source tool given (Some source) =
     else Run (job_of tool given (Some source) None)
 
 -- the first refusal that fits, else the run
-abbrev pub judged : Tool → Given → Plan
-judged tool given =
+abbrev pub decide : Tool → Given → Plan
+decide tool given =
     if nat_lt 1 given.dashes then Refused DashTwice
     else if nat_lt 1 given.files then Refused TwoFiles
     else if not (option_map_or is_date given.date true) then Refused BadDate
@@ -113,7 +113,7 @@ tool_named name = if bytes_eq name (codes "rnx2crx") then Compact
 
 abbrev pub of_subcommand : Option (List ℕ × List Row) → Plan
 of_subcommand None = Refused Parse
-of_subcommand (Some found) = judged (tool_named found.0) (given_in found.1)
+of_subcommand (Some found) = decide (tool_named found.0) (given_in found.1)
 
 -- what the parser's answer comes to where it has a kind of error: help was asked for, or the words are refused
 abbrev pub by_kind : ErrorKind → Plan

@@ -1,7 +1,7 @@
 -- Epochs that are read line by line, by the raw epochs that were accepted.
 use Rattle.crx_compact.proofs.Words.{◌≡◌, ℕ, suc, List, [], ◌∷◌, ◌++◌, length, Option, Some, None, Result, Ok}
 use Rattle.crx_compact.proofs.Words.{Err, IfOk, ◌∙◌, arith, inl, inr, ◌⊎◌, ReadLine, Content, Fault}
-use Rattle.crx_compact.proofs.Words.{OutOfMemory, Epoch, Count, Place, Here, Wrong, RawEpoch, epoch_at, Tail}
+use Rattle.crx_compact.proofs.Words.{OutOfMemory, Epoch, Count, Place, Done, Fails, RawEpoch, epoch_at, Tail}
 use Rattle.crx_compact.proofs.Words.{tail_left, ColumnsState, HasMade, epoch_after, first_step, held_after}
 use Rattle.crx_compact.proofs.Words.{placed_as, step_in}
 use Rattle.std.specs.Prelude.{IfErr}
@@ -15,16 +15,16 @@ use Rattle.crx_compact.proofs.reading.LineByLine.{steps-agree, steps-from_open}
 -- ---- places
 
 placed-wrong : {X Y : Type 0} (f : X → Y) (place : Place X) (offset : ℕ) (fault : Fault)
-    → placed_as f place ≡ Wrong offset fault → place ≡ Wrong offset fault
+    → placed_as f place ≡ Fails offset fault → place ≡ Fails offset fault
 placed-wrong f place offset fault e = grind arith
 
 record IsPlaced {X Y : Type 0} (f : X → Y) (place : Place X) (thing : Y) (count : ℕ) : Type 0 where
   from : X
-  here : place ≡ Here from count
+  here : place ≡ Done from count
   same : f from ≡ thing
 
 placed-here : {X Y : Type 0} (f : X → Y) (place : Place X) (thing : Y) (count : ℕ)
-    → placed_as f place ≡ Here thing count → IsPlaced f place thing count
+    → placed_as f place ≡ Done thing count → IsPlaced f place thing count
 placed-here f place thing count e = grind arith
 
 -- ---- the epoch line
@@ -38,7 +38,7 @@ begun-block result types older tail line after e h = grind arith
 pub begun-refused : (result : Result (Unit {0}) Fault) (types : List Count)
     (older : List RawEpoch) (tail : Option Tail) (line : List ℕ) → tail ≡ tail_left older → IfErr result
     (λ fault. (first_step types tail (Content line) ≡ Faulty fault) ⊎ (fault ≡ OutOfMemory)) → IfErr result
-    (λ fault. (epoch_at types older (Content line ∷ []) ≡ Wrong 0 fault) ⊎ (fault ≡ OutOfMemory))
+    (λ fault. (epoch_at types older (Content line ∷ []) ≡ Fails 0 fault) ⊎ (fault ≡ OutOfMemory))
 begun-refused (Ok u) types older tail line e h = h
 begun-refused (Err fault) types older tail line e (inr h) = inr h
 begun-refused (Err fault) types older tail line e (inl h) =
@@ -71,7 +71,7 @@ more-block (Err fault) types older lines line state after r h = h
 pub more-refused : (result : Result (Option Epoch) Fault) (types : List Count) (older : List RawEpoch)
     (lines : List ReadLine) (line : List ℕ) (state : ColumnsState) → IsReading types older lines state
     → IfErr result (λ fault. (step_in state (Content line) ≡ Faulty fault) ⊎ (fault ≡ OutOfMemory))
-    → IfErr result (λ fault. (epoch_at types older (lines ++ Content line ∷ []) ≡ Wrong (length lines) fault)
+    → IfErr result (λ fault. (epoch_at types older (lines ++ Content line ∷ []) ≡ Fails (length lines) fault)
     ⊎ (fault ≡ OutOfMemory))
 more-refused (Ok given) types older lines line state r h = h
 more-refused (Err fault) types older lines line state r (inr h) = inr h

@@ -1,15 +1,16 @@
 -- The steps of a reader, line by line, agree with what is at all lines so far.
 use Rattle.crx_compact.proofs.Words.{◌≡◌, slice_get, Satellite, rows_read, tail_named, opened_raw, held_after}
-use Rattle.crx_compact.proofs.Words.{refl, List, [], arith, Fault, Count, Place, Wrong, Wanted, padded, rules}
-use Rattle.crx_compact.proofs.Words.{ℕ, Result, Content, ReadRow, ArcTail, RowTail, HeldRow, RawStep, opening}
-use Rattle.crx_compact.proofs.Words.{suc, patched, ReadLine, one_line, and_then, ReadCell, held_row, row_step}
-use Rattle.crx_compact.proofs.Words.{◌+◌, ◌∷◌, ◌++◌, map, Some, None, Ok, Err, sym, ◌∙◌, ap, Here, Tail}
-use Rattle.crx_compact.proofs.Words.{length, clock_line_read, epoch_after_line, tail_for_line, step_with_rows}
-use Rattle.crx_compact.proofs.Words.{Option, after_lines, epoch_begun, arc_of_code, shown_value, common_steps}
-use Rattle.crx_compact.proofs.Words.{option_map, true≢false, then_place, BegunEpoch, whole_epoch, tail_opened}
-use Rattle.crx_compact.proofs.Words.{take_all, map-map, shown_row, HeldEpoch, with_rows, next_step, placed_as}
-use Rattle.crx_compact.proofs.Words.{satellite_line_read, epoch_of_rows, whole_or_awaiting, raw_step_with_row}
-use Rattle.crx_compact.proofs.Words.{past_of_tail, before_clock, place_of_step, append_assoc, length-append}
+use Rattle.crx_compact.proofs.Words.{refl, List, [], arith, Fault, Count, Place, Fails, NeedsMore, padded}
+use Rattle.crx_compact.proofs.Words.{rules, ℕ, Result, Content, ReadRow, ArcTail, RowTail, HeldRow, RawStep}
+use Rattle.crx_compact.proofs.Words.{opening, suc, patched, ReadLine, one_line, and_then, ReadCell, held_row}
+use Rattle.crx_compact.proofs.Words.{row_step, ◌+◌, ◌∷◌, ◌++◌, map, Some, None, Ok, Err, sym, ◌∙◌, ap, Done}
+use Rattle.crx_compact.proofs.Words.{Tail, length, clock_line_read, epoch_after_line, tail_for_line}
+use Rattle.crx_compact.proofs.Words.{step_with_rows, Option, after_lines, epoch_begun, arc_of_code}
+use Rattle.crx_compact.proofs.Words.{shown_value, common_steps, option_map, true≢false, then_place}
+use Rattle.crx_compact.proofs.Words.{BegunEpoch, whole_epoch, tail_opened, take_all, map-map, shown_row}
+use Rattle.crx_compact.proofs.Words.{HeldEpoch, with_rows, next_step, placed_as, satellite_line_read}
+use Rattle.crx_compact.proofs.Words.{epoch_of_rows, whole_or_awaiting, raw_step_with_row, past_of_tail}
+use Rattle.crx_compact.proofs.Words.{before_clock, place_of_step, append_assoc, length-append}
 use Rattle.std.specs.Option.{is_some}
 use Rattle.crx_compact.specs.OpenEpochs.{OpenRawEpoch, rows_before, raw_step_with_clock, place_of_steps}
 use Rattle.crx_compact.specs.OpenEpochs.{open_raw_after}
@@ -36,15 +37,15 @@ rows_placed before text arc rows p =
 
 -- a row before the others
 abbrev row_onto : ReadRow → List ReadLine → Place (List ReadRow) → Place (List ReadRow)
-row_onto read lines p = then_place p lines (λ more rest. Here (read ∷ more) 0)
+row_onto read lines p = then_place p lines (λ more rest. Done (read ∷ more) 0)
 
 one-more : (before : Tail) (text : List ℕ) (arc : Option ArcTail)
     (rows : List RowTail) (read : ReadRow) (lines : List ReadLine) (count : ℕ) (p : Place (List ReadRow))
     → after_lines (suc (suc count)) (rows_placed before text arc (rows ++ (held_row before read).tail ∷ []) p)
     ≡ after_lines (suc count) (rows_placed before text arc rows (after_lines 1 (row_onto read lines p)))
-one-more before text arc rows read lines count (Here more n) = search (rules, append_assoc, held_row)
-one-more before text arc rows read lines count (Wrong n q) = grind arith
-one-more before text arc rows read lines count Wanted = refl
+one-more before text arc rows read lines count (Done more n) = search (rules, append_assoc, held_row)
+one-more before text arc rows read lines count (Fails n q) = grind arith
+one-more before text arc rows read lines count NeedsMore = refl
 
 -- what is behind the first rows
 get-next : {X : Type 0} (xs ys : List X) (x : X) → slice_get (xs ++ x ∷ ys) (length xs) ≡ Some x
@@ -87,7 +88,7 @@ rows-steps before text arc rows (s ∷ ss) count (Content line ∷ lines) =
         (raw_step_with_row so_far (and_then r (λ (read : ReadRow). Ok (held_row before read)))) lines
         ≡ after_lines (suc count) (rows_placed before text arc rows (then_place (one_line r)
         (Content line ∷ lines) (λ row more. row_onto row more (rows_read (past_of_tail before) ss more))))
-    step (Err q) next = ap {B = Place HeldEpoch} (λ k. Wrong k q) (omega arith)
+    step (Err q) next = ap {B = Place HeldEpoch} (λ k. Fails k q) (omega arith)
     step (Ok read) next =
         let left : RowTail = (held_row before read).tail in
         let many : suc (length rows) ≡ length (rows ++ left ∷ []) =
@@ -121,14 +122,14 @@ read_rows-held : (before : Tail) (line : List ℕ) (satellites : List Satellite)
     (tail : Option Tail) (lines : List ReadLine) (p : Place (List ReadRow)) → tail_for_line tail line
     ≡ Some before → shown_value (arc_of_code cell.code before.clock) ≡ cell.value → rows_read
     (past_of_tail before) satellites lines ≡ p → placed_as (held_after tail) (after_lines 1 (after_lines 1
-    (then_place p lines (λ rows rest. Here (epoch_of_rows (read_begun before line satellites) cell rows) 0))))
+    (then_place p lines (λ rows rest. Done (epoch_of_rows (read_begun before line satellites) cell rows) 0))))
     ≡ after_lines 2 (rows_placed before (patched before.text line) (arc_of_code cell.code before.clock) [] p)
-read_rows-held before line satellites cell tail lines (Here rows n) h clock e =
+read_rows-held before line satellites cell tail lines (Done rows n) h clock e =
     let facts = rows-facts (past_of_tail before) satellites lines rows n e in
     let shown = rows-shown before satellites rows facts.each in
     grind (arith, map-map, take_all)
-read_rows-held before line satellites cell tail lines (Wrong n q) h clock e = grind arith
-read_rows-held before line satellites cell tail lines Wanted h clock e = refl
+read_rows-held before line satellites cell tail lines (Fails n q) h clock e = grind arith
+read_rows-held before line satellites cell tail lines NeedsMore h clock e = refl
 
 clock-steps : (before : Tail) (line : List ℕ) (satellites : List Satellite)
     (tail : Option Tail) (lines : List ReadLine) → tail_for_line tail line ≡ Some before
@@ -140,7 +141,7 @@ clock-steps before line satellites tail (Content text ∷ lines) h =
     step : (r : Result ReadCell Fault) → clock_line_read (past_of_tail before) text ≡ r
         → placed_as (held_after tail) (after_lines 1 (then_place (one_line r) (Content text ∷ lines)
         (λ clock others. then_place (rows_read (past_of_tail before) satellites others) others
-        (λ rows rest. Here (epoch_of_rows (read_begun before line satellites) clock rows) 0))))
+        (λ rows rest. Done (epoch_of_rows (read_begun before line satellites) clock rows) 0))))
         ≡ place_of_steps 1 (raw_step_with_clock (before_clock (tail_opened before line satellites)) r) lines
     step (Err q) e = refl
     step (Ok cell) e = read_rows-held before line satellites cell tail lines (rows_read

@@ -1,15 +1,16 @@
 -- What follows of an epoch from its having been read.
-use Rattle.crx_compact.proofs.Words.{◌≡◌, suc, List, drop, Some, None, Here, Code, Past, refl, ◌+◌, ◌*◌, Bool}
-use Rattle.crx_compact.proofs.Words.{true, length, Option, Result, Count, Place, Wanted, RawRow, subst, rules}
-use Rattle.crx_compact.proofs.Words.{Wrong, BegunEpoch, begins_epoch, past_of_line, row_of_cells, epoch_begun}
-use Rattle.crx_compact.proofs.Words.{Fault, apart-map, Truncated, Satellite, are_marks, rows_read, raw_run_of}
-use Rattle.crx_compact.proofs.Words.{cells_read, length-map, then_place, first_line, NotAnEpoch, each_place}
-use Rattle.crx_compact.proofs.Words.{ℕ, ℤ, ◌∷◌, map, Ok, not, sym, ◌∙◌, ap, [], code_of, slice_index_or}
-use Rattle.crx_compact.proofs.Words.{AllByRecursion, past_of_epochs, clock_line_read, Missing, arith, ReadRow}
-use Rattle.crx_compact.proofs.Words.{columns, ReadLine, BadField, BadFlags, RawEpoch, block_of, marks_of}
-use Rattle.crx_compact.proofs.Words.{epoch_at, ReadCell, cells_of, ReadEpoch, cell_read, if◌then◌else◌}
-use Rattle.crx_compact.proofs.Words.{satellites_of_line, satellite_line_read, epoch_after_line, after_cells}
-use Rattle.crx_compact.proofs.Words.{raw_row_named, past_of_block, epoch_of_rows, HasSingleLines, ⊤}
+use Rattle.crx_compact.proofs.Words.{◌≡◌, suc, List, drop, Some, None, Done, Code, Past, refl, ◌+◌, ◌*◌, Bool}
+use Rattle.crx_compact.proofs.Words.{true, length, Option, Result, Count, Place, NeedsMore, RawRow, subst}
+use Rattle.crx_compact.proofs.Words.{rules, Fails, BegunEpoch, begins_epoch, past_of_line, row_of_cells}
+use Rattle.crx_compact.proofs.Words.{epoch_begun, Fault, apart-map, Truncated, Satellite, are_marks}
+use Rattle.crx_compact.proofs.Words.{rows_read, raw_run_of, cells_read, length-map, then_place, first_line}
+use Rattle.crx_compact.proofs.Words.{NotAnEpoch, each_place, ℕ, ℤ, ◌∷◌, map, Ok, not, sym, ◌∙◌, ap, []}
+use Rattle.crx_compact.proofs.Words.{code_of, slice_index_or, AllByRecursion, past_of_epochs, clock_line_read}
+use Rattle.crx_compact.proofs.Words.{Missing, arith, ReadRow, columns, ReadLine, BadField, BadFlags, RawEpoch}
+use Rattle.crx_compact.proofs.Words.{block_of, marks_of, epoch_at, ReadCell, cells_of, ReadEpoch, cell_read}
+use Rattle.crx_compact.proofs.Words.{if◌then◌else◌, satellites_of_line, satellite_line_read, epoch_after_line}
+use Rattle.crx_compact.proofs.Words.{after_cells, raw_row_named, past_of_block, epoch_of_rows, HasSingleLines}
+use Rattle.crx_compact.proofs.Words.{⊤}
 use Rattle.crx_compact.specs.Expansion.{all_ok, text_of, row_from, rows_from, epoch_of_block, epoch_from}
 use Rattle.crx_compact.proofs.wayback.Overlays.{columns-cut}
 use Rattle.crx_compact.specs.ReadingLaws.{ReadsSoundly}
@@ -21,14 +22,14 @@ use Rattle.crx_compact.proofs.EpochLines.{differ, names_of, LineFacts, line-fact
 -- ---- good answers come from good answers
 
 abbrev pub thing_here : {X : Type 0} → X → Place X → X
-thing_here d (Here x n) = x
-thing_here d (Wrong n f) = d
-thing_here d Wanted = d
+thing_here d (Done x n) = x
+thing_here d (Fails n f) = d
+thing_here d NeedsMore = d
 
 abbrev count_here : {X : Type 0} → Place X → ℕ
-count_here (Here x n) = n
-count_here (Wrong n f) = 0
-count_here Wanted = 0
+count_here (Done x n) = n
+count_here (Fails n f) = 0
+count_here NeedsMore = 0
 
 -- what is after something else
 pub record Comes {X Y : Type 0} (p : Place X) (lines : List ReadLine) (next : X
@@ -36,12 +37,12 @@ pub record Comes {X Y : Type 0} (p : Place X) (lines : List ReadLine) (next : X
   pub from : X
   pub count : ℕ
   pub more : ℕ
-  pub first : p ≡ Here from count
-  pub later : next from (drop count lines) ≡ Here y more
+  pub first : p ≡ Done from count
+  pub later : next from (drop count lines) ≡ Done y more
   pub counted : n ≡ count + more
 
 pub then-comes : {X Y : Type 0} (p : Place X) (lines : List ReadLine) (next : X → List ReadLine → Place Y)
-    (y : Y) (n : ℕ) → then_place p lines next ≡ Here y n → Comes p lines next y n
+    (y : Y) (n : ℕ) → then_place p lines next ≡ Done y n → Comes p lines next y n
 then-comes p lines next y n e = grind arith
 
 -- what a first line is read as
@@ -52,7 +53,7 @@ pub record Reads {X : Type 0} (lines : List ReadLine) (read : List ℕ → Resul
   pub one : n ≡ 1
 
 pub line-reads : {X : Type 0} (lines : List ReadLine) (read : List ℕ → Result X Fault) (x : X) (n : ℕ)
-    → first_line lines read ≡ Here x n → Reads lines read x n
+    → first_line lines read ≡ Done x n → Reads lines read x n
 line-reads lines read x n e = grind arith
 
 -- ---- cells
@@ -145,13 +146,13 @@ pub record RowsFacts (past : Past)
   pub counted : count ≡ length rows
 
 pub rows-facts : (past : Past) (satellites : List Satellite) (lines : List ReadLine) (rows : List ReadRow)
-    (count : ℕ) → rows_read past satellites lines ≡ Here rows count → RowsFacts past satellites rows count
+    (count : ℕ) → rows_read past satellites lines ≡ Done rows count → RowsFacts past satellites rows count
 rows-facts past [] lines rows count e = grind arith
 rows-facts past (s ∷ ss) lines rows count e =
     let one = then-comes (first_line lines (satellite_line_read past s)) lines (λ row others. then_place
-    (rows_read past ss others) others (λ more rest. Here (row ∷ more) 0)) rows count e in
+    (rows_read past ss others) others (λ more rest. Done (row ∷ more) 0)) rows count e in
     let others = drop one.count lines in
-    let two = then-comes (rows_read past ss others) others (λ more rest. Here (one.from ∷ more) 0) rows
+    let two = then-comes (rows_read past ss others) others (λ more rest. Done (one.from ∷ more) 0) rows
     one.more one.later in
     let rest = rows-facts past ss others two.from two.count two.first in
     let same = ap (thing_here (one.from ∷ two.from)) two.later in
@@ -214,7 +215,7 @@ begun-facts types older line begun e = by_past (past_of_line older line) refl e
 -- what an epoch's clock line and satellite lines make
 epoch-made : (types : List Count) (older : List RawEpoch)
     (begun : BegunEpoch) (lines : List ReadLine) (read : ReadEpoch) (count : ℕ) → Begun types older begun
-    → epoch_after_line begun lines ≡ Here read count → EpochFacts types older read (suc count)
+    → epoch_after_line begun lines ≡ Done read count → EpochFacts types older read (suc count)
 epoch-made types older begun lines read count h e =
     let one = then-comes _ _ _ read count e in
     let line = line-reads lines (clock_line_read begun.past) one.from one.count one.first in
@@ -237,7 +238,7 @@ epoch-made types older begun lines read count h e =
     })
 
 pub epoch-facts : (types : List Count) (older : List RawEpoch) (lines : List ReadLine) (read : ReadEpoch)
-    (count : ℕ) → epoch_at types older lines ≡ Here read count → EpochFacts types older read count
+    (count : ℕ) → epoch_at types older lines ≡ Done read count → EpochFacts types older read count
 epoch-facts types older lines read count e =
     let one = then-comes _ _ _ read count e in
     let line = line-reads lines _ one.from one.count one.first in

@@ -1,5 +1,5 @@
 -- The compact lines of an epoch read as that epoch.
-use Rattle.crx_compact.proofs.Words.{◌≡◌, refl, ◌≢◌, Bool, true, List, ◌++◌, drop, Some, Here, ◌+◌, ◌∷◌, Past}
+use Rattle.crx_compact.proofs.Words.{◌≡◌, refl, ◌≢◌, Bool, true, List, ◌++◌, drop, Some, Done, ◌+◌, ◌∷◌, Past}
 use Rattle.crx_compact.proofs.Words.{AllByRecursion, drop-append_seam, clock_line_read, false, satellite_line}
 use Rattle.crx_compact.proofs.Words.{arith, code_text, row_named, and_parts, clock_arc, rows_read, since_full}
 use Rattle.crx_compact.proofs.Words.{rules, Epoch, Count, Marked, run_of, raw_of, length, raw_row, raws_of}
@@ -108,7 +108,7 @@ RowReads past ms r = satellite_line_read past (satellite_of r) (line_in ms r) �
 
 rows-good : (past : Past) (ms : List Marked) (rows : List Row) (rest : List ReadLine)
     → AllByRecursion (RowReads past ms) rows → rows_read past (satellites_of_rows rows)
-    (map Content (map (line_in ms) rows) ++ rest) ≡ Here (map (read_in ms) rows) (length rows)
+    (map Content (map (line_in ms) rows) ++ rest) ≡ Done (map (read_in ms) rows) (length rows)
 rows-good past ms [] rest h = refl
 rows-good past ms (r ∷ rs) rest h = grind (arith, rows-good past ms rs rest h.1)
 
@@ -154,7 +154,7 @@ module _ (types : List Count) (full : Bool) (e : Epoch) (older : List Marked)
 
   epoch-good : (raws : List RawEpoch) (rest : List ReadLine)
       → (full ≡ false → block_of raws ≡ block_of (raws_of older)) → epoch_at types raws (lines_of_epoch
-      (marked full e ∷ older) ++ rest) ≡ Here (read_of (marked full e) older) (2 + length e.rows)
+      (marked full e ∷ older) ++ rest) ≡ Done (read_of (marked full e) older) (2 + length e.rows)
   epoch-good raws rest k =
       let ms = marked full e ∷ older in
       let past = past_of_block (before full older) in

@@ -5,14 +5,14 @@ use Rattle.std.specs.Prelude.{Result, Ok, Err, if◌then◌else◌}
 use Rattle.std.specs.List.{list_all}
 use Rattle.crx_text.specs.meaning.Columns.{columns, is_blank, without_end_blanks}
 use Rattle.crx_text.specs.meaning.Codes.{code_of}
-use Rattle.crx_base.specs.meaning.Seen.{ReadLine}
+use Rattle.crx_base.specs.meaning.AsRead.{ReadLine}
 use Rattle.crx_base.specs.declared.limits.TheConstants.{HEAD_WIDTH, NAME_WIDTH}
 use Rattle.crx_base.specs.declared.fault.Fault.{Fault}
 use Rattle.crx_base.specs.declared.fault.Fault.TheVariants.{NotAnEpoch, BadEpoch, BadClock, BadFlags, Truncated}
 use Rattle.crx_rinex.specs.meaning.Observations.{Row, Epoch}
 use Rattle.crx_header.specs.meaning.ObservationTypes.{Count}
 use Rattle.crx_header.specs.meaning.InOrder.{◌otherwise◌next◌, ◌or_else◌with◌}
-use Rattle.crx_rinex.specs.meaning.Places.{Place, Here, then_place, first_line}
+use Rattle.crx_rinex.specs.meaning.Places.{Place, Done, then_place, first_line}
 use Rattle.crx_compact.specs.meaning.Sequences.{and_then}
 use Rattle.crx_header.specs.meaning.EpochColumns.{begins_epoch, epoch_count}
 use Rattle.crx_base.specs.meaning.Lines.{is_printable}
@@ -88,11 +88,11 @@ satellite_line_read past satellite line =
 
 -- the lines of some satellites, one for each
 abbrev pub rows_read : Past → List Satellite → List ReadLine → Place (List ReadRow)
-rows_read past [] lines = Here [] 0
+rows_read past [] lines = Done [] 0
 rows_read past (satellite ∷ satellites) lines =
     then_place (first_line lines (satellite_line_read past satellite)) lines (λ row others.
     then_place (rows_read past satellites others) others (λ rows rest.
-    Here (row ∷ rows) 0))
+    Done (row ∷ rows) 0))
 
 -- ---- a whole epoch
 
@@ -117,7 +117,7 @@ abbrev pub epoch_after_line : BegunEpoch → List ReadLine → Place ReadEpoch
 epoch_after_line begun lines =
     then_place (first_line lines (clock_line_read begun.past)) lines (λ clock others.
     then_place (rows_read begun.past begun.satellites others) others (λ rows rest.
-    Here (epoch_of_rows begun clock rows) 0))
+    Done (epoch_of_rows begun clock rows) 0))
 
 -- the observation epoch at the first of some lines, which begins no event, by what earlier lines give to each epoch
 -- line

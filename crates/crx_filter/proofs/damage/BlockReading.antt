@@ -4,10 +4,10 @@ use Rattle.crx_filter.proofs
 use proofs.Words.{common_steps, ℕ, zero, suc, ◌≡◌, ◌+◌, ◌<◌, max, ◌⊎◌, inl, inr, true, false, List, [], ◌∷◌}
 use proofs.Words.{◌++◌, length, drop, refl, ap, sym, ◌∙◌, subst, arith, append_assoc, ⊤, AllByRecursion}
 use proofs.Words.{length-drop, character_at, ReadLine, Content, Overlong, At, Fault, Truncated, begins_epoch}
-use proofs.Words.{is_event_flag, is_event_line, Place, Here, Wrong, Wanted, FileUnit, Observation, ReadEpoch}
-use proofs.Words.{epoch_at, Item, Accepted, Warned, types_in_force, Reading, AtLines, Looking, is_skipped}
-use proofs.Words.{looked_for, reading_within, reading_from, is_skippable, raws_kept, as_observation}
-use proofs.Words.{compact_epoch_place, compact_place, IsBetweenUnits}
+use proofs.Words.{is_event_flag, is_event_line, Place, Done, Fails, NeedsMore, FileUnit, Observation}
+use proofs.Words.{ReadEpoch, epoch_at, Item, Accepted, Warned, types_in_force, Reading, AtLines, Looking}
+use proofs.Words.{is_skipped, looked_for, reading_within, reading_from, is_skippable, raws_kept}
+use proofs.Words.{as_observation, compact_epoch_place, compact_place, IsBetweenUnits}
 use proofs.{damage.CutOff.epoch-cut, following.Expansion.observation-wanted}
 use proofs.reading.{Each.all-drop, EpochFaults.{IsSkippableAt, epoch-skippable, place-observation}}
 use proofs.reading.{ForwardCompact.compact-forward, Resuming.{by_place, here-within, wrong-stays}}
@@ -48,11 +48,11 @@ pub place-inside : (items : List (Item ReadEpoch)) (line : List ℕ) (lines : Li
 place-inside items line lines h e = cc (place-between items (Content line ∷ lines) h, e)
 
 pub observation-here : (p : Place ReadEpoch) (unit : FileUnit ReadEpoch) (count : ℕ)
-    → as_observation p ≡ Here unit count → (read : ReadEpoch) × (unit ≡ Observation read)
+    → as_observation p ≡ Done unit count → (read : ReadEpoch) × (unit ≡ Observation read)
 observation-here v1 unit count e = grind (arith)
 
 epoch-here : (items : List (Item ReadEpoch)) (lines : List ReadLine) (unit : FileUnit ReadEpoch) (count : ℕ)
-    → IsBetweenUnits items → IsBlockText lines → compact_place items lines ≡ Here unit count
+    → IsBetweenUnits items → IsBlockText lines → compact_place items lines ≡ Done unit count
     → (read : ReadEpoch) × (unit ≡ Observation read)
 epoch-here items [] unit count h text e = let never = sym (place-between items [] h) ∙ e in absurd (cc)
 epoch-here items (Overlong ∷ lines) unit count h text e = absurd text
@@ -62,7 +62,7 @@ epoch-here items (Content line ∷ lines) unit count h text e =
 
 fault-here : (items : List (Item ReadEpoch)) (lines : List ReadLine) (offset : ℕ) (fault : Fault)
     → IsBetweenUnits items
-    → IsBlockText lines → compact_place items lines ≡ Wrong offset fault → is_skippable fault ≡ true
+    → IsBlockText lines → compact_place items lines ≡ Fails offset fault → is_skippable fault ≡ true
 fault-here items [] offset fault h text e = let never = sym (place-between items [] h) ∙ e in absurd (cc)
 fault-here items (Overlong ∷ lines) offset fault h text e = absurd text
 fault-here items (Content line ∷ lines) offset fault h text e =
@@ -77,8 +77,8 @@ skipped-here items fault h may = cc
 -- the next line that begins with > cuts an epoch off
 pub place-cut : (items : List (Item ReadEpoch)) (first : List ℕ) (lines : List ReadLine)
     (line : List ℕ) (rest : List ReadLine) → IsBetweenUnits items → is_event_line first ≡ false
-    → begins_epoch line ≡ true → compact_place items (Content first ∷ lines) ≡ Wanted → compact_place items
-    (Content first ∷ (lines ++ Content line ∷ rest)) ≡ Wrong (suc (length lines)) Truncated
+    → begins_epoch line ≡ true → compact_place items (Content first ∷ lines) ≡ NeedsMore → compact_place items
+    (Content first ∷ (lines ++ Content line ∷ rest)) ≡ Fails (suc (length lines)) Truncated
 place-cut items first lines line rest h none begins e = ap (λ ls. compact_place items (Content first ∷ ls))
     (sym (append_assoc lines (Content line ∷ []) rest)) ∙ wrong-stays compact_place compact-forward items
     (Content first ∷ (lines ++ Content line ∷ [])) rest _ _ (place-inside items first
@@ -106,7 +106,7 @@ reads-types items (read ∷ later) = reads-types (Accepted (Observation read) �
 -- warning
 abbrev pub EndsBlock : List (Item ReadEpoch) → Reading ReadEpoch → Type 0
 EndsBlock items r = ((number : ℕ) × (rest : List ReadLine) × IsBlockText rest
-    × (compact_place items rest ≡ Wanted) × (r ≡ record { items = items; stop = AtLines number rest }))
+    × (compact_place items rest ≡ NeedsMore) × (r ≡ record { items = items; stop = AtLines number rest }))
     ⊎ ((at : At) × (number : ℕ) × (r ≡ record { items = Warned at ∷ items; stop = Looking number }))
 
 pub record IsBlockRead (items : List (Item ReadEpoch)) (r : Reading ReadEpoch) : Type 0 where

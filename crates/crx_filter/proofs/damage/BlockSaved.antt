@@ -2,7 +2,7 @@
 use Rattle.crx_filter.proofs
 use proofs.Words.{ℕ, ◌≡◌, ◌+◌, ◌≤◌, true, false, cond, List, [], ◌∷◌, ◌++◌, map, length, Option, None, refl}
 use proofs.Words.{ap, sym, ◌∙◌, append_assoc, append-nil, and_parts, pieces_of, lines_of, ReadLine, Content}
-use proofs.Words.{Overlong, seen, At, Epoch, begins_epoch, is_event_line, Observation, ReadEpoch, Choices}
+use proofs.Words.{Overlong, as_read, At, Epoch, begins_epoch, is_event_line, Observation, ReadEpoch, Choices}
 use proofs.Words.{Item, Accepted, Warned, header_has_ended, records_announced, records_left, types_in_force}
 use proofs.Words.{Reading, WholeReading, reading_from, ended_reading, continued_reading, AreInPlace}
 use proofs.Words.{compact_unit, compact_lines, compact_place, HaveNoReturns, IsBetweenUnits, starts_anew}
@@ -161,7 +161,7 @@ pub placed : (input : List ℕ) (choices : Choices) (damaged : List ℕ) (d : Is
     → IsPlaced choices d.before d.first d.others d.after
 placed input choices damaged d = record {
   settled = rw (← d.parts) (whole-settled false input d.standard.good);
-  no_returns = rw (← d.parts) (whole-copied NoReturn false (map seen (lines_of input))
+  no_returns = rw (← d.parts) (whole-copied NoReturn false (map as_read (lines_of input))
       (plain-no_return (pieces_of input) d.standard.plain));
 }
 

@@ -1,7 +1,7 @@
 -- Where an epoch of compact text wants more lines, a line that begins with > cuts it off.
 use Rattle.crx_filter.proofs.Words.{common_steps, ℕ, suc, ◌≡◌, true, List, [], ◌∷◌, ◌++◌, length, Result, Err}
 use Rattle.crx_filter.proofs.Words.{arith, ReadLine, Content, Fault, Truncated, begins_epoch, Count, Place}
-use Rattle.crx_filter.proofs.Words.{Here, Wrong, Wanted, then_place, one_line, first_line, Satellite}
+use Rattle.crx_filter.proofs.Words.{Done, Fails, NeedsMore, then_place, one_line, first_line, Satellite}
 use Rattle.crx_filter.proofs.Words.{RawEpoch, Past, BegunEpoch, rows_read, epoch_after_line, epoch_at}
 use Rattle.crx_compact.proofs.reading.SteadyEpochs.{steady-rows_read}
 use Rattle.{crx_filter.proofs.following.Lines.one_line-decided, crx_rinex.proofs.Steady.steady-first_line}
@@ -9,9 +9,9 @@ use Rattle.{crx_filter.proofs.following.Lines.one_line-decided, crx_rinex.proofs
 -- where more lines are wanted, one that begins with > is a fault
 abbrev IsCutOff : {X : Type 0} → (List ReadLine → Place X) → Type 0
 IsCutOff place = (lines : List ReadLine) (line : List ℕ) → begins_epoch line ≡ true
-    → place lines ≡ Wanted → place (lines ++ Content line ∷ []) ≡ Wrong (length lines) Truncated
+    → place lines ≡ NeedsMore → place (lines ++ Content line ∷ []) ≡ Fails (length lines) Truncated
 
-cut-here : {X : Type 0} (x : X) → IsCutOff (λ lines. Here x 0)
+cut-here : {X : Type 0} (x : X) → IsCutOff (λ lines. Done x 0)
 cut-here x lines line begins e = absurd (cc)
 
 cut-first : {X : Type 0} (read : List ℕ → Result X Fault) → ((line : List ℕ)
@@ -27,13 +27,13 @@ rows-cut past (satellite ∷ satellites) =
 
 begun-cut : (r : Result BegunEpoch Fault) (first : ReadLine) (lines : List ReadLine) (line : List ℕ)
     → begins_epoch line ≡ true → then_place (one_line r) (first ∷ lines) (λ begun others.
-    epoch_after_line begun others) ≡ Wanted → then_place (one_line r) (first ∷ (lines ++ Content line ∷ []))
-    (λ begun others. epoch_after_line begun others) ≡ Wrong (suc (length lines)) Truncated
+    epoch_after_line begun others) ≡ NeedsMore → then_place (one_line r) (first ∷ (lines ++ Content line ∷
+    [])) (λ begun others. epoch_after_line begun others) ≡ Fails (suc (length lines)) Truncated
 begun-cut v1 first lines line begins e =
     grind (arith, steady-first_line, cut-first, steady-rows_read, rows-cut, cut-here)
 
 -- an epoch whose first line has come
 pub epoch-cut : (types : List Count) (older : List RawEpoch) (first : List ℕ) (lines : List ReadLine)
-    (line : List ℕ) → begins_epoch line ≡ true → epoch_at types older (Content first ∷ lines) ≡ Wanted →
-    epoch_at types older (Content first ∷ (lines ++ Content line ∷ [])) ≡ Wrong (suc (length lines)) Truncated
+    (line : List ℕ) → begins_epoch line ≡ true → epoch_at types older (Content first ∷ lines) ≡ NeedsMore →
+    epoch_at types older (Content first ∷ (lines ++ Content line ∷ [])) ≡ Fails (suc (length lines)) Truncated
 epoch-cut types older first lines line begins e = begun-cut _ _ _ _ begins e

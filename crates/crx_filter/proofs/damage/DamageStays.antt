@@ -4,7 +4,7 @@ use Rattle.crx_filter.proofs
 use proofs.Words.{common_steps, arith, ℕ, suc, ◌≡◌, ◌+◌, ◌⊎◌, true, List, [], ◌∷◌, ◌++◌, map, length, drop}
 use proofs.Words.{take, reverse, Option, None, refl, ap, sym, ◌∙◌, subst, append_assoc, append-nil}
 use proofs.Words.{AllByRecursion, flat_map, list_all, map-append, drop-append_seam, Piece, pieces_of}
-use proofs.Words.{lines_of, ReadLine, Content, seen, At, Epoch, IsWholeEpoch, printed_epoch, lines_text}
+use proofs.Words.{lines_of, ReadLine, Content, as_read, At, Epoch, IsWholeEpoch, printed_epoch, lines_text}
 use proofs.Words.{Observation, epoch_line, ReadEpoch, Choices, is_date, Item, Accepted, header_has_ended}
 use proofs.Words.{records_left, types_in_force, Reading, reading_from, ended_reading, notices_text}
 use proofs.Words.{warnings_in, result_of, marked_epochs, compact_unit, compact_lines, version_line}
@@ -115,17 +115,17 @@ module _ (choices : Choices) (before : List (Item Epoch)) (first : Epoch)
 
   -- the lines of the damaged text, as they are read
   pub lines-cut : (instead : List ℕ) → is_date choices.date ≡ true → (after ≡ [])
-      ⊎ (list_all (λ (piece : Piece). piece.is_ended) (pieces_of instead) ≡ true) → map seen (lines_of
+      ⊎ (list_all (λ (piece : Piece). piece.is_ended) (pieces_of instead) ≡ true) → map as_read (lines_of
       (lines_text (compact_lines choices before ++ take 1 (compact_unit choices before (Observation first)))
       ++ instead ++ lines_text (lines_after choices (block_of before first others)
-      (after ++ (block_of before first others))))) ≡ map Content (front_of choices before first) ++ (map seen
-      (lines_of instead) ++ map Content (lines_on choices.every after (block_of before first others)))
+      (after ++ (block_of before first others))))) ≡ map Content (front_of choices before first) ++ (map
+      as_read (lines_of instead) ++ map Content (lines_on choices.every after (block_of before first others)))
   lines-cut instead dated ends =
       let rest = lines_after choices (block_of before first others) (after ++ block_of before first others) in
-      ap (λ t. map seen (lines_of t)) (append_assoc (lines_text (compact_lines choices before ++ take 1
+      ap (λ t. map as_read (lines_of t)) (append_assoc (lines_text (compact_lines choices before ++ take 1
       (compact_unit choices before (Observation first)))) instead (lines_text rest))
-      ∙ ap (λ ls. map seen (lines_of (lines_text ls ++ (instead ++ lines_text rest)))) front-same
-      ∙ ap (λ ls. map seen (lines_of (lines_text (front_of choices before first) ++ (instead ++ lines_text
+      ∙ ap (λ ls. map as_read (lines_of (lines_text ls ++ (instead ++ lines_text rest)))) front-same
+      ∙ ap (λ ls. map as_read (lines_of (lines_text (front_of choices before first) ++ (instead ++ lines_text
       ls)))) after-same ∙ damaged-cut (front_of choices before first) instead (lines_on choices.every after
       (block_of before first others)) (front-clean dated) all-clean.1 (none-after instead ends)
 
@@ -252,12 +252,13 @@ saved-lines input choices expanding damaged dated skips d =
     (text-anew choices block d.after known.header known.left known.in_place d.anew) between
     (types-kept choices d.before d.first d.others d.after p) in
     let last = with_warnings s.warnings items in
-    let cut = ap (λ t. map seen (lines_of t)) d.text ∙ ap (λ all. map seen (lines_of (lines_text
+    let cut = ap (λ t. map as_read (lines_of t)) d.text ∙ ap (λ all. map as_read (lines_of (lines_text
     (compact_lines choices d.before ++ take 1 (compact_unit choices d.before (Observation d.first))) ++
     d.instead ++ lines_text (lines_after choices block all)))) d.parts ∙ lines-cut _ _ _ _ _ p _ dated d.ended
     ∙ ap (λ ls. map Content (front_of choices d.before d.first) ++ (ls ++ tail)) inside.0 ∙ ap (λ ls. Content
     version_line ∷ Content (program_line choices.date) ∷ ls) (one-more old full (map Content cs ++ tail)) in
-    let whole = ap (λ skip. whole_compact skip (map seen (lines_of damaged))) skips ∙ ap (whole_compact true)
+    let whole = ap (λ skip. whole_compact skip (map as_read (lines_of damaged))) skips ∙ ap (whole_compact
+    true)
     cut ∙ whole-after true choices.date (map Content old ++ (lines ++ tail)) ∙ ap (ended_reading true)
     (block-reading choices d.before d.first d.others d.after p (lines ++ tail)) ∙ s.same in
     let once = ap reverse (warnings-same
@@ -284,8 +285,8 @@ of-compaction input choices damaged d =
     let block = block_of d.before d.first d.others in
     let head = compact_lines choices d.before ++ lines_of_epochs choices d.before (d.first ∷ d.others) in
     ap (λ (w : WholeReading Epoch). lines_text (compact_lines choices w.items)) (same-reading choices.skip
-    (map seen (lines_of input)) d.standard.good) ∙ ap (λ all. lines_text (compact_lines choices all)) d.parts
-    ∙ ap lines_text (lines-parts choices d.before d.first d.others d.after p)
+    (map as_read (lines_of input)) d.standard.good) ∙ ap (λ all. lines_text (compact_lines choices all))
+    d.parts ∙ ap lines_text (lines-parts choices d.before d.first d.others d.after p)
     ∙ ap (λ ls. lines_text (ls ++ lines_on choices.every d.after block)) (block-parts choices d.before d.first
     d.others d.after p) ∙ text-append head (lines_on choices.every d.after block)
     ∙ ap (λ ls. lines_text head ++ lines_text ls) (sym (after-same choices d.before d.first d.others d.after

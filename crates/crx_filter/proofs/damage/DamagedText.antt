@@ -4,9 +4,9 @@ use Rattle.crx_filter.proofs.Words
 use Words.{common_steps, arith, ℕ, ◌≡◌, ◌⊎◌, inl, inr, true, not, cond, List, [], ◌∷◌, ◌++◌, map}
 use Words.{refl, ap, sym, ◌∙◌, append_assoc, append-nil, AllByRecursion, list_all, eqb_tells}
 use Words.{map-append, flat_map-append, and_parts, Piece, InputLine, pieces_of, onto_first, lines_of, is_long}
-use Words.{Content, seen, begins_epoch, lines_text, not-true}
+use Words.{Content, as_read, begins_epoch, lines_text, not-true}
 use Rattle.crx_filter.proofs.{damage.BlockReading.IsInside, reading.Each.contents, wayback.Cut.IsClean}
-use Rattle.crx_filter.{proofs.wayback.Cut.seen-clean, specs.meaning.Damage.may_replace}
+use Rattle.crx_filter.{proofs.wayback.Cut.as-read-clean, specs.meaning.Damage.may_replace}
 use Rattle.crx_lines.proofs.PieceLemmas.{EachEnded, pieces-first}
 
 -- ---- pieces of two texts, one after the other
@@ -24,26 +24,26 @@ pieces-append [] two e = refl
 pieces-append (b ∷ one) two e =
     grind (arith, common_steps, cond, pieces_of, onto_first, eqb_tells, pieces-append one two)
 
-pub lines-append : (one two : List ℕ) → EachEnded (pieces_of one) → map seen (lines_of (one ++ two))
-    ≡ map seen (lines_of one) ++ map seen (lines_of two)
+pub lines-append : (one two : List ℕ) → EachEnded (pieces_of one) → map as_read (lines_of (one ++ two))
+    ≡ map as_read (lines_of one) ++ map as_read (lines_of two)
 lines-append one two e = search (pieces-append, map-append)
 
 -- ---- written lines before a text
 
 pub front-cut : (lines : List (List ℕ)) (text : List ℕ) → AllByRecursion IsClean lines
-    → map seen (lines_of (lines_text lines ++ text)) ≡ map Content lines ++ map seen (lines_of text)
+    → map as_read (lines_of (lines_text lines ++ text)) ≡ map Content lines ++ map as_read (lines_of text)
 front-cut [] text h = refl
-front-cut (line ∷ lines) text h = search (front-cut lines text h.1, append_assoc, pieces-first, seen-clean)
+front-cut (line ∷ lines) text h = search (front-cut lines text h.1, append_assoc, pieces-first, as-read-clean)
 
 -- the lines before a block and its first, those that come in place of the others, and those after it
 pub damaged-cut : (front : List (List ℕ)) (instead : List ℕ) (rest : List (List ℕ)) → AllByRecursion
     IsClean front → AllByRecursion IsClean rest → (rest ≡ []) ⊎ (list_all (λ (piece : Piece). piece.is_ended)
-    (pieces_of instead) ≡ true) → map seen (lines_of (lines_text front ++ (instead ++ lines_text rest)))
-    ≡ map Content front ++ (map seen (lines_of instead) ++ map Content rest)
+    (pieces_of instead) ≡ true) → map as_read (lines_of (lines_text front ++ (instead ++ lines_text rest)))
+    ≡ map Content front ++ (map as_read (lines_of instead) ++ map Content rest)
 damaged-cut front instead rest h k (inl none) =
-    grind (arith, common_steps, map, seen, lines_of, append-nil, front-cut, lines_text)
+    grind (arith, common_steps, map, as_read, lines_of, append-nil, front-cut, lines_text)
 damaged-cut front instead rest h k (inr all) =
-    let last = ap (λ t. map seen (lines_of t)) (sym (append-nil (lines_text rest))) ∙ front-cut rest [] k
+    let last = ap (λ t. map as_read (lines_of t)) (sym (append-nil (lines_text rest))) ∙ front-cut rest [] k
     ∙ append-nil _ in
     let first = lines-append instead (lines_text rest) (each-ended (pieces_of instead) all) in
     cc (front-cut front (instead ++ lines_text rest) h, last)
@@ -52,7 +52,8 @@ damaged-cut front instead rest h k (inr all) =
 
 -- none of them is too long, and none begins with >
 pub instead-inside : (lines : List InputLine) → list_all may_replace lines ≡ true
-    → (map seen lines ≡ map Content (contents lines)) × AllByRecursion IsInside (map Content (contents lines))
+    → (map as_read lines ≡ map Content (contents lines)) × AllByRecursion IsInside (map Content (contents
+    lines))
 instead-inside [] e = (refl, tt)
 instead-inside (line ∷ lines) e =
     let one = (and_parts (may_replace line) (list_all may_replace lines) e).0 in

@@ -3,9 +3,9 @@
 use Rattle.crx_filter.proofs
 use proofs.Words.{ℕ, suc, ◌≡◌, ◌+◌, ◌≤◌, max, inl, inr, true, false, List, [], ◌∷◌, ◌++◌, length, drop, Some}
 use proofs.Words.{None, refl, ap, ◌∙◌, arith, length-append, drop-append_seam, ReadLine, Content, Overlong}
-use proofs.Words.{At, Truncated, begins_epoch, is_event_line, Wanted, ReadEpoch, Item, Warned, types_in_force}
-use proofs.Words.{Reading, WholeReading, AtLines, is_skipped, looked_for, reading_within, reading_from}
-use proofs.Words.{ended_with, ended_reading, continued_reading, compact_place, IsBetweenUnits}
+use proofs.Words.{At, Truncated, begins_epoch, is_event_line, NeedsMore, ReadEpoch, Item, Warned}
+use proofs.Words.{types_in_force, Reading, WholeReading, AtLines, is_skipped, looked_for, reading_within}
+use proofs.Words.{reading_from, ended_with, ended_reading, continued_reading, compact_place, IsBetweenUnits}
 use proofs.damage.BlockReading.{IsBlockText, EndsBlock, IsBlockRead, with_reads, reads-between, skipped-here}
 use proofs.{damage.BlockReading.place-cut, reading.ForwardCompact.compact-forward}
 use proofs.reading.Resuming.{enough-units, within-wrong, fault-skipped, looked-here}
@@ -36,7 +36,7 @@ pub record GoesOnAt (items : List (Item ReadEpoch)) (tail : List ReadLine)
 -- an epoch that is open is cut off, and reading goes on at the very line that does so
 pub open-goes_on : (items : List (Item ReadEpoch)) (number : ℕ) (first : List ℕ) (rest : List ReadLine) (line
     : List ℕ) (tail : List ReadLine) → IsBetweenUnits items → is_event_line first ≡ false → compact_place
-    items (Content first ∷ rest) ≡ Wanted → begins_epoch line ≡ true → GoesOnAt items (Content line ∷ tail)
+    items (Content first ∷ rest) ≡ NeedsMore → begins_epoch line ≡ true → GoesOnAt items (Content line ∷ tail)
     (reading_from compact_place true items number (Content first ∷ (rest ++ Content line ∷ tail)))
 open-goes_on items number first rest line tail h no_event e begins =
     let open_lines = Content first ∷ rest in
@@ -63,7 +63,7 @@ open-goes_on items number first rest line tail h no_event e begins =
 
 cut-goes_on : (items : List (Item ReadEpoch))
     (number : ℕ) (rest : List ReadLine) (line : List ℕ) (tail : List ReadLine) → IsBetweenUnits items
-    → IsBlockText rest → compact_place items rest ≡ Wanted → begins_epoch line ≡ true → GoesOnAt items
+    → IsBlockText rest → compact_place items rest ≡ NeedsMore → begins_epoch line ≡ true → GoesOnAt items
     (Content line ∷ tail) (reading_from compact_place true items number (rest ++ Content line ∷ tail))
 cut-goes_on items number [] line tail h text e begins =
     record { warnings = []; few = omega arith; number = number; same = refl }

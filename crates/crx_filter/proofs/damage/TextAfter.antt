@@ -3,7 +3,7 @@
 use Rattle.crx_filter.proofs.Words
 use Words.{ℕ, zero, suc, ◌≡◌, ◌+◌, ◌-◌, ◌<◌, Bool, true, false, cond, List, [], ◌∷◌, ◌++◌, map, length}
 use Words.{Option, refl, ap, sym, ◌∙◌, arith, length-append, append-nil, append_assoc, ◌||◌, map-append}
-use Words.{length-map, and_parts, ReadLine, Content, Epoch, begins_epoch, is_event_line, Here, HeaderLine}
+use Words.{length-map, and_parts, ReadLine, Content, Epoch, begins_epoch, is_event_line, Done, HeaderLine}
 use Words.{EventLine, EventRecord, Observation, compact_epoch, epoch_line, Choices, Item, Accepted, Warned}
 use Words.{header_has_ended, records_announced, records_left, AtLines, reading_from, continued_reading}
 use Words.{AreInPlace, written_lines, is_in_full, marked_epochs, compact_place, starts_anew, BeginsAnew}
@@ -41,7 +41,7 @@ module _ (every : Option ℕ) where
       let more = body_unit every (later ++ before) unit in
       let same = length-map more Content in
       let all = length-append first more in
-      let here = unit-here every _ unit h ∙ ap (λ n. Here (unit_back every (later ++ before)
+      let here = unit-here every _ unit h ∙ ap (λ n. Done (unit_back every (later ++ before)
       unit) n) (sym same) in
       ap (λ ls. reading_from compact_place skip (read_back every before) number ls) (map-append Content first
       more) ∙ resumed compact_place compact-forward skip (read_back every before) number (map Content first)

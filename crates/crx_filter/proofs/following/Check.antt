@@ -2,7 +2,7 @@
 use Rattle.crx_filter.proofs.Words
 use Words.{common_steps, ℕ, ◌+◌, false, List, [], length, refl, arith, ReadLine, Epoch, FileUnit}
 use Words.{printed_unit, epoch_place, Item, types_in_force, warnings_in, IsEndedBy, rinex_place, whole_rinex}
-use Words.{rinex_reading, rinex_open, seen_of, seen_end, printed_items, checking, totals_of, no_choices}
+use Words.{rinex_reading, rinex_open, state_of, state_end, printed_items, checking, totals_of, no_choices}
 use Rattle.crx_filter.proofs.following.{Following.IsCarriedOut, Rinex.{AreSame, either-same, agree-begins}}
 use Rattle.crx_filter.proofs.{following.Rinex.{agree-continues, no-lines}, reading.Ending.next-end}
 use Rattle.crx_filter.proofs.reading.{Forward.rinex-forward, Stopping.reading-stopped}
@@ -37,8 +37,8 @@ check-carried_out = record {
 -- the end of the input
 pub check-end : (lines : List ReadLine) → IsEndedBy (printed_items (rinex_reading false lines).items)
     (printed_items (whole_rinex false lines).items) (warnings_in (rinex_reading false lines).items)
-    (warnings_in (whole_rinex false lines).items) (whole_rinex false lines).fault (seen_end checking
-    (seen_of checking rinex_open totals_of no_choices (length lines) (rinex_reading false lines)))
+    (warnings_in (whole_rinex false lines).items) (whole_rinex false lines).fault (state_end checking
+    (state_of checking rinex_open totals_of no_choices (length lines) (rinex_reading false lines)))
 check-end lines =
     let r = rinex_reading false lines in
     next-end check-carried_out r.items r.stop (length lines)

@@ -3,14 +3,14 @@
 -- its report.
 use Rattle.crx_filter.proofs.Words
 use Words.{common_steps, arith, ℕ, ◌≡◌, false, List, [], ◌∷◌, map, Option, Some, None, refl, ap, sym, ◌∙◌}
-use Words.{reverse, map-append, length-map, InputLine, ReadLine, seen, At, Choices, Count, Epoch, lines_text}
-use Words.{with_next, noticed_by, failed_by, is_again, Made, Seen, Phase, OpenEpoch, fed, made_in}
-use Words.{step_of_made, seen_next, seen_end, SeenStep, Totals, checking, check_by_line, check_reading}
-use Words.{check_filter, no_choices, whole_reading_of, findings_of, false-true, InFirstLines}
-use Rattle.crx_filter.proofs.following.{CheckedOn.{one-on, same-seen}, Following.{fed-once, seen_in}}
+use Words.{reverse, map-append, length-map, InputLine, ReadLine, as_read, At, Choices, Count, Epoch}
+use Words.{lines_text, with_next, noticed_by, failed_by, is_again, Made, RunState, Phase, OpenEpoch, fed}
+use Words.{made_in, step_of_made, state_next, state_end, LineStep, Totals, checking, check_by_line}
+use Words.{check_reading, check_filter, no_choices, whole_reading_of, findings_of, false-true, InFirstLines}
+use Rattle.crx_filter.proofs.following.{CheckedOn.{one-on, same-state}, Following.{fed-once, state_in}}
 use Rattle.crx_filter.proofs.{following.MemoryOfRinex.check-allowed, standard.CheckEnded.check-ended}
 use Rattle.crx_filter.specs.EngineLaws.{EndsLineByLine, FollowsBy, GoesLineByLine}
-use Rattle.crx_filter.specs.LineByLine.{seen_end_with, fault_at_end_in}
+use Rattle.crx_filter.specs.LineByLine.{state_end_with, fault_at_end_in}
 use Rattle.crx_filter.specs.meaning.{Directions.report_unless, Standard.{Findings, report_lines}}
 
 -- ---- a step
@@ -22,7 +22,7 @@ made-alike (InFirstLines count) types kept line = refl
 made-alike phase types kept line = refl
 
 -- a step of a check is that of its reading, and hands out nothing
-pub record IsQuiet (step reads : SeenStep OpenEpoch Totals) : Type 0 where
+pub record IsQuiet (step reads : LineStep OpenEpoch Totals) : Type 0 where
   pub next : step.next ≡ reads.next
   pub failed : failed_by step.answer ≡ failed_by reads.answer
   pub noticed : noticed_by step.answer ≡ []
@@ -31,29 +31,29 @@ pub record IsQuiet (step reads : SeenStep OpenEpoch Totals) : Type 0 where
 
 pub made-quiet : (number : ℕ) (phase : Phase OpenEpoch) (types : List Count) (kept : Totals) (line : ReadLine)
     (made : Made Epoch OpenEpoch)
-    → IsQuiet (step_of_made check_by_line (seen_in no_choices number phase types kept) line made)
-    (step_of_made checking (seen_in no_choices number phase types kept) line made)
+    → IsQuiet (step_of_made check_by_line (state_in no_choices number phase types kept) line made)
+    (step_of_made checking (state_in no_choices number phase types kept) line made)
 made-quiet number phase types kept line made = grind (arith, common_steps)
 
 pub step-quiet : (lines : List ReadLine) (line : ReadLine) → IsQuiet
-    (seen_next check_by_line (check_reading lines) line) (seen_next checking (check_reading lines) line)
+    (state_next check_by_line (check_reading lines) line) (state_next checking (check_reading lines) line)
 step-quiet lines line = grind (arith, common_steps, made-alike, made-quiet)
 
 -- ---- the end
 
 -- at a good end the report is handed out, and else nothing
-record IsReported (closing : List (List ℕ)) (step reads : SeenStep OpenEpoch Totals) : Type 0 where
+record IsReported (closing : List (List ℕ)) (step reads : LineStep OpenEpoch Totals) : Type 0 where
   failed : failed_by step.answer ≡ failed_by reads.answer
   noticed : noticed_by step.answer ≡ []
   good : failed_by step.answer ≡ None → step.handed_out ≡ closing
   bad : (at : At) → failed_by step.answer ≡ Some at → step.handed_out ≡ []
 
 end-reported : (closing : List (List ℕ)) (number : ℕ) (phase : Phase OpenEpoch) (types : List Count)
-    (kept : Totals) → IsReported closing (seen_end_with check_by_line closing
-    (seen_in no_choices number phase types kept)) (seen_end checking (seen_in no_choices number phase types
+    (kept : Totals) → IsReported closing (state_end_with check_by_line closing
+    (state_in no_choices number phase types kept)) (state_end checking (state_in no_choices number phase types
     kept))
 end-reported closing number phase types kept =
-    grind (arith, common_steps, seen_end, seen_end_with, fault_at_end_in)
+    grind (arith, common_steps, state_end, state_end_with, fault_at_end_in)
 
 report-text : (found : Findings) (o : Option At) (handed_out : List (List ℕ))
     → (o ≡ None → handed_out ≡ report_lines found) → ((at : At) → o ≡ Some at → handed_out ≡ [])
@@ -64,25 +64,25 @@ report-text found (Some at) handed_out good bad = ap lines_text (sym (bad at ref
 -- ---- line by line
 
 check-follows : (lines : List InputLine) (line : InputLine) → FollowsBy check_filter lines line
-    (check_reading (map seen (with_next lines line))) (fed check_by_line (check_reading (map seen lines))
-    (seen line))
+    (check_reading (map as_read (with_next lines line))) (fed check_by_line (check_reading (map as_read
+    lines)) (as_read line))
 check-follows lines line = grind (
   arith,
   common_steps,
-  one-on (map seen lines) (seen line),
-  step-quiet (map seen lines) (seen line),
-  fed-once check_by_line (check_reading (map seen lines)) (seen line),
-  map-append seen lines (line ∷ []),
+  one-on (map as_read lines) (as_read line),
+  step-quiet (map as_read lines) (as_read line),
+  fed-once check_by_line (check_reading (map as_read lines)) (as_read line),
+  map-append as_read lines (line ∷ []),
 )
 
 check-ends : (lines : List InputLine) → EndsLineByLine check_filter lines
-    (seen_end_with check_by_line (report_lines (findings_of lines)) (check_reading (map seen lines)))
+    (state_end_with check_by_line (report_lines (findings_of lines)) (check_reading (map as_read lines)))
 check-ends lines =
-    let s = check_reading (map seen lines) in
+    let s = check_reading (map as_read lines) in
     let end = end-reported (report_lines (findings_of lines)) s.number s.phase s.types s.kept in
     let fault = (check-ended lines).fault
-    ∙ ap (λ (seen : Seen OpenEpoch Totals). failed_by (seen_end checking seen).answer) (same-seen lines)
-    ∙ sym end.failed in
+    ∙ ap (λ (state : RunState OpenEpoch Totals). failed_by (state_end checking state).answer) (same-state
+    lines) ∙ sym end.failed in
     record {
       output = report-text (findings_of lines) (whole_reading_of lines).fault _
           (λ none. end.good (sym fault ∙ none)) (λ at is. end.bad at (sym fault ∙ is));
@@ -95,11 +95,11 @@ pub check-goes : (choices : Choices) → no_choices ≡ choices → GoesLineByLi
 check-goes choices taken = record {
   follows = check-follows;
   ends = check-ends;
-  number = λ lines. length-map lines seen;
-  memory_first = λ lines line. check-allowed (map seen lines) (seen line);
+  number = λ lines. length-map lines as_read;
+  memory_first = λ lines line. check-allowed (map as_read lines) (as_read line);
   memory_again = λ lines line next notice is takes. false-true
-      (sym (step-quiet (map seen lines) (seen line)).once
-      ∙ ap (λ (s : SeenStep OpenEpoch Totals). is_again s.answer) (sym is));
+      (sym (step-quiet (map as_read lines) (as_read line)).once
+      ∙ ap (λ (s : LineStep OpenEpoch Totals). is_again s.answer) (sym is));
   too_long_first = λ types kept. refl;
   too_long_next = λ so_far. refl;
 }

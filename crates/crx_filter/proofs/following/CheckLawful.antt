@@ -1,5 +1,5 @@
 -- A check as a filter: a fault of the lines so far is that of all lines.
-use Rattle.crx_filter.proofs.Words.{◌≡◌, false, [], ◌++◌, map, Some, refl, ap, sym, ◌∙◌, map-append, seen}
+use Rattle.crx_filter.proofs.Words.{◌≡◌, false, [], ◌++◌, map, Some, refl, ap, sym, ◌∙◌, map-append, as_read}
 use Rattle.crx_filter.proofs.Words.{Epoch, WholeReading, IsLawful, whole_rinex, whole_reading_of, findings_of}
 use Rattle.crx_filter.proofs.Words.{check_filter, common_steps, arith, ℕ, List, Option, None, At, Device}
 use Rattle.crx_filter.proofs.Words.{append-nil, lines_of, checked, whole_of}
@@ -11,9 +11,9 @@ pub check-lawful : IsLawful check_filter
 check-lawful = record {
   nothing = refl;
   decided = λ lines more at e.
-      let stays = rinex-stays false (map seen lines) (map seen more) at e in
+      let stays = rinex-stays false (map as_read lines) (map as_read more) at e in
       let fault : WholeReading.fault (whole_reading_of (lines ++ more)) ≡ Some at =
-      ap (λ ls. WholeReading.fault (whole_rinex false ls)) (map-append seen lines more)
+      ap (λ ls. WholeReading.fault (whole_rinex false ls)) (map-append as_read lines more)
       ∙ ap (λ (w : WholeReading Epoch). w.fault) stays.ended in
       ap (λ o. record { output = report_unless o (findings_of (lines ++ more)); warnings = []; fault = o })
       fault ∙ ap (λ o. record { output = []; warnings = []; fault = o }) (sym e);
@@ -22,8 +22,8 @@ check-lawful = record {
     rest = report_unless (whole_reading_of (lines ++ more)).fault (findings_of (lines ++ more));
     same = refl;
   };
-  found = λ lines at e. rinex-found false (map seen lines) at e;
-  found_at_end = λ lines at e. rinex-found-at-end false (map seen lines) at e;
+  found = λ lines at e. rinex-found false (map as_read lines) at e;
+  found_at_end = λ lines at e. rinex-found-at-end false (map as_read lines) at e;
 }
 
 -- a run of the filter is a check once its status is judged: by what there is to find where there is no

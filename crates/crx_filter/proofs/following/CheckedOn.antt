@@ -2,27 +2,27 @@
 use Rattle.crx_filter.proofs.Words
 use Words.{common_steps, ℕ, ◌≡◌, ◌+◌, true, false, cond, List, [], ◌∷◌, ◌++◌, map, length, Option, Some, None}
 use Words.{refl, ap, sym, ◌∙◌, subst, arith, length-append, append-nil, append_assoc, length-map, none-some}
-use Words.{InputLine, ReadLine, seen, At, Epoch, last_line, Reading, rinex_reading, rinex_open, Seen, made_in}
-use Words.{seen_next, seen_of, phase_of, failed_by, is_again, fault_of_stop, printed_items, is_standard_line}
-use Words.{first_not_standard, Totals, checking, totals_of, printed_open, printed_made, earliest, CheckSeen}
-use Words.{no_choices, check_seen, OpenEpoch}
+use Words.{InputLine, ReadLine, as_read, At, Epoch, last_line, Reading, rinex_reading, rinex_open, RunState}
+use Words.{made_in, state_next, state_of, phase_of, failed_by, is_again, fault_of_stop, printed_items}
+use Words.{is_standard_line, first_not_standard, Totals, checking, totals_of, printed_open, printed_made}
+use Words.{earliest, CheckState, no_choices, check_state, OpenEpoch}
 use Rattle.crx_filter.proofs.following.{Check.check-carried_out, Following.fed-once, MoreLines.more-line}
 use Rattle.crx_filter.proofs.{reading.StaysEnded.rinex-stays, standard.CheckLines.{phase-reached, line-grows}}
 use Rattle.crx_filter.specs.CheckingLaws.{IsCheckedOn}
 
 -- ---- what is seen of the lines
 
-abbrev pub reading_seen : List ReadLine → Seen OpenEpoch Totals
-reading_seen lines = seen_of checking rinex_open totals_of no_choices (length lines)
+abbrev pub reading_state : List ReadLine → RunState OpenEpoch Totals
+reading_state lines = state_of checking rinex_open totals_of no_choices (length lines)
     (rinex_reading false lines)
 
-pub same-seen : (lines : List InputLine) → CheckSeen.reading (check_seen lines)
-    ≡ reading_seen (map seen lines)
-same-seen lines = cc (length-map lines seen)
+pub same-state : (lines : List InputLine) → CheckState.reading (check_state lines)
+    ≡ reading_state (map as_read lines)
+same-state lines = cc (length-map lines as_read)
 
 pub once-again : (lines : List ReadLine) (line : ReadLine)
-    → is_again (seen_next checking (reading_seen lines) line).answer ≡ false
-once-again lines line = grind (arith, common_steps, reading_seen, made_in, checking)
+    → is_again (state_next checking (reading_state lines) line).answer ≡ false
+once-again lines line = grind (arith, common_steps, reading_state, made_in, checking)
 
 -- the printed lines of a reading
 abbrev pub printed_of : List ReadLine → List (List ℕ)
@@ -31,13 +31,13 @@ printed_of lines = let r : Reading Epoch = rinex_reading false lines in
 
 -- the last line that printing gives for a line
 abbrev pub given_back : List ReadLine → ReadLine → List ℕ
-given_back lines line = let s : Seen OpenEpoch Totals = reading_seen lines in
+given_back lines line = let s : RunState OpenEpoch Totals = reading_state lines in
     last_line (printed_made (made_in checking s.phase s.types s.kept line))
 
 pub record IsOneOn (lines : List ReadLine) (line : ReadLine) : Type 0 where
   pub fault : fault_of_stop (rinex_reading false (lines ++ line ∷ [])).stop
-      ≡ failed_by (seen_next checking (reading_seen lines) line).answer
-  pub next : reading_seen (lines ++ line ∷ []) ≡ (seen_next checking (reading_seen lines) line).next
+      ≡ failed_by (state_next checking (reading_state lines) line).answer
+  pub next : reading_state (lines ++ line ∷ []) ≡ (state_next checking (reading_state lines) line).next
   pub printed : fault_of_stop (rinex_reading false (lines ++ line ∷ [])).stop ≡ None
       → printed_of (lines ++ line ∷ []) ≡ printed_of lines ++ given_back lines line ∷ []
 
@@ -45,10 +45,10 @@ pub one-on : (lines : List ReadLine) (line : ReadLine) → IsOneOn lines line
 one-on lines line = grind (
   arith,
   common_steps,
-  fed-once checking (reading_seen lines) line (once-again lines line),
+  fed-once checking (reading_state lines) line (once-again lines line),
   more-line check-carried_out 1 (length lines) (length (lines ++ line ∷ [])) lines (lines ++ line ∷ []) line
       (omega arith) (length-append lines (line ∷ [])) refl,
-  line-grows (length lines) (reading_seen lines).phase (reading_seen lines).types (reading_seen lines).kept
+  line-grows (length lines) (reading_state lines).phase (reading_state lines).types (reading_state lines).kept
       line (phase-reached lines),
   append_assoc,
 )
@@ -103,4 +103,4 @@ first-on number (l ∷ lines) (t ∷ texts) line text e =
 
 pub checked-on : (lines : List InputLine) (line : InputLine) → IsCheckedOn lines line
 checked-on lines line =
-    grind (arith, common_steps, one-on, same-seen, once-again, as-many, good-before, first-on)
+    grind (arith, common_steps, one-on, same-state, once-again, as-many, good-before, first-on)

@@ -4,7 +4,7 @@ use Rattle.crx_filter.proofs.Words.{Observation, epoch_place, Marked, Tail, line
 use Rattle.crx_filter.proofs.Words.{types_in_force, epochs_accepted, is_at_every, is_in_full, marked_epochs}
 use Rattle.crx_filter.proofs.Words.{compact_unit, Written, compaction, written_of, rinex_open}
 use Rattle.crx_compact.{proofs.wayback.Tailing.epoch-by_tail, specs.Laws.tail_before}
-use Rattle.{crx_compact.specs.Steps.tail_written_after, crx_filter.proofs.following.Following.seen_in}
+use Rattle.{crx_compact.specs.Steps.tail_written_after, crx_filter.proofs.following.Following.state_in}
 use Rattle.crx_filter.proofs.following.{Following.IsCarriedOut, Rinex.{AreSame, either-same, agree-begins}}
 use Rattle.crx_filter.proofs.{following.Rinex.{agree-continues, no-lines}, reading.Forward.rinex-forward}
 use Rattle.{crx_filter.proofs.reading.Types.counts-in_force, crx_rinex.proofs.SoundEpochs.sound-epoch_place}
@@ -30,11 +30,11 @@ same-epochs choices = record {
       in
       record {
         kept = λ number phase types kept either. ap (λ (k : Written). compaction.kept_after
-            (seen_in choices number phase types k) (Observation epoch)) (either-same either)
+            (state_in choices number phase types k) (Observation epoch)) (either-same either)
             ∙ ap (λ (t : Tail). record { index = epochs_accepted items + 1; tail = Some t })
             (cc (same-tail choices items epoch, by_tail.tail));
         lines = λ number phase types kept either. ap (λ (k : Written). compaction.written
-            (seen_in choices number phase types k) (Observation epoch)) (either-same either)
+            (state_in choices number phase types k) (Observation epoch)) (either-same either)
             ∙ ap (λ t. lines_after_tail t epoch) (sym (same-tail choices items epoch)) ∙ sym by_tail.lines;
       };
 }

@@ -1,13 +1,13 @@
 -- Both directions go line by line, in the words of their filters.
 use Rattle.crx_filter.proofs.Words
 use Words.{ℕ, ◌≡◌, List, [], ◌∷◌, ◌++◌, map, ap, ◌∙◌, reverse, length-map, map-append, reverse-append}
-use Words.{flat_map-append, InputLine, ReadLine, seen, At, compaction, compaction_seen}
-use Words.{rinex_reading, expansion, expansion_seen, compact_reading, compaction_filter, expansion_filter}
-use Words.{lines_text, noticed_by, fault_of_stop, warnings_in, seen_end, true, length, Option, Some, refl}
+use Words.{flat_map-append, InputLine, ReadLine, as_read, At, compaction, compaction_state}
+use Words.{rinex_reading, expansion, expansion_state, compact_reading, compaction_filter, expansion_filter}
+use Words.{lines_text, noticed_by, fault_of_stop, warnings_in, state_end, true, length, Option, Some, refl}
 use Words.{FileUnit, Item, Reading, WholeReading, written_lines, whole_course, memory_allowed}
 use Words.{compaction_takes, compact_unit, rinex_place, whole_rinex, expanded_unit, whole_compact}
-use Words.{compact_memory, course_so_far, Direction, Seen, Notice, seen_next, takes_memory, IsFollowed}
-use Words.{Overlong, LineTooLong, Fails, Count, IsEndedBy, fed, append-nil}
+use Words.{compact_memory, course_so_far, Direction, RunState, Notice, state_next, takes_memory, IsFollowed}
+use Words.{Overlong, LineTooLong, Rejects, Count, IsEndedBy, fed, append-nil}
 use Rattle.crx_filter.proofs.following.{CompactedOn.compacted-on, ExpandedOn.expanded-on}
 use Rattle.crx_filter.proofs.following.MemoryOfCompactText.{expansion-allowed, expansion-allowed-again}
 use Rattle.crx_filter.proofs.following.MemoryOfRinex.{compaction-allowed, compaction-allowed-again}
@@ -23,71 +23,72 @@ warned-then : (before after more : List At) → after ≡ more ++ before → rev
 warned-then before after more e = ap reverse e ∙ reverse-append more before
 
 -- a direction whose filter reads its lines and writes its units goes line by line where its reading does
-goes-by : {E U O K : Type 0} (direction : Direction U O K) (seen_after : List ReadLine → Seen O K)
+goes-by : {E U O K : Type 0} (direction : Direction U O K) (state_after_lines : List ReadLine → RunState O K)
     (unit_lines : List (Item E) → FileUnit E → List (List ℕ)) (reading : List ReadLine → Reading E)
     (whole : List ReadLine → WholeReading E) (memory : List ReadLine → ReadLine → Option (List At))
-    → ((lines : List ReadLine) (line : ReadLine) → IsFollowed (seen_after (lines ++ line ∷ [])) (written_lines
-    unit_lines (reading lines).items) (written_lines unit_lines (reading (lines ++ line ∷ [])).items)
-    (warnings_in (reading lines).items) (warnings_in (reading (lines ++ line ∷ [])).items) (fault_of_stop
-    (reading (lines ++ line ∷ [])).stop) (fed direction (seen_after lines) line)) → ((lines : List ReadLine) →
-    IsEndedBy (written_lines unit_lines (reading lines).items) (written_lines unit_lines (whole lines).items)
-    (warnings_in (reading lines).items) (warnings_in (whole lines).items) (whole lines).fault (seen_end
-    direction (seen_after lines))) → ((lines : List ReadLine) → (seen_after lines).number ≡ length lines)
-    → ((lines : List ReadLine) (line : ReadLine) → takes_memory direction (seen_after lines) line ≡ true
-    → memory lines line ≡ Some []) → ((lines : List ReadLine) (line : ReadLine)
-    (next : Seen O K) (notice : At) → record { answer = Notice notice true; handed_out = []; next = next }
-    ≡ seen_next direction (seen_after lines) line → takes_memory direction next line ≡ true
-    → memory lines line ≡ Some (notice ∷ [])) → ((types : List Count)
-    (kept : K) → direction.begins types kept Overlong ≡ Fails LineTooLong) → ((so_far : O)
-    → direction.continues so_far Overlong ≡ Fails LineTooLong) → GoesLineByLine direction (λ lines. [])
-    seen_after (record {
-      so_far = λ lines. course_so_far unit_lines (reading (map seen lines));
-      whole = λ lines. whole_course unit_lines (whole (map seen lines));
-      memory_after = λ lines line. memory (map seen lines) (seen line);
+    → ((lines : List ReadLine) (line : ReadLine) → IsFollowed (state_after_lines (lines ++ line ∷ []))
+    (written_lines unit_lines (reading lines).items) (written_lines unit_lines (reading (lines ++ line ∷
+    [])).items) (warnings_in (reading lines).items) (warnings_in (reading (lines ++ line ∷ [])).items)
+    (fault_of_stop (reading (lines ++ line ∷ [])).stop) (fed direction (state_after_lines lines) line)) →
+    ((lines : List ReadLine) → IsEndedBy (written_lines unit_lines (reading lines).items) (written_lines
+    unit_lines (whole lines).items) (warnings_in (reading lines).items) (warnings_in (whole lines).items)
+    (whole lines).fault (state_end direction (state_after_lines lines))) → ((lines : List ReadLine) →
+    (state_after_lines lines).number ≡ length lines) → ((lines : List ReadLine) (line : ReadLine) →
+    takes_memory direction (state_after_lines lines) line ≡ true → memory lines line ≡ Some []) → ((lines :
+    List ReadLine) (line : ReadLine) (next : RunState O K) (notice : At)
+    → record { answer = Notice notice true; handed_out = []; next = next }
+    ≡ state_next direction (state_after_lines lines) line → takes_memory
+    direction next line ≡ true → memory lines line ≡ Some (notice ∷ [])) → ((types : List Count)
+    (kept : K) → direction.begins types kept Overlong ≡ Rejects LineTooLong) → ((so_far : O)
+    → direction.continues so_far Overlong ≡ Rejects LineTooLong) → GoesLineByLine direction (λ lines. [])
+    state_after_lines (record {
+      so_far = λ lines. course_so_far unit_lines (reading (map as_read lines));
+      whole = λ lines. whole_course unit_lines (whole (map as_read lines));
+      memory_after = λ lines line. memory (map as_read lines) (as_read line);
     })
-goes-by direction seen_after unit_lines reading whole memory on ends number first again long_first
+goes-by direction state_after_lines unit_lines reading whole memory on ends number first again long_first
     long_next = record {
       follows = λ (lines : List InputLine) (line : InputLine).
-          let h = on (map seen lines) (seen line) in
-          let all = map-append seen lines (line ∷ []) in
+          let h = on (map as_read lines) (as_read line) in
+          let all = map-append as_read lines (line ∷ []) in
           record {
             next = cc (all, h.next);
             output = cc (all, text-then _ _ _ h.handed_out);
             warnings = ap (λ (ls : List ReadLine). reverse (warnings_in (reading ls).items)) all
-                ∙ warned-then (warnings_in (reading (map seen lines)).items) _ (fed direction
-                (seen_after (map seen lines)) (seen line)).warned h.warned;
+                ∙ warned-then (warnings_in (reading (map as_read lines)).items) _ (fed direction
+                (state_after_lines (map as_read lines)) (as_read line)).warned h.warned;
             fault = cc (all, h.failed);
           };
       ends = λ (lines : List InputLine).
-          let h = ends (map seen lines) in
+          let h = ends (map as_read lines) in
           record {
             output = cc (
               h.written,
               h.handed_out,
-              append-nil (lines_text (written_lines unit_lines (reading (map seen lines)).items)),
+              append-nil (lines_text (written_lines unit_lines (reading (map as_read lines)).items)),
             );
-            warnings = warned-then (warnings_in (reading (map seen lines)).items) _
-                (noticed_by (seen_end direction (seen_after (map seen lines))).answer) h.warned;
+            warnings = warned-then (warnings_in (reading (map as_read lines)).items) _
+                (noticed_by (state_end direction (state_after_lines (map as_read lines))).answer) h.warned;
             fault = h.failed;
           };
-      number = λ (lines : List InputLine). number (map seen lines) ∙ length-map lines seen;
-      memory_first = λ (lines : List InputLine) (line : InputLine). first (map seen lines) (seen line);
-      memory_again = λ (lines : List InputLine) (line : InputLine). again (map seen lines) (seen line);
+      number = λ (lines : List InputLine). number (map as_read lines) ∙ length-map lines as_read;
+      memory_first = λ (lines : List InputLine) (line : InputLine). first (map as_read lines) (as_read line);
+      memory_again = λ (lines : List InputLine) (line : InputLine). again (map as_read lines) (as_read line);
       too_long_first = long_first;
       too_long_next = long_next;
     }
 
-pub compaction-goes : IsLawfulDirection compaction (λ choices. choices) (λ choices lines. []) compaction_seen
+pub compaction-goes : IsLawfulDirection compaction (λ choices. choices) (λ choices lines. []) compaction_state
     compaction_filter
 compaction-goes choices taken = goes-by compaction
-    (compaction_seen choices) (compact_unit choices) (rinex_reading choices.skip) (whole_rinex choices.skip)
+    (compaction_state choices) (compact_unit choices) (rinex_reading choices.skip) (whole_rinex choices.skip)
     (λ lines line. memory_allowed rinex_place compaction_takes choices.skip (rinex_reading choices.skip lines)
     line) (compacted-on choices) (compaction-ended choices) (λ lines. refl) (compaction-allowed choices)
     (compaction-allowed-again choices) (λ types kept. refl) (λ so_far. refl)
 
-pub expansion-goes : IsLawfulDirection expansion (λ choices. choices) (λ choices lines. []) expansion_seen
+pub expansion-goes : IsLawfulDirection expansion (λ choices. choices) (λ choices lines. []) expansion_state
     expansion_filter
-expansion-goes choices taken = goes-by expansion (expansion_seen choices) expanded_unit
+expansion-goes choices taken = goes-by expansion (expansion_state choices) expanded_unit
     (compact_reading choices.skip) (whole_compact choices.skip) (compact_memory choices.skip)
     (expanded-on choices) (expansion-ended choices) (λ lines. refl) (expansion-allowed choices)
     (expansion-allowed-again choices) (λ types kept. refl) (λ so_far. refl)

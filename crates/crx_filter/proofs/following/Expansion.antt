@@ -2,8 +2,8 @@
 use Rattle.crx_filter.proofs
 use proofs.Words.{common_steps, arith, ℕ, suc, ◌≡◌, Bool, true, false, cond, List, [], ◌∷◌, ◌++◌, length}
 use proofs.Words.{Option, Some, None, Result, Ok, Err, refl, ap, sym, ◌∙◌, true≢false, is_some, none-some}
-use proofs.Words.{ReadLine, Content, Overlong, Fault, BadEpoch, is_event_line, records_in, Place, Here, Wrong}
-use proofs.Words.{Wanted, FileUnit, EventLine, RawEpoch, ReadEpoch, epoch_at, Tail, OpenRawEpoch, RawStep}
+use proofs.Words.{ReadLine, Content, Overlong, Fault, BadEpoch, is_event_line, records_in, Place, Done, Fails}
+use proofs.Words.{NeedsMore, FileUnit, EventLine, RawEpoch, ReadEpoch, epoch_at, Tail, OpenRawEpoch, RawStep}
 use proofs.Words.{first_step, next_step, open_raw_after, open_raw_with, Choices, Item, types_in_force}
 use proofs.Words.{raws_kept, event_line, as_observation, expanded_unit, Made, made_of_unit, made_of_raw_step}
 use proofs.Words.{expansion, tail_of_items, begins_event, compact_open, by_bool}
@@ -25,28 +25,28 @@ Agrees choices items lines made =
 -- an epoch that was read is held as the steps hold it
 record IsHeldAs (tail : Option Tail) (p : Place ReadEpoch) (held : HeldEpoch) (count : ℕ) : Type 0 where
   read : ReadEpoch
-  here : p ≡ Here read count
+  here : p ≡ Done read count
   same : held_after tail read ≡ held
 
 placed-here : (tail : Option Tail) (p : Place ReadEpoch) (held : HeldEpoch) (count : ℕ)
-    → placed_as (held_after tail) p ≡ Here held count → IsHeldAs tail p held count
+    → placed_as (held_after tail) p ≡ Done held count → IsHeldAs tail p held count
 placed-here tail p held count e = grind (arith, common_steps, held_after)
 
 placed-wrong : (tail : Option Tail) (p : Place ReadEpoch) (offset : ℕ) (fault : Fault)
-    → placed_as (held_after tail) p ≡ Wrong offset fault → p ≡ Wrong offset fault
-placed-wrong tail (Wrong k other) offset fault e = cc
+    → placed_as (held_after tail) p ≡ Fails offset fault → p ≡ Fails offset fault
+placed-wrong tail (Fails k other) offset fault e = cc
 placed-wrong tail p offset fault e = absurd (cc)
 
-placed-wanted : (tail : Option Tail) (p : Place ReadEpoch) → placed_as (held_after tail) p ≡ Wanted → p
-    ≡ Wanted
-placed-wanted tail Wanted e = refl
+placed-wanted : (tail : Option Tail) (p : Place ReadEpoch) → placed_as (held_after tail) p ≡ NeedsMore → p
+    ≡ NeedsMore
+placed-wanted tail NeedsMore e = refl
 placed-wanted tail p e = absurd (cc)
 
 -- ---- one line
 
 -- an epoch is kept and written as it is held
 same-epoch : (choices : Choices) (items : List (Item ReadEpoch)) (lines : List ReadLine) (read : ReadEpoch)
-    (held : HeldEpoch) (count : ℕ) → epoch_at (types_in_force items) (raws_kept items) lines ≡ Here read count
+    (held : HeldEpoch) (count : ℕ) → epoch_at (types_in_force items) (raws_kept items) lines ≡ Done read count
     → held_after (tail_of_items items) read ≡ held
     → IsSameEpoch expansion tail_of_items expanded_unit choices items read held
 same-epoch choices items lines read held count here same = record {
@@ -142,17 +142,17 @@ agree-continues choices items (first ∷ rest) line so_far opens =
 
 -- ---- where more lines are wanted
 
-pub observation-wanted : (p : Place ReadEpoch) → as_observation p ≡ Wanted → p ≡ Wanted
-observation-wanted Wanted e = refl
+pub observation-wanted : (p : Place ReadEpoch) → as_observation p ≡ NeedsMore → p ≡ NeedsMore
+observation-wanted NeedsMore e = refl
 observation-wanted p e = absurd (cc)
 
 event-not_wanted : (items : List (Item ReadEpoch)) (line : ReadLine) (lines : List ReadLine)
-    → begins_event (line ∷ lines) ≡ true → compact_beginning items (line ∷ lines) ≡ Wanted → ⊥
+    → begins_event (line ∷ lines) ≡ true → compact_beginning items (line ∷ lines) ≡ NeedsMore → ⊥
 event-not_wanted items line lines e wanted =
     grind (arith, common_steps, one_line-decided, compact_beginning)
 
 no-lines : (items : List (Item ReadEpoch)) (lines : List ReadLine)
-    → compact_beginning items lines ≡ Wanted → compact_open items lines ≡ None → lines ≡ []
+    → compact_beginning items lines ≡ NeedsMore → compact_open items lines ≡ None → lines ≡ []
 no-lines items [] wanted none = refl
 no-lines items (line ∷ lines) wanted none = by_bool (begins_event (line ∷ lines))
     (λ on. absurd (event-not_wanted items line lines on wanted)) (λ off.

@@ -2,20 +2,20 @@
 use Rattle.crx_filter.proofs
 use proofs.Words.{common_steps, ℕ, zero, suc, ◌≡◌, ◌⊎◌, inl, inr, ◌+◌, ◌-◌, max, ◌<◌, ◌≤◌, Bool, true, false}
 use proofs.Words.{List, [], ◌∷◌, ◌++◌, length, drop, Option, Some, None, refl, ap, sym, subst, ◌∙◌, arith}
-use proofs.Words.{length-append, append-nil, ◌&&◌, drop-append_seam, ReadLine, Fault, At, Count, Place, Here}
-use proofs.Words.{Wrong, Wanted, IsDecidedAfter, FileUnit, HeaderLine, EventLine, EventRecord, Observation}
+use proofs.Words.{length-append, append-nil, ◌&&◌, drop-append_seam, ReadLine, Fault, At, Count, Place, Done}
+use proofs.Words.{Fails, NeedsMore, IsDecidedAfter, FileUnit, HeaderLine, EventLine, EventRecord, Observation}
 use proofs.Words.{Choices, Item, Accepted, Warned, is_at_start, header_has_ended, records_announced}
 use proofs.Words.{records_left, counts_types, records_count_types, types_in_force, unit_place, Reading}
 use proofs.Words.{AtFault, AtLines, Looking, is_skipped, can_go_on, looked_for, reading_within, written_lines}
-use proofs.Words.{warnings_in, Phase, InHeader, InEvent, InEpoch, Ended, Seen, Made, Completes, Moves, Fails}
-use proofs.Words.{Direction, Notice, Failed, Step, with_records_left, phase_after, types_after, may_skip}
-use proofs.Words.{is_in_epoch, is_skipped_in, kept_in, with_phase, after_warning, failed_step, step_of_made}
-use proofs.Words.{seen_next, phase_in_body, phase_after_items, seen_of, IsReadForward, IsFollowed, Fed, fed}
-use proofs.Words.{fed_once, fed_twice, is_again, fault_of_stop, by_bool}
+use proofs.Words.{warnings_in, Phase, InHeader, InEvent, InEpoch, Ended, RunState, Made, Completes, Moves}
+use proofs.Words.{Rejects, Direction, Notice, Failed, Step, with_records_left, phase_after, types_after}
+use proofs.Words.{may_skip, is_in_epoch, is_skipped_in, kept_in, with_phase, after_warning, failed_step}
+use proofs.Words.{step_of_made, state_next, phase_in_body, phase_after_items, state_of, IsReadForward}
+use proofs.Words.{IsFollowed, Fed, fed, fed_once, fed_twice, is_again, fault_of_stop, by_bool}
 use Rattle.crx_filter.specs.LineByLine.{after_unit, answer_of_lines}
 use proofs.{Pending.{noticed-lines, failed-lines}, reading.Resuming.wrong-within}
 use proofs.reading.Resuming.{within-wrong, within-wanted, fault-skipped, fault-ends, looked-here, looked-on}
-pub use Rattle.crx_filter.proofs.Pending.{seen_in}
+pub use Rattle.crx_filter.proofs.Pending.{state_in}
 
 -- ---- what a direction has to keep to
 
@@ -24,11 +24,11 @@ pub record IsSameEpoch {E U O K : Type 0} (direction : Direction U O K)
     (kept_of : List (Item E) → K) (unit_lines : List (Item E) → FileUnit E → List (List ℕ))
     (choices : Choices) (items : List (Item E)) (epoch : E) (held : U) : Type 0 where
   pub kept : (number : ℕ) (phase : Phase O) (types : List Count) (kept : K)
-      → (kept ≡ kept_of items) ⊎ (kept ≡ direction.kept_open (kept_of items)) → direction.kept_after (seen_in
+      → (kept ≡ kept_of items) ⊎ (kept ≡ direction.kept_open (kept_of items)) → direction.kept_after (state_in
       choices number phase types kept) (Observation held) ≡ kept_of (Accepted (Observation epoch) ∷ items)
   pub lines : (number : ℕ) (phase : Phase O) (types : List Count) (kept : K)
       → (kept ≡ kept_of items) ⊎ (kept ≡ direction.kept_open (kept_of items)) → direction.written
-      (seen_in choices number phase types kept) (Observation held) ≡ unit_lines items (Observation epoch)
+      (state_in choices number phase types kept) (Observation held) ≡ unit_lines items (Observation epoch)
 
 module _ {E U O K : Type 0} (beginning : List (Item E) → List ReadLine → Place (FileUnit E))
     (direction : Direction U O K) (open_with : List (Item E) → List ReadLine → Option O) (kept_of : List
@@ -36,42 +36,42 @@ module _ {E U O K : Type 0} (beginning : List (Item E) → List ReadLine → Pla
   -- what is at some lines where an epoch or an event may begin, and what the last of them makes
   abbrev pub AgreeOn : List (Item E) → List ReadLine → Made U O → Type 0
   AgreeOn items lines (Completes (EventLine line)) = (count : ℕ)
-      × (beginning items lines ≡ Here (EventLine line) count) × (length lines ≡ 1)
+      × (beginning items lines ≡ Done (EventLine line) count) × (length lines ≡ 1)
   AgreeOn items lines (Completes (Observation held)) = (count : ℕ) × (epoch : E) × (beginning items lines
-      ≡ Here (Observation epoch) count) × IsSameEpoch direction kept_of unit_lines choices items epoch held
+      ≡ Done (Observation epoch) count) × IsSameEpoch direction kept_of unit_lines choices items epoch held
   AgreeOn items lines (Moves phase) = (so_far : O)
-      × (phase ≡ InEpoch so_far) × (beginning items lines ≡ Wanted) × (open_with items lines ≡ Some so_far)
-  AgreeOn items lines (Fails fault) = (offset : ℕ) × (beginning items lines ≡ Wrong offset fault)
+      × (phase ≡ InEpoch so_far) × (beginning items lines ≡ NeedsMore) × (open_with items lines ≡ Some so_far)
+  AgreeOn items lines (Rejects fault) = (offset : ℕ) × (beginning items lines ≡ Fails offset fault)
   AgreeOn items lines made = ⊥
 
   -- a direction that reads, keeps and writes as the whole reading does
   pub record IsCarriedOut : Type 0 where
     pub forward : IsReadForward (unit_place beginning)
-    pub wants : (items : List (Item E)) → beginning items [] ≡ Wanted
+    pub wants : (items : List (Item E)) → beginning items [] ≡ NeedsMore
     pub none_open : (items : List (Item E)) → open_with items [] ≡ None
     pub wanted_open : (items : List (Item E)) (lines : List ReadLine)
-        → beginning items lines ≡ Wanted → open_with items lines ≡ None → lines ≡ []
+        → beginning items lines ≡ NeedsMore → open_with items lines ≡ None → lines ≡ []
     pub begins : (items : List (Item E)) (line : ReadLine)
         → AgreeOn items (line ∷ []) (direction.begins (types_in_force items) (kept_of items) line)
     pub continues : (items : List (Item E)) (lines : List ReadLine) (line : ReadLine) (so_far : O) → open_with
         items lines ≡ Some so_far → AgreeOn items (lines ++ line ∷ []) (direction.continues so_far line)
     pub header_kept : (items : List (Item E)) (number : ℕ) (types : List Count) (line : List ℕ)
-        → direction.kept_after (seen_in choices number (InHeader (is_at_start items)) types (kept_of items))
+        → direction.kept_after (state_in choices number (InHeader (is_at_start items)) types (kept_of items))
         (HeaderLine line) ≡ kept_of (Accepted (HeaderLine line) ∷ items)
     pub header_lines : (items : List (Item E)) (number : ℕ) (types : List Count) (line : List ℕ)
-        → direction.written (seen_in choices number (InHeader (is_at_start items)) types (kept_of items))
+        → direction.written (state_in choices number (InHeader (is_at_start items)) types (kept_of items))
         (HeaderLine line) ≡ unit_lines items (HeaderLine line)
     pub event_kept : (items : List (Item E)) (number : ℕ) (phase : Phase O) (types : List Count)
-        (line : List ℕ) → direction.kept_after (seen_in choices number phase types (kept_of items))
+        (line : List ℕ) → direction.kept_after (state_in choices number phase types (kept_of items))
         (EventLine line) ≡ kept_of (Accepted (EventLine line) ∷ items)
     pub event_lines : (items : List (Item E)) (number : ℕ) (phase : Phase O) (types : List Count) (kept : K)
-        (line : List ℕ) → direction.written (seen_in choices number phase types kept) (EventLine line)
+        (line : List ℕ) → direction.written (state_in choices number phase types kept) (EventLine line)
         ≡ unit_lines items (EventLine line)
     pub record_kept : (items : List (Item E)) (number left : ℕ) (types : List Count) (line : List ℕ)
-        → direction.kept_after (seen_in choices number (InEvent left (records_count_types items)) types
+        → direction.kept_after (state_in choices number (InEvent left (records_count_types items)) types
         (kept_of items)) (EventRecord line) ≡ kept_of (Accepted (EventRecord line) ∷ items)
     pub record_lines : (items : List (Item E)) (number : ℕ) (phase : Phase O) (types : List Count) (kept : K)
-        (line : List ℕ) → direction.written (seen_in choices number phase types kept) (EventRecord line)
+        (line : List ℕ) → direction.written (state_in choices number phase types kept) (EventRecord line)
         ≡ unit_lines items (EventRecord line)
     pub warned : (items : List (Item E)) (at : At) → direction.emptied (kept_of items)
         ≡ kept_of (Warned at ∷ items)
@@ -105,31 +105,31 @@ module _ {U O K : Type 0} (direction : Direction U O K) where
 
   -- ---- how a line is fed
 
-  pub fed-once : (seen : Seen O K) (line : ReadLine) → is_again (seen_next direction seen line).answer ≡ false
-      → fed direction seen line ≡ fed_once (seen_next direction seen line)
-  fed-once seen line e = rw (e, fed) refl
+  pub fed-once : (state : RunState O K) (line : ReadLine) → is_again (state_next direction state line).answer
+      ≡ false → fed direction state line ≡ fed_once (state_next direction state line)
+  fed-once state line e = rw (e, fed) refl
 
-  pub fed-twice : (seen : Seen O K) (line : ReadLine)
-      → is_again (seen_next direction seen line).answer ≡ true → fed direction seen line ≡ fed_twice
-      (seen_next direction seen line) (seen_next direction (seen_next direction seen line).next line)
-  fed-twice seen line e = rw (e, fed) refl
+  pub fed-twice : (state : RunState O K) (line : ReadLine)
+      → is_again (state_next direction state line).answer ≡ true → fed direction state line ≡ fed_twice
+      (state_next direction state line) (state_next direction (state_next direction state line).next line)
+  fed-twice state line e = rw (e, fed) refl
 
-  pub failed-ends : (seen : Seen O K) (line : ReadLine) (fault : Fault)
-      → is_skipped_in seen fault ≡ false → failed_step direction seen line fault ≡ record {
-        answer = Failed (record { line = seen.number + 1; fault = fault });
+  pub failed-ends : (state : RunState O K) (line : ReadLine) (fault : Fault)
+      → is_skipped_in state fault ≡ false → failed_step direction state line fault ≡ record {
+        answer = Failed (record { line = state.number + 1; fault = fault });
         handed_out = [];
-        next = with_phase direction seen (Ended (record { line = seen.number + 1; fault = fault }));
+        next = with_phase direction state (Ended (record { line = state.number + 1; fault = fault }));
       }
-  failed-ends seen line fault e = rw e refl
+  failed-ends state line fault e = rw e refl
 
-  pub failed-skipped : (seen : Seen O K) (line : ReadLine) (fault : Fault)
-      → is_skipped_in seen fault ≡ true → failed_step direction seen line fault ≡ record {
+  pub failed-skipped : (state : RunState O K) (line : ReadLine) (fault : Fault)
+      → is_skipped_in state fault ≡ true → failed_step direction state line fault ≡ record {
         answer = Notice
-            (record { line = seen.number + 1; fault = fault }) (is_in_epoch seen.phase && can_go_on line);
+            (record { line = state.number + 1; fault = fault }) (is_in_epoch state.phase && can_go_on line);
         handed_out = [];
-        next = after_warning direction seen (is_in_epoch seen.phase && can_go_on line);
+        next = after_warning direction state (is_in_epoch state.phase && can_go_on line);
       }
-  failed-skipped seen line fault e = rw e refl
+  failed-skipped state line fault e = rw e refl
 
 -- ---- one line of a reading
 
@@ -137,13 +137,13 @@ module _ {E : Type 0} {place : List (Item E) → List ReadLine → Place (FileUn
   where
     -- where more lines are wanted, what the next one decides is decided after those before it
     decided-after : (items : List (Item E)) (rest : List ReadLine) (line : ReadLine)
-        → place items rest ≡ Wanted → IsDecidedAfter (length rest) (place items (rest ++ line ∷ []))
+        → place items rest ≡ NeedsMore → IsDecidedAfter (length rest) (place items (rest ++ line ∷ []))
     decided-after items rest line wanted = rw wanted at (h.steady items rest (line ∷ []))
 
     -- so a fault ends with the next line
     pub wrong-last : (items : List (Item E))
-        (rest : List ReadLine) (line : ReadLine) (offset : ℕ) (fault : Fault) → place items rest ≡ Wanted
-        → place items (rest ++ line ∷ []) ≡ Wrong offset fault → offset ≡ length rest
+        (rest : List ReadLine) (line : ReadLine) (offset : ℕ) (fault : Fault) → place items rest ≡ NeedsMore
+        → place items (rest ++ line ∷ []) ≡ Fails offset fault → offset ≡ length rest
     wrong-last items rest line offset fault wanted e =
         let past : length rest ≤ offset = subst (IsDecidedAfter (length rest)) e
         (decided-after items rest line wanted) in
@@ -152,15 +152,15 @@ module _ {E : Type 0} {place : List (Item E) → List ReadLine → Place (FileUn
 
     -- a unit that the next line completes
     pub last-here : (skip : Bool) (units : ℕ) (items : List (Item E)) (number : ℕ) (rest : List ReadLine)
-        (line : ReadLine) (unit : FileUnit E) (count : ℕ) → place items rest ≡ Wanted → place items
-        (rest ++ line ∷ []) ≡ Here unit count → reading_within place skip (suc units) items number
+        (line : ReadLine) (unit : FileUnit E) (count : ℕ) → place items rest ≡ NeedsMore → place items
+        (rest ++ line ∷ []) ≡ Done unit count → reading_within place skip (suc units) items number
         (rest ++ line ∷ []) ≡ record { items = Accepted unit ∷ items; stop = AtLines (number + count) [] }
     last-here skip units items number rest line unit count wanted e = grind (arith, common_steps)
 
     -- a fault that ends the run
     pub last-ends : (skip : Bool) (units : ℕ) (items : List (Item E)) (number count : ℕ)
-        (rest : List ReadLine) (line : ReadLine) (offset : ℕ) (fault : Fault) → place items rest ≡ Wanted
-        → place items (rest ++ line ∷ []) ≡ Wrong offset fault → is_skipped skip items fault ≡ false → number
+        (rest : List ReadLine) (line : ReadLine) (offset : ℕ) (fault : Fault) → place items rest ≡ NeedsMore
+        → place items (rest ++ line ∷ []) ≡ Fails offset fault → is_skipped skip items fault ≡ false → number
         + length rest ≡ count + 1 → reading_within place skip (suc units) items number (rest ++ line ∷ [])
         ≡ record { items = items; stop = AtFault (record { line = count + 1; fault = fault }) }
     last-ends skip units items number count rest line offset fault wanted e off counted =
@@ -168,8 +168,8 @@ module _ {E : Type 0} {place : List (Item E) → List ReadLine → Place (FileUn
 
     -- a fault that is skipped
     pub last-skipped : (skip : Bool) (units : ℕ) (items : List (Item E)) (number count : ℕ)
-        (rest : List ReadLine) (line : ReadLine) (offset : ℕ) (fault : Fault) → place items rest ≡ Wanted
-        → place items (rest ++ line ∷ []) ≡ Wrong offset fault → is_skipped skip items fault ≡ true → number
+        (rest : List ReadLine) (line : ReadLine) (offset : ℕ) (fault : Fault) → place items rest ≡ NeedsMore
+        → place items (rest ++ line ∷ []) ≡ Fails offset fault → is_skipped skip items fault ≡ true → number
         + length rest ≡ count + 1 → reading_within place skip (suc units) items number (rest ++ line ∷ [])
         ≡ looked_for (reading_within place skip units (Warned (record { line = count + 1; fault = fault })
         ∷ items)) (Warned (record { line = count + 1; fault = fault }) ∷ items)
@@ -187,7 +187,7 @@ looked-through-later first rest line = grind (arith, common_steps, max, drop-app
 pub skipped-same : {E O K : Type 0} (choices : Choices)
     (count : ℕ) (phase : Phase O) (types : List Count) (kept : K) (items : List (Item E)) (fault : Fault)
     → header_has_ended items ≡ true → records_left items ≡ 0 → may_skip phase ≡ true
-    → is_skipped choices.skip items fault ≡ is_skipped_in (seen_in choices count phase types kept) fault
+    → is_skipped choices.skip items fault ≡ is_skipped_in (state_in choices count phase types kept) fault
 skipped-same choices count phase types kept items fault ended none may = grind (arith, common_steps)
 
 module _ {E U O K : Type 0} {beginning : List (Item E) → List ReadLine → Place (FileUnit E)}
@@ -206,12 +206,12 @@ module _ {E U O K : Type 0} {beginning : List (Item E) → List ReadLine → Pla
   Agrees = AgreeOn beginning direction open_with kept_of unit_lines choices
 
   -- what is seen after so many lines, where these items were read
-  abbrev pub seen_at : ℕ → Phase O → List (Item E) → K → Seen O K
-  seen_at count phase items kept = seen_in choices count phase (types_in_force items) kept
+  abbrev pub state_at : ℕ → Phase O → List (Item E) → K → RunState O K
+  state_at count phase items kept = state_in choices count phase (types_in_force items) kept
 
   -- the reading after one line more, and what it is fed as
   abbrev pub Follows : ℕ → List (Item E) → Reading E → Fed O K → Type 0
-  Follows count items r line_fed = IsFollowed (seen_of direction open_with kept_of choices count r)
+  Follows count items r line_fed = IsFollowed (state_of direction open_with kept_of choices count r)
       (written_lines unit_lines items) (written_lines unit_lines r.items)
       (warnings_in items) (warnings_in r.items) (fault_of_stop r.stop) line_fed
 
@@ -220,12 +220,12 @@ module _ {E U O K : Type 0} {beginning : List (Item E) → List ReadLine → Pla
       (kept : K) (unit : FileUnit E) (same : FileUnit U) → open_with (Accepted unit ∷ items) [] ≡ None
       → phase_after_items {O = O} (Accepted unit ∷ items) None ≡ phase_after phase same
       → types_in_force (Accepted unit ∷ items) ≡ types_after phase (types_in_force items) same
-      → direction.kept_after (seen_at count phase items kept) same ≡ kept_of (Accepted unit ∷ items)
-      → direction.written (seen_at count phase items kept) same ≡ unit_lines items unit → Follows
+      → direction.kept_after (state_at count phase items kept) same ≡ kept_of (Accepted unit ∷ items)
+      → direction.written (state_at count phase items kept) same ≡ unit_lines items unit → Follows
       (count + 1) items (record { items = Accepted unit ∷ items; stop = AtLines n [] }) (fed_once (record {
-        answer = answer_of_lines (direction.written (seen_at count phase items kept) same);
-        handed_out = direction.written (seen_at count phase items kept) same;
-        next = after_unit direction (seen_at count phase items kept) same;
+        answer = answer_of_lines (direction.written (state_at count phase items kept) same);
+        handed_out = direction.written (state_at count phase items kept) same;
+        next = after_unit direction (state_at count phase items kept) same;
       }))
   followed-unit count n items phase kept unit same none phases types keeps lines =
       grind (arith, common_steps, phase_after_items, kept-with_records, noticed-lines, failed-lines)
@@ -233,21 +233,21 @@ module _ {E U O K : Type 0} {beginning : List (Item E) → List ReadLine → Pla
   -- the next line ends the run
   pub followed-end : (count : ℕ) (items : List (Item E)) (phase : Phase O) (kept : K) (line : ReadLine)
       (fault : Fault) → direction.emptied kept ≡ direction.emptied (kept_of items)
-      → is_skipped_in (seen_at count phase items kept) fault ≡ false → Follows (count + 1) items (record
+      → is_skipped_in (state_at count phase items kept) fault ≡ false → Follows (count + 1) items (record
       { items = items; stop = AtFault (record { line = count + 1; fault = fault }) })
-      (fed_once (failed_step direction (seen_at count phase items kept) line fault))
+      (fed_once (failed_step direction (state_at count phase items kept) line fault))
   followed-end count items phase kept line fault emptied off =
-      grind (arith, common_steps, failed-ends, seen_at, append-nil, written_lines)
+      grind (arith, common_steps, failed-ends, state_at, append-nil, written_lines)
 
   -- the next line's fault is skipped, and no line is at hand to go on at
   followed-skip : (count n : ℕ) (items : List (Item E)) (phase : Phase O) (kept : K) (line : ReadLine)
       (fault : Fault) → direction.emptied kept ≡ kept_of (Warned (record { line = count + 1; fault = fault })
-      ∷ items) → is_skipped_in (seen_at count phase items kept) fault ≡ true
+      ∷ items) → is_skipped_in (state_at count phase items kept) fault ≡ true
       → (is_in_epoch phase && can_go_on line) ≡ false → Follows (count + 1) items
       (record { items = Warned (record { line = count + 1; fault = fault }) ∷ items; stop = Looking n })
-      (fed_once (failed_step direction (seen_at count phase items kept) line fault))
+      (fed_once (failed_step direction (state_at count phase items kept) line fault))
   followed-skip count n items phase kept line fault emptied on off =
-      grind (arith, common_steps, failed-skipped, seen_at, append-nil, written_lines)
+      grind (arith, common_steps, failed-skipped, state_at, append-nil, written_lines)
 
   -- ---- where an epoch or an event may begin, and in an epoch
 
@@ -290,11 +290,11 @@ module _ {E U O K : Type 0} {beginning : List (Item E) → List ReadLine → Pla
   -- the next line, where it is given once
   pub body-once : (units : ℕ) (items : List (Item E)) (number count : ℕ) (rest : List ReadLine)
       (line : ReadLine) (phase : Phase O) (kept : K) (made : Made U O) → header_has_ended items ≡ true
-      → records_left items ≡ 0 → beginning items rest ≡ Wanted → Agrees items (rest ++ line ∷ []) made
+      → records_left items ≡ 0 → beginning items rest ≡ NeedsMore → Agrees items (rest ++ line ∷ []) made
       → may_skip phase ≡ true → AreKept items kept → IsInside items phase kept rest → number + length rest
-      ≡ count + 1 → is_again (step_of_made direction (seen_at count phase items kept) line made).answer
+      ≡ count + 1 → is_again (step_of_made direction (state_at count phase items kept) line made).answer
       ≡ false → Follows (count + 1) items (reads (suc units) items number (rest ++ line ∷ []))
-      (fed_once (step_of_made direction (seen_at count phase items kept) line made))
+      (fed_once (step_of_made direction (state_at count phase items kept) line made))
   body-once units items number count rest line phase kept
       (Completes (EventLine l)) ended none wanted agree may keeps inside counted quiet =
       let wanted_here = body-place beginning items rest ended none ∙ wanted in
@@ -305,7 +305,7 @@ module _ {E U O K : Type 0} {beginning : List (Item E) → List ReadLine → Pla
       rw (last-here h.forward choices.skip units items number rest line (EventLine l) agree.0 wanted_here
       here) (followed-unit count (number + agree.0) items phase kept (EventLine l) (EventLine l)
       (h.none_open (Accepted (EventLine l) ∷ items)) event-phase refl (ap (λ k. direction.kept_after
-      (seen_at count phase items k) (EventLine l)) same ∙ h.event_kept items count phase
+      (state_at count phase items k) (EventLine l)) same ∙ h.event_kept items count phase
       (types_in_force items) l) (h.event_lines items count phase (types_in_force items) kept l))
     where
       first_kept : (rest : List ReadLine) → IsInside items phase kept rest → length rest ≡ 0 → kept
@@ -329,15 +329,15 @@ module _ {E U O K : Type 0} {beginning : List (Item E) → List ReadLine → Pla
   body-once units items number count rest line phase kept (Moves next) ended none wanted agree may keeps
       inside counted quiet = grind (arith, common_steps, body-place, within-wanted)
   body-once units items number count rest line phase kept
-      (Fails fault) ended none wanted agree may keeps inside counted quiet =
+      (Rejects fault) ended none wanted agree may keeps inside counted quiet =
       let wanted_here = body-place beginning items rest ended none ∙ wanted in
       let here = body-place beginning items (rest ++ line ∷ []) ended none ∙ agree.1 in
       let emptied = emptied-same items kept keeps in
       let at : At = record { line = count + 1; fault = fault } in
       let tested = skipped-same choices count phase (types_in_force items) kept items fault ended none may in
-      by_bool (is_skipped_in (seen_at count phase items kept) fault) (λ on.
+      by_bool (is_skipped_in (state_at count phase items kept) fault) (λ on.
       let off : (is_in_epoch phase && can_go_on line) ≡ false = sym (ap (λ (s : Step _ _). is_again s.answer)
-      (failed-skipped direction (seen_at count phase items kept) line fault on)) ∙ quiet in
+      (failed-skipped direction (state_at count phase items kept) line fault on)) ∙ quiet in
       let looking = skipped-looking units items phase kept number rest line at inside off in
       rw (last-skipped h.forward choices.skip units items number count rest line agree.0 fault wanted_here
       here (tested ∙ on) counted ∙ looking.1) (followed-skip count looking.0 items phase kept line fault

@@ -4,28 +4,28 @@ use proofs.Words.{common_steps, ℕ, zero, suc, ◌≡◌, inl, inr, ◌+◌, �
 use proofs.Words.{◌++◌, length, Option, Some, None, Result, Ok, Err, refl, ap, sym, subst, ◌∙◌, arith}
 use proofs.Words.{length-append, append-nil, append_assoc, ◌&&◌, ◌==◌, ⊤, nat_lt, ReadLine, Content, Overlong}
 use proofs.Words.{Fault, LineTooLong, At, is_end_of_header, Count, types_of, with_line, none-some, Place}
-use proofs.Words.{Wanted, one_line, first_line, FileUnit, HeaderLine, EventRecord, Choices, Item, Accepted}
+use proofs.Words.{NeedsMore, one_line, first_line, FileUnit, HeaderLine, EventRecord, Choices, Item, Accepted}
 use proofs.Words.{Warned, is_at_start, header_has_ended, records_left, records_count_types, declaring_lines}
 use proofs.Words.{types_in_force, unless_wrong, types_fault, header_line_fault, header_line, event_record}
 use proofs.Words.{unit_place, Reading, Stop, AtFault, AtLines, Looking, is_skipped, can_go_on, reading_within}
 use proofs.Words.{reading_from, is_skippable, continued_reading, IsReadForward, fed, fed_once, fed_twice}
 use proofs.Words.{is_again, written_lines, warnings_in, Phase, InHeader, BetweenUnits, InEvent, InEpoch}
-use proofs.Words.{LookingOn, Seen, Made, Fails, Direction, Notice, Step, made_of_unit, made_in, phase_after}
-use proofs.Words.{types_after, may_skip, is_in_epoch, is_skipped_in, kept_in, after_warning, failed_step}
-use proofs.Words.{step_of_made, seen_next, phase_in_body, phase_after_items, seen_of, and_parts, by_bool}
-use proofs.Words.{false-true, Completes}
+use proofs.Words.{LookingOn, RunState, Made, Rejects, Direction, Notice, Step, made_of_unit, made_in}
+use proofs.Words.{phase_after, types_after, may_skip, is_in_epoch, is_skipped_in, kept_in, after_warning}
+use proofs.Words.{failed_step, step_of_made, state_next, phase_in_body, phase_after_items, state_of}
+use proofs.Words.{and_parts, by_bool, false-true, Completes}
 use Rattle.crx_header.proofs.Counts.{types_of-push}
 use proofs.{Pending.again-lines, following.Following.{IsCarriedOut, AreKept, IsInside, Follows, Agrees}}
-use proofs.following.Following.{place, reads, seen_at, emptied-same, skipped-same, body-place, body-phase}
+use proofs.following.Following.{place, reads, state_at, emptied-same, skipped-same, body-place, body-phase}
 use proofs.following.Following.{fed-once, fed-twice, failed-ends, failed-skipped, followed-unit, followed-end}
 use proofs.following.Following.{last-here, last-ends, last-skipped, skipped-again, records-phase, body-once}
 use proofs.reading.Resuming.{enough-units, looked-here, looked-on}
 
 -- only in an epoch does a line come again
-pub quiet-elsewhere : {U O K : Type 0} (direction : Direction U O K) (seen : Seen O K) (line : ReadLine)
-    (made : Made U O) → is_in_epoch seen.phase ≡ false → is_again
-    (step_of_made direction seen line made).answer ≡ false
-quiet-elsewhere direction seen line made e = grind (arith, common_steps)
+pub quiet-elsewhere : {U O K : Type 0} (direction : Direction U O K) (state : RunState O K) (line : ReadLine)
+    (made : Made U O) → is_in_epoch state.phase ≡ false → is_again
+    (step_of_made direction state line made).answer ≡ false
+quiet-elsewhere direction state line made e = grind (arith, common_steps)
 
 -- ---- lines of the header, and an event's records
 
@@ -65,20 +65,21 @@ record-place beginning items left lines ended some = grind (arith, common_steps,
 -- ---- where a reading has stopped
 
 -- one line decides what is there
-pub one_line-decided : {X : Type 0} (r : Result X Fault) → one_line r ≡ Wanted → ⊥
+pub one_line-decided : {X : Type 0} (r : Result X Fault) → one_line r ≡ NeedsMore → ⊥
 one_line-decided (Ok x) e = absurd (cc)
 one_line-decided (Err fault) e = absurd (cc)
 
 -- where the first line is wanted, none has come
 pub only_none : {X : Type 0} (read : List ℕ → Result X Fault) (ls : List ReadLine)
-    → first_line ls read ≡ Wanted → ls ≡ []
+    → first_line ls read ≡ NeedsMore → ls ≡ []
 only_none read ls e = grind (arith, common_steps, one_line-decided)
 
 -- where the reading of so many lines can stop
 abbrev pub IsStopped : {E : Type 0}
     → (List (Item E) → List ReadLine → Place (FileUnit E)) → List (Item E) → Stop → ℕ → Type 0
 IsStopped place items (AtFault at) next = ⊤
-IsStopped place items (AtLines number rest) next = (place items rest ≡ Wanted) × (number + length rest ≡ next)
+IsStopped place items (AtLines number rest) next = (place items rest ≡ NeedsMore) × (number + length rest ≡
+    next)
 IsStopped place items (Looking number) next = (number ≡ next)
     × (header_has_ended items ≡ true) × (records_left items ≡ 0)
 
@@ -103,7 +104,7 @@ module _ {E U O K : Type 0} {beginning : List (Item E) → List ReadLine → Pla
     {kept_of : List (Item E) → K} {unit_lines : List (Item E) → FileUnit E → List (List ℕ)}
     {choices : Choices} (h : IsCarriedOut beginning direction open_with kept_of unit_lines choices) where
   -- what is kept of a line that comes twice, in the order of its two steps
-  followed-twice : (count : ℕ) (items : List (Item E)) (at : At) (r : Reading E) (next : Seen O K)
+  followed-twice : (count : ℕ) (items : List (Item E)) (at : At) (r : Reading E) (next : RunState O K)
       (two : Step O K) → Follows h count (Warned at ∷ items) r (fed_once two) → Follows h count items r
       (fed_twice (record { answer = Notice at true; handed_out = []; next = next }) two)
   followed-twice count items at r next two f = grind (arith, common_steps, append_assoc, warnings_in)
@@ -112,42 +113,43 @@ module _ {E U O K : Type 0} {beginning : List (Item E) → List ReadLine → Pla
   -- come again
   body-line : (units : ℕ) (items : List (Item E)) (number count : ℕ) (rest : List ReadLine)
       (line : ReadLine) (phase : Phase O) (kept : K) (made : Made U O) → header_has_ended items ≡ true
-      → records_left items ≡ 0 → beginning items rest ≡ Wanted → Agrees h items (rest ++ line ∷ []) made
+      → records_left items ≡ 0 → beginning items rest ≡ NeedsMore → Agrees h items (rest ++ line ∷ []) made
       → may_skip phase ≡ true → AreKept h items kept → IsInside h items phase kept rest
       → (is_in_epoch phase ≡ true → 0 < length rest) → number + length rest ≡ count + 1 → length rest < units
       → made_in direction phase (types_in_force items) kept line ≡ made → Follows h (count + 1) items (reads h
-      (suc units) items number (rest ++ line ∷ [])) (fed direction (seen_at h count phase items kept) line)
+      (suc units) items number (rest ++ line ∷ [])) (fed direction (state_at h count phase items kept) line)
   body-line units items number count rest line phase kept made ended none wanted agree may keeps inside
-      within counted enough e = by_bool (is_again (step made).answer) (λ on. rw (fed-twice direction seen line
-      (ap (λ m. is_again (step m).answer) e ∙ on) ∙ ap (λ m. fed_twice (step m) (seen_next direction
-      (step m).next line)) e) (again made agree on)) (λ off. rw (fed-once direction seen line
+      within counted enough e = by_bool (is_again (step made).answer) (λ on. rw (fed-twice direction state
+      line
+      (ap (λ m. is_again (step m).answer) e ∙ on) ∙ ap (λ m. fed_twice (step m) (state_next direction
+      (step m).next line)) e) (again made agree on)) (λ off. rw (fed-once direction state line
       (ap (λ m. is_again (step m).answer) e ∙ off) ∙ ap (λ m. fed_once (step m)) e) (body-once h units
       items number count rest line phase kept made ended none wanted agree may keeps inside counted off))
     where
-      seen : Seen O K
-      seen = seen_at h count phase items kept
+      state : RunState O K
+      state = state_at h count phase items kept
 
       after : Reading E
       after = reads h (suc units) items number (rest ++ line ∷ [])
 
       step : Made U O → Step O K
-      step = step_of_made direction seen line
+      step = step_of_made direction state line
 
       again : (m : Made U O) → Agrees h items (rest ++ line ∷ []) m → is_again (step m).answer ≡ true
-          → Follows h (count + 1) items after (fed_twice (step m) (seen_next direction (step m).next line))
-      again (Fails fault) a on =
+          → Follows h (count + 1) items after (fed_twice (step m) (state_next direction (step m).next line))
+      again (Rejects fault) a on =
           let at : At = record { line = count + 1; fault = fault } in
-          by_bool (is_skipped_in seen fault) (λ skipped.
+          by_bool (is_skipped_in state fault) (λ skipped.
           let both : (is_in_epoch phase && can_go_on line) ≡ true = sym (ap
-          (λ (s : Step _ _). is_again s.answer) (failed-skipped direction seen line fault skipped)) ∙ on in
+          (λ (s : Step _ _). is_again s.answer) (failed-skipped direction state line fault skipped)) ∙ on in
           let each = and_parts (is_in_epoch phase) (can_go_on line) both in
-          let looking : Seen O K = seen_at h count LookingOn items (direction.emptied kept) in
-          let is_one : failed_step direction seen line fault
+          let looking : RunState O K = state_at h count LookingOn items (direction.emptied kept) in
+          let is_one : failed_step direction state line fault
           ≡ record { answer = Notice at true; handed_out = []; next = looking } =
-          failed-skipped direction seen line fault skipped ∙ ap (λ (b : Bool). record {
+          failed-skipped direction state line fault skipped ∙ ap (λ (b : Bool). record {
             answer = Notice at b;
             handed_out = [];
-            next = after_warning direction seen b;
+            next = after_warning direction state b;
           }) both in
           let kept_then : direction.emptied kept ≡ kept_of (Warned at ∷ items) =
           emptied-same h items kept keeps ∙ h.warned items at in
@@ -165,8 +167,8 @@ module _ {E U O K : Type 0} {beginning : List (Item E) → List ReadLine → Pla
           items number count rest line at some counted each.1 ∙ enough-units (place h) h.forward choices.skip
           units 2 (Warned at ∷ items) (count + 1) (line ∷ []) (omega (arith, enough, some)) (omega arith) in
           rw same_reading (subst
-          (λ (s : Step O K). Follows h (count + 1) items anew (fed_twice s (seen_next direction s.next line)))
-          (sym is_one) (subst (λ m. Follows h (count + 1) items anew (fed_twice (record {
+          (λ (s : Step O K). Follows h (count + 1) items anew (fed_twice s (state_next direction s.next
+          line))) (sym is_one) (subst (λ m. Follows h (count + 1) items anew (fed_twice (record {
             answer = Notice at true;
             handed_out = [];
             next = looking;
@@ -175,22 +177,22 @@ module _ {E U O K : Type 0} {beginning : List (Item E) → List ReadLine → Pla
           (count + 1) count [] line LookingOn (direction.emptied kept) made_then ended refl
           (h.wants (Warned at ∷ items)) (h.begins (Warned at ∷ items) line) refl (inl kept_then) kept_then
           (omega arith) (quiet-elsewhere direction looking line made_then refl)))))) (λ off. false-true
-          (sym (ap (λ (s : Step _ _). is_again s.answer) (failed-ends direction seen line fault off)) ∙ on))
+          (sym (ap (λ (s : Step _ _). is_again s.answer) (failed-ends direction state line fault off)) ∙ on))
       again (Completes unit) a on = false-true (sym (again-lines
-          (direction.written (seen_at h count phase items kept) unit)) ∙ on)
+          (direction.written (state_at h count phase items kept) unit)) ∙ on)
       again m a on = false-true on
 
   -- a line that is a unit of its own, or has a fault that is never skipped
   simple-line : (units : ℕ) (items : List (Item E)) (count : ℕ) (line : ReadLine) (phase : Phase O)
       (fault : Option Fault) (unit : FileUnit E) (same : FileUnit U) → place h items (line ∷ [])
       ≡ one_line (unless_wrong unit fault) → ((f : Fault) → is_skipped choices.skip items f ≡ false)
-      → ((f : Fault) → is_skipped_in (seen_at h count phase items (kept_of items)) f ≡ false)
+      → ((f : Fault) → is_skipped_in (state_at h count phase items (kept_of items)) f ≡ false)
       → phase_after_items {O = O} (Accepted unit ∷ items) None ≡ phase_after phase same → types_in_force
       (Accepted unit ∷ items) ≡ types_after phase (types_in_force items) same → direction.kept_after
-      (seen_at h count phase items (kept_of items)) same ≡ kept_of (Accepted unit ∷ items)
-      → direction.written (seen_at h count phase items (kept_of items)) same ≡ unit_lines items unit → Follows
-      h (count + 1) items (reads h (suc units) items (count + 1) (line ∷ [])) (fed_once (step_of_made
-      direction (seen_at h count phase items (kept_of items)) line (made_of_unit (unless_wrong same fault))))
+      (state_at h count phase items (kept_of items)) same ≡ kept_of (Accepted unit ∷ items)
+      → direction.written (state_at h count phase items (kept_of items)) same ≡ unit_lines items unit →
+      Follows h (count + 1) items (reads h (suc units) items (count + 1) (line ∷ [])) (fed_once (step_of_made
+      direction (state_at h count phase items (kept_of items)) line (made_of_unit (unless_wrong same fault))))
   simple-line units items count line phase None unit same here never never_in phases types keeps lines = rw
       (last-here h.forward choices.skip units items (count + 1) [] line unit 1 (h.forward.wants items) here)
       (followed-unit h count (count + 1 + 1) items phase (kept_of items) unit same (h.none_open
@@ -203,21 +205,21 @@ module _ {E U O K : Type 0} {beginning : List (Item E) → List ReadLine → Pla
   -- a line outside an epoch is fed once
   line-once : (count : ℕ) (items : List (Item E)) (line : ReadLine) (phase : Phase O) (r : Reading E)
       → is_in_epoch phase ≡ false → Follows h (count + 1) items r
-      (fed_once (seen_next direction (seen_at h count phase items (kept_of items)) line))
-      → Follows h (count + 1) items r (fed direction (seen_at h count phase items (kept_of items)) line)
+      (fed_once (state_next direction (state_at h count phase items (kept_of items)) line))
+      → Follows h (count + 1) items r (fed direction (state_at h count phase items (kept_of items)) line)
   line-once count items line phase r outside follows =
-      grind (arith, common_steps, fed-once, quiet-elsewhere, made_in, phase, seen_at)
+      grind (arith, common_steps, fed-once, quiet-elsewhere, made_in, phase, state_at)
 
   -- the next line in the header
   header-line : (units : ℕ) (items : List (Item E)) (count : ℕ) (line : ReadLine) → header_has_ended items
       ≡ false → Follows h (count + 1) items (reads h (suc units) items (count + 1) (line ∷ []))
-      (fed direction (seen_at h count (InHeader (is_at_start items)) items (kept_of items)) line)
+      (fed direction (state_at h count (InHeader (is_at_start items)) items (kept_of items)) line)
   header-line units items count line e = line-once count items line (InHeader (is_at_start items))
       (reads h (suc units) items (count + 1) (line ∷ [])) refl (by_line line)
     where
       simple : (content : List ℕ) (l : ReadLine) (fault : Option Fault) → place h items (l ∷ []) ≡ one_line
           (unless_wrong (HeaderLine content) fault) → Follows h (count + 1) items (reads h (suc units) items
-          (count + 1) (l ∷ [])) (fed_once (step_of_made direction (seen_at h count (InHeader (is_at_start
+          (count + 1) (l ∷ [])) (fed_once (step_of_made direction (state_at h count (InHeader (is_at_start
           items)) items (kept_of items)) l (made_of_unit (unless_wrong (HeaderLine content) fault))))
       simple content l fault here = simple-line units items count l
           (InHeader (is_at_start items)) fault (HeaderLine content) (HeaderLine content) here
@@ -227,7 +229,7 @@ module _ {E U O K : Type 0} {beginning : List (Item E) → List ReadLine → Pla
           (types_in_force items) content) (h.header_lines items count (types_in_force items) content)
 
       by_line : (l : ReadLine) → Follows h (count + 1) items (reads h (suc units) items (count + 1) (l ∷ []))
-          (fed_once (seen_next direction (seen_at h count (InHeader (is_at_start items)) items
+          (fed_once (state_next direction (state_at h count (InHeader (is_at_start items)) items
           (kept_of items)) l))
       by_line Overlong = simple [] Overlong (Some LineTooLong) (rw e refl)
       by_line (Content content) =
@@ -237,7 +239,7 @@ module _ {E U O K : Type 0} {beginning : List (Item E) → List ReadLine → Pla
   record-line : (units : ℕ) (items : List (Item E)) (count left : ℕ) (line : ReadLine)
       → header_has_ended items ≡ true → records_left items ≡ suc left
       → Follows h (count + 1) items (reads h (suc units) items (count + 1) (line ∷ [])) (fed direction
-      (seen_at h count (InEvent (suc left) (records_count_types items)) items (kept_of items)) line)
+      (state_at h count (InEvent (suc left) (records_count_types items)) items (kept_of items)) line)
   record-line units items count left line ended some =
       line-once count items line phase (reads h (suc units) items (count + 1) (line ∷ [])) refl (by_line line)
     where
@@ -246,7 +248,7 @@ module _ {E U O K : Type 0} {beginning : List (Item E) → List ReadLine → Pla
 
       simple : (content : List ℕ) (l : ReadLine) (fault : Option Fault) → place h items (l ∷ [])
           ≡ one_line (unless_wrong (EventRecord content) fault) → Follows h (count + 1) items
-          (reads h (suc units) items (count + 1) (l ∷ [])) (fed_once (step_of_made direction (seen_at
+          (reads h (suc units) items (count + 1) (l ∷ [])) (fed_once (step_of_made direction (state_at
           h count phase items (kept_of items)) l (made_of_unit (unless_wrong (EventRecord content) fault))))
       simple content l fault here = simple-line units items count l phase fault (EventRecord content)
           (EventRecord content) here (λ f. rw (ended, some) (never-in-event choices.skip left
@@ -256,7 +258,7 @@ module _ {E U O K : Type 0} {beginning : List (Item E) → List ReadLine → Pla
           (h.record_lines items count phase (types_in_force items) (kept_of items) content)
 
       by_line : (l : ReadLine) → Follows h (count + 1) items (reads h (suc units) items (count + 1) (l ∷ []))
-          (fed_once (seen_next direction (seen_at h count phase items (kept_of items)) l))
+          (fed_once (state_next direction (state_at h count phase items (kept_of items)) l))
       by_line Overlong = simple [] Overlong
           (Some LineTooLong) (record-place beginning items left (Overlong ∷ []) ended some)
       by_line (Content content) = simple content (Content content) (cond (records_count_types items)
@@ -268,7 +270,7 @@ module _ {E U O K : Type 0} {beginning : List (Item E) → List ReadLine → Pla
       → is_in_epoch phase ≡ false → number ≡ count + 1 → made_in direction phase (types_in_force items)
       (kept_of items) line ≡ direction.begins (types_in_force items) (kept_of items) line
       → Follows h (count + 1) items (reading_from (place h) choices.skip items number (line ∷ []))
-      (fed direction (seen_at h count phase items (kept_of items)) line)
+      (fed direction (state_at h count phase items (kept_of items)) line)
   fresh-line items number count line phase ended none may outside counted made = body-line 1 items number
       count [] line phase (kept_of items) (direction.begins (types_in_force items) (kept_of items) line) ended
       none (h.wants items) (h.begins items line) may (inl refl) refl (λ e. false-true (cc))
@@ -276,11 +278,12 @@ module _ {E U O K : Type 0} {beginning : List (Item E) → List ReadLine → Pla
 
   -- what is so in each phase that a reading can be in where more lines are wanted, is so there
   pub by_phase : (P : List ReadLine → Phase O → Type 0) (items : List (Item E)) (rest : List ReadLine)
-      → place h items rest ≡ Wanted → (header_has_ended items ≡ false → P [] (InHeader (is_at_start items)))
-      → ((left : ℕ) → header_has_ended items ≡ true → records_left items ≡ suc left → P [] (InEvent (suc left)
-      (records_count_types items))) → (header_has_ended items ≡ true → records_left items ≡ 0 → P []
-      BetweenUnits) → ((so_far : O) → header_has_ended items ≡ true → records_left items ≡ 0 → open_with items
-      rest ≡ Some so_far → P rest (InEpoch so_far)) → P rest (phase_after_items items (open_with items rest))
+      → place h items rest ≡ NeedsMore → (header_has_ended items ≡ false → P [] (InHeader (is_at_start
+      items))) → ((left : ℕ) → header_has_ended items ≡ true → records_left items ≡ suc left → P [] (InEvent
+      (suc left) (records_count_types items))) → (header_has_ended items ≡ true → records_left items ≡ 0 → P
+      [] BetweenUnits) → ((so_far : O) → header_has_ended items ≡ true → records_left items ≡ 0 → open_with
+      items rest ≡ Some so_far → P rest (InEpoch so_far)) → P rest (phase_after_items items (open_with items
+      rest))
   by_phase P items rest wanted header event between epoch =
       cases (header_has_ended items) refl (records_left items) refl (open_with items rest) refl
     where
@@ -310,13 +313,13 @@ module _ {E U O K : Type 0} {beginning : List (Item E) → List ReadLine → Pla
 
   -- one line more, where more lines are wanted
   lines-line : (items : List (Item E)) (number count : ℕ) (rest : List ReadLine) (line : ReadLine)
-      → place h items rest ≡ Wanted → number + length rest ≡ count + 1
+      → place h items rest ≡ NeedsMore → number + length rest ≡ count + 1
       → Follows h (count + 1) items (reading_from (place h) choices.skip items number (rest ++ line ∷ []))
-      (fed direction (seen_at h count (phase_after_items items (open_with items rest)) items
+      (fed direction (state_at h count (phase_after_items items (open_with items rest)) items
       (kept_in direction (phase_after_items items (open_with items rest)) (kept_of items))) line)
   lines-line items number count rest line wanted = by_phase (λ ls p. number + length ls ≡ count + 1 → Follows
       h (count + 1) items (reading_from (place h) choices.skip items number (ls ++ line ∷ [])) (fed direction
-      (seen_at h count p items (kept_in direction p (kept_of items))) line)) items rest wanted (λ e counted.
+      (state_at h count p items (kept_in direction p (kept_of items))) line)) items rest wanted (λ e counted.
       let same : number ≡ count + 1 = omega (arith, counted) in
       rw same (header-line 1 items count line e)) (λ left e some counted.
       let same : number ≡ count + 1 = omega (arith, counted) in
@@ -337,7 +340,7 @@ module _ {E U O K : Type 0} {beginning : List (Item E) → List ReadLine → Pla
   pub next-line : (items : List (Item E)) (stop : Stop) (count : ℕ) (line : ReadLine)
       → IsStopped (place h) items stop (count + 1) → Follows h (count + 1) items (continued_reading
       (place h) choices.skip (record { items = items; stop = stop }) (line ∷ [])) (fed direction
-      (seen_of direction open_with kept_of choices count (record { items = items; stop = stop })) line)
+      (state_of direction open_with kept_of choices count (record { items = items; stop = stop })) line)
   next-line items (AtFault at) count line stopped = grind (arith, common_steps, append-nil, written_lines)
   next-line items (AtLines number rest) count line stopped =
       lines-line items number count rest line stopped.0 stopped.1
@@ -348,11 +351,11 @@ module _ {E U O K : Type 0} {beginning : List (Item E) → List ReadLine → Pla
       (λ off. rw (looked-on (reading_from (place h) choices.skip items) items number line [] off) (line-once
       count items line LookingOn (record { items = items; stop = Looking (number + 1) }) refl (passed off)))
     where
-      seen : Seen O K
-      seen = seen_at h count LookingOn items (kept_of items)
+      state : RunState O K
+      state = state_at h count LookingOn items (kept_of items)
 
       passed : can_go_on line ≡ false → Follows h (count + 1) items (record {
         items = items;
         stop = Looking (number + 1);
-      }) (fed_once (seen_next direction seen line))
+      }) (fed_once (state_next direction state line))
       passed off = grind (arith, common_steps, append-nil, written_lines)

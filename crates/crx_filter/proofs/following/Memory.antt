@@ -2,16 +2,16 @@
 use Rattle.crx_filter.proofs.Words
 use Words.{common_steps, ℕ, suc, ◌≡◌, ◌+◌, Bool, true, false, not, cond, List, [], ◌∷◌, ◌++◌, length, Option}
 use Words.{Some, None, refl, ap, sym, subst, ◌∙◌, arith, ◌&&◌, nat_lt, is_some, ReadLine, Content, Overlong}
-use Words.{Fault, At, begins_epoch, is_event_line, Count, count_in, is_types_line, Place, Wanted, first_line}
-use Words.{one_line, FileUnit, HeaderLine, Choices, Item, Warned, is_at_start, header_has_ended, records_left}
-use Words.{records_count_types, types_in_force, memory_allowed, place_takes, Stop, AtFault, AtLines, Looking}
-use Words.{is_skipped, can_go_on, event_record, header_line, header_line_fault, types_fault, unless_wrong}
-use Words.{is_again, Answer, BetweenUnits, Direction, Failed, Fails, InEpoch, InEvent, InHeader, Made, Notice}
-use Words.{Phase, Seen, Step, after_warning, is_in_epoch, is_skipped_in, kept_in, phase_after_items}
-use Words.{seen_next, seen_of, step_of_made, may_take_memory, takes_memory, rules, none-some, and_parts}
-use Words.{by_bool, false-true, Completes}
+use Words.{Fault, At, begins_epoch, is_event_line, Count, count_in, is_types_line, Place, NeedsMore}
+use Words.{first_line, one_line, FileUnit, HeaderLine, Choices, Item, Warned, is_at_start, header_has_ended}
+use Words.{records_left, records_count_types, types_in_force, memory_allowed, place_takes, Stop, AtFault}
+use Words.{AtLines, Looking, is_skipped, can_go_on, event_record, header_line, header_line_fault, types_fault}
+use Words.{unless_wrong, is_again, Answer, BetweenUnits, Direction, Failed, Rejects, InEpoch, InEvent}
+use Words.{InHeader, Made, Notice, Phase, RunState, Step, after_warning, is_in_epoch, is_skipped_in, kept_in}
+use Words.{phase_after_items, state_next, state_of, step_of_made, may_take_memory, takes_memory, rules}
+use Words.{none-some, and_parts, by_bool, false-true, Completes}
 use Rattle.crx_filter.proofs.{Pending.again-lines, following.Following.{AgreeOn, IsCarriedOut, body-place}}
-use Rattle.crx_filter.proofs.following.Following.{failed-ends, place, failed-skipped, seen_in, skipped-same}
+use Rattle.crx_filter.proofs.following.Following.{failed-ends, place, failed-skipped, state_in, skipped-same}
 use Rattle.crx_filter.proofs.following.{Following.wrong-last, Lines.{IsStopped, by_phase, header-place}}
 use Rattle.crx_filter.proofs.{following.Lines.record-place, steps.EngineAnswers.{ComesAgain, comes-again}}
 use Rattle.crx_filter.specs.{LineByLine.{Quiet, Ready}, meaning.Memory.{line_takes, takes_after_warning}}
@@ -93,8 +93,8 @@ module _ {E U O K : Type 0} {beginning : List (Item E) → List ReadLine → Pla
   by_content items rest phase (Content content) off on e = on content e
 
   -- where more lines are wanted
-  lines-take : (items : List (Item E)) (rest : List ReadLine) (line : ReadLine) → place h items rest ≡ Wanted
-      → taken_in items line (phase_after_items items (open_with items rest)) ≡ true
+  lines-take : (items : List (Item E)) (rest : List ReadLine) (line : ReadLine) → place h items rest ≡
+      NeedsMore → taken_in items line (phase_after_items items (open_with items rest)) ≡ true
       → line_takes (place h) takes items rest line ≡ true
   lines-take items rest line wanted = by_phase h (λ ls p. taken_in items line p ≡ true
       → line_takes (place h) takes items ls line ≡ true) items rest wanted (λ e. by_content items []
@@ -110,22 +110,22 @@ module _ {E U O K : Type 0} {beginning : List (Item E) → List ReadLine → Pla
 
   -- memory may run out at a line at once
   pub allowed-first : (items : List (Item E)) (stop : Stop) (count : ℕ) (line : ReadLine) → IsStopped
-      (place h) items stop (count + 1) → takes_memory direction (seen_of direction open_with kept_of choices
+      (place h) items stop (count + 1) → takes_memory direction (state_of direction open_with kept_of choices
       count (record { items = items; stop = stop })) line ≡ true → memory_allowed (place h) takes choices.skip
       (record { items = items; stop = stop }) line ≡ Some []
   allowed-first items stop count line stopped e = grind (arith, common_steps, lines-take, begins-takes)
 
   -- a line that cuts an epoch off, and is read anew after the warning
   cut-takes : (items : List (Item E)) (number count : ℕ) (rest : List ReadLine) (line : ReadLine) (so_far : O)
-      (next : Seen O K) (notice : At) → place h items rest ≡ Wanted → number + length rest ≡ count + 1
+      (next : RunState O K) (notice : At) → place h items rest ≡ NeedsMore → number + length rest ≡ count + 1
       → header_has_ended items ≡ true → records_left items ≡ 0 → open_with items rest ≡ Some so_far
       → (m : Made U O) → AgreeOn beginning direction open_with kept_of unit_lines choices items (rest ++ line
       ∷ []) m → record { answer = Notice notice true; handed_out = []; next = next } ≡ step_of_made direction
-      (seen_in choices count (InEpoch so_far) (types_in_force items) (direction.kept_open (kept_of items)))
+      (state_in choices count (InEpoch so_far) (types_in_force items) (direction.kept_open (kept_of items)))
       line m → takes_memory direction next line ≡ true → memory_allowed (place h) takes choices.skip (record
       { items = items; stop = AtLines number rest }) line ≡ Some (notice ∷ [])
   cut-takes items number count rest line so_far next notice wanted counted ended none open_is
-      (Fails fault) a e taken = by_bool (is_skipped_in before fault) (λ on.
+      (Rejects fault) a e taken = by_bool (is_skipped_in before fault) (λ on.
       let is = e ∙ failed-skipped direction before line fault on in
       let goes = sym (ap (λ (s : Step O K). is_again s.answer) is) in
       let noted = ap (λ (s : Step O K). noticed_or at s.answer) is in
@@ -140,7 +140,7 @@ module _ {E U O K : Type 0} {beginning : List (Item E) → List ReadLine → Pla
       ∙ ap (λ (n : ℕ). cond (is_skipped choices.skip items fault && ((nat_lt 0 a.0 && can_go_on line) &&
       line_takes (place h) takes (Warned (record { line = n; fault = fault }) ∷ items) [] line)) (Some (record
       { line = n; fault = fault } ∷ [])) None) same ∙ ap (λ b. cond b (Some (at ∷ [])) None) (all-true skipped
-      (ap (nat_lt 0) last ∙ not_none rest open_is) goes (anew line (subst (λ (s : Seen O K). takes_memory
+      (ap (nat_lt 0) last ∙ not_none rest open_is) goes (anew line (subst (λ (s : RunState O K). takes_memory
       direction s line ≡ true) then taken))) ∙ ap (λ (n : At). Some (n ∷ [])) (sym noted)) (λ off.
       let no = ap (λ (s : Step O K). is_again s.answer) (e ∙ failed-ends direction before line fault off) in
       absurd (cc))
@@ -148,8 +148,8 @@ module _ {E U O K : Type 0} {beginning : List (Item E) → List ReadLine → Pla
       at : At
       at = record { line = count + 1; fault = fault }
 
-      before : Seen O K
-      before = seen_in choices count (InEpoch so_far) (types_in_force items) (direction.kept_open
+      before : RunState O K
+      before = state_in choices count (InEpoch so_far) (types_in_force items) (direction.kept_open
           (kept_of items))
 
       noticed_or : At → Answer → At
@@ -177,7 +177,7 @@ module _ {E U O K : Type 0} {beginning : List (Item E) → List ReadLine → Pla
   cut-takes items number count rest line so_far next notice wanted counted ended none open_is
       (Completes unit) a e taken = absurd (cc (
         ap (λ (s : Step O K). is_again s.answer) e,
-        again-lines (direction.written (seen_in choices count (InEpoch so_far) (types_in_force items)
+        again-lines (direction.written (state_in choices count (InEpoch so_far) (types_in_force items)
             (direction.kept_open (kept_of items))) unit),
       ))
   cut-takes items number count rest line so_far next notice wanted counted ended none open_is m a e taken =
@@ -185,27 +185,28 @@ module _ {E U O K : Type 0} {beginning : List (Item E) → List ReadLine → Pla
 
   -- memory may run out at a line after its warning
   pub allowed-again : (items : List (Item E)) (stop : Stop) (count : ℕ)
-      (line : ReadLine) (next : Seen O K) (notice : At) → IsStopped (place h) items stop (count + 1)
-      → record { answer = Notice notice true; handed_out = []; next = next } ≡ seen_next direction
-      (seen_of direction open_with kept_of choices count (record { items = items; stop = stop })) line
+      (line : ReadLine) (next : RunState O K) (notice : At) → IsStopped (place h) items stop (count + 1)
+      → record { answer = Notice notice true; handed_out = []; next = next } ≡ state_next direction
+      (state_of direction open_with kept_of choices count (record { items = items; stop = stop })) line
       → takes_memory direction next line ≡ true → memory_allowed
       (place h) takes choices.skip (record { items = items; stop = stop }) line ≡ Some (notice ∷ [])
   allowed-again items stop count line next notice stopped e taken = by_stop stop stopped
       (comes-again direction _ next line notice [] e) e
     where
       by_stop : (s : Stop) → IsStopped (place h) items s (count + 1) → ComesAgain
-          (seen_of direction open_with kept_of choices count (record { items = items; stop = s })) next line
-          → record { answer = Notice notice true; handed_out = []; next = next } ≡ seen_next direction
-          (seen_of direction open_with kept_of choices count (record { items = items; stop = s })) line
+          (state_of direction open_with kept_of choices count (record { items = items; stop = s })) next line
+          → record { answer = Notice notice true; handed_out = []; next = next } ≡ state_next direction
+          (state_of direction open_with kept_of choices count (record { items = items; stop = s })) line
           → memory_allowed (place h) takes choices.skip (record { items = items; stop = s }) line
           ≡ Some (notice ∷ [])
       by_stop (AtFault at) stopped again e = false-true again.epoch
       by_stop (Looking number) stopped again e = false-true again.epoch
       by_stop (AtLines number rest) stopped again e = by_phase h (λ ls p. is_in_epoch p ≡ true → record
-          { answer = Notice notice true; handed_out = []; next = next } ≡ seen_next direction (seen_in choices
-          count p (types_in_force items) (kept_in direction p (kept_of items))) line → memory_allowed (place
-          h) takes choices.skip (record { items = items; stop = AtLines number rest }) line ≡ Some (notice
-          ∷ [])) items rest stopped.0 (λ f inside. false-true inside) (λ left f some inside. false-true
-          inside) (λ f none inside. false-true inside) (λ so_far f none opens inside step. cut-takes items
-          number count rest line so_far next notice stopped.0 stopped.1 f none opens (direction.continues
-          so_far line) (h.continues items rest line so_far opens) step taken) again.epoch e
+          { answer = Notice notice true; handed_out = []; next = next } ≡ state_next direction (state_in
+          choices count p (types_in_force items) (kept_in direction p (kept_of items))) line → memory_allowed
+          (place h) takes choices.skip (record { items = items; stop = AtLines number rest }) line ≡ Some
+          (notice ∷ [])) items rest stopped.0 (λ f inside. false-true inside) (λ left f some inside.
+          false-true inside) (λ f none inside. false-true inside) (λ so_far f none opens inside step.
+          cut-takes items number count rest line so_far next notice stopped.0 stopped.1 f none opens
+          (direction.continues so_far line) (h.continues items rest line so_far opens) step taken) again.epoch
+          e

@@ -4,13 +4,13 @@ use proofs.Words.{common_steps, ℕ, ◌≡◌, Bool, true, false, List, [], ◌
 use proofs.Words.{Result, Ok, refl, none-some, ReadLine, Content, Overlong, Fault, Count, ReadEpoch}
 use proofs.Words.{Satellite, OpenRawEpoch, RawStep, first_step, next_step, open_raw_after, Tail, and_then}
 use proofs.Words.{Choices, Item, types_in_force, place_takes, begins_event, compact_open, expansion}
-use proofs.Words.{made_of_raw_step, tail_of_items, ◌+◌, drop, arith, length-drop, At, Place, Here, Wrong}
-use proofs.Words.{Wanted, expansion_seen, Notice, Seen, seen_next, takes_memory, compact_memory}
+use proofs.Words.{made_of_raw_step, tail_of_items, ◌+◌, drop, arith, length-drop, At, Place, Done, Fails}
+use proofs.Words.{NeedsMore, expansion_state, Notice, RunState, state_next, takes_memory, compact_memory}
 use proofs.Words.{compact_place, first_lines, memory_allowed, reading_from, and_parts, not-true, false-true}
 use Rattle.crx_compact.specs.OpenEpochs.{Going, is_faulty, before_clock, has_come, makes_epoch, tail_opened}
 use Rattle.crx_compact.specs.OpenEpochs.{opened_raw, opening}
 use Rattle.crx_filter.specs.meaning.Memory.{expansion_takes}
-use proofs.following.ExpandedOn.{reading_by, seen_by}
+use proofs.following.ExpandedOn.{reading_by, state_by}
 use proofs.following.Expansion.{Agrees, agree-content, agree-continues, expansion-carried_out}
 use proofs.following.{Lines.IsStopped, Memory.{TakesAsItStands, allowed-again, allowed-first}}
 use proofs.reading.{CompactPrefixes.remains, ForwardCompact.{compact_beginning, compact-forward}}
@@ -88,28 +88,28 @@ expansion-takes choices = record {
 abbrev memory_by : Choices → List ReadLine → ReadLine → Place (List (List ℕ)) → Place (List (List ℕ))
     → Option (List At)
 memory_by choices lines line p read = elim p [
-  | Here two count ↦
+  | Done two count ↦
       memory_allowed compact_place expansion_takes choices.skip (reading_by choices.skip lines read) line
-  | Wrong offset fault ↦ None
-  | Wanted ↦ None
+  | Fails offset fault ↦ None
+  | NeedsMore ↦ None
 ]
 
 stopped-after : (choices : Choices) (lines : List ReadLine) (two : List (List ℕ)) (count : ℕ)
-    → first_lines lines ≡ Here two count → IsStopped compact_place
+    → first_lines lines ≡ Done two count → IsStopped compact_place
     (reading_from compact_place choices.skip [] (count + 1) (drop count lines)).items
     (reading_from compact_place choices.skip [] (count + 1) (drop count lines)).stop (length lines + 1)
 stopped-after choices lines two count e =
-    let h = remains lines [] (Here two count) e in
+    let h = remains lines [] (Done two count) e in
     reading-stopped compact_place compact-forward choices.skip [] (count + 1) (length lines + 1)
     (drop count lines) (omega (arith, length-drop count lines, h.0))
 
 pub expansion-allowed : (choices : Choices) (lines : List ReadLine) (line : ReadLine) → takes_memory expansion
-    (expansion_seen choices lines) line ≡ true → compact_memory choices.skip lines line ≡ Some []
+    (expansion_state choices lines) line ≡ true → compact_memory choices.skip lines line ≡ Some []
 expansion-allowed choices lines line e = decided (first_lines lines) line refl e
   where
     decided : (p : Place (List (List ℕ))) (l : ReadLine) → first_lines lines ≡ p
-        → takes_memory expansion (seen_by choices lines p) l ≡ true → memory_by choices lines l p p ≡ Some []
-    decided (Here two count) l is t =
+        → takes_memory expansion (state_by choices lines p) l ≡ true → memory_by choices lines l p p ≡ Some []
+    decided (Done two count) l is t =
         let r = reading_from compact_place choices.skip [] (count + 1) (drop count lines) in
         allowed-first (expansion-carried_out choices) (expansion-takes choices) r.items r.stop (length lines)
         l (stopped-after choices lines two count is) t
@@ -117,17 +117,17 @@ expansion-allowed choices lines line e = decided (first_lines lines) line refl e
     decided p (Content content) is t = false-true t
 
 pub expansion-allowed-again : (choices : Choices) (lines : List ReadLine) (line : ReadLine)
-    (next : Seen OpenRawEpoch (Option Tail)) (notice : At)
+    (next : RunState OpenRawEpoch (Option Tail)) (notice : At)
     → record { answer = Notice notice true; handed_out = []; next = next }
-    ≡ seen_next expansion (expansion_seen choices lines) line → takes_memory expansion next line ≡ true
+    ≡ state_next expansion (expansion_state choices lines) line → takes_memory expansion next line ≡ true
     → compact_memory choices.skip lines line ≡ Some (notice ∷ [])
 expansion-allowed-again choices lines line next notice step e = decided (first_lines lines) refl step
   where
     decided : (p : Place (List (List ℕ))) → first_lines lines ≡ p
-        → record { answer = Notice notice true; handed_out = []; next = next } ≡ seen_next expansion
-        (seen_by choices lines p) line → memory_by choices lines line p p ≡ Some (notice ∷ [])
-    decided (Here two count) is s =
+        → record { answer = Notice notice true; handed_out = []; next = next } ≡ state_next expansion
+        (state_by choices lines p) line → memory_by choices lines line p p ≡ Some (notice ∷ [])
+    decided (Done two count) is s =
         let r = reading_from compact_place choices.skip [] (count + 1) (drop count lines) in
         allowed-again (expansion-carried_out choices) (expansion-takes choices) r.items r.stop (length lines)
         line next notice (stopped-after choices lines two count is) s e
-    decided p is s = false-true (comes-again expansion (seen_by choices lines p) next line notice [] s).epoch
+    decided p is s = false-true (comes-again expansion (state_by choices lines p) next line notice [] s).epoch

@@ -5,8 +5,8 @@ use proofs.Words.{refl, ◌+◌, arith, At, none-some, ReadLine, Content, Fault,
 use proofs.Words.{FileUnit, EpochStep, Faulty, after_row, epoch_step, Choices, Item, types_in_force}
 use proofs.Words.{compaction_takes, memory_allowed, place_takes, rinex_reading, takes_memory, checking}
 use proofs.Words.{no_choices, totals_of, compaction, made_of_epoch_step, rinex_begins, Written}
-use proofs.Words.{compaction_seen, rinex_open, written_of, Direction, Made, Notice, Seen, seen_next, seen_of}
-use proofs.Words.{compact_unit, rinex_place, false-true}
+use proofs.Words.{compaction_state, rinex_open, written_of, Direction, Made, Notice, RunState, state_next}
+use proofs.Words.{state_of, compact_unit, rinex_place, false-true}
 use Rattle.crx_filter.specs.{CompactionByLine.is_whole_at_once, meaning.Memory.check_takes}
 use Rattle.std.specs.Result.{is_ok}
 use proofs.following.{Check.{check-carried_out, printed_after}, Compaction.compaction-carried_out}
@@ -71,7 +71,7 @@ check-takes = record {
 -- ---- where memory may run out
 
 pub compaction-allowed : (choices : Choices) (lines : List ReadLine) (line : ReadLine)
-    → takes_memory compaction (compaction_seen choices lines) line ≡ true → memory_allowed
+    → takes_memory compaction (compaction_state choices lines) line ≡ true → memory_allowed
     rinex_place compaction_takes choices.skip (rinex_reading choices.skip lines) line ≡ Some []
 compaction-allowed choices lines line e =
     let r = rinex_reading choices.skip lines in
@@ -80,9 +80,9 @@ compaction-allowed choices lines line e =
     (reading-stopped rinex_place rinex-forward choices.skip [] 1 (length lines + 1) lines (omega arith)) e
 
 pub compaction-allowed-again : (choices : Choices)
-    (lines : List ReadLine) (line : ReadLine) (next : Seen OpenEpoch Written) (notice : At)
-    → record { answer = Notice notice true; handed_out = []; next = next } ≡ seen_next compaction
-    (compaction_seen choices lines) line → takes_memory compaction next line ≡ true → memory_allowed
+    (lines : List ReadLine) (line : ReadLine) (next : RunState OpenEpoch Written) (notice : At)
+    → record { answer = Notice notice true; handed_out = []; next = next } ≡ state_next compaction
+    (compaction_state choices lines) line → takes_memory compaction next line ≡ true → memory_allowed
     rinex_place compaction_takes choices.skip (rinex_reading choices.skip lines) line ≡ Some (notice ∷ [])
 compaction-allowed-again choices lines line next notice step e =
     let r = rinex_reading choices.skip lines in
@@ -91,7 +91,7 @@ compaction-allowed-again choices lines line next notice step e =
     (omega arith)) step e
 
 pub check-allowed : (lines : List ReadLine) (line : ReadLine) → takes_memory checking
-    (seen_of checking rinex_open totals_of no_choices (length lines) (rinex_reading false lines)) line ≡ true
+    (state_of checking rinex_open totals_of no_choices (length lines) (rinex_reading false lines)) line ≡ true
     → memory_allowed rinex_place check_takes false (rinex_reading false lines) line ≡ Some []
 check-allowed lines line e =
     let r = rinex_reading false lines in

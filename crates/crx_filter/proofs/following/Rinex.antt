@@ -2,11 +2,11 @@
 -- that reads RINEX goes this way.
 use Rattle.crx_filter.proofs.Words
 use Words.{ℕ, zero, suc, ◌≡◌, ◌⊎◌, List, [], ◌∷◌, ◌++◌, length, Some, None, Result, Ok, Err, inl, inr, refl}
-use Words.{sym, ◌∙◌, none-some, ReadLine, Content, Overlong, Fault, Epoch, Count, Here, Wanted, after_lines}
-use Words.{then_place, FileUnit, Observation, OpenEpoch, Beginning, EventBegins, EpochBegins, beginning_of}
-use Words.{opened, rows_wanted, epoch_of, rows_at, epoch_place, EpochStep, Going, Whole, Faulty, when_wanted}
-use Words.{epoch_step, Choices, Item, types_in_force, Made, Direction, made_of_epoch_step, made_of_beginning}
-use Words.{rinex_begins, rinex_open}
+use Words.{sym, ◌∙◌, none-some, ReadLine, Content, Overlong, Fault, Epoch, Count, Done, NeedsMore}
+use Words.{after_lines, then_place, FileUnit, Observation, OpenEpoch, Beginning, EventBegins, EpochBegins}
+use Words.{beginning_of, opened, rows_wanted, epoch_of, rows_at, epoch_place, EpochStep, Going, Whole, Faulty}
+use Words.{when_wanted, epoch_step, Choices, Item, types_in_force, Made, Direction, made_of_epoch_step}
+use Words.{made_of_beginning, rinex_begins, rinex_open}
 use Rattle.crx_rinex.specs.EpochPlaces.{whole_or_going, still_open, open_with, place_after}
 use Rattle.crx_rinex.proofs.OpenEpochs.{wanted-open, next-by_open, open_none}
 use Rattle.crx_filter.proofs.following.Following.{IsSameEpoch, AgreeOn}
@@ -17,7 +17,7 @@ use Rattle.crx_filter.proofs.following.Following.{IsSameEpoch, AgreeOn}
 pub record AreSame {K : Type 0} (direction : Direction Epoch OpenEpoch K) (kept_of : List (Item Epoch) → K)
     (unit_lines : List (Item Epoch) → FileUnit Epoch → List (List ℕ)) (choices : Choices) : Type 0 where
   pub same : (items : List (Item Epoch)) (lines : List ReadLine) (epoch : Epoch) (count : ℕ)
-      → epoch_place (types_in_force items) lines ≡ Here (Observation epoch) count
+      → epoch_place (types_in_force items) lines ≡ Done (Observation epoch) count
       → IsSameEpoch direction kept_of unit_lines choices items epoch epoch
 
 -- what an open epoch leaves as it was is kept in one way
@@ -37,7 +37,7 @@ module _ {K : Type 0} {direction : Direction Epoch OpenEpoch K} {kept_of : List 
   -- a line that begins an epoch with so many satellites
   agree-when : (items : List (Item Epoch)) (content : List ℕ) (so_far : OpenEpoch) (wanted : ℕ)
       → epoch_place (types_in_force items) (Content content ∷ [])
-      ≡ after_lines 1 (then_place (rows_at so_far wanted []) [] (λ epoch rest. Here (Observation epoch) 0))
+      ≡ after_lines 1 (then_place (rows_at so_far wanted []) [] (λ epoch rest. Done (Observation epoch) 0))
       → open_with (types_in_force items) (Content content ∷ []) ≡ still_open (when_wanted wanted so_far)
       → Agrees items (Content content ∷ []) (made_of_epoch_step (when_wanted wanted so_far))
   agree-when items content so_far zero place opens =
@@ -74,7 +74,7 @@ module _ {K : Type 0} {direction : Direction Epoch OpenEpoch K} {kept_of : List 
       agree-step items lines line (epoch_step so_far line) decided.place decided.left_open
 
 pub no-lines : (types : List Count) (lines : List ReadLine)
-    → epoch_place types lines ≡ Wanted → open_with types lines ≡ None → lines ≡ []
+    → epoch_place types lines ≡ NeedsMore → open_with types lines ≡ None → lines ≡ []
 no-lines types lines wanted none = elim ((wanted-open types lines).0 wanted) as (λ _. lines ≡ []) [
   | inl e ↦ e
   | inr some ↦ absurd (none-some some.0 (sym none ∙ some.1))

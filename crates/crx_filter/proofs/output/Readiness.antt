@@ -1,13 +1,13 @@
 -- A line is answered as ready exactly where lines are borrowed.
-use Rattle.crx_filter.proofs.Words.{common_steps, arith, ◌≡◌, ReadLine, Seen, Made, Direction, step_of_made}
-use Rattle.crx_filter.proofs.Words.{compaction, expansion, IsReadyWhereHandedOut}
+use Rattle.crx_filter.proofs.Words.{common_steps, arith, ◌≡◌, ReadLine, RunState, Made, Direction}
+use Rattle.crx_filter.proofs.Words.{step_of_made, compaction, expansion, IsReadyWhereHandedOut}
 use Rattle.crx_filter.proofs.following.Following.{failed-ends, failed-skipped}
 use Rattle.crx_filter.specs.Laws.{is_ready, has_lines}
 
-step-ready : {U O K : Type 0} (direction : Direction U O K) (seen : Seen O K) (line : ReadLine)
-    (made : Made U O) → is_ready (step_of_made direction seen line made).answer
-    ≡ has_lines (step_of_made direction seen line made).handed_out
-step-ready direction seen line made = grind (arith, common_steps, failed-skipped, failed-ends)
+step-ready : {U O K : Type 0} (direction : Direction U O K) (state : RunState O K) (line : ReadLine)
+    (made : Made U O) → is_ready (step_of_made direction state line made).answer
+    ≡ has_lines (step_of_made direction state line made).handed_out
+step-ready direction state line made = grind (arith, common_steps, failed-skipped, failed-ends)
 
 pub compaction-ready : IsReadyWhereHandedOut compaction
 compaction-ready = grind (arith, common_steps, step-ready)

@@ -2,7 +2,7 @@
 use Rattle.crx_filter.proofs
 use proofs.Words.{common_steps, [], ℕ, zero, suc, ◌≡◌, ◌+◌, ◌<◌, max, Bool, true, cond, List, ◌∷◌, ◌++◌, drop}
 use proofs.Words.{Option, Some, None, refl, sym, ◌∙◌, arith, subst, append_assoc, and_parts, ⊤, ReadLine}
-use proofs.Words.{Content, Overlong, Fault, At, begins_epoch, is_event_line, records_in, Count, Place, Here}
+use proofs.Words.{Content, Overlong, Fault, At, begins_epoch, is_event_line, records_in, Count, Place, Done}
 use proofs.Words.{one_line, first_line, FileUnit, HeaderLine, EventRecord, block_of, ReadEpoch, epoch_at}
 use proofs.Words.{Item, Accepted, Warned, header_has_ended, records_announced, records_left}
 use proofs.Words.{records_count_types, types_in_force, unless_wrong, types_fault, event_record, Reading, Stop}
@@ -103,7 +103,7 @@ ReadAlike skip units a b number lines = GoOnAlike a b (reading_within compact_pl
 -- one step: what is there is the same, and what is read after it goes on alike
 one-step : (skip : Bool) (units : ℕ) (a b : List (Item ReadEpoch)) (number : ℕ) (lines : List ReadLine)
     → AreAlike a b → compact_place a lines ≡ compact_place b lines → ((unit : FileUnit ReadEpoch) (count : ℕ)
-    → compact_place a lines ≡ Here unit count → ReadAlike skip units (Accepted unit ∷ a)
+    → compact_place a lines ≡ Done unit count → ReadAlike skip units (Accepted unit ∷ a)
     (Accepted unit ∷ b) (number + count) (drop count lines)) → ((at : At) (n : ℕ) (ls : List ReadLine)
     → ReadAlike skip units (Warned at ∷ a) (Warned at ∷ b) n ls) → ReadAlike skip (suc units) a b number lines
 one-step skip units a b number lines h same next warned = by_place (compact_place a lines)
@@ -138,7 +138,7 @@ module _ (skip : Bool) (units : ℕ) (ih : IsAnew skip units)
     (a b : List (Item ReadEpoch)) (h : AreAlike a b) (number : ℕ) where
   -- what is read after a unit
   abbrev Next : List ReadLine → Place (FileUnit ReadEpoch) → Type 0
-  Next lines (Here unit count) =
+  Next lines (Done unit count) =
       ReadAlike skip units (Accepted unit ∷ a) (Accepted unit ∷ b) (number + count) (drop count lines)
   Next lines p = ⊤
 
@@ -150,7 +150,7 @@ module _ (skip : Bool) (units : ℕ) (ih : IsAnew skip units)
   anew-observed : (line : List ℕ) (lines : List ReadLine) (types : List Count) (p : Place ReadEpoch)
       → begins_epoch line ≡ true → epoch_at types [] (Content line ∷ lines) ≡ p
       → Next (Content line ∷ lines) (as_observation p)
-  anew-observed line lines types (Here read count) begins e = reads-same _ _ _ _ _ _ (record {
+  anew-observed line lines types (Done read count) begins e = reads-same _ _ _ _ _ _ (record {
     alike = alike-unit _ _ _ tt h;
     block = (forgets types (raws_kept a) line lines begins).block read count (cc)
         ∙ sym ((forgets types (raws_kept b) line lines begins).block read count (cc));

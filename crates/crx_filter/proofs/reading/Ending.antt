@@ -2,12 +2,13 @@
 use Rattle.crx_filter.proofs.Words
 use Words.{common_steps, arith, ℕ, suc, ◌≡◌, ◌+◌, true, false, cond, List, [], ◌∷◌, length, Option, Some}
 use Words.{None, refl, sym, ◌∙◌, ◌&&◌, ◌==◌, nat_lt, ReadLine, Fault, MissingVersion, Truncated, Place}
-use Words.{Wanted, FileUnit, Choices, Item, is_at_start, header_has_ended, records_left, records_count_types}
-use Words.{types_in_force, WholeReading, Stop, AtLines, is_skipped, fault_at_end, ended_with, ended_reading}
-use Words.{is_skippable, written_lines, warnings_in, Phase, InHeader, InEvent, InEpoch, Direction, Step}
-use Words.{is_skipped_in, kept_in, seen_end, phase_after_items, seen_of, IsEndedBy, by_bool, ◌<◌}
+use Words.{NeedsMore, FileUnit, Choices, Item, is_at_start, header_has_ended, records_left}
+use Words.{records_count_types, types_in_force, WholeReading, Stop, AtLines, is_skipped, fault_at_end}
+use Words.{ended_with, ended_reading, is_skippable, written_lines, warnings_in, Phase, InHeader, InEvent}
+use Words.{InEpoch, Direction, Step, is_skipped_in, kept_in, state_end, phase_after_items, state_of}
+use Words.{IsEndedBy, by_bool, ◌<◌}
 use Rattle.crx_base.specs.declared.fault.Fault.TheVariants.{NoEndOfHeader}
-use Rattle.crx_filter.proofs.following.Following.{IsCarriedOut, place, seen_at, skipped-same}
+use Rattle.crx_filter.proofs.following.Following.{IsCarriedOut, place, state_at, skipped-same}
 use Rattle.crx_filter.proofs.following.Lines.{IsStopped, by_phase, never-before, never-in-event, some_lines}
 use Rattle.crx_filter.specs.LineByLine.{end_step, BetweenUnits}
 
@@ -41,25 +42,25 @@ module _ {E U O K : Type 0} {beginning : List (Item E) → List ReadLine → Pla
 
   -- where the phase means what the items mean
   ends-same : (items : List (Item E)) (count : ℕ) (phase : Phase O) (kept : K) (fault : Option Fault)
-      → ((f : Fault) → is_skipped choices.skip items f ≡ is_skipped_in (seen_at h count phase items kept) f)
+      → ((f : Fault) → is_skipped choices.skip items f ≡ is_skipped_in (state_at h count phase items kept) f)
       → EndsAs items (ended_with choices.skip items (count + 1) fault)
-      (end_step direction [] (seen_at h count phase items kept) fault)
+      (end_step direction [] (state_at h count phase items kept) fault)
   ends-same items count phase kept None same =
       record { once = refl; handed_out = refl; written = refl; warned = refl; failed = refl }
-  ends-same items count phase kept (Some fault) same = by_bool (is_skipped_in (seen_at h count phase items
+  ends-same items count phase kept (Some fault) same = by_bool (is_skipped_in (state_at h count phase items
       kept) fault) (λ on. rw (same fault ∙ on, on)
       (record { once = refl; handed_out = refl; written = refl; warned = refl; failed = refl }))
       (λ off. rw (same fault ∙ off, off)
       (record { once = refl; handed_out = refl; written = refl; warned = refl; failed = refl }))
 
   -- the end where more lines are wanted
-  lines-end : (items : List (Item E)) (number count : ℕ) (rest : List ReadLine) → place h items rest ≡ Wanted
-      → number + length rest ≡ count + 1 → EndsAs items (ended_with choices.skip items
-      (number + length rest) (fault_at_end items rest)) (seen_end direction (seen_at h count
+  lines-end : (items : List (Item E)) (number count : ℕ) (rest : List ReadLine) → place h items rest ≡
+      NeedsMore → number + length rest ≡ count + 1 → EndsAs items (ended_with choices.skip items
+      (number + length rest) (fault_at_end items rest)) (state_end direction (state_at h count
       (phase_after_items items (open_with items rest)) items (kept_in direction (phase_after_items items
       (open_with items rest)) (kept_of items))))
   lines-end items number count rest wanted counted = rw counted (by_phase h (λ ls p. EndsAs items (ended_with
-      choices.skip items (count + 1) (fault_at_end items ls)) (seen_end direction (seen_at h count p items
+      choices.skip items (count + 1) (fault_at_end items ls)) (state_end direction (state_at h count p items
       (kept_in direction p (kept_of items))))) items rest wanted
       (λ e. rw (in-header items e) (ends-same items count (InHeader (is_at_start items)) (kept_of items)
       (Some (cond (is_at_start items) MissingVersion NoEndOfHeader)) (λ f. rw e (never-before choices.skip
@@ -77,8 +78,8 @@ module _ {E U O K : Type 0} {beginning : List (Item E) → List ReadLine → Pla
 
   pub next-end : (items : List (Item E)) (stop : Stop) (count : ℕ) → IsStopped (place h) items stop
       (count + 1) → EndsAs items (ended_reading choices.skip (record { items = items; stop = stop }))
-      (seen_end direction
-      (seen_of direction open_with kept_of choices count (record { items = items; stop = stop })))
+      (state_end direction
+      (state_of direction open_with kept_of choices count (record { items = items; stop = stop })))
   next-end items (AtLines number rest) count stopped =
       lines-end items number count rest stopped.0 stopped.1
   next-end items stop count stopped =

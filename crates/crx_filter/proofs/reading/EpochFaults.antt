@@ -1,7 +1,7 @@
 -- The faults of an epoch of compact text can all be skipped.
 use Rattle.crx_filter.proofs.Words
 use Words.{common_steps, arith, ℕ, ℤ, suc, ◌≡◌, Bool, true, List, [], ◌∷◌, Option, Some, None, Result, Ok}
-use Words.{Err, refl, ⊤, list_all, is_blank, code_of, ReadLine, Fault, LineTooLong, Count, Place, Here, Wrong}
+use Words.{Err, refl, ⊤, list_all, is_blank, code_of, ReadLine, Fault, LineTooLong, Count, Place, Done, Fails}
 use Words.{then_place, one_line, first_line, BegunEpoch, epoch_begun, cell_read, satellite_line_read}
 use Words.{rows_read, epoch_after_line, epoch_at, Satellite, RawEpoch, block_of, Past, past_of_block}
 use Words.{and_then, is_skippable, as_observation, BadField}
@@ -16,7 +16,7 @@ FaultsPass test (Ok x) = ⊤
 FaultsPass test (Err fault) = test fault ≡ true
 
 abbrev pub FaultsPassAt : {X : Type 0} → (Fault → Bool) → Place X → Type 0
-FaultsPassAt test (Wrong offset fault) = test fault ≡ true
+FaultsPassAt test (Fails offset fault) = test fault ≡ true
 FaultsPassAt test p = ⊤
 
 module _ (test : Fault → Bool) where
@@ -112,7 +112,7 @@ rows_read-skippable past h (satellite ∷ satellites) lines =
     place-then is_skippable (first_line lines (satellite_line_read past satellite)) lines _ (place-first
     is_skippable refl lines (satellite_line_read past satellite) (row_line-skippable past h satellite))
     (λ row others. place-then is_skippable (rows_read past satellites others) others
-    (λ rows rest. Here (row ∷ rows) 0) (rows_read-skippable past h satellites others) (λ rows rest. tt))
+    (λ rows rest. Done (row ∷ rows) 0) (rows_read-skippable past h satellites others) (λ rows rest. tt))
 
 begun_line-skippable : (r : Result BegunEpoch Fault) → IsBegunWell r → (lines : List ReadLine)
     → IsSkippableAt (then_place (one_line r) lines (λ begun others. epoch_after_line begun others))

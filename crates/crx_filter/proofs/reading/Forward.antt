@@ -1,7 +1,7 @@
 -- What is at a line is certain as soon as its last line has come, in both directions.
 use Rattle.crx_filter.proofs.Words
-use Words.{◌≡◌, Bool, true, false, cond, List, [], refl, ReadLine, Place, Wanted, IsSteady, FileUnit, Epoch}
-use Words.{epoch_place, Item, types_in_force, unit_place, rinex_place, IsReadForward}
+use Words.{◌≡◌, Bool, true, false, cond, List, [], refl, ReadLine, Place, NeedsMore, IsSteady, FileUnit}
+use Words.{Epoch, epoch_place, Item, types_in_force, unit_place, rinex_place, IsReadForward}
 use Rattle.crx_rinex.proofs.{OpenEpochs.steady-epoch_place, Steady.steady-first_line}
 
 -- where an epoch or an event may begin in RINEX
@@ -14,14 +14,14 @@ chosen_steady : {X : Type 0} (b : Bool) (one two : List ReadLine → Place X)
 chosen_steady true one two h k = h
 chosen_steady false one two h k = k
 
-chosen_wanted : {X : Type 0} (b : Bool) (one two : Place X) → one ≡ Wanted → two ≡ Wanted → cond b one two
-    ≡ Wanted
+chosen_wanted : {X : Type 0} (b : Bool) (one two : Place X) → one ≡ NeedsMore → two ≡ NeedsMore → cond b one
+    two ≡ NeedsMore
 chosen_wanted true one two h k = h
 chosen_wanted false one two h k = k
 
 pub unit_place-forward : {E : Type 0} (beginning : List (Item E) → List ReadLine → Place (FileUnit E))
     → ((items : List (Item E)) → IsSteady (beginning items))
-    → ((items : List (Item E)) → beginning items [] ≡ Wanted) → IsReadForward (unit_place beginning)
+    → ((items : List (Item E)) → beginning items [] ≡ NeedsMore) → IsReadForward (unit_place beginning)
 unit_place-forward beginning steady wants = search (chosen_steady, steady-first_line, chosen_wanted)
 
 pub rinex-forward : IsReadForward rinex_place

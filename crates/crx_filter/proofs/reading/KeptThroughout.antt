@@ -1,6 +1,6 @@
 -- What each step of a reading keeps holds of all that it has accepted.
 use Rattle.crx_filter.proofs.Words.{ℕ, zero, suc, ◌≡◌, ◌+◌, max, Bool, true, List, [], ◌∷◌, drop, ReadLine}
-use Rattle.crx_filter.proofs.Words.{At, Place, Here, FileUnit, Item, Accepted, Warned, Reading, is_skipped}
+use Rattle.crx_filter.proofs.Words.{At, Place, Done, FileUnit, Item, Accepted, Warned, Reading, is_skipped}
 use Rattle.crx_filter.proofs.Words.{can_go_on, looked_for, after_fault, reading_within, by_bool}
 use Rattle.crx_filter.proofs.reading.Resuming.{by_place, within-here, within-wrong, within-wanted}
 
@@ -9,7 +9,7 @@ module _ {E : Type 0} (place : List (Item E) → List ReadLine → Place (FileUn
   -- what holds of the items so far and of the lines from there on, after each step too
   pub record IsKept : Type 0 where
     pub here : (items : List (Item E)) (lines : List ReadLine) (unit : FileUnit E) (count : ℕ) → place
-        items lines ≡ Here unit count → Keeps items lines → Keeps (Accepted unit ∷ items) (drop count lines)
+        items lines ≡ Done unit count → Keeps items lines → Keeps (Accepted unit ∷ items) (drop count lines)
     pub warned : (items : List (Item E)) (lines : List ReadLine) (at : At)
         → is_skipped skip items at.fault ≡ true → Keeps items lines → Keeps (Warned at ∷ items) lines
     pub passed : (items : List (Item E)) (lines : List ReadLine) (n : ℕ)

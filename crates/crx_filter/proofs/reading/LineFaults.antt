@@ -1,15 +1,15 @@
 -- The faults that a reading finds are those of lines, or of the end of the input.
 use Rattle.crx_filter.proofs.Words
-use Words.{common_steps, arith, [], ℕ, ℤ, zero, suc, ◌≡◌, ◌∷◌, Bool, true, List, Option, Some, None}
-use Words.{Result, Ok, Err, refl, ⊤, ◌==◌, ◌&&◌, not, list_all, bytes_eq, columns, character_at, is_blank}
-use Words.{clock_of, ReadLine, HEAD_WIDTH, Fault, MissingVersion, is_kept, HeadLine, is_event_flag}
-use Words.{records_in, epoch_count, begins_epoch, event_head, epoch_head, head_of, OpenEpoch, Beginning}
-use Words.{with_next_row, next_row, rows_at, begun_by, beginning_of, unit_begun}
-use Words.{epoch_place, has_satellite, Epoch, Count, Place, first_line, FileUnit}
-use Words.{ReadEpoch, epoch_at, RawEpoch, CRINEX_PROGRAM_LABEL, Item, is_at_start, records_count_types}
-use Words.{unless_wrong, types_fault, header_line, event_record, unit_place, rinex_place, compact_epoch_place}
-use Words.{compact_place, crinex_version, crinex_program, first_lines, is_of_lines, nat_lt, Content, Overlong}
-use Words.{is_event_line, event_line, as_observation, header_has_ended, records_left, one_line}
+use Words.{common_steps, arith, [], ℕ, zero, suc, ◌≡◌, ◌∷◌, Bool, true, List, Option, Some, None, Result, Ok}
+use Words.{Err, refl, ⊤, ◌==◌, ◌&&◌, not, list_all, bytes_eq, columns, character_at, is_blank, clock_of}
+use Words.{ReadLine, HEAD_WIDTH, Fault, MissingVersion, HeadLine, is_event_flag, records_in, epoch_count}
+use Words.{begins_epoch, event_head, epoch_head, head_of, OpenEpoch, Beginning, with_next_row, next_row}
+use Words.{rows_at, begun_by, beginning_of, unit_begun, epoch_place, has_satellite, Epoch, Count, Place}
+use Words.{first_line, FileUnit, ReadEpoch, epoch_at, RawEpoch, CRINEX_PROGRAM_LABEL, Item, is_at_start}
+use Words.{records_count_types, unless_wrong, types_fault, header_line, event_record, unit_place, rinex_place}
+use Words.{compact_epoch_place, compact_place, crinex_version, crinex_program, first_lines, is_of_lines}
+use Words.{nat_lt, Content, Overlong, is_event_line, event_line, as_observation, header_has_ended}
+use Words.{records_left, one_line}
 use Rattle.crx_filter.proofs.reading.{WhatStands.chosen, EpochFaults.{FaultsPass, FaultsPassAt, place-then}}
 use Rattle.crx_filter.proofs.reading.EpochFaults.{place-first, IsSkippableAt, epoch-skippable}
 use Rattle.crx_filter.{proofs.reading.EpochFaults.place-observation, specs.meaning.UnitPlaces.first_fault}

@@ -2,9 +2,9 @@
 use Rattle.crx_filter.{specs.Laws.IsResumed, proofs.Words.{common_steps, ℕ, zero, suc, ◌≡◌, ◌+◌, max, ◌<◌}}
 use Rattle.crx_filter.proofs.Words.{◌≤◌, Bool, true, false, List, [], ◌∷◌, ◌++◌, length, drop, refl, arith}
 use Rattle.crx_filter.proofs.Words.{length-append, drop-append-le, length-drop, ReadLine, Fault, At, Place}
-use Rattle.crx_filter.proofs.Words.{Here, Wrong, Wanted, FileUnit, Item, Accepted, Warned, Reading, AtFault}
-use Rattle.crx_filter.proofs.Words.{AtLines, is_skipped, can_go_on, looked_for, after_fault, reading_within}
-use Rattle.crx_filter.proofs.Words.{reading_from, continued_reading, IsReadForward, by_bool}
+use Rattle.crx_filter.proofs.Words.{Done, Fails, NeedsMore, FileUnit, Item, Accepted, Warned, Reading}
+use Rattle.crx_filter.proofs.Words.{AtFault, AtLines, is_skipped, can_go_on, looked_for, after_fault}
+use Rattle.crx_filter.proofs.Words.{reading_within, reading_from, continued_reading, IsReadForward, by_bool}
 
 -- ---- what is at a place
 
@@ -12,21 +12,21 @@ module _ {E : Type 0} (place : List (Item E) → List ReadLine → Place (FileUn
     (items : List (Item E)) (lines : List ReadLine) where
   -- a thing has at least one line, and its lines are among those there
   pub here-within : (unit : FileUnit E) (count : ℕ)
-      → place items lines ≡ Here unit count → (0 < count) × (count ≤ length lines)
+      → place items lines ≡ Done unit count → (0 < count) × (count ≤ length lines)
   here-within unit count e =
       (rw e at (rw (h.wants items) at (h.steady items [] lines)), (rw e at (h.steady items lines [])).0)
 
   pub wrong-within : (offset : ℕ) (fault : Fault)
-      → place items lines ≡ Wrong offset fault → offset < length lines
+      → place items lines ≡ Fails offset fault → offset < length lines
   wrong-within offset fault e = (rw e at (h.steady items lines [])).0
 
   -- it stays when more lines come
   pub here-stays : (more : List ReadLine) (unit : FileUnit E) (count : ℕ)
-      → place items lines ≡ Here unit count → place items (lines ++ more) ≡ Here unit count
+      → place items lines ≡ Done unit count → place items (lines ++ more) ≡ Done unit count
   here-stays more unit count e = (rw e at (h.steady items lines more)).1
 
   pub wrong-stays : (more : List ReadLine) (offset : ℕ) (fault : Fault)
-      → place items lines ≡ Wrong offset fault → place items (lines ++ more) ≡ Wrong offset fault
+      → place items lines ≡ Fails offset fault → place items (lines ++ more) ≡ Fails offset fault
   wrong-stays more offset fault e = (rw e at (h.steady items lines more)).1
 
 -- ---- one unit of a reading
@@ -34,16 +34,16 @@ module _ {E : Type 0} (place : List (Item E) → List ReadLine → Place (FileUn
 module _ {E : Type 0} (place : List (Item E) → List ReadLine → Place (FileUnit E)) (skip : Bool) (units : ℕ)
     (items : List (Item E)) (number : ℕ) (lines : List ReadLine) where
   pub within-here : (unit : FileUnit E) (count : ℕ)
-      → place items lines ≡ Here unit count → reading_within place skip (suc units) items number lines
+      → place items lines ≡ Done unit count → reading_within place skip (suc units) items number lines
       ≡ reading_within place skip units (Accepted unit ∷ items) (number + count) (drop count lines)
   within-here unit count e = rw (e, reading_within) refl
 
   pub within-wrong : (offset : ℕ) (fault : Fault)
-      → place items lines ≡ Wrong offset fault → reading_within place skip (suc units) items number lines
+      → place items lines ≡ Fails offset fault → reading_within place skip (suc units) items number lines
       ≡ after_fault skip (reading_within place skip units) items number lines offset fault
   within-wrong offset fault e = rw (e, reading_within) refl
 
-  pub within-wanted : place items lines ≡ Wanted → reading_within place skip (suc units) items number lines
+  pub within-wanted : place items lines ≡ NeedsMore → reading_within place skip (suc units) items number lines
       ≡ record { items = items; stop = AtLines number lines }
   within-wanted e = rw (e, reading_within) refl
 
@@ -71,8 +71,8 @@ module _ {E : Type 0} (read : ℕ → List ReadLine → Reading E) (items : List
       → looked_for read items number (line ∷ lines) ≡ looked_for read items (number + 1) lines
   looked-on e = rw (e, looked_for) refl
 
-pub by_place : {Y X : Type 0} (p : Place Y) → ((x : Y) (count : ℕ) → p ≡ Here x count → X)
-    → ((offset : ℕ) (fault : Fault) → p ≡ Wrong offset fault → X) → (p ≡ Wanted → X) → X
+pub by_place : {Y X : Type 0} (p : Place Y) → ((x : Y) (count : ℕ) → p ≡ Done x count → X)
+    → ((offset : ℕ) (fault : Fault) → p ≡ Fails offset fault → X) → (p ≡ NeedsMore → X) → X
 by_place p here wrong wanted = grind (arith, common_steps)
 
 -- ---- the bound on units doesn't matter where it is high enough

@@ -4,14 +4,14 @@ use Words.{common_steps, [], ℕ, zero, suc, ◌≡◌, nat_lt, rules, ◌<◌, 
 use Words.{Option, Some, None, Result, Ok, Err, refl, ap, arith, ⊤, is_some, character_at, ReadLine, Content}
 use Words.{Overlong, Fault, BadEpoch, LineTooLong, is_event_line, records_in, event_head, epoch_head, Count}
 use Words.{Beginning, EventBegins, EpochBegins, opened, begun_by, beginning_of, rest_at, unit_begun}
-use Words.{epoch_place, Epoch, Place, Here, Wrong, Wanted, after_lines, then_place, one_line, first_line}
+use Words.{epoch_place, Epoch, Place, Done, Fails, NeedsMore, after_lines, then_place, one_line, first_line}
 use Words.{FileUnit, HeaderLine, EventLine, EventRecord, Observation, ReadEpoch, epoch_at, RawEpoch, Item}
 use Words.{is_at_start, header_has_ended, records_left, records_count_types, unless_wrong, types_fault}
 use Words.{header_line_fault, unit_place, event_line, as_observation, compact_epoch_place, by_bool}
 
 -- what holds of a thing that is somewhere
 abbrev pub OfHere : {X : Type 0} → (X → Type 0) → Place X → Type 0
-OfHere P (Here x count) = P x
+OfHere P (Done x count) = P x
 OfHere P p = ⊤
 
 -- one of two things is chosen, and what holds of both holds of it
@@ -38,21 +38,21 @@ line-begun line = grind (arith, common_steps, event-begun, epoch-begun)
 
 -- ---- what holds wherever a unit may be
 
-module _ {E : Type 0} (P : Place (FileUnit E) → Type 0) (wanted : P Wanted)
-    (wrong : (offset : ℕ) (fault : Fault) → P (Wrong offset fault)) where
+module _ {E : Type 0} (P : Place (FileUnit E) → Type 0) (wanted : P NeedsMore)
+    (wrong : (offset : ℕ) (fault : Fault) → P (Fails offset fault)) where
   -- a line that is copied, unless something is wrong with it
   copied-line : (unit : List ℕ → FileUnit E) (fault_in : List ℕ → Option Fault) (lines : List ReadLine)
       → ((line : List ℕ) (rest : List ReadLine) → lines ≡ Content line ∷ rest → fault_in line ≡ None
-      → P (Here (unit line) 1)) → P (first_line lines (λ line. unless_wrong (unit line) (fault_in line)))
+      → P (Done (unit line) 1)) → P (first_line lines (λ line. unless_wrong (unit line) (fault_in line)))
   copied-line unit fault_in lines h = grind (arith, common_steps)
 
   -- a header line, an event's record, or what may begin there
   pub of-unit : (beginning : List (Item E) → List ReadLine → Place (FileUnit E)) (items : List (Item E))
       (lines : List ReadLine) → ((line : List ℕ) (rest : List ReadLine) → lines ≡ Content line ∷ rest
       → header_has_ended items ≡ false → header_line_fault (is_at_start items) line ≡ None → P
-      (Here (HeaderLine line) 1)) → ((line : List ℕ) (rest : List ReadLine) → lines ≡ Content line ∷ rest
+      (Done (HeaderLine line) 1)) → ((line : List ℕ) (rest : List ReadLine) → lines ≡ Content line ∷ rest
       → header_has_ended items ≡ true → 0 < records_left items → cond (records_count_types items)
-      (types_fault line) None ≡ None → P (Here (EventRecord line) 1)) → (header_has_ended items ≡ true
+      (types_fault line) None ≡ None → P (Done (EventRecord line) 1)) → (header_has_ended items ≡ true
       → records_left items ≡ 0 → P (beginning items lines)) → P (unit_place beginning items lines)
   of-unit beginning items lines header copied begun = by_bool (header_has_ended items)
       (λ on. body on (records_left items) refl) (λ off. rw off (copied-line HeaderLine
@@ -67,24 +67,24 @@ module _ {E : Type 0} (P : Place (FileUnit E) → Type 0) (wanted : P Wanted)
           (λ line. cond (records_count_types items) (types_fault line) None) lines
           (λ line rest is. copied line rest is on (omega (arith, some))))
 
-  observed : (p : Place E) → ((epoch : E) (count : ℕ) → p ≡ Here epoch count
-      → P (Here (Observation epoch) count)) → P (as_observation p)
+  observed : (p : Place E) → ((epoch : E) (count : ℕ) → p ≡ Done epoch count
+      → P (Done (Observation epoch) count)) → P (as_observation p)
   observed p h = grind (arith, common_steps)
 
 -- where an epoch or an event of RINEX may begin
-module _ (P : Place (FileUnit Epoch) → Type 0) (wanted : P Wanted)
-    (wrong : (offset : ℕ) (fault : Fault) → P (Wrong offset fault)) where
+module _ (P : Place (FileUnit Epoch) → Type 0) (wanted : P NeedsMore)
+    (wrong : (offset : ℕ) (fault : Fault) → P (Fails offset fault)) where
   pub of-rinex : (types : List Count) (lines : List ReadLine) → ((line : List ℕ) (rest : List ReadLine)
       → lines ≡ Content line ∷ rest → is_event_line line ≡ true → is_some (records_in line) ≡ true → P
-      (Here (EventLine line) 1)) → ((epoch : Epoch) (count : ℕ) → epoch_place types lines ≡ Here
-      (Observation epoch) count → P (Here (Observation epoch) count)) → P (epoch_place types lines)
+      (Done (EventLine line) 1)) → ((epoch : Epoch) (count : ℕ) → epoch_place types lines ≡ Done
+      (Observation epoch) count → P (Done (Observation epoch) count)) → P (epoch_place types lines)
   of-rinex types [] event epoch = wanted
   of-rinex types (Overlong ∷ lines) event epoch = wrong 0 LineTooLong
   of-rinex types (Content line ∷ lines) event epoch = by_beginning (beginning_of line) refl (line-begun line)
     where
       by_rest : (head : _) → beginning_of line ≡ Ok (EpochBegins head) → (p : Place Epoch)
           → rest_at (opened types head) lines ≡ p
-          → P (after_lines 1 (then_place p lines (λ (e : Epoch) rest. Here (Observation e) 0)))
+          → P (after_lines 1 (then_place p lines (λ (e : Epoch) rest. Done (Observation e) 0)))
       by_rest head e h f = grind (arith, common_steps)
 
       by_beginning : (r : Result Beginning Fault) → beginning_of line ≡ r → IsBeginning line r
@@ -94,12 +94,12 @@ module _ (P : Place (FileUnit Epoch) → Type 0) (wanted : P Wanted)
       by_beginning (Ok (EpochBegins head)) e h = by_rest head e (rest_at (opened types head) lines) refl
 
 -- where an epoch or an event of compact text may begin
-module _ (P : Place (FileUnit ReadEpoch) → Type 0) (wanted : P Wanted)
-    (wrong : (offset : ℕ) (fault : Fault) → P (Wrong offset fault)) where
+module _ (P : Place (FileUnit ReadEpoch) → Type 0) (wanted : P NeedsMore)
+    (wrong : (offset : ℕ) (fault : Fault) → P (Fails offset fault)) where
   pub of-compact : (types : List Count) (raws : List RawEpoch) (lines : List ReadLine) → ((line : List ℕ)
       (rest : List ReadLine) → lines ≡ Content line ∷ rest → is_event_line line ≡ true → is_some (records_in
-      line) ≡ true → P (Here (EventLine line) 1)) → ((read : ReadEpoch) (count : ℕ) → epoch_at types raws
-      lines ≡ Here read count → P (Here (Observation read) count)) → P (compact_epoch_place types raws lines)
+      line) ≡ true → P (Done (EventLine line) 1)) → ((read : ReadEpoch) (count : ℕ) → epoch_at types raws
+      lines ≡ Done read count → P (Done (Observation read) count)) → P (compact_epoch_place types raws lines)
   of-compact types raws [] event read = wanted
   of-compact types raws (Overlong ∷ lines) event read = observed P wanted wrong _ read
   of-compact types raws (Content line ∷ lines) event read = by_bool (is_event_line line)

@@ -1,11 +1,11 @@
 -- The end of the input, as a check takes it; and which files it names as standard.
 use Rattle.crx_filter.proofs.Words
 use Words.{common_steps, arith, ℕ, ◌≡◌, false, List, [], ◌∷◌, ◌++◌, map, length, Option, Some, None, refl, ap}
-use Words.{sym, append-nil, none-some, InputLine, ReadLine, seen, Fault, Count, Epoch, HeaderLine, OpenEpoch}
-use Words.{Item, Accepted, Warned, is_at_start, Reading, WholeReading, fault_at_end, ended_with, whole_rinex}
-use Words.{rinex_reading, Phase, InEpoch, kept_in, seen_end, AreInPlace, failed_by, printed_items}
-use Words.{whole_reading_of, Totals, checking, printed_open, no_choices}
-use Rattle.crx_filter.proofs.following.{Check.check-end, CheckedOn.{same-seen, as-many}, Following.seen_in}
+use Words.{sym, append-nil, none-some, InputLine, ReadLine, as_read, Fault, Count, Epoch, HeaderLine}
+use Words.{OpenEpoch, Item, Accepted, Warned, is_at_start, Reading, WholeReading, fault_at_end, ended_with}
+use Words.{whole_rinex, rinex_reading, Phase, InEpoch, kept_in, state_end, AreInPlace, failed_by}
+use Words.{printed_items, whole_reading_of, Totals, checking, printed_open, no_choices}
+use Rattle.crx_filter.proofs.following.{Check.check-end, CheckedOn.{same-state, as-many}, Following.state_in}
 use Rattle.crx_filter.proofs.reading.{InPlace.items-in_place, WhatWasRead.items-read}
 use Rattle.crx_filter.{proofs.wayback.Carried.started, specs.CheckByLine.version_accepted}
 use Rattle.crx_filter.specs.{CheckingLaws.IsCheckEnded, meaning.Standard.{first_header_line, version_in}}
@@ -23,7 +23,7 @@ whole-items lines = grind (arith, common_steps, rinex_reading, at-end, fault_at_
 
 -- and no epoch is open
 none-open : (number : ℕ) (phase : Phase OpenEpoch) (types : List Count) (kept : Totals) → failed_by
-    (seen_end checking (seen_in no_choices number phase types kept)).answer ≡ None → printed_open phase ≡ []
+    (state_end checking (state_in no_choices number phase types kept)).answer ≡ None → printed_open phase ≡ []
 none-open number (InEpoch so_far) types kept e = absurd (none-some _ (sym e))
 none-open number phase types kept e = refl
 
@@ -73,12 +73,12 @@ pub check-ended : (lines : List InputLine) → IsCheckEnded lines
 check-ended lines = grind (
   arith,
   common_steps,
-  whole-items (map seen lines),
-  (check-end (map seen lines)).failed,
-  same-seen lines,
+  whole-items (map as_read lines),
+  (check-end (map as_read lines)).failed,
+  same-state lines,
   none-open,
   kept-always,
-  version-same (map seen lines),
+  version-same (map as_read lines),
   append-nil,
 )
 

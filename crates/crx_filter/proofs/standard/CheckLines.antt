@@ -8,7 +8,7 @@ use Words.{Looking, reading_within, rinex_place, rinex_reading, made_of_epoch_st
 use Words.{rinex_open, Phase, InFirstLines, InHeader, BetweenUnits, InEvent, InEpoch, LookingOn, Closed, Made}
 use Words.{Step, made_of_unit, made_in, with_records_left, step_of_made, phase_in_body, phase_of, failed_by}
 use Words.{Totals, checking, printed_open, printed_made, no_choices}
-use Rattle.crx_filter.proofs.{Checkers.last-of, following.Following.seen_in}
+use Rattle.crx_filter.proofs.{Checkers.last-of, following.Following.state_in}
 use Rattle.crx_filter.proofs.reading.Resuming.{by_place, within-here, within-wrong, within-wanted}
 use Rattle.crx_rinex.specs.meaning.Printing.{printed_head}
 
@@ -60,7 +60,7 @@ row-printed so_far row =
 abbrev pub Grows : ℕ → Phase OpenEpoch → List Count → Totals → ReadLine → Made Epoch OpenEpoch → Type 0
 Grows number phase types kept line made =
     let step : Step OpenEpoch Totals = step_of_made checking
-    (seen_in no_choices number phase types kept) line made in
+    (state_in no_choices number phase types kept) line made in
     failed_by step.answer ≡ None → step.handed_out ++ printed_open step.next.phase
     ≡ printed_open phase ++ last_line (printed_made made) ∷ []
 

@@ -1,23 +1,23 @@
 -- A checker takes a line, by what its reader makes of it.
 use Rattle.crx_filter.proofs
 use proofs.Words.{common_steps, arith, ℕ, ◌≡◌, ◌+◌, true, false, List, [], Option, None, refl, ap, sym, subst}
-use proofs.Words.{◌∙◌, InputLine, is_long, ReadLine, Content, seen, Fault, OpenEpoch, ObservationEpoch, Count}
-use proofs.Words.{last_line, compaction, with_next, Phase, InFirstLines, Seen, Made, Moves, made_in}
-use proofs.Words.{step_of_made, epoch_by_rows, reader_phase, made_at, TakesRinexLine, is_standard_line}
-use proofs.Words.{Totals, checking, printed_made, earliest, CheckSeen, no_choices, check_seen}
-use proofs.Words.{checker_state_with, Held, RinexReader, RinexStep, false-true, first_not_standard}
-use proofs.Words.{printed_so_far, Stage, seen_stage, epoch_open, ◌≤◌, is_open_stage, is_row, drop}
-use proofs.Words.{Row as ObservationRow, Ok, Err, IsSameReader, Choices, length-drop, check_by_line}
-use proofs.Words.{check_reading, map, length, false≢true}
+use proofs.Words.{◌∙◌, InputLine, is_long, ReadLine, Content, as_read, Fault, OpenEpoch, ObservationEpoch}
+use proofs.Words.{Count, last_line, compaction, with_next, Phase, InFirstLines, RunState, Made, Moves}
+use proofs.Words.{made_in, step_of_made, epoch_by_rows, reader_phase, made_at, TakesRinexLine}
+use proofs.Words.{is_standard_line, Totals, checking, printed_made, earliest, CheckState, no_choices}
+use proofs.Words.{check_state, checker_state_with, Held, RinexReader, RinexStep, false-true}
+use proofs.Words.{first_not_standard, printed_so_far, Stage, phase_of_stage, epoch_open, ◌≤◌, is_open_stage}
+use proofs.Words.{is_row, drop, Row as ObservationRow, Ok, Err, IsSameReader, Choices, length-drop}
+use proofs.Words.{check_by_line, check_reading, map, length, false≢true}
 use Rattle.crx_filter.specs.{CheckByLine.totals_made, CheckingParts.{AreNamed, is_reading}}
 use Rattle.crx_filter.specs.{CompactionByLine.is_before_header, DirectionParts.{DirectionParts, Reads}}
-use Rattle.crx_filter.specs.{LineByLine.Quiet as SeenQuiet, RinexReaders.RefusesRinexLine, Stages.is_ended}
+use Rattle.crx_filter.specs.{LineByLine.Quiet as LineQuiet, RinexReaders.RefusesRinexLine, Stages.is_ended}
 use Rattle.crx_filter.specs.{Stages.is_passing, Totals.{IsBehindARow, IsCounting, totals_held, HasPrinted}}
 use Rattle.crx_filter.specs.meaning.{Directions.fault_so_far, Standard.{Findings, report_lines}}
 use Rattle.std.proofs.lemmas.List.{drop_all}
-use proofs.following.{CheckGoes.{made-alike, made-quiet}, CheckedOn.{checked-on, same-seen}}
-use proofs.{following.Following.seen_in, standard.CheckEnded.kept-always}
-use proofs.{standard.CheckLines.{IsReached, Grows, line-grows, phase-reached}, steps.EngineAnswers.seen-short}
+use proofs.following.{CheckGoes.{made-alike, made-quiet}, CheckedOn.{checked-on, same-state}}
+use proofs.{following.Following.state_in, standard.CheckEnded.kept-always}
+use proofs.{standard.CheckLines.{IsReached, Grows, line-grows, phase-reached}, steps.EngineAnswers.as-read-short}
 
 -- what a reader's line makes, where nothing is kept of the epochs
 abbrev made_there : RinexReader → List ℕ → Made ObservationEpoch OpenEpoch
@@ -43,11 +43,11 @@ made-same phase types kept line = refl
 abbrev StepsTo : Choices → ℕ → Totals → ReadLine → RinexReader → RinexReader → Made ObservationEpoch OpenEpoch
     → Type 0
 StepsTo choices number totals line before after made =
-    step_of_made check_by_line (seen_in choices number (reader_phase before) before.types totals) line made
+    step_of_made check_by_line (state_in choices number (reader_phase before) before.types totals) line made
     ≡ record {
-      answer = SeenQuiet;
+      answer = LineQuiet;
       handed_out = [];
-      next = seen_in choices (number + 1) (reader_phase after) after.types
+      next = state_in choices (number + 1) (reader_phase after) after.types
           (totals_made totals (is_before_header (reader_phase before)) made);
     }
 
@@ -55,7 +55,7 @@ steps-to : (choices : Choices) (number : ℕ) (totals : Totals) (line : ReadLine
     (before after : RinexReader) (made : Made ObservationEpoch OpenEpoch) (step : RinexStep)
     → TakesRinexLine made before content step after → StepsTo choices number totals line before after made
 steps-to choices number totals line content before after made step h =
-    grind (arith, common_steps, seen_in, reader_phase, kept-always, epoch_by_rows)
+    grind (arith, common_steps, state_in, reader_phase, kept-always, epoch_by_rows)
 
 -- ---- lines can come on
 
@@ -83,18 +83,18 @@ pub took-line : (before after : RinexReader) (number : ℕ) (totals then : Held)
     (line : InputLine) (step : RinexStep) (lines : List InputLine) → is_long line ≡ false
     → IsTaken before line.content step after → AreTotals before line.content totals then
     → named_then ≡ earliest named (is_standard_line line (last_line (printed_made (made_there before
-    line.content)))) (number + 1) → checker_state_with before number totals named ≡ check_seen lines
+    line.content)))) (number + 1) → checker_state_with before number totals named ≡ check_state lines
     → (fault_so_far (with_next lines line) ≡ None) × (checker_state_with after (number + 1) then named_then
-    ≡ check_seen (with_next lines line))
+    ≡ check_state (with_next lines line))
 took-line before after number totals then named named_then line step lines short takes totals_then named_is
     same = grind (
       arith,
       common_steps,
-      seen-short line short,
+      as-read-short line short,
       made-same (reader_phase before) before.types (totals_held totals) (Content line.content),
-      steps-to no_choices number (totals_held totals) (seen line) line.content before after
+      steps-to no_choices number (totals_held totals) (as_read line) line.content before after
           (made_there before line.content) step takes,
-      made-quiet number (reader_phase before) before.types (totals_held totals) (seen line)
+      made-quiet number (reader_phase before) before.types (totals_held totals) (as_read line)
           (made_there before line.content),
       (checked-on lines line).fault,
       (checked-on lines line).next,
@@ -132,25 +132,25 @@ module _ (serves : Choices → Type 0) (before after : RinexReader) (totals : He
 -- ---- what a check knows
 
 -- it reads on where no fault has ended it
-pub reads-on : (begun : Option OpenEpoch) (stage : Stage) → IsReached (seen_stage begun stage)
-    → is_ended stage ≡ false → is_reading (seen_stage begun stage) ≡ true
+pub reads-on : (begun : Option OpenEpoch) (stage : Stage) → IsReached (phase_of_stage begun stage)
+    → is_ended stage ≡ false → is_reading (phase_of_stage begun stage) ≡ true
 reads-on begun stage reached running = grind (arith, common_steps, false≢true)
 
 -- and passes nothing over
 pub passes-nothing : {X : Type 0} (begun : Option OpenEpoch) (stage : Stage)
-    → IsReached (seen_stage begun stage) → is_passing stage ≡ true → X
+    → IsReached (phase_of_stage begun stage) → is_passing stage ≡ true → X
 passes-nothing begun stage reached passing = grind (arith, common_steps, false≢true)
 
 module _ (choices : Choices) (before : RinexReader) (totals : Held) (lines : List InputLine)
-    (taken : no_choices ≡ choices) (is : seen_in choices (length lines) (reader_phase before) before.types
-    (totals_held totals) ≡ check_reading (map seen lines)) where
+    (taken : no_choices ≡ choices) (is : state_in choices (length lines) (reader_phase before) before.types
+    (totals_held totals) ≡ check_reading (map as_read lines)) where
   pub has-reached : IsReached (reader_phase before)
-  has-reached = subst IsReached (sym (ap (λ (s : Seen OpenEpoch Totals). s.phase) is))
-      (phase-reached (map seen lines))
+  has-reached = subst IsReached (sym (ap (λ (s : RunState OpenEpoch Totals). s.phase) is))
+      (phase-reached (map as_read lines))
 
   module _ (named : Option ℕ) (named_is : named ≡ first_not_standard 1 lines (printed_so_far lines)) where
-    pub seen-there : checker_state_with before (length lines) totals named ≡ check_seen lines
-    seen-there = grind (arith, common_steps, seen_in, same-seen)
+    pub state-there : checker_state_with before (length lines) totals named ≡ check_state lines
+    state-there = grind (arith, common_steps, state_in, same-state)
 
     pub noted-next : (after : RinexReader) (then : Held) (named_then : Option ℕ) (line : InputLine)
         (step : RinexStep) (number : ℕ) → is_ended before.stage ≡ false → is_long line ≡ false
@@ -160,11 +160,11 @@ module _ (choices : Choices) (before : RinexReader) (totals : Held) (lines : Lis
         → named_then ≡ first_not_standard 1 (with_next lines line) (printed_so_far (with_next lines line))
     noted-next after then named_then line step number running short takes totals_then standard counted =
         let reading = reads-on (epoch_open before) before.stage has-reached running in
-        ap (λ (c : CheckSeen). c.not_standard) (took-line before after (length lines) totals then named
+        ap (λ (c : CheckState). c.not_standard) (took-line before after (length lines) totals then named
         named_then line step lines short takes totals_then (standard (has-printed before line.content reading)
         ∙ ap (λ (n : ℕ). earliest named (is_standard_line line (last_line
         (printed_made (made_there before line.content)))) n) counted)
-        seen-there).1
+        state-there).1
 
 -- ---- names and counts
 

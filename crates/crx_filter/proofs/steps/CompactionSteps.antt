@@ -3,12 +3,12 @@ use Rattle.crx_filter.proofs.Words
 use Words.{common_steps, arith, ◌≡◌, ◌⊎◌, inl, inr, ℕ, ◌+◌, true, false, List, [], Some, None, Ok, Err, ◌++◌}
 use Words.{◌∷◌, refl, Fault, OutOfMemory, ObservationEpoch, Bool, OpenEpoch, EventLine, EventRecord}
 use Words.{HeaderLine, FileUnit, epoch_by_rows, Choices, Written, compact_written, compaction, written_kept}
-use Words.{Made, Completes, Moves, phase_after, types_after, seen_stage, epoch_open, is_row, made_at}
+use Words.{Made, Completes, Moves, phase_after, types_after, phase_of_stage, epoch_open, is_row, made_at}
 use Words.{Completed, CompletedEpoch, TakesRinexLine, is_open_stage, RinexStep, Nothing, Header, Begun}
 use Words.{MovesReader, is_at_every, lines_after_tail, tail_after, reader_phase, RinexReader, ObservationHead}
 use Rattle.crx_compact.specs.Encoding.{EncoderState, tail_in}
 use Rattle.crx_filter.specs.CompactionByLine.{is_before_header}
-use Rattle.crx_filter.specs.DirectionParts.{DirectionParts, Reads, RefusesLine, made_at_parts, seen_by}
+use Rattle.crx_filter.specs.DirectionParts.{DirectionParts, Reads, RefusesLine, made_at_parts, state_by}
 use Rattle.crx_filter.specs.{RinexReaders.RefusesRinexLine, Stages.is_ended}
 use Rattle.crx_header.specs.meaning.CompactHeader.{lines_before_header}
 
@@ -23,19 +23,19 @@ module _ {serves : Choices → Type 0} {before after : DirectionParts OpenEpoch 
   refused-reads refuses typed counted none = grind (arith, common_steps)
 
   -- nothing is to be written after it
-  pub moved-reads : made_at_parts compaction before line ≡ Moves (seen_stage after.begun after.stage)
+  pub moved-reads : made_at_parts compaction before line ≡ Moves (phase_of_stage after.begun after.stage)
       → after.types ≡ before.types → is_ended after.stage ≡ false → after.kept ≡ before.kept → ready ≡ []
       → Reads compaction serves before line (Ok false) ready after
-  moved-reads moved typed goes_on same none = grind (arith, common_steps, seen_stage)
+  moved-reads moved typed goes_on same none = grind (arith, common_steps, phase_of_stage)
 
   -- it completes a unit
   pub completed-reads : (unit : FileUnit ObservationEpoch) → made_at_parts compaction before line ≡ Completes
-      unit → seen_stage after.begun after.stage ≡ phase_after (seen_stage before.begun before.stage) unit
-      → after.types ≡ types_after (seen_stage before.begun before.stage) before.types unit
+      unit → phase_of_stage after.begun after.stage ≡ phase_after (phase_of_stage before.begun before.stage)
+      unit → after.types ≡ types_after (phase_of_stage before.begun before.stage) before.types unit
       → ((choices : Choices) (number : ℕ) → serves choices → (ready ≡ compact_written
-      (seen_by choices number before) unit) × (after.kept ≡ written_kept (seen_by choices number before)
+      (state_by choices number before) unit) × (after.kept ≡ written_kept (state_by choices number before)
       unit)) → Reads compaction serves before line (Ok true) ready after
-  completed-reads unit made phased typed written = grind (arith, common_steps, seen_stage)
+  completed-reads unit made phased typed written = grind (arith, common_steps, phase_of_stage)
 
 -- ---- a line's step, by the reader
 

@@ -3,14 +3,15 @@ use Rattle.crx_filter.proofs.Words
 use Rattle.crx_filter.specs
 use Words.{common_steps, arith, ◌≡◌, inl, inr, ℕ, ◌+◌, Bool, true, false, ◌&&◌, List, [], Option, Some, None}
 use Words.{Result, Ok, Err, refl, sym, ap, ◌∙◌, Content, Overlong, At, Fault, LineTooLong, Count, Choices}
-use Words.{Seen, Direction, Fails, made_in, SeenEnded, is_skipped_in, may_skip, is_skippable, failed_step}
-use Words.{step_of_made, seen_next, begins_epoch, step_made, Steps, is_held, seen_stage, Stage, false≢true}
-use Rattle.crx_filter.proofs.{Pending.seen_in, steps.EngineLemmas.{failed-at, fatal-counts, out-fatal}}
+use Words.{RunState, Direction, Rejects, made_in, RunEnded, is_skipped_in, may_skip, is_skippable}
+use Words.{failed_step, step_of_made, state_next, begins_epoch, step_made, Steps, is_held, phase_of_stage}
+use Words.{Stage, false≢true}
+use Rattle.crx_filter.proofs.{Pending.state_in, steps.EngineLemmas.{failed-at, fatal-counts, out-fatal}}
 use Rattle.crx_filter.proofs.steps.EngineLemmas.{no-skip, ran-out}
 use Rattle.crx_runs.specs.declared.engine.Step.{Step}
 use Rattle.{crx_runs.specs.declared.engine.Step.TheVariants.Warned, std.proofs.Common.{OnErr, IfErr, IfOk}}
-use specs.DirectionParts.{DirectionParts, seen_by, Reads, RefusesLine, AnswersToFault, TakesLine}
-use specs.{EngineSteps.answer_of_step, LineByLine.{end_step, answer_of_lines, fault_at_end_in, seen_end_with}}
+use specs.DirectionParts.{DirectionParts, state_by, Reads, RefusesLine, AnswersToFault, TakesLine}
+use specs.{EngineSteps.answer_of_step, LineByLine.{end_step, answer_of_lines, fault_at_end_in, state_end_with}}
 use specs.{Stages.{bare_phase, is_settled}, declared.stage.Stage.TheVariants.{Looking, Closed, Ended}}
 
 -- no fault is answered where one has ended the run, or after the end
@@ -32,7 +33,7 @@ notes-nothing P skip (Err error) on = tt
 
 module _ {U O K : Type 0} (direction : Direction U O K) where
   -- a fault that isn't skipped ends the run
-  fatal-answer : (before after : Seen O K) (line : List ℕ) (fault : Fault) (result : Result Step At)
+  fatal-answer : (before after : RunState O K) (line : List ℕ) (fault : Fault) (result : Result Step At)
       → step_made result [] after ≡ failed_step direction before (Content line) fault
       → is_skippable fault ≡ false → result ≡ Err (record { line = before.number + 1; fault = fault })
   fatal-answer before after line fault result step fatal =
@@ -41,11 +42,11 @@ module _ {U O K : Type 0} (direction : Direction U O K) where
   -- a line was refused: with its fault, or because memory ran out
   pub refused-line : (choices : Choices) (last : ℕ) (stage : Stage) (fault : Fault) (goes_on : Bool)
       (serves : Choices → Type 0) (before parts : DirectionParts O K) (line : List ℕ)
-      (result : Result Step At) (given ready : List (List ℕ)) (after : Seen O K) → AnswersToFault direction
-      choices (last + 1) stage fault goes_on parts result after → before.stage ≡ stage → is_held stage
-      before.begun ≡ true → begins_epoch line ≡ goes_on → Reads direction serves before line (Err fault) given
-      parts → ready ≡ [] → IfErr result (λ at. after.phase ≡ SeenEnded at) → after.choices ≡ choices
-      → TakesLine direction (seen_by choices last before) (Content line) result ready after
+      (result : Result Step At) (given ready : List (List ℕ)) (after : RunState O K) → AnswersToFault
+      direction choices (last + 1) stage fault goes_on parts result after → before.stage ≡ stage → is_held
+      stage before.begun ≡ true → begins_epoch line ≡ goes_on → Reads direction serves before line (Err fault)
+      given parts → ready ≡ [] → IfErr result (λ at. after.phase ≡ RunEnded at) → after.choices ≡ choices
+      → TakesLine direction (state_by choices last before) (Content line) result ready after
   refused-line choices last stage fault goes_on serves before parts line result given ready after fails was
       held goes reads drained ended chosen = record {
         steps = by-refusal reads.refuses;
@@ -55,7 +56,7 @@ module _ {U O K : Type 0} (direction : Direction U O K) where
       }
     where
       step : step_made result [] after
-          ≡ failed_step direction (seen_by choices last before) (Content line) fault
+          ≡ failed_step direction (state_by choices last before) (Content line) fault
       step = fails before (Content line) last (record {
         stage_was = was;
         held = held;
@@ -65,31 +66,31 @@ module _ {U O K : Type 0} (direction : Direction U O K) where
       }) refl
 
       by-refusal : RefusesLine direction before line fault
-          → Steps direction (seen_by choices last before) (Content line) result ready after
+          → Steps direction (state_by choices last before) (Content line) result ready after
       by-refusal (inl made) = inl (ap (λ (ls : List (List ℕ)). step_made result ls after) drained ∙ step
-          ∙ ap (step_of_made direction (seen_by choices last before) (Content line)) (sym made))
+          ∙ ap (step_of_made direction (state_by choices last before) (Content line)) (sym made))
       by-refusal (inr out) =
           let fatal = out-fatal fault out.0 in
-          inr (ran-out direction (seen_by choices last before) after (Content line) result fault out.0
-          (fatal-answer (seen_by choices last before) after line fault result step fatal) out.1
-          (fatal-counts direction (seen_by choices last before) after (Content line) fault result [] step
+          inr (ran-out direction (state_by choices last before) after (Content line) result fault out.0
+          (fatal-answer (state_by choices last before) after line fault result step fatal) out.1
+          (fatal-counts direction (state_by choices last before) after (Content line) fault result [] step
           fatal))
 
   -- a line that is too long is a fault wherever lines are read
-  made-too_long : ((types : List Count) (kept : K) → direction.begins types kept Overlong ≡ Fails LineTooLong)
-      → ((so_far : O) → direction.continues so_far Overlong ≡ Fails LineTooLong) → (stage : Stage)
-      (begun : Option O) (types : List Count) (kept : K) → is_held stage begun ≡ true → is_settled stage
-      ≡ false → made_in direction (seen_stage begun stage) types kept Overlong ≡ Fails LineTooLong
+  made-too_long : ((types : List Count) (kept : K) → direction.begins types kept Overlong ≡ Rejects
+      LineTooLong) → ((so_far : O) → direction.continues so_far Overlong ≡ Rejects LineTooLong) → (stage :
+      Stage) (begun : Option O) (types : List Count) (kept : K) → is_held stage begun ≡ true → is_settled
+      stage ≡ false → made_in direction (phase_of_stage begun stage) types kept Overlong ≡ Rejects LineTooLong
   made-too_long first next stage begun types kept held going = grind (arith, common_steps)
 
   -- a fault that is answered to one
-  pub long-failed : (first : (types : List Count) (kept : K) → direction.begins types kept Overlong ≡ Fails
-      LineTooLong) (next : (so_far : O) → direction.continues so_far Overlong ≡ Fails LineTooLong)
+  pub long-failed : (first : (types : List Count) (kept : K) → direction.begins types kept Overlong ≡ Rejects
+      LineTooLong) (next : (so_far : O) → direction.continues so_far Overlong ≡ Rejects LineTooLong)
       (choices : Choices) (last number : ℕ) (stage : Stage) (parts : DirectionParts O K)
-      (result : Result Step At) (after : Seen O K) → AnswersToFault direction choices number stage LineTooLong
-      false parts result after → number ≡ last + 1 → stage ≡ parts.stage → is_held stage parts.begun ≡ true
-      → is_settled stage ≡ false → step_made result [] after ≡ seen_next direction
-      (seen_by choices last parts) Overlong
+      (result : Result Step At) (after : RunState O K) → AnswersToFault direction choices number stage
+      LineTooLong false parts result after → number ≡ last + 1 → stage ≡ parts.stage → is_held stage
+      parts.begun ≡ true → is_settled stage ≡ false → step_made result [] after ≡ state_next direction
+      (state_by choices last parts) Overlong
   long-failed first next choices last number stage parts result after fails counted was held going =
       grind (
         arith,
@@ -103,8 +104,8 @@ module _ {U O K : Type 0} (direction : Direction U O K) where
   module _ (closing : List (List ℕ)) where
     pub by-stage : (choices : Choices) (number : ℕ) (stage : Stage) (begun : Option O) (types : List Count)
         (kept : K) → is_held stage begun ≡ true → ((at : At) → stage ≡ Ended at → ⊥)
-        → seen_end_with direction closing (seen_in choices number (seen_stage begun stage) types kept)
-        ≡ end_step direction closing (seen_in choices number (seen_stage begun stage) types kept)
+        → state_end_with direction closing (state_in choices number (phase_of_stage begun stage) types kept)
+        ≡ end_step direction closing (state_in choices number (phase_of_stage begun stage) types kept)
         (fault_at_end_in (bare_phase stage))
     by-stage choices number stage begun types kept held going = grind (arith, common_steps)
 
@@ -112,20 +113,20 @@ module _ {U O K : Type 0} (direction : Direction U O K) where
       (was : stage ≡ before.stage) (held : is_held stage before.begun ≡ true)
       (going : (at : At) → stage ≡ Ended at → ⊥) (typed : after.types ≡ before.types)
       (closing : List (List ℕ)) where
-    ends : seen_end_with direction closing (seen_by choices number before)
-        ≡ end_step direction closing (seen_by choices number before) (fault_at_end_in (bare_phase stage))
+    ends : state_end_with direction closing (state_by choices number before)
+        ≡ end_step direction closing (state_by choices number before) (fault_at_end_in (bare_phase stage))
     ends =
-        grind (arith, common_steps, by-stage, stage, is_held, end_step, seen_by, fault_at_end_in, bare_phase)
+        grind (arith, common_steps, by-stage, stage, is_held, end_step, state_by, fault_at_end_in, bare_phase)
 
     skips : (fault : Fault) (a b c : Bool) → a ≡ choices.skip → b ≡ may_skip (bare_phase stage)
-        → c ≡ is_skippable fault → is_skipped_in (seen_by choices number before) fault ≡ ((a && b) && c)
+        → c ≡ is_skippable fault → is_skipped_in (state_by choices number before) fault ≡ ((a && b) && c)
     skips fault a b c is-a is-b is-c = grind (arith, common_steps)
 
     -- a good end: what is answered is by the lines that are handed out
     pub ends-well : (result : Result Step At) (ready : List (List ℕ)) → answer_of_step result
         ≡ answer_of_lines closing → ready ≡ closing → after.stage ≡ Closed → after.kept ≡ before.kept
-        → fault_at_end_in (bare_phase stage) ≡ None → step_made result ready (seen_by choices number after)
-        ≡ seen_end_with direction closing (seen_by choices number before)
+        → fault_at_end_in (bare_phase stage) ≡ None → step_made result ready (state_by choices number after)
+        ≡ state_end_with direction closing (state_by choices number before)
     ends-well result ready answered handed_out staged kept none =
         rw (ends, none, staged, kept, typed, answered, handed_out) refl
 
@@ -134,10 +135,10 @@ module _ {U O K : Type 0} (direction : Direction U O K) where
         (kept : after.kept ≡ direction.emptied before.kept) where
       pub ends-skipped : after.stage ≡ Closed → ((a && b) && c) ≡ true
           → step_made (Ok (Warned (record { line = number + 1; fault = fault }) false)) []
-          (seen_by choices number after) ≡ seen_end_with direction closing (seen_by choices number before)
+          (state_by choices number after) ≡ state_end_with direction closing (state_by choices number before)
       ends-skipped staged on = grind (arith, common_steps, ends, skips)
 
       pub ends-failed : after.stage ≡ Ended (record { line = number + 1; fault = fault }) → ((a && b) && c)
           ≡ false → step_made (Err (record { line = number + 1; fault = fault })) []
-          (seen_by choices number after) ≡ seen_end_with direction closing (seen_by choices number before)
+          (state_by choices number after) ≡ state_end_with direction closing (state_by choices number before)
       ends-failed staged off = grind (arith, common_steps, ends, skips)

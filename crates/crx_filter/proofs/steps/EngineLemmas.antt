@@ -1,10 +1,10 @@
 -- Facts of an engine's steps in either direction: held epochs, faults that count, memory that ran out, a
 -- fault that is answered again.
 use Rattle.crx_filter.proofs.Words.{common_steps, arith, ◌≡◌, ℕ, ◌+◌, Bool, true, false, List, Result, Err}
-use Rattle.crx_filter.proofs.Words.{ap, ◌&&◌, ReadLine, At, Fault, OutOfMemory, SeenEnded, Seen, Direction}
+use Rattle.crx_filter.proofs.Words.{ap, ◌&&◌, ReadLine, At, Fault, OutOfMemory, RunEnded, RunState, Direction}
 use Rattle.crx_filter.proofs.Words.{Failed, may_skip, is_skipped_in, failed_step, takes_memory, is_skippable}
 use Rattle.crx_filter.{proofs.Words.{answer_of_step, step_made, Steps}, specs.EngineSteps.RanOut}
-use Rattle.{crx_filter.specs.LineByLine.seen_end_with, crx_runs.specs.declared.engine.Step.Step}
+use Rattle.{crx_filter.specs.LineByLine.state_end_with, crx_runs.specs.declared.engine.Step.Step}
 
 -- memory that ran out isn't skipped
 pub out-fatal : (fault : Fault) → fault ≡ OutOfMemory → is_skippable fault ≡ false
@@ -14,13 +14,14 @@ pub no-skip : (a b c : Bool) → c ≡ false → (a && (b && c)) ≡ false
 no-skip a b c e = grind (arith, common_steps)
 
 -- a line whose fault isn't skipped counts
-pub fatal-counts : {U O K : Type 0} (direction : Direction U O K) (before after : Seen O K) (line : ReadLine)
-    (fault : Fault) (result : Result Step At) (handed_out : List (List ℕ)) → step_made result handed_out after
-    ≡ failed_step direction before line fault → is_skippable fault ≡ false → after.number ≡ before.number + 1
+pub fatal-counts : {U O K : Type 0} (direction : Direction U O K) (before after : RunState O K) (line :
+    ReadLine) (fault : Fault) (result : Result Step At) (handed_out : List (List ℕ)) → step_made result
+    handed_out after ≡ failed_step direction before line fault → is_skippable fault ≡ false → after.number ≡
+    before.number + 1
 fatal-counts {O = O} {K = K} direction before after line fault result handed_out step fatal =
     grind (arith, common_steps, is_skipped_in, no-skip, may_skip, is_skippable, failed_step)
 
-pub ran-out : {U O K : Type 0} (direction : Direction U O K) (before after : Seen O K) (line : ReadLine)
+pub ran-out : {U O K : Type 0} (direction : Direction U O K) (before after : RunState O K) (line : ReadLine)
     (result : Result Step At) (fault : Fault) → fault ≡ OutOfMemory → result ≡ Err
     (record { line = before.number + 1; fault = fault }) → takes_memory direction before line ≡ true
     → after.number ≡ before.number + 1 → RanOut direction before line result after
@@ -33,12 +34,12 @@ pub failed-at : (r : Result Step At) (at : At) → answer_of_step r ≡ Failed a
 failed-at r at e = grind (arith, common_steps)
 
 pub repeats : {U O K : Type 0} (direction : Direction U O K)
-    (before after : Seen O K) (line : ReadLine) (ready : List (List ℕ)) (result : Result Step At) (at : At)
-    → Steps direction before line result ready after → before.phase ≡ SeenEnded at → result ≡ Err at
+    (before after : RunState O K) (line : ReadLine) (ready : List (List ℕ)) (result : Result Step At) (at :
+    At) → Steps direction before line result ready after → before.phase ≡ RunEnded at → result ≡ Err at
 repeats direction before after line ready result at known is = grind (arith, common_steps, failed-at)
 
-pub repeats-end : {U O K : Type 0} (direction : Direction U O K) (before after : Seen O K)
+pub repeats-end : {U O K : Type 0} (direction : Direction U O K) (before after : RunState O K)
     (closing ready : List (List ℕ)) (result : Result Step At) (at : At) → step_made result ready after
-    ≡ seen_end_with direction closing before → before.phase ≡ SeenEnded at → result ≡ Err at
+    ≡ state_end_with direction closing before → before.phase ≡ RunEnded at → result ≡ Err at
 repeats-end direction before after closing ready result at step is =
     grind (arith, common_steps, failed-at)

@@ -1,9 +1,9 @@
 -- How many lines have been taken after a step, and where lines are borrowed.
 use Rattle.crx_filter.proofs.Words.{common_steps, arith, ◌≡◌, inl, inr, ℕ, ◌+◌, true, false, List, [], Result}
 use Rattle.crx_filter.proofs.Words.{length, length-append, InputLine, sym, subst, ⊤, ReadLine, At, Direction}
-use Rattle.crx_filter.proofs.Words.{Seen, Made, Answer, Notice, Failed, SeenStep, made_in, step_of_made}
+use Rattle.crx_filter.proofs.Words.{RunState, Made, Answer, Notice, Failed, LineStep, made_in, step_of_made}
 use Rattle.crx_filter.proofs.{Words.{Steps, answer_of_step, step_made}, Pending.{quiet-end, quiet-next}}
-use Rattle.crx_filter.specs.{Laws.is_ready, LineByLine.seen_end_with}
+use Rattle.crx_filter.specs.{Laws.is_ready, LineByLine.state_end_with}
 use Rattle.crx_runs.specs.Engines.{Awaited, EngineAnswers, taken_after, IsDrainedAfter}
 use Rattle.{crx_runs.specs.{declared.engine.Step.Step, meaning.Filters.Filter}, std.proofs.Common.IfOk}
 
@@ -13,10 +13,10 @@ Counts before (Notice at true) after = after ≡ before
 Counts before (Failed at) after = ⊤
 Counts before answer after = after ≡ before + 1
 
-made-counts : {U O K : Type 0} (direction : Direction U O K) (seen : Seen O K) (line : ReadLine)
-    (made : Made U O) → Counts seen.number (step_of_made direction seen line made).answer
-    (step_of_made direction seen line made).next.number
-made-counts direction seen line made = grind (arith, common_steps)
+made-counts : {U O K : Type 0} (direction : Direction U O K) (state : RunState O K) (line : ReadLine)
+    (made : Made U O) → Counts state.number (step_of_made direction state line made).answer
+    (step_of_made direction state line made).next.number
+made-counts direction state line made = grind (arith, common_steps)
 
 counted-result : (before after : ℕ) (result : Result Step At) → Counts before (answer_of_step result) after
     → IfOk result (λ step. after ≡ taken_after step before)
@@ -28,12 +28,12 @@ drained-where : (ready : List (List ℕ)) (result : Result Step At) → (is_read
 drained-where ready result none = grind (arith, common_steps)
 
 module _ {U O K : Type 0} (direction : Direction U O K)
-    (before now : Seen O K) (line : ReadLine) (ready : List (List ℕ)) (result : Result Step At) where
+    (before now : RunState O K) (line : ReadLine) (ready : List (List ℕ)) (result : Result Step At) where
   -- how many lines were taken after a line
   pub steps-counted : Steps direction before line result ready now
       → IfOk result (λ s. now.number ≡ taken_after s before.number)
   steps-counted (inl step) = counted-result before.number now.number result
-      (subst (λ (s : SeenStep O K). Counts before.number s.answer s.next.number) (sym step)
+      (subst (λ (s : LineStep O K). Counts before.number s.answer s.next.number) (sym step)
       (made-counts direction before line (made_in direction before.phase before.types before.kept line)))
   steps-counted (inr out) = grind (arith, common_steps, taken_after)
 
@@ -54,7 +54,7 @@ answers-counted filter shows before after ready lines notices line result was co
 
 -- at the end, too, lines are borrowed only where they are said to be ready
 pub end-drained : {U O K : Type 0} (direction : Direction U O K) (closing ready : List (List ℕ))
-    (before now : Seen O K) (result : Result Step At)
-    → step_made result ready now ≡ seen_end_with direction closing before
+    (before now : RunState O K) (result : Result Step At)
+    → step_made result ready now ≡ state_end_with direction closing before
     → IfOk result (λ s. IsDrainedAfter s ready)
 end-drained direction closing ready before now result e = grind (arith, common_steps, quiet-end)

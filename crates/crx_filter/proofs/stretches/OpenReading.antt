@@ -4,7 +4,7 @@ use Rattle.crx_filter.proofs.Words
 use Words.{common_steps, ℕ, zero, suc, ◌≡◌, ◌+◌, ◌<◌, max, ◌⊎◌, inl, inr, true, false, List, [], ◌∷◌, ◌++◌}
 use Words.{length, drop, refl, ap, sym, ◌∙◌, subst, arith, append_assoc, ⊤, AllByRecursion, length-drop}
 use Words.{is_skippable, ReadLine, Content, Overlong, At, Fault, begins_epoch, is_event_line, BadEpoch}
-use Words.{announces_records, Option, None, is_some, Here, Wrong, Wanted, FileUnit, Observation, ReadEpoch}
+use Words.{announces_records, Option, None, is_some, Done, Fails, NeedsMore, FileUnit, Observation, ReadEpoch}
 use Words.{epoch_at, Item, Accepted, Warned, types_in_force, Reading, AtLines, Looking, can_go_on, looked_for}
 use Words.{reading_within, reading_from, raws_kept, compact_place, IsBetweenUnits, continued_reading, by_bool}
 use Rattle.crx_filter.proofs.damage.BlockReading.{place-between, place-inside, observation-here, skipped-here}
@@ -31,7 +31,7 @@ AreEpochs (Accepted unit ∷ before) = ⊥
 -- a reading has stopped where more lines could make an epoch, or looks for a line that begins with >
 abbrev pub IsOpen : List (Item ReadEpoch) → Reading ReadEpoch → Type 0
 IsOpen items r = ((number : ℕ) × (rest : List ReadLine) × AllByRecursion IsNoEvent rest
-    × (compact_place items rest ≡ Wanted) × (r ≡ record { items = items; stop = AtLines number rest }))
+    × (compact_place items rest ≡ NeedsMore) × (r ≡ record { items = items; stop = AtLines number rest }))
     ⊎ ((number : ℕ) × (r ≡ record { items = items; stop = Looking number }))
 
 pub record IsStretchRead (items : List (Item ReadEpoch)) (r : Reading ReadEpoch) : Type 0 where
@@ -77,18 +77,18 @@ no-records v1 e = grind (arith)
 -- an event's line without a count is a bad epoch line
 bad-event : (items : List (Item ReadEpoch)) (line : List ℕ) (lines : List ReadLine) → IsBetweenUnits items
     → announces_records line ≡ false → is_event_line line ≡ true
-    → compact_place items (Content line ∷ lines) ≡ Wrong 0 BadEpoch
+    → compact_place items (Content line ∷ lines) ≡ Fails 0 BadEpoch
 bad-event items line lines h text event = grind (arith, place-between, no-records)
 
 -- where more lines are wanted, the first one is no event's
 wanted-no_event : (items : List (Item ReadEpoch)) (line : List ℕ) (lines : List ReadLine)
     → IsBetweenUnits items → announces_records line ≡ false
-    → compact_place items (Content line ∷ lines) ≡ Wanted → is_event_line line ≡ false
+    → compact_place items (Content line ∷ lines) ≡ NeedsMore → is_event_line line ≡ false
 wanted-no_event items line lines h text e = grind (arith, common_steps, by_bool, bad-event)
 
 stretch-epoch : (items : List (Item ReadEpoch)) (lines : List ReadLine)
     (unit : FileUnit ReadEpoch) (count : ℕ) → IsBetweenUnits items → AllByRecursion IsNoEvent lines
-    → compact_place items lines ≡ Here unit count → (read : ReadEpoch) × (unit ≡ Observation read)
+    → compact_place items lines ≡ Done unit count → (read : ReadEpoch) × (unit ≡ Observation read)
 stretch-epoch items [] unit count h text e = let never = sym (place-between items [] h) ∙ e in absurd (cc)
 stretch-epoch items (Overlong ∷ lines) unit count h text e = grind arith
 stretch-epoch items (Content line ∷ lines) unit count h text e = by_bool (is_event_line line)
@@ -97,7 +97,7 @@ stretch-epoch items (Content line ∷ lines) unit count h text e = by_bool (is_e
     unit count (sym (place-inside items line lines h other) ∙ e))
 
 stretch-fault : (items : List (Item ReadEpoch)) (lines : List ReadLine) (offset : ℕ) (fault : Fault)
-    → IsBetweenUnits items → AllByRecursion IsNoEvent lines → compact_place items lines ≡ Wrong offset fault
+    → IsBetweenUnits items → AllByRecursion IsNoEvent lines → compact_place items lines ≡ Fails offset fault
     → is_skippable fault ≡ true
 stretch-fault items [] offset fault h text e = let never = sym (place-between items [] h) ∙ e in absurd (cc)
 stretch-fault items (Overlong ∷ lines) offset fault h text e = grind arith

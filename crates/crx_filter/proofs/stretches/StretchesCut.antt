@@ -3,7 +3,7 @@
 use Rattle.crx_filter.proofs.Words
 use Words.{common_steps, arith, ℕ, ◌≡◌, ◌⊎◌, inl, inr, true, List, [], ◌∷◌, ◌++◌, map, refl, ap, sym, ◌∙◌}
 use Words.{append_assoc, append-nil, AllByRecursion, list_all, drop-append_seam, and_parts, not-true, Piece}
-use Words.{InputLine, pieces_of, lines_of, lines_text, Content, seen, Epoch, Choices, Item, Accepted}
+use Words.{InputLine, pieces_of, lines_of, lines_text, Content, as_read, Epoch, Choices, Item, Accepted}
 use Words.{Warned, header_has_ended, lines_after, OfCopiedLines, HaveNoReturns, AreInPlace, Stretch}
 use Words.{up_to_end, up_to_next, with_stretches, IsStretch, AreStretches, by_bool}
 use Rattle.crx_filter.proofs.damage.{BlockSaved.{rest-in_place, text-parts}, DamagedText.each-ended}
@@ -16,13 +16,13 @@ use Rattle.crx_filter.specs.meaning.Stretches.{stretches_text, begins_no_event}
 -- ---- the lines that come in a stretch
 
 lines-allowed : (lines : List InputLine) → list_all begins_no_event lines ≡ true
-    → AllByRecursion IsNoEvent (map seen lines)
+    → AllByRecursion IsNoEvent (map as_read lines)
 lines-allowed [] e = tt
 lines-allowed (line ∷ lines) e =
     let both = and_parts (begins_no_event line) (list_all begins_no_event lines) e in
     (one line both.0, lines-allowed lines both.1)
   where
-    one : (line : InputLine) → begins_no_event line ≡ true → IsNoEvent (seen line)
+    one : (line : InputLine) → begins_no_event line ≡ true → IsNoEvent (as_read line)
     one line e = grind (arith, by_bool, not-true)
 
 pub stretches-allowed : (choices : Choices) (before : List (Item Epoch)) (stretches : List Stretch)
@@ -71,13 +71,13 @@ kept-clean choices kept block h =
 -- bytes that end with a line, and then others
 ended-cut : (instead : List ℕ) (lines : List (List ℕ)) (text : List ℕ) → AllByRecursion IsClean lines
     → list_all (λ (piece : Piece). piece.is_ended) (pieces_of instead) ≡ true
-    → map seen (lines_of (instead ++ (lines_text lines ++ text)))
-    ≡ map seen (lines_of instead) ++ (map Content lines ++ map seen (lines_of text))
+    → map as_read (lines_of (instead ++ (lines_text lines ++ text)))
+    ≡ map as_read (lines_of instead) ++ (map Content lines ++ map as_read (lines_of text))
 ended-cut instead lines text clean ended = search (lines-append, each-ended, front-cut)
 
 pub stretches-cut : (choices : Choices) (before : List (Item Epoch)) (stretches : List Stretch)
     → AreStretches choices before stretches → AreGood (with_stretches before stretches)
-    → header_has_ended before ≡ true → map seen (lines_of (stretches_text choices before stretches))
+    → header_has_ended before ≡ true → map as_read (lines_of (stretches_text choices before stretches))
     ≡ lines_of_stretches choices.every before stretches
 stretches-cut choices before [] h good header = refl
 stretches-cut choices before (s ∷ later) h good header = either (IsStretch.ended h.0)
@@ -99,13 +99,13 @@ stretches-cut choices before (s ∷ later) h good header = either (IsStretch.end
     same = kept-lines choices s.kept block here.in_place block-header
 
     either : ((s.kept ≡ []) × (later ≡ [])) ⊎ (list_all (λ (piece : Piece). piece.is_ended)
-        (pieces_of s.instead) ≡ true) → map seen (lines_of (stretches_text choices next later))
-        ≡ lines_of_stretches choices.every next later → map seen (lines_of
+        (pieces_of s.instead) ≡ true) → map as_read (lines_of (stretches_text choices next later))
+        ≡ lines_of_stretches choices.every next later → map as_read (lines_of
         (stretches_text choices before (s ∷ later))) ≡ lines_of_stretches choices.every before (s ∷ later)
     either (inl nothing) rest = grind (arith, common_steps, append-nil, same)
-    either (inr ended) rest = ap (λ (ls : List (List ℕ)). map seen
+    either (inr ended) rest = ap (λ (ls : List (List ℕ)). map as_read
         (lines_of (s.instead ++ (lines_text ls ++ stretches_text choices next later)))) same ∙ ended-cut
         s.instead (lines_on choices.every s.kept block) (stretches_text choices next later) (kept-clean
-        choices s.kept block here) ended ∙ sym (append_assoc (map seen (lines_of s.instead)) (map Content
-        (lines_on choices.every s.kept block)) (map seen (lines_of (stretches_text choices next later))))
+        choices s.kept block here) ended ∙ sym (append_assoc (map as_read (lines_of s.instead)) (map Content
+        (lines_on choices.every s.kept block)) (map as_read (lines_of (stretches_text choices next later))))
         ∙ ap (λ ls. stretch_lines choices.every before s ++ ls) rest

@@ -2,8 +2,8 @@
 use Rattle.crx_filter.proofs
 use proofs.Words.{common_steps, arith, ℕ, ◌≡◌, true, List, [], ◌∷◌, ◌++◌, map, Option, refl, ap, sym, ◌∙◌}
 use proofs.Words.{subst, append_assoc, append-nil, ⊤, AllByRecursion, flat_map, flat_map-append, lines_of}
-use proofs.Words.{ReadLine, Content, seen, Epoch, IsWholeEpoch, printed_epoch, Observation, IsGood, ReadEpoch}
-use proofs.Words.{Choices, Item, Accepted, Warned, header_has_ended, records_left, types_in_force}
+use proofs.Words.{ReadLine, Content, as_read, Epoch, IsWholeEpoch, printed_epoch, Observation, IsGood}
+use proofs.Words.{ReadEpoch, Choices, Item, Accepted, Warned, header_has_ended, records_left, types_in_force}
 use proofs.Words.{reading_from, compact_place, BeginsAnew, printed_items, IsBetweenUnits, expanded_lines}
 use proofs.Words.{AreInPlace, Stretch, up_to_end, up_to_next, with_stretches, IsStretch, AreStretches}
 use Rattle.crx_filter.specs.meaning.Stretches.{Saves}
@@ -25,7 +25,7 @@ pub record WereReadAs (so_far : List ReadLine) (items : List (Item ReadEpoch)) (
 -- the lines of a stretch, and those of the units that are kept after it
 abbrev pub stretch_lines : Option ℕ → List (Item Epoch) → Stretch → List ReadLine
 stretch_lines every before s =
-    map seen (lines_of s.instead) ++ map Content (lines_on every s.kept (up_to_end before s))
+    map as_read (lines_of s.instead) ++ map Content (lines_on every s.kept (up_to_end before s))
 
 abbrev pub lines_of_stretches : Option ℕ → List (Item Epoch) → List Stretch → List ReadLine
 lines_of_stretches every before [] = []
@@ -43,7 +43,7 @@ pub record IsStepRead (choices : Choices) (before : List (Item Epoch)) (s : Stre
 
 -- no line of a stretch is an event's first one
 abbrev pub AllowsLines : Stretch → Type 0
-AllowsLines s = AllByRecursion IsNoEvent (map seen (lines_of s.instead))
+AllowsLines s = AllByRecursion IsNoEvent (map as_read (lines_of s.instead))
 
 -- what is known of the units up to the next stretch
 pub record IsSound (before : List (Item Epoch)) (s : Stretch) : Type 0 where
@@ -60,7 +60,8 @@ pub one-stretch : (choices : Choices) (before : List (Item Epoch)) (s : Stretch)
     s → IsSound before s → WereReadAs so_far items before → IsStepRead choices before s so_far items
 one-stretch choices before s later so_far items h allowed sound come =
     let block = up_to_end before s in
-    let first = stretch-more items so_far (map seen (lines_of s.instead)) come.between come.stops allowed in
+    let first = stretch-more items so_far (map as_read (lines_of s.instead)) come.between come.stops allowed
+    in
     let x = first.news ++ items in
     let can : CanBeKept choices.every s.kept block x = record {
       in_place = sound.in_place;
@@ -69,13 +70,14 @@ one-stretch choices before s later so_far items h allowed sound come =
       between = epochs-between first.news items first.epochs come.between;
       types = epochs-types first.news items first.epochs ∙ come.types ∙ sym h.types;
     } in
-    let k = kept-more choices s.kept block x (so_far ++ map seen (lines_of s.instead)) can h.anew first.stops
+    let k = kept-more choices s.kept block x (so_far ++ map as_read (lines_of s.instead)) can h.anew
+    first.stops
     in
     let front = back_on choices.every s.kept block in
     let there : WereReadAs (so_far ++ stretch_lines choices.every before s) (front ++ (k.news ++ x))
     (up_to_next before s) = record {
       stops = rw (← append_assoc so_far
-          (map seen (lines_of s.instead)) (map Content (lines_on choices.every s.kept block))) k.stops;
+          (map as_read (lines_of s.instead)) (map Content (lines_on choices.every s.kept block))) k.stops;
       between = record {
         header = (k.alike).one;
         none = (k.alike).left ∙ left-same (known_back choices.every) (up_to_next before s) sound.in_place

@@ -3,7 +3,7 @@
 use Rattle.crx_filter.proofs
 use proofs.Words.{ℕ, ◌≡◌, ◌+◌, Bool, true, false, List, [], ◌∷◌, ◌++◌, map, length, reverse, Option, None}
 use proofs.Words.{refl, ap, sym, ◌∙◌, subst, arith, append-nil, inl, inr, lines_of, lines_text, ReadLine}
-use proofs.Words.{Content, seen, version_line, program_line, Epoch, ReadEpoch, Choices, is_date, Item}
+use proofs.Words.{Content, as_read, version_line, program_line, Epoch, ReadEpoch, Choices, is_date, Item}
 use proofs.Words.{is_at_start, records_left, Reading, AtLines, reading_from, ended_reading, compact_lines}
 use proofs.Words.{compact_place, expanded_unit, whole_compact, expanded, printed_items, warnings_in}
 use proofs.Words.{result_of, notices_text, Begins, IsBetweenUnits, expanded_lines, expanded_so_far}
@@ -36,10 +36,10 @@ file-good file choices h = grind (arith, file-settled)
 abbrev pub front_lines : Choices → List (Item Epoch) → List (List ℕ)
 front_lines choices before = version_line ∷ program_line choices.date ∷ lines_back choices.every before
 
-pub front-seen : (choices : Choices) (before : List (Item Epoch)) (text : List ℕ) → is_date choices.date
-    ≡ true → AreGood before → is_at_start before ≡ false → map seen (lines_of (lines_text (compact_lines
-    choices before) ++ text)) ≡ map Content (front_lines choices before) ++ map seen (lines_of text)
-front-seen choices before text dated h begun =
+pub front-state : (choices : Choices) (before : List (Item Epoch)) (text : List ℕ) → is_date choices.date
+    ≡ true → AreGood before → is_at_start before ≡ false → map as_read (lines_of (lines_text (compact_lines
+    choices before) ++ text)) ≡ map Content (front_lines choices before) ++ map as_read (lines_of text)
+front-state choices before text dated h begun =
     grind (arith, lines-same, front-cut, version-clean, program-clean, lines-clean)
 
 pub front-read : (skip : Bool) (every : Option ℕ) (before : List (Item Epoch)) → AreInPlace before
@@ -88,14 +88,14 @@ rest-kept file choices expanding damaged dated skips d =
     let end : EndsAfter items (ended_reading true reading) =
     open-ends items reading (WereReadAs.between r.come) (WereReadAs.stops r.come) in
     let all : List (Item ReadEpoch) = with_warnings end.warnings items in
-    let cut : map seen (lines_of damaged) ≡ Content version_line ∷ Content (program_line choices.date)
-    ∷ (old ++ new) = ap (λ t. map seen (lines_of t)) d.text ∙ front-seen choices d.before _ dated front
+    let cut : map as_read (lines_of damaged) ≡ Content version_line ∷ Content (program_line choices.date)
+    ∷ (old ++ new) = ap (λ t. map as_read (lines_of t)) d.text ∙ front-state choices d.before _ dated front
     (started d.before d.header) ∙ ap (λ ls. Content version_line ∷ Content (program_line choices.date)
     ∷ (old ++ ls)) (stretches-cut choices d.before d.stretches d.each good d.header) in
-    let whole : whole_compact expanding.skip (map seen (lines_of damaged)) ≡ record {
+    let whole : whole_compact expanding.skip (map as_read (lines_of damaged)) ≡ record {
       items = all;
       fault = None;
-    } = ap (λ skip. whole_compact skip (map seen (lines_of damaged))) skips
+    } = ap (λ skip. whole_compact skip (map as_read (lines_of damaged))) skips
     ∙ ap (whole_compact true) cut ∙ whole-after true choices.date (old ++ new) ∙ end.same in
     let read : AreGoodEpochs items = epochs-good items (subst (ItemsAreRead compact_place)
     (open-items items reading (WereReadAs.stops r.come)) (items-read compact_place true 3 (old ++ new))) in
@@ -126,7 +126,7 @@ begun-first : (expanding choices : Choices) (before : List (Item Epoch)) (text m
     choices before) ++ more → Begins (expanded text expanding).output (lines_text (printed_items before))
 begun-first expanding choices before text more dated h begun e = rw (← whole-so_far expanding choices before
     h.in_place) (IsWrittenFirst.whole (expanded-first expanding (map Content (front_lines choices before)))
-    text (map seen (lines_of more)) (cc (e, front-seen choices before more dated h begun)))
+    text (map as_read (lines_of more)) (cc (e, front-state choices before more dated h begun)))
 
 pub whole-first : (file : List ℕ) (choices expanding : Choices) (text : List ℕ)
     → is_date choices.date ≡ true → (h : BeginsWhole file choices text)

@@ -1,5 +1,5 @@
 -- Compact text is canonical: a file's normal form is compacted as the file, and comes back from that text.
-use Rattle.crx_filter.proofs.Words.{ℕ, ◌≡◌, List, None, map, ap, sym, ◌∙◌, Option, lines_of, seen, At}
+use Rattle.crx_filter.proofs.Words.{ℕ, ◌≡◌, List, None, map, ap, sym, ◌∙◌, Option, lines_of, as_read, At}
 use Rattle.crx_filter.proofs.Words.{Choices, compact_unit, compacted, expanded, normal_form, whole_of}
 use Rattle.crx_filter.proofs.Words.{HasNormalForm, result_of, FilterResult, IsResult, Device}
 use Rattle.crx_filter.proofs.wayback.{NormalForm.read-as_normal, Standard.{same-reading, normal-comes_back}}
@@ -8,7 +8,7 @@ use Rattle.crx_filter.specs.meaning.Canonical.{CompactsAsNormal, IsCanonical, De
 -- a compaction is what the reading makes of it that skips nothing, where that has no fault
 pub compacted-by : (file : List ℕ) (choices : Choices) → (whole_of file).fault ≡ None
     → compacted file choices ≡ result_of (compact_unit choices) (whole_of file)
-compacted-by file choices good = cc (same-reading choices.skip (map seen (lines_of file)) good)
+compacted-by file choices good = cc (same-reading choices.skip (map as_read (lines_of file)) good)
 
 pub as-normal : (file : List ℕ) (choices : Choices) → CompactsAsNormal file choices
 as-normal file choices h = search (read-as_normal, compacted-by)

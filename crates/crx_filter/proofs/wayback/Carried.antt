@@ -3,7 +3,7 @@
 use Rattle.crx_filter.proofs.Words
 use Words.{common_steps, ℕ, ◌≡◌, ◌+◌, ◌-◌, ◌<◌, Bool, true, false, cond, List, [], ◌∷◌, map, length, None}
 use Words.{refl, ap, sym, ◌∙◌, arith, length-append, map-append, length-map, ReadLine, Content, Epoch, Place}
-use Words.{Here, FileUnit, HeaderLine, EventLine, EventRecord, Observation, types_of, Item, Accepted, Warned}
+use Words.{Done, FileUnit, HeaderLine, EventLine, EventRecord, Observation, types_of, Item, Accepted, Warned}
 use Words.{is_at_start, header_has_ended, records_left, records_count_types, declaring_lines, types_in_force}
 use Words.{types_fault, header_line_fault, unit_place, Reading, AtLines, reading_from, ended_reading}
 use Words.{whole_reading, continued_reading, IsReadForward, AreInPlace, written_lines}
@@ -68,13 +68,13 @@ types-same known items h = ap types_of (declares-same known items h)
 
 pub header-here : {E : Type 0} (beginning : List (Item E) → List ReadLine → Place (FileUnit E)) (items : List
     (Item E)) (line : List ℕ) → header_has_ended items ≡ false → header_line_fault (is_at_start items) line
-    ≡ None → unit_place beginning items (Content line ∷ []) ≡ Here (HeaderLine line) 1
+    ≡ None → unit_place beginning items (Content line ∷ []) ≡ Done (HeaderLine line) 1
 header-here beginning items line e f = rw (e, f) refl
 
 pub record-here : {E : Type 0} (beginning : List (Item E) → List ReadLine → Place (FileUnit E))
     (items : List (Item E)) (line : List ℕ) (left : ℕ) → header_has_ended items ≡ true
     → records_left items ≡ left → 0 < left → cond (records_count_types items) (types_fault line) None ≡ None
-    → unit_place beginning items (Content line ∷ []) ≡ Here (EventRecord line) 1
+    → unit_place beginning items (Content line ∷ []) ≡ Done (EventRecord line) 1
 record-here beginning items line other ended_reading e some good = grind arith
 
 -- ---- one unit after another
@@ -82,7 +82,7 @@ record-here beginning items line other ended_reading e some good = grind arith
 -- one unit more, which takes all lines there
 pub one-unit : {E : Type 0} (place : List (Item E) → List ReadLine → Place (FileUnit E)) → IsReadForward place
     → (skip : Bool) (items : List (Item E)) (number : ℕ) (lines : List ReadLine) (unit : FileUnit E)
-    → place items lines ≡ Here unit (length lines) → reading_from place skip items number lines
+    → place items lines ≡ Done unit (length lines) → reading_from place skip items number lines
     ≡ record { items = Accepted unit ∷ items; stop = AtLines (number + length lines) [] }
 one-unit place h skip items number lines unit e =
     grind (arith, enough-units, within-here, drop_all, within-wanted)
@@ -96,7 +96,7 @@ abbrev pub StandsAgain : {E : Type 0} → (List (Item E) → List ReadLine → P
     → (List (Item Epoch) → Epoch → E) → (List (Item Epoch) → FileUnit Epoch → List (List ℕ)) → Type 0
 StandsAgain place known lines_of_unit = (before : List (Item Epoch)) (unit : FileUnit Epoch) → AreInPlace
     (Accepted unit ∷ before) → place (carried known before) (map Content (lines_of_unit before unit))
-    ≡ Here (carried_unit known before unit) (length (lines_of_unit before unit))
+    ≡ Done (carried_unit known before unit) (length (lines_of_unit before unit))
 
 module _ {E : Type 0} (place : List (Item E) → List ReadLine → Place (FileUnit E)) (known : List (Item Epoch)
     → Epoch → E) (lines_of_unit : List (Item Epoch) → FileUnit Epoch → List (List ℕ)) where
@@ -114,7 +114,7 @@ module _ {E : Type 0} (place : List (Item E) → List ReadLine → Place (FileUn
       ap (λ ls. reading_from place skip [] number ls) (map-append Content first more) ∙ resumed place forward
       skip [] number (map Content first) (map Content more) ∙ ap (λ r. continued_reading place skip r (map
       Content more)) (reads-again forward stands skip number before h.1) ∙ one-unit
-      place forward skip _ (number + length first) _ _ (stands before unit h ∙ ap (λ n. Here (carried_unit
+      place forward skip _ (number + length first) _ _ (stands before unit h ∙ ap (λ n. Done (carried_unit
       known before unit) n) (sym same)) ∙ at-line _ _ _ (omega (arith, same, length-append first more))
 
   -- ---- the end

@@ -4,7 +4,7 @@ use Rattle.crx_filter.proofs.Words
 use Words.{common_steps, arith, ℕ, ◌≡◌, ◌≢◌, ◌≤◌, true, false, cond, ◌⊎◌, List, [], ◌∷◌, map, length, refl}
 use Words.{ap, append_assoc, ⊤, ◌==◌, AllByRecursion, All-head, All-tail, All-cons, All-nil, ltb-false}
 use Words.{eqb_tells, Piece, InputLine, pieces_of, onto_first, ends_with_return, without_return, line_of}
-use Words.{lines_of, HasNoFeed, ReadLine, Content, Overlong, seen, LINE_LIMIT, lines_text, by_bool}
+use Words.{lines_of, HasNoFeed, ReadLine, Content, Overlong, as_read, LINE_LIMIT, lines_text, by_bool}
 use Rattle.{crx_lines.proofs.PieceLemmas.{pieces-first, NoFeed}, std.proofs.lemmas.Bool.le-ltb}
 
 -- a line that is read as it was written
@@ -18,12 +18,12 @@ return-kept [] e = refl
 return-kept (b ∷ []) e = rw e refl
 return-kept (b ∷ c ∷ bs) e = ap (λ l. b ∷ l) (return-kept (c ∷ bs) e)
 
-seen-short : (l : InputLine) → length l.content ≤ LINE_LIMIT → seen l ≡ Content l.content
-seen-short l h = rw (le-ltb LINE_LIMIT (length l.content) h) refl
+as-read-short : (l : InputLine) → length l.content ≤ LINE_LIMIT → as_read l ≡ Content l.content
+as-read-short l h = rw (le-ltb LINE_LIMIT (length l.content) h) refl
 
-pub seen-clean : (line : List ℕ)
-    → IsClean line → seen (line_of (record { bytes = line; is_ended = true })) ≡ Content line
-seen-clean line h = grind (arith, common_steps, return-kept, seen-short, line_of)
+pub as-read-clean : (line : List ℕ)
+    → IsClean line → as_read (line_of (record { bytes = line; is_ended = true })) ≡ Content line
+as-read-clean line h = grind (arith, common_steps, return-kept, as-read-short, line_of)
 
 -- the first of some lines, cut off their text
 pub first-cut : (line : List ℕ) (lines : List (List ℕ)) → HasNoFeed line → pieces_of
@@ -31,9 +31,9 @@ pub first-cut : (line : List ℕ) (lines : List (List ℕ)) → HasNoFeed line �
 first-cut line lines one = search (append_assoc, pieces-first)
 
 pub lines-cut : (lines : List (List ℕ))
-    → AllByRecursion IsClean lines → map seen (lines_of (lines_text lines)) ≡ map Content lines
+    → AllByRecursion IsClean lines → map as_read (lines_of (lines_text lines)) ≡ map Content lines
 lines-cut [] h = refl
-lines-cut (line ∷ lines) h = search (lines-cut lines h.1, first-cut, seen-clean)
+lines-cut (line ∷ lines) h = search (lines-cut lines h.1, first-cut, as-read-clean)
 
 -- ---- what is read of an input
 
@@ -64,13 +64,14 @@ no_feed-without_return (b ∷ []) h = grind (arith, All-nil)
 no_feed-without_return (b ∷ c ∷ bs) h = All-cons NoFeed b _
     (All-head NoFeed b (c ∷ bs) h) (no_feed-without_return (c ∷ bs) (All-tail NoFeed b (c ∷ bs) h))
 
-seen-stands : (l : InputLine) → HasNoFeed l.content → OfContent CanStand (seen l)
-seen-stands l h = grind (arith, by_bool, ltb-false)
+as-read-stands : (l : InputLine) → HasNoFeed l.content → OfContent CanStand (as_read l)
+as-read-stands l h = grind (arith, by_bool, ltb-false)
 
 pieces-stand : (ps : List Piece)
-    → AllByRecursion FeedsNone ps → AllByRecursion (OfContent CanStand) (map seen (map line_of ps))
+    → AllByRecursion FeedsNone ps → AllByRecursion (OfContent CanStand) (map as_read (map line_of ps))
 pieces-stand [] h = tt
-pieces-stand (p ∷ ps) h = (seen-stands (line_of p) (no_feed-without_return p.bytes h.0), pieces-stand ps h.1)
+pieces-stand (p ∷ ps) h =
+    (as-read-stands (line_of p) (no_feed-without_return p.bytes h.0), pieces-stand ps h.1)
 
-pub input-stands : (input : List ℕ) → AllByRecursion (OfContent CanStand) (map seen (lines_of input))
+pub input-stands : (input : List ℕ) → AllByRecursion (OfContent CanStand) (map as_read (lines_of input))
 input-stands input = pieces-stand (pieces_of input) (pieces-no_feed input)

@@ -1,6 +1,6 @@
 -- What was accepted of compact text: each epoch is whole, by the types in force where it was read.
 use Rattle.crx_filter.proofs.Words
-use Words.{[], ℕ, ◌≡◌, List, ◌∷◌, ⊤, AllByRecursion, ReadLine, Count, Here, FileUnit, HeaderLine, EventLine}
+use Words.{[], ℕ, ◌≡◌, List, ◌∷◌, ⊤, AllByRecursion, ReadLine, Count, Done, FileUnit, HeaderLine, EventLine}
 use Words.{EventRecord, Observation, RawEpoch, ReadEpoch, epoch_at, IsGood, Item, Accepted, Warned}
 use Words.{records_count_types, types_in_force, raws_kept, empties_state, compact_place, ItemsAreRead}
 use Rattle.crx_filter.proofs.reading.{ForwardCompact.compact_beginning, Types.counts-in_force}
@@ -10,7 +10,7 @@ use Rattle.crx_compact.{proofs.soundness.Goodness.reads-whole, specs.ReadingLaws
 -- an epoch stood at some lines
 abbrev StoodThere : List Count → List RawEpoch → FileUnit ReadEpoch → Type 0
 StoodThere types raws (Observation read) = (lines : List ReadLine)
-    × (count : ℕ) × (epoch_at types raws lines ≡ Here read count)
+    × (count : ℕ) × (epoch_at types raws lines ≡ Done read count)
 StoodThere types raws unit = ⊤
 
 unit-stood : (items : List (Item ReadEpoch)) (lines : List ReadLine)
@@ -24,8 +24,8 @@ unit-stood items lines =
 
 -- an epoch that was accepted stood at some lines
 pub epoch-read : (before : List (Item ReadEpoch)) (read : ReadEpoch) (lines : List ReadLine) (count : ℕ)
-    → compact_place before lines ≡ Here (Observation read) count
-    → (ls : List ReadLine) × (n : ℕ) × (epoch_at (types_in_force before) (raws_kept before) ls ≡ Here read n)
+    → compact_place before lines ≡ Done (Observation read) count
+    → (ls : List ReadLine) × (n : ℕ) × (epoch_at (types_in_force before) (raws_kept before) ls ≡ Done read n)
 epoch-read before read lines count e = rw e at (unit-stood before lines)
 
 -- ---- all that were accepted

@@ -2,7 +2,7 @@
 use Rattle.crx_filter.proofs.Words.{common_steps, ℕ, zero, suc, ◌≡◌, ◌≢◌, true, false, List, [], ◌∷◌, ◌++◌}
 use Rattle.crx_filter.proofs.Words.{take, replicate, length, refl, arith, length-append, Ok, list_all}
 use Rattle.crx_filter.proofs.Words.{drop-append_seam, All-nil, ne_eqb, and_parts, HasNoFeed, ends_with_return}
-use Rattle.crx_filter.proofs.Words.{ReadLine, Content, is_printable, Here, CRINEX_PROGRAM_LABEL, is_date}
+use Rattle.crx_filter.proofs.Words.{ReadLine, Content, is_printable, Done, CRINEX_PROGRAM_LABEL, is_date}
 use Rattle.crx_filter.proofs.Words.{version_line, program_line, crinex_program, first_lines}
 use Rattle.{crx_base.specs.declared.limits.TheConstants.DATE_LIMIT, crx_filter.proofs.wayback.Cut.IsClean}
 use Rattle.crx_header.specs.declared.crinex.TheConstants.{CRINEX_PROGRAM}
@@ -18,7 +18,7 @@ program-read : (date : List ℕ) → crinex_program (program_line date) ≡ Ok (
 program-read date = grind (arith, common_steps, drop-append_seam, date-width)
 
 pub first-lines_read : (date : List ℕ) (rest : List ReadLine) → first_lines (Content version_line ∷ Content
-    (program_line date) ∷ rest) ≡ Here (version_line ∷ program_line date ∷ []) 2
+    (program_line date) ∷ rest) ≡ Done (version_line ∷ program_line date ∷ []) 2
 first-lines_read date rest = rw (program-read date) refl
 
 -- ---- each is cut off again

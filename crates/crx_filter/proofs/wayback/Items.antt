@@ -2,7 +2,7 @@
 -- force.
 use Rattle.crx_filter.proofs.Words
 use Words.{common_steps, ℕ, ◌≡◌, ◌+◌, true, false, List, [], ◌∷◌, map, length, Option, Ok, refl, arith}
-use Words.{append-nil, is_some, length-map, Content, Row, Epoch, Here, FileUnit, HeaderLine, EventLine}
+use Words.{append-nil, is_some, length-map, Content, Row, Epoch, Done, FileUnit, HeaderLine, EventLine}
 use Words.{EventRecord, Observation, is_event_line, records_in, Count, Marked, compact_epoch, RawEpoch}
 use Words.{block_of, ReadEpoch, LinesCanStand, Item, Accepted, types_in_force, is_interrupted, is_in_full}
 use Words.{marked_epochs, raws_kept, event_line, compact_epoch_place, compact_place, AreInPlace, by_bool}
@@ -84,12 +84,12 @@ event-here line v1 e h = grind (arith)
 
 event-begins : (types : List Count) (raws : List RawEpoch) (line : List ℕ) → is_event_line line ≡ true
     → is_some (records_in line) ≡ true → compact_epoch_place types raws (Content line ∷ [])
-    ≡ Here (EventLine line) 1
+    ≡ Done (EventLine line) 1
 event-begins types raws line e h = let here = event-here line (records_in line) refl h in rw (e, here) refl
 
 pub unit-here : (every : Option ℕ) (before : List (Item Epoch)) (unit : FileUnit Epoch)
     → AreInPlace (Accepted unit ∷ before) → compact_place (read_back every before) (map Content
-    (body_unit every before unit)) ≡ Here (unit_back every before unit) (length (body_unit every before unit))
+    (body_unit every before unit)) ≡ Done (unit_back every before unit) (length (body_unit every before unit))
 unit-here every before (EventRecord line) h = search (record-here, header-same, left-same, count-same)
 unit-here every before (Observation epoch) h =
     let m = marked_now every before epoch in

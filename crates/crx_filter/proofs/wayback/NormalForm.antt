@@ -3,7 +3,7 @@ use Rattle.crx_filter.proofs
 use proofs.Words.{ℕ, ◌≡◌, ◌+◌, ◌*◌, ◌≤◌, true, false, List, [], ◌∷◌, ◌++◌, map, length, Option, None, refl}
 use proofs.Words.{ap, ◌∙◌, arith, append-nil, All, AllByRecursion, is_some, length-map, All-head, All-tail}
 use proofs.Words.{and_parts, ReadLine, Content, clock_text, without_end_blanks, LINE_LIMIT, TYPES_LIMIT, Row}
-use proofs.Words.{Epoch, Count, is_event_line, records_in, IsSoundRow, IsWholeEpoch, epoch_place, Here}
+use proofs.Words.{Epoch, Count, is_event_line, records_in, IsSoundRow, IsWholeEpoch, epoch_place, Done}
 use proofs.Words.{printed_row, printed_epoch, printed_cells, lines_text, FileUnit, HeaderLine, EventLine}
 use proofs.Words.{EventRecord, Observation, printed_unit, Item, Accepted, Warned, types_in_force}
 use proofs.Words.{WholeReading, warnings_in, rinex_place, whole_rinex, rinex_reading, printed_items, whole_of}
@@ -26,7 +26,7 @@ abbrev accepted : List (Item Epoch) → List (Item Epoch)
 accepted items = carried same_epoch items
 
 event-stands : (types : List Count) (line : List ℕ) (o : Option ℕ) → records_in line ≡ o → is_some o ≡ true
-    → is_event_line line ≡ true → epoch_place types (Content line ∷ []) ≡ Here (EventLine line) 1
+    → is_event_line line ≡ true → epoch_place types (Content line ∷ []) ≡ Done (EventLine line) 1
 event-stands types line v1 e h event = grind (arith, and_parts)
 
 pub stands : StandsAgain rinex_place same_epoch (λ before. printed_unit)
@@ -42,7 +42,7 @@ stands before (Observation epoch) h =
     body-place rinex_beginning (accepted before) lines (header-same same_epoch before ∙ (h.0).0)
     (left-same same_epoch before h.1 ∙ (h.0).1) ∙ ap (λ types. epoch_place types lines) (types-same same_epoch
     before h.1) ∙ ap (epoch_place (types_in_force before)) (sym (append-nil lines))
-    ∙ epoch-back (types_in_force before) epoch [] (h.0).2 ∙ ap (λ n. Here (Observation epoch) n) counted
+    ∙ epoch-back (types_in_force before) epoch [] (h.0).2 ∙ ap (λ n. Done (Observation epoch) n) counted
 
 -- ---- where nothing is skipped, there are no warnings
 

@@ -3,7 +3,7 @@
 use Rattle.crx_filter.proofs.Words
 use Words.{ℕ, zero, suc, ◌≡◌, ◌+◌, ◌<◌, ◌≤◌, true, cond, List, [], ◌∷◌, ◌++◌, map, take, drop, refl, arith}
 use Words.{◌==◌, AllByRecursion, list_all, ne_eqb, and_parts, Piece, pieces_of, ends_with_return}
-use Words.{without_return, line_of, lines_of, is_long, HasNoFeed, ReadLine, Content, Overlong, seen}
+use Words.{without_return, line_of, lines_of, is_long, HasNoFeed, ReadLine, Content, Overlong, as_read}
 use Words.{is_printable, lines_text, by_bool}
 use Rattle.crx_filter.proofs.wayback.{Cut.first-cut, First.printable-other}
 
@@ -73,7 +73,7 @@ abbrev returns_of : List Piece → ℕ
 returns_of [] = 0
 returns_of (p ∷ ps) = returns p.bytes + returns_of ps
 
-read-pieces : (ps : List Piece) → returns_read (map seen (map line_of ps)) ≤ returns_of ps
+read-pieces : (ps : List Piece) → returns_read (map as_read (map line_of ps)) ≤ returns_of ps
 read-pieces [] = omega arith
 read-pieces (p ∷ ps) = grind (arith, read-pieces ps, by_bool, is_long, returns-kept)
 
@@ -82,7 +82,7 @@ of-pieces [] = omega arith
 of-pieces (b ∷ bs) = grind (arith, of-pieces bs)
 
 -- what is read of an input has no more than the input
-pub read-input : (input : List ℕ) → returns_read (map seen (lines_of input)) ≤ returns input
+pub read-input : (input : List ℕ) → returns_read (map as_read (lines_of input)) ≤ returns input
 read-input input = omega (arith, read-pieces (pieces_of input), of-pieces input)
 
 -- lines without their last CR
@@ -100,6 +100,6 @@ left-kept (line ∷ lines) = omega (arith, returns-kept line, left-kept lines)
 
 -- lines that are written and read again have lost one CR where one ended them
 pub read-written : (lines : List (List ℕ)) → AllByRecursion HasNoFeed lines
-    → returns_read (map seen (lines_of (lines_text lines))) ≤ returns_left lines
+    → returns_read (map as_read (lines_of (lines_text lines))) ≤ returns_left lines
 read-written [] h = omega arith
 read-written (line ∷ lines) h = grind (arith, read-written lines h.1, by_bool, is_long, first-cut)

@@ -3,7 +3,7 @@
 use Rattle.crx_filter.proofs
 use proofs.Words.{ℕ, ◌≡◌, ◌+◌, ◌<◌, ◌≤◌, Bool, true, false, List, [], ◌∷◌, ◌++◌, map, drop, Option, refl}
 use proofs.Words.{arith, ◌⊎◌, inl, AllByRecursion, list_all, HasNoFeed, ends_with_return, without_return}
-use proofs.Words.{lines_of, ReadLine, seen, is_printable, Epoch, printed_epoch, lines_text, HeaderLine}
+use proofs.Words.{lines_of, ReadLine, as_read, is_printable, Epoch, printed_epoch, lines_text, HeaderLine}
 use proofs.Words.{EventLine, EventRecord, Observation, ReadEpoch, compact_epoch, LinesCanStand, IsGood}
 use proofs.Words.{Choices, is_date, Item, Accepted, Warned, types_in_force, WholeReading, reading_from}
 use proofs.Words.{FilterResult, marked_epochs, compact_lines, version_line, program_line, compact_place}
@@ -42,7 +42,7 @@ whole-good skip lines = by_place (first_lines lines) (λ two count e.
 
 -- an expansion writes no more of them than it reads
 expanded-returns : (text : List ℕ) (choices : Choices)
-    → returns (FilterResult.output (expanded text choices)) ≤ returns_read (map seen (lines_of text))
+    → returns (FilterResult.output (expanded text choices)) ≤ returns_read (map as_read (lines_of text))
 expanded-returns text choices = search (written-returns, whole-good, in-text, compact-within)
 
 -- ---- compact text
@@ -118,7 +118,8 @@ first-none line h = omega (arith, left-kept (line ∷ []), in-printable (line �
 
 -- compact text is read with no more of them than are left
 compacted-returns : (choices : Choices) (items : List (Item Epoch)) → is_date choices.date ≡ true → IsSettled
-    items → returns_read (map seen (lines_of (lines_text (compact_lines choices items)))) ≤ left_copied items
+    items → returns_read (map as_read (lines_of (lines_text (compact_lines choices items)))) ≤ left_copied
+    items
 compacted-returns choices items dated h =
     let back = lines-back choices.every items h.in_place h.copied in
     let lines = version_line ∷ program_line choices.date ∷ lines_back choices.every items in

@@ -1,7 +1,7 @@
 -- The bytes 13 of the lines that are copied are those of the lines that were read.
 use Rattle.crx_filter.proofs
 use proofs.Words.{[], ℕ, ◌≡◌, ◌+◌, ◌≤◌, Bool, List, ◌∷◌, length, take, drop, arith, subst, ⊤, ReadLine}
-use proofs.Words.{Content, Epoch, Place, Here, FileUnit, HeaderLine, EventLine, EventRecord, Observation}
+use proofs.Words.{Content, Epoch, Place, Done, FileUnit, HeaderLine, EventLine, EventRecord, Observation}
 use proofs.Words.{ReadEpoch, Item, Accepted, Warned, types_in_force, WholeReading, reading_from}
 use proofs.Words.{ended_reading, rinex_place, whole_rinex, raws_kept, compact_place, first_lines}
 use proofs.{Words.whole_compact, reading.{Forward.rinex_beginning, ForwardCompact.compact_beginning}}
@@ -24,7 +24,7 @@ returns_copied (Warned at ∷ before) = returns_copied before
 -- ---- a unit has no more than its lines
 
 abbrev IsOfLines : {E : Type 0} → List ReadLine → Place (FileUnit E) → Type 0
-IsOfLines lines (Here unit count) = returns_of_unit unit ≤ returns_read (take count lines)
+IsOfLines lines (Done unit count) = returns_of_unit unit ≤ returns_read (take count lines)
 IsOfLines lines p = ⊤
 
 first-within : (line : List ℕ) (rest lines : List ReadLine) → lines ≡ Content line ∷ rest

@@ -4,7 +4,7 @@ use Rattle.crx_filter.proofs.Words
 use Words.{common_steps, arith, ℕ, zero, suc, ◌≡◌, ◌+◌, Bool, true, false, List, []}
 use Words.{◌∷◌, map, length, drop, Option, Some, None, refl, ap, sym, ◌∙◌, AllByRecursion, list_all}
 use Words.{eqb_tells, and_parts, Piece, InputLine, pieces_of, ends_with_return, line_of, lines_of}
-use Words.{is_long, ReadLine, seen, Fault, At, Place, FileUnit, Choices, Item, Accepted, WholeReading}
+use Words.{is_long, ReadLine, as_read, Fault, At, Place, FileUnit, Choices, Item, Accepted, WholeReading}
 use Words.{after_fault, reading_within, fault_at_end, ended_with, ended_reading, lines_text, rinex_place}
 use Words.{whole_rinex, rinex_reading, OfCopiedLines, written_well, not-true, by_bool}
 use Rattle.crx_filter.proofs.{reading.Resuming.by_place, reading.WhatWasRead.of-ended, wayback.Cut.OfContent}
@@ -58,15 +58,15 @@ plain-parts : (p : Piece) (ps : List Piece) → are_plain (p ∷ ps) ≡ true
     → (p.is_ended ≡ true) × NoReturn p.bytes × (are_plain ps ≡ true)
 plain-parts p ps e = grind (arith, common_steps, and_parts, not-true)
 
-seen-no_return : (l : InputLine) → NoReturn l.content → OfContent NoReturn (seen l)
-seen-no_return l h = by_bool (is_long l) (λ on. rw on tt) (λ off. rw off h)
+as-read-no_return : (l : InputLine) → NoReturn l.content → OfContent NoReturn (as_read l)
+as-read-no_return l h = by_bool (is_long l) (λ on. rw on tt) (λ off. rw off h)
 
 pub plain-no_return : (ps : List Piece) → list_all (λ (line : InputLine). line.is_plain)
-    (map line_of ps) ≡ true → AllByRecursion (OfContent NoReturn) (map seen (map line_of ps))
+    (map line_of ps) ≡ true → AllByRecursion (OfContent NoReturn) (map as_read (map line_of ps))
 plain-no_return [] e = tt
 plain-no_return (p ∷ ps) e =
     let plain = plain-parts p ps e in
-    (seen-no_return (line_of p) (rw (return-kept p.bytes plain.1) plain.1), plain-no_return ps plain.2)
+    (as-read-no_return (line_of p) (rw (return-kept p.bytes plain.1) plain.1), plain-no_return ps plain.2)
 
 -- ---- the text of an input's plain lines is the input
 
@@ -102,7 +102,7 @@ normal-comes_back input compacting expanding dated good none =
 pub standard-comes_back : (input : List ℕ) (compacting expanding : Choices)
     → StandardComesBack input compacting expanding
 standard-comes_back input compacting expanding dated standard =
-    let none = whole-copied NoReturn false (map seen (lines_of input)) (plain-no_return (pieces_of input)
+    let none = whole-copied NoReturn false (map as_read (lines_of input)) (plain-no_return (pieces_of input)
     standard.plain) in
     normal-comes_back input compacting expanding dated standard.good none ∙ ap (λ ls. written_well
     (lines_text ls)) (sym standard.given_back) ∙ ap written_well (plain-text input standard.plain)

@@ -1,7 +1,7 @@
 -- The two texts of units that make a file; and each standard file is such a text.
 use Rattle.crx_filter.proofs.Words
 use Words.{common_steps, arith, ℕ, ◌≡◌, List, [], ◌∷◌, map, Option, None, refl, ap, sym, ◌∙◌, lines_of}
-use Words.{lines_text, seen, At, Epoch, FileUnit, Choices, compacted, Item, Accepted, Warned}
+use Words.{lines_text, as_read, At, Epoch, FileUnit, Choices, compacted, Item, Accepted, Warned}
 use Words.{WholeReading, printed_items, whole_of, IsStandard, OfCopiedLine, OfCopiedLines, HaveNoReturns}
 use Words.{written_well, warnings_in, expanded, IsResult, Device, AreInPlace}
 use Rattle.crx_filter.proofs.wayback.NormalForm.{printed-again, accepted-all, whole-none, settled-standard}
@@ -96,7 +96,7 @@ make-file units h none = search (in-order)
 
 all-accepted : (file : List ℕ)
     → as_items (units_in (WholeReading.items (whole_of file))) ≡ WholeReading.items (whole_of file)
-all-accepted file = all-units (WholeReading.items (whole_of file)) (whole-none (map seen (lines_of file)))
+all-accepted file = all-units (WholeReading.items (whole_of file)) (whole-none (map as_read (lines_of file)))
 
 -- the units that are read of a standard file
 pub read-units : (file : List ℕ) → IsStandard file → MakeAFile (units_in (WholeReading.items (whole_of file)))

@@ -2,7 +2,7 @@
 use Rattle.crx_filter.proofs
 use proofs.Words.{common_steps, ℕ, ◌≡◌, ◌+◌, ◌*◌, ◌≤◌, Bool, true, false, cond, List, [], ◌∷◌, map, length}
 use proofs.Words.{Option, Some, None, refl, arith, nat_lt, not, AllByRecursion, list_all, ltb-false, lines_of}
-use proofs.Words.{ends_with_return, ReadLine, Content, seen, is_printable, Fault, TYPES_LIMIT, Epoch}
+use proofs.Words.{ends_with_return, ReadLine, Content, as_read, is_printable, Fault, TYPES_LIMIT, Epoch}
 use proofs.Words.{lines_text, FileUnit, HeaderLine, Observation, compact_epoch, ReadEpoch, Choices, is_date}
 use proofs.Words.{Item, Accepted, Warned, is_at_start, header_has_ended, records_left, types_in_force}
 use proofs.Words.{WholeReading, Stop, AtFault, AtLines, Looking, is_skipped, reading_from, fault_at_end}
@@ -57,10 +57,11 @@ closes place skip items (AtLines number rest) next s f = at_end (fault_at_end it
         let never = rw off at f in
         absurd (cc))
 
-pub whole-settled : (skip : Bool) (input : List ℕ) → WholeReading.fault (whole_rinex skip (map seen
-    (lines_of input))) ≡ None → IsSettled (WholeReading.items (whole_rinex skip (map seen (lines_of input))))
+pub whole-settled : (skip : Bool) (input : List ℕ) → WholeReading.fault (whole_rinex skip (map as_read
+    (lines_of input))) ≡ None → IsSettled (WholeReading.items (whole_rinex skip (map as_read (lines_of
+    input))))
 whole-settled skip input f =
-    let lines = map seen (lines_of input) in
+    let lines = map as_read (lines_of input) in
     let r = rinex_reading skip lines in
     let placed = items-in_place r.items (items-read rinex_place skip 1 lines) in
     let copied = items-copied CanStand skip lines (input-stands input) in

@@ -2,7 +2,7 @@
 -- Lists of items have the newest first.
 use Rattle.std.specs.Prelude.{ℕ, Bool, true, false, ◌||◌, ◌&&◌, ◌+◌, ◌%◌, List, [], ◌∷◌, ◌++◌, ◌==◌, Option, Some, None}
 use Rattle.std.specs.Prelude.{nat_lt, map}
-use Rattle.crx_base.specs.meaning.Seen.{ReadLine, seen}
+use Rattle.crx_base.specs.meaning.AsRead.{ReadLine, as_read}
 use Rattle.crx_base.specs.meaning.Lines.{lines_of}
 use Rattle.crx_rinex.specs.meaning.Observations.{Epoch}
 use Rattle.crx_rinex.specs.meaning.Places.{Place}
@@ -86,4 +86,4 @@ compaction_result choices lines = result_of (compact_unit choices) (whole_rinex 
 
 -- the compaction of an input
 abbrev pub compacted : List ℕ → Choices → FilterResult
-compacted input choices = compaction_result choices (map seen (lines_of input))
+compacted input choices = compaction_result choices (map as_read (lines_of input))

@@ -1,10 +1,10 @@
 -- Both directions and the check as filters: what is written and reported for the lines so far, and for all lines of an
 -- input; and at which lines memory may run out. Lists of items have the newest first.
 use Rattle.std.specs.Prelude.{List, ℕ, ◌+◌, Bool, false, [], drop, map, reverse, Option, Some, None}
-use Rattle.crx_base.specs.meaning.Seen.{ReadLine, seen}
+use Rattle.crx_base.specs.meaning.AsRead.{ReadLine, as_read}
 use Rattle.crx_base.specs.declared.fault.At.{At}
 use Rattle.crx_rinex.specs.meaning.Observations.{Epoch}
-use Rattle.crx_rinex.specs.meaning.Places.{Here, Wrong, Wanted}
+use Rattle.crx_rinex.specs.meaning.Places.{Done, Fails, NeedsMore}
 use Rattle.crx_rinex.specs.meaning.Units.{Unit}
 use Rattle.crx_compact.specs.meaning.CompactPlaces.{ReadEpoch}
 use Rattle.crx_base.specs.meaning.Choices.{Choices}
@@ -29,9 +29,9 @@ rinex_reading skip lines = reading_from rinex_place skip [] 1 lines
 abbrev pub compact_reading : Bool → List ReadLine → Reading ReadEpoch
 compact_reading skip lines =
     elim (first_lines lines) [
-      | Here two count ↦ reading_from compact_place skip [] (count + 1) (drop count lines)
-      | Wrong offset fault ↦ record { items = []; stop = AtFault (record { line = offset + 1; fault = fault }) }
-      | Wanted ↦ record { items = []; stop = AtLines 1 lines }
+      | Done two count ↦ reading_from compact_place skip [] (count + 1) (drop count lines)
+      | Fails offset fault ↦ record { items = []; stop = AtFault (record { line = offset + 1; fault = fault }) }
+      | NeedsMore ↦ record { items = []; stop = AtLines 1 lines }
     ]
 
 -- what is written and reported for a reading as far as it goes, by what is written for each unit after the items before
@@ -46,10 +46,10 @@ course_so_far unit_lines r = record {
 -- compaction
 abbrev pub compaction_filter : Choices → Filter
 compaction_filter choices = record {
-  so_far = λ lines. course_so_far (compact_unit choices) (rinex_reading choices.skip (map seen lines));
-  whole = λ lines. whole_course (compact_unit choices) (whole_rinex choices.skip (map seen lines));
+  so_far = λ lines. course_so_far (compact_unit choices) (rinex_reading choices.skip (map as_read lines));
+  whole = λ lines. whole_course (compact_unit choices) (whole_rinex choices.skip (map as_read lines));
   memory_after = λ lines line. memory_allowed rinex_place compaction_takes choices.skip
-      (rinex_reading choices.skip (map seen lines)) (seen line);
+      (rinex_reading choices.skip (map as_read lines)) (as_read line);
 }
 
 -- the warnings of a line of compact text after which memory may run out at it, where it may at all: none may before the
@@ -57,24 +57,24 @@ compaction_filter choices = record {
 abbrev pub compact_memory : Bool → List ReadLine → ReadLine → Option (List At)
 compact_memory skip lines line =
     elim (first_lines lines) [
-      | Here two count ↦ memory_allowed compact_place expansion_takes skip (compact_reading skip lines) line
-      | Wrong offset fault ↦ None
-      | Wanted ↦ None
+      | Done two count ↦ memory_allowed compact_place expansion_takes skip (compact_reading skip lines) line
+      | Fails offset fault ↦ None
+      | NeedsMore ↦ None
     ]
 
 -- expansion
 abbrev pub expansion_filter : Choices → Filter
 expansion_filter choices = record {
-  so_far = λ lines. course_so_far expanded_unit (compact_reading choices.skip (map seen lines));
-  whole = λ lines. whole_course expanded_unit (whole_compact choices.skip (map seen lines));
-  memory_after = λ lines line. compact_memory choices.skip (map seen lines) (seen line);
+  so_far = λ lines. course_so_far expanded_unit (compact_reading choices.skip (map as_read lines));
+  whole = λ lines. whole_course expanded_unit (whole_compact choices.skip (map as_read lines));
+  memory_after = λ lines line. compact_memory choices.skip (map as_read lines) (as_read line);
 }
 
 -- ---- a check
 
 -- the fault that ended the reading of some lines
 abbrev pub fault_so_far : List InputLine → Option At
-fault_so_far lines = fault_of_stop (rinex_reading false (map seen lines)).stop
+fault_so_far lines = fault_of_stop (rinex_reading false (map as_read lines)).stop
 
 abbrev pub report_unless : Option At → Findings → List ℕ
 report_unless None found = lines_text (report_lines found)
@@ -90,5 +90,5 @@ check_filter = record {
     fault = (whole_reading_of lines).fault;
   };
   memory_after = λ lines line.
-      memory_allowed rinex_place check_takes false (rinex_reading false (map seen lines)) (seen line);
+      memory_allowed rinex_place check_takes false (rinex_reading false (map as_read lines)) (as_read line);
 }

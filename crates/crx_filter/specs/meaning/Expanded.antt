@@ -4,7 +4,7 @@ use Rattle.std.specs.Prelude.{ℕ, Bool, ◌&&◌, ◌+◌, List, [], ◌∷◌,
 use Rattle.std.specs.Prelude.{if◌then◌else◌, map}
 use Rattle.std.specs.Str.{bytes_eq}
 use Rattle.crx_text.specs.meaning.Columns.{columns, without_blanks}
-use Rattle.crx_base.specs.meaning.Seen.{ReadLine, Content, Overlong, seen}
+use Rattle.crx_base.specs.meaning.AsRead.{ReadLine, Content, Overlong, as_read}
 use Rattle.crx_base.specs.meaning.Lines.{lines_of}
 use Rattle.crx_base.specs.declared.fault.Fault.{Fault}
 use Rattle.crx_base.specs.declared.fault.Fault.TheVariants.{NotCompact, BadProgLine, BadEpoch}
@@ -12,7 +12,7 @@ use Rattle.crx_rinex.specs.meaning.Observations.{Epoch}
 use Rattle.crx_header.specs.meaning.Label.{has_label}
 use Rattle.crx_header.specs.meaning.EpochColumns.{is_event_line, records_in}
 use Rattle.crx_header.specs.meaning.ObservationTypes.{Count, is_types_line}
-use Rattle.crx_rinex.specs.meaning.Places.{Place, Here, Wrong, Wanted, then_place, first_line, one_line}
+use Rattle.crx_rinex.specs.meaning.Places.{Place, Done, Fails, NeedsMore, then_place, first_line, one_line}
 use Rattle.crx_rinex.specs.meaning.Units.{Unit, HeaderLine, EventLine, EventRecord, Observation, printed_unit}
 use Rattle.crx_compact.specs.meaning.Expansion.{RawEpoch}
 use Rattle.crx_compact.specs.meaning.CompactPlaces.{ReadEpoch, epoch_at}
@@ -49,13 +49,13 @@ event_line line = elim (records_in line) [ Some count ↦ Ok (EventLine line) | 
 
 -- an observation epoch as a unit
 abbrev pub as_observation : {E : Type 0} → Place E → Place (Unit E)
-as_observation (Here epoch count) = Here (Observation epoch) count
-as_observation (Wrong offset fault) = Wrong offset fault
-as_observation Wanted = Wanted
+as_observation (Done epoch count) = Done (Observation epoch) count
+as_observation (Fails offset fault) = Fails offset fault
+as_observation NeedsMore = NeedsMore
 
 -- what is where an epoch or an event may begin: whether a line is an event's first one shows on its own bytes
 abbrev pub compact_epoch_place : List Count → List RawEpoch → List ReadLine → Place (Unit ReadEpoch)
-compact_epoch_place types older [] = Wanted
+compact_epoch_place types older [] = NeedsMore
 compact_epoch_place types older (Overlong ∷ lines) = as_observation (epoch_at types older (Overlong ∷ lines))
 compact_epoch_place types older (Content line ∷ lines) =
     if is_event_line line then one_line (event_line line)
@@ -82,7 +82,7 @@ abbrev pub first_lines : List ReadLine → Place (List (List ℕ))
 first_lines lines =
     then_place (first_line lines crinex_version) lines (λ version others.
     then_place (first_line others crinex_program) others (λ program rest.
-    Here (version ∷ program ∷ []) 0))
+    Done (version ∷ program ∷ []) 0))
 
 -- what the end of the input means after so many of them
 abbrev pub fault_in_first_lines : ℕ → Fault
@@ -94,9 +94,9 @@ fault_in_first_lines count = if count == 0 then NotCompact else BadProgLine
 abbrev pub whole_compact : Bool → List ReadLine → WholeReading ReadEpoch
 whole_compact skip lines =
     elim (first_lines lines) [
-      | Here two count ↦ whole_reading compact_place skip (count + 1) (drop count lines)
-      | Wrong offset fault ↦ record { items = []; fault = Some (record { line = offset + 1; fault = fault }) }
-      | Wanted ↦ record {
+      | Done two count ↦ whole_reading compact_place skip (count + 1) (drop count lines)
+      | Fails offset fault ↦ record { items = []; fault = Some (record { line = offset + 1; fault = fault }) }
+      | NeedsMore ↦ record {
         items = [];
         fault = Some (record { line = length lines + 1; fault = fault_in_first_lines (length lines) });
       }
@@ -119,4 +119,4 @@ expansion_result choices lines = result_of expanded_unit (whole_compact choices.
 
 -- the expansion of an input
 abbrev pub expanded : List ℕ → Choices → FilterResult
-expanded input choices = expansion_result choices (map seen (lines_of input))
+expanded input choices = expansion_result choices (map as_read (lines_of input))

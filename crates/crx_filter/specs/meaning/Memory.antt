@@ -4,10 +4,10 @@
 -- Lists of items have the newest first.
 use Rattle.std.specs.Prelude.{ℕ, zero, suc, Bool, true, false, ◌&&◌, ◌+◌, List, [], ◌∷◌, ◌++◌, length, Option, Some, None}
 use Rattle.std.specs.Prelude.{if◌then◌else◌, nat_lt}
-use Rattle.crx_base.specs.meaning.Seen.{ReadLine}
+use Rattle.crx_base.specs.meaning.AsRead.{ReadLine}
 use Rattle.crx_base.specs.declared.fault.At.{At}
 use Rattle.crx_header.specs.meaning.ObservationTypes.{is_types_line}
-use Rattle.crx_rinex.specs.meaning.Places.{Place, Here, Wrong, Wanted}
+use Rattle.crx_rinex.specs.meaning.Places.{Place, Done, Fails, NeedsMore}
 use Rattle.crx_rinex.specs.meaning.Units.{Unit, HeaderLine, EventLine, EventRecord, Observation}
 use Rattle.crx_filter.specs.meaning.Items.{Item, Warned, records_count_types}
 use Rattle.crx_filter.specs.meaning.Reading.{Reading, AtFault, AtLines, Looking, is_skipped, can_go_on}
@@ -24,9 +24,9 @@ unit_takes takes items count (Observation epoch) = takes count true
 -- whether a line takes memory, by what is at the lines up to it: none that has a fault does, and an epoch's other
 -- lines do as `takes` says
 abbrev pub place_takes : {E : Type 0} → (ℕ → Bool → Bool) → List (Item E) → ℕ → Place (Unit E) → Bool
-place_takes takes items count (Here unit lines) = unit_takes takes items count unit
-place_takes takes items count (Wrong offset fault) = false
-place_takes takes items count Wanted = takes count false
+place_takes takes items count (Done unit lines) = unit_takes takes items count unit
+place_takes takes items count (Fails offset fault) = false
+place_takes takes items count NeedsMore = takes count false
 
 -- whether a line takes memory after some items and the lines of its unit before it
 abbrev pub line_takes : {E : Type 0} → (List (Item E) → List ReadLine → Place (Unit E))
@@ -38,13 +38,13 @@ line_takes place takes items before line =
 -- line takes memory then
 abbrev pub takes_after_warning : {E : Type 0} → (List (Item E) → List ReadLine → Place (Unit E)) → (ℕ → Bool → Bool)
     → Bool → List (Item E) → ℕ → ReadLine → Place (Unit E) → Option (List At)
-takes_after_warning place takes skip items number line (Here unit lines) = None
-takes_after_warning place takes skip items number line (Wrong offset fault) =
+takes_after_warning place takes skip items number line (Done unit lines) = None
+takes_after_warning place takes skip items number line (Fails offset fault) =
     let cut : At = record { line = number + offset; fault = fault } in
     if is_skipped skip items fault
     && ((nat_lt 0 offset && can_go_on line) && line_takes place takes (Warned cut ∷ items) [] line)
     then Some (cut ∷ []) else None
-takes_after_warning place takes skip items number line Wanted = None
+takes_after_warning place takes skip items number line NeedsMore = None
 
 -- the warnings of a line after which memory may run out at it, where it may at all, by the reading of the lines before it
 abbrev pub memory_allowed : {E : Type 0} → (List (Item E) → List ReadLine → Place (Unit E))

@@ -2,7 +2,7 @@
 -- runs.
 use Rattle.std.specs.Prelude.{◌≡◌, ◌≤◌, ◌↔◌, ℕ, List, [], ◌++◌, length, map, Option, None, true}
 use Rattle.crx_base.specs.meaning.Lines.{lines_of}
-use Rattle.crx_base.specs.meaning.Seen.{seen}
+use Rattle.crx_base.specs.meaning.AsRead.{as_read}
 use Rattle.crx_base.specs.declared.fault.At.{At}
 use Rattle.crx_base.specs.declared.fault.Fault.TheVariants.{OutOfMemory}
 use Rattle.crx_base.specs.declared.limits.TheConstants.{INPUT_LIMIT}
@@ -52,7 +52,7 @@ pub record BringsBack (writer messages : Device)
   pub normal : HasNormalForm file → IsResult (written_well (normal_form file)) writer messages status fault
   -- where faults were skipped, all units that were accepted, as RINEX prints them
   pub accepted :
-      let whole : WholeReading Epoch = whole_rinex compacting.skip (map seen (lines_of file)) in
+      let whole : WholeReading Epoch = whole_rinex compacting.skip (map as_read (lines_of file)) in
       whole.fault ≡ None → HaveNoReturns whole.items
       → IsResult (written_well (lines_text (printed_items whole.items))) writer messages status fault
 

@@ -2,13 +2,13 @@
 -- What is at a line is an argument, so that both directions read in this one way.
 use Rattle.std.specs.Prelude.{ℕ, Bool, true, false, ◌&&◌, ◌+◌, max, List, [], ◌∷◌, ◌==◌, Option, Some, None}
 use Rattle.std.specs.Prelude.{if◌then◌else◌, nat_lt, not, suc, zero, length, drop}
-use Rattle.crx_base.specs.meaning.Seen.{ReadLine, Content, Overlong}
+use Rattle.crx_base.specs.meaning.AsRead.{ReadLine, Content, Overlong}
 use Rattle.crx_base.specs.meaning.Faults.{is_skippable}
 use Rattle.crx_base.specs.declared.fault.Fault.{Fault}
 use Rattle.crx_base.specs.declared.fault.Fault.TheVariants.{MissingVersion, NoEndOfHeader, Truncated}
 use Rattle.crx_base.specs.declared.fault.At.{At}
 use Rattle.crx_header.specs.meaning.EpochColumns.{begins_epoch}
-use Rattle.crx_rinex.specs.meaning.Places.{Place, Here, Wrong, Wanted}
+use Rattle.crx_rinex.specs.meaning.Places.{Place, Done, Fails, NeedsMore}
 use Rattle.crx_rinex.specs.meaning.Units.{Unit}
 use Rattle.crx_filter.specs.meaning.Items.{Item, Accepted, Warned, header_has_ended, records_left}
 
@@ -58,9 +58,9 @@ abbrev pub reading_within : {E : Type 0}
 reading_within place skip zero items number lines = record { items = items; stop = AtLines number lines }
 reading_within place skip (suc units) items number lines =
     elim (place items lines) [
-      | Here unit count ↦ reading_within place skip units (Accepted unit ∷ items) (number + count) (drop count lines)
-      | Wrong offset fault ↦ after_fault skip (reading_within place skip units) items number lines offset fault
-      | Wanted ↦ record { items = items; stop = AtLines number lines }
+      | Done unit count ↦ reading_within place skip units (Accepted unit ∷ items) (number + count) (drop count lines)
+      | Fails offset fault ↦ after_fault skip (reading_within place skip units) items number lines offset fault
+      | NeedsMore ↦ record { items = items; stop = AtLines number lines }
     ]
 
 -- the reading after some items: each unit has at least one line

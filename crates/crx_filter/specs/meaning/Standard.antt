@@ -6,7 +6,7 @@ use Rattle.std.specs.List.{list_all, flat_map}
 use Rattle.std.specs.Str.{bytes_eq}
 use Rattle.crx_text.specs.meaning.Columns.{columns, without_blanks}
 use Rattle.crx_base.specs.meaning.Lines.{InputLine, lines_of}
-use Rattle.crx_base.specs.meaning.Seen.{seen}
+use Rattle.crx_base.specs.meaning.AsRead.{as_read}
 use Rattle.crx_base.specs.declared.fault.At.{At}
 use Rattle.crx_base.specs.declared.limits.TheConstants.{VERSION_WIDTH}
 use Rattle.crx_rinex.specs.meaning.Observations.{Epoch, observations_in}
@@ -26,7 +26,7 @@ printed_items items = written_lines (λ (before : List (Item Epoch)). printed_un
 
 -- the reading of all lines of a file, nothing being skipped
 abbrev pub whole_reading_of : List InputLine → WholeReading Epoch
-whole_reading_of lines = whole_rinex false (map seen lines)
+whole_reading_of lines = whole_rinex false (map as_read lines)
 
 -- the reading of a whole input
 abbrev pub whole_of : List ℕ → WholeReading Epoch

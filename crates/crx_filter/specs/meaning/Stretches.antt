@@ -4,7 +4,7 @@ use Rattle.std.specs.Prelude.{ℕ, ◌≡◌, ◌⊎◌, Bool, true, not, ◌||�
 use Rattle.std.specs.Prelude.{map, is_some}
 use Rattle.std.specs.List.{AllByRecursion, list_all, flat_map}
 use Rattle.crx_base.specs.meaning.Lines.{Piece, InputLine, pieces_of, lines_of, is_long, lines_text}
-use Rattle.crx_base.specs.meaning.Seen.{seen}
+use Rattle.crx_base.specs.meaning.AsRead.{as_read}
 use Rattle.crx_base.specs.declared.fault.At.{At}
 use Rattle.crx_header.specs.meaning.EpochColumns.{is_event_line, records_in}
 use Rattle.crx_rinex.specs.meaning.Observations.{Epoch}
@@ -24,7 +24,7 @@ use Rattle.crx_runs.specs.meaning.Spans.{Device}
 
 -- what was read of a file that is compacted
 abbrev pub read_of_file : List ℕ → Choices → WholeReading Epoch
-read_of_file file choices = whole_rinex choices.skip (map seen (lines_of file))
+read_of_file file choices = whole_rinex choices.skip (map as_read (lines_of file))
 
 -- a file whose compaction comes back: no fault ended its reading, and no line that is copied ends in CR
 pub record IsReadWhole (file : List ℕ) (choices : Choices) : Type 0 where

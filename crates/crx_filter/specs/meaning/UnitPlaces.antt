@@ -1,7 +1,7 @@
 -- What is at a line of an observation file, the header and an event's records being read alike in RINEX and in
 -- compact text: RINEX 3.05, tables A2 and A3, with this project's profile.
 use Rattle.std.specs.Prelude.{ℕ, Bool, List, Option, Some, None, Result, Ok, Err, if◌then◌else◌, nat_lt, not}
-use Rattle.crx_base.specs.meaning.Seen.{ReadLine}
+use Rattle.crx_base.specs.meaning.AsRead.{ReadLine}
 use Rattle.crx_base.specs.declared.fault.Fault.{Fault}
 use Rattle.crx_base.specs.declared.fault.Fault.TheVariants.{BadTypesLine}
 use Rattle.crx_rinex.specs.meaning.Places.{Place, first_line}

@@ -2,7 +2,7 @@
 use Rattle.std.specs.Prelude.{◌≡◌, ◌↔◌, ℕ, Bool, List, [], ◌∷◌, None, true, map}
 use Rattle.std.specs.List.{list_all}
 use Rattle.crx_base.specs.meaning.Lines.{InputLine, lines_of}
-use Rattle.crx_base.specs.meaning.Seen.{seen}
+use Rattle.crx_base.specs.meaning.AsRead.{as_read}
 use Rattle.crx_rinex.specs.meaning.Observations.{Epoch}
 use Rattle.crx_compact.specs.meaning.CompactPlaces.{ReadEpoch}
 use Rattle.crx_base.specs.meaning.Choices.{Choices}
@@ -36,7 +36,7 @@ pub record IsWrittenStandard (text : List ℕ) (choices : Choices) : Type 0 wher
       → IsStandard (expanded text choices).output
   -- and that is so exactly where a line that was copied has a content that ends in CR
   pub copied : has_plain_lines (expanded text choices).output ≡ true
-      ↔ HaveNoReturns (rinex_items (whole_compact choices.skip (map seen (lines_of text))).items)
+      ↔ HaveNoReturns (rinex_items (whole_compact choices.skip (map as_read (lines_of text))).items)
 
 -- where no fault ends the expansion of a text, what it writes is standard in this sense
 abbrev pub WhatIsExpandedIsStandard : List ℕ → Choices → Type 0

@@ -2,7 +2,7 @@
 -- whatever their numbers are.
 use Rattle.crx_filter.proofs.Words.{ℕ, zero, suc, ◌≡◌, ◌+◌, ◌-◌, max, Bool, cond, List, [], ◌∷◌, ◌++◌, length}
 use Rattle.crx_filter.proofs.Words.{drop, Option, Some, None, refl, ap, sym, ◌∙◌, ◌||◌, ReadLine, At, Fault}
-use Rattle.crx_filter.proofs.Words.{is_end_of_header, types_of, Wrong, HeaderLine, EventLine, EventRecord}
+use Rattle.crx_filter.proofs.Words.{is_end_of_header, types_of, Fails, HeaderLine, EventLine, EventRecord}
 use Rattle.crx_filter.proofs.Words.{Observation, printed_unit, ReadEpoch, Item, Accepted, Warned, is_at_start}
 use Rattle.crx_filter.proofs.Words.{header_has_ended, records_left, records_count_types, declaring_lines}
 use Rattle.crx_filter.proofs.Words.{types_in_force, Reading, Stop, AtFault, AtLines, Looking, is_skipped}
@@ -136,7 +136,7 @@ within-alike skip (suc units) a b m n lines e = by_place (compact_place a lines)
     ∙ sym (ap erased_reading (within-here compact_place skip units b n lines unit count
     (sym (place-alike a b e lines) ∙ is))))
     (λ offset fault is.
-    let there : compact_place b lines ≡ Wrong offset fault = sym (place-alike a b e lines) ∙ is in
+    let there : compact_place b lines ≡ Fails offset fault = sym (place-alike a b e lines) ∙ is in
     let read : List (Item ReadEpoch) → ℕ → List ReadLine → Reading ReadEpoch =
     reading_within compact_place skip units in
     let x : List (Item ReadEpoch) = Warned (record { line = m + offset; fault = fault }) ∷ a in

@@ -3,8 +3,8 @@
 use Rattle.crx_filter.proofs.Words.{ℕ, ◌≡◌, ◌+◌, ◌⊎◌, inl, inr, Bool, true, false, cond, List, [], ◌∷◌, ◌++◌}
 use Rattle.crx_filter.proofs.Words.{map, length, drop, Option, Some, None, refl, ap, sym, ◌∙◌, subst}
 use Rattle.crx_filter.proofs.Words.{append-nil, ◌&&◌, ◌==◌, nat_lt, and_parts, drop-append-le, lines_of}
-use Rattle.crx_filter.proofs.Words.{pieces_of, lines_text, ReadLine, Content, Overlong, seen, At, Fault}
-use Rattle.crx_filter.proofs.Words.{begins_epoch, is_event_line, Place, Here, Wrong, Wanted, one_line}
+use Rattle.crx_filter.proofs.Words.{pieces_of, lines_text, ReadLine, Content, Overlong, as_read, At, Fault}
+use Rattle.crx_filter.proofs.Words.{begins_epoch, is_event_line, Place, Done, Fails, NeedsMore, one_line}
 use Rattle.crx_filter.proofs.Words.{Remains, ReadEpoch, epoch_at, Choices, Item, header_has_ended}
 use Rattle.crx_filter.proofs.Words.{records_announced, records_left, types_in_force, Reading, WholeReading}
 use Rattle.crx_filter.proofs.Words.{Stop, AtFault, AtLines, Looking, is_skipped, reading_from, fault_at_end}
@@ -77,7 +77,8 @@ pub record GoesOn (skip : Bool) (items : List (Item ReadEpoch)) (lines : List Re
   pub same : r ≡ reading_from compact_place skip (with_warnings warnings items) number lines
 
 wanted-no_event : (items : List (Item ReadEpoch)) (line : List ℕ) (rest : List ReadLine)
-    → IsBetweenUnits items → compact_place items (Content line ∷ rest) ≡ Wanted → is_event_line line ≡ false
+    → IsBetweenUnits items → compact_place items (Content line ∷ rest) ≡ NeedsMore → is_event_line line ≡
+    false
 wanted-no_event items line rest between e = by_bool (is_event_line line)
     (λ on. absurd (one_line-decided (event_line {E = ReadEpoch} line) (sym (there on) ∙ e)))
     (λ off. off)
@@ -88,7 +89,7 @@ wanted-no_event items line rest between e = by_bool (is_event_line line)
         (raws_kept items) (Content line ∷ rest)))) on
 
 open-passed : (items : List (Item ReadEpoch)) (number : ℕ) (rest : List ReadLine) (line : List ℕ)
-    (tail : List ReadLine) → IsBetweenUnits items → compact_place items rest ≡ Wanted
+    (tail : List ReadLine) → IsBetweenUnits items → compact_place items rest ≡ NeedsMore
     → begins_epoch line ≡ true → GoesOn true items (Content line ∷ tail)
     (reading_from compact_place true items number (rest ++ Content line ∷ tail))
 open-passed items number [] line tail between e begins =
@@ -144,20 +145,20 @@ pub record IsTextRead (text : List ℕ) (choices : Choices) : Type 0 where
   pub whole : read_of_text text choices ≡ ended_reading choices.skip (record { items = items; stop = stop })
   pub further : (more : List ℕ) → read_of_text (text ++ more) choices
       ≡ ended_reading choices.skip (continued_reading compact_place choices.skip
-      (record { items = items; stop = stop }) (map seen (lines_of more)))
+      (record { items = items; stop = stop }) (map as_read (lines_of more)))
 
 text-read : (text : List ℕ) (choices : Choices) → CanGoOn text choices → IsTextRead text choices
 text-read text choices h = by_first (first_lines lines) refl
   where
     lines : List ReadLine
-    lines = map seen (lines_of text)
+    lines = map as_read (lines_of text)
 
     by_first : (p : Place (List (List ℕ))) → first_lines lines ≡ p → IsTextRead text choices
-    by_first (Wrong offset fault) e =
+    by_first (Fails offset fault) e =
         let never : ◌≡◌ {A = Option At} (Some (record { line = offset + 1; fault = fault })) None =
         rw (e, whole_compact) at h.good in absurd (cc)
-    by_first Wanted e = let never = rw (e, whole_compact) at h.good in absurd (cc)
-    by_first (Here two count) e =
+    by_first NeedsMore e = let never = rw (e, whole_compact) at h.good in absurd (cc)
+    by_first (Done two count) e =
         let r : Reading ReadEpoch =
         reading_from compact_place choices.skip [] (count + 1) (drop count lines) in
         record {
@@ -168,8 +169,8 @@ text-read text choices h = by_first (first_lines lines) refl
               (drop count lines) refl;
           whole = whole-at choices.skip lines two count e;
           further = λ more.
-              let M : List ReadLine = map seen (lines_of more) in
-              let stays : Remains (length lines) (Here two count) (first_lines (lines ++ M)) =
+              let M : List ReadLine = map as_read (lines_of more) in
+              let stays : Remains (length lines) (Done two count) (first_lines (lines ++ M)) =
               subst (λ q. Remains (length lines) q (first_lines (lines ++ M))) e
               (steady-first_lines lines M) in
               ap (whole_compact choices.skip) (pieces-append text more (each-ended (pieces_of text) h.lines))
@@ -273,7 +274,7 @@ pub record IsFurtherRead (text more : List ℕ) (choices : Choices) (lines : Lis
       ≡ ended_reading choices.skip (reading_from compact_place choices.skip items number lines)
 
 further-read : (text more : List ℕ) (choices : Choices) (line : List ℕ) (tail : List ReadLine)
-    → CanGoOn text choices → map seen (lines_of more) ≡ Content line ∷ tail → begins_epoch line ≡ true
+    → CanGoOn text choices → map as_read (lines_of more) ≡ Content line ∷ tail → begins_epoch line ≡ true
     → IsFurtherRead text more choices (Content line ∷ tail)
 further-read text more choices line tail h is begins =
     let t : IsTextRead text choices = text-read text choices h in
@@ -294,14 +295,14 @@ further-read text more choices line tail h is begins =
           (record { items = t.items; stop = t.stop }) ls)) is ∙ ap (ended_reading choices.skip) g.same;
     }
 
-nothing-more : (text more : List ℕ) (choices : Choices) → CanGoOn text choices → map seen (lines_of more) ≡ []
-    → read_of_text (text ++ more) choices ≡ read_of_text text choices
+nothing-more : (text more : List ℕ) (choices : Choices) → CanGoOn text choices → map as_read (lines_of more) ≡
+    [] → read_of_text (text ++ more) choices ≡ read_of_text text choices
 nothing-more text more choices h none =
     ap (whole_compact choices.skip) (pieces-append text more (each-ended (pieces_of text) h.lines)
-    ∙ ap (λ ls. map seen (lines_of text) ++ ls) none ∙ append-nil (map seen (lines_of text)))
+    ∙ ap (λ ls. map as_read (lines_of text) ++ ls) none ∙ append-nil (map as_read (lines_of text)))
 
 by-lines : (more one other : List ℕ) (choices : Choices) (lines : List ReadLine) → CanGoOn one choices
-    → CanGoOn other choices → HaveSameTypes one other choices → map seen (lines_of more) ≡ lines
+    → CanGoOn other choices → HaveSameTypes one other choices → map as_read (lines_of more) ≡ lines
     → starts_anew 0 lines ≡ true → GoOnWith more one other choices
 by-lines more one other choices [] h k types is anew =
     let first : read_of_text (one ++ more) choices ≡ read_of_text one choices =
@@ -346,4 +347,4 @@ by-lines more one other choices (Content line ∷ tail) h k types is anew =
 
 pub stand-alone : (more one other : List ℕ) (choices : Choices) → StandAlone more one other choices
 stand-alone more one other choices h k types anew =
-    by-lines more one other choices (map seen (lines_of more)) h k types refl anew
+    by-lines more one other choices (map as_read (lines_of more)) h k types refl anew

@@ -1,6 +1,6 @@
 -- What a compaction wrote of some units, read after other units that leave the same types.
 use Rattle.crx_filter.proofs.Words.{ℕ, ◌≡◌, ◌+◌, true, List, [], ◌∷◌, ◌++◌, map, length, Option, None, ap}
-use Rattle.crx_filter.proofs.Words.{sym, ◌∙◌, subst, lines_of, lines_text, Content, seen, version_line}
+use Rattle.crx_filter.proofs.Words.{sym, ◌∙◌, subst, lines_of, lines_text, Content, as_read, version_line}
 use Rattle.crx_filter.proofs.Words.{program_line, ReadEpoch, Choices, is_date, Epoch, Item, header_has_ended}
 use Rattle.crx_filter.proofs.Words.{records_left, Reading, AtLines, reading_from, ended_with, ended_reading}
 use Rattle.crx_filter.proofs.Words.{compact_lines, compact_place, expanded_unit, whole_compact, expanded}
@@ -22,7 +22,7 @@ use Rattle.crx_filter.proofs.damage.SavedText.{lines-append, warnings-append, no
 use Rattle.crx_filter.proofs.damage.TextAfter.{lines_on, reads-on, text-anew}
 use Rattle.crx_filter.proofs.stretches.KeptReading.{back_on, back-parts, back-printed}
 use Rattle.crx_filter.proofs.stretches.StretchesCut.{AreGood, good-before, kept-lines, kept-clean}
-use Rattle.crx_filter.proofs.stretches.StretchesSaved.{file-settled, file-good, front-seen, front-read}
+use Rattle.crx_filter.proofs.stretches.StretchesSaved.{file-settled, file-good, front-state, front-read}
 use Rattle.crx_laws.specs.Blocks.{IsPieceAfter}
 use Rattle.crx_filter.proofs.reading.Each.{header-append}
 
@@ -65,15 +65,16 @@ piece-back file front choices expanding text dated h =
     let left : records_left (more ++ x) ≡ 0 = left-append more x y (one.none ∙ sym two.none)
     ∙ ap records_left (sym (back-parts every h.piece h.before))
     ∙ left-same (known_back every) (h.piece ++ h.before) good.in_place ∙ h.whole.1 in
-    let cut : map seen (lines_of text) ≡ Content version_line ∷ Content (program_line choices.date)
-    ∷ (map Content old ++ map Content lines) = ap (λ t. map seen (lines_of t)) h.text_is
-    ∙ ap (λ ls. map seen (lines_of (lines_text (compact_lines choices first) ++ lines_text ls)))
+    let cut : map as_read (lines_of text) ≡ Content version_line ∷ Content (program_line choices.date)
+    ∷ (map Content old ++ map Content lines) = ap (λ t. map as_read (lines_of t)) h.text_is
+    ∙ ap (λ ls. map as_read (lines_of (lines_text (compact_lines choices first) ++ lines_text ls)))
     (kept-lines choices h.piece h.before good.in_place h.header)
-    ∙ front-seen choices first (lines_text lines) dated (file-good front choices h.front_good)
+    ∙ front-state choices first (lines_text lines) dated (file-good front choices h.front_good)
     (started first settled.header)
     ∙ ap (λ ls. Content version_line ∷ Content (program_line choices.date) ∷ (map Content old ++ ls))
     (lines-cut lines (kept-clean choices h.piece h.before good)) in
-    let whole : whole_compact skip (map seen (lines_of text)) ≡ record { items = more ++ x; fault = None } =
+    let whole : whole_compact skip (map as_read (lines_of text)) ≡ record { items = more ++ x; fault = None }
+    =
     ap (whole_compact skip) cut ∙ whole-after skip choices.date (map Content old ++ map Content lines)
     ∙ ap (ended_reading skip) (resumed compact_place compact-forward skip [] 3 (map Content old)
     (map Content lines) ∙ ap (λ r. continued_reading compact_place skip r (map Content lines))

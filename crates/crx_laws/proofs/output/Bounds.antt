@@ -1,15 +1,15 @@
 -- What is held between two lines is bounded.
 use Rattle.crx_filter.proofs.Words.{ℕ, zero, suc, ◌≡◌, Bool, List, [], ◌∷◌, Option, Some, None, ap, sym, ◌∙◌}
 use Rattle.crx_filter.proofs.Words.{subst, arith, All, AllByRecursion, All-head, All-tail, ReadLine, Row}
-use Rattle.crx_filter.proofs.Words.{Epoch, Count, Here, IsSoundRow, HeaderLine, EventLine, EventRecord}
+use Rattle.crx_filter.proofs.Words.{Epoch, Count, Done, IsSoundRow, HeaderLine, EventLine, EventRecord}
 use Rattle.crx_filter.proofs.Words.{Observation, OpenEpoch, ReadEpoch, epoch_at, RawEpoch, Tail, OpenRawEpoch}
 use Rattle.crx_filter.proofs.Words.{first_step, open_raw_with, Choices, Item, Accepted, Warned}
 use Rattle.crx_filter.proofs.Words.{header_has_ended, records_left, records_count_types, types_in_force}
 use Rattle.crx_filter.proofs.Words.{Reading, Stop, AtLines, Phase, InEpoch, Ended, kept_in, phase_in_body}
 use Rattle.crx_filter.proofs.Words.{phase_after_items, phase_of, marked_epochs, rinex_place, rinex_reading}
-use Rattle.crx_filter.proofs.Words.{Written, compaction, written_of, rinex_open, compaction_seen}
+use Rattle.crx_filter.proofs.Words.{Written, compaction, written_of, rinex_open, compaction_state}
 use Rattle.crx_filter.proofs.Words.{compact_place, empties_state, raws_kept, first_lines, compact_reading}
-use Rattle.crx_filter.proofs.Words.{expansion, tail_of_items, begins_event, compact_open, expansion_seen}
+use Rattle.crx_filter.proofs.Words.{expansion, tail_of_items, begins_event, compact_open, expansion_state}
 use Rattle.crx_filter.proofs.Words.{ItemsAreRead, AreInPlace}
 use Rattle.std.proofs.Common.{IfSome}
 use Rattle.crx_base.specs.declared.limits.TheConstants.{ORDER_LIMIT, WRITTEN_ORDER}
@@ -96,7 +96,7 @@ written-in (Ended at) kept h = tt
 written-in phase kept h = h
 
 pub compaction-bounded : (choices : Choices) (lines : List ReadLine)
-    → IsBoundedCompaction (compaction_seen choices lines)
+    → IsBoundedCompaction (compaction_state choices lines)
 compaction-bounded choices lines =
     let r : Reading Epoch = rinex_reading choices.skip lines in
     let counts : AreCounts (types_in_force r.items) = counts-in_force r.items in
@@ -134,10 +134,10 @@ left-bounded (Accepted (Observation read) ∷ before) h =
     let stood = epoch-read before read (h.0).0 (h.0).1 (h.0).2 in
     let lines : List ReadLine = stood.0 in
     let count : ℕ = stood.1 in
-    let here : epoch_at types raws lines ≡ Here read count = stood.2 in
-    let after : epoch_after types (tail_left raws) lines ≡ Here read count =
+    let here : epoch_at types raws lines ≡ Done read count = stood.2 in
+    let after : epoch_after types (tail_left raws) lines ≡ Done read count =
     sym (place-by_tail types raws lines) ∙ here in
-    let placed : place_by_steps types (tail_left raws) lines ≡ Here (held_after (tail_left raws) read) count =
+    let placed : place_by_steps types (tail_left raws) lines ≡ Done (held_after (tail_left raws) read) count =
     sym (steps-agree types (tail_left raws) lines) ∙ ap (placed_as (held_after (tail_left raws))) after in
     let bounded : IsBoundedTail ORDER_LIMIT (held_after (tail_left raws) read).tail = subst OfHeld placed
     (by-steps types (tail_left raws) lines (counts-in_force before) (left-bounded before h.1)) in
@@ -174,7 +174,7 @@ first-phase lines phase h = by_place (first_lines lines)
     (λ e. rw (e, phase_from_first_lines) tt)
 
 pub expansion-bounded : (choices : Choices) (lines : List ReadLine)
-    → IsBoundedExpansion (expansion_seen choices lines)
+    → IsBoundedExpansion (expansion_state choices lines)
 expansion-bounded choices lines =
     let r : Reading ReadEpoch = compact_reading choices.skip lines in
     let counts : AreCounts (types_in_force r.items) = counts-in_force r.items in

@@ -2,7 +2,7 @@
 use Rattle.crx_filter.proofs.Words.{◌≡◌, refl, ℕ, suc, ◌+◌, ◌*◌, ◌≤◌, Bool, true, false, List, [], ◌∷◌, drop}
 use Rattle.crx_filter.proofs.Words.{map, length, Option, Some, None, Result, Ok, Err, is_some, sym, ◌∙◌, ap}
 use Rattle.crx_filter.proofs.Words.{arith, inl, inr, ◌⊎◌, true≢false, Content, Fault, OutOfMemory, Epoch}
-use Rattle.crx_filter.proofs.Words.{Count, Place, Here, Wanted, Marked, compact_epoch, Tail, OpenRawEpoch}
+use Rattle.crx_filter.proofs.Words.{Count, Place, Done, NeedsMore, Marked, compact_epoch, Tail, OpenRawEpoch}
 use Rattle.crx_filter.proofs.Words.{RawStep, first_step, TYPES_LIMIT, is_event_line, AllByRecursion}
 use Rattle.std.specs.Prelude.{slice_get, IfOk, IfErr}
 use Rattle.crx_compact.specs.meaning.Compaction.{since_full}
@@ -71,7 +71,7 @@ midway-stands place state all lines line fault w e (inl h) =
 midway-stands place state all lines line fault w e (inr h) = inr h
 
 pub midway-over : (place : Place HeldEpoch) (state : ColumnsState) (all lines : List (List ℕ))
-    → IsMidway place state all lines → None ≡ slice_get lines 0 → place ≡ Wanted
+    → IsMidway place state all lines → None ≡ slice_get lines 0 → place ≡ NeedsMore
 midway-over place state all lines w e = cc (w.left, none-is lines e)
 
 pub midway-idle : (place : Place HeldEpoch) (state : ColumnsState) (all lines : List (List ℕ))
@@ -81,13 +81,13 @@ midway-idle place state all lines w = ap is_idle w.reading
 -- ---- what was written
 
 abbrev stands : Place HeldEpoch → Bool
-stands (Here h n) = true
+stands (Done h n) = true
 stands p = false
 
 written : (types : List Count) (tail : Option Tail) (lines : List (List ℕ)) (m : Marked) (older : List Marked)
     → AreWhole types (since_full (m ∷ older)) → lines ≡ compact_epoch (m ∷ older)
     → (m.in_full ≡ false → tail ≡ tail_or_nothing older) → place_by_steps types tail (map Content lines)
-    ≡ Here (record { epoch = m.epoch; tail = tail_of (m ∷ older) }) (2 + length m.epoch.rows)
+    ≡ Done (record { epoch = m.epoch; tail = tail_of (m ∷ older) }) (2 + length m.epoch.rows)
 written types tail lines m older h e k = cc (e, steps-read_back types m older tail h k)
 
 -- each of them may be read

@@ -4,7 +4,7 @@ use Rattle.crx_filter.proofs.Words.{length, map, take, drop, Option, Some, None,
 use Rattle.crx_filter.proofs.Words.{AllByRecursion, sym, ◌∙◌, ap, subst, arith, length-map, is_blank}
 use Rattle.crx_filter.proofs.Words.{character_at, without_end_blanks, columns, code_of, ReadLine, Content}
 use Rattle.crx_filter.proofs.Words.{Overlong, Fault, BadClock, Truncated, NAME_WIDTH, TYPES_LIMIT, Place}
-use Rattle.crx_filter.proofs.Words.{Here, types_of_satellite, Count, and_then, begins_epoch, Satellite}
+use Rattle.crx_filter.proofs.Words.{Done, types_of_satellite, Count, and_then, begins_epoch, Satellite}
 use Rattle.crx_filter.proofs.Words.{cell_read, clock_line_read, satellite_line_read, satellites_of_line, Tail}
 use Rattle.crx_filter.proofs.Words.{OpenRawEpoch, RawStep, first_step, next_step, open_raw_after}
 use Rattle.std.specs.Prelude.{slice_get, IfSome, slice_index_or, slice_set, unwrap_or}
@@ -334,7 +334,7 @@ open-bounded lines step h = tt
 
 -- what an epoch leaves, where one is at some lines
 abbrev pub OfHeld : Place HeldEpoch → Type 0
-OfHeld (Here held count) = IsBoundedTail ORDER_LIMIT held.tail
+OfHeld (Done held count) = IsBoundedTail ORDER_LIMIT held.tail
 OfHeld p = ⊤
 
 pub place-bounded : (lines : List ReadLine) (count : ℕ) (step : RawStep)

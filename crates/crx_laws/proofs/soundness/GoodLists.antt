@@ -1,6 +1,6 @@
 -- Epochs that were read one after another are whole.
 use Rattle.crx_filter.proofs.Words.{List, [], ◌∷◌, map, drop, AllByRecursion, ap, subst, ReadLine, Count}
-use Rattle.crx_filter.proofs.Words.{Place, Here, then_place, ReadEpoch, epoch_at}
+use Rattle.crx_filter.proofs.Words.{Place, Done, then_place, ReadEpoch, epoch_at}
 use Rattle.crx_compact.specs.ReadingLaws.{epochs_at, HasPrintableMarks, AreGood, ReadsWholeLists}
 use Rattle.crx_compact.proofs.soundness.Soundness.{thing_here, then-comes}
 use Rattle.crx_compact.proofs.soundness.Goodness.{reads-whole}
@@ -17,12 +17,12 @@ pub reads-whole_lists : ReadsWholeLists
 reads-whole_lists [] lines epochs count h e = cc
 reads-whole_lists (types ∷ counts) lines epochs count h e =
     let next : List ReadEpoch → List ReadLine → Place (List ReadEpoch) = λ es others. then_place
-    (epoch_at types (map (λ (r : ReadEpoch). r.raw) es) others) others (λ epoch rest. Here (epoch ∷ es) 0) in
+    (epoch_at types (map (λ (r : ReadEpoch). r.raw) es) others) others (λ epoch rest. Done (epoch ∷ es) 0) in
     let one = then-comes (epochs_at counts lines) lines next epochs count e in
     let good = reads-whole_lists counts lines one.from one.count h.1 one.first in
     let raws = map (λ (r : ReadEpoch). r.raw) one.from in
     let others = drop one.count lines in
-    let two = then-comes (epoch_at types raws others) others (λ epoch rest. Here (epoch ∷ one.from) 0) epochs
+    let two = then-comes (epoch_at types raws others) others (λ epoch rest. Done (epoch ∷ one.from) 0) epochs
     one.more one.later in
     let same = ap (thing_here (two.from ∷ one.from)) two.later in
     let P : List ReadEpoch → Type 0 = λ es. AreGood (types ∷ counts) es in

@@ -1,7 +1,7 @@
 -- What was written, read back line by line.
 use Rattle.crx_filter.proofs.Words.{◌≡◌, refl, ◌+◌, Bool, true, false, List, [], ◌∷◌, length, Option, Some}
 use Rattle.crx_filter.proofs.Words.{if◌then◌else◌, sym, ◌∙◌, ap, append-nil, ReadLine, Epoch, Count, Place}
-use Rattle.crx_filter.proofs.Words.{Here, Marked, epoch_line, begins_epoch, Tail, epoch_at}
+use Rattle.crx_filter.proofs.Words.{Done, Marked, epoch_line, begins_epoch, Tail, epoch_at}
 use Rattle.std.specs.Prelude.{unwrap_or}
 use Rattle.crx_compact.specs.meaning.Compaction.{epoch_text, since_full}
 use Rattle.crx_compact.specs.Tails.{tail_of, tail_or_nothing, tail_left}
@@ -25,11 +25,11 @@ some-same x y e = ap (λ o. unwrap_or o x) e
 read-after : (types : List Count) (m : Marked) (older : List Marked) → AreWhole types (since_full (m ∷ older))
     → placed_as (held_after (tail_left (raws_of older)))
     (epoch_after types (tail_left (raws_of older)) (lines_of_epoch (m ∷ older)))
-    ≡ Here (record { epoch = m.epoch; tail = tail_of (m ∷ older) }) (2 + length m.epoch.rows)
+    ≡ Done (record { epoch = m.epoch; tail = tail_of (m ∷ older) }) (2 + length m.epoch.rows)
 read-after types m older h =
     let lines : List ReadLine = lines_of_epoch (m ∷ older) in
     let left : Option Tail = tail_left (raws_of older) in
-    let read : epoch_at types (raws_of older) lines ≡ Here (read_of m older) (2 + length m.epoch.rows) =
+    let read : epoch_at types (raws_of older) lines ≡ Done (read_of m older) (2 + length m.epoch.rows) =
     ap (epoch_at types (raws_of older)) (sym (append-nil lines))
     ∙ (each-reads_back types m older (raws_of older) h (λ later. refl)).reads [] in
     let tail : (held_after left (read_of m older)).tail ≡ tail_of (m ∷ older) =
@@ -38,7 +38,7 @@ read-after types m older h =
     (raws_of older) lines (read_of m older) (2 + length m.epoch.rows) read).single)
     ∙ one-tail types m older h) in
     ap (placed_as (held_after left)) (sym (place-by_tail types (raws_of older) lines) ∙ read)
-    ∙ ap {B = Place HeldEpoch} (λ t. Here (record { epoch = m.epoch; tail = t })
+    ∙ ap {B = Place HeldEpoch} (λ t. Done (record { epoch = m.epoch; tail = t })
     (2 + length m.epoch.rows)) tail
 
 -- a full epoch is read back after anything
@@ -66,7 +66,7 @@ steps-read_back types m older tail h k = by_full m.in_full m.epoch h k
     by_full : (full : Bool) (e : Epoch)
         → AreWhole types (since_full (marked full e ∷ older)) → (full ≡ false → tail ≡ tail_or_nothing older)
         → place_by_steps types tail (lines_of_epoch (marked full e ∷ older))
-        ≡ Here (record { epoch = e; tail = tail_of (marked full e ∷ older) }) (2 + length e.rows)
+        ≡ Done (record { epoch = e; tail = tail_of (marked full e ∷ older) }) (2 + length e.rows)
     by_full true e h k = sym (steps-agree types tail (lines_of_epoch (marked true e ∷ older)))
         ∙ full-after types e older tail (tail_left (raws_of older)) h
         ∙ read-after types (marked true e) older h

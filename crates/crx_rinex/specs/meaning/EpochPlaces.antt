@@ -1,11 +1,11 @@
 -- Observation epochs among the lines of a file, and the epoch whose lines have come in part: RINEX 3.05, table A3.
 use Rattle.std.specs.Prelude.{ℕ, zero, suc, ◌-◌, List, [], ◌∷◌, ◌++◌, length, Result, Ok, Err, if◌then◌else◌}
-use Rattle.crx_base.specs.meaning.Seen.{ReadLine}
+use Rattle.crx_base.specs.meaning.AsRead.{ReadLine}
 use Rattle.crx_base.specs.declared.fault.Fault.{Fault}
 use Rattle.crx_base.specs.declared.fault.Fault.TheVariants.{RepeatedSatellite, Truncated}
 use Rattle.crx_rinex.specs.meaning.Observations.{Row, Epoch}
 use Rattle.crx_rinex.specs.meaning.Units.{Unit, EventLine, Observation}
-use Rattle.crx_rinex.specs.meaning.Places.{Place, Here, then_place, first_line}
+use Rattle.crx_rinex.specs.meaning.Places.{Place, Done, then_place, first_line}
 use Rattle.crx_rinex.specs.meaning.EpochLines.{HeadLine, EventHead, EpochHead, ObservationHead, head_of}
 use Rattle.crx_header.specs.meaning.EpochColumns.{begins_epoch}
 use Rattle.crx_rinex.specs.meaning.Epochs.{has_satellite}
@@ -49,7 +49,7 @@ row_at so_far lines = first_line lines (next_row so_far)
 
 -- the epoch, once so many more rows have come
 abbrev pub rows_at : OpenEpoch → ℕ → List ReadLine → Place Epoch
-rows_at so_far zero lines = Here (epoch_of so_far) 0
+rows_at so_far zero lines = Done (epoch_of so_far) 0
 rows_at so_far (suc count) lines =
     then_place (row_at so_far lines) lines (λ row rest. rows_at (with_next_row so_far row) count rest)
 
@@ -75,9 +75,9 @@ beginning_of line = begun_by line (head_of line)
 
 -- an event's first line is a unit of its own; an observation epoch has its rows after its line
 abbrev pub unit_begun : List Count → Beginning → List ReadLine → Place (Unit Epoch)
-unit_begun types (EventBegins line) lines = Here (EventLine line) 0
+unit_begun types (EventBegins line) lines = Done (EventLine line) 0
 unit_begun types (EpochBegins head) lines =
-    then_place (rest_at (opened types head) lines) lines (λ epoch rest. Here (Observation epoch) 0)
+    then_place (rest_at (opened types head) lines) lines (λ epoch rest. Done (Observation epoch) 0)
 
 -- what is where an epoch or an event may begin
 abbrev pub epoch_place : List Count → List ReadLine → Place (Unit Epoch)

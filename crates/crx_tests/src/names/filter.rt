@@ -2,7 +2,7 @@
 
 ghost use Rattle.std.specs.Prelude.{◌≡◌, ◌≤◌, ◌+◌, []};
 ghost use Rattle.crx_base.specs.declared.limits.TheConstants.{INPUT_LIMIT};
-ghost use Rattle.crx_filter.specs.CompactorState.{compactor_ready, compactor_seen};
+ghost use Rattle.crx_filter.specs.CompactorState.{compactor_ready, compactor_state};
 ghost use Rattle.crx_filter.specs.ExpanderState.{expander_ready, expander_state};
 ghost use Rattle.crx_lines.specs.Reading.{line_number};
 
@@ -36,7 +36,7 @@ fn compactor(alloc: Global, options: Options) -> Result<Compactor, AllocError> {
 
 fn compactor_fed(compactor: &mut Compactor, line: Line<'_>) -> Result<Step, At>
     requires drained { compactor_ready compactor.old ≡ [] }
-    requires next { line_number line ≡ (compactor_seen compactor.old).number + 1 }
+    requires next { line_number line ≡ (compactor_state compactor.old).number + 1 }
     requires within { line_number line ≤ INPUT_LIMIT }
 {
     compactor.feed(line)
@@ -44,7 +44,7 @@ fn compactor_fed(compactor: &mut Compactor, line: Line<'_>) -> Result<Step, At>
 
 fn compactor_passed(compactor: &mut Compactor, number: u64) -> Result<Step, At>
     requires drained { compactor_ready compactor.old ≡ [] }
-    requires next { number ≡ (compactor_seen compactor.old).number + 1 }
+    requires next { number ≡ (compactor_state compactor.old).number + 1 }
     requires within { number ≤ INPUT_LIMIT }
 {
     compactor.overlong(number)

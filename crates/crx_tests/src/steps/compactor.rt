@@ -1,7 +1,7 @@
 //! The engine that compacts.
 
 ghost use Rattle.std.specs.Prelude.{◌≡◌, ◌+◌, []};
-ghost use Rattle.crx_filter.specs.CompactorState.{compactor_seen, compactor_ready};
+ghost use Rattle.crx_filter.specs.CompactorState.{compactor_state, compactor_ready};
 
 use super::*;
 use crate::owned::Owned;
@@ -9,7 +9,7 @@ use crx_filter::Compactor;
 
 /// Takes the lines that are ready, at most four: how many there were.
 fn take_ready(engine: &mut Compactor) -> usize
-    ensures { compactor_seen engine.new ≡ compactor_seen engine.old }
+    ensures { compactor_state engine.new ≡ compactor_state engine.old }
 {
     if engine.next_line().is_none() {
         return 0;
@@ -38,9 +38,9 @@ fn feed_one(
     ready: usize,
 ) -> u64
     requires drained { compactor_ready engine.old ≡ [] }
-    requires counted { (compactor_seen engine.old).number ≡ taken }
+    requires counted { (compactor_state engine.old).number ≡ taken }
     ensures drained { compactor_ready engine.new ≡ [] }
-    ensures counted { (compactor_seen engine.new).number ≡ result }
+    ensures counted { (compactor_state engine.new).number ≡ result }
 {
     let place = line.number() as usize;
     expect_at(rt, taken < 1000, name, place);
@@ -69,7 +69,7 @@ fn feed_last(
     at: At,
 )
     requires drained { compactor_ready engine.old ≡ [] }
-    requires counted { (compactor_seen engine.old).number ≡ taken }
+    requires counted { (compactor_state engine.old).number ≡ taken }
 {
     let place = line.number() as usize;
     expect_at(rt, taken < 1000, name, place);
@@ -93,7 +93,7 @@ fn feed_all(
     run: &Run,
 )
     requires drained { compactor_ready engine.old ≡ [] }
-    requires counted { (compactor_seen engine.old).number ≡ 0 }
+    requires counted { (compactor_state engine.old).number ≡ 0 }
 {
     let mut taken: u64 = 0;
     for answer in run.answers {

@@ -3,7 +3,7 @@
 use Rattle.std.specs.Prelude.{◌≡◌, ◌⊎◌, ◌<◌, ◌≤◌, ℕ, ◌+◌, ◌-◌, Bool, true, false, List, [], ◌∷◌, ◌++◌, length}
 use Rattle.std.specs.Prelude.{take, Option, Some, None, is_some}
 use Rattle.crx_base.specs.meaning.Lines.{InputLine, lines_of}
-use Rattle.crx_base.specs.meaning.Seen.{ended_lines_of}
+use Rattle.crx_base.specs.meaning.AsRead.{ended_lines_of}
 use Rattle.crx_base.specs.declared.fault.At.{At}
 use Rattle.crx_base.specs.declared.fault.Fault.TheVariants.{InputTooLong, OutOfMemory}
 use Rattle.crx_base.specs.declared.limits.TheConstants.{INPUT_LIMIT}

@@ -2,7 +2,7 @@
 -- `holds result` says that a call answered this result, and put its texts into the caller's rooms.
 use Rattle.std.specs.Prelude.{◌≡◌, ◌↔◌, ℕ, List, map, None, true}
 use Rattle.crx_base.specs.meaning.Lines.{lines_of}
-use Rattle.crx_base.specs.meaning.Seen.{seen}
+use Rattle.crx_base.specs.meaning.AsRead.{as_read}
 use Rattle.crx_rinex.specs.meaning.Observations.{Epoch}
 use Rattle.crx_base.specs.meaning.Choices.{Choices, is_date}
 use Rattle.crx_filter.specs.meaning.Compacted.{whole_rinex, compacted}
@@ -23,7 +23,7 @@ pub record CallBringsBack (holds : FilterResult → Type 0) (file : List ℕ) (c
   pub normal : HasNormalForm file → holds (written_well (normal_form file))
   -- where faults were skipped, all units that were accepted, as RINEX prints them
   pub accepted :
-      let whole : WholeReading Epoch = whole_rinex compacting.skip (map seen (lines_of file)) in
+      let whole : WholeReading Epoch = whole_rinex compacting.skip (map as_read (lines_of file)) in
       whole.fault ≡ None → HaveNoReturns whole.items → holds (written_well (lines_text (printed_items whole.items)))
 
 abbrev pub CallBringsBackWhatWasCompacted : (FilterResult → Type 0) → List ℕ → Type 0

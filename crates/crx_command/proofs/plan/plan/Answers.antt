@@ -8,7 +8,7 @@ use Rattle.clap.specs.declared.error.ErrorKind.TheVariants.{DisplayHelp, OutOfMe
 use Rattle.crx_command.proofs.{AlikeKinds.program_alike, PlanSteps.{program_is_free, program_is_simple}}
 use Rattle.crx_command.proofs.PlanSteps.{both_halves, same_plan, not_run_plan}
 use Rattle.crx_command.specs.meaning.{Commands.program, Planning.{Plan, Help, Refused, Parse}}
-use Rattle.crx_command.specs.meaning.Planning.{by_kind, judged, of_subcommand, plan_of}
+use Rattle.crx_command.specs.meaning.Planning.{by_kind, decide, of_subcommand, plan_of}
 use Rattle.crx_command.proofs.plan.plan.Goals as goal
 
 module _ (app : App) (texts words : List (List ℕ)) (is : app ≡ program) (same : texts ≡ words) where
@@ -55,6 +55,6 @@ returns c =
     c.in-Ok.matches c.in-Ok.ensures.kinds c.in-Ok.ensures.matches in
     record {
       value = same_plan _ _ _
-          (ap₂ judged c.tool_named.ensures c.arguments_of.ensures ∙ (ap of_subcommand whole ∙ is))
+          (ap₂ decide c.tool_named.ensures c.arguments_of.ensures ∙ (ap of_subcommand whole ∙ is))
           c.decide_for.ensures;
     }

@@ -25,7 +25,8 @@ loop-index-preserved c =
     let long = c.loop-index.invariant.long in
     let less : index < order = c.loop-index-test.true in
     let few : index ≤ 9 = omega arith in
-    let many : length (take order ds) ≡ order = length-take-le order ds (omega (arith, long, c.requires.within)) in
+    let many : length (take order ds) ≡ order = length-take-le order ds
+    (omega (arith, long, c.requires.within)) in
     let here : index < length (take order ds) = omega (arith, many, less) in
     let same = before order index ds less in
     let fits : FitsSigned w64 (slice_index_or ds index (pos 0)) =

@@ -5,13 +5,13 @@ use Rattle.crx_text.specs.meaning.Numbers.{observation_text}
 use Rattle.crx_compact.proofs.PlaceByPlace.{print-on}
 use Rattle.crx_compact.proofs.cells.print_cells.Goals as goal
 
-pub loop-place-preserved : goal.loop-place-preserved
-loop-place-preserved c =
-    let place = c.loop-place.place in
+pub loop-index-preserved : goal.loop-index-preserved
+loop-index-preserved c =
+    let place = c.loop-index.index in
     let flags = c.args.flags.now in
-    let before = take c.loop-place.end c.loop-place.bytes in
-    let printed : take (c.loop-place.end + 16) c.obs_print_cell.new.bytes
-    ≡ before ++ (observation_text (shown_value c.index-arcs-place.result)
+    let before = take c.loop-index.end c.loop-index.bytes in
+    let printed : take (c.loop-index.end + 16) c.obs_print_cell.new.bytes
+    ≡ before ++ (observation_text (shown_value c.index-arcs-index.result)
     ++ at flags (2 * place) ∷ at flags (2 * place + 1) ∷ []) =
     rw (get_or_default_zero flags (2 * place) 32 (omega arith))
     (rw (get_or_default_zero flags (2 * place + 1) 32 (omega arith)) (c.obs_print_cell.ensures.written
@@ -19,8 +19,8 @@ loop-place-preserved c =
     (2 * place + 1) ∷ []))
     c.value.ensures.value)) in
     record {
-      cells = print-on c.args.arcs.now flags before _ _ place c.index-arcs-place.result c.loop-place-test.true
-          c.index-arcs-place.is printed c.loop-place.invariant.cells;
+      cells = print-on c.args.arcs.now flags before _ _ place c.index-arcs-index.result c.loop-index-test.true
+          c.index-arcs-index.is printed c.loop-index.invariant.cells;
       end = omega arith;
       long = omega arith;
     }

@@ -7,8 +7,8 @@ use Rattle.crx_compact.proofs.CellsRead.{read-all}
 use Rattle.crx_compact.proofs.cells.read_cells.Goals.{in-Some, in-None+in_ok-length-in-None}
 use Rattle.crx_compact.proofs.cells.read_cells.Goals as goal
 
-pub loop-place-init : goal.loop-place-init
-loop-place-init c = read-none (take c.args.count c.args.arcs.now) c.args.line.now
+pub loop-index-init : goal.loop-index-init
+loop-index-init c = read-none (take c.args.count c.args.arcs.now) c.args.line.now
 
 pub returns-in_err-length-in-None-clause-err : goal.returns-in_err-length-in-None-clause-err
 returns-in_err-length-in-None-clause-err c =
@@ -17,28 +17,28 @@ returns-in_err-length-in-None-clause-err c =
     let many = length-take-le c.args.count c.args.arcs.now c.requires.fitting in
     rw (p.1, p.2) (subst (λ n. cells_read (value_at_place first) (cells_of n c.args.line.now)
     ≡ Err c.in_err-length-in-None.field-0.0) many
-    (next-refused _ _ _ _ _ _ c.loop-place.invariant (omega (arith, many, c.loop-place-test.true))
-    (first-refused c.args.count c.loop-place.arcs c.loop-place.place c.loop-place.rest.now _
-    c.loop-place-test.true
+    (next-refused _ _ _ _ _ _ c.loop-index.invariant (omega (arith, many, c.loop-index-test.true))
+    (first-refused c.args.count c.loop-index.arcs c.loop-index.index c.loop-index.rest.now _
+    c.loop-index-test.true
     (rw c.in-None.ensures.none at c.in_err-length-in-None.ensures.err))))
 
-pub loop-place-preserved : goal.loop-place-preserved
-loop-place-preserved c =
+pub loop-index-preserved : goal.loop-index-preserved
+loop-index-preserved c =
     let many = length-take-le c.args.count c.args.arcs.now c.requires.fitting in
-    let within : c.loop-place.place < length (take c.args.count c.args.arcs.now) =
-    omega (arith, many, c.loop-place-test.true) in
+    let within : c.loop-index.index < length (take c.args.count c.args.arcs.now) =
+    omega (arith, many, c.loop-index-test.true) in
     elim c.match-read_cell_fast.branch [
       | in-Some w ↦
-          read-next _ _ _ _ _ _ _ _ w.in-Some.length c.loop-place.invariant within
-          (first-read c.args.count _ _ _ _ _ c.loop-place-test.true w.in-Some.ensures.some)
+          read-next _ _ _ _ _ _ _ _ w.in-Some.length c.loop-index.invariant within
+          (first-read c.args.count _ _ _ _ _ c.loop-index-test.true w.in-Some.ensures.some)
           (ap (take c.args.count) w.arcs-is)
           (ap {B = List ℕ} (λ (b : Bor (List ℕ)). b.now) w.rest-is ∙ w.rest_after-rest.ensures)
       | in-None+in_ok-length-in-None w ↦
-          read-next _ _ _ _ _ _ _ _ w.in_ok-length-in-None.length c.loop-place.invariant within
-          (first-read c.args.count _ _ _ _ _ c.loop-place-test.true
+          read-next _ _ _ _ _ _ _ _ w.in_ok-length-in-None.length c.loop-index.invariant within
+          (first-read c.args.count _ _ _ _ _ c.loop-index-test.true
           (rw w.in-None.ensures.none at w.in_ok-length-in-None.ensures.ok)) (ap (take c.args.count) w.arcs-is)
           (ap {B = List ℕ} (λ (b : Bor (List ℕ)). b.now) w.rest-is ∙ w.rest_after-rest-in-None.ensures)
     ]
 
 pub returns-clause-ok : goal.returns-clause-ok
-returns-clause-ok c = search (rules, length-take-le, c.requires.fitting, read-all, c.loop-place.invariant)
+returns-clause-ok c = search (rules, length-take-le, c.requires.fitting, read-all, c.loop-index.invariant)

@@ -6,16 +6,17 @@ use Rattle.crx_compact.proofs.AlikeFrom.{alike-there, alike-after}
 use Rattle.crx_compact.proofs.PlaceByPlace.{cells-more}
 use Rattle.crx_compact.proofs.cells.write_cells.Goals as goal
 
-pub loop-place-preserved : goal.loop-place-preserved
-loop-place-preserved c =
-    let place : ℕ = c.loop-place.place in
+pub loop-index-preserved : goal.loop-index-preserved
+loop-index-preserved c =
+    let place : ℕ = c.loop-index.index in
     let values : List (Option ℤ) = c.args.values.now in
-    let arcs : List (Option ArcTail) = c.loop-place.arcs in
-    let there : place < length values = c.loop-place-test.true in
-    let i = c.loop-place.invariant in
+    let arcs : List (Option ArcTail) = c.loop-index.arcs in
+    let there : place < length values = c.loop-index-test.true in
+    let i = c.loop-index.invariant in
     let within : place < length arcs = omega (arith, there, i.counted) in
-    let same : get_or arcs place c.index-arcs-place.result ≡ get_or (take (length values) c.args.arcs.now) place None =
-    alike-there arcs c.args.arcs.now place c.index-arcs-place.result None i.rest within
+    let same : get_or arcs place c.index-arcs-index.result ≡ get_or (take (length values) c.args.arcs.now)
+    place None =
+    alike-there arcs c.args.arcs.now place c.index-arcs-index.result None i.rest within
     ∙ sym (get_or-take (length values) c.args.arcs.now place None there) in
     record {
       counted = omega (arith, i.counted, length-set {A = Option ArcTail});

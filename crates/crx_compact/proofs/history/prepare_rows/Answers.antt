@@ -14,7 +14,8 @@ loop-row-preserved c =
     let rooms = c.prepare.new.self.rooms in
     let roomy : HasRoom row.name (length row.values) rooms =
     rw (c.name.ensures.value, c.values-count.ensures.value) at c.in_ok-prepare.ensures.room in
-    let many : length c.values-count.result.now ≡ length row.values = ap length c.values-count.ensures.value in
+    let many : length c.values-count.result.now ≡ length row.values = ap length c.values-count.ensures.value
+    in
     let few : length row.values ≤ TYPES_LIMIT = c.values-count.ensures.sound.counted.1 in
     let next = sum-next row_room rows index row (sym c.in-Some.ensures.value) in
     record {

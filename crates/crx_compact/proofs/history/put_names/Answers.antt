@@ -1,5 +1,5 @@
-use Rattle.crx_compact.proofs.Words.{◌≡◌, ◌+◌, ◌*◌, ◌++◌, ◌∷◌, [], ℕ, zero, suc, List, Some, slice_get, map, RowTail}
-use Rattle.crx_compact.proofs.Words.{ap, ◌∙◌, arith, length, length-map, take}
+use Rattle.crx_compact.proofs.Words.{◌≡◌, ◌+◌, ◌*◌, ◌++◌, ◌∷◌, [], ℕ, zero, suc, List, Some, slice_get, map}
+use Rattle.crx_compact.proofs.Words.{RowTail, ap, ◌∙◌, arith, length, length-map, take}
 use Rattle.std.proofs.Common.{get_or}
 use Rattle.crx_compact.proofs.Making.{texts_more}
 use Rattle.crx_compact.proofs.RowByRow.{IsThere, is-there}
@@ -22,4 +22,5 @@ loop-index-preserved c =
     texts_more (λ (r : RowTail). r.name) (take 41 c.args.text.now) rows index row.item so_far
     (take (41 + 3 * (index + 1)) c.put_identifier.new.bytes) c.loop-index.invariant row.there
     (ap (λ n. take n c.put_identifier.new.bytes) after ∙ c.put_identifier.ensures.put
-    ∙ ap (λ name. so_far ++ name) (ap (λ all. get_or all index []) names ∙ named-at rows index row.item row.there))
+    ∙ ap (λ name. so_far ++ name) (ap (λ all. get_or all index []) names ∙ named-at rows index row.item
+    row.there))

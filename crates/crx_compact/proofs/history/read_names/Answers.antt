@@ -1,6 +1,5 @@
-use Rattle.crx_compact.proofs.Words.{rules, ◌≡◌, refl, ◌+◌, ◌*◌, ◌++◌, ◌∷◌, [], Bool, not, true, false}
-use Rattle.crx_compact.proofs.Words.{drop, ap}
-use Rattle.crx_compact.proofs.Words.{sym, ◌∙◌, inl, arith, subst, ◌⊎◌, inr, ℕ, List, Err, Result, map}
+use Rattle.crx_compact.proofs.Words.{rules, ◌≡◌, refl, ◌+◌, ◌*◌, ◌++◌, ◌∷◌, [], Bool, not, true, false, drop}
+use Rattle.crx_compact.proofs.Words.{ap, sym, ◌∙◌, inl, arith, subst, ◌⊎◌, inr, ℕ, List, Err, Result, map}
 use Rattle.crx_compact.proofs.Words.{false≢true, err_from_is_err_and, is_ok, All-append, columns, is_among}
 use Rattle.crx_compact.proofs.Words.{IsAwaitedSatellite, BadSatellite, OutOfMemory, RepeatedSatellite, Fault}
 use Rattle.crx_compact.proofs.Words.{Satellite, names_in, satellites_named, HasRoom, KeepsRooms, PlacedRows}
@@ -43,26 +42,26 @@ refused-by fault made old new other is back = record {
 bad : (c : goal.In_default)
     → satellites_named c.args.types.now [] (names_in c.args.text.now c.args.count) ≡ Err BadSatellite
 bad c =
-    let found = c.loop-place.invariant in
+    let found = c.loop-index.invariant in
     named-bad c.args.types.now (names_in c.args.text.now c.args.count)
-    c.loop-place.place found.0 c.identifier-name.result found.1
-    (next-name c.args.text.now c.args.count c.loop-place.place
-    c.identifier-name.result c.loop-place-test.true c.identifier-name.ensures.value)
+    c.loop-index.index found.0 c.identifier-name.result found.1
+    (next-name c.args.text.now c.args.count c.loop-index.index
+    c.identifier-name.result c.loop-index-test.true c.identifier-name.ensures.value)
     (sym c.in_default.ensures.value)
 
 pub returns-in_default : goal.returns-in_default
 returns-in_default c = record {
   ok = search rules;
-  err = refused-by BadSatellite _ c.args.satellites.now c.loop-place.satellites (λ out. cc out) (bad c)
-      (unasked _ _ (bad c) c.loop-place.invariant.7);
-  rooms = c.loop-place.invariant.5;
+  err = refused-by BadSatellite _ c.args.satellites.now c.loop-index.satellites (λ out. cc out) (bad c)
+      (unasked _ _ (bad c) c.loop-index.invariant.7);
+  rooms = c.loop-index.invariant.5;
 }
 
 pub returns-in_err-place_name : goal.returns-in_err-place_name
 returns-in_err-place_name c =
     let p = err_from_is_err_and c.from_residual.result c.from_residual.ensures.1 in
     let refused = c.in_err-place_name.ensures.err in
-    let found = c.loop-place.invariant in
+    let found = c.loop-index.invariant in
     rw (p.1, p.2) (record {
       ok = search rules;
       err = record {
@@ -73,7 +72,7 @@ returns-in_err-place_name c =
         ];
         wanting = λ named is has. refused.wanting named is
             (all-of (λ (s : Satellite). HasRoom s.name s.count c.args.satellites.now.rooms)
-            (λ (s : Satellite). HasRoom s.name s.count c.loop-place.satellites.rooms) named
+            (λ (s : Satellite). HasRoom s.name s.count c.loop-index.satellites.rooms) named
             (λ s. found.5 s.name s.count) has);
       };
       rooms = λ name count has. c.place_name.ensures.rooms name count (found.5 name count has);
@@ -83,12 +82,12 @@ returns-in_err-place_name c =
 twice : (c : goal.Then-not-branch)
     → satellites_named c.args.types.now [] (names_in c.args.text.now c.args.count) ≡ Err RepeatedSatellite
 twice c =
-    let found = c.loop-place.invariant in
-    named-twice c.args.types.now (names_in c.args.text.now c.args.count) c.loop-place.place
+    let found = c.loop-index.invariant in
+    named-twice c.args.types.now (names_in c.args.text.now c.args.count) c.loop-index.index
     found.0 c.identifier-name.result c.in-Some.cells found.1
-    (next-name c.args.text.now c.args.count c.loop-place.place
-    c.identifier-name.result c.loop-place-test.true c.identifier-name.ensures.value)
-    (sym c.in-Some.ensures.value) (come-already c.args.satellites.now.rest c.loop-place.satellites.rows
+    (next-name c.args.text.now c.args.count c.loop-index.index
+    c.identifier-name.result c.loop-index-test.true c.identifier-name.ensures.value)
+    (sym c.in-Some.ensures.value) (come-already c.args.satellites.now.rest c.loop-index.satellites.rows
     found.0 c.identifier-name.result c.in_ok-place_name.field-0 false found.2
     c.in_ok-place_name.ensures.ok.answer c.if-not-branch.true)
 
@@ -97,42 +96,42 @@ returns-then-not-branch c = record {
   ok = search rules;
   err = refused-by RepeatedSatellite _ c.args.satellites.now c.place_name.new.satellites (λ out. cc out)
       (twice c)
-      (λ name count has. unasked _ _ (twice c) c.loop-place.invariant.7 name count
+      (λ name count has. unasked _ _ (twice c) c.loop-index.invariant.7 name count
       (unasked _ _ (twice c) c.in_ok-place_name.ensures.back name count has));
-  rooms = λ name count has. c.place_name.ensures.rooms name count (c.loop-place.invariant.5 name count has);
+  rooms = λ name count has. c.place_name.ensures.rooms name count (c.loop-index.invariant.5 name count has);
 }
 
 pub resize_last-requires-clause-room : goal.resize_last-requires-clause-room
 resize_last-requires-clause-room c before row is =
     let name = c.identifier-name.result in
-    let awaited = c.loop-place.satellites in
+    let awaited = c.loop-index.satellites in
     let come = c.in_ok-place_name.ensures.ok.come c.if-not-branch.false in
     let last = ends-same awaited.rows before (row_or_blank name awaited.rest) row (sym come.rows ∙ is) in
     subst (λ (r : RowTail). HasRoom r.name c.in-Some.cells c.place_name.new.satellites.rooms) last
     (subst (λ (n : List ℕ). HasRoom n c.in-Some.cells c.place_name.new.satellites.rooms)
     (sym (come-name name awaited.rest)) (c.in_ok-place_name.ensures.ok.room c.if-not-branch.false))
 
-pub loop-place-preserved : goal.loop-place-preserved
-loop-place-preserved c =
-    let found = c.loop-place.invariant in
+pub loop-index-preserved : goal.loop-index-preserved
+loop-index-preserved c =
+    let found = c.loop-index.invariant in
     let before = c.args.satellites.now.rest in
     let text = c.args.text.now in
-    let place = c.loop-place.place in
+    let place = c.loop-index.index in
     let name = c.identifier-name.result in
     let satellite : Satellite = record { name = name; count = c.in-Some.cells } in
-    let fresh = come-already before c.loop-place.satellites.rows found.0 name c.in_ok-place_name.field-0 true
+    let fresh = come-already before c.loop-index.satellites.rows found.0 name c.in_ok-place_name.field-0 true
     found.2 c.in_ok-place_name.ensures.ok.answer c.if-not-branch.false in
     let after = c.resize_last.new.self in
-    let kept : KeepsRooms c.loop-place.satellites.rooms after.rooms = λ other count has.
+    let kept : KeepsRooms c.loop-index.satellites.rooms after.rooms = λ other count has.
     c.resize_last.ensures.kept.rooms.forth other count (c.place_name.ensures.rooms other count has) in
     let come : HasNameCome before (found.0 ++ satellite ∷ []) after =
-    name-comes before found.0 name c.in-Some.cells c.loop-place.satellites c.place_name.new.satellites after
+    name-comes before found.0 name c.in-Some.cells c.loop-index.satellites c.place_name.new.satellites after
     found.2 found.3 fresh (c.in_ok-place_name.ensures.ok.come c.if-not-branch.false)
     c.resize_last.ensures.rows c.resize_last.ensures.kept.rest in (
       found.0 ++ satellite ∷ [],
       named-more c.args.types.now (names_in text c.args.count) place found.0 (found.0 ++ satellite ∷ []) name
           c.in-Some.cells found.1
-          (next-name text c.args.count place name c.loop-place-test.true c.identifier-name.ensures.value)
+          (next-name text c.args.count place name c.loop-index-test.true c.identifier-name.ensures.value)
           (sym c.in-Some.ensures.value) fresh refl,
       come.rows,
       come.awaited,
@@ -141,7 +140,7 @@ loop-place-preserved c =
           c.in-Some.ensures.named c.in-Some.ensures.allowed)),
       λ other count has. kept other count (found.5 other count has),
       All-append (λ (s : Satellite). HasRoom s.name s.count after.rooms) found.0 (satellite ∷ [])
-          (all-of (λ (s : Satellite). HasRoom s.name s.count c.loop-place.satellites.rooms)
+          (all-of (λ (s : Satellite). HasRoom s.name s.count c.loop-index.satellites.rooms)
           (λ (s : Satellite). HasRoom s.name s.count after.rooms) found.0
           (λ s has. kept s.name s.count has) found.6)
           (only (λ (s : Satellite). HasRoom s.name s.count after.rooms) satellite
@@ -159,12 +158,12 @@ loop-place-preserved c =
 
 pub returns : goal.returns
 returns c =
-    let found = c.loop-place.invariant in
-    let end : c.loop-place.place ≡ c.args.count = omega arith in
+    let found = c.loop-index.invariant in
+    let end : c.loop-index.index ≡ c.args.count = omega arith in
     record {
       ok = record {
         satellites = found.0;
-        read = named-all c.args.types.now (names_in c.args.text.now c.args.count) c.loop-place.place found.0
+        read = named-all c.args.types.now (names_in c.args.text.now c.args.count) c.loop-index.index found.0
             found.1 (ap (λ n. drop n (names_in c.args.text.now c.args.count)) end
             ∙ drop_all-each_place c.args.count (λ k. columns c.args.text.now (42 + 3 * k) 3));
         rows = found.2;

@@ -4,9 +4,9 @@ use Rattle.crx_compact.proofs.ComeRows.{AreAwaited}
 use Rattle.crx_compact.proofs.Naming.{NamedSoFar}
 use Rattle.crx_compact.proofs.history.read_names.Given as goal
 
-abbrev pub invariant-loop-place : goal.invariant-loop-place
-invariant-loop-place l = (found : List Satellite)
-    × NamedSoFar l.types (names_in l.text l.count) l.place found
+abbrev pub invariant-loop-index : goal.invariant-loop-index
+invariant-loop-index l = (found : List Satellite)
+    × NamedSoFar l.types (names_in l.text l.count) l.index found
     × (l.satellites.rows ≡ map (padded_among l.fn.satellites.rest) found)
     × AreAwaited (λ (s : Satellite). s.name) found l.fn.satellites.rest l.satellites.rest
     × All IsAwaitedSatellite found

@@ -17,8 +17,8 @@ none o b e h = grind arith
 
 pub returns-then-is_none-clause-fault : goal.returns-then-is_none-clause-fault
 returns-then-is_none-clause-fault c =
-    named-bad c.args.types.now (names_in c.args.text.now c.args.count) c.loop-place.place
-    c.loop-place.invariant.0 c.identifier-name.result c.loop-place.invariant.1 (search (rules, next-name))
+    named-bad c.args.types.now (names_in c.args.text.now c.args.count) c.loop-index.index
+    c.loop-index.invariant.0 c.identifier-name.result c.loop-index.invariant.1 (search (rules, next-name))
     (search (rules, none))
 
 -- some types are
@@ -37,28 +37,28 @@ stands text place name found b same is =
 
 pub returns-then-is_among_first-clause-fault : goal.returns-then-is_among_first-clause-fault
 returns-then-is_among_first-clause-fault c =
-    let found = c.loop-place.invariant in
+    let found = c.loop-index.invariant in
     let count = some c.types_of_satellite.result c.is_none.result c.is_none.ensures c.if-is_none.false in
     named-twice c.args.types.now (names_in c.args.text.now c.args.count)
-    c.loop-place.place found.0 c.identifier-name.result count.0 found.1
-    (next-name c.args.text.now c.args.count c.loop-place.place
-    c.identifier-name.result c.loop-place-test.true c.identifier-name.ensures.value)
+    c.loop-index.index found.0 c.identifier-name.result count.0 found.1
+    (next-name c.args.text.now c.args.count c.loop-index.index
+    c.identifier-name.result c.loop-index-test.true c.identifier-name.ensures.value)
     (sym c.types_of_satellite.ensures.value ∙ count.1)
-    (stands c.args.text.now c.loop-place.place c.identifier-name.result found.0 true found.2
+    (stands c.args.text.now c.loop-index.index c.identifier-name.result found.0 true found.2
     (sym c.is_among_first.ensures ∙ c.if-is_among_first.true))
 
-pub loop-place-preserved : goal.loop-place-preserved
-loop-place-preserved c =
-    let found = c.loop-place.invariant in
+pub loop-index-preserved : goal.loop-index-preserved
+loop-index-preserved c =
+    let found = c.loop-index.invariant in
     let name = c.identifier-name.result in
     let text = c.args.text.now in
-    let place = c.loop-place.place in
+    let place = c.loop-index.index in
     let count = some c.types_of_satellite.result c.is_none.result c.is_none.ensures c.if-is_none.false in
     let satellite : Satellite = record { name = name; count = count.0 } in (
       found.0 ++ satellite ∷ [],
       named-more c.args.types.now (names_in text c.args.count) place found.0
           (found.0 ++ satellite ∷ []) name count.0
-          found.1 (next-name text c.args.count place name c.loop-place-test.true
+          found.1 (next-name text c.args.count place name c.loop-index-test.true
           c.identifier-name.ensures.value)
           (sym c.types_of_satellite.ensures.value ∙ count.1)
           (stands text place name found.0 false found.2
@@ -70,18 +70,18 @@ loop-place-preserved c =
           ∙ sym (map-append (λ (s : Satellite). s.name) found.0 (satellite ∷ [])),
       rw (c.place_of_mark.ensures.value)
           (subst (λ (names : List (List ℕ)).
-          AreMarked names (slice_set c.loop-place.marks (mark_place name) true))
+          AreMarked names (slice_set c.loop-index.marks (mark_place name) true))
           (ap (λ (n : List ℕ). names_in text place ++ n ∷ []) c.identifier-name.ensures.value
           ∙ sym (each_place-more place (λ k. columns text (42 + 3 * k) 3)))
-          (marked-more (names_in text place) name c.loop-place.marks
+          (marked-more (names_in text place) name c.loop-index.marks
           (subst (λ n. mark_place name < n) (sym found.4)
           (subst (λ n. n < 2048) c.place_of_mark.ensures.value c.place_of_mark.ensures.within)) found.3)),
-      length-set c.loop-place.marks c.place_of_mark.result true ∙ found.4,
+      length-set c.loop-index.marks c.place_of_mark.result true ∙ found.4,
     )
 
 pub is_among_first-requires-clause-marked : goal.is_among_first-requires-clause-marked
-is_among_first-requires-clause-marked c = c.loop-place.invariant.3
+is_among_first-requires-clause-marked c = c.loop-index.invariant.3
 
 pub returns-clause-none : goal.returns-clause-none
 returns-clause-none c = λ out.
-    search (rules, c.loop-place.invariant, named-all, drop_all-each_place)
+    search (rules, c.loop-index.invariant, named-all, drop_all-each_place)

@@ -10,14 +10,14 @@ use Rattle.crx_compact.proofs.refusals.prepare_names.Goals as goal
 pub returns-then-is_err-clause-known : goal.returns-then-is_err-clause-known
 returns-then-is_err-clause-known c named good has = search (rules, false≢true)
 
-pub loop-place-preserved : goal.loop-place-preserved
-loop-place-preserved c =
+pub loop-index-preserved : goal.loop-index-preserved
+loop-index-preserved c =
     let types = c.args.types.now in
     let text = c.args.text.now in
-    let place = c.loop-place.place in
+    let place = c.loop-index.index in
     let is = c.identifier-name.ensures.value in
-    let before = c.loop-place.satellites in
-    let so_far = c.loop-place.invariant in
+    let before = c.loop-index.satellites in
+    let so_far = c.loop-index.invariant in
     elim c.match-types_of_satellite.branch [
       | in-Some-types_of_satellite+else-is_err w ↦
           let prepared = w.prepare.ensures in
@@ -27,11 +27,13 @@ loop-place-preserved c =
             kept = λ name count has. prepared.asked.rooms name count (so_far.kept name count has);
             room = names-room-more types text place before.rooms w.prepare.new.self.rooms so_far.room
                 prepared.asked.rooms (λ cells some.
-                let same = same_Some w.in-Some-types_of_satellite.cells cells (w.in-Some-types_of_satellite.ensures.value
+                let same = same_Some w.in-Some-types_of_satellite.cells cells
+                (w.in-Some-types_of_satellite.ensures.value
                 ∙ ap (types_of_satellite types) is ∙ some) in
                 subst (λ (n : List ℕ). HasRoom n cells w.prepare.new.self.rooms) is
                 (subst (λ n. HasRoom c.identifier-name.result n w.prepare.new.self.rooms) same
-                (by_ok w.prepare.result (w.is_err.ensures.negation ∙ ap not w.if-is_err.false) prepared.room)));
+                (by_ok w.prepare.result (w.is_err.ensures.negation ∙ ap not w.if-is_err.false)
+                prepared.room)));
           })
       | in_default-types_of_satellite w ↦
           rw w.satellites-is (record {

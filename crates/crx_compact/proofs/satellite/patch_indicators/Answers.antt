@@ -7,8 +7,9 @@ use Rattle.crx_compact.proofs.Marks.{patched-kept}
 use Rattle.crx_compact.proofs.SoundTexts.{columns-held}
 use Rattle.crx_compact.proofs.satellite.patch_indicators.Goals as goal
 
-put-columns : (all : ℕ) (old held text : List ℕ) (first : ℕ) → length old ≡ all → first ≡ min all (length text)
-    → held ≡ take first text ++ replicate (length old - length (take first text)) 32 → held ≡ columns text 1 all
+put-columns : (all : ℕ) (old held text : List ℕ) (first : ℕ) → length old ≡ all → first ≡ min all (length
+    text) → held ≡ take first text ++ replicate (length old - length (take first text)) 32 → held ≡ columns
+    text 1 all
 put-columns all old held text first many is put =
     put ∙ ap (λ n. take n text ++ replicate (length old - length (take n text)) 32) is
     ∙ ap (λ (t : List ℕ). t ++ replicate (length old - length t) 32) (take_min all text)

@@ -1,5 +1,4 @@
-use Rattle.std.proofs.Common.{◌≡◌, ◌∙◌, List, ℕ, zero, suc, [], ◌∷◌, Some, ap, sym, map, slice_get}
-use Rattle.std.proofs.Common.{get_or}
+use Rattle.std.proofs.Common.{◌≡◌, ◌∙◌, List, ℕ, zero, suc, [], ◌∷◌, Some, ap, sym, map, slice_get, get_or}
 use Rattle.std.proofs.lemmas.Option.{same_Some}
 use Rattle.crx_compact.proofs.RowByRow.{is-there}
 use Rattle.crx_compact.specs.Entries.{Entry}

@@ -1,8 +1,8 @@
-use Rattle.crx_filter.proofs.{Kept.kept, Words.{◌≡◌, ℕ, List, [], ap, OpenEpoch, Seen, Written}}
-use Rattle.crx_filter.proofs.Words.{compaction_seen, compacted, compaction_filter, Device}
+use Rattle.crx_filter.proofs.{Kept.kept, Words.{◌≡◌, ℕ, List, [], ap, OpenEpoch, RunState, Written}}
+use Rattle.crx_filter.proofs.Words.{compaction_state, compacted, compaction_filter, Device}
 use Rattle.crx_filter.proofs.{following.Lawful.compaction-lawful, wayback.Canonical.depends-on_normal}
 use Rattle.crx_filter.{proofs.wayback.Units.writes-units, specs.CompactionParts.CompactionState}
-use Rattle.crx_filter.specs.{CompactorState.compactor_seen, DirectionParts.EngineParts}
+use Rattle.crx_filter.specs.{CompactorState.compactor_state, DirectionParts.EngineParts}
 use Rattle.crx_filter.specs.meaning.{Canonical.DependsOnNormalForm, UnitsAndText.WritesUnits}
 use Rattle.crx_runs.specs.meaning.Spans.{Input, reader_span, span}
 use Rattle.std.proofs.lemmas.Result.{IfOk-weaker}
@@ -20,11 +20,11 @@ returns g c =
     let messages : Device = span g.M.Sink m0 c.start.new.messages in
     let status = c.start.result.status in
     let fault = c.start.result.fault in
-    let same : (e : EngineParts CompactionState) → compactor_seen e ≡ compaction_seen choices []
-    → e.options ≡ choices = λ e is. ap (λ (s : Seen OpenEpoch Written). s.choices) is in
+    let same : (e : EngineParts CompactionState) → compactor_state e ≡ compaction_state choices []
+    → e.options ≡ choices = λ e is. ap (λ (s : RunState OpenEpoch Written). s.choices) is in
     let ran = c.start.ensures.runs (compaction_filter choices) (compaction-lawful choices)
     (IfOk-weaker c.new.result _ (λ (e : EngineParts CompactionState). compaction_filter e.options ≡
-    compaction_filter choices) (λ e is. ap compaction_filter (same e is)) c.new.ensures.seen) in
+    compaction_filter choices) (λ e is. ap compaction_filter (same e is)) c.new.ensures.state) in
     let compaction = λ (bytes : List ℕ). compacted bytes choices in
     let units = WritesUnits choices writer messages status fault in
     let normal = DependsOnNormalForm choices writer messages status fault in
@@ -46,4 +46,4 @@ returns g c =
 
 pub start-requires-clause-lawful : goal.start-requires-clause-lawful
 start-requires-clause-lawful g c =
-    IfOk-weaker c.new.result _ _ (λ e is. compaction-lawful (compactor_seen e).choices) c.new.ensures.seen
+    IfOk-weaker c.new.result _ _ (λ e is. compaction-lawful (compactor_state e).choices) c.new.ensures.state

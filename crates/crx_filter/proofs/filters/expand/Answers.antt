@@ -1,5 +1,6 @@
 use Rattle.crx_filter.proofs.{stretches.StretchesKept.{keeps-undamaged, writes-whole_units}, Words.{◌≡◌, ℕ}}
-use Rattle.crx_filter.proofs.Words.{List, [], Option, ap, OpenRawEpoch, Tail, expansion_seen, Seen, expanded}
+use Rattle.crx_filter.proofs.Words.{List, [], Option, ap, OpenRawEpoch, Tail, expansion_state, RunState}
+use Rattle.crx_filter.proofs.Words.{expanded}
 use Rattle.crx_filter.proofs.{Words.{expansion_filter, Device}, Kept.{kept, brings-back, saves-all_else}}
 use Rattle.crx_filter.proofs.{following.Lawful.expansion-lawful, wayback.Units.reads-units}
 use Rattle.crx_filter.proofs.{standard.Lossless.brings-back_passed, wayback.ExpandedStandard.wrote-standard}
@@ -23,12 +24,12 @@ returns g c =
     let messages : Device = span g.M.Sink m0 c.start.new.messages in
     let status = c.start.result.status in
     let fault = c.start.result.fault in
-    let same : (e : EngineParts Expansion) → expander_state e ≡ expansion_seen choices []
-    → e.options ≡ choices = λ e is. ap (λ (s : Seen OpenRawEpoch (Option Tail)). s.choices) is in
+    let same : (e : EngineParts Expansion) → expander_state e ≡ expansion_state choices []
+    → e.options ≡ choices = λ e is. ap (λ (s : RunState OpenRawEpoch (Option Tail)). s.choices) is in
     let ran = c.start.ensures.runs (expansion_filter choices) (expansion-lawful choices)
-    (IfOk-weaker c.new.result (λ (e : EngineParts Expansion). expander_state e ≡ expansion_seen choices [])
+    (IfOk-weaker c.new.result (λ (e : EngineParts Expansion). expander_state e ≡ expansion_state choices [])
     (λ (e : EngineParts Expansion). expansion_filter e.options ≡ expansion_filter choices)
-    (λ e is. ap expansion_filter (same e is)) c.new.ensures.seen) in
+    (λ e is. ap expansion_filter (same e is)) c.new.ensures.state) in
     let expansion = λ (bytes : List ℕ). expanded bytes choices in
     let passed = BringsBackWhatPasses writer messages status fault in
     let units = ReadsUnits writer messages status fault in
@@ -77,4 +78,4 @@ returns g c =
 
 pub start-requires-clause-lawful : goal.start-requires-clause-lawful
 start-requires-clause-lawful g c =
-    IfOk-weaker c.new.result _ _ (λ e is. expansion-lawful (expander_state e).choices) c.new.ensures.seen
+    IfOk-weaker c.new.result _ _ (λ e is. expansion-lawful (expander_state e).choices) c.new.ensures.state

@@ -5,8 +5,7 @@ use Rattle.crx_text.specs.meaning.Codes.{coded_number}
 use Rattle.crx_text.specs.meaning.Numbers.{size_of, number_of, number_text}
 use Rattle.crx_base.specs.declared.fault.Fault.TheVariants.{Truncated}
 use Rattle.crx_laws.specs.SmallFiles.{header, header_items, first_two, epoch_at_second, epoch_line_at}
-use Rattle.crx_laws.specs.SmallFiles.{full_line_at}
-use Rattle.crx_laws.specs.SmallFiles.{observed, plain_choices}
+use Rattle.crx_laws.specs.SmallFiles.{full_line_at, observed, plain_choices}
 use Rattle.crx_base.specs.meaning.Lines.{lines_text}
 use Rattle.crx_filter.specs.meaning.Damage.{IsDamaged}
 use Rattle.crx_runs.specs.meaning.Messages.{warning_text}

@@ -1,6 +1,5 @@
 use Rattle.std.proofs.lemmas.Grind.{common_steps}
-use Rattle.std.proofs.Common.{◌<◌, [], ◌∷◌, length, take, Err, refl, sym, ap₂, subst, ◌∙◌, arith}
-use Rattle.std.proofs.Common.{append-nil}
+use Rattle.std.proofs.Common.{◌<◌, [], ◌∷◌, length, take, Err, refl, sym, ap₂, subst, ◌∙◌, arith, append-nil}
 use Rattle.crx_lines.specs.Devices.{sink_tally_of}
 use Rattle.crx_runs.specs.{declared.one_line.Halt.TheVariants.Unreported, meaning.Messages.warning_text}
 use Rattle.crx_runs.specs.{meaning.Spans.span, Taking.{IsSettled, made_by}}

@@ -6,13 +6,15 @@ use Rattle.crx_runs.specs.Taking.{HasAnswered}
 use Rattle.crx_runs.proofs.one_line.take_line.Goals as goal
 
 -- What the engine answered to the line, which is given in its parts.
-answered : (g : Over) (c : goal.After-take_stored g) → HasAnswered g.E.Engine c.args.engine.now c.take.new.self
-    (λ (l : InputLine). l ≡ record { content = c.bytes.result.now; is_plain = c.plain.result })
-    (g.E.Engine.answer c.take.new.self)
+answered : (g : Over) (c : goal.After-take_stored g) → HasAnswered g.E.Engine c.args.engine.now
+    c.take.new.self (λ (l : InputLine). l ≡ record {
+      content = c.bytes.result.now;
+      is_plain = c.plain.result;
+    }) (g.E.Engine.answer c.take.new.self)
 answered = grind arith
 
-shown-is : (shown : InputLine) (content : List ℕ) (plain : Bool) → content ≡ shown.content → plain ≡ shown.is_plain
-    → record { content = content; is_plain = plain } ≡ shown
+shown-is : (shown : InputLine) (content : List ℕ) (plain : Bool) → content ≡ shown.content → plain ≡
+    shown.is_plain → record { content = content; is_plain = plain } ≡ shown
 shown-is = grind arith
 
 pub take_stored-requires : goal.take_stored-requires

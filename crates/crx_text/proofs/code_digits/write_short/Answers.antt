@@ -1,4 +1,5 @@
-use Rattle.std.proofs.Common.{rules, ◌<◌, ◌^◌, ◌+◌, ◌/◌, ◌++◌, ◌-◌, ◌≡◌, bit_and, ℕ, List, take, drop, ap, ◌∙◌}
+use Rattle.std.proofs.Common.{rules, ◌<◌, ◌^◌, ◌+◌, ◌/◌, ◌++◌, ◌-◌, ◌≡◌, bit_and, ℕ, List, take, drop, ap}
+use Rattle.std.proofs.Common.{◌∙◌}
 use Rattle.std.proofs.{Common.arith, lemmas.Grind.common_steps}
 use lib.Count.{count_trailing_zeros}
 use Rattle.crx_text.proofs.DigitPairs.{bytes_shifted, digits_last, few_zeros, first_written, zeros_counted}

@@ -1,6 +1,6 @@
 use Rattle.rnxcmp_c.proofs.{EndedLemmas.{KeepsPromises, keeps-promises}, RunLemmas.answers-alone}
 use Rattle.rnxcmp_c.proofs.{RunLemmas.answers-within, Words.{◌≤◌, length, map, refl, subst, sym, ◌∙◌, arith}}
-use Rattle.rnxcmp_c.proofs.Words.{INPUT_LIMIT, lines_of, seen, whole_compact, FilterResult, AnswersWithin}
+use Rattle.rnxcmp_c.proofs.Words.{INPUT_LIMIT, lines_of, as_read, whole_compact, FilterResult, AnswersWithin}
 use Rattle.rnxcmp_c.proofs.{Words.{HasNoMemory, rooms, Expand}, exports.rnxcmp_c_expand.Goals.After-answer_of}
 use Rattle.crx_filter.specs.meaning.{Expanded.expanded_unit, Written.result_of}
 use Rattle.rnxcmp_c.proofs.exports.rnxcmp_c_expand.Goals as goal
@@ -28,7 +28,7 @@ promised c within memory =
 pub returns-clause-runs : goal.returns-clause-runs
 returns-clause-runs c choices same within memory =
     subst (λ skip. AnswersWithin c.args.max_output (result_of expanded_unit
-    (whole_compact skip (map seen (lines_of c.args.input.now)))) c.answer_of.result
+    (whole_compact skip (map as_read (lines_of c.args.input.now)))) c.answer_of.result
     (rooms c.args.output.now c.args.messages.now)
     (rooms c.answer_of.new.output_room c.answer_of.new.messages_room)) (c.expansion_options.ensures ∙ sym
     same) (promised (goal.at.returns-clause-runs c).After-answer_of within memory).whole

@@ -1,7 +1,6 @@
 use Rattle.std.proofs.Common.{arith}
 use Rattle.rnxcmp_c.proofs.{EndedLemmas.{result-where, run-check, run-expansion}, PromiseLemmas.ends-on}
-use Rattle.rnxcmp_c.proofs.PromiseLemmas.{ends-promise, ends-refused, ends-was_ended}
-use Rattle.rnxcmp_c.proofs.PromiseLemmas.{sound-holds, stood}
+use Rattle.rnxcmp_c.proofs.PromiseLemmas.{ends-promise, ends-refused, ends-was_ended, sound-holds, stood}
 use Rattle.rnxcmp_c.proofs.{Words.{Holds, past_of, Expand, Check}, handle.rnxcmp_c_end.Goals.After-deref_mut}
 use Rattle.rnxcmp_c.proofs.handle.rnxcmp_c_end.Goals as goal
 

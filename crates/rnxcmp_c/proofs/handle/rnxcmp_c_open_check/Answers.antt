@@ -7,5 +7,5 @@ returns-in-Ok-new-clause-opened c =
     c.open.ensures.opened Check (record {
       is_of = tt;
       drained = made.drained;
-      shown = ((made.seen, made.knows), ap (λ s. s.number) made.seen);
+      shown = ((made.state, made.knows), ap (λ s. s.number) made.state);
     }) c.in-Ok.ensures

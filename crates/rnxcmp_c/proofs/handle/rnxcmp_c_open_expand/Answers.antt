@@ -4,9 +4,9 @@ use Rattle.rnxcmp_c.proofs.handle.rnxcmp_c_open_expand.Goals as goal
 
 pub returns-in-Ok-new-clause-opened : goal.returns-in-Ok-new-clause-opened
 returns-in-Ok-new-clause-opened c = λ zero.
-    let seen = c.in-Ok-new.ensures.seen in
+    let state = c.in-Ok-new.ensures.state in
     let same =
-    ap (λ s. s.choices) seen in (
+    ap (λ s. s.choices) state in (
       c.expansion_options.result,
       c.expansion_options.ensures,
       c.open.ensures.opened _ (grind (arith, common_steps, same, c.in-Ok-new.ensures.drained))

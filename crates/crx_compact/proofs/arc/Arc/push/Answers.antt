@@ -77,9 +77,11 @@ returns g c =
     let within : IsWithin g.row.WIDTH value = rw c.in-Some.is at c.requires in
     let on : GoesOn order count last value c.self.inside.differences =
     goes-on _ _ _ _ _ (record { least = search rules }) (search rules) (search rules) in
-    let is : c.go_on-highest.result ≡ highest (differences_after value (take last c.self.inside.differences)) =
+    let is : c.go_on-highest.result ≡ highest (differences_after value (take last c.self.inside.differences))
+    =
     rw (same-bits _ fits) at c.go_on-highest.ensures.highest in
-    let code : Step (to_z w64 (of_z w64 c.go_on-highest.result)) ≡ code_of_value c.args.value c.args.self.now =
+    let code : Step (to_z w64 (of_z w64 c.go_on-highest.result)) ≡ code_of_value c.args.value c.args.self.now
+    =
     rw (c.in-Some.is, ← c.self.view_is) (ap Step (same-bits _ fits' ∙ is) ∙ on.code) in
     let arc : kept_tail order (take (last + 1) c.go_on-highest.new.differences)
     ≡ arc_of_value c.args.value c.args.self.now =

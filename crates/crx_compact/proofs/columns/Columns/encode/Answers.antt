@@ -25,8 +25,8 @@ written-after : (full is_kept in_full : Bool) (stage : Stage) (count : ℕ) (his
     → in_full ≡ (if full then true else not is_kept)
     → (if in_full then no_tail else tail_of_history history) ≡ tail_written_after full (tail_held state)
 written-after full is_kept in_full stage count history state is idle means =
-    ap (λ b. if b then no_tail else tail_of_history history) means ∙ in-full full is_kept (tail_of_history history)
-    ∙ ap (tail_written_after full) (sym (tail-idle is_kept stage count history state is idle))
+    ap (λ b. if b then no_tail else tail_of_history history) means ∙ in-full full is_kept (tail_of_history
+    history) ∙ ap (tail_written_after full) (sym (tail-idle is_kept stage count history state is idle))
 
 means : (c : goal.After-replace-lines)
     → c.if-full.in_full ≡ (if c.args.full then true else not c.self.inside.is_kept)

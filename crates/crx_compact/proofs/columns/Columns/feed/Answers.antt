@@ -46,7 +46,8 @@ returns-in-Ok-false-clause-made c =
     let rows = c.in-Ok-false.ensures.ok in
     let tail : Tail = tail_of_history new.history in
     let left : new.count < length new.history.satellites.rows =
-    rows-left new.count (length new.history.satellites.rows) (sym rows.whole ∙ c.in-Ok-false.field-0-test) rows.within in
+    rows-left new.count (length new.history.satellites.rows) (sym rows.whole ∙ c.in-Ok-false.field-0-test)
+    rows.within in
     let step : step_in c.args.self.now.state (Content c.args.line.now) ≡ step_with_rows tail new.count =
     search (rules, step-by-stage, c.self.view_is, c.in-Ok-false.ensures.ok) in
     let P : ColumnsState → Type 0 = λ s. HasMade (step_in c.args.self.now.state

@@ -25,8 +25,8 @@ returns-then-is_first c = record {
       c.append-then-is_first.new.text c.append-then-is_first-2.new.text c.args.line.now c.put.new.self
       c.args.is_first (c.in_columns.ensures.value ∙ left_justified-is 20 c.args.date.now c.requires.dated)
       (c.append.ensures.appended
-      ∙ ap (λ (t : List ℕ). t ++ CRINEX_PROGRAM) (c.deref_mut-then-is_first.ensures.value ∙ c.clear.ensures.emptied))
-      (c.append-then-is_first.ensures.appended
+      ∙ ap (λ (t : List ℕ). t ++ CRINEX_PROGRAM) (c.deref_mut-then-is_first.ensures.value ∙
+      c.clear.ensures.emptied)) (c.append-then-is_first.ensures.appended
       ∙ ap (λ (t : List ℕ). t ++ c.in_columns.result) c.deref_mut-then-is_first-2.ensures.value)
       (c.append-then-is_first-2.ensures.appended
       ∙ ap (λ (t : List ℕ). t ++ CRINEX_PROGRAM_LABEL) c.deref_mut-then-is_first-3.ensures.value)

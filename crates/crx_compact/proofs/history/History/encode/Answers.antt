@@ -27,7 +27,8 @@ loop-row-init c =
     (λ j. record {
       text = (c.reserve_exact.ensures.items ∙ ap (λ (h : OpenHistory). h.text) c.self.view_is) j;
       clock = ap (λ (h : OpenHistory). h.clock) c.self.view_is j;
-      rows = (c.prepare_rows.ensures.asked.rows ∙ ap (λ (h : OpenHistory). h.satellites.rows) c.self.view_is) j;
+      rows = (c.prepare_rows.ensures.asked.rows ∙ ap (λ (h : OpenHistory). h.satellites.rows) c.self.view_is)
+          j;
     }) in
     let wide = c.in_ok-reserve_exact.ensures in
     let long = c.in_ok-make_long.ensures in
@@ -43,8 +44,8 @@ loop-row-init c =
     record {
       written = subst (AreRowsWritten _ [] c.begin_rows.new.self)
           (sym (c.make_room.ensures.grown.lines ∙ c.reserve_front.ensures.emptied))
-          (subst (λ (t : Tail). AreRowsWritten (if c.args.in_full then no_tail else t) [] c.begin_rows.new.self [])
-          same c.begin_rows.ensures.begun);
+          (subst (λ (t : Tail). AreRowsWritten (if c.args.in_full then no_tail else t) []
+          c.begin_rows.new.self []) same c.begin_rows.ensures.begun);
       room = record {
         text = omega (arith, held.0, held.1);
         rows = subst (HaveRoom c.args.epoch.now.rows) (sym rooms)
@@ -119,7 +120,8 @@ loop-row-preserved c =
     c.write_row.result c.unwrap.result c.unwrap.ensures
     (c.write_row.ensures.written after so_far c.loop-row.invariant.written) in
     let is_new : c.unwrap.result ≡ true = written.answer
-    ∙ ap not (ap (λ (r : Row). has_satellite r.name so_far) parts ∙ row-new rows index row c.requires.sound.apart here) in
+    ∙ ap not (ap (λ (r : Row). has_satellite r.name so_far) parts ∙ row-new rows index row
+    c.requires.sound.apart here) in
     let taken = from_ok (λ is_new. is_new ≡ true → HasTakenRow put old new) c.write_row.result c.unwrap.result
     c.unwrap.ensures c.write_row.ensures.taken is_new in
     let same = ap length c.write_row.ensures.texts.next_text in
@@ -131,8 +133,9 @@ loop-row-preserved c =
     let known = c.loop-row.invariant in
     let kept = c.write_row.ensures.only.kept in
     record {
-      written = subst (λ (rs : List Row). AreRowsWritten after rs c.write_row.new.self c.write_row.new.lines.lines)
-          ((λ j. so_far ++ parts j ∷ []) ∙ sym (taken_more rows index row here)) (written.written is_new);
+      written = subst (λ (rs : List Row). AreRowsWritten after rs c.write_row.new.self
+          c.write_row.new.lines.lines) ((λ j. so_far ++ parts j ∷ []) ∙ sym (taken_more rows index row here))
+          (written.written is_new);
       room = room-kept c.args.epoch.now old new kept known.room;
       free_lines = omega arith;
       free_bytes = omega arith;
@@ -158,8 +161,8 @@ loop-row-preserved c =
 
 -- all rows are written
 written : (c : In_default)
-    → AreRowsWritten (if c.args.in_full then no_tail else tail_of_history c.args.self.now) c.args.epoch.now.rows
-    c.loop-row.self c.loop-row.lines.lines
+    → AreRowsWritten (if c.args.in_full then no_tail else tail_of_history c.args.self.now)
+    c.args.epoch.now.rows c.loop-row.self c.loop-row.lines.lines
 written c = search (rules, no_tail, tail_of_history, taken_all)
 
 pub end_rows-requires-clause-counted : goal.end_rows-requires-clause-counted

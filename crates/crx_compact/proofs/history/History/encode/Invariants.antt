@@ -11,8 +11,8 @@ use Rattle.crx_compact.proofs.history.History.encode.Given as goal
 -- no less than before
 abbrev pub invariant-loop-row : goal.invariant-loop-row
 invariant-loop-row l = record {
-  written : AreRowsWritten (if l.in_full then no_tail else tail_of_history l.fn.self) (take l.index l.epoch.rows)
-      l.self l.lines.lines;
+  written : AreRowsWritten (if l.in_full then no_tail else tail_of_history l.fn.self) (take l.index
+      l.epoch.rows) l.self l.lines.lines;
   room : HasRoomForEpoch l.epoch (encoding_room l.self l.lines);
   free_lines : length l.epoch.rows ≤ l.lines.free_lines + l.index;
   free_bytes : sum (map row_room (drop l.index l.epoch.rows)) ≤ l.lines.free_bytes;

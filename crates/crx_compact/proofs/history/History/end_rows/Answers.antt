@@ -15,10 +15,10 @@ pub unwrap-requires : goal.unwrap-requires
 unwrap-requires c = search (rules, ok-unless, code_text_length)
 
 -- the rows of an epoch that has ended, and its text
-ended : (after : Tail) (rows : List Row) (lines : List (List ℕ)) (old : OpenHistory) (seen end : PlacedRows)
-    → AreRowsWritten after rows old lines → seen ≡ old.satellites → end.rows ≡ seen.rows
+ended : (after : Tail) (rows : List Row) (lines : List (List ℕ)) (old : OpenHistory) (state end : PlacedRows)
+    → AreRowsWritten after rows old lines → state ≡ old.satellites → end.rows ≡ state.rows
     → end.rows ≡ map (row_tail_in after.rows) rows
-ended after rows lines old seen end written same kept =
+ended after rows lines old state end written same kept =
     kept ∙ ap (λ (p : PlacedRows). p.rows) same ∙ written.rows_after
 
 named : (after : Tail) (rows : List Row) (head text : List ℕ) (end : List RowTail)

@@ -1,7 +1,6 @@
 use Rattle.crx_compact.proofs.Words.{◌≡◌, ◌++◌, List, ℕ, Result, true, inr, length, map, ap, refl, subst, sym}
 use Rattle.crx_compact.proofs.Words.{◌∙◌, arith, rules, take, take_at, err_from_is_err_and, Count, is_ok}
-use Rattle.crx_compact.proofs.Words.{list_all}
-use Rattle.crx_compact.proofs.Words.{append-nil, is_printable, Fault, patched, past_of_tail}
+use Rattle.crx_compact.proofs.Words.{list_all, append-nil, is_printable, Fault, patched, past_of_tail}
 use Rattle.crx_compact.proofs.Words.{satellites_of_line, satellites_of_text, Satellite, HasRoom}
 use Rattle.crx_compact.proofs.Words.{HaveTypesRoom, OpenHistory, PlacedRows, padded_among, tail_of_history}
 use Rattle.crx_compact.proofs.Words.{RowTail, Tail, and_parts, satellite_of}
@@ -56,20 +55,27 @@ returns-in_err-read_satellites-clause-err c =
     let p = err_from_is_err_and c.from_residual.result c.from_residual.ensures.1 in
     let refused = c.in_err-read_satellites.ensures.err in
     rw (p.1, p.2) (record {
-      answer = subst (λ (made : Result (List Satellite) Fault). AnswersRefusal made c.in_err-read_satellites.field-0.0) (sym (same (goal.at.returns-in_err-read_satellites-clause-err c).After-read_satellites)) refused.answer;
+      answer = subst (λ (made : Result (List Satellite) Fault). AnswersRefusal made
+          c.in_err-read_satellites.field-0.0) (sym (same (goal.at.returns-in_err-read_satellites-clause-err
+          c).After-read_satellites)) refused.answer;
       unasked = λ other. (
-        λ name count has. subst (HasRoom name count) (rooms (goal.at.returns-in_err-read_satellites-clause-err c).After-read_satellites) (refused.unasked other name count has),
-        ap (λ (h : OpenHistory). h.held_room) c.self.view_is,
+        λ name count has. subst (HasRoom name count) (rooms (goal.at.returns-in_err-read_satellites-clause-err
+            c).After-read_satellites) (refused.unasked other name count has),
+        ap (λ (h : OpenHistory).
+            h.held_room) c.self.view_is,
       );
-      wanting = λ satellites is has within. refused.wanting satellites (sym (same (goal.at.returns-in_err-read_satellites-clause-err c).After-read_satellites) ∙ is)
-          (subst (HaveTypesRoom satellites) (sym (rooms (goal.at.returns-in_err-read_satellites-clause-err c).After-read_satellites)) has);
+      wanting = λ satellites is has within. refused.wanting satellites (sym (same
+          (goal.at.returns-in_err-read_satellites-clause-err c).After-read_satellites) ∙ is) (subst
+          (HaveTypesRoom satellites) (sym (rooms (goal.at.returns-in_err-read_satellites-clause-err
+          c).After-read_satellites)) has);
     })
 
 pub returns-then-is_err-2-clause-err : goal.returns-then-is_err-2-clause-err
 returns-then-is_err-2-clause-err c = record {
   answer = record {
     answered = inr refl;
-    memory = λ out. ap is_ok (same (goal.at.returns-then-is_err-2-clause-err c).After-read_satellites ∙ c.in_ok-read_satellites.ensures.ok.read);
+    memory = λ out. ap is_ok (same (goal.at.returns-then-is_err-2-clause-err c).After-read_satellites ∙
+        c.in_ok-read_satellites.ensures.ok.read);
   };
   unasked = λ other. absurd (other refl);
   wanting = λ satellites is has within.
@@ -111,7 +117,8 @@ returns-clause-ok c =
       text = put ∙ made;
       clock = ap (λ (h : OpenHistory). h.clock) c.self.view_is;
       announced = announced-rows c.args.types.now (tail_of_history c.args.self.now) c.args.line.now
-          found.satellites _ (same (goal.at.returns-clause-ok c).After-read_satellites ∙ found.read) (put ∙ made) rows found.awaited;
+          found.satellites _ (same (goal.at.returns-clause-ok c).After-read_satellites ∙ found.read) (put ∙
+          made) rows found.awaited;
       room = found.room;
       fits = search rules;
     }

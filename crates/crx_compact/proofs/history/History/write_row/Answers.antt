@@ -40,7 +40,8 @@ answer c after rows written =
 
 pub returns-then-not-branch-clause-written : goal.returns-then-not-branch-clause-written
 returns-then-not-branch-clause-written c = λ after rows written. record {
-  answer = sym c.if-not-branch.true ∙ answer (goal.at.returns-then-not-branch-clause-written c).In_ok-place_or_add after rows written;
+  answer = sym c.if-not-branch.true ∙ answer (goal.at.returns-then-not-branch-clause-written
+      c).In_ok-place_or_add after rows written;
   written = λ is. absurd (false≢true is);
 }
 
@@ -118,19 +119,21 @@ returns-clause-written c = λ after rows written.
     ap (λ (n : List ℕ). row_of_parts n values flags) last.named in
     let same = ap (λ (h : OpenHistory). h.satellites) c.self.view_is in
     record {
-      answer = sym c.if-not-branch.false ∙ answer (goal.at.returns-clause-written c).In_ok-place_or_add after rows written;
+      answer = sym c.if-not-branch.false ∙ answer (goal.at.returns-clause-written c).In_ok-place_or_add after
+          rows written;
       written = λ is.
           written-next after rows row c.args.self.now _ c.place_or_add.new.self c.args.lines.now.lines
           c.put_row.new.self.lines placed same written c.requires.sound
-          (no-row after rows c.args.self.now c.args.lines.now.lines placed name c.in_ok-place_or_add.field-0 same
-          c.in_ok-place_or_add.ensures.ok.answer c.if-not-branch.false written) come
+          (no-row after rows c.args.self.now c.args.lines.now.lines placed name c.in_ok-place_or_add.field-0
+          same c.in_ok-place_or_add.ensures.ok.answer c.if-not-branch.false written) come
           (c.put_row.ensures.after kept last.there
           ∙ last.put (row_tail_after (Some kept) (row_of_parts kept.name values flags))
           ∙ ap (λ (r : Row). placed.rows ++ row_tail_after (Some kept) r ∷ []) parts)
           c.put_row.ensures.kept.rest
           (c.put_row.ensures.lines kept last.there
           ∙ (λ j. c.make_room.ensures.grown.lines j ++ row_line_after (Some kept) (parts j) ∷ []))
-          (ap (λ (h : OpenHistory). h.text) c.self.view_is) (ap (λ (h : OpenHistory). h.clock) c.self.view_is);
+          (ap (λ (h : OpenHistory). h.text) c.self.view_is) (ap (λ (h : OpenHistory). h.clock)
+          c.self.view_is);
     }
 
 pub returns-clause-taken : goal.returns-clause-taken

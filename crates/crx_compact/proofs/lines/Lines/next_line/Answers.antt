@@ -19,8 +19,9 @@ line-there lengths bytes many filled past past_bytes reserved front count h othe
     next-line (take many lengths) bytes filled past past_bytes count h.0 h.2 (omega (arith, less, all))
     (here ∙ sym (get_or-take many lengths past count less))
 
-here : (c : After-index) → NextLine (take c.self.inside.count c.self.inside.lengths.items) c.self.inside.bytes.items
-    c.self.inside.filled c.self.inside.handed_out c.self.inside.handed_out_bytes c.index.result.now
+here : (c : After-index) → NextLine (take c.self.inside.count c.self.inside.lengths.items)
+    c.self.inside.bytes.items c.self.inside.filled c.self.inside.handed_out c.self.inside.handed_out_bytes
+    c.index.result.now
 here c =
     let inside = c.self.inside in
     line-there inside.lengths.items inside.bytes.items inside.count inside.filled inside.handed_out

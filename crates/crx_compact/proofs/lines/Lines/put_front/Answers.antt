@@ -24,7 +24,7 @@ pub invariant_of-self : goal.invariant_of-self
 invariant_of-self c =
     let inside = c.self.inside in
     let bytes = c.put_line.new.bytes in
-    let seen = ap length c.deref_mut.ensures.value in
+    let state = ap length c.deref_mut.ensures.value in
     let view = ap (λ (l : PendingLines). l.front) c.self.view_is in
     rw (take_at bytes (drop (length bytes) inside.bytes.items) inside.bytes.len (omega arith)) (
       (front-put (goal.at.invariant_of-self c).After-put_line).still,

@@ -1,5 +1,6 @@
-use Rattle.crx_compact.proofs.Words.{rules, ◌≡◌, ◌+◌, ◌<◌, refl, List, ℕ, Some, drop, length, set, slice_get, take, ap, arith}
-use Rattle.crx_compact.proofs.Words.{length-set, take_at, printed_row, PendingLines, RowTail, shown_row}
+use Rattle.crx_compact.proofs.Words.{rules, ◌≡◌, ◌+◌, ◌<◌, refl, List, ℕ, Some, drop, length, set, slice_get}
+use Rattle.crx_compact.proofs.Words.{take, ap, arith, length-set, take_at, printed_row, PendingLines, RowTail}
+use Rattle.crx_compact.proofs.Words.{shown_row}
 use Rattle.crx_compact.proofs.LineTexts.{Pushed, front-kept, row-pushed}
 use Rattle.crx_compact.proofs.RowByRow.{is-there}
 use Rattle.crx_compact.proofs.lines.Lines.put_printed.Goals.{After-print_line-length}
@@ -63,7 +64,8 @@ returns-clause-taken c = λ old there.
     let line = c.print_line-length.new.bytes in
     let bytes : List ℕ = set line (inside.filled + c.print_line-length.result) 10 in
     let long = length-set line (inside.filled + c.print_line-length.result) 10 in
-    let whole = take_at bytes (drop (length bytes) inside.bytes.items) inside.bytes.len (omega (arith, long)) in
+    let whole = take_at bytes (drop (length bytes) inside.bytes.items) inside.bytes.len (omega (arith, long))
+    in
     let many = length-set inside.lengths.items inside.count c.print_line-length.result in
     let free = (c.requires.room old there).line in
     let room = (c.requires.room old there).bytes in

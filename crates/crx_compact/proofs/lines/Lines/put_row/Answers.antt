@@ -52,5 +52,6 @@ returns-clause-lines c = λ old there.
     let bytes : List ℕ = set line (inside.filled + c.write_line-length.result) 10 in
     let long = length-set line (inside.filled + c.write_line-length.result) 10 in
     let at = (goal.at.returns-clause-lines c).After-write_line-length in
-    let whole = take_at bytes (drop (length bytes) inside.bytes.items) inside.bytes.len (omega (arith, long)) in
+    let whole = take_at bytes (drop (length bytes) inside.bytes.items) inside.bytes.len (omega (arith, long))
+    in
     rw (← c.self.view_is, whole) (pushed at old there).is

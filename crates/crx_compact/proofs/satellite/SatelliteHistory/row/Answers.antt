@@ -8,18 +8,18 @@ use Rattle.crx_compact.proofs.ShownRows.{get-there, row-all, row-more}
 use Rattle.crx_compact.proofs.SoundTexts.{columns-trimmed}
 use Rattle.crx_compact.proofs.satellite.SatelliteHistory.row.Goals as goal
 
-pub loop-place-preserved : goal.loop-place-preserved
-loop-place-preserved c =
+pub loop-index-preserved : goal.loop-index-preserved
+loop-index-preserved c =
     let inside = c.self.inside in
     let cells : List (Option ArcTail) = c.args.self.now.cells in
-    let place : ℕ = c.loop-place.place in
-    let less = c.loop-place-test.true in
+    let place : ℕ = c.loop-index.index in
+    let less = c.loop-index-test.true in
     let own = ap (λ (t : SatelliteTail). t.cells) c.self.view_is in
     let many : length cells ≡ inside.count =
     ap length (sym own) ∙ length-take-le inside.count inside.arcs.items c.self.invariant.1 in
     c.set.ensures.value
-    ∙ ap (with_value c.loop-place.row place) c.value.ensures.value
-    ∙ row-more _ _ cells inside.count place c.loop-place.row c.index.result.now c.loop-place.invariant
+    ∙ ap (with_value c.loop-index.row place) c.value.ensures.value
+    ∙ row-more _ _ cells inside.count place c.loop-index.row c.index.result.now c.loop-index.invariant
     (get-there cells place c.index.result.now (omega (arith, less, many))
     (c.index.ensures ∙ sym (get_or-take inside.count inside.arcs.items place c.index.result.now less)
     ∙ ap (λ (cs : List (Option ArcTail)). slice_index_or cs place c.index.result.now) own)) many

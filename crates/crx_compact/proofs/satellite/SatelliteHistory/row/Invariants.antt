@@ -2,9 +2,9 @@ use Rattle.crx_compact.proofs.Words.{◌≡◌, ◌-◌, ◌*◌, ◌++◌, None
 use Rattle.crx_compact.proofs.satellite.SatelliteHistory.row.Given as goal
 
 -- the values up to a place are put into the row
-abbrev pub invariant-loop-place : goal.invariant-loop-place
-invariant-loop-place l = l.row ≡ record {
+abbrev pub invariant-loop-index : goal.invariant-loop-index
+invariant-loop-index l = l.row ≡ record {
   name = l.fn.name;
-  values = map shown_value (take l.place l.self.cells) ++ replicate (l.count - l.place) None;
+  values = map shown_value (take l.index l.self.cells) ++ replicate (l.count - l.index) None;
   flags = replicate (2 * l.count) 32;
 }

@@ -1,17 +1,20 @@
 use Rattle.std.proofs.Common.{arith, refl}
 use Rattle.std.proofs.lemmas.Option.{slice_get_within}
 use Rattle.crx_compact.proofs.placing.Found.{not-found}
-use Rattle.crx_compact.proofs.placing.Placed.{placed-again, placed-anew, placed-next, placed-not, placed-unknown}
+use Rattle.crx_compact.proofs.placing.Placed.{placed-again, placed-anew, placed-next, placed-not}
+use Rattle.crx_compact.proofs.placing.Placed.{placed-unknown}
 use Rattle.crx_compact.proofs.satellites.Satellites.bring.Goals as goal
 
 pub returns-in_default : goal.returns-in_default
 returns-in_default c =
-    rw (← c.self.view_is) (placed-unknown _ _ _ (not-found c.args.name.now _ (c.in_default.ensures.unknown refl)))
+    rw (← c.self.view_is) (placed-unknown _ _ _ (not-found c.args.name.now _ (c.in_default.ensures.unknown
+    refl)))
 
 pub returns-then-found-self : goal.returns-then-found-self
 returns-then-found-self c =
     rw (← c.self.view_is)
-    (placed-again c.self.inside.known c.in-Some.ensures.found c.len.ensures.unique c.self.invariant c.if-found-self.true)
+    (placed-again c.self.inside.known c.in-Some.ensures.found c.len.ensures.unique c.self.invariant
+    c.if-found-self.true)
 
 pub has_room_at-requires : goal.has_room_at-requires
 has_room_at-requires c =
@@ -20,21 +23,22 @@ has_room_at-requires c =
 pub returns-then-not-has_room_at : goal.returns-then-not-has_room_at
 returns-then-not-has_room_at c =
     rw (← c.self.view_is)
-    (placed-not c.self.inside.known c.in-Some.ensures.found c.len.ensures.unique c.self.invariant c.if-found-self.false
-    c.has_room_at.ensures.value c.if-not-has_room_at.true)
+    (placed-not c.self.inside.known c.in-Some.ensures.found c.len.ensures.unique c.self.invariant
+    c.if-found-self.false c.has_room_at.ensures.value c.if-not-has_room_at.true)
 
 pub returns-then-found-self-2 : goal.returns-then-found-self-2
 returns-then-found-self-2 c =
     rw (← c.self.view_is)
-    (placed-next c.self.inside.known c.in-Some.ensures.found c.len.ensures.unique c.self.invariant c.if-found-self.false
-    c.has_room_at.ensures.value c.if-not-has_room_at.false c.if-found-self-2.true c.put_next.ensures.put)
+    (placed-next c.self.inside.known c.in-Some.ensures.found c.len.ensures.unique c.self.invariant
+    c.if-found-self.false c.has_room_at.ensures.value c.if-not-has_room_at.false c.if-found-self-2.true
+    c.put_next.ensures.put)
 
 pub returns : goal.returns
 returns c =
     rw (← c.self.view_is)
-    (placed-anew c.self.inside.known c.in-Some.ensures.found c.len.ensures.unique c.self.invariant c.if-found-self.false
-    c.has_room_at.ensures.value c.if-not-has_room_at.false c.if-found-self-2.false c.revive.ensures.revived
-    c.put_next-2.ensures.put)
+    (placed-anew c.self.inside.known c.in-Some.ensures.found c.len.ensures.unique c.self.invariant
+    c.if-found-self.false c.has_room_at.ensures.value c.if-not-has_room_at.false c.if-found-self-2.false
+    c.revive.ensures.revived c.put_next-2.ensures.put)
 
 pub revive-requires-clause-within : goal.revive-requires-clause-within
 revive-requires-clause-within c = slice_get_within _ c.in-Some.found _ c.in-Some.ensures.found.there

@@ -36,7 +36,8 @@ keep_types-requires-clause-named c =
     let self = c.self.inside in
     let none = none-placed self.placed self.live self.known.entries c.self.invariant
     (rw (← c.self.view_is) at c.requires.none) in
-    let awaited = subst (λ n. All IsAwaitedSatellite (map satellite_of (map row_of_entry (drop n (take self.live self.known.entries)))))
+    let awaited = subst (λ n. All IsAwaitedSatellite (map satellite_of (map row_of_entry (drop n (take
+    self.live self.known.entries)))))
     none (rw (← c.self.view_is) at c.requires.awaited) in
-    λ index entry less. named-before self.live _ awaited index entry (omega (arith, less, c.if-count-self.false))
-    c.self.invariant.1
+    λ index entry less. named-before self.live _ awaited index entry
+    (omega (arith, less, c.if-count-self.false)) c.self.invariant.1

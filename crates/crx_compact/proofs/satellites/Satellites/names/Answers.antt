@@ -1,12 +1,11 @@
-use Rattle.std.proofs.Common.{◌≡◌, ◌∙◌, List, ℕ, [], ◌∷◌, ap, map, refl, take}
-use Rattle.std.proofs.Common.{zero, suc}
+use Rattle.std.proofs.Common.{◌≡◌, ◌∙◌, List, ℕ, [], ◌∷◌, ap, map, refl, take, zero, suc}
 use Rattle.crx_compact.specs.Placing.{SatelliteTail, row_of_entry}
 use Rattle.crx_compact.specs.Tails.{RowTail}
 use Rattle.crx_compact.proofs.satellites.Satellites.names.Goals as goal
 
 -- the identifiers of rows are the keys of their entries
-named : (count : ℕ) (es : List (List ℕ × SatelliteTail)) → take count (map (λ (e : List ℕ × SatelliteTail). e.0) es)
-    ≡ map (λ (row : RowTail). row.name) (map row_of_entry (take count es))
+named : (count : ℕ) (es : List (List ℕ × SatelliteTail)) → take count (map (λ (e : List ℕ × SatelliteTail).
+    e.0) es) ≡ map (λ (row : RowTail). row.name) (map row_of_entry (take count es))
 named zero es = refl
 named (suc count) [] = refl
 named (suc count) (e ∷ es) = ap (λ names. e.0 ∷ names) (named count es)

@@ -13,7 +13,8 @@ asked-before {name = name} {count = count} same has = elim has [
 ]
 
 pub returns-in_err-prepare-clause-err : goal.returns-in_err-prepare-clause-err
-returns-in_err-prepare-clause-err c = on_err c.from_residual.result (c.in_default.ensures.unplaced refl).absent
+returns-in_err-prepare-clause-err c = on_err c.from_residual.result (c.in_default.ensures.unplaced
+    refl).absent
 
 pub returns-in_err-prepare-clause-known : goal.returns-in_err-prepare-clause-known
 returns-in_err-prepare-clause-known c = λ has. absurd ((c.in_default.ensures.unplaced refl).known has)

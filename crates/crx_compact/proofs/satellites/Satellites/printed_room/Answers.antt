@@ -1,5 +1,4 @@
-use Rattle.crx_compact.proofs.Words.{List, ap, sym, ◌∙◌, arith, slice_get, PlacedRows}
-use Rattle.crx_compact.proofs.Words.{printed_room, RowTail}
+use Rattle.crx_compact.proofs.Words.{List, ap, sym, ◌∙◌, arith, slice_get, PlacedRows, printed_room, RowTail}
 use Rattle.std.proofs.Common.{option_map}
 use Rattle.std.specs.Map.Iter.{deref_pair}
 use Rattle.crx_compact.proofs.RowByRow.{sum-next}
@@ -16,8 +15,8 @@ loop-index-preserved c =
     let many = rows-counted self.placed self.known.entries (omega (arith, c.self.invariant)) in
     let at = row-at self.placed (omega (arith, many, c.loop-index-test.true))
     (sym c.get_index.ensures.entry ∙ ap (option_map deref_pair) c.unwrap.ensures) in
-    let seen = ap (λ (p : PlacedRows). p.rows) c.self.view_is in
+    let state = ap (λ (p : PlacedRows). p.rows) c.self.view_is in
     let more = sum-next printed_room c.args.self.now.rows index _
-    (ap (λ (rs : List RowTail). slice_get rs index) (sym seen) ∙ at.there) in
+    (ap (λ (rs : List RowTail). slice_get rs index) (sym state) ∙ at.there) in
     let cells = c.count.ensures.value in
     record { made = omega (arith, made, more, cells); bounded = omega (arith, bounded, few) }

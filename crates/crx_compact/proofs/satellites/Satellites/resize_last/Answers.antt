@@ -45,15 +45,18 @@ returns c =
     let same = ap (λ (s : SatelliteTail). s.room) c.resize.ensures.resized in
     let some = rw (← c.self.view_is) at c.requires.some in
     let counted = rows-counted self.placed self.known.entries (omega (arith, few, all)) in
-    let within : self.placed - 1 < length (rows_of self.placed self.known.entries) = omega (arith, some, counted) in
+    let within : self.placed - 1 < length (rows_of self.placed self.known.entries) =
+    omega (arith, some, counted) in
     let at = row-at self.placed within there in
     rw (← c.self.view_is) (record {
       rows = λ before row is.
-          let ends = last-is _ before (row_tail_of name after) row (self.placed - 1) is (omega (arith, counted)) in
+          let ends = last-is _ before (row_tail_of name after) row (self.placed - 1) is
+          (omega (arith, counted)) in
           rows-changed self.known self.placed self.live within there after ∙ ends.1
           ∙ ap (λ (r : RowTail). before ++ r ∷ [])
           (padded-is name c.args.count satellite after c.resize.ensures.resized
-          ∙ ap (λ (r : RowTail). padded (record { name = r.name; count = c.args.count }) (Some r)) (at.is row ends.0));
+          ∙ ap (λ (r : RowTail). padded (record { name = r.name; count = c.args.count }) (Some r)) (at.is row
+          ends.0));
       kept = rest-kept self.known self.placed self.live within there after c.self.invariant
           c.pair_mut-satellite.ensures.unique (omega (arith, same));
     })

@@ -34,7 +34,8 @@ write_line-requires-clause-counted c =
     ∙ length-each_place (length c.args.values.now) _
 
 pub invariant_of-self : goal.invariant_of-self
-invariant_of-self c = order-kept c.args.index c.self.inside.known.entries c.write_line.new.self c.self.invariant
+invariant_of-self c = order-kept c.args.index c.self.inside.known.entries c.write_line.new.self
+    c.self.invariant
 
 pub returns : goal.returns
 returns c =
@@ -52,8 +53,8 @@ returns c =
       after = λ old also.
           rows-changed self.known self.placed self.live within there after
           ∙ ap (slice_set _ c.args.index)
-          (written-row (row_of_parts name c.args.values.now c.args.flags.now) satellite c.mark-marks.new.self after
-          c.mark-marks.ensures.marked c.write_line.ensures.after
+          (written-row (row_of_parts name c.args.values.now c.args.flags.now) satellite c.mark-marks.new.self
+          after c.mark-marks.ensures.marked c.write_line.ensures.after
           ∙ ap (λ (kept : RowTail). row_tail_after (Some kept) (row kept)) (at.is old also));
       line = λ old also. c.write_line.ensures.put.written
           ∙ ap (λ line. take c.args.at c.args.bytes.now ++ line)

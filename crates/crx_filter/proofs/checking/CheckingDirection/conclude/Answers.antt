@@ -9,5 +9,5 @@ returns-clause-closing c =
     let good = rw (← c.self.view_is) at c.requires.good in
     rw (← c.self.view_is) (λ choices lines come known.
     let found = found-at-end choices before.reader before.noted.totals before.noted.not_standard lines
-    come.taken_as come.is_seen known running good in
+    come.taken_as come.is_state known running good in
     (ap report_lines found, ap (λ (f : Findings). f.not_standard) found))

@@ -8,4 +8,4 @@ returns-clause-lawful c = check-goes
 pub returns-clause-passes : goal.returns-clause-passes
 returns-clause-passes c = rw (← c.self.view_is) (λ choices lines line come passing. passes-nothing _ _
     (has-reached choices
-    c.self.inside.reader c.self.inside.noted.totals lines come.taken_as come.is_seen) passing)
+    c.self.inside.reader c.self.inside.noted.totals lines come.taken_as come.is_state) passing)

@@ -1,7 +1,6 @@
 use Rattle.crx_filter.proofs.Words.{None, subst, made_at, TakesRinexLine}
 use Rattle.crx_filter.proofs.steps.CheckerSteps.{noted-next, step-counting, step-named, refused-reads}
-use Rattle.crx_filter.proofs.steps.CheckerSteps.{still-drained}
-use Rattle.crx_filter.proofs.steps.CheckerSteps.{taken-reads}
+use Rattle.crx_filter.proofs.steps.CheckerSteps.{still-drained, taken-reads}
 use Rattle.crx_filter.proofs.steps.EngineAnswers.{short-line}
 use Rattle.std.proofs.lemmas.Result.{err_from_is_err_and}
 use Rattle.crx_lines.specs.Reading.{line_number, line_shown}
@@ -56,7 +55,7 @@ returns-clause-knows c =
     (c.in_ok-step.ensures.takes (record { index = 0; tail = None })) in
     let running = rw (← c.self.view_is) at c.requires.running in
     rw (← c.self.view_is) (λ choices lines come known counted. noted-next choices before noted.totals lines
-    come.taken_as come.is_seen noted.not_standard known c.take.new.self c.note.new.self.totals
+    come.taken_as come.is_state noted.not_standard known c.take.new.self c.note.new.self.totals
     c.note.new.self.not_standard
     line c.in_ok-step.step (line_number c.args.line) running (short-line line c.args.line.short) takes
     (c.note.ensures.totals before _ takes) (λ some. c.note.ensures.standard before _ takes some) counted)

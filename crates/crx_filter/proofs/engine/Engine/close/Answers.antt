@@ -1,6 +1,6 @@
 use Rattle.crx_filter.proofs.Words.{common_steps, arith, sym, ◌∙◌, and_parts}
 use Rattle.crx_filter.proofs.{Pending.warned-alike, steps.EngineFaults.{ends-skipped, ends-failed}}
-use Rattle.crx_filter.specs.DirectionParts.{seen_by}
+use Rattle.crx_filter.specs.DirectionParts.{state_by}
 use Rattle.crx_filter.proofs.engine.Engine.close.Goals as goal
 
 pub returns-then-skip-may_skip-clause-stops : goal.returns-then-skip-may_skip-clause-stops
@@ -12,7 +12,7 @@ returns-then-skip-may_skip-clause-closing g c =
     let stops = rw (← c.self.view_is) at (returns-then-skip-may_skip-clause-stops g c) in
     rw (← c.self.view_is) (λ lines come known. record {
       steps = warned-alike g.D.Direction.by_line (g.D.Direction.closing c.self.inside.direction)
-          (g.D.Direction.closing_after c.self.inside.options lines) _ _ _ _ (seen_by c.self.inside.options
+          (g.D.Direction.closing_after c.self.inside.options lines) _ _ _ _ (state_by c.self.inside.options
           c.self.inside.number (g.D.Direction.parts c.self.inside.direction)) stops.steps;
       found = (g.D.Direction.skipping _ _ lines come.taken_as (sym c.skip.ensures.value ∙ on)).1;
     })

@@ -1,10 +1,10 @@
 use Rattle.crx_filter.proofs.Words.{ap, ◌∙◌, sym, ◌+◌, ◌≡◌, inl, List, ℕ, At, Err, Overlong, Result}
-use Rattle.crx_filter.proofs.Words.{SeenEnded, step_made, true, InputLine}
-use Rattle.crx_filter.proofs.{steps.EngineAnswers.{engine-answers, seen-long}, steps.EngineLemmas.repeats}
+use Rattle.crx_filter.proofs.Words.{RunEnded, step_made, true, InputLine}
+use Rattle.crx_filter.proofs.{steps.EngineAnswers.{engine-answers, as-read-long}, steps.EngineLemmas.repeats}
 use Rattle.crx_filter.proofs.steps.EngineFaults.{long-failed, not-settled, notes-nothing}
 use Rattle.crx_base.specs.meaning.Lines.{is_long}
 use Rattle.crx_filter.specs.{DirectionParts.EngineParts, EngineState.{EngineGoes, EngineNotes, EngineSkips}}
-use Rattle.crx_filter.specs.EngineState.{engine_ready, engine_seen, engine_took}
+use Rattle.crx_filter.specs.EngineState.{engine_ready, engine_state, engine_took}
 use Rattle.crx_filter.specs.declared.direction.Direction.{Ghosts}
 use Rattle.crx_runs.specs.{Engines.{Awaited, EngineAnswers, IsAwaited}, declared.engine.Step.Step}
 use Rattle.crx_filter.proofs.engine.Engine.overlong.Goals as goal
@@ -19,10 +19,10 @@ module _ {D : Type 0} (d : Ghosts D) (before after : EngineParts D) (result : Re
       line result
   answers-long goes notes lines notices line taken awaited long =
       engine-answers d before goes.lawful goes.chosen after lines line Overlong result (notes line)
-      (inl (ap (λ (ls : List (List ℕ)). step_made result ls (engine_seen d after)) stops.drained
-      ∙ stops.steps)) notices stops.choices (seen-long line long) taken awaited
+      (inl (ap (λ (ls : List (List ℕ)). step_made result ls (engine_state d after)) stops.drained
+      ∙ stops.steps)) notices stops.choices (as-read-long line long) taken awaited
 
-  repeats-long : (at : At) → (engine_seen d before).phase ≡ SeenEnded at → result ≡ Err at
+  repeats-long : (at : At) → (engine_state d before).phase ≡ RunEnded at → result ≡ Err at
   repeats-long at is = repeats d.by_line _ _ Overlong _ _ at (inl stops.steps) is
 
 pub returns-in_default : goal.returns-in_default

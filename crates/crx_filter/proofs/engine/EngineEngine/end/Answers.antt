@@ -1,5 +1,5 @@
 use Rattle.crx_filter.proofs.Words.{ap}
-use Rattle.crx_filter.specs.EngineState.{engine_seen}
+use Rattle.crx_filter.specs.EngineState.{engine_state}
 use Rattle.crx_filter.proofs.steps.StepCounts.{end-drained}
 use Rattle.crx_filter.proofs.engine.EngineEngine.end.Goals as goal
 
@@ -9,6 +9,6 @@ returns-clause-stepped g c =
     record {
       filter = ap g.D.Direction.filter stops.choices;
       drained = end-drained g.D.Direction.by_line (g.D.Direction.closing c.args.self.now.direction) _
-          (engine_seen g.D.Direction c.args.self.now) _ _ stops.steps;
+          (engine_state g.D.Direction c.args.self.now) _ _ stops.steps;
       nothing = stops.nothing;
     }

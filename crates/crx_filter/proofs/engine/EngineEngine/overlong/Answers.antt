@@ -1,10 +1,10 @@
 use Rattle.crx_filter.proofs.{Words.{inl, Overlong}, steps.StepCounts.{steps-counted, answers-counted}}
-use Rattle.crx_filter.specs.EngineState.{engine_seen, engine_ready, engine_took}
+use Rattle.crx_filter.specs.EngineState.{engine_state, engine_ready, engine_took}
 use Rattle.crx_filter.proofs.engine.EngineEngine.overlong.Goals as goal
 
 pub returns-clause-count : goal.returns-clause-count
 returns-clause-count g c = steps-counted g.D.Direction.by_line
-    (engine_seen g.D.Direction c.args.self.now) _ Overlong _ _ (inl c.overlong.ensures.stops.steps)
+    (engine_state g.D.Direction c.args.self.now) _ Overlong _ _ (inl c.overlong.ensures.stops.steps)
 
 pub returns-clause-answers : goal.returns-clause-answers
 returns-clause-answers g c = λ lines notices line shown awaited long.

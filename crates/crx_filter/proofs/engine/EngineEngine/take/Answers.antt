@@ -1,5 +1,5 @@
 use Rattle.crx_lines.specs.Reading.{line_shown}
-use Rattle.crx_filter.proofs.{Words.{Content, ap, refl}, steps.EngineAnswers.{engine-answers, seen-within}}
+use Rattle.crx_filter.proofs.{Words.{Content, ap, refl}, steps.EngineAnswers.{engine-answers, as-read-within}}
 use Rattle.crx_filter.proofs.steps.StepCounts.{answers-counted, steps-counted, steps-drained}
 use Rattle.crx_filter.specs.EngineState.{engine_ready, engine_took}
 use Rattle.crx_filter.proofs.engine.EngineEngine.take.Goals as goal
@@ -26,5 +26,5 @@ returns-clause-answers g c = λ lines notices shown awaited.
     (engine_ready d c.take_line.new.self) lines notices line _ shown.1 (returns-clause-count g c)
     (engine-answers d c.args.self.now goes.lawful goes.chosen
     c.take_line.new.self lines line (Content line.content)
-    _ took.notes took.takes.steps notices took.takes.choices (seen-within line line.content c.args.line.short
-    refl) shown.0 awaited)
+    _ took.notes took.takes.steps notices took.takes.choices (as-read-within line line.content
+    c.args.line.short refl) shown.0 awaited)

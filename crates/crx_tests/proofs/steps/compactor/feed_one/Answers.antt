@@ -1,16 +1,16 @@
 use Rattle.std.proofs.Common.{◌≡◌, ℕ, Ok, sym, subst}
 use Rattle.crx_lines.specs.Reading.{line_shown}
-use Rattle.crx_base.specs.meaning.Seen.{Content}
+use Rattle.crx_base.specs.meaning.AsRead.{Content}
 use Rattle.crx_filter.specs.CompactionByLine.{compaction}
-use Rattle.crx_filter.specs.CompactorState.{compactor_seen, compactor_ready}
+use Rattle.crx_filter.specs.CompactorState.{compactor_state, compactor_ready}
 use Rattle.crx_runs.specs.Engines.{taken_after}
-use Rattle.crx_filter.specs.LineByLine.{Seen}
+use Rattle.crx_filter.specs.LineByLine.{RunState}
 use Rattle.crx_filter.proofs.steps.StepCounts.{steps-counted}
 use Rattle.crx_tests.proofs.steps.compactor.feed_one.Goals as goal
 
-same-number : {O K : Type 0} (before after : Seen O K) (n : ℕ) → after ≡ before → before.number ≡ n
+same-number : {O K : Type 0} (before after : RunState O K) (n : ℕ) → after ≡ before → before.number ≡ n
     → after.number ≡ n
-same-number {O = O} {K = K} before after n is h = subst (λ (s : Seen O K). s.number ≡ n) (sym is) h
+same-number {O = O} {K = K} before after n is h = subst (λ (s : RunState O K). s.number ≡ n) (sym is) h
 
 -- the lines that are ready are taken without a change of what is seen, and the line counts as its answer says
 pub returns-in-Ok-clause-counted : goal.returns-in-Ok-clause-counted
@@ -18,10 +18,10 @@ returns-in-Ok-clause-counted g c =
     let self = c.args.engine.now in
     let fed = c.feed.new.self in
     let answer = c.in-Ok.answer in
-    let counted = steps-counted compaction (compactor_seen self) (compactor_seen fed)
+    let counted = steps-counted compaction (compactor_state self) (compactor_state fed)
     (Content (line_shown c.args.line).content) (compactor_ready fed) (Ok answer) c.in-Ok.ensures.steps in
-    let by-number = subst (λ (n : ℕ). (compactor_seen fed).number ≡ taken_after answer n) c.requires.counted
+    let by-number = subst (λ (n : ℕ). (compactor_state fed).number ≡ taken_after answer n) c.requires.counted
     counted in
-    let by-result = subst (λ (n : ℕ). (compactor_seen fed).number ≡ n) (sym c.counted.ensures) by-number in
-    same-number (compactor_seen fed)
-    (compactor_seen c.take_ready.new.engine) c.counted.result c.take_ready.ensures by-result
+    let by-result = subst (λ (n : ℕ). (compactor_state fed).number ≡ n) (sym c.counted.ensures) by-number in
+    same-number (compactor_state fed)
+    (compactor_state c.take_ready.new.engine) c.counted.result c.take_ready.ensures by-result

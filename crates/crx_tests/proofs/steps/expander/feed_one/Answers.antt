@@ -1,16 +1,16 @@
 use Rattle.std.proofs.Common.{◌≡◌, ℕ, Ok, sym, subst}
 use Rattle.crx_lines.specs.Reading.{line_shown}
-use Rattle.crx_base.specs.meaning.Seen.{Content}
+use Rattle.crx_base.specs.meaning.AsRead.{Content}
 use Rattle.crx_filter.specs.ExpansionByLine.{expansion}
 use Rattle.crx_filter.specs.ExpanderState.{expander_ready, expander_state}
 use Rattle.crx_runs.specs.Engines.{taken_after}
-use Rattle.crx_filter.specs.LineByLine.{Seen}
+use Rattle.crx_filter.specs.LineByLine.{RunState}
 use Rattle.crx_filter.proofs.steps.StepCounts.{steps-counted}
 use Rattle.crx_tests.proofs.steps.expander.feed_one.Goals as goal
 
-same-number : {O K : Type 0} (before after : Seen O K) (n : ℕ) → after ≡ before → before.number ≡ n
+same-number : {O K : Type 0} (before after : RunState O K) (n : ℕ) → after ≡ before → before.number ≡ n
     → after.number ≡ n
-same-number {O = O} {K = K} before after n is h = subst (λ (s : Seen O K). s.number ≡ n) (sym is) h
+same-number {O = O} {K = K} before after n is h = subst (λ (s : RunState O K). s.number ≡ n) (sym is) h
 
 -- the lines that are ready are taken without a change of what is seen, and the line counts as its answer says
 pub returns-in-Ok-clause-counted : goal.returns-in-Ok-clause-counted

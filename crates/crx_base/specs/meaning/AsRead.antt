@@ -8,8 +8,8 @@ pub data ReadLine : Type 0 where
   Overlong : ReadLine
 
 -- what is read of a line
-abbrev pub seen : InputLine → ReadLine
-seen l = if is_long l then Overlong else Content l.content
+abbrev pub as_read : InputLine → ReadLine
+as_read l = if is_long l then Overlong else Content l.content
 
 -- the pieces that an LF follows
 abbrev pub ended_pieces : List Piece → List Piece
