@@ -1,6 +1,6 @@
 -- What a reader of compact text holds after a line.
-use Rattle.crx_filter.proofs.Words.{◌≡◌, Bool, true, List, ℕ, Option, Some, None, Result, Ok, Err, refl}
-use Rattle.crx_filter.proofs.Words.{Content, Fault, Count, Satellite, Tail, and_then, RawStep}
+use Rattle.crx_filter.proofs.Words.{common_steps, arith, ◌≡◌, Bool, true, List, ℕ, Option, Some, None, Result}
+use Rattle.crx_filter.proofs.Words.{Ok, refl, Content, Fault, Count, Satellite, Tail, and_then, RawStep}
 use Rattle.crx_filter.{proofs.Words.first_step, specs.CompactStages.{wants_line, wants_lines}}
 use Rattle.crx_compact.specs.OpenEpochs.{ColumnsState, Going, Whole, Faulty, HasMade, opened_raw, awaited_row}
 use Rattle.crx_compact.specs.OpenEpochs.{before_clock, opening, tail_for_line, tail_opened}
@@ -14,8 +14,7 @@ wants_more (Faulty fault) = true
 satellites-wanted : (line : List ℕ) (before : Tail) (read : Result (List Satellite) Fault)
     → wants_more (opening (and_then read (λ (satellites : List Satellite).
     Ok (before_clock (tail_opened before line satellites))))) ≡ true
-satellites-wanted line before (Ok satellites) = refl
-satellites-wanted line before (Err fault) = refl
+satellites-wanted line before read = grind (arith, common_steps)
 
 opened-wants : (types : List Count) (line : List ℕ) (tail : Option Tail)
     → wants_more (opening (opened_raw types line tail)) ≡ true

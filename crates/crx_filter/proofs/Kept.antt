@@ -4,20 +4,25 @@ use Rattle.crx_filter.proofs.Words.{lines_of, At, Choices, compacted, expanded, 
 use Rattle.crx_filter.proofs.{Words.{checked_by, checked, Device, IsResult}, damage.DamageStays.saved-lines}
 use Rattle.crx_filter.proofs.standard.CheckStandard.{named-where_not, standard-exactly_where_same}
 use Rattle.crx_filter.proofs.wayback.{Standard.{normal-comes_back, standard-comes_back}, WayBack.comes-back}
-use Rattle.crx_filter.specs.meaning.Promises.{IsPromiseKept, BringsBackWhatWasCompacted, SavesAllElse}
+use Rattle.crx_filter.specs.meaning.Promises.{Keeps, BringsBackWhatWasCompacted, SavesAllElse}
 use Rattle.crx_filter.specs.meaning.{Promises.JudgesStandard, Standard.{Findings, report_status}}
-use Rattle.{crx_runs.specs.meaning.{Filters.Filter, Runs.RunsAs, Spans.Input}, std.specs.Prelude.◌↔◌}
+use Rattle.{crx_runs.specs.meaning.{Filters.Filter, Runs.Runs, Spans.Input}, std.specs.Prelude.◌↔◌}
 
 -- a promise that the result of each whole input keeps is kept by a run
-pub kept : (result_of : List ℕ → FilterResult) (filter : Filter) (promise : List ℕ → Type 0) (input : Input)
-    (given : List ℕ) (writer messages : Device) (status : ℕ) (fault : Option At) → ((text : List ℕ) → IsResult
-    (result_of text) writer messages status fault → promise text) → RunsAs result_of filter input given writer
-    messages status fault → IsPromiseKept promise input given writer messages fault
-kept result_of filter promise input given writer messages status fault keeps r = record {
-  whole = λ read wrote reported memory rest none within.
-      keeps (given ++ rest) (r.whole read wrote reported memory rest none within);
-  good = λ e. keeps given (r.good e).5;
-}
+pub kept : {result_of : List ℕ → FilterResult} {filter : Filter} {promise : List ℕ → Type 0} {input : Input}
+    {writer messages : Device} {status : ℕ} {fault : Option At}
+    → Runs result_of filter input writer messages status fault
+    → ((text : List ℕ) → IsResult (result_of text) writer messages status fault → promise text)
+    → Keeps promise input writer messages fault
+kept (given, gave, r) keeps = (
+  given,
+  gave,
+  record {
+    whole = λ read wrote reported memory rest none within.
+        keeps (given ++ rest) (r.whole read wrote reported memory rest none within);
+    good = λ e. keeps given (r.good e).5;
+  },
+)
 
 -- ---- the way back
 

@@ -1,8 +1,8 @@
 -- What is answered where lines are handed out.
-use Rattle.crx_filter.proofs.Words.{◌≡◌, ℕ, Bool, false, List, [], ◌∷◌, refl, ReadLine, At, RunState}
-use Rattle.crx_filter.proofs.Words.{Direction, Choices, Count, Notice, LineStep, state_next, is_again, arith}
-use Rattle.crx_filter.proofs.Words.{common_steps, None, Made, noticed_by, failed_by, step_of_made}
-use Rattle.crx_filter.specs.{Laws.is_ready, LineByLine.{answer_of_lines, Phase, state_end_with}}
+use Rattle.crx_filter.proofs.Words.{◌≡◌, ℕ, Bool, false, List, [], ReadLine, At, RunState, Direction, Choices}
+use Rattle.crx_filter.proofs.Words.{Count, Notice, LineStep, state_next, is_again, arith, common_steps, None}
+use Rattle.crx_filter.{proofs.Words.{Made, noticed_by, failed_by, step_of_made}, specs.Laws.is_ready}
+use Rattle.crx_filter.specs.LineByLine.{answer_of_lines, Phase, state_end_with}
 
 -- what is seen in a phase, some types in force and this kept
 abbrev pub state_in : {O K : Type 0} → Choices → ℕ → Phase O → List Count → K → RunState O K
@@ -10,20 +10,16 @@ state_in choices number phase types kept =
     record { choices = choices; number = number; phase = phase; types = types; kept = kept }
 
 pub noticed-lines : (lines : List (List ℕ)) → noticed_by (answer_of_lines lines) ≡ []
-noticed-lines [] = refl
-noticed-lines (line ∷ lines) = refl
+noticed-lines lines = grind (arith, common_steps)
 
 pub failed-lines : (lines : List (List ℕ)) → failed_by (answer_of_lines lines) ≡ None
-failed-lines [] = refl
-failed-lines (line ∷ lines) = refl
+failed-lines lines = grind (arith, common_steps)
 
 pub again-lines : (lines : List (List ℕ)) → is_again (answer_of_lines lines) ≡ false
-again-lines [] = refl
-again-lines (line ∷ lines) = refl
+again-lines lines = grind (arith, common_steps)
 
 quiet-lines : (lines : List (List ℕ)) → is_ready (answer_of_lines lines) ≡ false → lines ≡ []
-quiet-lines [] e = refl
-quiet-lines (line ∷ lines) e = absurd (cc)
+quiet-lines lines e = grind (arith, common_steps)
 
 -- only a step that is ready hands out lines
 module _ {U O K : Type 0} (direction : Direction U O K) (before : RunState O K) where

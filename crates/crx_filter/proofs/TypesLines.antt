@@ -1,8 +1,7 @@
 -- What is wrong with a line that may declare types.
-use Rattle.crx_filter.proofs.Words.{common_steps, arith, ◌≡◌, ◌⊎◌, Bool, true, List, ℕ}
-use Rattle.crx_filter.proofs.Words.{Option, Some, None, if◌then◌else◌, ◌&&◌, is_some}
-use Rattle.crx_filter.proofs.Words.{and_from, Fault, OutOfMemory, Count, false-true}
-use Rattle.crx_filter.{proofs.Words.types_fault, specs.meaning.UnitPlaces.first_fault}
+use Rattle.crx_filter.proofs.Words.{common_steps, arith, ◌≡◌, ◌⊎◌, Bool, true, List, ℕ, Option, Some, None}
+use Rattle.crx_filter.proofs.Words.{if◌then◌else◌, ◌&&◌, is_some, and_from, Fault, OutOfMemory, Count}
+use Rattle.crx_filter.{proofs.Words.{false-true, types_fault}, specs.meaning.UnitPlaces.first_fault}
 use Rattle.std.specs.Prelude.{is_none}
 use Rattle.crx_base.specs.declared.fault.Fault.TheVariants.{BadTypesLine}
 use Rattle.crx_header.specs.meaning.ObservationTypes.{is_bad_types_line, count_of_types_line}

@@ -1,14 +1,14 @@
 -- After a damaged block: reading goes on at the next line that begins with >, with at most one warning before
 -- it.
 use Rattle.crx_filter.proofs
-use proofs.Words.{ℕ, suc, ◌≡◌, ◌+◌, ◌≤◌, max, inl, inr, true, false, List, [], ◌∷◌, ◌++◌, length, drop, Some}
-use proofs.Words.{None, refl, ap, ◌∙◌, arith, length-append, drop-append_seam, ReadLine, Content, Overlong}
-use proofs.Words.{At, Truncated, begins_epoch, is_event_line, NeedsMore, ReadEpoch, Item, Warned}
-use proofs.Words.{types_in_force, Reading, WholeReading, AtLines, is_skipped, looked_for, reading_within}
-use proofs.Words.{reading_from, ended_with, ended_reading, continued_reading, compact_place, IsBetweenUnits}
+use proofs.Words.{ℕ, suc, ◌≡◌, ◌+◌, ◌≤◌, max, inl, inr, true, false, List, [], ◌∷◌, ◌++◌, length, drop, None}
+use proofs.Words.{refl, ap, ◌∙◌, arith, length-append, drop-append_seam, ReadLine, Content, Overlong, At}
+use proofs.Words.{Truncated, begins_epoch, is_event_line, NeedsMore, ReadEpoch, Item, Warned, types_in_force}
+use proofs.Words.{Reading, WholeReading, AtLines, looked_for, reading_within, reading_from, ended_with}
+use proofs.Words.{ended_reading, continued_reading, compact_place, IsBetweenUnits}
 use proofs.damage.BlockReading.{IsBlockText, EndsBlock, IsBlockRead, with_reads, reads-between, skipped-here}
-use proofs.{damage.BlockReading.place-cut, reading.ForwardCompact.compact-forward}
-use proofs.reading.Resuming.{enough-units, within-wrong, fault-skipped, looked-here}
+use proofs.{damage.BlockReading.place-cut, reading.{ForwardCompact.compact-forward, Resuming.enough-units}}
+use proofs.reading.Resuming.{within-wrong, fault-skipped, looked-here}
 
 -- some warnings after these items, the newest first
 abbrev pub with_warnings : List At → List (Item ReadEpoch) → List (Item ReadEpoch)
@@ -106,17 +106,11 @@ pub ends-inside : (items : List (Item ReadEpoch)) (number : ℕ) (line : ReadLin
     → IsBetweenUnits items
     → EndsAfter items (ended_reading true (record { items = items; stop = AtLines number (line ∷ rest) }))
 ends-inside [] number line rest h = let never = h.header in absurd (cc)
-ends-inside (item ∷ before) number line rest h =
-    let at : At = record { line = number + length (line ∷ rest); fault = Truncated } in
-    let on = skipped-here (item ∷ before) Truncated h refl in
-    record { warnings = at ∷ []; few = omega arith; same = skips on }
-  where
-    skips : is_skipped true (item ∷ before) Truncated ≡ true
-        → ended_with true (item ∷ before) (number + length (line ∷ rest)) (Some Truncated) ≡ record {
-          items = Warned (record { line = number + length (line ∷ rest); fault = Truncated }) ∷ item ∷ before;
-          fault = None;
-        }
-    skips on = rw (on, ended_with) refl
+ends-inside (item ∷ before) number line rest h = record {
+  warnings = record { line = number + length (line ∷ rest); fault = Truncated } ∷ [];
+  few = omega arith;
+  same = rw (skipped-here (item ∷ before) Truncated h refl, ended_with) refl;
+}
 
 ends-after : (items : List (Item ReadEpoch)) (r : Reading ReadEpoch)
     → IsBetweenUnits items → EndsBlock items r → EndsAfter items (ended_reading true r)

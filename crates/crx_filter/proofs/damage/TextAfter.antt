@@ -1,12 +1,13 @@
 -- The compact text that a compaction writes after a block: it is read, whatever the line numbers are, as its
 -- units; and all starts anew at its first line.
 use Rattle.crx_filter.proofs.Words
-use Words.{ℕ, zero, suc, ◌≡◌, ◌+◌, ◌-◌, ◌<◌, Bool, true, false, cond, List, [], ◌∷◌, ◌++◌, map, length}
-use Words.{Option, refl, ap, sym, ◌∙◌, arith, length-append, append-nil, append_assoc, ◌||◌, map-append}
-use Words.{length-map, and_parts, ReadLine, Content, Epoch, begins_epoch, is_event_line, Done, HeaderLine}
-use Words.{EventLine, EventRecord, Observation, compact_epoch, epoch_line, Choices, Item, Accepted, Warned}
-use Words.{header_has_ended, records_announced, records_left, AtLines, reading_from, continued_reading}
-use Words.{AreInPlace, written_lines, is_in_full, marked_epochs, compact_place, starts_anew, BeginsAnew}
+use Words.{common_steps, ℕ, zero, suc, ◌≡◌, ◌+◌, ◌-◌, ◌<◌, Bool, true, false, cond, List, [], ◌∷◌, ◌++◌, map}
+use Words.{length, Option, refl, ap, sym, ◌∙◌, arith, length-append, append-nil, append_assoc, ◌||◌}
+use Words.{map-append, length-map, and_parts, ReadLine, Content, Epoch, begins_epoch, is_event_line, Done}
+use Words.{HeaderLine, EventLine, EventRecord, Observation, compact_epoch, epoch_line, Choices, Item}
+use Words.{Accepted, Warned, header_has_ended, records_announced, records_left, AtLines, reading_from}
+use Words.{continued_reading, AreInPlace, written_lines, is_in_full, marked_epochs, compact_place}
+use Words.{starts_anew, BeginsAnew}
 use Rattle.crx_filter.proofs.reading.{Each.header-append, ForwardCompact.compact-forward, Resuming.resumed}
 use Rattle.crx_filter.proofs.wayback.{Carried.{one-unit, at-line}, Items.{marked_now, body_unit, unit_back}}
 use Rattle.crx_filter.proofs.wayback.Items.{read_back, unit-here, epoch-stands}
@@ -60,15 +61,13 @@ has_observation (Accepted unit ∷ before) = has_observation before
 
 begins-rest : (choices : Choices) (block : List (Item Epoch)) (item : Item Epoch) (items : List (Item Epoch))
     → BeginsAnew choices block (item ∷ items) → BeginsAnew choices block items
-begins-rest choices block item [] h = tt
-begins-rest choices block item (next ∷ items) h = grind arith
+begins-rest choices block item items h = grind (arith, common_steps)
 
 -- the first epoch after a block is in full
 first-full : (choices : Choices) (block : List (Item Epoch)) (epoch : Epoch) (items : List (Item Epoch))
     → BeginsAnew choices block (Accepted (Observation epoch) ∷ items) → has_observation items ≡ false
     → is_in_full choices.every (items ++ block) ≡ true
-first-full choices block epoch [] h none = h
-first-full choices block epoch (item ∷ items) h none = grind arith
+first-full choices block epoch items h none = grind (arith, common_steps)
 
 pub one-more : (first : List (List ℕ)) (line : List ℕ) (more : List ReadLine)
     → map Content (first ++ line ∷ []) ++ more ≡ map Content first ++ Content line ∷ more
@@ -135,8 +134,7 @@ goes-anew choices block (Warned at ∷ items) header none h k more = goes-anew c
     (starts_anew n more)) (h.0).1
 
 no-more : (n : ℕ) → starts_anew n [] ≡ true
-no-more zero = refl
-no-more (suc n) = refl
+no-more n = grind (arith, common_steps)
 
 -- all starts anew at the lines after a block
 pub text-anew : (choices : Choices) (block items : List (Item Epoch)) → header_has_ended block ≡ true

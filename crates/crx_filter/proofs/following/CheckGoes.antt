@@ -1,12 +1,11 @@
 -- A check goes line by line, in the words of its filter: it hands out nothing before the end of the input,
--- and then
--- its report.
+-- and then its report.
 use Rattle.crx_filter.proofs.Words
 use Words.{common_steps, arith, ℕ, ◌≡◌, false, List, [], ◌∷◌, map, Option, Some, None, refl, ap, sym, ◌∙◌}
 use Words.{reverse, map-append, length-map, InputLine, ReadLine, as_read, At, Choices, Count, Epoch}
 use Words.{lines_text, with_next, noticed_by, failed_by, is_again, Made, RunState, Phase, OpenEpoch, fed}
 use Words.{made_in, step_of_made, state_next, state_end, LineStep, Totals, checking, check_by_line}
-use Words.{check_reading, check_filter, no_choices, whole_reading_of, findings_of, false-true, InFirstLines}
+use Words.{check_reading, check_filter, no_choices, whole_reading_of, findings_of, false-true}
 use Rattle.crx_filter.proofs.following.{CheckedOn.{one-on, same-state}, Following.{fed-once, state_in}}
 use Rattle.crx_filter.proofs.{following.MemoryOfRinex.check-allowed, standard.CheckEnded.check-ended}
 use Rattle.crx_filter.specs.EngineLaws.{EndsLineByLine, FollowsBy, GoesLineByLine}
@@ -18,8 +17,7 @@ use Rattle.crx_filter.specs.meaning.{Directions.report_unless, Standard.{Finding
 -- what a line makes doesn't hang on what is written
 pub made-alike : (phase : Phase OpenEpoch) (types : List Count) (kept : Totals) (line : ReadLine)
     → made_in check_by_line phase types kept line ≡ made_in checking phase types kept line
-made-alike (InFirstLines count) types kept line = refl
-made-alike phase types kept line = refl
+made-alike phase types kept line = grind (arith, common_steps)
 
 -- a step of a check is that of its reading, and hands out nothing
 pub record IsQuiet (step reads : LineStep OpenEpoch Totals) : Type 0 where
@@ -58,8 +56,7 @@ end-reported closing number phase types kept =
 report-text : (found : Findings) (o : Option At) (handed_out : List (List ℕ))
     → (o ≡ None → handed_out ≡ report_lines found) → ((at : At) → o ≡ Some at → handed_out ≡ [])
     → report_unless o found ≡ lines_text handed_out
-report-text found None handed_out good bad = ap lines_text (sym (good refl))
-report-text found (Some at) handed_out good bad = ap lines_text (sym (bad at refl))
+report-text found o handed_out good bad = grind (arith, common_steps)
 
 -- ---- line by line
 

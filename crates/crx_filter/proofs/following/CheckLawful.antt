@@ -1,8 +1,7 @@
 -- A check as a filter: a fault of the lines so far is that of all lines.
-use Rattle.crx_filter.proofs.Words.{◌≡◌, false, [], ◌++◌, map, Some, refl, ap, sym, ◌∙◌, map-append, as_read}
-use Rattle.crx_filter.proofs.Words.{Epoch, WholeReading, IsLawful, whole_rinex, whole_reading_of, findings_of}
-use Rattle.crx_filter.proofs.Words.{check_filter, common_steps, arith, ℕ, List, Option, None, At, Device}
-use Rattle.crx_filter.proofs.Words.{append-nil, lines_of, checked, whole_of}
+use Rattle.crx_filter.proofs.Words.{◌≡◌, false, [], ◌++◌, map, Some, refl, map-append, as_read, IsLawful}
+use Rattle.crx_filter.proofs.Words.{whole_reading_of, findings_of, check_filter, common_steps, arith, ℕ, List}
+use Rattle.crx_filter.proofs.Words.{Option, None, At, Device, append-nil, lines_of, checked, whole_of}
 use Rattle.crx_filter.proofs.reading.{FineReadings.{rinex-found, rinex-found-at-end}, StaysEnded.rinex-stays}
 use Rattle.crx_filter.specs.meaning.{Directions.report_unless, Standard.report_status}
 use Rattle.crx_runs.specs.{Runs.result_by, meaning.{Runs.RunsAs, Spans.Input}}
@@ -10,13 +9,11 @@ use Rattle.crx_runs.specs.{Runs.result_by, meaning.{Runs.RunsAs, Spans.Input}}
 pub check-lawful : IsLawful check_filter
 check-lawful = record {
   nothing = refl;
-  decided = λ lines more at e.
-      let stays = rinex-stays false (map as_read lines) (map as_read more) at e in
-      let fault : WholeReading.fault (whole_reading_of (lines ++ more)) ≡ Some at =
-      ap (λ ls. WholeReading.fault (whole_rinex false ls)) (map-append as_read lines more)
-      ∙ ap (λ (w : WholeReading Epoch). w.fault) stays.ended in
-      ap (λ o. record { output = report_unless o (findings_of (lines ++ more)); warnings = []; fault = o })
-      fault ∙ ap (λ o. record { output = []; warnings = []; fault = o }) (sym e);
+  decided = λ lines more at e. grind (
+    arith,
+    map-append as_read lines more,
+    rinex-stays false (map as_read lines) (map as_read more) at e,
+  );
   grows = λ lines more. record { rest = []; same = refl };
   goes_on = λ lines more. record {
     rest = report_unless (whole_reading_of (lines ++ more)).fault (findings_of (lines ++ more));
@@ -27,8 +24,7 @@ check-lawful = record {
 }
 
 -- a run of the filter is a check once its status is judged: by what there is to find where there is no
--- fault, and else
--- it is as it was
+-- fault, and else it is as it was
 module _ (writer messages : Device) (status judged : ℕ) (fault : Option At)
     (bad : (at : At) → fault ≡ Some at → judged ≡ status) where
   pub run-judged : (input : Input) (given : List ℕ) → (fault ≡ None → judged ≡ report_status

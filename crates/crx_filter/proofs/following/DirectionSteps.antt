@@ -1,13 +1,13 @@
 -- Both directions go line by line, in the words of their filters.
 use Rattle.crx_filter.proofs.Words
-use Words.{ℕ, ◌≡◌, List, [], ◌∷◌, ◌++◌, map, ap, ◌∙◌, reverse, length-map, map-append, reverse-append}
-use Words.{flat_map-append, InputLine, ReadLine, as_read, At, compaction, compaction_state}
-use Words.{rinex_reading, expansion, expansion_state, compact_reading, compaction_filter, expansion_filter}
-use Words.{lines_text, noticed_by, fault_of_stop, warnings_in, state_end, true, length, Option, Some, refl}
-use Words.{FileUnit, Item, Reading, WholeReading, written_lines, whole_course, memory_allowed}
-use Words.{compaction_takes, compact_unit, rinex_place, whole_rinex, expanded_unit, whole_compact}
-use Words.{compact_memory, course_so_far, Direction, RunState, Notice, state_next, takes_memory, IsFollowed}
-use Words.{Overlong, LineTooLong, Rejects, Count, IsEndedBy, fed, append-nil}
+use Words.{ℕ, arith, ◌≡◌, List, [], ◌∷◌, ◌++◌, map, ap, ◌∙◌, reverse, length-map, map-append, reverse-append}
+use Words.{flat_map-append, InputLine, ReadLine, as_read, At, compaction, compaction_state, rinex_reading}
+use Words.{expansion, expansion_state, compact_reading, compaction_filter, expansion_filter, lines_text}
+use Words.{fault_of_stop, warnings_in, state_end, true, length, Option, Some, refl, FileUnit, Item, Reading}
+use Words.{WholeReading, written_lines, whole_course, memory_allowed, compaction_takes, compact_unit}
+use Words.{rinex_place, whole_rinex, expanded_unit, whole_compact, compact_memory, course_so_far, Direction}
+use Words.{RunState, Notice, state_next, takes_memory, IsFollowed, Overlong, LineTooLong, Rejects, Count}
+use Words.{IsEndedBy, fed, append-nil}
 use Rattle.crx_filter.proofs.following.{CompactedOn.compacted-on, ExpandedOn.expanded-on}
 use Rattle.crx_filter.proofs.following.MemoryOfCompactText.{expansion-allowed, expansion-allowed-again}
 use Rattle.crx_filter.proofs.following.MemoryOfRinex.{compaction-allowed, compaction-allowed-again}
@@ -35,42 +35,26 @@ goes-by : {E U O K : Type 0} (direction : Direction U O K) (state_after_lines : 
     (whole lines).fault (state_end direction (state_after_lines lines))) → ((lines : List ReadLine) →
     (state_after_lines lines).number ≡ length lines) → ((lines : List ReadLine) (line : ReadLine) →
     takes_memory direction (state_after_lines lines) line ≡ true → memory lines line ≡ Some []) → ((lines :
-    List ReadLine) (line : ReadLine) (next : RunState O K) (notice : At)
-    → record { answer = Notice notice true; handed_out = []; next = next }
-    ≡ state_next direction (state_after_lines lines) line → takes_memory
-    direction next line ≡ true → memory lines line ≡ Some (notice ∷ [])) → ((types : List Count)
-    (kept : K) → direction.begins types kept Overlong ≡ Rejects LineTooLong) → ((so_far : O)
-    → direction.continues so_far Overlong ≡ Rejects LineTooLong) → GoesLineByLine direction (λ lines. [])
-    state_after_lines (record {
+    List ReadLine) (line : ReadLine) (next : RunState O K) (notice : At) → record
+    { answer = Notice notice true; handed_out = []; next = next } ≡ state_next direction (state_after_lines
+    lines) line → takes_memory direction next line ≡ true → memory lines line ≡ Some (notice ∷ []))
+    → ((types : List Count) (kept : K) → direction.begins types kept Overlong ≡ Rejects LineTooLong)
+    → ((so_far : O) → direction.continues so_far Overlong ≡ Rejects LineTooLong)
+    → GoesLineByLine direction (λ lines. []) state_after_lines (record {
       so_far = λ lines. course_so_far unit_lines (reading (map as_read lines));
       whole = λ lines. whole_course unit_lines (whole (map as_read lines));
       memory_after = λ lines line. memory (map as_read lines) (as_read line);
     })
 goes-by direction state_after_lines unit_lines reading whole memory on ends number first again long_first
     long_next = record {
-      follows = λ (lines : List InputLine) (line : InputLine).
-          let h = on (map as_read lines) (as_read line) in
-          let all = map-append as_read lines (line ∷ []) in
-          record {
-            next = cc (all, h.next);
-            output = cc (all, text-then _ _ _ h.handed_out);
-            warnings = ap (λ (ls : List ReadLine). reverse (warnings_in (reading ls).items)) all
-                ∙ warned-then (warnings_in (reading (map as_read lines)).items) _ (fed direction
-                (state_after_lines (map as_read lines)) (as_read line)).warned h.warned;
-            fault = cc (all, h.failed);
-          };
-      ends = λ (lines : List InputLine).
-          let h = ends (map as_read lines) in
-          record {
-            output = cc (
-              h.written,
-              h.handed_out,
-              append-nil (lines_text (written_lines unit_lines (reading (map as_read lines)).items)),
-            );
-            warnings = warned-then (warnings_in (reading (map as_read lines)).items) _
-                (noticed_by (state_end direction (state_after_lines (map as_read lines))).answer) h.warned;
-            fault = h.failed;
-          };
+      follows = λ lines line. grind (
+        arith,
+        on (map as_read lines) (as_read line),
+        map-append as_read lines (line ∷ []),
+        text-then,
+        warned-then,
+      );
+      ends = λ lines. grind (arith, ends (map as_read lines), text-then, warned-then, append-nil);
       number = λ (lines : List InputLine). number (map as_read lines) ∙ length-map lines as_read;
       memory_first = λ (lines : List InputLine) (line : InputLine). first (map as_read lines) (as_read line);
       memory_again = λ (lines : List InputLine) (line : InputLine). again (map as_read lines) (as_read line);

@@ -34,13 +34,11 @@ placed-here tail p held count e = grind (arith, common_steps, held_after)
 
 placed-wrong : (tail : Option Tail) (p : Place ReadEpoch) (offset : ℕ) (fault : Fault)
     → placed_as (held_after tail) p ≡ Fails offset fault → p ≡ Fails offset fault
-placed-wrong tail (Fails k other) offset fault e = cc
-placed-wrong tail p offset fault e = absurd (cc)
+placed-wrong tail p offset fault e = grind (arith, common_steps)
 
 placed-wanted : (tail : Option Tail) (p : Place ReadEpoch) → placed_as (held_after tail) p ≡ NeedsMore → p
     ≡ NeedsMore
-placed-wanted tail NeedsMore e = refl
-placed-wanted tail p e = absurd (cc)
+placed-wanted tail p e = grind (arith, common_steps)
 
 -- ---- one line
 
@@ -80,8 +78,7 @@ agree-step choices items lines before (Faulty fault) place placed opens = (
 
 -- a first line alone
 steps-last : (step : RawStep) → place_of_steps 0 step [] ≡ place_of_step 0 step
-steps-last (Going so_far) = refl
-steps-last step = refl
+steps-last step = grind (arith, common_steps)
 
 agree-event : (choices : Choices) (items : List (Item ReadEpoch)) (content : List ℕ)
     → is_event_line content ≡ true → (o : Option ℕ)
@@ -119,13 +116,11 @@ by-steps items lines e = rw e refl
 at-observation : (items : List (Item ReadEpoch)) (line : ReadLine) (lines : List ReadLine)
     → begins_event (line ∷ lines) ≡ false → compact_beginning items (line ∷ lines)
     ≡ as_observation (epoch_at (types_in_force items) (raws_kept items) (line ∷ lines))
-at-observation items Overlong lines e = refl
-at-observation items (Content content) lines e = rw e refl
+at-observation items line lines e = grind (arith, common_steps)
 
 same-beginning : (line : ReadLine) (lines more : List ReadLine)
     → begins_event (line ∷ lines) ≡ false → begins_event (line ∷ more) ≡ false
-same-beginning Overlong lines more e = refl
-same-beginning (Content content) lines more e = e
+same-beginning line lines more e = grind (arith, common_steps)
 
 pub agree-continues : (choices : Choices) (items : List (Item ReadEpoch))
     (lines : List ReadLine) (line : ReadLine) (so_far : OpenRawEpoch) → compact_open items lines ≡ Some so_far
@@ -143,8 +138,7 @@ agree-continues choices items (first ∷ rest) line so_far opens =
 -- ---- where more lines are wanted
 
 pub observation-wanted : (p : Place ReadEpoch) → as_observation p ≡ NeedsMore → p ≡ NeedsMore
-observation-wanted NeedsMore e = refl
-observation-wanted p e = absurd (cc)
+observation-wanted p e = grind (arith, common_steps)
 
 event-not_wanted : (items : List (Item ReadEpoch)) (line : ReadLine) (lines : List ReadLine)
     → begins_event (line ∷ lines) ≡ true → compact_beginning items (line ∷ lines) ≡ NeedsMore → ⊥
@@ -162,8 +156,7 @@ no-lines items (line ∷ lines) wanted none = by_bool (begins_event (line ∷ li
     (tail_of_items items) (line ∷ lines) ∙ ap is_some (sym (by-steps items (line ∷ lines) off) ∙ none))))
 
 kept-record : (b : Bool) (raws : List RawEpoch) → cond b None (tail_left raws) ≡ tail_left (cond b [] raws)
-kept-record true raws = refl
-kept-record false raws = refl
+kept-record b raws = grind (arith, common_steps)
 
 pub expansion-carried_out : (choices : Choices)
     → IsCarriedOut compact_beginning expansion compact_open tail_of_items expanded_unit choices

@@ -1,20 +1,20 @@
 -- One line more, as it is fed and as it is read: the same in both directions.
 use Rattle.crx_filter.proofs
-use proofs.Words.{common_steps, ℕ, zero, suc, ◌≡◌, ◌⊎◌, inl, inr, ◌+◌, ◌-◌, max, ◌<◌, ◌≤◌, Bool, true, false}
-use proofs.Words.{List, [], ◌∷◌, ◌++◌, length, drop, Option, Some, None, refl, ap, sym, subst, ◌∙◌, arith}
-use proofs.Words.{length-append, append-nil, ◌&&◌, drop-append_seam, ReadLine, Fault, At, Count, Place, Done}
-use proofs.Words.{Fails, NeedsMore, IsDecidedAfter, FileUnit, HeaderLine, EventLine, EventRecord, Observation}
-use proofs.Words.{Choices, Item, Accepted, Warned, is_at_start, header_has_ended, records_announced}
-use proofs.Words.{records_left, counts_types, records_count_types, types_in_force, unit_place, Reading}
-use proofs.Words.{AtFault, AtLines, Looking, is_skipped, can_go_on, looked_for, reading_within, written_lines}
-use proofs.Words.{warnings_in, Phase, InHeader, InEvent, InEpoch, Ended, RunState, Made, Completes, Moves}
-use proofs.Words.{Rejects, Direction, Notice, Failed, Step, with_records_left, phase_after, types_after}
-use proofs.Words.{may_skip, is_in_epoch, is_skipped_in, kept_in, with_phase, after_warning, failed_step}
-use proofs.Words.{step_of_made, state_next, phase_in_body, phase_after_items, state_of, IsReadForward}
-use proofs.Words.{IsFollowed, Fed, fed, fed_once, fed_twice, is_again, fault_of_stop, by_bool}
+use proofs.Words.{common_steps, ℕ, suc, ◌≡◌, ◌⊎◌, ◌+◌, ◌-◌, max, ◌<◌, ◌≤◌, Bool, true, false, List, [], ◌∷◌}
+use proofs.Words.{◌++◌, length, drop, Option, Some, None, refl, ap, sym, ◌∙◌, arith, length-append}
+use proofs.Words.{append-nil, ◌&&◌, drop-append_seam, ReadLine, Fault, At, Count, Place, Done, Fails}
+use proofs.Words.{NeedsMore, FileUnit, HeaderLine, EventLine, EventRecord, Observation, Choices, Item}
+use proofs.Words.{Accepted, Warned, is_at_start, header_has_ended, records_announced, records_left}
+use proofs.Words.{counts_types, records_count_types, types_in_force, unit_place, Reading, AtFault, AtLines}
+use proofs.Words.{Looking, is_skipped, can_go_on, looked_for, reading_within, written_lines, warnings_in}
+use proofs.Words.{Phase, InHeader, InEvent, InEpoch, Ended, RunState, Made, Completes, Moves, Rejects}
+use proofs.Words.{Direction, Notice, Failed, Step, with_records_left, phase_after, types_after, may_skip}
+use proofs.Words.{is_in_epoch, is_skipped_in, kept_in, with_phase, after_warning, failed_step, step_of_made}
+use proofs.Words.{state_next, phase_in_body, phase_after_items, state_of, IsReadForward, IsFollowed, Fed, fed}
+use proofs.{Words.{fed_once, fed_twice, is_again, fault_of_stop, by_bool}, Pending.noticed-lines}
+use proofs.{Pending.failed-lines, reading.Resuming.{wrong-within, within-wrong, within-wanted, fault-skipped}}
+use proofs.reading.Resuming.{fault-ends, looked-here, looked-on}
 use Rattle.crx_filter.specs.LineByLine.{after_unit, answer_of_lines}
-use proofs.{Pending.{noticed-lines, failed-lines}, reading.Resuming.wrong-within}
-use proofs.reading.Resuming.{within-wrong, within-wanted, fault-skipped, fault-ends, looked-here, looked-on}
 pub use Rattle.crx_filter.proofs.Pending.{state_in}
 
 -- ---- what a direction has to keep to
@@ -93,15 +93,13 @@ body-phase items so_far ended none = rw (ended, none) refl
 
 pub records-phase : {O : Type 0} (left : ℕ) (counted : Bool)
     → phase_in_body {O = O} left counted None ≡ with_records_left left counted
-records-phase zero counted = refl
-records-phase (suc left) counted = refl
+records-phase left counted = grind (arith, common_steps)
 
 -- a phase after a unit is no open epoch, and no fault
 module _ {U O K : Type 0} (direction : Direction U O K) where
   kept-with_records : (left : ℕ) (counted : Bool) (kept : K)
       → kept_in direction (with_records_left left counted) kept ≡ kept
-  kept-with_records zero counted kept = refl
-  kept-with_records (suc left) counted kept = refl
+  kept-with_records left counted kept = grind (arith, common_steps)
 
   -- ---- how a line is fed
 
@@ -135,18 +133,12 @@ module _ {U O K : Type 0} (direction : Direction U O K) where
 
 module _ {E : Type 0} {place : List (Item E) → List ReadLine → Place (FileUnit E)} (h : IsReadForward place)
   where
-    -- where more lines are wanted, what the next one decides is decided after those before it
-    decided-after : (items : List (Item E)) (rest : List ReadLine) (line : ReadLine)
-        → place items rest ≡ NeedsMore → IsDecidedAfter (length rest) (place items (rest ++ line ∷ []))
-    decided-after items rest line wanted = rw wanted at (h.steady items rest (line ∷ []))
-
-    -- so a fault ends with the next line
+    -- where more lines are wanted, a fault that the next one decides ends with it
     pub wrong-last : (items : List (Item E))
         (rest : List ReadLine) (line : ReadLine) (offset : ℕ) (fault : Fault) → place items rest ≡ NeedsMore
         → place items (rest ++ line ∷ []) ≡ Fails offset fault → offset ≡ length rest
     wrong-last items rest line offset fault wanted e =
-        let past : length rest ≤ offset = subst (IsDecidedAfter (length rest)) e
-        (decided-after items rest line wanted) in
+        let past : length rest ≤ offset = rw (wanted, e) at (h.steady items rest (line ∷ [])) in
         let within = wrong-within place h items (rest ++ line ∷ []) offset fault e in
         omega (arith, past, within, length-append rest (line ∷ []))
 
@@ -262,8 +254,7 @@ module _ {E U O K : Type 0} {beginning : List (Item E) → List ReadLine → Pla
 
   pub emptied-same : (items : List (Item E)) (kept : K)
       → AreKept items kept → direction.emptied kept ≡ direction.emptied (kept_of items)
-  emptied-same items kept (inl e) = ap direction.emptied e
-  emptied-same items kept (inr e) = ap direction.emptied e ∙ h.emptied_open (kept_of items)
+  emptied-same items kept keeps = grind (arith, common_steps, h.emptied_open)
 
   -- a fault that is skipped, no line being at hand to go on at
   skipped-looking : (units : ℕ) (items : List (Item E))

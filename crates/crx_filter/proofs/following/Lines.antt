@@ -1,11 +1,11 @@
 -- One line more, wherever a reading has stopped.
 use Rattle.crx_filter.proofs
 use proofs.Words.{common_steps, ℕ, zero, suc, ◌≡◌, inl, inr, ◌+◌, ◌<◌, Bool, true, false, cond, List, [], ◌∷◌}
-use proofs.Words.{◌++◌, length, Option, Some, None, Result, Ok, Err, refl, ap, sym, subst, ◌∙◌, arith}
-use proofs.Words.{length-append, append-nil, append_assoc, ◌&&◌, ◌==◌, ⊤, nat_lt, ReadLine, Content, Overlong}
-use proofs.Words.{Fault, LineTooLong, At, is_end_of_header, Count, types_of, with_line, none-some, Place}
-use proofs.Words.{NeedsMore, one_line, first_line, FileUnit, HeaderLine, EventRecord, Choices, Item, Accepted}
-use proofs.Words.{Warned, is_at_start, header_has_ended, records_left, records_count_types, declaring_lines}
+use proofs.Words.{◌++◌, length, Option, Some, None, Result, refl, ap, sym, subst, ◌∙◌, arith, length-append}
+use proofs.Words.{append-nil, append_assoc, ◌&&◌, ◌==◌, ⊤, nat_lt, ReadLine, Content, Overlong, Fault}
+use proofs.Words.{LineTooLong, At, is_end_of_header, Count, types_of, with_line, none-some, Place, NeedsMore}
+use proofs.Words.{one_line, first_line, FileUnit, HeaderLine, EventRecord, Choices, Item, Accepted, Warned}
+use proofs.Words.{is_at_start, header_has_ended, records_left, records_count_types, declaring_lines}
 use proofs.Words.{types_in_force, unless_wrong, types_fault, header_line_fault, header_line, event_record}
 use proofs.Words.{unit_place, Reading, Stop, AtFault, AtLines, Looking, is_skipped, can_go_on, reading_within}
 use proofs.Words.{reading_from, is_skippable, continued_reading, IsReadForward, fed, fed_once, fed_twice}
@@ -13,13 +13,13 @@ use proofs.Words.{is_again, written_lines, warnings_in, Phase, InHeader, Between
 use proofs.Words.{LookingOn, RunState, Made, Rejects, Direction, Notice, Step, made_of_unit, made_in}
 use proofs.Words.{phase_after, types_after, may_skip, is_in_epoch, is_skipped_in, kept_in, after_warning}
 use proofs.Words.{failed_step, step_of_made, state_next, phase_in_body, phase_after_items, state_of}
-use proofs.Words.{and_parts, by_bool, false-true, Completes}
-use Rattle.crx_header.proofs.Counts.{types_of-push}
-use proofs.{Pending.again-lines, following.Following.{IsCarriedOut, AreKept, IsInside, Follows, Agrees}}
-use proofs.following.Following.{place, reads, state_at, emptied-same, skipped-same, body-place, body-phase}
-use proofs.following.Following.{fed-once, fed-twice, failed-ends, failed-skipped, followed-unit, followed-end}
-use proofs.following.Following.{last-here, last-ends, last-skipped, skipped-again, records-phase, body-once}
+use proofs.{Words.{and_parts, by_bool, false-true, Completes}, Pending.again-lines}
+use proofs.following.Following.{IsCarriedOut, AreKept, IsInside, Follows, Agrees, place, reads, state_at}
+use proofs.following.Following.{emptied-same, skipped-same, body-place, body-phase, fed-once, fed-twice}
+use proofs.following.Following.{failed-ends, failed-skipped, followed-unit, followed-end, last-here}
+use proofs.following.Following.{last-ends, last-skipped, skipped-again, records-phase, body-once}
 use proofs.reading.Resuming.{enough-units, looked-here, looked-on}
+use Rattle.crx_header.proofs.Counts.{types_of-push}
 
 -- only in an epoch does a line come again
 pub quiet-elsewhere : {U O K : Type 0} (direction : Direction U O K) (state : RunState O K) (line : ReadLine)
@@ -30,8 +30,7 @@ quiet-elsewhere direction state line made e = grind (arith, common_steps)
 -- ---- lines of the header, and an event's records
 
 pub never-before : (skip b : Bool) → (skip && (false && b)) ≡ false
-never-before true b = refl
-never-before false b = refl
+never-before skip b = grind (arith, common_steps)
 
 header-phase : {E O : Type 0} (items : List (Item E)) (is_first : Bool) (line : List ℕ)
     → header_has_ended items ≡ false → phase_after_items {O = O} (Accepted (HeaderLine line) ∷ items) None
@@ -66,8 +65,7 @@ record-place beginning items left lines ended some = grind (arith, common_steps,
 
 -- one line decides what is there
 pub one_line-decided : {X : Type 0} (r : Result X Fault) → one_line r ≡ NeedsMore → ⊥
-one_line-decided (Ok x) e = absurd (cc)
-one_line-decided (Err fault) e = absurd (cc)
+one_line-decided r e = grind (arith, common_steps)
 
 -- where the first line is wanted, none has come
 pub only_none : {X : Type 0} (read : List ℕ → Result X Fault) (ls : List ReadLine)

@@ -175,13 +175,7 @@ module _ {E U O K : Type 0} {beginning : List (Item E) → List ReadLine → Pla
           (λ (k : K). (not (is_event_line content) && direction.memory_first (types_in_force items) k content)
           ≡ true) kept_then (and_parts (begins_epoch content) _ t).1)
   cut-takes items number count rest line so_far next notice wanted counted ended none open_is
-      (Completes unit) a e taken = absurd (cc (
-        ap (λ (s : Step O K). is_again s.answer) e,
-        again-lines (direction.written (state_in choices count (InEpoch so_far) (types_in_force items)
-            (direction.kept_open (kept_of items))) unit),
-      ))
-  cut-takes items number count rest line so_far next notice wanted counted ended none open_is m a e taken =
-      let no = ap (λ (s : Step O K). is_again s.answer) e in absurd (cc)
+      m a e taken = grind (arith, common_steps, again-lines)
 
   -- memory may run out at a line after its warning
   pub allowed-again : (items : List (Item E)) (stop : Stop) (count : ℕ)

@@ -56,8 +56,7 @@ takes-next items (line ∷ []) so_far opens read = by_event (begins_event (line 
     clock_of (Some begun) = has_come begun.clock
 
     of_step : (step : RawStep) → clock_of (open_raw_after step []) ≡ clock_read step
-    of_step (Going begun) = refl
-    of_step step = refl
+    of_step step = grind (arith, common_steps)
 
     by_event : (b : Bool) → begins_event (line ∷ []) ≡ b → expansion_takes 1 true ≡ true
     by_event true e = grind (arith, common_steps, none-some, begins_event, compact_open)

@@ -1,14 +1,14 @@
 -- Lines of a RINEX file one by one: what the last of some lines makes is what is at them. Every direction
 -- that reads RINEX goes this way.
 use Rattle.crx_filter.proofs.Words
-use Words.{ℕ, zero, suc, ◌≡◌, ◌⊎◌, List, [], ◌∷◌, ◌++◌, length, Some, None, Result, Ok, Err, inl, inr, refl}
-use Words.{sym, ◌∙◌, none-some, ReadLine, Content, Overlong, Fault, Epoch, Count, Done, NeedsMore}
-use Words.{after_lines, then_place, FileUnit, Observation, OpenEpoch, Beginning, EventBegins, EpochBegins}
-use Words.{beginning_of, opened, rows_wanted, epoch_of, rows_at, epoch_place, EpochStep, Going, Whole, Faulty}
-use Words.{when_wanted, epoch_step, Choices, Item, types_in_force, Made, Direction, made_of_epoch_step}
-use Words.{made_of_beginning, rinex_begins, rinex_open}
-use Rattle.crx_rinex.specs.EpochPlaces.{whole_or_going, still_open, open_with, place_after}
+use Words.{common_steps, arith, ℕ, zero, suc, ◌≡◌, ◌⊎◌, List, [], ◌∷◌, ◌++◌, length, Some, None, Result, Ok}
+use Words.{Err, inl, inr, refl, sym, ◌∙◌, none-some, ReadLine, Content, Overlong, Fault, Epoch, Count, Done}
+use Words.{NeedsMore, after_lines, then_place, FileUnit, Observation, OpenEpoch, Beginning, EventBegins}
+use Words.{EpochBegins, beginning_of, opened, rows_wanted, epoch_of, rows_at, epoch_place, EpochStep, Going}
+use Words.{Whole, Faulty, when_wanted, epoch_step, Choices, Item, types_in_force, Made, Direction}
+use Words.{made_of_epoch_step, made_of_beginning, rinex_begins, rinex_open}
 use Rattle.crx_rinex.proofs.OpenEpochs.{wanted-open, next-by_open, open_none}
+use Rattle.crx_rinex.specs.EpochPlaces.{whole_or_going, still_open, open_with, place_after}
 use Rattle.crx_filter.proofs.following.Following.{IsSameEpoch, AgreeOn}
 
 -- ---- what is asked of a direction
@@ -22,8 +22,7 @@ pub record AreSame {K : Type 0} (direction : Direction Epoch OpenEpoch K) (kept_
 
 -- what an open epoch leaves as it was is kept in one way
 pub either-same : {X : Type 0} {a b : X} → (a ≡ b) ⊎ (a ≡ b) → a ≡ b
-either-same (inl e) = e
-either-same (inr e) = e
+either-same e = grind (arith, common_steps)
 
 -- ---- one line
 

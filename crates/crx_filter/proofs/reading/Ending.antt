@@ -1,12 +1,11 @@
 -- The end of the input, wherever a reading has stopped.
 use Rattle.crx_filter.proofs.Words
-use Words.{common_steps, arith, ℕ, suc, ◌≡◌, ◌+◌, true, false, cond, List, [], ◌∷◌, length, Option, Some}
-use Words.{None, refl, sym, ◌∙◌, ◌&&◌, ◌==◌, nat_lt, ReadLine, Fault, MissingVersion, Truncated, Place}
-use Words.{NeedsMore, FileUnit, Choices, Item, is_at_start, header_has_ended, records_left}
-use Words.{records_count_types, types_in_force, WholeReading, Stop, AtLines, is_skipped, fault_at_end}
-use Words.{ended_with, ended_reading, is_skippable, written_lines, warnings_in, Phase, InHeader, InEvent}
-use Words.{InEpoch, Direction, Step, is_skipped_in, kept_in, state_end, phase_after_items, state_of}
-use Words.{IsEndedBy, by_bool, ◌<◌}
+use Words.{common_steps, arith, ℕ, suc, ◌≡◌, ◌+◌, true, false, cond, List, [], length, Option, Some, None}
+use Words.{refl, sym, ◌∙◌, ◌&&◌, ◌==◌, nat_lt, ReadLine, Fault, MissingVersion, Truncated, Place, NeedsMore}
+use Words.{FileUnit, Choices, Item, is_at_start, header_has_ended, records_left, records_count_types}
+use Words.{types_in_force, WholeReading, Stop, AtLines, is_skipped, fault_at_end, ended_with, ended_reading}
+use Words.{is_skippable, written_lines, warnings_in, Phase, InHeader, InEvent, InEpoch, Direction, Step}
+use Words.{is_skipped_in, kept_in, state_end, phase_after_items, state_of, IsEndedBy, by_bool, ◌<◌}
 use Rattle.crx_base.specs.declared.fault.Fault.TheVariants.{NoEndOfHeader}
 use Rattle.crx_filter.proofs.following.Following.{IsCarriedOut, place, state_at, skipped-same}
 use Rattle.crx_filter.proofs.following.Lines.{IsStopped, by_phase, never-before, never-in-event, some_lines}
@@ -14,8 +13,7 @@ use Rattle.crx_filter.specs.LineByLine.{end_step, BetweenUnits}
 
 in-header : {E : Type 0} (items : List (Item E)) → header_has_ended items ≡ false
     → fault_at_end items [] ≡ Some (cond (is_at_start items) MissingVersion NoEndOfHeader)
-in-header [] e = refl
-in-header (item ∷ before) e = rw e refl
+in-header items e = grind (arith, common_steps)
 
 in-event : {E : Type 0} (items : List (Item E)) (left : ℕ)
     → header_has_ended items ≡ true → records_left items ≡ suc left → fault_at_end items [] ≡ Some Truncated
@@ -24,8 +22,7 @@ in-event items left e f = grind (arith, common_steps, nat_lt)
 -- the end after whole units is good
 pub closes-well : {E : Type 0} (items : List (Item E))
     → header_has_ended items ≡ true → records_left items ≡ 0 → fault_at_end items [] ≡ None
-closes-well [] e f = absurd (cc)
-closes-well (item ∷ before) e f = rw (e, f) refl
+closes-well items e f = grind (arith, common_steps)
 
 in-epoch : {E : Type 0} (items : List (Item E)) (lines : List ReadLine)
     → header_has_ended items ≡ true → 0 < length lines → fault_at_end items lines ≡ Some Truncated

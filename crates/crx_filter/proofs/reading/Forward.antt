@@ -1,7 +1,7 @@
 -- What is at a line is certain as soon as its last line has come, in both directions.
 use Rattle.crx_filter.proofs.Words
-use Words.{◌≡◌, Bool, true, false, cond, List, [], refl, ReadLine, Place, NeedsMore, IsSteady, FileUnit}
-use Words.{Epoch, epoch_place, Item, types_in_force, unit_place, rinex_place, IsReadForward}
+use Words.{common_steps, arith, ◌≡◌, Bool, cond, List, [], refl, ReadLine, Place, NeedsMore, IsSteady}
+use Words.{FileUnit, Epoch, epoch_place, Item, types_in_force, unit_place, rinex_place, IsReadForward}
 use Rattle.crx_rinex.proofs.{OpenEpochs.steady-epoch_place, Steady.steady-first_line}
 
 -- where an epoch or an event may begin in RINEX
@@ -11,13 +11,11 @@ rinex_beginning items = epoch_place (types_in_force items)
 -- one place or another
 chosen_steady : {X : Type 0} (b : Bool) (one two : List ReadLine → Place X)
     → IsSteady one → IsSteady two → IsSteady (λ lines. cond b (one lines) (two lines))
-chosen_steady true one two h k = h
-chosen_steady false one two h k = k
+chosen_steady b one two h k = grind (arith, common_steps)
 
 chosen_wanted : {X : Type 0} (b : Bool) (one two : Place X) → one ≡ NeedsMore → two ≡ NeedsMore → cond b one
     two ≡ NeedsMore
-chosen_wanted true one two h k = h
-chosen_wanted false one two h k = k
+chosen_wanted b one two h k = grind (arith, common_steps)
 
 pub unit_place-forward : {E : Type 0} (beginning : List (Item E) → List ReadLine → Place (FileUnit E))
     → ((items : List (Item E)) → IsSteady (beginning items))

@@ -1,10 +1,10 @@
 -- The end of the input, as a check takes it; and which files it names as standard.
 use Rattle.crx_filter.proofs.Words
-use Words.{common_steps, arith, ℕ, ◌≡◌, false, List, [], ◌∷◌, ◌++◌, map, length, Option, Some, None, refl, ap}
-use Words.{sym, append-nil, none-some, InputLine, ReadLine, as_read, Fault, Count, Epoch, HeaderLine}
-use Words.{OpenEpoch, Item, Accepted, Warned, is_at_start, Reading, WholeReading, fault_at_end, ended_with}
-use Words.{whole_rinex, rinex_reading, Phase, InEpoch, kept_in, state_end, AreInPlace, failed_by}
-use Words.{printed_items, whole_reading_of, Totals, checking, printed_open, no_choices}
+use Words.{common_steps, arith, ℕ, ◌≡◌, false, List, [], ◌∷◌, ◌++◌, map, length, Option, None, refl, ap}
+use Words.{append-nil, none-some, InputLine, ReadLine, as_read, Fault, Count, Epoch, HeaderLine, OpenEpoch}
+use Words.{Item, Accepted, Warned, is_at_start, Reading, WholeReading, fault_at_end, ended_with, whole_rinex}
+use Words.{rinex_reading, Phase, kept_in, state_end, AreInPlace, failed_by, printed_items, whole_reading_of}
+use Words.{Totals, checking, printed_open, no_choices}
 use Rattle.crx_filter.proofs.following.{Check.check-end, CheckedOn.{same-state, as-many}, Following.state_in}
 use Rattle.crx_filter.proofs.reading.{InPlace.items-in_place, WhatWasRead.items-read}
 use Rattle.crx_filter.{proofs.wayback.Carried.started, specs.CheckByLine.version_accepted}
@@ -14,8 +14,7 @@ use Rattle.crx_filter.specs.{CheckingLaws.IsCheckEnded, meaning.Standard.{first_
 
 at-end : (items : List (Item Epoch)) (number : ℕ) (fault : Option Fault)
     → WholeReading.items (ended_with false items number fault) ≡ items
-at-end items number None = refl
-at-end items number (Some fault) = refl
+at-end items number fault = grind (arith, common_steps)
 
 pub whole-items : (lines : List ReadLine)
     → WholeReading.items (whole_rinex false lines) ≡ Reading.items (rinex_reading false lines)
@@ -24,8 +23,7 @@ whole-items lines = grind (arith, common_steps, rinex_reading, at-end, fault_at_
 -- and no epoch is open
 none-open : (number : ℕ) (phase : Phase OpenEpoch) (types : List Count) (kept : Totals) → failed_by
     (state_end checking (state_in no_choices number phase types kept)).answer ≡ None → printed_open phase ≡ []
-none-open number (InEpoch so_far) types kept e = absurd (none-some _ (sym e))
-none-open number phase types kept e = refl
+none-open number phase types kept e = grind (arith, common_steps, none-some)
 
 -- ---- the version
 
@@ -66,8 +64,7 @@ version-same lines = grind (arith, common_steps, is-first, items-in_place, items
 
 -- what is kept doesn't hang on the phase
 pub kept-always : (phase : Phase OpenEpoch) (kept : Totals) → kept_in checking phase kept ≡ kept
-kept-always (InEpoch so_far) kept = refl
-kept-always phase kept = refl
+kept-always phase kept = grind (arith, common_steps)
 
 pub check-ended : (lines : List InputLine) → IsCheckEnded lines
 check-ended lines = grind (

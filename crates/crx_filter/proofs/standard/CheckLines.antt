@@ -1,15 +1,15 @@
 -- The lines that printing gives back for some lines of a file, and for one line more.
 use Rattle.crx_filter.proofs.Words
 use Words.{common_steps, arith, ℕ, zero, suc, ◌≡◌, ◌+◌, ◌-◌, Bool, false, List, [], ◌∷◌, ◌++◌, length, drop}
-use Words.{Option, Some, None, Result, Ok, Err, refl, sym, append-nil, ⊤, map-append, none-some, ReadLine}
-use Words.{Content, Fault, Row, Epoch, Count, HeaderLine, EventRecord, last_line, printed_row, printed_epoch}
-use Words.{OpenEpoch, Beginning, epoch_of, with_next_row, after_row, Item, Accepted, unless_wrong, Stop}
-use Words.{Looking, reading_within, rinex_place, rinex_reading, made_of_epoch_step, made_of_beginning}
-use Words.{rinex_open, Phase, InFirstLines, InHeader, BetweenUnits, InEvent, InEpoch, LookingOn, Closed, Made}
-use Words.{Step, made_of_unit, made_in, with_records_left, step_of_made, phase_in_body, phase_of, failed_by}
-use Words.{Totals, checking, printed_open, printed_made, no_choices}
-use Rattle.crx_filter.proofs.{Checkers.last-of, following.Following.state_in}
-use Rattle.crx_filter.proofs.reading.Resuming.{by_place, within-here, within-wrong, within-wanted}
+use Words.{Option, Some, None, Result, sym, append-nil, ⊤, map-append, none-some, ReadLine, Content, Fault}
+use Words.{Row, Epoch, Count, HeaderLine, EventRecord, last_line, printed_row, printed_epoch, OpenEpoch}
+use Words.{Beginning, epoch_of, with_next_row, after_row, Item, Accepted, unless_wrong, Stop, Looking}
+use Words.{reading_within, rinex_place, rinex_reading, made_of_epoch_step, made_of_beginning, rinex_open}
+use Words.{Phase, InFirstLines, InHeader, BetweenUnits, InEvent, InEpoch, LookingOn, Closed, Made, Step}
+use Words.{made_of_unit, made_in, with_records_left, step_of_made, phase_in_body, phase_of, failed_by, Totals}
+use Words.{checking, printed_open, printed_made, no_choices}
+use Rattle.crx_filter.proofs.{Checkers.last-of, following.Following.state_in, reading.Resuming.by_place}
+use Rattle.crx_filter.proofs.reading.Resuming.{within-here, within-wrong, within-wanted}
 use Rattle.crx_rinex.specs.meaning.Printing.{printed_head}
 
 -- ---- where nothing is skipped, no line is looked for
@@ -65,8 +65,7 @@ Grows number phase types kept line made =
     ≡ printed_open phase ++ last_line (printed_made made) ∷ []
 
 none-open : (left : ℕ) (counted : Bool) → printed_open (with_records_left left counted) ≡ []
-none-open zero counted = refl
-none-open (suc left) counted = refl
+none-open left counted = grind (arith, common_steps)
 
 header-grows : (number : ℕ) (is_first : Bool)
     (types : List Count) (kept : Totals) (content : List ℕ) (fault : Option Fault) → Grows number
@@ -86,8 +85,7 @@ module _ (number : ℕ) (types : List Count) (kept : Totals) (content : List ℕ
 
   row-grows : (so_far : OpenEpoch) (row : Result Row Fault)
       → Grows number (InEpoch so_far) types kept (Content content) (made_of_epoch_step (after_row so_far row))
-  row-grows so_far (Err fault) f = absurd (none-some _ (sym f))
-  row-grows so_far (Ok row) f = grind (arith, common_steps, append-nil, row-printed)
+  row-grows so_far row f = grind (arith, common_steps, none-some, append-nil, row-printed)
 
 pub line-grows : (number : ℕ) (phase : Phase OpenEpoch) (types : List Count) (kept : Totals) (line : ReadLine)
     → IsReached phase → Grows number phase types kept line (made_in checking phase types kept line)

@@ -2,29 +2,33 @@
 use Rattle.crx_filter.proofs
 use proofs.Words.{common_steps, arith, ℕ, ◌≡◌, ◌+◌, true, false, List, [], Option, None, refl, ap, sym, subst}
 use proofs.Words.{◌∙◌, InputLine, is_long, ReadLine, Content, as_read, Fault, OpenEpoch, ObservationEpoch}
-use proofs.Words.{Count, last_line, compaction, with_next, Phase, InFirstLines, RunState, Made, Moves}
-use proofs.Words.{made_in, step_of_made, epoch_by_rows, reader_phase, made_at, TakesRinexLine}
-use proofs.Words.{is_standard_line, Totals, checking, printed_made, earliest, CheckState, no_choices}
-use proofs.Words.{check_state, checker_state_with, Held, RinexReader, RinexStep, false-true}
-use proofs.Words.{first_not_standard, printed_so_far, Stage, phase_of_stage, epoch_open, ◌≤◌, is_open_stage}
-use proofs.Words.{is_row, drop, Row as ObservationRow, Ok, Err, IsSameReader, Choices, length-drop}
-use proofs.Words.{check_by_line, check_reading, map, length, false≢true}
+use proofs.Words.{Count, last_line, compaction, with_next, Phase, RunState, Made, made_in, step_of_made}
+use proofs.Words.{epoch_by_rows, reader_phase, made_at, TakesRinexLine, is_standard_line, Totals, checking}
+use proofs.Words.{printed_made, earliest, CheckState, no_choices, check_state, checker_state_with, Held}
+use proofs.Words.{RinexReader, RinexStep, false-true, first_not_standard, printed_so_far, Stage}
+use proofs.Words.{phase_of_stage, epoch_open, ◌≤◌, is_open_stage, is_row, drop, Row as ObservationRow, Ok}
+use proofs.Words.{Err, IsSameReader, Choices, length-drop, check_by_line, check_reading, map, length}
+use proofs.{Words.{false≢true, Written}, following.CheckGoes.{made-alike, made-quiet}}
+use proofs.following.{CheckedOn.{checked-on, same-state}, Following.state_in}
+use proofs.standard.{CheckEnded.kept-always, CheckLines.{IsReached, Grows, line-grows, phase-reached}}
+use proofs.steps.EngineAnswers.{as-read-short}
 use Rattle.crx_filter.specs.{CheckByLine.totals_made, CheckingParts.{AreNamed, is_reading}}
 use Rattle.crx_filter.specs.{CompactionByLine.is_before_header, DirectionParts.{DirectionParts, Reads}}
 use Rattle.crx_filter.specs.{LineByLine.Quiet as LineQuiet, RinexReaders.RefusesRinexLine, Stages.is_ended}
 use Rattle.crx_filter.specs.{Stages.is_passing, Totals.{IsBehindARow, IsCounting, totals_held, HasPrinted}}
 use Rattle.crx_filter.specs.meaning.{Directions.fault_so_far, Standard.{Findings, report_lines}}
 use Rattle.std.proofs.lemmas.List.{drop_all}
-use proofs.following.{CheckGoes.{made-alike, made-quiet}, CheckedOn.{checked-on, same-state}}
-use proofs.{following.Following.state_in, standard.CheckEnded.kept-always}
-use proofs.{standard.CheckLines.{IsReached, Grows, line-grows, phase-reached}, steps.EngineAnswers.as-read-short}
 
--- what a reader's line makes, where nothing is kept of the epochs
-abbrev made_there : RinexReader → List ℕ → Made ObservationEpoch OpenEpoch
-made_there before content = made_at before content (record { index = 0; tail = None })
+-- nothing is kept of the epochs
+abbrev pub nothing_kept : Written
+nothing_kept = record { index = 0; tail = None }
+
+-- what a reader's line makes then
+abbrev pub made_there : RinexReader → List ℕ → Made ObservationEpoch OpenEpoch
+made_there before content = made_at before content nothing_kept
 
 -- the line was taken, and the totals are those before it and what it makes
-abbrev IsTaken : RinexReader → List ℕ → RinexStep → RinexReader → Type 0
+abbrev pub IsTaken : RinexReader → List ℕ → RinexStep → RinexReader → Type 0
 IsTaken before content step after = TakesRinexLine (made_there before content) before content step after
 
 abbrev AreTotals : RinexReader → List ℕ → Held → Held → Type 0
@@ -33,9 +37,8 @@ AreTotals before content totals then = totals_held then
 
 -- a check keeps nothing of the epochs: what a line makes does not hang on it
 made-same : (phase : Phase OpenEpoch) (types : List Count) (kept : Totals) (line : ReadLine) → made_in
-    checking phase types kept line ≡ made_in compaction phase types (record { index = 0; tail = None }) line
-made-same (InFirstLines count) types kept line = refl
-made-same phase types kept line = refl
+    checking phase types kept line ≡ made_in compaction phase types nothing_kept line
+made-same phase types kept line = grind (arith, common_steps)
 
 -- ---- the step of a line
 
@@ -64,8 +67,7 @@ reached phase e = grind (arith, common_steps, false-true)
 
 grows-printed : (number : ℕ) (phase : Phase OpenEpoch) (types : List Count) (kept : Totals) (line : ReadLine)
     (made : Made ObservationEpoch OpenEpoch) → Grows number phase types kept line made → HasPrinted made
-grows-printed number phase types kept line (Moves next) h = grind (arith, common_steps)
-grows-printed number phase types kept line made h = tt
+grows-printed number phase types kept line made h = grind (arith, common_steps)
 
 pub has-printed : (before : RinexReader) (content : List ℕ) → is_reading (reader_phase before) ≡ true
     → HasPrinted (made_there before content)
@@ -163,8 +165,7 @@ module _ (choices : Choices) (before : RinexReader) (totals : Held) (lines : Lis
         ap (λ (c : CheckState). c.not_standard) (took-line before after (length lines) totals then named
         named_then line step lines short takes totals_then (standard (has-printed before line.content reading)
         ∙ ap (λ (n : ℕ). earliest named (is_standard_line line (last_line
-        (printed_made (made_there before line.content)))) n) counted)
-        state-there).1
+        (printed_made (made_there before line.content)))) n) counted) state-there).1
 
 -- ---- names and counts
 

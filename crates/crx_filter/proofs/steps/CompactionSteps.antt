@@ -1,14 +1,14 @@
 -- What a compaction makes of a line: a fault, another stage, a line that is copied, or an epoch.
 use Rattle.crx_filter.proofs.Words
-use Words.{common_steps, arith, ◌≡◌, ◌⊎◌, inl, inr, ℕ, ◌+◌, true, false, List, [], Some, None, Ok, Err, ◌++◌}
-use Words.{◌∷◌, refl, Fault, OutOfMemory, ObservationEpoch, Bool, OpenEpoch, EventLine, EventRecord}
-use Words.{HeaderLine, FileUnit, epoch_by_rows, Choices, Written, compact_written, compaction, written_kept}
-use Words.{Made, Completes, Moves, phase_after, types_after, phase_of_stage, epoch_open, is_row, made_at}
-use Words.{Completed, CompletedEpoch, TakesRinexLine, is_open_stage, RinexStep, Nothing, Header, Begun}
-use Words.{MovesReader, is_at_every, lines_after_tail, tail_after, reader_phase, RinexReader, ObservationHead}
+use Words.{common_steps, arith, ◌≡◌, ◌⊎◌, inr, ℕ, ◌+◌, true, false, List, [], Some, None, Ok, Err, ◌++◌, ◌∷◌}
+use Words.{refl, Fault, OutOfMemory, ObservationEpoch, Bool, OpenEpoch, EventLine, EventRecord, HeaderLine}
+use Words.{FileUnit, epoch_by_rows, Choices, Written, compact_written, compaction, written_kept, Made}
+use Words.{Completes, Moves, phase_after, types_after, phase_of_stage, epoch_open, is_row, made_at, Completed}
+use Words.{CompletedEpoch, TakesRinexLine, is_open_stage, RinexStep, Nothing, Header, Begun, MovesReader}
+use Words.{is_at_every, lines_after_tail, tail_after, reader_phase, RinexReader, ObservationHead}
 use Rattle.crx_compact.specs.Encoding.{EncoderState, tail_in}
-use Rattle.crx_filter.specs.CompactionByLine.{is_before_header}
-use Rattle.crx_filter.specs.DirectionParts.{DirectionParts, Reads, RefusesLine, made_at_parts, state_by}
+use Rattle.crx_filter.specs.{CompactionByLine.is_before_header, DirectionParts.{DirectionParts, Reads}}
+use Rattle.crx_filter.specs.DirectionParts.{RefusesLine, made_at_parts, state_by}
 use Rattle.crx_filter.specs.{RinexReaders.RefusesRinexLine, Stages.is_ended}
 use Rattle.crx_header.specs.meaning.CompactHeader.{lines_before_header}
 
@@ -94,8 +94,7 @@ event-read {line = line} e = grind (arith, common_steps, completed-reads)
 
 pub event-closed : {made : Made ObservationEpoch OpenEpoch} {line : List ℕ} {before after : RinexReader}
     → CompletesEvent made line before after → is_open_stage after.stage ≡ false
-event-closed (inl done) = done.closed
-event-closed (inr done) = done.closed
+event-closed done = grind (arith, common_steps)
 
 -- a line that was taken and is none of the header, nor of an epoch, is of an event
 pub of-event : {made : Made ObservationEpoch OpenEpoch} {before after : RinexReader} {line : List ℕ}

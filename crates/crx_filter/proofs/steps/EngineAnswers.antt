@@ -120,8 +120,7 @@ module _ {U O K : Type 0} {direction : Direction U O K} {closing_after : List In
       second-time : (notice : At) (before : RunState O K) (result : Result Step At) → record
           { answer = Notice notice true; handed_out = []; next = before } ≡ state_next direction first
           (as_read line) → step_made result ready now ≡ state_next direction before (as_read line) →
-          EngineAnswers
-          filter shows ready lines (record { notice = notice; line = line } ∷ []) line result
+          EngineAnswers filter shows ready lines (record { notice = notice; line = line } ∷ []) line result
       second-time notice before (Ok (Warned next true)) one s =
           let again = comes-again direction before now (as_read line) next ready s in
           let looking = comes-again direction first before (as_read line) notice [] one in

@@ -1,18 +1,18 @@
 -- What an engine answers to a line with a fault, to one that is too long, and at the input's end.
 use Rattle.crx_filter.proofs.Words
 use Rattle.crx_filter.specs
-use Words.{common_steps, arith, ◌≡◌, inl, inr, ℕ, ◌+◌, Bool, true, false, ◌&&◌, List, [], Option, Some, None}
-use Words.{Result, Ok, Err, refl, sym, ap, ◌∙◌, Content, Overlong, At, Fault, LineTooLong, Count, Choices}
-use Words.{RunState, Direction, Rejects, made_in, RunEnded, is_skipped_in, may_skip, is_skippable}
-use Words.{failed_step, step_of_made, state_next, begins_epoch, step_made, Steps, is_held, phase_of_stage}
-use Words.{Stage, false≢true}
+use Words.{common_steps, arith, ◌≡◌, ℕ, ◌+◌, Bool, true, false, ◌&&◌, List, [], Option, Some, None, Result}
+use Words.{Ok, Err, refl, Content, Overlong, At, Fault, LineTooLong, Count, Choices, RunState, Direction}
+use Words.{Rejects, made_in, RunEnded, is_skipped_in, may_skip, is_skippable, failed_step, state_next}
+use Words.{begins_epoch, step_made, is_held, phase_of_stage, Stage, false≢true}
+use specs.DirectionParts.{DirectionParts, state_by, Reads, AnswersToFault, TakesLine}
+use specs.{EngineSteps.answer_of_step, LineByLine.{end_step, answer_of_lines, fault_at_end_in}}
+use specs.{LineByLine.state_end_with, Stages.{bare_phase, is_settled}}
+use specs.declared.stage.Stage.TheVariants.{Looking, Closed, Ended}
 use Rattle.crx_filter.proofs.{Pending.state_in, steps.EngineLemmas.{failed-at, fatal-counts, out-fatal}}
 use Rattle.crx_filter.proofs.steps.EngineLemmas.{no-skip, ran-out}
-use Rattle.crx_runs.specs.declared.engine.Step.{Step}
-use Rattle.{crx_runs.specs.declared.engine.Step.TheVariants.Warned, std.proofs.Common.{OnErr, IfErr, IfOk}}
-use specs.DirectionParts.{DirectionParts, state_by, Reads, RefusesLine, AnswersToFault, TakesLine}
-use specs.{EngineSteps.answer_of_step, LineByLine.{end_step, answer_of_lines, fault_at_end_in, state_end_with}}
-use specs.{Stages.{bare_phase, is_settled}, declared.stage.Stage.TheVariants.{Looking, Closed, Ended}}
+use Rattle.crx_runs.specs.declared.engine.Step.{Step, TheVariants.Warned}
+use Rattle.std.proofs.Common.{OnErr, IfErr, IfOk}
 
 -- no fault is answered where one has ended the run, or after the end
 pub not-settled : (stage : Stage) → (stage ≡ Looking → ⊥) → (stage ≡ Closed → ⊥)
@@ -21,15 +21,13 @@ not-settled stage a b c = grind (arith, common_steps)
 
 -- what is true after any answer is true after an error
 pub after-error : {A B P : Type 0} (result : Result A B) → P → OnErr result P
-after-error (Ok answer) is = tt
-after-error (Err error) is = is
+after-error result is = grind (arith, common_steps)
 
 -- where nothing is skipped, an answer after a fault is an error
 pub notes-nothing : {A B : Type 0} (P : Type 0) (skip : Bool) (result : Result A B) → IfOk result (λ answer.
     skip ≡ true)
     → IfOk result (λ answer. skip ≡ false → P)
-notes-nothing P skip (Ok answer) on = λ off. absurd (false≢true (sym off ∙ on))
-notes-nothing P skip (Err error) on = tt
+notes-nothing P skip result on = grind (arith, common_steps, false≢true)
 
 module _ {U O K : Type 0} (direction : Direction U O K) where
   -- a fault that isn't skipped ends the run
@@ -48,33 +46,17 @@ module _ {U O K : Type 0} (direction : Direction U O K) where
       given parts → ready ≡ [] → IfErr result (λ at. after.phase ≡ RunEnded at) → after.choices ≡ choices
       → TakesLine direction (state_by choices last before) (Content line) result ready after
   refused-line choices last stage fault goes_on serves before parts line result given ready after fails was
-      held goes reads drained ended chosen = record {
-        steps = by-refusal reads.refuses;
-        ended = ended;
-        nothing = after-error result drained;
-        choices = chosen;
-      }
-    where
-      step : step_made result [] after
-          ≡ failed_step direction (state_by choices last before) (Content line) fault
-      step = fails before (Content line) last (record {
-        stage_was = was;
-        held = held;
-        types = reads.types;
-        kept = reads.kept;
-        goes = goes;
-      }) refl
-
-      by-refusal : RefusesLine direction before line fault
-          → Steps direction (state_by choices last before) (Content line) result ready after
-      by-refusal (inl made) = inl (ap (λ (ls : List (List ℕ)). step_made result ls after) drained ∙ step
-          ∙ ap (step_of_made direction (state_by choices last before) (Content line)) (sym made))
-      by-refusal (inr out) =
-          let fatal = out-fatal fault out.0 in
-          inr (ran-out direction (state_by choices last before) after (Content line) result fault out.0
-          (fatal-answer (state_by choices last before) after line fault result step fatal) out.1
-          (fatal-counts direction (state_by choices last before) after (Content line) fault result [] step
-          fatal))
+      held goes reads drained ended chosen =
+      grind (
+        arith,
+        common_steps,
+        fails before (Content line) last,
+        out-fatal fault,
+        ran-out direction (state_by choices last before) after (Content line) result fault,
+        fatal-answer (state_by choices last before) after line fault result,
+        fatal-counts direction (state_by choices last before) after (Content line) fault result [],
+        after-error,
+      )
 
   -- a line that is too long is a fault wherever lines are read
   made-too_long : ((types : List Count) (kept : K) → direction.begins types kept Overlong ≡ Rejects

@@ -14,14 +14,12 @@ use Rattle.crx_compact.specs.{Encoding.{EncoderState, forgotten}, EncodingRooms.
 -- ---- by the stage
 
 rows-opened : (s : Stage) (rows : List ObservationRow) → is_open_stage s ≡ true → rows_open s rows ≡ rows
-rows-opened Open rows e = refl
-rows-opened s rows e = absurd (false≢true e)
+rows-opened s rows e = grind (arith, common_steps, false≢true)
 
 -- an open epoch is in full where it is due, and no other has to be
 pub served-closed : (s : Stage) (in_full due : Bool) → is_open_stage s ≡ false
     → is_full_where_due s in_full due ≡ true
-served-closed Open in_full due e = absurd (true≢false e)
-served-closed s in_full due e = refl
+served-closed s in_full due e = grind (arith, common_steps, true≢false)
 
 pub served-open : (s : Stage) (in_full due : Bool) → in_full ≡ due → is_full_where_due s in_full due ≡ true
 served-open s in_full due e = grind (arith, common_steps, false≢true)
@@ -158,8 +156,7 @@ module _ {before after : RinexReader} {encoder new : EncoderState} {line : List 
 -- it moves the reader on where the epoch wants rows, and else completes it
 pub begun-open : (made : Made ObservationEpoch OpenEpoch) (line : List ℕ) (before after : RinexReader)
     → BeginsEpoch made line before after → is_open_stage after.stage ≡ true → MovesReader made before after
-begun-open made line before after (none, inl opened) is = opened.1
-begun-open made line before after (none, inr whole) is = absurd (cc (whole.0, is))
+begun-open made line before after begins is = grind (arith, common_steps)
 
 pub begun-whole : (made : Made ObservationEpoch OpenEpoch) (line : List ℕ) (before after : RinexReader)
     → BeginsEpoch made line before after → is_open_stage after.stage ≡ false

@@ -70,8 +70,7 @@ anew-between choices (newest ∷ item ∷ items) block h anew = inr (some (anew-
     rest h = grind (arith, common_steps)
 
     some : (item ∷ items ≡ []) ⊎ (records_left block ≡ 0) → records_left block ≡ 0
-    some (inl e) = absurd (cc)
-    some (inr e) = e
+    some e = grind (arith, common_steps)
 anew-between choices (Accepted unit ∷ []) block h anew = absurd anew
 
 -- ---- the reading

@@ -32,8 +32,7 @@ header-same known [] = refl
 header-same known (item ∷ before) = grind (arith, header-same known before)
 
 pub started : {E : Type 0} (items : List (Item E)) → header_has_ended items ≡ true → is_at_start items ≡ false
-started [] e = absurd (cc)
-started (item ∷ before) e = refl
+started items e = grind (arith, common_steps)
 
 pub start-same : {E : Type 0} (known : List (Item Epoch) → Epoch → E) (items : List (Item Epoch))
     → AreInPlace items → is_at_start (carried known items) ≡ is_at_start items

@@ -58,10 +58,7 @@ left_copied (Warned at ∷ before) = left_copied before
 
 left-all : (items : List (Item Epoch)) → left_copied items ≤ returns_copied items
 left-all [] = omega arith
-left-all (Accepted (HeaderLine line) ∷ before) = omega (arith, returns-kept line, left-all before)
-left-all (Accepted (EventLine line) ∷ before) = omega (arith, returns-kept line, left-all before)
-left-all (Accepted (EventRecord line) ∷ before) = omega (arith, returns-kept line, left-all before)
-left-all (Accepted (Observation epoch) ∷ before) = omega (arith, left-all before)
+left-all (Accepted unit ∷ before) = grind (arith, returns-kept, left-all before)
 left-all (Warned at ∷ before) = left-all before
 
 -- no copied line ends in CR, or some are lost
@@ -75,10 +72,7 @@ one-line line before h = grind (arith, returns-fewer, left-all, returns-kept)
 
 keeps-or_loses : (items : List (Item Epoch)) → KeepsOrLoses items
 keeps-or_loses [] = inl tt
-keeps-or_loses (Accepted (HeaderLine line) ∷ before) = one-line line before (keeps-or_loses before)
-keeps-or_loses (Accepted (EventLine line) ∷ before) = one-line line before (keeps-or_loses before)
-keeps-or_loses (Accepted (EventRecord line) ∷ before) = one-line line before (keeps-or_loses before)
-keeps-or_loses (Accepted (Observation epoch) ∷ before) = grind (arith, keeps-or_loses before)
+keeps-or_loses (Accepted unit ∷ before) = grind (arith, one-line, keeps-or_loses before)
 keeps-or_loses (Warned at ∷ before) = keeps-or_loses before
 
 pub printable-lines : (lines : List (List ℕ)) → AllByRecursion

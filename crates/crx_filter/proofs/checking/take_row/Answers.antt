@@ -73,7 +73,6 @@ returns-in-Err-clause-refuses c kept =
       refl,
       read.memory (has-come c.args.names.now.names c.args.reader.now c.read_row.new.self
           c.read_row.new.self.row c.read_row.new.self.count c.name.result.now false c.requires.named
-          c.requires.open read.same
-          (counts-rows c.read_row.new.self)
+          c.requires.open read.same (counts-rows c.read_row.new.self)
           c.name.ensures.value refl c.in-Err.ensures.err),
     )

@@ -1,33 +1,13 @@
 use Rattle.crx_filter.proofs.{Kept.{kept, judges-standard}, Words.{check_filter, checked, Device}}
 use Rattle.crx_filter.proofs.Words.{At, Option, ap, is_some, refl, subst, sym, ◌∙◌, true≢false}
 use Rattle.crx_filter.proofs.following.CheckLawful.{check-lawful, run-judged}
-use Rattle.crx_filter.{proofs.standard.Lossless.says-so, specs.meaning.Lossless.SaysThatItComesBack}
-use Rattle.crx_filter.specs.meaning.{Promises.{JudgesStandard, KeepsPromise}, Standard.report_status}
-use Rattle.crx_runs.specs.meaning.Runs.{HasRun, Ran, Runs, RunsAs, ran_over}
+use Rattle.crx_filter.{proofs.standard.Lossless.says-so, specs.meaning.Standard.report_status}
+use Rattle.crx_runs.specs.meaning.Runs.{Runs, RunsAs}
 use Rattle.crx_runs.specs.meaning.Spans.{Input, reader_span, span}
 use Rattle.crx_filter.proofs.checks.check.Goals as goal
 
 pub run-outcome-requires-clause-lawful : goal.run-outcome-requires-clause-lawful
 run-outcome-requires-clause-lawful g c = check-lawful
-
--- a run that is what an input makes keeps both promises
-promised : (run : Ran) → HasRun checked check_filter run
-    → KeepsPromise (λ _ _ status _. SaysThatItComesBack status) run
-    × KeepsPromise (λ writer _ status _. JudgesStandard writer status) run
-promised run ran = (
-  (
-    ran.0,
-    ran.1,
-    kept checked check_filter (SaysThatItComesBack run.status) run.input ran.0 run.writer run.messages
-        run.status run.fault (says-so run.writer run.messages run.status run.fault) ran.2,
-  ),
-  (
-    ran.0,
-    ran.1,
-    kept checked check_filter (JudgesStandard run.writer run.status) run.input ran.0 run.writer run.messages
-        run.status run.fault (judges-standard run.writer run.messages run.status run.fault) ran.2,
-  ),
-)
 
 pub returns-in-Ok : goal.returns-in-Ok
 returns-in-Ok g c =
@@ -39,8 +19,7 @@ returns-in-Ok g c =
     let status = c.outcome_of_check.result.status in
     let runs : RunsAs checked check_filter input ran.0 writer messages status fault =
     run-judged writer messages c.run-outcome.result.status status fault c.outcome_of_check.ensures.bad input
-    ran.0
-    (λ none. c.outcome_of_check.ensures.good none
+    ran.0 (λ none. c.outcome_of_check.ensures.good none
     ∙ ap report_status (c.not_standard.ensures.value ∙ ran.3 none)) ran.2 in
     let same = sym c.outcome_of_check.ensures.fault in
     let is : Runs checked check_filter input writer messages status c.outcome_of_check.result.fault = (
@@ -48,10 +27,11 @@ returns-in-Ok g c =
       ran.1,
       subst (λ (o : Option At). RunsAs checked check_filter input ran.0 writer messages status o) same runs,
     ) in
-    let both = promised (ran_over g.R.Source c.args.reader.now c.run-outcome.new.reader g.W.Sink
-    c.args.writer.now c.run-outcome.new.writer g.M.Sink c.args.messages.now c.run-outcome.new.messages
-    c.outcome_of_check.result) is in
-    record { runs = is; lossless = both.0; standard = both.1 }
+    record {
+      runs = is;
+      lossless = kept is (says-so writer messages status c.outcome_of_check.result.fault);
+      standard = kept is (judges-standard writer messages status c.outcome_of_check.result.fault);
+    }
 
 pub returns-in-Err : goal.returns-in-Err
 returns-in-Err g c =
@@ -67,6 +47,8 @@ returns-in-Err g c =
       run-judged writer messages status status fault (λ at is. refl) input started.0
           (λ none. absurd (true≢false (sym c.start.ensures.memory ∙ ap is_some none))) started.2,
     ) in
-    let both = promised (ran_over g.R.Source c.args.reader.now c.start.new.reader g.W.Sink c.args.writer.now
-    c.start.new.writer g.M.Sink c.args.messages.now c.start.new.messages c.start.result) is in
-    record { runs = is; lossless = both.0; standard = both.1 }
+    record {
+      runs = is;
+      lossless = kept is (says-so writer messages status fault);
+      standard = kept is (judges-standard writer messages status fault);
+    }

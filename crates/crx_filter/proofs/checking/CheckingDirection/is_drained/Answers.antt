@@ -1,5 +1,4 @@
-use Rattle.crx_filter.proofs.Words.{rules}
-use Rattle.crx_filter.proofs.steps.CheckerSteps.{all-out, none-pending}
+use Rattle.crx_filter.proofs.{Words.rules, steps.CheckerSteps.{all-out, none-pending}}
 use Rattle.crx_filter.proofs.checking.CheckingDirection.is_drained.Goals as goal
 
 pub returns : goal.returns

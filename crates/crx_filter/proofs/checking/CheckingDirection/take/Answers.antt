@@ -1,7 +1,6 @@
-use Rattle.crx_filter.proofs.Words.{None, subst, made_at, TakesRinexLine}
-use Rattle.crx_filter.proofs.steps.CheckerSteps.{noted-next, step-counting, step-named, refused-reads}
-use Rattle.crx_filter.proofs.steps.CheckerSteps.{still-drained, taken-reads}
-use Rattle.crx_filter.proofs.steps.EngineAnswers.{short-line}
+use Rattle.crx_filter.proofs.{Words.subst, steps.CheckerSteps.{IsTaken, noted-next, nothing_kept}}
+use Rattle.crx_filter.proofs.steps.CheckerSteps.{step-counting, step-named, refused-reads, still-drained}
+use Rattle.crx_filter.proofs.steps.{CheckerSteps.taken-reads, EngineAnswers.short-line}
 use Rattle.std.proofs.lemmas.Result.{err_from_is_err_and}
 use Rattle.crx_lines.specs.Reading.{line_number, line_shown}
 use Rattle.crx_filter.proofs.checking.CheckingDirection.take.Goals as goal
@@ -11,21 +10,19 @@ returns-in_err-step-clause-reads c =
     let p = err_from_is_err_and c.from_residual.result c.from_residual.ensures.1 in
     let drained = rw (← c.self.view_is) at c.requires.asked.drained in
     rw (← c.self.view_is, p.1, p.2, ← c.bytes.ensures.content) (refused-reads _ c.self.inside.reader
-    c.take.new.self
-    c.self.inside.noted.totals c.bytes.result.now _ _ c.in_err-step.ensures.same
-    (c.in_err-step.ensures.refuses (record { index = 0; tail = None }))
-    (still-drained c.self.inside.handed_out _ _ drained))
+    c.take.new.self c.self.inside.noted.totals c.bytes.result.now _ _ c.in_err-step.ensures.same
+    (c.in_err-step.ensures.refuses nothing_kept) (still-drained c.self.inside.handed_out _ _ drained))
 
 pub note-requires-clause-observed : goal.note-requires-clause-observed
 note-requires-clause-observed c = step-counting _ _ _ _ _ _ c.in_ok-step.ensures.steps
-    (c.in_ok-step.ensures.takes (record { index = 0; tail = None }))
+    (c.in_ok-step.ensures.takes nothing_kept)
 
 pub invariant_of-self-2 : goal.invariant_of-self-2
 invariant_of-self-2 c =
     let before = c.self.inside.reader in
-    let takes = c.in_ok-step.ensures.takes (record { index = 0; tail = None }) in
-    let shown = subst (λ t. TakesRinexLine (made_at before t (record { index = 0; tail = None })) before t
-    c.in_ok-step.step c.take.new.self) c.bytes.ensures.content takes in
+    let takes = c.in_ok-step.ensures.takes nothing_kept in
+    let shown = subst (λ t. IsTaken before t c.in_ok-step.step c.take.new.self)
+    c.bytes.ensures.content takes in
     record {
       named = λ is_open. step-named _ _ _ _ _ _ c.in_ok-step.ensures.steps takes is_open;
       observed = c.note.ensures.observed before _ shown;
@@ -35,24 +32,20 @@ invariant_of-self-2 c =
 pub returns-clause-reads : goal.returns-clause-reads
 returns-clause-reads c =
     let before = c.self.inside.reader in
-    let content = (line_shown c.args.line).content in
-    let takes = subst (λ t. TakesRinexLine (made_at before t (record { index = 0; tail = None })) before t
-    c.in_ok-step.step c.take.new.self) c.bytes.ensures.content
-    (c.in_ok-step.ensures.takes (record { index = 0; tail = None })) in
+    let takes = subst (λ t. IsTaken before t c.in_ok-step.step c.take.new.self)
+    c.bytes.ensures.content (c.in_ok-step.ensures.takes nothing_kept) in
     let drained = rw (← c.self.view_is) at c.requires.asked.drained in
-    rw (← c.self.view_is) (taken-reads _ before c.take.new.self c.self.inside.noted.totals content _
-    c.note.new.self.totals
-    c.in_ok-step.step takes (c.note.ensures.totals before _ takes)
-    (still-drained c.self.inside.handed_out _ _ drained))
+    rw (← c.self.view_is) (taken-reads _ before c.take.new.self c.self.inside.noted.totals
+    (line_shown c.args.line).content _ c.note.new.self.totals c.in_ok-step.step takes
+    (c.note.ensures.totals before _ takes) (still-drained c.self.inside.handed_out _ _ drained))
 
 pub returns-clause-knows : goal.returns-clause-knows
 returns-clause-knows c =
     let before = c.self.inside.reader in
     let noted = c.self.inside.noted in
     let line = line_shown c.args.line in
-    let takes = subst (λ t. TakesRinexLine (made_at before t (record { index = 0; tail = None })) before t
-    c.in_ok-step.step c.take.new.self) c.bytes.ensures.content
-    (c.in_ok-step.ensures.takes (record { index = 0; tail = None })) in
+    let takes = subst (λ t. IsTaken before t c.in_ok-step.step c.take.new.self)
+    c.bytes.ensures.content (c.in_ok-step.ensures.takes nothing_kept) in
     let running = rw (← c.self.view_is) at c.requires.running in
     rw (← c.self.view_is) (λ choices lines come known counted. noted-next choices before noted.totals lines
     come.taken_as come.is_state noted.not_standard known c.take.new.self c.note.new.self.totals

@@ -57,8 +57,7 @@ returns-clause-reads c =
     let ended = c.in_ok-end_epoch.ensures in
     let row = c.in_ok-is_last.ensures.written in
     rw (← c.self.view_is, ← c.bytes.ensures.content) (ended-read (row-ends row _ c.if-not-is_last.false)
-    c.take_row.new.encoder
-    c.end_epoch.new.encoder
+    c.take_row.new.encoder c.end_epoch.new.encoder
     (λ choices chosen. ap (λ (e : EncoderState). e.in_full) row.written ∙ due-there _ _ _ opened chosen)
     (ap (λ (e : EncoderState). e.before) row.written) (ap (λ (e : EncoderState). e.rows) row.written)
     ended.lines ended.before)

@@ -48,8 +48,7 @@ returns-then-is_in_epoch-clause-reads c =
     let begins = rw c.in-Begun.is at (c.in_ok-take.ensures.takes
     (record { index = c.self.inside.index; tail = c.self.inside.encoder.before })) in
     rw (← c.self.view_is, c.begin.ensures.begun, ← c.bytes-line.ensures.content) (moved-read (begun-open _ _ _
-    _ begins
-    (sym c.is_in_epoch.ensures.value ∙ c.if-is_in_epoch.true)) refl)
+    _ begins (sym c.is_in_epoch.ensures.value ∙ c.if-is_in_epoch.true)) refl)
 
 pub returns-then-is_in_epoch-clause-serves : goal.returns-then-is_in_epoch-clause-serves
 returns-then-is_in_epoch-clause-serves c = served-open _ _ _
@@ -76,8 +75,7 @@ returns-in_err-end_epoch-in-Begun-clause-reads c =
     (record { index = c.self.inside.index; tail = c.self.inside.encoder.before })) in
     let ended = c.in_err-end_epoch-in-Begun.ensures in
     rw (← c.self.view_is, p.1, p.2, ended.memory, ← c.bytes-line.ensures.content) (lost-read (begun-whole _ _
-    _ _ begins
-    (sym c.is_in_epoch.ensures.value ∙ c.if-is_in_epoch.false)) refl ended.forgotten)
+    _ _ begins (sym c.is_in_epoch.ensures.value ∙ c.if-is_in_epoch.false)) refl ended.forgotten)
 
 pub returns-in_err-end_epoch-in-Begun-clause-serves : goal.returns-in_err-end_epoch-in-Begun-clause-serves
 returns-in_err-end_epoch-in-Begun-clause-serves c = served-closed _ _ _
@@ -95,8 +93,7 @@ returns-in_ok-end_epoch-in-Begun-clause-reads c =
     let begun = c.begin.ensures.begun in
     let ended = c.in_ok-end_epoch-in-Begun.ensures in
     rw (← c.self.view_is, ← c.bytes-line.ensures.content) (ended-read (begun-whole _ _ _ _ begins
-    (sym c.is_in_epoch.ensures.value ∙ c.if-is_in_epoch.false)) c.begin.new.self
-    c.end_epoch.new.encoder
+    (sym c.is_in_epoch.ensures.value ∙ c.if-is_in_epoch.false)) c.begin.new.self c.end_epoch.new.encoder
     (λ choices chosen. ap (λ (e : EncoderState). e.in_full) begun ∙ c.is_at_every.ensures
     ∙ ap (λ n. is_at_every n c.self.inside.index) c.every.ensures.value
     ∙ ap (λ (o : Choices). is_at_every o.every c.self.inside.index) (sym chosen))

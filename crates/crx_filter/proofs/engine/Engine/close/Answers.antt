@@ -1,6 +1,5 @@
-use Rattle.crx_filter.proofs.Words.{common_steps, arith, sym, ◌∙◌, and_parts}
-use Rattle.crx_filter.proofs.{Pending.warned-alike, steps.EngineFaults.{ends-skipped, ends-failed}}
-use Rattle.crx_filter.specs.DirectionParts.{state_by}
+use Rattle.crx_filter.proofs.{Pending.warned-alike, Words.{common_steps, arith, sym, ◌∙◌, and_parts}}
+use Rattle.crx_filter.{proofs.steps.EngineFaults.{ends-skipped, ends-failed}, specs.DirectionParts.state_by}
 use Rattle.crx_filter.proofs.engine.Engine.close.Goals as goal
 
 pub returns-then-skip-may_skip-clause-stops : goal.returns-then-skip-may_skip-clause-stops

@@ -1,5 +1,4 @@
-use Rattle.crx_filter.proofs.steps.EngineAnswers.{concludes, after-lines}
-use Rattle.crx_filter.proofs.steps.EngineLemmas.{repeats-end}
+use Rattle.crx_filter.proofs.steps.{EngineAnswers.{concludes, after-lines}, EngineLemmas.repeats-end}
 use Rattle.crx_filter.proofs.engine.Engine.end.Goals as goal
 
 pub returns-clause-concludes : goal.returns-clause-concludes

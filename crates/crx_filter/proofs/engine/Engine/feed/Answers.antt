@@ -16,8 +16,7 @@ returns-clause-answers g c = λ lines notices taken awaited.
     let given = sym (c.answer_given.ensures.value
     ∙ ap (λ (e : EngineParts _). answer_given c.take_line-is_quiet.result e.answer) c.self.view_is) in
     engine-answers d c.args.self.now goes.lawful goes.chosen after lines line (Content line.content)
-    c.answer_given.result
-    (subst (λ (r : Result Step At). EngineNotes d before line r after) given took.notes)
+    c.answer_given.result (subst (λ (r : Result Step At). EngineNotes d before line r after) given took.notes)
     (subst (λ (r : Result Step At). Steps d.by_line (engine_state d before) (Content line.content) r
     (engine_ready d after) (engine_state d after)) given took.takes.steps) notices
     took.takes.choices (as-read-within line line.content c.args.line.short refl) taken awaited

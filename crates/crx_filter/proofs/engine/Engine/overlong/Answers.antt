@@ -1,29 +1,9 @@
-use Rattle.crx_filter.proofs.Words.{ap, ◌∙◌, sym, ◌+◌, ◌≡◌, inl, List, ℕ, At, Err, Overlong, Result}
-use Rattle.crx_filter.proofs.Words.{RunEnded, step_made, true, InputLine}
-use Rattle.crx_filter.proofs.{steps.EngineAnswers.{engine-answers, as-read-long}, steps.EngineLemmas.repeats}
-use Rattle.crx_filter.proofs.steps.EngineFaults.{long-failed, not-settled, notes-nothing}
-use Rattle.crx_base.specs.meaning.Lines.{is_long}
+use Rattle.crx_filter.proofs.Words.{ap, ◌∙◌, sym, ◌+◌, inl, List, ℕ, Overlong, step_made, InputLine}
+use Rattle.crx_filter.proofs.steps.{EngineAnswers.{engine-answers, as-read-long}, EngineFaults.long-failed}
+use Rattle.crx_filter.proofs.steps.{EngineFaults.{not-settled, notes-nothing}, EngineLemmas.repeats}
 use Rattle.crx_filter.specs.{DirectionParts.EngineParts, EngineState.{EngineGoes, EngineNotes, EngineSkips}}
-use Rattle.crx_filter.specs.EngineState.{engine_ready, engine_state, engine_took}
-use Rattle.crx_filter.specs.declared.direction.Direction.{Ghosts}
-use Rattle.crx_runs.specs.{Engines.{Awaited, EngineAnswers, IsAwaited}, declared.engine.Step.Step}
+use Rattle.crx_filter.specs.EngineState.{engine_state}
 use Rattle.crx_filter.proofs.engine.Engine.overlong.Goals as goal
-
--- an engine that has stepped over a line that is too long, and noted it, answers as its filter says
-module _ {D : Type 0} (d : Ghosts D) (before after : EngineParts D) (result : Result Step At)
-    (stops : EngineSkips d before result after) where
-  answers-long : EngineGoes d before → ((line : InputLine) → EngineNotes d before line result after)
-      → (lines : List InputLine) (notices : List Awaited) (line : InputLine)
-      → engine_took d before lines notices → IsAwaited notices line → is_long line ≡ true
-      → EngineAnswers (d.filter before.options) (engine_took d after) (engine_ready d after) lines notices
-      line result
-  answers-long goes notes lines notices line taken awaited long =
-      engine-answers d before goes.lawful goes.chosen after lines line Overlong result (notes line)
-      (inl (ap (λ (ls : List (List ℕ)). step_made result ls (engine_state d after)) stops.drained
-      ∙ stops.steps)) notices stops.choices (as-read-long line long) taken awaited
-
-  repeats-long : (at : At) → (engine_state d before).phase ≡ RunEnded at → result ≡ Err at
-  repeats-long at is = repeats d.by_line _ _ Overlong _ _ at (inl stops.steps) is
 
 pub returns-in_default : goal.returns-in_default
 returns-in_default g c =
@@ -49,6 +29,9 @@ returns-in_default g c =
     c.fail.ensures.skips) in
     rw (ap (λ (e : EngineParts _). e.answer) c.self-in_default.view_is) (record {
       stops = stops;
-      answers = answers-long d c.args.self.now then then.answer stops goes notes;
-      repeated = repeats-long d c.args.self.now then then.answer stops;
+      answers = λ lines notices line taken awaited long.
+          engine-answers d c.args.self.now goes.lawful goes.chosen then lines line Overlong then.answer
+          (notes line) (inl (ap (λ (ls : List (List ℕ)). step_made then.answer ls (engine_state d then))
+          stops.drained ∙ stops.steps)) notices stops.choices (as-read-long line long) taken awaited;
+      repeated = λ at is. repeats d.by_line _ _ Overlong _ _ at (inl stops.steps) is;
     })

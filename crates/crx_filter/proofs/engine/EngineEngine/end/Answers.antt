@@ -1,6 +1,4 @@
-use Rattle.crx_filter.proofs.Words.{ap}
-use Rattle.crx_filter.specs.EngineState.{engine_state}
-use Rattle.crx_filter.proofs.steps.StepCounts.{end-drained}
+use Rattle.crx_filter.{proofs.{Words.ap, steps.StepCounts.end-drained}, specs.EngineState.engine_state}
 use Rattle.crx_filter.proofs.engine.EngineEngine.end.Goals as goal
 
 pub returns-clause-stepped : goal.returns-clause-stepped
