@@ -5,13 +5,11 @@ use Rattle.crx_compact.proofs.Words.{arith, rules, append-nil, length-map, map-a
 use Rattle.crx_compact.proofs.Words.{code_of, Code, Fault, BadField, and_then, before_all, ReadCell}
 use Rattle.crx_compact.proofs.Words.{cell_read, cells_read, cells_of, after_cells, ArcTail, arc_of_code}
 use Rattle.crx_compact.proofs.Words.{value_of_code, shown_value, OBSERVATION_WIDTH, value_at_place}
-use Rattle.std.proofs.lemmas.Grind.{common_steps}
+use Rattle.crx_compact.proofs.{PlaceByPlace.from-place, Results.{onto, onto-err, onto-more, onto-ok}}
+use Rattle.std.proofs.{lemmas.Grind.common_steps, Math.Seq.{get_or-append_seam, set-append_seam, take-set-lt}}
 use Rattle.std.proofs.Common.{length-append, append_assoc}
 use Rattle.std.proofs.lemmas.List.{drop-drop, get_or-take, length-drop}
-use Rattle.std.proofs.Math.Seq.{get_or-append_seam, set-append_seam, take-set-lt}
 use Rattle.crx_text.specs.meaning.Codes.{first_cell, after_cell}
-use Rattle.crx_compact.proofs.PlaceByPlace.{from-place}
-use Rattle.crx_compact.proofs.Results.{onto, onto-err, onto-more, onto-ok}
 use Rattle.crx_compact.specs.Cells.{arcs_of_codes, CellsAreRead, IsCellRead}
 
 -- ---- the same values at each place read the same

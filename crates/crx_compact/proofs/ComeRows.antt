@@ -5,13 +5,11 @@ use Rattle.crx_compact.proofs.Words.{IfOk, length, take, slice_get, refl, if◌t
 use Rattle.crx_compact.proofs.Words.{unwrap_or, bytes_eq, is_among, Row, Satellite, PlacedRows, padded}
 use Rattle.crx_compact.proofs.Words.{padded_among, row_or_blank, row_line_after, row_line_in, row_tail_after}
 use Rattle.crx_compact.proofs.Words.{row_tail_in, RowTail, are_different, take_all, slice_get_within}
+use Rattle.crx_compact.proofs.Characters.{bytes_eq-is}
 use Rattle.std.proofs.Common.{IsOk}
-use Rattle.std.proofs.lemmas.Bool.{or_parts}
+use Rattle.std.proofs.{lemmas.Bool.or_parts, lemmas.Option.get_or_from_slice_get, lemmas.Grind.common_steps}
 use Rattle.crx_header.proofs.Apart.{other_way, new_at}
 use Rattle.crx_compact.specs.Placing.{HasCome, empty_row, row_tail_named}
-use Rattle.crx_compact.proofs.Characters.{bytes_eq-is}
-use Rattle.std.proofs.lemmas.Option.{get_or_from_slice_get}
-use Rattle.std.proofs.lemmas.Grind.{common_steps}
 
 -- ---- a blank row is none
 

@@ -8,8 +8,7 @@ use Rattle.crx_compact.proofs.Words.{Past, satellites_of_line, length-map, apart
 use Rattle.crx_compact.proofs.Words.{AreAnnounced, length-each_place, patched, HEAD_WIDTH, NAME_WIDTH, All}
 use Rattle.crx_compact.proofs.Words.{subst, arith, rules, All-head, All-tail, common_steps, list_any}
 use Rattle.crx_compact.proofs.Words.{NamesSatellites, ◌or_else◌with◌, satellite_before}
-use Rattle.crx_compact.proofs.Identifiers.{AreNew, new-before, not-among}
-use Rattle.crx_compact.proofs.Results.{no-err, if-err, if-true}
+use Rattle.crx_compact.proofs.{Identifiers.{AreNew, new-before, not-among}, Results.{no-err, if-err, if-true}}
 
 -- whether no identifier is there twice
 abbrev pub differ : List (List ℕ) → Bool

@@ -1,12 +1,11 @@
 -- Things of different identifiers: each is found by its own, and none is among earlier ones.
 use Rattle.crx_compact.proofs.Words.{◌≡◌, ℕ, true, false, not, List, [], ◌∷◌, Some, refl, AllByRecursion}
 use Rattle.crx_compact.proofs.Words.{bytes_eq, and_parts, not-true, is_among, are_apart, arith}
+use Rattle.crx_compact.proofs.Characters.{bytes_eq-same}
 use Rattle.std.specs.List.{list_any}
-use Rattle.std.proofs.lemmas.Bool.{or_parts}
+use Rattle.std.proofs.{lemmas.Bool.or_parts, lemmas.Grind.common_steps}
 use Rattle.crx_header.proofs.Apart.{other_way}
 use Rattle.crx_compact.specs.meaning.Sequences.{named}
-use Rattle.crx_compact.proofs.Characters.{bytes_eq-same}
-use Rattle.std.proofs.lemmas.Grind.{common_steps}
 
 -- those that are found among some items are found with one more before them, of another identifier
 found-later : {X : Type 0} (f : X → List ℕ) (x : X) (xs ys : List X) → is_among f (f x) ys ≡ false

@@ -3,10 +3,9 @@ use Rattle.crx_compact.proofs.Words.{◌≡◌, ◌≤◌, ◌<◌, ℕ, zero, s
 use Rattle.crx_compact.proofs.Words.{take, drop, get_or, slice_get, Some, ap, arith, drop-append_seam}
 use Rattle.crx_compact.proofs.Words.{length-set, take-take, length-append, length-take-le, take_more_set, cut}
 use Rattle.crx_compact.proofs.Words.{AreCut, HasFront, common_steps}
-use Rattle.std.proofs.Common.{append_assoc}
-use Rattle.std.proofs.Math.Seq.{take-append_seam, drop-append-add, take-append-add, take-set-lt}
 use Rattle.std.proofs.lemmas.List.{drop-append-le, drop-drop, drop-set, drop-take, drop_more}
-use Rattle.std.proofs.lemmas.List.{take-append-drop, take-append-le, length-drop}
+use Rattle.std.proofs.{Common.append_assoc, lemmas.List.{take-append-drop, take-append-le, length-drop}}
+use Rattle.std.proofs.Math.Seq.{take-append_seam, drop-append-add, take-append-add, take-set-lt}
 use Rattle.std.proofs.Math.ListN.{drop_of_length-le}
 use Rattle.crx_text.proofs.WrittenTexts.{counted-line, line-ended}
 use Rattle.crx_compact.specs.LineLists.{lines_text}

@@ -1,8 +1,7 @@
 -- Identifiers that are marked: one more.
 use Rattle.std.proofs.Common.{◌≡◌, ◌<◌, ◌++◌, ◌∷◌, [], ℕ, zero, suc, Bool, true, List, Some, length}
-use Rattle.std.proofs.Common.{slice_get, slice_set, arith, refl}
+use Rattle.std.proofs.{Common.{slice_get, slice_set, arith, refl}, lemmas.Grind.common_steps}
 use Rattle.crx_compact.specs.Refusals.{AreMarked, mark_place}
-use Rattle.std.proofs.lemmas.Grind.{common_steps}
 
 stays : (marks : List Bool) (i k : ℕ) → slice_get marks k ≡ Some true
     → slice_get (slice_set marks i true) k ≡ Some true

@@ -10,16 +10,13 @@ use Rattle.crx_compact.proofs.Words.{Tail, shown_value, cell_of_tail, flags_held
 use Rattle.crx_compact.proofs.Words.{shown_row, HeldRow, held_row, past_of_tail, arcs_of_tail, held_from}
 use Rattle.crx_compact.proofs.Words.{past_of_row, row_held, value_at_place, at, at-without_end_blanks}
 use Rattle.crx_compact.proofs.Words.{columns-are, list_all-from_at, length-columns, code_of}
+use Rattle.crx_compact.proofs.{CellsRead.cells-same, Results.{ok-same, and_then-ok, before-ok}}
+use Rattle.crx_compact.proofs.{SoundTexts.{held-columns, patched-trimmed}, PlaceByPlace.{at-padded, at-take}}
+use Rattle.crx_compact.proofs.Characters.{list_all-at, at-by_position}
 use Rattle.std.specs.Prelude.{IfErr, OnOk}
 use Rattle.std.proofs.Math.Path.{fun_ext}
-use Rattle.crx_compact.proofs.CellsRead.{cells-same}
-use Rattle.crx_compact.specs.HeldRows.{row_after, row_held_from}
-use Rattle.crx_compact.specs.Cells.{CellsAreRead}
-use Rattle.crx_compact.proofs.SoundTexts.{held-columns, patched-trimmed}
-use Rattle.crx_compact.proofs.Characters.{list_all-at, at-by_position}
-use Rattle.crx_compact.proofs.PlaceByPlace.{at-padded, at-take}
+use Rattle.crx_compact.specs.{HeldRows.{row_after, row_held_from}, Cells.CellsAreRead}
 use Rattle.crx_text.specs.meaning.Codes.{after_cell}
-use Rattle.crx_compact.proofs.Results.{ok-same, and_then-ok, before-ok}
 
 -- ---- the characters of patched indicators
 

@@ -6,16 +6,12 @@ use Rattle.crx_compact.proofs.Words.{columns, by_position, character_of, patched
 use Rattle.crx_compact.proofs.Words.{columns-are, length-columns, Count, types_of_satellite}
 use Rattle.crx_compact.proofs.Words.{IsAwaitedSatellite, Satellite, names_in, satellites_named, HasRoom}
 use Rattle.crx_compact.proofs.Words.{PlacedRows, padded_among, satellite_of, RowTail, All-head, All-tail}
-use Rattle.crx_compact.proofs.Words.{each_place-same}
+use Rattle.crx_compact.proofs.{Words.each_place-same, EpochLines.named-again, wayback.Overlays.at_past}
+use Rattle.crx_compact.proofs.{PlaceByPlace.{at-padded, at-take}, Characters.at-by_position, RowByRow.all-of}
 use Rattle.crx_text.proofs.Characters.{at-drop}
-use Rattle.crx_compact.proofs.PlaceByPlace.{at-padded, at-take}
 use Rattle.std.proofs.lemmas.List.Elements.{All-map}
 use Rattle.crx_compact.specs.EpochLinesRead.{AreSatellitesRead, HaveComeAgain, IsAgain}
 use Rattle.crx_compact.specs.RowsSoFar.{NamesSatellites}
-use Rattle.crx_compact.proofs.Characters.{at-by_position}
-use Rattle.crx_compact.proofs.EpochLines.{named-again}
-use Rattle.crx_compact.proofs.RowByRow.{all-of}
-use Rattle.crx_compact.proofs.wayback.Overlays.{at_past}
 
 -- behind the marks the text stays
 at-unmarked : (text line : List ℕ) (p : ℕ) → length line ≤ p → at (patched text line) p ≡ at text p

@@ -5,15 +5,13 @@ use Rattle.crx_compact.proofs.Words.{bytes_eq, sym, ◌∙◌, ap, arith, subst,
 use Rattle.crx_compact.proofs.Words.{All-tail, each_place, types_of_satellite, columns, BadSatellite}
 use Rattle.crx_compact.proofs.Words.{RepeatedSatellite, Count, before_all, Satellite, names_in}
 use Rattle.crx_compact.proofs.Words.{satellites_named, HasRoom, HaveTypesRoom, KeepsRooms}
-use Rattle.std.specs.List.{list_any}
-use borrow.Author.Count.{below_more}
-use Rattle.std.proofs.lemmas.List.Folds.{list_any-append}
-use Rattle.crx_text.proofs.EachPlace.{drop-each_place, each_place-more}
-use Rattle.crx_compact.specs.meaning.EpochText.{satellite_before}
-use Rattle.crx_compact.specs.Placing.{HaveNamesRoom}
 use Rattle.crx_compact.proofs.Characters.{bytes_eq-same, bytes_eq-is}
 use Rattle.crx_compact.proofs.Results.{before-ok, if-err, no-err, ok-same, onto, onto-err, onto-more, onto-ok}
-use Rattle.std.proofs.lemmas.Grind.{common_steps}
+use Rattle.std.specs.List.{list_any}
+use borrow.Author.Count.{below_more}
+use Rattle.std.proofs.{lemmas.List.Folds.list_any-append, lemmas.Grind.common_steps}
+use Rattle.crx_text.proofs.EachPlace.{drop-each_place, each_place-more}
+use Rattle.crx_compact.specs.{meaning.EpochText.satellite_before, Placing.HaveNamesRoom}
 
 -- the names of some satellites before earlier ones, the last one first
 abbrev pub names_after : List Satellite → List (List ℕ) → List (List ℕ)

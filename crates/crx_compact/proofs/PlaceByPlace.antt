@@ -6,12 +6,10 @@ use Rattle.crx_compact.proofs.Words.{rules, length-map, Code, each_place, same_S
 use Rattle.crx_compact.proofs.Words.{ArcTail, cell_text, arc_of_value, code_of_value, shown_value, columns}
 use Rattle.crx_compact.proofs.Words.{at, length-columns}
 use Rattle.std.specs.Prelude.{flat_map}
-use Rattle.std.proofs.Common.{append_assoc}
-use Rattle.std.proofs.lemmas.List.{flat_map_more}
+use Rattle.std.proofs.{Common.append_assoc, lemmas.List.flat_map_more}
 use Rattle.crx_compact.specs.Cells.{arc_at_place, code_at_place}
 use Rattle.crx_text.proofs.EachPlace.{each_place-more}
-use Rattle.crx_text.specs.meaning.Numbers.{observation_text}
-use Rattle.crx_text.specs.meaning.PrintedCells.{printed_cells}
+use Rattle.crx_text.specs.{meaning.Numbers.observation_text, meaning.PrintedCells.printed_cells}
 
 pub value-there : {X : Type 0} (xs : List X) (k : ℕ) (x d : X) → slice_get xs k ≡ Some x
     → slice_index_or xs k d ≡ x

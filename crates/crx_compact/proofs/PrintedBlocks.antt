@@ -5,9 +5,8 @@ use Rattle.crx_compact.proofs.Words.{subst, arith, length-set, take_all, columns
 use Rattle.crx_compact.proofs.Words.{printed_head, printed_row, shown_value, PendingLines, IsRowRead}
 use Rattle.crx_compact.proofs.Words.{OpenHistory, tail_of_history, AreLinesTo, IsBlock, printed_room}
 use Rattle.crx_compact.proofs.Words.{shown_epoch, shown_row, RowTail, common_steps, rules, HasRoomForAll}
+use Rattle.crx_compact.proofs.{RowByRow.{printed-next, sum-left}, reading.StepsByCode.printed-shown}
 use Rattle.std.proofs.lemmas.List.{take-set-le}
-use Rattle.crx_compact.proofs.RowByRow.{printed-next, sum-left}
-use Rattle.crx_compact.proofs.reading.StepsByCode.{printed-shown}
 
 -- ---- one line more
 

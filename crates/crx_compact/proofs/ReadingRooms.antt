@@ -1,16 +1,15 @@
 -- The room that an epoch's lines need, by its satellites and by its rows.
-use Rattle.crx_compact.proofs.Words.{rules, sym, ◌∙◌, ap, subst, arith, ◌≡◌, ◌≤◌, ◌<◌, ◌+◌, refl}
-use Rattle.crx_compact.proofs.Words.{ℕ, List, [], ◌∷◌, map, sum, length, Option, Some, Result, Ok, Err}
-use Rattle.crx_compact.proofs.Words.{All-head, All-tail, length-each_place, patched, LINE_LIMIT, Content}
-use Rattle.crx_compact.proofs.Words.{Fault, Count, past_of_tail, satellites_of_line, Satellite, and_then}
-use Rattle.crx_compact.proofs.Words.{before_clock, first_step, opened_raw, opening, tail_for_line}
-use Rattle.crx_compact.proofs.Words.{tail_opened, HasRoom, HaveTypesRoom, OpenHistory, padded, printed_room}
-use Rattle.crx_compact.proofs.Words.{cell_of_tail, tail_named, RowTail, Tail}
+use Rattle.crx_compact.proofs.Words.{rules, sym, ◌∙◌, ap, subst, arith, ◌≡◌, ◌≤◌, ◌<◌, ◌+◌, refl, ℕ, List, []}
+use Rattle.crx_compact.proofs.Words.{◌∷◌, map, sum, length, Option, Some, Result, Ok, Err, All-head, All-tail}
+use Rattle.crx_compact.proofs.Words.{length-each_place, patched, LINE_LIMIT, Content, Fault, Count}
+use Rattle.crx_compact.proofs.Words.{past_of_tail, satellites_of_line, Satellite, and_then, before_clock}
+use Rattle.crx_compact.proofs.Words.{first_step, opened_raw, opening, tail_for_line, tail_opened, HasRoom}
+use Rattle.crx_compact.proofs.Words.{HaveTypesRoom, OpenHistory, padded, printed_room, cell_of_tail}
+use Rattle.crx_compact.proofs.Words.{tail_named, RowTail, Tail}
 use Rattle.std.proofs.lemmas.List.Elements.{All-nil, All-cons}
 use Rattle.crx_compact.specs.OpenEpochs.{OpenRawEpoch, Going, rows_before}
-use Rattle.crx_compact.specs.OpenLines.{reading_room}
+use Rattle.crx_compact.specs.{OpenLines.reading_room, declared.printed_block.PrintedBlock.PrintedBlock}
 use Rattle.crx_compact.specs.ReadingRooms.{HasRoomFor, HasRoomReady, HaveCellsRoom, ReadingRoom}
-use Rattle.crx_compact.specs.declared.printed_block.PrintedBlock.{PrintedBlock}
 
 -- ---- satellites, and the rows of them
 

@@ -3,14 +3,11 @@ use Rattle.crx_compact.proofs.Words.{◌≡◌, ◌≤◌, ◌<◌, ◌⊎◌, r
 use Rattle.crx_compact.proofs.Words.{length, take, replicate, Option, None, ◌*◌, list_all, sym, ◌∙◌, ap}
 use Rattle.crx_compact.proofs.Words.{arith, inl, inr, length-take-le, take-take, take_all, LINE_LIMIT}
 use Rattle.crx_compact.proofs.Words.{without_end_blanks, is_kept, at, at-without_end_blanks, list_all-from_at}
-use Rattle.crx_compact.proofs.Words.{few_kept, ArcTail, flags_held}
-use Rattle.std.proofs.lemmas.List.{length-take}
-use Rattle.crx_compact.specs.HeldRows.{AreHeldFlags}
-use Rattle.crx_compact.specs.Placing.{SatelliteTail, cells_for}
 use Rattle.crx_compact.proofs.Characters.{all-take, at-take_past, list_all-at, same_characters}
+use Rattle.crx_compact.proofs.{Words.{few_kept, ArcTail, flags_held}, PlaceByPlace.{at-padded, at-take}}
 use Rattle.crx_compact.proofs.Characters.{within-or_past}
-use Rattle.crx_compact.proofs.PlaceByPlace.{at-padded, at-take}
-use Rattle.std.proofs.lemmas.Grind.{common_steps}
+use Rattle.std.proofs.{lemmas.List.length-take, lemmas.Grind.common_steps}
+use Rattle.crx_compact.specs.{HeldRows.AreHeldFlags, Placing.{SatelliteTail, cells_for}}
 
 -- ---- indicators
 

@@ -2,8 +2,7 @@
 use Rattle.crx_compact.proofs.Words.{◌≡◌, refl, Bool, true, not, List, [], ◌∷◌, ◌++◌, Result, Ok, Err, IfOk}
 use Rattle.crx_compact.proofs.Words.{Option, None, Some, IfSome, if◌then◌else◌, is_ok, sym, ap, subst}
 use Rattle.crx_compact.proofs.Words.{true≢false, Fault, and_then, before_all, arith}
-use Rattle.std.specs.Prelude.{OnOk, OnErr, is_some}
-use Rattle.std.specs.Result.{is_err}
+use Rattle.std.specs.{Prelude.{OnOk, OnErr, is_some}, Result.is_err}
 
 pub no-err : {X : Type 0} (f : Fault) (x : X) → Err f ≡ Ok x → ⊥
 no-err f x e = true≢false (sym (ap is_ok e))

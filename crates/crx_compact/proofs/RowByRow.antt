@@ -2,12 +2,9 @@
 use Rattle.crx_compact.proofs.Words.{◌≡◌, ◌≤◌, ◌<◌, ◌+◌, ◌++◌, ◌∷◌, [], ℕ, zero, suc, List, Some, All, length}
 use Rattle.crx_compact.proofs.Words.{take, drop, map, sum, slice_get, refl, ap, sym, ◌∙◌, subst, arith}
 use Rattle.crx_compact.proofs.Words.{get_or, add-one, map-append, All-append, same_Some, slice_get_within}
-use Rattle.crx_compact.proofs.Words.{printed_row, shown_row, RowTail}
-use Rattle.std.proofs.Common.{append_assoc}
-use Rattle.std.proofs.lemmas.List.Sums.{sum-map, sum_by-append, sum_by-cons}
-use Rattle.std.proofs.lemmas.Option.{get_or_from_slice_get}
-use Rattle.crx_compact.proofs.Making.{taken_more}
-use Rattle.std.proofs.lemmas.Grind.{common_steps}
+use Rattle.crx_compact.proofs.{Words.{printed_row, shown_row, RowTail}, Making.taken_more}
+use Rattle.std.proofs.{Common.append_assoc, lemmas.Option.get_or_from_slice_get}
+use Rattle.std.proofs.{lemmas.List.Sums.{sum-map, sum_by-append, sum_by-cons}, lemmas.Grind.common_steps}
 
 -- ---- what holds of each
 

@@ -4,8 +4,7 @@ use Rattle.crx_compact.proofs.Words.{nat_eq, eqb, List, [], ◌∷◌, length, t
 use Rattle.crx_compact.proofs.Words.{arith, ◌≢◌, MatchBool, length-drop, length-take-le, take_all}
 use Rattle.crx_compact.proofs.Words.{length-chunk, length-zip2, mask_l-mod, tops_compared, common_steps}
 use Rattle.std.proofs.Math.Seq.{take-take}
-use Rattle.std.proofs.lemmas.Bool.Decides.{nat_tests, Decides-eqb}
-use Rattle.std.proofs.lemmas.List.{take-append-drop}
+use Rattle.std.proofs.{lemmas.Bool.Decides.{nat_tests, Decides-eqb}, lemmas.List.take-append-drop}
 use lib.Lanes.{chunk, mask_l, top, zip2}
 
 abbrev differs : ℕ → ℕ → Bool

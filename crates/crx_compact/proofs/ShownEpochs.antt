@@ -6,12 +6,10 @@ use Rattle.crx_compact.proofs.Words.{length, Option, is_ok, take_all, take-map, 
 use Rattle.crx_compact.proofs.Words.{false, slice_index_or, slice_get_within, length-take-le, tail_of_history}
 use Rattle.crx_compact.proofs.Words.{slice_get-map, satellites_of, has_satellite, AreRowsSoFar, satellite_of}
 use Rattle.crx_compact.proofs.Words.{epoch_count, RowTail, shown_epoch, shown_value, IsAnnounced, OpenHistory}
-use Rattle.crx_compact.proofs.Words.{is_some, begun, is_full_epoch, among-names, new_at}
+use Rattle.crx_compact.proofs.{Words.{is_some, begun, is_full_epoch, among-names, new_at}, Making.taken_more}
+use Rattle.crx_compact.proofs.{PlaceByPlace.value-there, ShownRows.get-there}
 use Rattle.std.specs.Prelude.{MatchResult}
 use Rattle.crx_rinex.specs.meaning.EpochLines.{ObservationHead}
-use Rattle.crx_compact.proofs.PlaceByPlace.{value-there}
-use Rattle.crx_compact.proofs.Making.{taken_more}
-use Rattle.crx_compact.proofs.ShownRows.{get-there}
 
 -- ---- the clock line
 

@@ -3,12 +3,10 @@ use Rattle.crx_compact.proofs.Words.{◌≡◌, ◌<◌, refl, ℕ, suc, ◌+◌
 use Rattle.crx_compact.proofs.Words.{map, take, replicate, slice_index_or, slice_set, Option, None, slice_get}
 use Rattle.crx_compact.proofs.Words.{Some, ◌∙◌, arith, append-nil, length-map, length-take-le, map-append}
 use Rattle.crx_compact.proofs.Words.{take_all, slice_get_within, Row, shown_row, shown_value, ArcTail}
+use Rattle.crx_compact.proofs.Making.{taken_more}
 use Rattle.crx_text.proofs.Blanks.{columns_are}
 use Rattle.crx_rinex.specs.SatelliteLines.{with_flags, with_value}
-use Rattle.crx_compact.proofs.Making.{taken_more}
-use Rattle.std.proofs.lemmas.Option.{slice_get_read}
-use Rattle.std.proofs.Math.Seq.{set-append_seam}
-use Rattle.std.proofs.Common.{append_assoc}
+use Rattle.std.proofs.{lemmas.Option.slice_get_read, Math.Seq.set-append_seam, Common.append_assoc}
 
 -- ---- places
 

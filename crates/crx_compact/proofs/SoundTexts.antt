@@ -4,12 +4,10 @@ use Rattle.crx_compact.proofs.Words.{◌≤◌, ℕ, suc, ◌*◌, ◌∷◌, ap
 use Rattle.crx_compact.proofs.Words.{refl, true, List, length, take, arith, ◌++◌, is_kept, Bool, drop, zero}
 use Rattle.crx_compact.proofs.Words.{if◌then◌else◌, [], replicate, IsAllowedCount, length-columns, flags_held}
 use Rattle.crx_compact.proofs.Words.{at-without_end_blanks, columns-are, without_end_blanks, text_difference}
-use Rattle.crx_compact.proofs.Words.{cases_lt, rules, AreHeldFlags}
-use Rattle.std.proofs.lemmas.Bool.Decides.{Decides-eqb}
-use Rattle.std.proofs.lemmas.List.{length-take}
-use Rattle.crx_compact.proofs.PlaceByPlace.{at-padded, at-take}
 use Rattle.crx_compact.proofs.Characters.{all-take, list_all-append, at-take_past, at-by_position}
+use Rattle.crx_compact.proofs.{Words.{cases_lt, rules, AreHeldFlags}, PlaceByPlace.{at-padded, at-take}}
 use Rattle.crx_compact.proofs.Characters.{same_characters}
+use Rattle.std.proofs.{lemmas.Bool.Decides.Decides-eqb, lemmas.List.length-take}
 
 -- ---- blanks at the end
 

@@ -4,10 +4,9 @@ use Rattle.crx_compact.proofs.Words.{slice_get, slice_set, ap, sym, ◌∙◌, n
 use Rattle.crx_compact.proofs.Words.{is_among, has_satellite, Row, IsSoundRow, OpenHistory, PlacedRows}
 use Rattle.crx_compact.proofs.Words.{row_or_blank, row_line_after, row_line_in, row_tail_after, row_tail_in}
 use Rattle.crx_compact.proofs.Words.{RowTail, Tail, AreRowsWritten, arith, among-map, apart-push, HasCome}
-use Rattle.crx_compact.specs.Placing.{row_tail_named}
-use Rattle.crx_compact.proofs.ComeRows.{awaited-after, come-line, come-name, come-tail}
-use Rattle.crx_compact.proofs.RowByRow.{only}
+use Rattle.crx_compact.proofs.{ComeRows.{awaited-after, come-line, come-name, come-tail}, RowByRow.only}
 use Rattle.crx_compact.proofs.placing.SteppedRows.{last-is}
+use Rattle.crx_compact.specs.Placing.{row_tail_named}
 
 -- a satellite has come where it has a row
 pub come-already : (after : Tail) (rows : List Row) (history : OpenHistory) (lines : List (List ℕ))

@@ -5,11 +5,9 @@ use Rattle.crx_compact.proofs.Words.{false, Some, Ok, Err, if◌then◌else◌, 
 use Rattle.crx_compact.proofs.Words.{ints, common_steps, IsWithin, IsShort, Step, code_of_value, arc_of_value}
 use Rattle.crx_compact.proofs.Words.{value_of_code, arc_of_code, WRITTEN_ORDER, ◌+ℤ◌, ◌-ℤ◌, w64, to_z-of_z}
 use Rattle.crx_compact.proofs.Words.{drop-set-lt, differences_after, onto_sum, differences_by, highest}
-use Rattle.crx_compact.proofs.Words.{in_range, is_within, OutOfRange}
+use Rattle.crx_compact.proofs.{Words.{in_range, is_within, OutOfRange}, arcs.Bounds.ten-more}
 use Rattle.std.proofs.Common.{FitsSigned, to_z, of_z, lit≤, lit<}
-use Rattle.std.proofs.lemmas.List.{drop_all, length-take, take_all}
-use Rattle.crx_compact.proofs.arcs.Bounds.{ten-more}
-use Rattle.std.proofs.Math.Nat.{pow-le-pow_right}
+use Rattle.std.proofs.{lemmas.List.{drop_all, length-take, take_all}, Math.Nat.pow-le-pow_right}
 use Rattle.crx_compact.specs.Arcs.{IsBelow, AreBelow, value_bound, kept_tail, IsArcInRange, IsNewestWithin}
 use Rattle.crx_compact.specs.meaning.Differences.{newest}
 

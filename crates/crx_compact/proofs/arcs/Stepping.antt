@@ -2,12 +2,10 @@
 use Rattle.crx_compact.proofs.Words.{◌≡◌, refl, ℕ, zero, suc, ◌-◌, min, ℤ, pos, List, [], ◌∷◌, length, take}
 use Rattle.crx_compact.proofs.Words.{ap, arith, rules, ints, each_place, common_steps, ◌+ℤ◌, ◌-ℤ◌, difference}
 use Rattle.crx_compact.proofs.Words.{value_at, differences_of, values_of, differences_after, highest}
-use Rattle.crx_compact.proofs.Words.{differences_by, take-each_place}
-use Rattle.crx_compact.specs.meaning.Differences.{newest}
-use Rattle.crx_compact.specs.ArcLaws.{CodesByTail, ValuesByTail}
-use Rattle.crx_compact.proofs.arcs.Weights.{difference-suc, difference-zero}
 use Rattle.crx_compact.proofs.arcs.Inversion.{numbers_of, value-numbers, value-first, value-step}
-use Rattle.crx_compact.proofs.arcs.Inversion.{without_oldest}
+use Rattle.crx_compact.proofs.Words.{differences_by, take-each_place}
+use Rattle.crx_compact.proofs.{arcs.Weights.{difference-suc, difference-zero}, arcs.Inversion.without_oldest}
+use Rattle.crx_compact.specs.{meaning.Differences.newest, ArcLaws.{CodesByTail, ValuesByTail}}
 
 -- ---- in compaction
 

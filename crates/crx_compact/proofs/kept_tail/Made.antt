@@ -5,8 +5,7 @@ use mir.Val.{Val, vstruct, vcons, vnil}
 use base.Logic.{ent, emp}
 use types.Logic.{Logic, sem}
 use denote.Shadow.{makes_shadow}
-use Rattle.crx_compact.specs.declared.kept_tail.KeptTail.{KeptTail}
-use Rattle.crx_compact.specs.contracts.kept_tail.KeptTail.{the_row}
+use Rattle.crx_compact.specs.{declared.kept_tail.KeptTail.KeptTail, contracts.kept_tail.KeptTail.the_row}
 
 -- the value of its marker, as the machine has it
 abbrev pub marker : Val

@@ -1,23 +1,18 @@
 -- The satellites of the epoch before come again.
 use Rattle.crx_compact.proofs.Words.{◌≡◌, ℕ, ◌+◌, ◌<◌, ◌≤◌, List, [], Some, length, take, option_map, ap, sym}
 use Rattle.crx_compact.proofs.Words.{◌∙◌, arith, refl, subst, bytes_eq, Count, padded, satellite_of, RowTail}
+use Rattle.crx_compact.proofs.{Characters.length-is, RowByRow.all-at}
+use Rattle.crx_compact.proofs.{placing.EntryChanges.room-here, placing.Ranges.{found-in_range, named-map}}
+use Rattle.crx_compact.proofs.placing.SteppedRows.{among-placed, row-at, rows-counted, rows_of}
 use borrow.Author.Count.{below_more}
-use Rattle.std.proofs.lemmas.Option.{get_or_from_slice_get}
+use Rattle.std.proofs.{lemmas.Option.{get_or_from_slice_get, slice_get-map}, lemmas.Grind.common_steps}
+use Rattle.std.proofs.Common.{All, get_or, map, slice_get, true}
 use Rattle.indexmap.specs.IndexMap.{IndexMap, IsUnique}
-use Rattle.crx_compact.specs.Entries.{Entry, KeepsTypes, placed_rows}
+use Rattle.crx_compact.specs.{Entries.{Entry, KeepsTypes, placed_rows}, HeldRows.IsAwaitedSatellite}
 use Rattle.crx_compact.specs.EpochLinesRead.{HaveComeAgain, IsAgain}
 use Rattle.crx_compact.specs.Placing.{SatelliteTail, row_of_entry, row_tail_named}
-use Rattle.std.proofs.Common.{All, get_or, map, slice_get, true}
-use Rattle.std.proofs.lemmas.Grind.{common_steps}
-use Rattle.std.proofs.lemmas.Option.{slice_get-map}
 use Rattle.crx_header.specs.meaning.ObservationTypes.{count_of}
 use Rattle.crx_header.specs.meaning.Satellites.{is_identifier, types_of_satellite}
-use Rattle.crx_compact.specs.HeldRows.{IsAwaitedSatellite}
-use Rattle.crx_compact.proofs.Characters.{length-is}
-use Rattle.crx_compact.proofs.RowByRow.{all-at}
-use Rattle.crx_compact.proofs.placing.EntryChanges.{room-here}
-use Rattle.crx_compact.proofs.placing.Ranges.{found-in_range, named-map}
-use Rattle.crx_compact.proofs.placing.SteppedRows.{among-placed, row-at, rows-counted, rows_of}
 
 -- one more
 pub kept-more : (types : List Count) (count : ℕ) (es : List Entry)

@@ -1,18 +1,15 @@
 -- A satellite comes: what its map's entries show of the rows that have come, and of those that haven't.
 use Rattle.crx_compact.proofs.Words.{◌≡◌, ℕ, zero, suc, ◌+◌, ◌<◌, ◌≤◌, Bool, true, false, List, [], ◌∷◌, ◌++◌}
 use Rattle.crx_compact.proofs.Words.{length, map, take, drop, slice_get, Some, None, option_map, refl, ap}
+use Rattle.crx_compact.proofs.placing.Ranges.{among-up_to, found-in_range, named-map, none-named, not-before}
 use Rattle.crx_compact.proofs.Words.{sym, ◌∙◌, arith, bytes_eq, map-append, take-take, is_among, RowTail}
-use Rattle.std.specs.List.{IsDistinct}
-use Rattle.std.specs.Map.{keys_of}
-use Rattle.std.proofs.lemmas.Bool.{or_parts}
-use Rattle.std.proofs.lemmas.List.{take-append-drop}
+use Rattle.crx_compact.proofs.placing.Ranges.{rest-one_more}
+use Rattle.std.specs.{List.IsDistinct, Map.keys_of}
+use Rattle.std.proofs.{lemmas.Bool.or_parts, lemmas.List.take-append-drop, lemmas.Grind.common_steps}
 use Rattle.crx_header.proofs.Apart.{among-map, other_way}
 use Rattle.crx_compact.specs.meaning.Sequences.{named}
 use Rattle.crx_compact.specs.Entries.{Entry, IsFound, IsPutNext, IsRevived, key_of, placed_rows}
 use Rattle.crx_compact.specs.Placing.{HasCome, row_tail_named, row_tail_of, row_of_entry}
-use Rattle.crx_compact.proofs.placing.Ranges.{among-up_to, found-in_range, named-map, none-named, not-before}
-use Rattle.crx_compact.proofs.placing.Ranges.{rest-one_more}
-use Rattle.std.proofs.lemmas.Grind.{common_steps}
 
 abbrev pub has_row : List ℕ → List RowTail → Bool
 has_row name rows = is_among (λ (row : RowTail). row.name) name rows

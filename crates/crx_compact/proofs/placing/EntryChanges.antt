@@ -1,21 +1,17 @@
 -- One entry of the map gets another value.
 use Rattle.std.proofs.Common.{◌≡◌, ℕ, zero, suc, ◌<◌, ◌≤◌, max, List, [], ◌∷◌, length, set, slice_get, refl}
 use Rattle.std.proofs.Common.{Some, ap, sym, ◌∙◌, inl, inr, arith, length-set, subst, Bool, true, false}
-use Rattle.std.proofs.Common.{IsTrue, ◌↔◌, rules}
-use Rattle.std.specs.Cmp.{IsEquivalence}
-use Rattle.std.specs.Str.{bytes_eq}
+use Rattle.std.proofs.{Common.{IsTrue, ◌↔◌, rules}, lemmas.Slice.Eq.bytes_eq-Decides}
 use Rattle.std.proofs.lemmas.Bool.{cases_Bool, cases_lt, cond-true, cond-false, false≢true}
-use Rattle.std.proofs.lemmas.List.{get_or-set_same}
-use Rattle.std.proofs.lemmas.Map.Entries.{hash_map_get_place}
-use Rattle.std.proofs.lemmas.Option.{same_Some, slice_get_read}
-use Rattle.std.proofs.lemmas.Slice.Eq.{bytes_eq-Decides}
+use Rattle.std.proofs.{lemmas.List.get_or-set_same, lemmas.Grind.common_steps}
+use Rattle.std.proofs.{lemmas.Map.Entries.hash_map_get_place, lemmas.Option.{same_Some, slice_get_read}}
+use Rattle.std.specs.{Cmp.IsEquivalence, Str.bytes_eq}
 use Rattle.indexmap.proofs.CallerLemmas.{updates-with_value_at}
 use Rattle.indexmap.specs.IndexMap.{IndexMap, IsUnique, get, set_value_at}
 use Rattle.crx_compact.specs.Entries.{Entry, IsFound, rooms_of}
 use Rattle.crx_compact.specs.Placing.{GrowsOnly, HasRoom, IsAskedFor, KeepsRooms, SatelliteTail}
 use Rattle.crx_compact.proofs.Characters.{bytes_eq-same}
 use Rattle.crx_compact.proofs.placing.Rooms.{known-room, room-from_look_up, rooms-kept}
-use Rattle.std.proofs.lemmas.Grind.{common_steps}
 
 pub bytes_eq-equiv : IsEquivalence bytes_eq
 bytes_eq-equiv = search rules

@@ -1,21 +1,15 @@
 -- A satellite is found by its identifier, or added behind the others.
 use Rattle.std.proofs.Common.{◌≡◌, ℕ, ◌<◌, List, [], ◌∷◌, ◌++◌, length, take, slice_get, get_or, position}
 use Rattle.std.proofs.Common.{Option, Some, None, IfSome, is_some, refl, ap, sym, ◌∙◌, inl, inr, ◌⊎◌, arith}
-use Rattle.std.proofs.Common.{Bool, false, true}
-use Rattle.std.specs.Str.{bytes_eq}
+use Rattle.std.proofs.{Common.{Bool, false, true}, lemmas.Bool.cases_Bool, lemmas.Slice.Eq.bytes_eq-Decides}
 use Rattle.std.proofs.lemmas.Grind.{common_steps}
-use Rattle.std.specs.Map.{keys_of, lookup}
-use Rattle.std.proofs.lemmas.Bool.{cases_Bool}
-use Rattle.std.proofs.lemmas.List.{take-append-le, length-map}
-use Rattle.std.proofs.lemmas.List.Quantifiers.{position-Some}
+use Rattle.std.proofs.{lemmas.List.{take-append-le, length-map}, lemmas.List.Quantifiers.position-Some}
 use Rattle.std.proofs.lemmas.Option.{get_or_from_slice_get, none-some, same_Some, slice_get-map}
-use Rattle.std.proofs.lemmas.Slice.Eq.{bytes_eq-Decides}
+use Rattle.std.specs.{Str.bytes_eq, Map.{keys_of, lookup}}
 use Rattle.crx_header.specs.meaning.Satellites.{is_among}
 use Rattle.crx_header.proofs.Apart.{other_way}
-use Rattle.crx_compact.specs.Entries.{Entry, IsFound, key_of}
-use Rattle.crx_compact.specs.Placing.{SatelliteTail}
-use Rattle.crx_compact.proofs.RowByRow.{is-there}
-use Rattle.crx_compact.proofs.placing.Rooms.{known-room, room-from_look_up, rooms-kept}
+use Rattle.crx_compact.specs.{Entries.{Entry, IsFound, key_of}, Placing.SatelliteTail}
+use Rattle.crx_compact.proofs.{RowByRow.is-there, placing.Rooms.{known-room, room-from_look_up, rooms-kept}}
 
 pub found-there : (name : List ℕ) (i : ℕ) (es : List Entry) (satellite : SatelliteTail)
     → slice_get es i ≡ Some (name, satellite) → IsFound name i es es

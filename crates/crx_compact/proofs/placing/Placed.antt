@@ -1,14 +1,13 @@
 -- What is answered of a satellite that comes.
 use Rattle.crx_compact.proofs.Words.{◌≡◌, ℕ, ◌+◌, ◌<◌, ◌≤◌, Bool, true, false, not, List, length, slice_get}
 use Rattle.crx_compact.proofs.Words.{Some, None, ap, arith, refl, sym, true≢false, rules, bytes_eq, is_among}
-use Rattle.crx_compact.proofs.Words.{PlacedRows, RowTail}
+use Rattle.crx_compact.proofs.{Words.{PlacedRows, RowTail}, placing.EntryChanges.{enough-room, little-room}}
+use Rattle.crx_compact.proofs.placing.Coming.{come-anew, come-awaited, is-new, repeated, unknown-no_row}
+use Rattle.crx_compact.proofs.placing.Rooms.{unknown}
 use Rattle.std.proofs.Common.{IsTrue, ◌↔◌}
 use Rattle.indexmap.specs.IndexMap.{IndexMap, IsUnique}
 use Rattle.crx_compact.specs.Entries.{Entry, IsFound, IsPutNext, IsRevived, key_of, placed_rows}
 use Rattle.crx_compact.specs.Placing.{AnswersPlacing, HasAskedRoom, HasSameRooms, IsPlaced, SatelliteTail}
-use Rattle.crx_compact.proofs.placing.Coming.{come-anew, come-awaited, is-new, repeated, unknown-no_row}
-use Rattle.crx_compact.proofs.placing.EntryChanges.{enough-room, little-room}
-use Rattle.crx_compact.proofs.placing.Rooms.{unknown}
 
 same-rooms : (rooms : List (List ℕ × ℕ)) → HasSameRooms rooms rooms
 same-rooms rooms = record { forth = λ name count has. has; back = λ name count has. has }

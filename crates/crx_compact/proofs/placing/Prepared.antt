@@ -1,14 +1,10 @@
 -- A satellite gets more room, and no row changes.
 use Rattle.std.proofs.Common.{rules, ◌≡◌, ℕ, ◌≤◌, List, length, map, take, drop, slice_get, Some, ap, sym}
-use Rattle.std.proofs.Common.{◌∙◌, arith}
-use Rattle.std.proofs.lemmas.List.{drop-map, length-take, take-map}
-use Rattle.std.proofs.lemmas.Option.{get_or_from_slice_get}
-use Rattle.std.proofs.Math.Seq.{map-set_same}
+use Rattle.std.proofs.{Common.{◌∙◌, arith}, Math.Seq.map-set_same, lemmas.Grind.common_steps}
+use Rattle.std.proofs.{lemmas.List.{drop-map, length-take, take-map}, lemmas.Option.get_or_from_slice_get}
 use Rattle.indexmap.specs.IndexMap.{set_value_at}
-use Rattle.crx_compact.specs.Entries.{Entry, IsFound}
-use Rattle.crx_compact.specs.Placing.{SatelliteTail, row_of_entry}
+use Rattle.crx_compact.specs.{Entries.{Entry, IsFound}, Placing.{SatelliteTail, row_of_entry}}
 use Rattle.crx_compact.proofs.placing.EntryChanges.{changed-is}
-use Rattle.std.proofs.lemmas.Grind.{common_steps}
 
 -- all that were there are still there
 pub none-lost : (name : List ℕ) (found : ℕ) (old new : List Entry) → IsFound name found old new

@@ -1,18 +1,11 @@
 -- A satellite that comes is put behind those that have come.
-use Rattle.std.proofs.Common.{◌≡◌, ℕ, suc, ◌+◌, ◌<◌, List, [], ◌∷◌, ◌++◌, length, take, set, sym}
-use Rattle.std.proofs.Common.{swap, ap, ◌∙◌, arith, length-set}
-use Rattle.std.specs.Str.{bytes_eq}
-use Rattle.std.specs.List.{IsDistinct}
-use Rattle.std.specs.Map.{keys_of, lookup}
-use Rattle.std.proofs.lemmas.List.{drop-set-lt, take-set-le, take_more_set}
-use Rattle.std.proofs.lemmas.List.Edits.{length-swap}
-use Rattle.std.proofs.Math.Seq.{take-set-lt}
+use Rattle.std.proofs.Common.{◌≡◌, ℕ, suc, ◌+◌, ◌<◌, List, [], ◌∷◌, ◌++◌, length, take, set, sym, swap, ap}
+use Rattle.std.proofs.{Common.{◌∙◌, arith, length-set}, lemmas.List.{drop-set-lt, take-set-le, take_more_set}}
+use Rattle.std.proofs.{lemmas.List.Edits.length-swap, Math.Seq.take-set-lt, lemmas.Grind.common_steps}
+use Rattle.std.specs.{Str.bytes_eq, List.IsDistinct, Map.{keys_of, lookup}}
 use Rattle.crx_compact.specs.Entries.{Entry, IsPutNext, key_of}
-use Rattle.crx_compact.proofs.placing.Ranges.{rest-brought, rest-next, swap-is}
-use Rattle.crx_compact.proofs.Making.{taken_more}
-use Rattle.crx_compact.proofs.RowByRow.{is-there}
-use Rattle.crx_compact.proofs.placing.Rooms.{rooms-kept}
-use Rattle.std.proofs.lemmas.Grind.{common_steps}
+use Rattle.crx_compact.proofs.{placing.Ranges.{rest-brought, rest-next, swap-is}, placing.Rooms.rooms-kept}
+use Rattle.crx_compact.proofs.{Making.taken_more, RowByRow.is-there}
 
 -- where it is there already
 pub put-same : (placed : ℕ) (es : List Entry) → IsPutNext placed placed es es

@@ -1,12 +1,9 @@
 -- Entries of a map in ranges, one after the other: where an identifier is, and what a swap leaves of them.
 use Rattle.std.proofs.Common.{◌≡◌, ℕ, zero, suc, ◌<◌, ◌≤◌, true, false, List, [], ◌∷◌, take, drop, set, map}
 use Rattle.std.proofs.Common.{swap, slice_get, Some, None, option_map, refl, ap, sym, ◌∙◌, arith, rules}
-use Rattle.std.specs.Str.{bytes_eq}
-use Rattle.std.specs.List.{AllByRecursion, IsDistinct}
-use Rattle.std.specs.Map.{keys_of}
-use Rattle.std.proofs.lemmas.Bool.{or_parts}
+use Rattle.std.proofs.{lemmas.Bool.or_parts, lemmas.Option.{get_or_from_slice_get, none-some, same_Some}}
 use Rattle.std.proofs.lemmas.Map.Keys.{IsDistinct-head, IsDistinct-tail}
-use Rattle.std.proofs.lemmas.Option.{get_or_from_slice_get, none-some, same_Some}
+use Rattle.std.specs.{Str.bytes_eq, List.{AllByRecursion, IsDistinct}, Map.keys_of}
 use Rattle.crx_header.specs.meaning.Satellites.{is_among}
 use Rattle.crx_compact.specs.meaning.Sequences.{named}
 use Rattle.crx_compact.proofs.Characters.{bytes_eq-same}

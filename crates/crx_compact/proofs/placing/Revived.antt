@@ -1,19 +1,13 @@
 -- A satellite that comes back is the first one behind those that mean something, with nothing stored.
 use Rattle.crx_compact.proofs.Words.{◌≡◌, ℕ, ◌<◌, ◌≤◌, List, [], length, set, slice_get, Some, ap, sym, ◌∙◌}
-use Rattle.crx_compact.proofs.Words.{arith, refl, bytes_eq, slice_get_within}
-use Rattle.std.proofs.Common.{swap, length-set}
-use Rattle.std.specs.Map.{lookup}
-use Rattle.std.proofs.lemmas.List.{take-set-le}
-use Rattle.std.proofs.lemmas.List.Edits.{length-swap}
-use Rattle.indexmap.specs.IndexMap.{IndexMap, IsUnique, set_value_at}
-use Rattle.indexmap.specs.Layout.{length-set_value_at}
-use Rattle.crx_compact.specs.Entries.{Entry, IsRevived}
-use Rattle.crx_compact.specs.Placing.{SatelliteTail}
+use Rattle.crx_compact.proofs.{Words.{arith, refl, bytes_eq, slice_get_within}, placing.Rooms.rooms-kept}
 use Rattle.crx_compact.proofs.placing.EntryChanges.{changed-is, rooms-changed, rooms-changed-back, set-there}
-use Rattle.crx_compact.proofs.RowByRow.{is-there}
-use Rattle.crx_compact.proofs.placing.Ranges.{swap-is}
-use Rattle.crx_compact.proofs.placing.Rooms.{rooms-kept}
-use Rattle.std.proofs.lemmas.Grind.{common_steps}
+use Rattle.crx_compact.proofs.{RowByRow.is-there, placing.Ranges.swap-is}
+use Rattle.std.proofs.{Common.{swap, length-set}, lemmas.List.Edits.length-swap, lemmas.Grind.common_steps}
+use Rattle.std.proofs.lemmas.List.{take-set-le}
+use Rattle.std.specs.Map.{lookup}
+use Rattle.indexmap.specs.{IndexMap.{IndexMap, IsUnique, set_value_at}, Layout.length-set_value_at}
+use Rattle.crx_compact.specs.{Entries.{Entry, IsRevived}, Placing.SatelliteTail}
 
 abbrev pub emptied : SatelliteTail → SatelliteTail
 emptied satellite = record satellite { flags = []; cells = [] }

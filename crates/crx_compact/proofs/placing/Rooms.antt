@@ -3,13 +3,10 @@ use Rattle.crx_compact.proofs.Words.{◌≡◌, ℕ, ◌≤◌, false, List, [],
 use Rattle.crx_compact.proofs.Words.{◌∙◌, inl, inr, arith, subst, rules, bytes_eq, false≢true, is_among}
 use Rattle.crx_compact.proofs.Words.{HasRoom, KeepsRooms}
 use Rattle.std.specs.Map.{lookup}
-use Rattle.std.proofs.lemmas.Bool.{cases_Bool}
-use Rattle.std.proofs.lemmas.Option.{none-some}
+use Rattle.std.proofs.{lemmas.Bool.cases_Bool, lemmas.Option.none-some, lemmas.Grind.common_steps}
 use Rattle.crx_header.proofs.Apart.{other_way}
-use Rattle.crx_compact.specs.Entries.{Entry, key_of, rooms_of}
+use Rattle.crx_compact.specs.{Entries.{Entry, key_of, rooms_of}, meaning.Sequences.named}
 use Rattle.crx_compact.specs.Placing.{SatelliteTail}
-use Rattle.crx_compact.specs.meaning.Sequences.{named}
-use Rattle.std.proofs.lemmas.Grind.{common_steps}
 
 abbrev pub room_as : List ℕ → SatelliteTail → List ℕ × ℕ
 room_as name satellite = (name, satellite.room)

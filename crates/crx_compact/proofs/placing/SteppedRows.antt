@@ -4,18 +4,14 @@ use Rattle.crx_compact.proofs.Words.{slice_get, drop, Option, Some, None, refl, 
 use Rattle.crx_compact.proofs.Words.{slice_index_or, bytes_eq, length-map, length-take-le, same_Some}
 use Rattle.crx_compact.proofs.Words.{slice_get-map, index-each_place, without_end_blanks, each_place}
 use Rattle.crx_compact.proofs.Words.{text_difference, Row, ArcTail, cell_text, padded, flags_held}
-use Rattle.crx_compact.proofs.Words.{row_line_after, row_tail_after, RowTail}
-use Rattle.std.specs.Prelude.{flat_map}
-use Rattle.std.proofs.Math.Seq.{take-set-lt, set-append_seam}
-use Rattle.std.proofs.lemmas.List.{drop-set-lt, map-set, length-take, length-append}
-use Rattle.crx_compact.specs.Cells.{arcs_of_cells, codes_of_cells}
-use Rattle.indexmap.specs.IndexMap.{IndexMap, IsUnique, set_value_at}
-use Rattle.indexmap.specs.Layout.{length-set_value_at}
-use Rattle.crx_compact.proofs.placing.Found.{at-seam}
+use Rattle.crx_compact.proofs.{Words.{row_line_after, row_tail_after, RowTail}, placing.Found.at-seam}
 use Rattle.crx_compact.proofs.placing.EntryChanges.{changed-is, rooms-changed, rooms-changed-back}
-use Rattle.crx_compact.specs.Entries.{Entry, placed_rows}
+use Rattle.std.specs.Prelude.{flat_map}
+use Rattle.std.proofs.{Math.Seq.{take-set-lt, set-append_seam}, lemmas.Grind.common_steps}
+use Rattle.std.proofs.lemmas.List.{drop-set-lt, map-set, length-take, length-append}
+use Rattle.crx_compact.specs.{Cells.{arcs_of_cells, codes_of_cells}, Entries.{Entry, placed_rows}}
 use Rattle.crx_compact.specs.Placing.{KeepsRest, SatelliteTail, cells_for, row_tail_of, row_of_entry}
-use Rattle.std.proofs.lemmas.Grind.{common_steps}
+use Rattle.indexmap.specs.{IndexMap.{IndexMap, IsUnique, set_value_at}, Layout.length-set_value_at}
 
 get-take : {X : Type 0} (n i : ℕ) (xs : List X) → i < n → slice_get (take n xs) i ≡ slice_get xs i
 get-take zero i xs within = absurd (omega (arith, within))

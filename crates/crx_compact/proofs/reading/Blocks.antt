@@ -3,14 +3,12 @@ use Rattle.crx_compact.proofs.Words.{◌≡◌, ℕ, suc, List, [], ◌∷◌, �
 use Rattle.crx_compact.proofs.Words.{Err, IfOk, ◌∙◌, arith, inl, inr, ◌⊎◌, ReadLine, Content, Fault}
 use Rattle.crx_compact.proofs.Words.{OutOfMemory, Epoch, Count, Place, Done, Fails, RawEpoch, epoch_at, Tail}
 use Rattle.crx_compact.proofs.Words.{tail_left, ColumnsState, HasMade, epoch_after, first_step, held_after}
-use Rattle.crx_compact.proofs.Words.{placed_as, step_in}
-use Rattle.std.specs.Prelude.{IfErr}
-use Rattle.std.proofs.Common.{length-append}
-use Rattle.crx_compact.specs.OpenEpochs.{Faulty}
-use Rattle.crx_compact.specs.ReadBlocks.{HasReadTo, IsReading}
+use Rattle.crx_compact.proofs.{Words.{placed_as, step_in}, reading.LineByLine.{steps-agree, steps-from_open}}
 use Rattle.crx_compact.proofs.soundness.Soundness.{reads-soundly}
 use Rattle.crx_compact.proofs.reading.RawTailing.{place-by_tail, left-by_tail}
-use Rattle.crx_compact.proofs.reading.LineByLine.{steps-agree, steps-from_open}
+use Rattle.std.specs.Prelude.{IfErr}
+use Rattle.std.proofs.Common.{length-append}
+use Rattle.crx_compact.specs.{OpenEpochs.Faulty, ReadBlocks.{HasReadTo, IsReading}}
 
 -- ---- places
 

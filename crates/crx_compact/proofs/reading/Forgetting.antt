@@ -3,8 +3,7 @@ use Rattle.crx_compact.proofs.Words.{◌≡◌, ℕ, true, List, ◌∷◌, drop
 use Rattle.crx_compact.proofs.Words.{ReadLine, Content, Fault, NotAnEpoch, Count, Done, one_line}
 use Rattle.crx_compact.proofs.Words.{begins_epoch, RawEpoch, Past, past_of_line, BegunEpoch, epoch_begun}
 use Rattle.crx_compact.proofs.Words.{ReadEpoch, epoch_after_line, epoch_at, rules, arith, Forgets}
-use Rattle.crx_compact.proofs.soundness.Soundness.{then-comes}
-use Rattle.crx_compact.proofs.Results.{no-err, ok-same, and_then-ok}
+use Rattle.crx_compact.proofs.{soundness.Soundness.then-comes, Results.{no-err, ok-same, and_then-ok}}
 
 begun-line : (types : List Count) (line : List ℕ) (past : Option Past) (begun : BegunEpoch)
     → epoch_begun types line past ≡ Ok begun → begun.line ≡ line

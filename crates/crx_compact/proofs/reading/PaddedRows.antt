@@ -10,13 +10,11 @@ use Rattle.crx_compact.proofs.Words.{held_row, row_held, patched, Missing, ReadR
 use Rattle.crx_compact.proofs.Words.{Ok, arcs_of_tail, past_of_tail, satellite_of, character_of, begins_epoch}
 use Rattle.crx_compact.proofs.Words.{row_of_cells, cell_of_tail, if◌then◌else◌, value_of_code, flags_of_tail}
 use Rattle.crx_compact.proofs.Words.{arc_of_code, at-without_end_blanks, length-each_place, OBSERVATION_WIDTH}
-use Rattle.crx_compact.specs.HeldRows.{row_after}
 use Rattle.crx_compact.proofs.SoundTexts.{same-cut}
-use Rattle.crx_compact.proofs.CellsRead.{cells-within, shown-code}
-use Rattle.crx_compact.proofs.Characters.{at-by_position}
+use Rattle.crx_compact.proofs.{CellsRead.{cells-within, shown-code}, PlaceByPlace.at-take}
+use Rattle.crx_compact.proofs.{Characters.at-by_position, soundness.Soundness.{AreReadCells, RowFacts}}
 use Rattle.crx_compact.proofs.Marks.{cell-by_kept, cells-count, columns-held, row-by_tail, texts-count}
-use Rattle.crx_compact.proofs.PlaceByPlace.{at-take}
-use Rattle.crx_compact.proofs.soundness.Soundness.{AreReadCells, RowFacts}
+use Rattle.crx_compact.specs.HeldRows.{row_after}
 
 -- ---- the row that an epoch line leaves
 
@@ -84,8 +82,7 @@ row-padded s kept line =
 pub row-opened : (before : Tail) (s : Satellite) (line : List ℕ)
     → row_held (Some (padded s (tail_named s.name before)))
     (satellite_of (padded s (tail_named s.name before))) line ≡ row_after before s line
-row-opened before s line =
-    search (rules, tail_named, row_held, length-each_place, cell_of_tail, row-padded, row-by_tail)
+row-opened before s line = search (rules, length-each_place, row-padded, row-by_tail)
 
 -- ---- the row that a line leaves
 

@@ -7,13 +7,11 @@ use Rattle.crx_compact.proofs.Words.{past_of_epochs, past_of_line, epoch_at, Row
 use Rattle.crx_compact.proofs.Words.{tail_named, cell_of_tail, flags_of_tail, flags_held, raw_row_tail_after}
 use Rattle.crx_compact.proofs.Words.{raw_tail_after, arc_of_code, past_of_tail, tail_for_line, epoch_after}
 use Rattle.crx_compact.proofs.Words.{HasSingleLines, each_place-same, index-each_place, arith, rules}
-use Rattle.crx_compact.proofs.Words.{raw_row_tail, tail_of_block, started_tail}
+use Rattle.crx_compact.proofs.{Words.{raw_row_tail, tail_of_block, started_tail}, Lists.mapped-same}
+use Rattle.crx_compact.proofs.{wayback.Overlays.{overlaid-patched, overlaid-take}, wayback.Runs.named-made}
+use Rattle.crx_compact.proofs.arcs.Arcs.{value-next, number-next}
 use Rattle.std.proofs.Math.Path.{fun_ext}
 use Rattle.crx_compact.specs.ReadingLaws.{RawByTail}
-use Rattle.crx_compact.proofs.Lists.{mapped-same}
-use Rattle.crx_compact.proofs.wayback.Overlays.{overlaid-patched, overlaid-take}
-use Rattle.crx_compact.proofs.wayback.Runs.{named-made}
-use Rattle.crx_compact.proofs.arcs.Arcs.{value-next, number-next}
 
 -- ---- what a tail holds of a satellite
 

@@ -1,13 +1,12 @@
 -- What a line makes of an open epoch, by what was read of it into a history.
-use Rattle.crx_compact.proofs.Words.{◌≡◌, ◌≤◌, ◌<◌, ℕ, ◌+◌, ◌∷◌, map, Some, None, Err, ◌∙◌, Tail}
-use Rattle.crx_compact.proofs.Words.{refl, printed_head, printed_row, shown_value, satellite_of, common_steps}
-use Rattle.crx_compact.proofs.Words.{true, List, length, arith, Fault, Epoch, Reading, RowTail, get_or, rules}
-use Rattle.crx_compact.proofs.Words.{[], Content, row_held, HasMade, RawStep, with_rows, IsRowRead, shown_row}
+use Rattle.crx_compact.proofs.Words.{◌≡◌, ◌≤◌, ◌<◌, ℕ, ◌+◌, ◌∷◌, map, Some, None, Err, ◌∙◌, Tail, refl}
+use Rattle.crx_compact.proofs.Words.{printed_head, printed_row, shown_value, satellite_of, common_steps, true}
+use Rattle.crx_compact.proofs.Words.{List, length, arith, Fault, Epoch, Reading, RowTail, get_or, rules, []}
+use Rattle.crx_compact.proofs.Words.{Content, row_held, HasMade, RawStep, with_rows, IsRowRead, shown_row}
 use Rattle.crx_compact.proofs.Words.{slice_get, HEAD_WIDTH, next_step, whole_epoch, OpenHistory, shown_epoch}
 use Rattle.crx_compact.proofs.Words.{columns, printed_epoch, HasPrintedLines, step_with_rows, tail_of_history}
 use Rattle.std.proofs.lemmas.Option.{slice_get-get_or, slice_get_past}
-use Rattle.crx_compact.specs.OpenEpochs.{Idle, Whole, Faulty}
-use Rattle.crx_compact.specs.Placing.{empty_row}
+use Rattle.crx_compact.specs.{OpenEpochs.{Idle, Whole, Faulty}, Placing.empty_row}
 
 -- ---- satellite lines
 

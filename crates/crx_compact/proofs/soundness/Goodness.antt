@@ -8,18 +8,14 @@ use Rattle.crx_compact.proofs.Words.{length, Option, Ok, columns, IsValue, is_ke
 use Rattle.crx_compact.proofs.Words.{AllByRecursion, IsMissingOrWithin, types_of_satellite, OBSERVATION_WIDTH}
 use Rattle.crx_compact.proofs.Words.{subst, character_at, HasItsTypes, CLOCK_WIDTH, is_printable, latest_mark}
 use Rattle.crx_compact.proofs.Words.{length-map, raw_row_named, past_of_block, each_place-all, length-columns}
-use Rattle.crx_compact.proofs.Words.{All-from_recursion, count_of}
+use Rattle.crx_compact.proofs.{Words.{All-from_recursion, count_of}, Characters.{all-take, list_all-at}}
+use Rattle.crx_compact.proofs.Lists.{all-from}
+use Rattle.crx_compact.proofs.{SoundTexts.all-columns, wayback.Overlays.at-overlaid, EpochLines.names_of}
+use Rattle.crx_compact.proofs.soundness.Soundness.{AreReadCells, RowFacts, Paired, block_for, epoch-facts}
 use Rattle.std.specs.Prelude.{OnSome}
-use Rattle.crx_header.specs.ObservationTypes.{AreCounts}
-use Rattle.crx_header.specs.meaning.Satellites.{has_number}
+use Rattle.crx_header.specs.{ObservationTypes.AreCounts, meaning.Satellites.has_number}
 use Rattle.crx_header.proofs.Counts.{allowed_of, system_of}
 use Rattle.crx_compact.specs.ReadingLaws.{HasPrintableMarks, IsGood, ReadsWholeEpochs}
-use Rattle.crx_compact.proofs.Lists.{all-from}
-use Rattle.crx_compact.proofs.SoundTexts.{all-columns}
-use Rattle.crx_compact.proofs.wayback.Overlays.{at-overlaid}
-use Rattle.crx_compact.proofs.Characters.{all-take, list_all-at}
-use Rattle.crx_compact.proofs.soundness.Soundness.{AreReadCells, RowFacts, Paired, block_for, epoch-facts}
-use Rattle.crx_compact.proofs.EpochLines.{names_of}
 
 -- ---- marks
 

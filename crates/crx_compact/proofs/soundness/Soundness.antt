@@ -10,14 +10,11 @@ use Rattle.crx_compact.proofs.Words.{Missing, arith, ReadRow, columns, ReadLine,
 use Rattle.crx_compact.proofs.Words.{block_of, marks_of, epoch_at, ReadCell, cells_of, ReadEpoch, cell_read}
 use Rattle.crx_compact.proofs.Words.{if◌then◌else◌, satellites_of_line, satellite_line_read, epoch_after_line}
 use Rattle.crx_compact.proofs.Words.{after_cells, raw_row_named, past_of_block, epoch_of_rows, HasSingleLines}
-use Rattle.crx_compact.proofs.Words.{⊤}
+use Rattle.crx_compact.proofs.{Words.⊤, Results.{no-err, ok-same, and_then-ok, if-err, if-true, before-ok}}
+use Rattle.crx_compact.proofs.{wayback.Overlays.columns-cut, Marks.{row_with_marks, cells-count, texts-count}}
+use Rattle.crx_compact.proofs.{Identifiers.each-own, EpochLines.{differ, names_of, LineFacts, line-facts_of}}
 use Rattle.crx_compact.specs.Expansion.{all_ok, text_of, row_from, rows_from, epoch_of_block, epoch_from}
-use Rattle.crx_compact.proofs.wayback.Overlays.{columns-cut}
 use Rattle.crx_compact.specs.ReadingLaws.{ReadsSoundly}
-use Rattle.crx_compact.proofs.Identifiers.{each-own}
-use Rattle.crx_compact.proofs.Results.{no-err, ok-same, and_then-ok, if-err, if-true, before-ok}
-use Rattle.crx_compact.proofs.Marks.{row_with_marks, cells-count, texts-count}
-use Rattle.crx_compact.proofs.EpochLines.{differ, names_of, LineFacts, line-facts_of}
 
 -- ---- good answers come from good answers
 

@@ -1,16 +1,15 @@
 -- What follows of an epoch and its rows from their being ones that can be written.
 use Rattle.crx_compact.proofs.Words.{◌≡◌, refl, suc, true, ◌&&◌, List, Some, at, nat_eq, length, arith, rules}
-use Rattle.crx_compact.proofs.Words.{◌+◌, ◌-◌, ◌*◌, ◌<◌, ℕ, not, ◌∷◌, map, ◌∙◌, Row, All, sym, []}
-use Rattle.crx_compact.proofs.Words.{Epoch, epoch_count, begins_epoch, columns-are, name-length, common_steps}
-use Rattle.crx_compact.proofs.Words.{Count, columns, mark_of, is_kept, All-head, All-tail, list_all, flat_map}
+use Rattle.crx_compact.proofs.Words.{◌+◌, ◌-◌, ◌*◌, ◌<◌, ℕ, not, ◌∷◌, map, ◌∙◌, Row, All, sym, [], Epoch}
+use Rattle.crx_compact.proofs.Words.{epoch_count, begins_epoch, columns-are, name-length, common_steps, Count}
+use Rattle.crx_compact.proofs.Words.{columns, mark_of, is_kept, All-head, All-tail, list_all, flat_map}
 use Rattle.crx_compact.proofs.Words.{and_parts, Satellite, epoch_text, IsSoundRow, ap, HasItsTypes, at-append}
 use Rattle.crx_compact.proofs.Words.{each_place, AllByRecursion, has_satellite, are_different, at-append_past}
 use Rattle.crx_compact.proofs.Words.{Ok, text_difference, satellites_named, each_place-same, list_all-from_at}
 use Rattle.crx_compact.proofs.Words.{not-true, without_end_blanks, is_observation_flag, at-without_end_blanks}
-use Rattle.crx_compact.proofs.Words.{character_at, is_printable, IsWholeEpoch, length-append, satellites_in}
-use Rattle.crx_compact.proofs.Identifiers.{AreNew, new-after}
 use Rattle.crx_compact.proofs.Characters.{at-by_position, same_characters, list_all-at, list_all-append}
-use Rattle.crx_compact.proofs.Characters.{if_some, name-kept}
+use Rattle.crx_compact.proofs.Words.{character_at, is_printable, IsWholeEpoch, length-append, satellites_in}
+use Rattle.crx_compact.proofs.{Identifiers.{AreNew, new-after}, Characters.{if_some, name-kept}}
 use Rattle.crx_compact.proofs.wayback.Runs.{IsUnmarked}
 
 -- ---- rows

@@ -5,9 +5,8 @@ use Rattle.crx_compact.proofs.Words.{refl, ◌≢◌, zero, List, length, mark_o
 use Rattle.crx_compact.proofs.Words.{ℕ, suc, ◌≤◌, [], ◌∷◌, All, ◌∙◌, ap, at, ◌<◌, ◌⊎◌, map, take, inl, inr}
 use Rattle.crx_compact.proofs.Words.{if◌then◌else◌, arith, not-suc-le-zero, text_difference, index-each_place}
 use Rattle.crx_compact.proofs.Words.{le_of_suc-le-suc, without_end_blanks, by_position, at-without_end_blanks}
-use Rattle.crx_compact.proofs.Words.{cases_lt, rules, patched_in_turn}
+use Rattle.crx_compact.proofs.{Words.{cases_lt, rules, patched_in_turn}, SoundTexts.{same-cut, same-columns}}
 use Rattle.crx_compact.proofs.Characters.{same_characters, at-by_position, at-take_past}
-use Rattle.crx_compact.proofs.SoundTexts.{same-cut, same-columns}
 use Rattle.crx_compact.proofs.PlaceByPlace.{at-take}
 
 -- ---- patch after difference

@@ -2,29 +2,26 @@
 use Rattle.crx_compact.proofs.Words.{◌≡◌, refl, ◌≢◌, Bool, true, List, ◌++◌, drop, Some, Done, ◌+◌, ◌∷◌, Past}
 use Rattle.crx_compact.proofs.Words.{AllByRecursion, drop-append_seam, clock_line_read, false, satellite_line}
 use Rattle.crx_compact.proofs.Words.{arith, code_text, row_named, and_parts, clock_arc, rows_read, since_full}
-use Rattle.crx_compact.proofs.Words.{rules, Epoch, Count, Marked, run_of, raw_of, length, raw_row, raws_of}
-use Rattle.crx_compact.proofs.Words.{ℕ, append_assoc, begins_epoch, past_of_line, IsWholeEpoch, length-append}
+use Rattle.crx_compact.proofs.Words.{rules, Epoch, Count, Marked, run_of, raw_of, length, raw_row, raws_of, ℕ}
+use Rattle.crx_compact.proofs.Words.{append_assoc, begins_epoch, past_of_line, IsWholeEpoch, length-append}
 use Rattle.crx_compact.proofs.Words.{code_at, ReadRow, map-map, columns, Content, back_to, ReadLine, RawEpoch}
-use Rattle.crx_compact.proofs.Words.{map, ◌∙◌, Row, [], Ok, ap, at, ◌*◌}
-use Rattle.crx_compact.proofs.Words.{raw_run_of, length-map, map-append, epoch_text, epoch_line, newest_text}
-use Rattle.crx_compact.proofs.Words.{block_of, satellites_of_text, satellite_line_read, at-without_end_blanks}
-use Rattle.crx_compact.proofs.Words.{overlaid, value_of, epoch_at, list_all, AreWhole, few_kept, ReadEpoch}
-use Rattle.crx_compact.proofs.Words.{CLOCK_WIDTH, compact_epoch, past_of_epochs, if◌then◌else◌, past_of_block}
-use Rattle.crx_compact.proofs.Words.{WRITTEN_ORDER, satellites_of_line, code_of-code_text, without_end_blanks}
+use Rattle.crx_compact.proofs.Words.{map, ◌∙◌, Row, [], Ok, ap, at, ◌*◌, raw_run_of, length-map, map-append}
+use Rattle.crx_compact.proofs.Words.{epoch_text, epoch_line, newest_text, block_of, satellites_of_text}
+use Rattle.crx_compact.proofs.Words.{satellite_line_read, at-without_end_blanks, overlaid, value_of, epoch_at}
+use Rattle.crx_compact.proofs.Words.{list_all, AreWhole, few_kept, ReadEpoch, CLOCK_WIDTH, compact_epoch}
+use Rattle.crx_compact.proofs.Words.{past_of_epochs, if◌then◌else◌, past_of_block, WRITTEN_ORDER}
+use Rattle.crx_compact.proofs.wayback.Facts.{head-counted, typed-rows, text-kept, text-head, text-begins}
+use Rattle.crx_compact.proofs.wayback.Facts.{length-text, text-names, names-read, satellites_of_rows}
+use Rattle.crx_compact.proofs.wayback.Runs.{raw_block, marked, Begins, begins_full, begins_later, block-raws}
+use Rattle.crx_compact.proofs.wayback.Runs.{raw_run, runs-read, clocks-read, value-back, text-read}
+use Rattle.crx_compact.proofs.Words.{satellites_of_line, code_of-code_text, without_end_blanks}
+use Rattle.crx_compact.proofs.{SoundTexts.first-columns, wayback.Cells.{is_code_character, code-characters}}
+use Rattle.crx_compact.proofs.{Lists.all-from, wayback.Runs.rows_before, Identifiers.{each-own, none-earlier}}
+use Rattle.crx_compact.proofs.wayback.Facts.{satellites-good, unmarked, difference-printable}
+use Rattle.crx_compact.proofs.wayback.Rows.{run-begins, rows-of_run, clock-printable, satellite_of, row-read}
 use Rattle.std.proofs.Common.{drop_of_length-le}
 use Rattle.crx_compact.specs.ReadingLaws.{read_of, lines_of_epoch, EachReadsBack, text_lines, epochs_at}
 use Rattle.crx_compact.specs.ReadingLaws.{marked_of, counts_of, reads_of, ReadsBack}
-use Rattle.crx_compact.proofs.SoundTexts.{first-columns}
-use Rattle.crx_compact.proofs.Lists.{all-from}
-use Rattle.crx_compact.proofs.wayback.Facts.{head-counted, typed-rows, text-kept, text-head, text-begins}
-use Rattle.crx_compact.proofs.wayback.Facts.{length-text, text-names, names-read, satellites_of_rows}
-use Rattle.crx_compact.proofs.wayback.Facts.{satellites-good, unmarked, difference-printable}
-use Rattle.crx_compact.proofs.wayback.Cells.{is_code_character, code-characters}
-use Rattle.crx_compact.proofs.wayback.Runs.{raw_block, marked, Begins, begins_full, begins_later, block-raws}
-use Rattle.crx_compact.proofs.wayback.Runs.{raw_run, runs-read, clocks-read, value-back, text-read}
-use Rattle.crx_compact.proofs.wayback.Runs.{rows_before}
-use Rattle.crx_compact.proofs.wayback.Rows.{run-begins, rows-of_run, clock-printable, satellite_of, row-read}
-use Rattle.crx_compact.proofs.Identifiers.{each-own, none-earlier}
 
 -- ---- the epochs of a block
 
@@ -34,7 +31,7 @@ epochs-begin types epochs h = all-from (λ (e : Epoch). at (epoch_text e) 0 ≡ 
 
 pub epochs-unmarked : (types : List Count) (epochs : List Epoch)
     → AreWhole types epochs → AllByRecursion (λ (e : Epoch). (p : ℕ) → at (epoch_text e) p ≢ 38) epochs
-epochs-unmarked types epochs h = search (rules, all-from, unmarked, epoch_text, text-kept)
+epochs-unmarked types epochs h = search (rules, all-from, unmarked, text-kept)
 
 -- ---- what is before the line in its block
 

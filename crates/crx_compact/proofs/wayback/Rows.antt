@@ -12,18 +12,15 @@ use Rattle.crx_compact.proofs.Words.{not-suc-le-zero, IsMissingOrWithin, OBSERVA
 use Rattle.crx_compact.proofs.Words.{get_or_past, mark_of, by_position, IsPrintable, CLOCK_WIDTH, after_cells}
 use Rattle.crx_compact.proofs.Words.{begins_epoch, WRITTEN_ORDER, past_of_block, row_of_cells, each_place-all}
 use Rattle.crx_compact.proofs.Words.{index-each_place, length-each_place, code_of-code_text, list_all-from_at}
-use Rattle.crx_compact.proofs.Words.{flat_map, rules, common_steps, CodesFit, map-each_place, at-drop}
-use Rattle.crx_rinex.specs.meaning.EpochLines.{IsClockOffset}
-use Rattle.crx_compact.proofs.SoundTexts.{first-columns}
-use Rattle.crx_compact.proofs.Lists.{all-from}
 use Rattle.crx_compact.proofs.wayback.Facts.{IsTypedRow, typed-rows, unmarked, at-difference}
-use Rattle.crx_compact.proofs.wayback.Facts.{difference-printable, trimmed-again}
 use Rattle.crx_compact.proofs.wayback.Cells.{is_code_character, code-characters, AreWritten, cells-written}
-use Rattle.crx_compact.proofs.wayback.Cells.{marks-written, one_cell}
-use Rattle.crx_compact.proofs.wayback.Overlays.{at_past}
 use Rattle.crx_compact.proofs.wayback.Runs.{raw_run, codes-read, marked, rows_before, value-back, HasFlags}
-use Rattle.crx_compact.proofs.wayback.Runs.{marks-new}
-use Rattle.crx_compact.proofs.arcs.Bounds.{IsNear, near-within, code-printable}
+use Rattle.crx_compact.proofs.Words.{flat_map, rules, common_steps, CodesFit, map-each_place, at-drop}
+use Rattle.crx_compact.proofs.{SoundTexts.first-columns, wayback.Facts.{difference-printable, trimmed-again}}
+use Rattle.crx_compact.proofs.Lists.{all-from}
+use Rattle.crx_compact.proofs.{wayback.Cells.{marks-written, one_cell}, wayback.Runs.marks-new}
+use Rattle.crx_compact.proofs.{wayback.Overlays.at_past, arcs.Bounds.{IsNear, near-within, code-printable}}
+use Rattle.crx_rinex.specs.meaning.EpochLines.{IsClockOffset}
 
 -- ---- rows of a run
 
@@ -168,7 +165,7 @@ written-codes types name n run h = search (rules, each_place-all, code-character
 value-good : (types : List Count) (name : List ℕ) (r : Row) (rs : List Row)
     → AllByRecursion (IsRowOf types name) (r ∷ rs)
     → (j : ℕ) → value_of OBSERVATION_WIDTH (map (code_in j) (raw_run (r ∷ rs))) ≡ Ok (value_in j r)
-value-good types name r rs h j = search (rules, value_of, codes-read, value-back, value_in, value-fits)
+value-good types name r rs h j = search (rules, codes-read, value-back, value-fits)
 
 first-code : (r : Row) (rs : List Row) (i : ℕ) → code_in i (raw_row (r ∷ rs) r) ≡ codes_at (r ∷ rs) i
 first-code r rs i = grind (arith, common_steps, index-each_place, code_at, stretch, value_in, get_or_past)

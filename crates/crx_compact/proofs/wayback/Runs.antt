@@ -7,13 +7,11 @@ use Rattle.crx_compact.proofs.Words.{stretch, block_of, value_in, overlaid, row_
 use Rattle.crx_compact.proofs.Words.{RawEpoch, epoch_text, newest_text, since_start, value_since, get_or_past}
 use Rattle.crx_compact.proofs.Words.{raw_run_of, without_end_blanks, indicators_before, at-without_end_blanks}
 use Rattle.crx_compact.proofs.Words.{by_position, if◌then◌else◌, AllByRecursion, WRITTEN_ORDER, raw_row_named}
-use Rattle.crx_compact.proofs.Words.{text_difference, index-each_place, length-each_place, IsMissingOrWithin}
-use Rattle.crx_compact.specs.ArcLaws.{codes_of_arc}
-use Rattle.crx_compact.proofs.arcs.Bounds.{within-is}
-use Rattle.crx_compact.proofs.arcs.Inversion.{value-numbers, started-codes}
-use Rattle.crx_compact.proofs.Characters.{at-by_position, same_characters}
 use Rattle.crx_compact.proofs.wayback.Overlays.{character-mark, overlaid-patched, overlaid-take}
-use Rattle.crx_compact.proofs.wayback.Overlays.{trimmed-within}
+use Rattle.crx_compact.proofs.Words.{text_difference, index-each_place, length-each_place, IsMissingOrWithin}
+use Rattle.crx_compact.proofs.{arcs.Bounds.within-is, Characters.{at-by_position, same_characters}}
+use Rattle.crx_compact.proofs.{arcs.Inversion.{value-numbers, started-codes}, wayback.Overlays.trimmed-within}
+use Rattle.crx_compact.specs.ArcLaws.{codes_of_arc}
 
 -- ---- the block that a reader finds
 
@@ -158,7 +156,7 @@ lines_of raws = map (λ (q : RawEpoch). q.line) raws
 text-step : (full : Bool) (e : Epoch) (older : List Marked) → (AreUnmarked older → overlaid (lines_of
     (raw_block older)) ≡ without_end_blanks (newest_text older)) → AreUnmarked (marked full e ∷ older)
     → overlaid (lines_of (raw_block (marked full e ∷ older))) ≡ without_end_blanks (epoch_text e)
-text-step false e (m ∷ older) next h = search (rules, next_overlay, epoch_text)
+text-step false e (m ∷ older) next h = search (rules, next_overlay)
 text-step full e older next h = first_overlay (epoch_text e) h.0
 
 -- a reader finds the newest epoch's text
@@ -187,7 +185,7 @@ marks-cut r rs h e =
 pub marks-new : (r : Row) (rs : List Row) → AllByRecursion HasFlags (r ∷ rs) → overlaid (text_difference
     (indicators_before (r ∷ rs)) r.flags ∷ marks_of (raw_run rs)) ≡ without_end_blanks r.flags
 marks-new r [] h = first_overlay r.flags h.0.unmarked
-marks-new r (q ∷ qs) h = search (rules, next_overlay, marks_of, marks-cut, marks-new q qs h.1)
+marks-new r (q ∷ qs) h = search (rules, next_overlay, marks-cut, marks-new q qs h.1)
 
 pub marks-read : (r : Row) (rs : List Row)
     → AllByRecursion HasFlags (r ∷ rs) → overlaid (marks_of (raw_run (r ∷ rs))) ≡ without_end_blanks r.flags

@@ -10,19 +10,16 @@ use Rattle.crx_compact.proofs.Words.{epoch_line, mark_of, newest_text, by_positi
 use Rattle.crx_compact.proofs.Words.{text_difference, length-each_place, OBSERVATION_WIDTH, indicators_before}
 use Rattle.crx_compact.proofs.Words.{negsuc, length, value_in, code_at, arc_of, codes_of, IsWithin, few_kept}
 use Rattle.crx_compact.proofs.Words.{flat_map, neg_ℤ, common_steps, rules, length-append, is_event_flag}
-use Rattle.crx_compact.proofs.Words.{is_event_line, has_no_epochs, LinesCanStand, TYPES_LIMIT}
-use Rattle.crx_compact.proofs.Lists.{all-from}
 use Rattle.crx_compact.proofs.wayback.Facts.{IsTypedRow, typed-rows, text-kept, text-head, text-begins}
+use Rattle.crx_compact.proofs.wayback.Rows.{IsRowOf, clock-printable, line-begins, lines-each, written-codes}
+use Rattle.crx_compact.proofs.Words.{is_event_line, has_no_epochs, LinesCanStand, TYPES_LIMIT}
+use Rattle.crx_compact.proofs.{Lists.all-from, arcs.Bounds.{IsNear, doubled, difference-within, ten-more}}
 use Rattle.crx_compact.proofs.wayback.Facts.{at-difference, difference-printable, length-text}
 use Rattle.crx_compact.proofs.wayback.Cells.{is_code_character, code-characters, order-text, AreWritten}
-use Rattle.crx_compact.proofs.wayback.Runs.{marked, begins_full, begins_later}
+use Rattle.crx_compact.proofs.{wayback.Runs.{marked, begins_full, begins_later}, wayback.Reading.text-other}
 use Rattle.crx_compact.proofs.Characters.{list_all-at, list_all-append}
-use Rattle.crx_compact.proofs.wayback.Rows.{IsRowOf, clock-printable, line-begins, lines-each, written-codes}
 use Rattle.crx_compact.proofs.wayback.Rows.{clocks-fit, near-all, stretch-within, values-fit}
-use Rattle.crx_compact.proofs.wayback.Reading.{text-other}
-use Rattle.std.proofs.lemmas.Fmt.{length-decimal-le}
-use Rattle.std.proofs.Math.Nat.{pow-le-pow_right}
-use Rattle.crx_compact.proofs.arcs.Bounds.{IsNear, doubled, difference-within, ten-more}
+use Rattle.std.proofs.{lemmas.Fmt.length-decimal-le, Math.Nat.pow-le-pow_right}
 
 -- ---- numbers and codes
 
@@ -150,7 +147,7 @@ row-begins types name run r h k = grind (arith, length-each_place, line-begins, 
 line-begins_epoch : (types : List Count) (full : Bool) (e : Epoch) (older : List Marked)
     → AreWhole types (since_full (marked full e ∷ older))
     → begins_epoch (epoch_line (marked full e) older) ≡ (full || has_no_epochs older)
-line-begins_epoch types false e (m ∷ older) h = search (rules, begins_later, epoch_text, text-begins)
+line-begins_epoch types false e (m ∷ older) h = search (rules, begins_later, text-begins)
 line-begins_epoch types full e older h = begins_full (epoch_text e) (text-begins types e h.0)
 
 -- the flag of an epoch's text is one of observations, and so is its mark in a line from the empty text

@@ -6,15 +6,10 @@ use Rattle.crx_compact.proofs.Words.{if◌then◌else◌, without_end_blanks, in
 use Rattle.crx_compact.proofs.Words.{option_map, get_or_past, value_in, newest_text, row_line_in, row_tail_in}
 use Rattle.crx_compact.proofs.Words.{WRITTEN_ORDER, cell_of_tail, flags_of_tail, are_different, compact_epoch}
 use Rattle.crx_compact.proofs.Words.{back_to, stretch, epoch_text, row_named, RowTail, tail_named, tail_after}
-use Rattle.crx_compact.proofs.Words.{arc_tail, rules, arith, IsSoundEpoch}
-use Rattle.crx_compact.specs.Tails.{row_tail, tail_or_nothing}
-use Rattle.crx_compact.specs.Laws.{EpochByTail, tail_before}
-use Rattle.crx_compact.proofs.Lists.{mapped-same}
-use Rattle.crx_compact.proofs.wayback.Runs.{marked, named-made, rows_before}
-use Rattle.crx_compact.proofs.wayback.Rows.{run-begins}
-use Rattle.crx_compact.proofs.SoundTexts.{before-trimmed}
-use Rattle.crx_compact.proofs.Identifiers.{each-own}
-use Rattle.crx_compact.proofs.arcs.Arcs.{code-next, arc-next}
+use Rattle.crx_compact.proofs.{Words.{arc_tail, rules, arith, IsSoundEpoch}, arcs.Arcs.{code-next, arc-next}}
+use Rattle.crx_compact.proofs.{Lists.mapped-same, wayback.Rows.run-begins, Identifiers.each-own}
+use Rattle.crx_compact.proofs.{wayback.Runs.{marked, named-made, rows_before}, SoundTexts.before-trimmed}
+use Rattle.crx_compact.specs.{Tails.{row_tail, tail_or_nothing}, Laws.{EpochByTail, tail_before}}
 
 -- ---- what a tail holds of a satellite
 

@@ -1,7 +1,6 @@
 use Rattle.std.proofs.Common.{rules, ◌≡◌, ◌≤◌, ◌<◌, ◌∙◌, ℤ, List, ℕ, length, pos, ◌-ℤ◌, sym, ap, take}
 use Rattle.std.proofs.Common.{slice_index_or, FitsSigned, w64, to_z, arith, length-take-le}
-use Rattle.std.proofs.lemmas.List.{length-set, get_or-take, take_more_set}
-use Rattle.std.proofs.Math.Seq.{take-set-lt}
+use Rattle.std.proofs.{lemmas.List.{length-set, get_or-take, take_more_set}, Math.Seq.take-set-lt}
 use Rattle.crx_compact.specs.ArcSteps.{differences_after, highest}
 use Rattle.crx_compact.proofs.arcs.Running.{advance-step, advanced-all, difference-fits, first-fits}
 use Rattle.crx_compact.proofs.arcs.Running.{highest-last, same-bits}
@@ -25,8 +24,8 @@ loop-index-preserved c =
     let long = c.loop-index.invariant.long in
     let less : index < order = c.loop-index-test.true in
     let few : index ≤ 9 = omega arith in
-    let many : length (take order ds) ≡ order = length-take-le order ds
-    (omega (arith, long, c.requires.within)) in
+    let many : length (take order ds) ≡ order =
+    length-take-le order ds (omega (arith, long, c.requires.within)) in
     let here : index < length (take order ds) = omega (arith, many, less) in
     let same = before order index ds less in
     let fits : FitsSigned w64 (slice_index_or ds index (pos 0)) =

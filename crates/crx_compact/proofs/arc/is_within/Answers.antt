@@ -1,6 +1,4 @@
-use Rattle.std.proofs.Common.{◌≤◌, ◌^◌, lit<, arith}
-use Rattle.std.proofs.Math.Nat.{pow-le-pow_right}
-use Rattle.std.proofs.lemmas.Int.{ints}
+use Rattle.std.proofs.{Common.{◌≤◌, ◌^◌, lit<, arith}, Math.Nat.pow-le-pow_right, lemmas.Int.ints}
 use Rattle.crx_compact.proofs.arc.is_within.Goals as goal
 
 pub pow-lowest-requires : goal.pow-lowest-requires

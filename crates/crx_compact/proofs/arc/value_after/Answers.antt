@@ -14,8 +14,7 @@ overflow_add-value c =
     (slice_index_or c.args.differences.now c.loop-difference.difference-index (pos 0)) =
     first-fits c.loop-difference.difference-index
     c.args.differences.now here few c.loop-difference.invariant.rest_below in
-    rw (same-bits _ fits)
-    (search (rules, sum-fits, to_z, w64, c.loop-difference.invariant))
+    rw (same-bits _ fits) (search (rules, sum-fits, c.loop-difference.invariant))
 
 pub loop-difference-preserved : goal.loop-difference-preserved
 loop-difference-preserved c =

@@ -1,5 +1,4 @@
-use Rattle.crx_compact.specs.meaning.Differences.{newest}
-use Rattle.crx_compact.specs.ArcSteps.{differences_by}
+use Rattle.crx_compact.specs.{meaning.Differences.newest, ArcSteps.differences_by}
 use Rattle.crx_compact.proofs.arcs.Running.{Summed}
 use Rattle.crx_compact.proofs.arc.value_after.Given as goal
 

@@ -1,5 +1,4 @@
-use Rattle.std.proofs.Common.{rules}
-use Rattle.std.proofs.lemmas.List.{set-set, set-get_or}
+use Rattle.std.proofs.{Common.rules, lemmas.List.{set-set, set-get_or}}
 use Rattle.crx_compact.proofs.cells.read_cell_fast.Goals as goal
 
 pub returns : goal.returns

@@ -1,10 +1,9 @@
 use Rattle.crx_compact.proofs.Words.{rules, List, Err, ℕ, ap, ◌≡◌, ◌<◌, ◌∙◌, arith, length, subst, take}
 use Rattle.crx_compact.proofs.Words.{err_from_is_err_and, length-take-le, value_at_place, cells_of}
-use Rattle.crx_compact.proofs.Words.{cells_read}
-use Rattle.std.proofs.Common.{Bor}
 use Rattle.crx_compact.proofs.CellsRead.{first-read, first-refused, read-none, read-next, next-refused}
-use Rattle.crx_compact.proofs.CellsRead.{read-all}
+use Rattle.crx_compact.proofs.{Words.cells_read, CellsRead.read-all}
 use Rattle.crx_compact.proofs.cells.read_cells.Goals.{in-Some, in-None+in_ok-length-in-None}
+use Rattle.std.proofs.Common.{Bor}
 use Rattle.crx_compact.proofs.cells.read_cells.Goals as goal
 
 pub loop-index-init : goal.loop-index-init

@@ -1,9 +1,7 @@
 use Rattle.crx_compact.proofs.Words.{◌≡◌, ◌<◌, List, Option, None, ℕ, ℤ, get_or, ap, ◌∙◌, arith, length, sym}
 use Rattle.crx_compact.proofs.Words.{take, length-set, take_more_set, ArcTail, arc_of_value, code_of_value}
-use Rattle.std.proofs.lemmas.List.{get_or-take}
-use Rattle.std.proofs.lemmas.Option.{slice_get-get_or}
-use Rattle.crx_compact.proofs.AlikeFrom.{alike-there, alike-after}
-use Rattle.crx_compact.proofs.PlaceByPlace.{cells-more}
+use Rattle.crx_compact.proofs.{AlikeFrom.{alike-there, alike-after}, PlaceByPlace.cells-more}
+use Rattle.std.proofs.{lemmas.List.get_or-take, lemmas.Option.slice_get-get_or}
 use Rattle.crx_compact.proofs.cells.write_cells.Goals as goal
 
 pub loop-index-preserved : goal.loop-index-preserved

@@ -14,11 +14,6 @@ write_cell-requires-in-Some-push_third-clause-room c =
 pub returns-in-Some-push_third : goal.returns-in-Some-push_third
 returns-in-Some-push_third c =
     let fits : FitsSigned w64 c.in-Some-push_third.difference = search rules in
-    let short = code_text_length (Step c.in-Some-push_third.difference) c.in-Some-push_third.ensures.short in
-    let end = rw (same-bits _ fits) at c.write_cell-in-Some-push_third.ensures.within in
-    record {
-      arc = search rules;
-      written = search rules;
-      from = search rules;
-      within = omega (arith, short, end);
-    }
+    let few = code_text_length (Step c.in-Some-push_third.difference) c.in-Some-push_third.ensures.short in
+    let e = rw (same-bits _ fits) at c.write_cell-in-Some-push_third.ensures.within in
+    record { arc = search rules; written = search rules; from = search rules; within = omega (arith, few, e) }

@@ -1,11 +1,10 @@
 use Rattle.std.proofs.lemmas.Grind.{common_steps}
 use Rattle.crx_compact.proofs.Words.{◌≡◌, sym, subst, arith, rules, Some, length-set, err_from_is_err_and}
 use Rattle.crx_compact.proofs.Words.{Content, step_at, satellite_of, tail_of_history, Stage}
-use Rattle.crx_compact.specs.OpenEpochs.{Faulty}
-use Rattle.crx_compact.proofs.PrintedBlocks.{block-row}
+use Rattle.crx_compact.proofs.{PrintedBlocks.block-row, reading.NoMemory.no-memory-at-row}
 use Rattle.crx_compact.proofs.reading.Announced.{row-announced, rows-allowed, rows-few}
-use Rattle.crx_compact.proofs.reading.NoMemory.{no-memory-at-row}
 use Rattle.crx_compact.proofs.reading.StepsByCode.{row-awaited, row-faulty, row-stepped}
+use Rattle.crx_compact.specs.OpenEpochs.{Faulty}
 use Rattle.crx_compact.proofs.columns.take_line.Goals as goal
 
 pub read_row-requires-clause-allowed : goal.read_row-requires-clause-allowed

@@ -1,8 +1,7 @@
 use Rattle.crx_compact.proofs.Words.{rules, ℕ, List, Some, ◌≡◌, ◌∙◌, inl, inr, refl, subst, sym}
 use Rattle.crx_compact.proofs.Words.{err_from_is_err_and, types_of_satellite, HasRoom, PlacedRows}
 use Rattle.crx_compact.proofs.Naming.{names-room}
-use Rattle.crx_compact.proofs.Results.{from_some, some-otherwise}
-use Rattle.crx_compact.proofs.placing.Placed.{placed-asked}
+use Rattle.crx_compact.proofs.{Results.{from_some, some-otherwise}, placing.Placed.placed-asked}
 use Rattle.crx_compact.proofs.history.place_name.Goals as goal
 
 pub returns-in-Some-clause-back : goal.returns-in-Some-clause-back

@@ -1,9 +1,8 @@
 use Rattle.crx_compact.proofs.Words.{◌≡◌, ◌≤◌, ℕ, List, ap, length, map, sum, sym, ◌∙◌, subst, arith, inl}
 use Rattle.crx_compact.proofs.Words.{inr, false≢true, Row, HasRoom, HaveRoom, row_room, slice_get_within}
+use Rattle.crx_compact.proofs.{Making.taken_all, RowByRow.{all-at, all-next, sum-next}}
 use Rattle.crx_base.specs.declared.limits.TheConstants.{TYPES_LIMIT}
 use borrow.Author.Count.{falls}
-use Rattle.crx_compact.proofs.Making.{taken_all}
-use Rattle.crx_compact.proofs.RowByRow.{all-at, all-next, sum-next}
 use Rattle.crx_compact.proofs.history.prepare_rows.Goals as goal
 
 pub loop-row-preserved : goal.loop-row-preserved

@@ -1,8 +1,7 @@
 use Rattle.crx_compact.proofs.Words.{◌≡◌, ◌+◌, ◌*◌, ◌++◌, ◌∷◌, [], ℕ, zero, suc, List, Some, slice_get, map}
-use Rattle.crx_compact.proofs.Words.{RowTail, ap, ◌∙◌, arith, length, length-map, take}
-use Rattle.std.proofs.Common.{get_or}
-use Rattle.crx_compact.proofs.Making.{texts_more}
+use Rattle.crx_compact.proofs.{Words.{RowTail, ap, ◌∙◌, arith, length, length-map, take}, Making.texts_more}
 use Rattle.crx_compact.proofs.RowByRow.{IsThere, is-there}
+use Rattle.std.proofs.Common.{get_or}
 use Rattle.crx_compact.proofs.history.put_names.Goals as goal
 
 named-at : (rows : List RowTail) (index : ℕ) (row : RowTail) → slice_get rows index ≡ Some row

@@ -3,15 +3,12 @@ use Rattle.crx_compact.proofs.Words.{ap, sym, ◌∙◌, inl, arith, subst, ◌�
 use Rattle.crx_compact.proofs.Words.{false≢true, err_from_is_err_and, is_ok, All-append, columns, is_among}
 use Rattle.crx_compact.proofs.Words.{IsAwaitedSatellite, BadSatellite, OutOfMemory, RepeatedSatellite, Fault}
 use Rattle.crx_compact.proofs.Words.{Satellite, names_in, satellites_named, HasRoom, KeepsRooms, PlacedRows}
-use Rattle.crx_compact.proofs.Words.{padded_among, row_or_blank, RowTail}
+use Rattle.crx_compact.proofs.{Words.{padded_among, row_or_blank, RowTail}, placing.SteppedRows.ends-same}
+use Rattle.crx_compact.proofs.{ComeRows.come-name, RowByRow.{all-of, only}}
+use Rattle.crx_compact.proofs.Naming.{named-bad, named-twice, named-more, named-all, next-name}
+use Rattle.crx_compact.proofs.{NamesCome.{HasNameCome, among-rows, awaited-one, name-comes}, Results.no-err}
 use Rattle.crx_text.proofs.EachPlace.{drop_all-each_place}
 use Rattle.crx_compact.specs.EpochLinesRead.{AreSatellitesRefused}
-use Rattle.crx_compact.proofs.ComeRows.{come-name}
-use Rattle.crx_compact.proofs.Naming.{named-bad, named-twice, named-more, named-all, next-name}
-use Rattle.crx_compact.proofs.NamesCome.{HasNameCome, among-rows, awaited-one, name-comes}
-use Rattle.crx_compact.proofs.Results.{no-err}
-use Rattle.crx_compact.proofs.RowByRow.{all-of, only}
-use Rattle.crx_compact.proofs.placing.SteppedRows.{ends-same}
 use Rattle.crx_compact.proofs.history.read_names.Goals as goal
 
 -- whether a satellite has come already

@@ -1,7 +1,6 @@
 use Rattle.crx_compact.proofs.Words.{◌≡◌, ◌⊎◌, All, List, [], true, map, is_ok, IsAwaitedSatellite, Satellite}
 use Rattle.crx_compact.proofs.Words.{names_in, satellites_named, HaveTypesRoom, KeepsRooms, padded_among}
-use Rattle.crx_compact.proofs.ComeRows.{AreAwaited}
-use Rattle.crx_compact.proofs.Naming.{NamedSoFar}
+use Rattle.crx_compact.proofs.{ComeRows.AreAwaited, Naming.NamedSoFar}
 use Rattle.crx_compact.proofs.history.read_names.Given as goal
 
 abbrev pub invariant-loop-index : goal.invariant-loop-index

@@ -1,14 +1,12 @@
 use Rattle.crx_compact.proofs.Words.{arith, rules, ◌≡◌, ◌+◌, ◌*◌, ◌++◌, ◌∷◌, [], ℕ, List, Bool, not, true}
 use Rattle.crx_compact.proofs.Words.{false, map, Option, Some, None, sym, ap, ◌∙◌, ◌<◌, refl, slice_set}
 use Rattle.crx_compact.proofs.Words.{subst, length-set, map-append, bytes_eq, columns, is_among, Satellite}
-use Rattle.crx_compact.proofs.Words.{names_in}
-use Rattle.std.specs.Option.{is_some}
-use Rattle.std.specs.List.{list_any}
+use Rattle.crx_compact.proofs.{Words.names_in, Marked.marked-more}
+use Rattle.crx_compact.proofs.Naming.{named-all, named-bad, named-more, named-twice, next-name}
+use Rattle.std.specs.{Option.is_some, List.list_any}
 use Rattle.crx_header.proofs.Apart.{among-map}
 use Rattle.crx_text.proofs.EachPlace.{drop_all-each_place, each_place-more}
-use Rattle.crx_compact.proofs.Naming.{named-all, named-bad, named-more, named-twice, next-name}
 use Rattle.crx_compact.specs.Refusals.{AreMarked, mark_place}
-use Rattle.crx_compact.proofs.Marked.{marked-more}
 use Rattle.crx_compact.proofs.refusals.fault_of_names.Goals as goal
 
 -- no types are known of a satellite

@@ -1,6 +1,5 @@
-use Rattle.crx_compact.proofs.Words.{◌≡◌, List, length, map, Satellite, names_in}
+use Rattle.crx_compact.proofs.{Words.{◌≡◌, List, length, map, Satellite, names_in}, Naming.NamedSoFar}
 use Rattle.crx_compact.specs.Refusals.{AreMarked}
-use Rattle.crx_compact.proofs.Naming.{NamedSoFar}
 use Rattle.crx_compact.proofs.refusals.fault_of_names.Given as goal
 
 abbrev pub invariant-loop-index : goal.invariant-loop-index

@@ -1,10 +1,8 @@
 use Rattle.crx_compact.proofs.Words.{rules, not, ℕ, List, ap, subst, ◌∙◌, false≢true, same_Some}
-use Rattle.crx_compact.proofs.Words.{types_of_satellite, HasRoom}
-use Rattle.std.proofs.lemmas.Option.{none-some}
-use Rattle.crx_compact.proofs.Results.{by_ok}
-use Rattle.crx_compact.proofs.Naming.{names-room-more}
 use Rattle.crx_compact.proofs.refusals.prepare_names.Goals.{in-Some-types_of_satellite+else-is_err}
+use Rattle.crx_compact.proofs.{Words.{types_of_satellite, HasRoom}, Results.by_ok, Naming.names-room-more}
 use Rattle.crx_compact.proofs.refusals.prepare_names.Goals.{in_default-types_of_satellite}
+use Rattle.std.proofs.lemmas.Option.{none-some}
 use Rattle.crx_compact.proofs.refusals.prepare_names.Goals as goal
 
 pub returns-then-is_err-clause-known : goal.returns-then-is_err-clause-known

@@ -1,5 +1,4 @@
-use Rattle.std.proofs.Common.{rules, replicate, append_assoc}
-use Rattle.std.proofs.lemmas.List.{take_more_set}
+use Rattle.std.proofs.{Common.{rules, replicate, append_assoc}, lemmas.List.take_more_set}
 use Rattle.crx_compact.proofs.Resizing.{one-more-alike}
 use Rattle.crx_compact.proofs.satellite.blank_types.Goals as goal
 

@@ -1,10 +1,9 @@
 use Rattle.crx_compact.proofs.Words.{◌≡◌, ◌∙◌, ◌-◌, ◌*◌, ◌++◌, List, ℕ, ap, arith, drop, length, min}
 use Rattle.crx_compact.proofs.Words.{replicate, subst, sym, take, length-take-le, take_at, columns, patched}
+use Rattle.crx_compact.proofs.{Marks.patched-kept, SoundTexts.columns-held}
 use Rattle.std.proofs.lemmas.List.{take_min}
 use Rattle.crx_text.proofs.Blanks.{columns_are}
 use Rattle.crx_compact.specs.HeldRows.{AreHeldFlags}
-use Rattle.crx_compact.proofs.Marks.{patched-kept}
-use Rattle.crx_compact.proofs.SoundTexts.{columns-held}
 use Rattle.crx_compact.proofs.satellite.patch_indicators.Goals as goal
 
 put-columns : (all : ℕ) (old held text : List ℕ) (first : ℕ) → length old ≡ all → first ≡ min all (length

@@ -1,7 +1,6 @@
 use Rattle.std.proofs.Common.{rules, refl, ap, sym, subst}
 use Rattle.indexmap.proofs.CallerLemmas.{insert_entry-new}
-use Rattle.crx_compact.specs.Entries.{IsFound}
-use Rattle.crx_compact.specs.Placing.{SatelliteTail}
+use Rattle.crx_compact.specs.{Entries.IsFound, Placing.SatelliteTail}
 use Rattle.crx_compact.proofs.placing.Found.{found-added, none-there, not-found}
 use Rattle.crx_compact.proofs.satellites.find_or_add.Goals as goal
 

@@ -1,8 +1,7 @@
 use Rattle.std.proofs.Common.{ap, sym, subst, ◌∙◌, ◌≤◌, ℕ, Option, Some, option_map}
 use Rattle.std.specs.Map.Iter.{deref_pair}
 use Rattle.crx_compact.specs.Placing.{padded, row_tail_of}
-use Rattle.crx_compact.proofs.placing.Again.{kept-more, typed-named}
-use Rattle.crx_compact.proofs.placing.SteppedRows.{padded-is}
+use Rattle.crx_compact.proofs.{placing.Again.{kept-more, typed-named}, placing.SteppedRows.padded-is}
 use Rattle.crx_compact.proofs.satellites.keep_types.Goals as goal
 
 pub loop-index-preserved : goal.loop-index-preserved

@@ -1,6 +1,5 @@
 use Rattle.std.proofs.Common.{arith, subst}
-use Rattle.indexmap.specs.IndexMap.{set_value_at}
-use Rattle.indexmap.specs.Layout.{length-set_value_at}
+use Rattle.indexmap.specs.{IndexMap.set_value_at, Layout.length-set_value_at}
 use Rattle.crx_compact.specs.Entries.{IsRevived}
 use Rattle.crx_compact.proofs.placing.Revived.{revived-brought, revived-there}
 use Rattle.crx_compact.proofs.satellites.revive.Goals as goal

@@ -1,12 +1,10 @@
-use Rattle.std.proofs.lemmas.Grind.{common_steps}
-use Rattle.std.proofs.Common.{rules, take, sym, ap, subst, ◌∙◌, arith, ℕ}
-use Rattle.crx_compact.specs.meaning.Differences.{newest}
+use Rattle.std.proofs.{lemmas.Grind.common_steps, Common.{rules, take, sym, ap, subst, ◌∙◌, arith, ℕ}}
+use Rattle.crx_compact.specs.{meaning.Differences.newest, Arcs.{kept_tail, IsArcInRange}}
 use Rattle.crx_compact.specs.ArcSteps.{differences_after}
-use Rattle.crx_compact.specs.Arcs.{kept_tail, IsArcInRange}
-use Rattle.crx_compact.proofs.arcs.Bounds.{within-is}
 use Rattle.crx_compact.proofs.arcs.Running.{IsLast, OntoThird, by-after, goes-on-kept, in-range-by}
+use Rattle.crx_compact.proofs.arcs.Bounds.{within-is}
 use Rattle.crx_compact.proofs.arcs.Running.{onto-third-kept, same-bits, steps-on, third-last}
-use Rattle.crx_compact.proofs.arc.Arc.apply_third.{Given.Over, Goals.Else-not-is_third}
+use Rattle.crx_compact.proofs.{arc.Arc.apply_third.Given.Over, arc.Arc.apply_third.Goals.Else-not-is_third}
 use Rattle.crx_compact.proofs.arc.Arc.apply_third.Goals as goal
 
 onto : (g : Over) (c : Else-not-is_third g) → OntoThird c.args.number c.self.inside.differences

@@ -1,13 +1,10 @@
 use Rattle.crx_compact.proofs.Words.{rules, ◌≡◌, ◌<◌, ◌+◌, ◌∷◌, ℤ, List, Option, length, take, ap, ◌∙◌, arith}
 use Rattle.crx_compact.proofs.Words.{slice_set, WRITTEN_ORDER, IsWithin, Code, Start, Step, ArcTail, code_at}
-use Rattle.crx_compact.proofs.Words.{stretch, arc_of_value, code_of_value}
-use Rattle.std.proofs.Common.{FitsSigned, w64, to_z, of_z}
-use Rattle.crx_compact.specs.ArcLaws.{arc_of_values}
-use Rattle.crx_compact.proofs.arcs.Arcs.{codes-of_values}
-use Rattle.crx_compact.specs.ArcSteps.{differences_after, highest}
-use Rattle.crx_compact.specs.Arcs.{kept_tail}
 use Rattle.crx_compact.proofs.arcs.Running.{GoesOn, same-bits, begun-tail, begun-kept, lower-below}
+use Rattle.crx_compact.proofs.{Words.{stretch, arc_of_value, code_of_value}, arcs.Arcs.codes-of_values}
 use Rattle.crx_compact.proofs.arcs.Running.{within-below, goes-on-kept, goes-on, highest-short, within-short}
+use Rattle.std.proofs.Common.{FitsSigned, w64, to_z, of_z}
+use Rattle.crx_compact.specs.{ArcLaws.arc_of_values, ArcSteps.{differences_after, highest}, Arcs.kept_tail}
 use Rattle.crx_compact.proofs.arc.Arc.push.Goals as goal
 
 -- what is said of any values so far, by what is said of the arc

@@ -1,9 +1,8 @@
-use Rattle.crx_compact.proofs.Words.{rules, take, sym, ap, subst, ◌∙◌, arith, ℕ, Step}
-use Rattle.crx_compact.specs.ArcSteps.{highest}
-use Rattle.crx_compact.specs.Arcs.{kept_tail, IsArcInRange}
 use Rattle.crx_compact.proofs.arcs.Running.{IsLast, ToThird, after-three, goes-on, goes-on-kept}
+use Rattle.crx_compact.proofs.Words.{rules, take, sym, ap, subst, ◌∙◌, arith, ℕ, Step}
 use Rattle.crx_compact.proofs.arcs.Running.{highest-short, same-bits, third-last, to-third-kept}
-use Rattle.crx_compact.proofs.arc.Arc.push_third.{Given.Over, Goals.Else-not-is_third}
+use Rattle.crx_compact.proofs.{arc.Arc.push_third.Given.Over, arc.Arc.push_third.Goals.Else-not-is_third}
+use Rattle.crx_compact.specs.{ArcSteps.highest, Arcs.{kept_tail, IsArcInRange}}
 use Rattle.crx_compact.proofs.arc.Arc.push_third.Goals as goal
 
 to : (g : Over) (c : Else-not-is_third g) → ToThird c.args.value c.self.inside.differences

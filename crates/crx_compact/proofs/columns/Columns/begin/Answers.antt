@@ -1,12 +1,10 @@
 use Rattle.crx_compact.proofs.Words.{rules, ◌≡◌, ◌⊎◌, Err, Some, ◌≤◌, ℕ, arith, Content, OutOfMemory}
 use Rattle.crx_compact.proofs.Words.{before_clock, first_step, tail_for_line, tail_held, OpenHistory}
-use Rattle.crx_compact.proofs.Words.{tail_of_history}
-use Rattle.crx_compact.specs.OpenEpochs.{Faulty}
-use Rattle.crx_compact.proofs.Results.{ok-same}
+use Rattle.crx_compact.proofs.{Words.tail_of_history, columns.Columns.begin.Goals.After-read_epoch_line}
+use Rattle.crx_compact.proofs.{Results.ok-same, reading.Blocks.{begun-block, begun-refused}}
 use Rattle.crx_compact.proofs.ReadingRooms.{opened-from, room-for, rows-opened, satellites-known, text-known}
-use Rattle.crx_compact.proofs.reading.Blocks.{begun-block, begun-refused}
 use Rattle.crx_compact.proofs.reading.Stages.{line-good, tail-idle}
-use Rattle.crx_compact.proofs.columns.Columns.begin.Goals.{After-read_epoch_line}
+use Rattle.crx_compact.specs.OpenEpochs.{Faulty}
 use Rattle.crx_compact.proofs.columns.Columns.begin.Goals as goal
 
 same-below : {m n : ℕ} → m ≡ n → m ≤ n

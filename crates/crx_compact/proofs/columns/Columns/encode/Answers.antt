@@ -2,14 +2,11 @@ use Rattle.crx_compact.proofs.Words.{rules, arith, ◌≡◌, ℕ, Bool, true, n
 use Rattle.crx_compact.proofs.Words.{sym, ap, ◌∙◌, false≢true, ColumnsState, is_idle, tail_held}
 use Rattle.crx_compact.proofs.Words.{columns_state, OpenHistory, tail_of_history, lines_after_tail, no_tail}
 use Rattle.crx_compact.proofs.Words.{tail_after, tail_written_after, Tail, Stage, HeldColumns}
-use Rattle.crx_compact.specs.OpenEpochs.ColumnsState.{Idle}
-use Rattle.crx_compact.specs.Coded.{CodedEpoch}
-use Rattle.crx_compact.specs.EncodingRooms.{GrowsForEpoch, made_room}
-use Rattle.crx_compact.specs.LineLists.{room_of_lines}
-use Rattle.crx_compact.proofs.EncodingRooms.{all-free-room}
+use Rattle.crx_compact.proofs.{EncodingRooms.all-free-room, wayback.Tailing.{lines-coded, tail-coded}}
 use Rattle.crx_compact.proofs.reading.Stages.{stage-idle, tail-idle}
-use Rattle.crx_compact.proofs.wayback.Tailing.{lines-coded, tail-coded}
 use Rattle.crx_compact.proofs.columns.Columns.encode.Goals.{then-full, else-full}
+use Rattle.crx_compact.specs.{OpenEpochs.ColumnsState.Idle, EncodingRooms.{GrowsForEpoch, made_room}}
+use Rattle.crx_compact.specs.{Coded.CodedEpoch, LineLists.room_of_lines}
 use Rattle.crx_compact.proofs.columns.Columns.encode.Goals as goal
 
 -- an epoch is in full where that is asked for, or where nothing is kept

@@ -1,11 +1,10 @@
 use Rattle.crx_compact.proofs.Words.{rules, ◌≡◌, ◌∙◌, ◌<◌, ◌⊎◌, sym, ap, subst, arith, length, Ok, Err, Some}
 use Rattle.crx_compact.proofs.Words.{None, eqb-true, OutOfMemory, Content, ColumnsState, HasMade, step_in}
-use Rattle.crx_compact.proofs.Words.{step_with_rows, tail_of_history, Tail, HeldColumns}
-use Rattle.crx_compact.specs.OpenEpochs.{Faulty, Idle}
-use Rattle.crx_compact.proofs.reading.Blocks.{more-block, more-refused}
 use Rattle.crx_compact.proofs.reading.Stages.{row-was_awaited, rows-left, state-rows, step-by-stage}
-use Rattle.crx_compact.proofs.reading.Stages.{step-whole}
-use Rattle.crx_compact.proofs.reading.StepsByCode.{made-more, made-whole}
+use Rattle.crx_compact.proofs.Words.{step_with_rows, tail_of_history, Tail, HeldColumns}
+use Rattle.crx_compact.proofs.reading.Blocks.{more-block, more-refused}
+use Rattle.crx_compact.proofs.{reading.Stages.step-whole, reading.StepsByCode.{made-more, made-whole}}
+use Rattle.crx_compact.specs.OpenEpochs.{Faulty, Idle}
 use Rattle.crx_compact.proofs.columns.Columns.feed.Goals as goal
 
 pub returns-in-Ok-clause-made : goal.returns-in-Ok-clause-made

@@ -1,12 +1,10 @@
-use Rattle.crx_compact.proofs.Words.{rules, arith, List, ℕ, [], ◌∷◌, ◌++◌, if◌then◌else◌, ◌≡◌}
-use Rattle.crx_compact.proofs.Words.{◌∙◌, ◌<◌, sym, ap, subst, Bool, length, Some, None}
-use Rattle.crx_compact.proofs.Words.{true, false, eqb-true, Content, ColumnsState, HasMade, HasPrintedLines}
-use Rattle.crx_compact.proofs.Words.{step_in, step_with_rows, tail_of_history, AreLinesTo, IsBlock, Tail}
-use Rattle.crx_compact.specs.OpenEpochs.{Idle}
-use Rattle.crx_compact.specs.LineLists.{HeldLines, PendingLines}
-use Rattle.crx_compact.proofs.PrintedBlocks.{block-whole}
+use Rattle.crx_compact.proofs.Words.{rules, arith, List, ℕ, [], ◌∷◌, ◌++◌, if◌then◌else◌, ◌≡◌, ◌∙◌, ◌<◌, sym}
+use Rattle.crx_compact.proofs.Words.{ap, subst, Bool, length, Some, None, true, false, eqb-true, Content}
+use Rattle.crx_compact.proofs.Words.{ColumnsState, HasMade, HasPrintedLines, step_in, step_with_rows}
+use Rattle.crx_compact.proofs.{Words.{tail_of_history, AreLinesTo, IsBlock, Tail}, PrintedBlocks.block-whole}
 use Rattle.crx_compact.proofs.reading.Stages.{rows-left, state-rows, step-by-stage}
 use Rattle.crx_compact.proofs.reading.StepsByCode.{made-more, printed-whole}
+use Rattle.crx_compact.specs.{OpenEpochs.Idle, LineLists.{HeldLines, PendingLines}}
 use Rattle.crx_compact.proofs.columns.Columns.feed_into.Goals as goal
 
 -- where no line is pending, those that are put there are all

@@ -1,8 +1,7 @@
 use Rattle.std.proofs.Common.{rules, ◌≡◌, List, ℕ, Bool, true, false, ◌++◌, ◌∷◌, [], ap, ◌∙◌}
 use Rattle.crx_header.specs.declared.crinex.TheConstants.{CRINEX_PROGRAM, CRINEX_PROGRAM_LABEL}
 use Rattle.crx_header.specs.meaning.CompactHeader.{left_justified, lines_before_header, version_line}
-use Rattle.crx_compact.specs.Encoding.{EncoderState, forgotten}
-use Rattle.crx_compact.specs.EncodingRooms.{all_free}
+use Rattle.crx_compact.specs.{Encoding.{EncoderState, forgotten}, EncodingRooms.all_free}
 use Rattle.crx_compact.proofs.Justified.{left_justified-is}
 use Rattle.crx_compact.proofs.encoder.Encoder.copy_header.Goals as goal
 

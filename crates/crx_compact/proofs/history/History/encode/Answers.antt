@@ -1,20 +1,15 @@
-use Rattle.std.proofs.Common.{rules}
+use Rattle.std.proofs.{Common.rules, lemmas.Grind.common_steps}
 use Rattle.crx_compact.proofs.Words.{◌≡◌, ◌++◌, ◌∷◌, [], ℕ, ℤ, List, Option, true, not, length, take, sym, ap}
 use Rattle.crx_compact.proofs.Words.{◌∙◌, subst, arith, inl, inr, if◌then◌else◌, is_ok, eqb-true, length-map}
 use Rattle.crx_compact.proofs.Words.{satellites_of, has_satellite, Row, HasRoom, HaveRoom, OpenHistory}
 use Rattle.crx_compact.proofs.Words.{row_of_parts, row_room, tail_of_history, no_tail, row_tail_in, Tail}
-use Rattle.crx_compact.proofs.Words.{AreRowsWritten, slice_get_within}
-use Rattle.std.proofs.lemmas.Grind.{common_steps}
-use borrow.Author.Count.{falls}
-use Rattle.crx_compact.specs.EncodingRooms.{HasTakenRow, encoding_room}
-use Rattle.crx_compact.specs.Placing.{GrowsOnly, IsAskedAmong}
-use Rattle.crx_compact.specs.Written.{IsRowWritten}
+use Rattle.crx_compact.proofs.{Words.{AreRowsWritten, slice_get_within}, Results.{by_ok, from_ok}}
 use Rattle.crx_compact.proofs.ComeRows.{row-new}
-use Rattle.crx_compact.proofs.Making.{taken_all, taken_more}
-use Rattle.crx_compact.proofs.Results.{by_ok, from_ok}
-use Rattle.crx_compact.proofs.EncodingRooms.{room-kept}
-use Rattle.crx_compact.proofs.RowByRow.{all-at, sum-left, sum-next, sum-to}
-use Rattle.crx_compact.proofs.history.History.encode.Goals.{In_default}
+use Rattle.crx_compact.proofs.{Making.{taken_all, taken_more}, RowByRow.{all-at, sum-left, sum-next, sum-to}}
+use Rattle.crx_compact.proofs.{EncodingRooms.room-kept, history.History.encode.Goals.In_default}
+use borrow.Author.Count.{falls}
+use Rattle.crx_compact.specs.{EncodingRooms.{HasTakenRow, encoding_room}, Placing.{GrowsOnly, IsAskedAmong}}
+use Rattle.crx_compact.specs.Written.{IsRowWritten}
 use Rattle.crx_compact.proofs.history.History.encode.Goals as goal
 
 pub loop-row-init : goal.loop-row-init

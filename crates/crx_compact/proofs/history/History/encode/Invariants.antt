@@ -1,10 +1,9 @@
 use Rattle.crx_compact.proofs.Words.{◌≡◌, ◌≤◌, ◌+◌, ◌*◌, ◌-◌, drop, if◌then◌else◌, length, map, sum, take}
-use Rattle.crx_compact.proofs.Words.{HEAD_WIDTH, LINE_LIMIT, NAME_WIDTH, KeepsRooms, row_room}
-use Rattle.crx_compact.proofs.Words.{AreRowsWritten, tail_of_history, no_tail}
+use Rattle.crx_compact.proofs.Words.{HEAD_WIDTH, LINE_LIMIT, NAME_WIDTH, KeepsRooms, row_room, AreRowsWritten}
+use Rattle.crx_compact.proofs.Words.{tail_of_history, no_tail}
 use Rattle.crx_compact.specs.EncodingRooms.{HasRoomForEpoch, encoding_room}
 use Rattle.crx_compact.specs.LineLists.{AllAreHeldFor, KeepsLinesRoom, room_of_lines}
-use Rattle.crx_compact.specs.Placing.{GrowsOnly, IsAskedAmong}
-use Rattle.crx_compact.specs.declared.lines.TheConstants.{FIRST_LINES}
+use Rattle.crx_compact.specs.{Placing.{GrowsOnly, IsAskedAmong}, declared.lines.TheConstants.FIRST_LINES}
 use Rattle.crx_compact.proofs.history.History.encode.Given as goal
 
 -- the rows up to an index are written, there is room for the others, for the text, and for the first lines, and

@@ -1,13 +1,11 @@
 use Rattle.crx_compact.proofs.Words.{rules, ◌≡◌, ◌++◌, ◌∷◌, List, ℕ, map, ap, ◌∙◌, is_ok, without_end_blanks}
 use Rattle.crx_compact.proofs.Words.{by_position, mark_of, text_difference, Row, code_text, arc_of_value}
 use Rattle.crx_compact.proofs.Words.{code_of_value, epoch_text, OpenHistory, PlacedRows, row_tail_in, RowTail}
-use Rattle.crx_compact.proofs.Words.{Tail, AreRowsWritten, epoch_by_rows}
+use Rattle.crx_compact.proofs.{Words.{Tail, AreRowsWritten, epoch_by_rows}, SoundTexts.difference-trimmed}
+use Rattle.crx_compact.proofs.{Making.ok-unless, Results.by_ok}
 use Rattle.std.specs.List.{flat_map}
 use Rattle.std.proofs.lemmas.List.Folds.{flat_map-map}
 use Rattle.crx_text.proofs.CodeTexts.{code_text_length}
-use Rattle.crx_compact.proofs.Making.{ok-unless}
-use Rattle.crx_compact.proofs.Results.{by_ok}
-use Rattle.crx_compact.proofs.SoundTexts.{difference-trimmed}
 use Rattle.crx_compact.proofs.history.History.end_rows.Goals as goal
 
 -- an empty text has room for a code

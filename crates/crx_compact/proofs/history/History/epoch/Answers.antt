@@ -1,8 +1,7 @@
 use Rattle.crx_compact.proofs.Words.{rules, List, ap, inl, inr, sym, ◌∙◌, arith, slice_get, false≢true}
 use Rattle.crx_compact.proofs.Words.{option_map, slice_get-map, with_row, has_satellite, Epoch, Row}
 use Rattle.crx_compact.proofs.Words.{IsAwaitedSatellite, OpenHistory, satellite_of, shown_row, RowTail}
-use Rattle.crx_compact.proofs.RowByRow.{IsThere, all-at, is-there}
-use Rattle.crx_compact.proofs.ShownEpochs.{row-shown}
+use Rattle.crx_compact.proofs.{RowByRow.{IsThere, all-at, is-there}, ShownEpochs.row-shown}
 use Rattle.crx_compact.proofs.history.History.epoch.Goals as goal
 
 pub row-requires-clause-sound : goal.row-requires-clause-sound

@@ -1,7 +1,6 @@
 use Rattle.crx_compact.proofs.Words.{ap, ◌∙◌, ◌≡◌, List, ℕ, Bool, columns, HEAD_WIDTH, epoch_count, Epoch}
-use Rattle.crx_compact.proofs.Words.{shown_value, OpenHistory}
+use Rattle.crx_compact.proofs.{Words.{shown_value, OpenHistory}, ShownEpochs.{line-made, made-line}}
 use Rattle.std.proofs.Common.{is_some}
-use Rattle.crx_compact.proofs.ShownEpochs.{line-made, made-line}
 use Rattle.crx_compact.proofs.history.History.head.Goals as goal
 
 pub unwrap-requires : goal.unwrap-requires

@@ -14,9 +14,8 @@ few text line is =
 pub put-requires : goal.put-requires
 put-requires c =
     let few = few c.deref.result.now c.end_trimmed.result.now c.end_trimmed.ensures.value in
-    record {
-      room = record { line = c.requires.room.line; bytes = omega (arith, few, c.requires.room.bytes) };
-    }
+    let room = c.requires.room in
+    record { room = record { line = room.line; bytes = omega (arith, few, room.bytes) } }
 
 pub returns-in_default-clause-lines : goal.returns-in_default-clause-lines
 unfolding numbers.number_text

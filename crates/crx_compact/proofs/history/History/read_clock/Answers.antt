@@ -1,6 +1,5 @@
 use Rattle.crx_compact.proofs.Words.{rules, ap, refl, ReadCell, shown_value, Missing, None}
-use Rattle.crx_compact.proofs.CellsRead.{shown-code}
-use Rattle.crx_compact.proofs.Marks.{none-there}
+use Rattle.crx_compact.proofs.{CellsRead.shown-code, Marks.none-there}
 use Rattle.crx_compact.proofs.history.History.read_clock.Goals as goal
 
 pub returns-clause-ok : goal.returns-clause-ok

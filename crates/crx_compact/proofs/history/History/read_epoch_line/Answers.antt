@@ -3,13 +3,10 @@ use Rattle.crx_compact.proofs.Words.{◌∙◌, arith, rules, take, take_at, err
 use Rattle.crx_compact.proofs.Words.{list_all, append-nil, is_printable, Fault, patched, past_of_tail}
 use Rattle.crx_compact.proofs.Words.{satellites_of_line, satellites_of_text, Satellite, HasRoom}
 use Rattle.crx_compact.proofs.Words.{HaveTypesRoom, OpenHistory, PlacedRows, padded_among, tail_of_history}
-use Rattle.crx_compact.proofs.Words.{RowTail, Tail, and_parts, satellite_of}
-use Rattle.crx_compact.specs.Refusals.{AnswersRefusal}
-use Rattle.crx_compact.specs.RowsSoFar.{NamesSatellites}
-use Rattle.crx_compact.proofs.NamedAgain.{named-kept}
-use Rattle.crx_compact.proofs.AnnouncedRows.{announced-rows, line-of_text}
-use Rattle.crx_compact.proofs.Results.{by_err, by_ok}
+use Rattle.crx_compact.proofs.{Words.{RowTail, Tail, and_parts, satellite_of}, Results.{by_err, by_ok}}
+use Rattle.crx_compact.proofs.{NamedAgain.named-kept, AnnouncedRows.{announced-rows, line-of_text}}
 use Rattle.crx_compact.proofs.history.History.read_epoch_line.Goals.{After-read_satellites}
+use Rattle.crx_compact.specs.{Refusals.AnswersRefusal, RowsSoFar.NamesSatellites}
 use Rattle.crx_compact.proofs.history.History.read_epoch_line.Goals as goal
 
 -- the line and its text have the same satellites, or the same fault
@@ -61,8 +58,7 @@ returns-in_err-read_satellites-clause-err c =
       unasked = λ other. (
         λ name count has. subst (HasRoom name count) (rooms (goal.at.returns-in_err-read_satellites-clause-err
             c).After-read_satellites) (refused.unasked other name count has),
-        ap (λ (h : OpenHistory).
-            h.held_room) c.self.view_is,
+        ap (λ (h : OpenHistory). h.held_room) c.self.view_is,
       );
       wanting = λ satellites is has within. refused.wanting satellites (sym (same
           (goal.at.returns-in_err-read_satellites-clause-err c).After-read_satellites) ∙ is) (subst

@@ -2,11 +2,10 @@ use Rattle.crx_compact.proofs.Words.{rules, ◌≡◌, ◌≤◌, ◌-◌, ◌++
 use Rattle.crx_compact.proofs.Words.{sym, ◌∙◌, refl, subst, arith, false≢true, same_Some, has_satellite, Row}
 use Rattle.crx_compact.proofs.Words.{IsSoundRow, HasRoom, KeepsRooms, OpenHistory, row_of_parts, row_or_blank}
 use Rattle.crx_compact.proofs.Words.{row_line_after, row_tail_after, RowTail, Tail, AreRowsWritten}
+use Rattle.crx_compact.proofs.{Results.on_err, Writing.{come-already, come-last, no-row, written-next}}
+use Rattle.crx_compact.proofs.history.History.write_row.Goals.{After-place_or_add, In_ok-place_or_add}
 use Rattle.std.specs.Prelude.{vec_capacity}
 use Rattle.crx_compact.specs.Placing.{GrowsOnly, IsAskedFor}
-use Rattle.crx_compact.proofs.Results.{on_err}
-use Rattle.crx_compact.proofs.Writing.{come-already, come-last, no-row, written-next}
-use Rattle.crx_compact.proofs.history.History.write_row.Goals.{After-place_or_add, In_ok-place_or_add}
 use Rattle.crx_compact.proofs.history.History.write_row.Goals as goal
 
 pub returns-in_err-place_or_add-clause-memory : goal.returns-in_err-place_or_add-clause-memory

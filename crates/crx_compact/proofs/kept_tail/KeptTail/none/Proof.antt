@@ -1,5 +1,6 @@
 -- `none` makes a value of no bytes, at no tail.
-use Rattle.crx_compact.proofs.Words.{[], ◌∷◌, refl, None}
+use Rattle.crx_compact.proofs.{Words.{[], ◌∷◌, refl, None}, kept_tail.Made.{stored, kept, had_of_nothing}}
+use Rattle.crx_compact.proofs.kept_tail.KeptTail.none.Statement.{statement}
 use Rattle.std.proofs.raw_atomic.Walks.{proved}
 use types.Kit.{‵, raw, ◌$◌, ◌∵◌, !, qed, keep, use0, join, suffices, done}
 use types.Run.{no_more, and_then, returns, enter}
@@ -8,9 +9,7 @@ use types.ByLocal.{alloc_all, pass_all, free_all, look_at, get, sets}
 use denote.Steps.{nothing}
 use denote.Triple.Entry.{on_entry}
 use denote.Triple.Walked.{says, ends_at}
-use Rattle.crx_compact.proofs.kept_tail.Made.{stored, kept, had_of_nothing}
 use Rattle.crx_compact.specs.contracts.kept_tail.KeptTail.{the_row}
-use Rattle.crx_compact.proofs.kept_tail.KeptTail.none.Statement.{statement}
 use Rattle.crx_compact.specs.contracts.kept_tail.KeptTail.none as it
 use Rattle.crx_compact.proofs.kept_tail.KeptTail.none.Code as code
 

@@ -1,7 +1,6 @@
 use Rattle.crx_compact.proofs.Words.{rules, ◌≡◌, ◌≤◌, ℕ, zero, suc, List, [], ◌∷◌, drop, length, ap, true}
 use Rattle.crx_compact.proofs.Words.{nat_eq, arith, length-take-le, cut}
-use Rattle.std.proofs.Math.ListN.{drop_of_length-le}
-use Rattle.std.proofs.lemmas.Bool.Decides.{nat_tests}
+use Rattle.std.proofs.{Math.ListN.drop_of_length-le, lemmas.Bool.Decides.nat_tests}
 use Rattle.crx_compact.proofs.lines.Lines.is_empty.Goals as goal
 
 at-end : (m n : ℕ) → nat_eq m n ≡ true → n ≤ m

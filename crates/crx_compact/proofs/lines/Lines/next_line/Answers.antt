@@ -1,9 +1,8 @@
 use Rattle.crx_compact.proofs.Words.{rules, ◌≡◌, refl, ◌<◌, ◌≤◌, get_or, List, ℕ, Option, Some, drop, take}
 use Rattle.crx_compact.proofs.Words.{length, ap, sym, ◌∙◌, arith, length-take-le, AreCut, HasFront}
-use Rattle.std.proofs.Math.ListN.{drop_of_length-le}
 use Rattle.crx_compact.proofs.LineTexts.{NextLine, front-kept, next-line}
-use Rattle.std.proofs.lemmas.List.{get_or-take}
 use Rattle.crx_compact.proofs.lines.Lines.next_line.Goals.{After-index}
+use Rattle.std.proofs.{Math.ListN.drop_of_length-le, lemmas.List.get_or-take}
 use Rattle.crx_compact.proofs.lines.Lines.next_line.Goals as goal
 
 -- not all lines were borrowed yet, so there is a next one

@@ -1,6 +1,5 @@
 use Rattle.crx_compact.proofs.Words.{rules, ◌-◌, drop, length, ap, arith, length-set, take_at, PendingLines}
-use Rattle.crx_compact.proofs.LineTexts.{PutFront, put-front}
-use Rattle.crx_compact.proofs.lines.Lines.put_front.Goals.{After-put_line}
+use Rattle.crx_compact.proofs.{LineTexts.{PutFront, put-front}, lines.Lines.put_front.Goals.After-put_line}
 use Rattle.crx_compact.proofs.lines.Lines.put_front.Goals as goal
 
 -- the line is put in front of those that are pending, where there is room for one as long as a line may be

@@ -1,9 +1,7 @@
 use Rattle.crx_compact.proofs.Words.{rules, ◌≡◌, ◌+◌, ◌<◌, refl, List, ℕ, Some, drop, length, set, slice_get}
 use Rattle.crx_compact.proofs.Words.{take, ap, arith, length-set, take_at, printed_row, PendingLines, RowTail}
-use Rattle.crx_compact.proofs.Words.{shown_row}
-use Rattle.crx_compact.proofs.LineTexts.{Pushed, front-kept, row-pushed}
-use Rattle.crx_compact.proofs.RowByRow.{is-there}
-use Rattle.crx_compact.proofs.lines.Lines.put_printed.Goals.{After-print_line-length}
+use Rattle.crx_compact.proofs.{Words.shown_row, LineTexts.{Pushed, front-kept, row-pushed}}
+use Rattle.crx_compact.proofs.{RowByRow.is-there, lines.Lines.put_printed.Goals.After-print_line-length}
 use Rattle.crx_compact.proofs.lines.Lines.put_printed.Goals as goal
 
 -- there is room for the line's length
@@ -31,12 +29,11 @@ pushed : (c : After-print_line-length) (row : RowTail) → slice_get c.args.sate
     (printed_row (shown_row row)) c.self.inside.handed_out c.self.inside.handed_out_bytes
 pushed c row there =
     let inside = c.self.inside in
-    row-pushed inside.lengths.items inside.bytes.items _ _ inside.count inside.filled
-    c.print_line-length.result _ _
-    c.self.invariant.0 (free c)
-    c.self.invariant.2
-    (search (rules, c.print_line-length.ensures.line, printed_row, shown_row, c.as_mut_slice-bytes.ensures.value))
-    c.print_line-length.ensures.within
+    let printed = c.print_line-length in
+    row-pushed inside.lengths.items inside.bytes.items _ _ inside.count inside.filled printed.result _ _
+    c.self.invariant.0 (free c) c.self.invariant.2
+    (search (rules, printed.ensures.line, printed_row, shown_row, c.as_mut_slice-bytes.ensures.value))
+    printed.ensures.within
 
 pub invariant_of-self : goal.invariant_of-self
 invariant_of-self c =

@@ -1,9 +1,7 @@
 use Rattle.crx_compact.proofs.Words.{◌≡◌, ◌+◌, ◌++◌, List, ℕ, Some, drop, length, set, slice_get, take, ap}
 use Rattle.crx_compact.proofs.Words.{◌∙◌, arith, length-set, take_at, PendingLines, RowTail, row_line_after}
-use Rattle.crx_compact.proofs.Words.{row_of_parts}
-use Rattle.crx_compact.proofs.LineTexts.{Pushed, front-kept, row-pushed}
-use Rattle.crx_compact.proofs.RowByRow.{is-there}
-use Rattle.crx_compact.proofs.lines.Lines.put_row.Goals.{After-write_line-length}
+use Rattle.crx_compact.proofs.{Words.row_of_parts, lines.Lines.put_row.Goals.After-write_line-length}
+use Rattle.crx_compact.proofs.{LineTexts.{Pushed, front-kept, row-pushed}, RowByRow.is-there}
 use Rattle.crx_compact.proofs.lines.Lines.put_row.Goals as goal
 
 -- the row's line is put after the others

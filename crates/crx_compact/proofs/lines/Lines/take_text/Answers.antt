@@ -1,5 +1,4 @@
-use Rattle.crx_compact.proofs.Words.{rules, length-take-le}
-use Rattle.crx_compact.proofs.LineTexts.{all-lines, none-left}
+use Rattle.crx_compact.proofs.{Words.{rules, length-take-le}, LineTexts.{all-lines, none-left}}
 use Rattle.crx_compact.proofs.lines.Lines.take_text.Goals as goal
 
 pub returns : goal.returns

@@ -1,6 +1,5 @@
 use Rattle.crx_compact.proofs.Words.{arith, ◌∙◌, ◌≡◌, PlacedRows, Some, slice_get, subst, sym}
-use Rattle.crx_compact.proofs.PrintedBlocks.{room-there, row-printed}
-use Rattle.crx_compact.proofs.RowByRow.{IsThere, is-there}
+use Rattle.crx_compact.proofs.{PrintedBlocks.{room-there, row-printed}, RowByRow.{IsThere, is-there}}
 use Rattle.crx_compact.proofs.printed_block.PrintedBlock.print.Goals as goal
 
 pub put_printed-requires-clause-room : goal.put_printed-requires-clause-room

@@ -1,7 +1,6 @@
-use Rattle.crx_compact.proofs.Words.{rules, length-each_place, few_kept}
-use Rattle.std.proofs.lemmas.List.{length-take}
+use Rattle.crx_compact.proofs.{Words.{rules, length-each_place, few_kept}, wayback.Standing.difference-length}
 use Rattle.crx_compact.proofs.SoundTexts.{before-trimmed}
-use Rattle.crx_compact.proofs.wayback.Standing.{difference-length}
+use Rattle.std.proofs.lemmas.List.{length-take}
 use Rattle.crx_compact.proofs.satellite.SatelliteHistory.change_indicators.Goals as goal
 
 pub copy_indicators-requires-clause-sized : goal.copy_indicators-requires-clause-sized

@@ -1,6 +1,5 @@
-use Rattle.crx_compact.proofs.Words.{rules, length-take-le}
+use Rattle.crx_compact.proofs.{Words.{rules, length-take-le}, SoundTexts.{before-trimmed, same-text}}
 use Rattle.crx_compact.proofs.Resizing.{same-cells}
-use Rattle.crx_compact.proofs.SoundTexts.{before-trimmed, same-text}
 use Rattle.crx_compact.proofs.satellite.SatelliteHistory.mark.Goals as goal
 
 pub returns-then-is_same_text : goal.returns-then-is_same_text

@@ -1,6 +1,5 @@
-use Rattle.crx_compact.proofs.Words.{rules, length-take-le}
+use Rattle.crx_compact.proofs.{Words.{rules, length-take-le}, SoundTexts.columns-trimmed}
 use Rattle.crx_text.proofs.WrittenTexts.{line-written}
-use Rattle.crx_compact.proofs.SoundTexts.{columns-trimmed}
 use Rattle.crx_compact.proofs.satellite.SatelliteHistory.print_line.Goals as goal
 
 pub returns : goal.returns

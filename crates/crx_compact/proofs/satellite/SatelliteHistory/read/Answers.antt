@@ -1,8 +1,7 @@
-use Rattle.crx_compact.proofs.Words.{rules, length-take-le, take_at, err_from_is_err_and}
-use Rattle.std.proofs.lemmas.List.{take_rest}
-use Rattle.crx_compact.proofs.Marks.{if-err, none-there, on-both}
 use Rattle.crx_compact.proofs.SatelliteLines.{cells-refused, flags-refused, indicators-left, no-marks}
-use Rattle.crx_compact.proofs.SatelliteLines.{stored-read}
+use Rattle.crx_compact.proofs.Words.{rules, length-take-le, take_at, err_from_is_err_and}
+use Rattle.crx_compact.proofs.{Marks.{if-err, none-there, on-both}, SatelliteLines.stored-read}
+use Rattle.std.proofs.lemmas.List.{take_rest}
 use Rattle.crx_compact.proofs.satellite.SatelliteHistory.read.Goals as goal
 
 pub returns-in_err-at-clause-err : goal.returns-in_err-at-clause-err

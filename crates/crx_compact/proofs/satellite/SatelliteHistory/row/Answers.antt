@@ -1,11 +1,8 @@
-use Rattle.std.proofs.lemmas.Grind.{common_steps}
+use Rattle.std.proofs.{lemmas.Grind.common_steps, lemmas.List.{get_or-take, length-take-le, take-take}}
 use Rattle.std.proofs.Common.{◌≡◌, List, ℕ, Option, length, map, slice_index_or, sym, arith, ap, ◌∙◌}
-use Rattle.std.proofs.lemmas.List.{get_or-take, length-take-le, take-take}
 use Rattle.crx_rinex.specs.SatelliteLines.{with_value}
-use Rattle.crx_compact.specs.ArcTails.{ArcTail}
-use Rattle.crx_compact.specs.Placing.{SatelliteTail}
-use Rattle.crx_compact.proofs.ShownRows.{get-there, row-all, row-more}
-use Rattle.crx_compact.proofs.SoundTexts.{columns-trimmed}
+use Rattle.crx_compact.specs.{ArcTails.ArcTail, Placing.SatelliteTail}
+use Rattle.crx_compact.proofs.{ShownRows.{get-there, row-all, row-more}, SoundTexts.columns-trimmed}
 use Rattle.crx_compact.proofs.satellite.SatelliteHistory.row.Goals as goal
 
 pub loop-index-preserved : goal.loop-index-preserved

@@ -1,8 +1,6 @@
-use Rattle.std.proofs.Common.{arith, refl}
-use Rattle.std.proofs.lemmas.Option.{slice_get_within}
-use Rattle.crx_compact.proofs.placing.Found.{not-found}
+use Rattle.std.proofs.{Common.{arith, refl}, lemmas.Option.slice_get_within}
 use Rattle.crx_compact.proofs.placing.Placed.{placed-again, placed-anew, placed-next, placed-not}
-use Rattle.crx_compact.proofs.placing.Placed.{placed-unknown}
+use Rattle.crx_compact.proofs.{placing.Found.not-found, placing.Placed.placed-unknown}
 use Rattle.crx_compact.proofs.satellites.Satellites.bring.Goals as goal
 
 pub returns-in_default : goal.returns-in_default

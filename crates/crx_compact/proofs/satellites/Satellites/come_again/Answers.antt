@@ -1,8 +1,6 @@
 use Rattle.std.proofs.Common.{sym, subst, arith, drop, length, map, take, All, ◌≡◌, ◌∙◌}
-use Rattle.crx_compact.specs.Entries.{placed_rows}
-use Rattle.crx_compact.specs.EpochLinesRead.{HaveComeAgain}
-use Rattle.crx_compact.specs.HeldRows.{IsAwaitedSatellite}
-use Rattle.crx_compact.specs.Placing.{row_of_entry, satellite_of}
+use Rattle.crx_compact.specs.{Entries.placed_rows, HeldRows.IsAwaitedSatellite}
+use Rattle.crx_compact.specs.{EpochLinesRead.HaveComeAgain, Placing.{row_of_entry, satellite_of}}
 use Rattle.crx_compact.proofs.placing.Again.{come-again, named-before, none-placed}
 use Rattle.crx_compact.proofs.placing.SteppedRows.{rows-counted}
 use Rattle.crx_compact.proofs.satellites.Satellites.come_again.Goals as goal

@@ -1,6 +1,5 @@
 use Rattle.std.proofs.Common.{◌≡◌, ◌∙◌, List, ℕ, [], ◌∷◌, ap, map, refl, take, zero, suc}
-use Rattle.crx_compact.specs.Placing.{SatelliteTail, row_of_entry}
-use Rattle.crx_compact.specs.Tails.{RowTail}
+use Rattle.crx_compact.specs.{Placing.{SatelliteTail, row_of_entry}, Tails.RowTail}
 use Rattle.crx_compact.proofs.satellites.Satellites.names.Goals as goal
 
 -- the identifiers of rows are the keys of their entries

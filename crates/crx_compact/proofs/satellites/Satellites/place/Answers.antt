@@ -1,6 +1,5 @@
 use Rattle.std.proofs.Common.{rules}
-use Rattle.crx_compact.proofs.placing.Found.{found-same}
-use Rattle.crx_compact.proofs.placing.Placed.{placed-next, placed-not}
+use Rattle.crx_compact.proofs.{placing.Found.found-same, placing.Placed.{placed-next, placed-not}}
 use Rattle.crx_compact.proofs.placing.PutNext.{put-same}
 use Rattle.crx_compact.proofs.satellites.Satellites.place.Goals as goal
 

@@ -1,7 +1,6 @@
 use Rattle.std.proofs.Common.{rules, ℕ, List, ◌⊎◌, inl, inr, refl}
 use Rattle.crx_compact.specs.Placing.{HasRoom, HasSameRooms}
-use Rattle.crx_compact.proofs.Results.{from_some, on_err, some-otherwise}
-use Rattle.crx_compact.proofs.placing.Placed.{placed-asked}
+use Rattle.crx_compact.proofs.{Results.{from_some, on_err, some-otherwise}, placing.Placed.placed-asked}
 use Rattle.crx_compact.proofs.satellites.Satellites.place_or_add.Goals as goal
 
 -- what a satellite has once it wasn't placed, it had before

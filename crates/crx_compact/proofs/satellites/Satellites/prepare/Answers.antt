@@ -1,12 +1,10 @@
 use Rattle.std.proofs.Common.{rules, ◌≤◌, max, inl, inr, arith, ap, subst, sym, ◌∙◌}
-use Rattle.std.proofs.lemmas.Option.{same_Some}
-use Rattle.std.proofs.lemmas.Result.{on_ok_weaker}
+use Rattle.std.proofs.{lemmas.Option.same_Some, lemmas.Result.on_ok_weaker}
 use Rattle.indexmap.specs.Layout.{length-set_value_at}
 use Rattle.crx_compact.proofs.placing.EntryChanges.{has-room, room-there, rooms-changed, rooms-changed-only}
 use Rattle.crx_compact.proofs.placing.Prepared.{front-same, none-lost, range-same, rows-same}
-use Rattle.crx_compact.specs.Entries.{Entry}
-use Rattle.crx_compact.specs.Placing.{SatelliteTail}
 use Rattle.crx_compact.proofs.placing.Rooms.{unknown}
+use Rattle.crx_compact.specs.{Entries.Entry, Placing.SatelliteTail}
 use Rattle.crx_compact.proofs.satellites.Satellites.prepare.Goals as goal
 
 pub invariant_of-self-2 : goal.invariant_of-self-2

@@ -1,8 +1,7 @@
 use Rattle.crx_compact.proofs.Words.{List, ap, sym, ◌∙◌, arith, slice_get, PlacedRows, printed_room, RowTail}
+use Rattle.crx_compact.proofs.{RowByRow.sum-next, placing.SteppedRows.{row-at, rows-counted}}
 use Rattle.std.proofs.Common.{option_map}
 use Rattle.std.specs.Map.Iter.{deref_pair}
-use Rattle.crx_compact.proofs.RowByRow.{sum-next}
-use Rattle.crx_compact.proofs.placing.SteppedRows.{row-at, rows-counted}
 use Rattle.crx_compact.proofs.satellites.Satellites.printed_room.Goals as goal
 
 pub loop-index-preserved : goal.loop-index-preserved

@@ -1,10 +1,9 @@
 use Rattle.std.proofs.Common.{length, ap, ◌∙◌, ◌++◌, ◌∷◌, [], arith, subst, sym, Some, ◌-◌, ◌<◌}
-use Rattle.crx_compact.specs.Entries.{rooms_of}
-use Rattle.crx_compact.specs.Placing.{HasRoom, SatelliteTail, padded, row_tail_of}
+use Rattle.crx_compact.specs.{Entries.rooms_of, Placing.{HasRoom, SatelliteTail, padded, row_tail_of}}
 use Rattle.crx_compact.specs.Tails.{RowTail}
+use Rattle.crx_compact.proofs.placing.SteppedRows.{has-last, last-is, order-kept, padded-is, rest-kept}
 use Rattle.crx_compact.proofs.placing.EntryChanges.{room-there}
-use Rattle.crx_compact.proofs.placing.SteppedRows.{has-last, last-is, order-kept, padded-is}
-use Rattle.crx_compact.proofs.placing.SteppedRows.{rest-kept, row-at, rows-changed, rows-counted, rows_of}
+use Rattle.crx_compact.proofs.placing.SteppedRows.{row-at, rows-changed, rows-counted, rows_of}
 use Rattle.crx_compact.proofs.satellites.Satellites.resize_last.Goals as goal
 
 pub invariant_of-self : goal.invariant_of-self
@@ -50,8 +49,8 @@ returns c =
     let at = row-at self.placed within there in
     rw (← c.self.view_is) (record {
       rows = λ before row is.
-          let ends = last-is _ before (row_tail_of name after) row (self.placed - 1) is
-          (omega (arith, counted)) in
+          let ends =
+          last-is _ before (row_tail_of name after) row (self.placed - 1) is (omega (arith, counted)) in
           rows-changed self.known self.placed self.live within there after ∙ ends.1
           ∙ ap (λ (r : RowTail). before ++ r ∷ [])
           (padded-is name c.args.count satellite after c.resize.ensures.resized

@@ -1,10 +1,8 @@
 use Rattle.crx_compact.proofs.Words.{rules, ap, ◌∙◌, ◌++◌, take, arith, length, slice_set, Some}
 use Rattle.crx_compact.proofs.Words.{length-each_place, row_of_parts, row_line_after, row_tail_after, RowTail}
-use Rattle.crx_compact.proofs.Words.{Row}
-use Rattle.crx_compact.specs.Placing.{SatelliteTail}
-use Rattle.crx_compact.proofs.placing.EntryChanges.{room-there}
 use Rattle.crx_compact.proofs.placing.SteppedRows.{order-kept, rest-kept, row-at, rows-changed, written-line}
-use Rattle.crx_compact.proofs.placing.SteppedRows.{written-row}
+use Rattle.crx_compact.proofs.{Words.Row, placing.EntryChanges.room-there, placing.SteppedRows.written-row}
+use Rattle.crx_compact.specs.Placing.{SatelliteTail}
 use Rattle.crx_compact.proofs.satellites.Satellites.write_line.Goals as goal
 
 pub mark-marks-requires : goal.mark-marks-requires
