@@ -1,6 +1,6 @@
 -- The cells of a satellite line, taken one by one.
-use Rattle.std.proofs.Common.{◌≡◌, ℕ, ℤ, ◌+◌, ◌-◌, ◌*◌, ◌<◌, ◌≤◌, All, List, [], ◌∷◌, ◌++◌, Option, Some}
-use Rattle.std.proofs.Common.{None, length, take, drop, replicate, get_or, refl, ap, sym, subst, ◌∙◌, arith}
+use Rattle.std.proofs.Common.{rules, ◌≡◌, ℕ, ℤ, ◌+◌, ◌-◌, ◌*◌, ◌<◌, ◌≤◌, All, List, [], ◌∷◌, ◌++◌, Option}
+use Rattle.std.proofs.Common.{Some, None, length, take, drop, replicate, get_or, refl, ap, sym, ◌∙◌, arith}
 use Rattle.std.proofs.{Common.{suc, zero, Bool, true, Err, MatchBool}, lemmas.Bool.and_from}
 use Rattle.std.proofs.lemmas.{Grind.common_steps, List.{take_more_set, length-set, take_at, take-append-le}}
 use Rattle.std.proofs.lemmas.List.{drop_all, length-drop, get_or_default, get_or_past, take-set, take-take}
@@ -166,15 +166,7 @@ is-value = grind (arith, common_steps)
 
 pub sound-with_value : (row : Row) (k : ℕ) (value : Option ℤ)
     → IsSoundRow row → IsValue value → IsSoundRow (with_value row k value)
-sound-with_value row k value h sound =
-    let same = sym (length-set _ k value) in
-    record {
-      named = h.named;
-      counted = subst IsAllowedCount same h.counted;
-      ranged = All-set IsValue _ k value sound h.ranged;
-      paired = h.paired ∙ ap (λ n. 2 * n) same;
-      kept = h.kept;
-    }
+sound-with_value row k value h sound = search (rules, length-set, All-set)
 
 pub sound-with_flags : (row : Row) (flags : List ℕ) → IsSoundRow row
     → length flags ≤ 2 * length row.values → list_all is_kept flags ≡ true → IsSoundRow (with_flags row flags)

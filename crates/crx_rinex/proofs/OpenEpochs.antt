@@ -8,8 +8,8 @@ use Rattle.crx_rinex.specs.EpochPlaces.{EpochStep, Going, Whole, Faulty, when_wa
 use Rattle.crx_rinex.specs.EpochPlaces.{after_row, epoch_step, still_open, opened_by, opened_at, open_after}
 use Rattle.crx_rinex.specs.{EpochPlaces.{open_with, place_after}, Laws.{IsWantedWhereOpen, IsDecidedByOpen}}
 use Rattle.crx_rinex.specs.{Steady.IsSteady, meaning.EpochPlaces.{OpenEpoch, Beginning, EventBegins}}
-use Rattle.crx_rinex.specs.meaning.EpochPlaces.{EpochBegins, opened, rows_wanted, with_next_row, row_at}
-use Rattle.crx_rinex.specs.meaning.EpochPlaces.{rows_at, rest_at, beginning_of, unit_begun, epoch_place}
+use Rattle.crx_rinex.specs.meaning.EpochPlaces.{EpochBegins, rows_wanted, with_next_row, row_at, rows_at}
+use Rattle.crx_rinex.specs.meaning.EpochPlaces.{rest_at, beginning_of, unit_begun, epoch_place}
 use Rattle.crx_rinex.specs.meaning.{Observations.{Row, Epoch}, Places.{Place, Done, Fails, NeedsMore}}
 use Rattle.crx_rinex.specs.meaning.{Places.{after_lines, then_place, one_line}, Units.Unit}
 use Rattle.crx_rinex.specs.meaning.Units.{Observation}
@@ -28,8 +28,7 @@ steady-rest so_far = steady-rows _ so_far
 
 pub steady-begun : (types : List Count) (beginning : Beginning) → IsSteady (unit_begun types beginning)
 steady-begun types (EventBegins line) = steady-here _
-steady-begun types (EpochBegins head) = steady-then (rest_at (opened types head)) (λ epoch rest.
-    Done _ 0) (steady-rest (opened types head)) (λ epoch. steady-here (Observation epoch))
+steady-begun types (EpochBegins head) = search (rules, steady-then, steady-rest, steady-here)
 
 pub steady-epoch_place : (types : List Count) → IsSteady (epoch_place types)
 steady-epoch_place = search (rules, steady-then, steady-first_line, steady-begun)

@@ -122,11 +122,8 @@ length-cells [] flags pairs fit = refl
 length-cells (value ∷ values) [] pairs fit = absurd (omega (arith, pairs))
 length-cells (value ∷ values) (a ∷ []) pairs fit = absurd (omega (arith, pairs))
 length-cells (value ∷ values) (a ∷ b ∷ flags) pairs fit =
-    let width : length _ ≡ 14 = value-width value (All-head IsValue value values fit) in
     let rest = length-cells values flags (omega (arith, pairs)) (All-tail IsValue value values fit) in
-    let all = ap (λ t. length t) (cells-are values flags value a b) ∙ length-append (observation_text value)
-    (a ∷ b ∷ printed_cells values flags) in
-    omega (arith, width, rest, all)
+    grind (arith, common_steps, value-width, All-head, cells-are, length-append)
 
 -- ---- a row
 

@@ -193,13 +193,7 @@ next_sound so_far line counts = grind (arith, common_steps, cond, new_row, sound
 
 pub sound-next_row : (so_far : OpenEpoch) (row : Row)
     → IsSoundSoFar so_far → IsNext so_far (Ok row) → IsSoundSoFar (with_next_row so_far row)
-sound-next_row so_far row h n =
-    record {
-      head = h.head;
-      rows = All-push IsSoundRow _ row h.rows n.0;
-      typed = All-push (HasItsTypes _) _ row h.typed n.1;
-      apart = apart-push (λ r. r.name) _ row h.apart n.2;
-    }
+sound-next_row so_far row h n = search (rules, All-push, apart-push)
 
 -- the epoch that is read, and how many lines it took
 abbrev AreGood : List Count → ℕ → ℕ → Place Epoch → Type 0
