@@ -1,14 +1,13 @@
 -- What the result of a run brings back, saves and judges follows from what it is, by the laws.
-use Rattle.std.proofs.Common.{rules}
-use Rattle.std.proofs.{Common.arith, lemmas.Grind.common_steps}
-use Rattle.rnxcmp_c.proofs.{Kept.{brings-back, judges-status, saves-all_else}, Lossless.brings-back_passed}
+use Rattle.std.proofs.{Common.{rules, arith}, lemmas.Grind.common_steps}
 use Rattle.rnxcmp_c.proofs.Words.{◌≡◌, ◌⊎◌, ℕ, List, true, code_of_fault, InputTooLong, Choices, expanded}
 use Rattle.rnxcmp_c.proofs.Words.{checked, what-passes, FilterResult, Answer, OUTPUT_LIMIT, BothTexts}
 use Rattle.rnxcmp_c.proofs.Words.{HasNoMemory, RunHasEnded, RunHasResult, StopsAtLimit, StopsForMemory}
 use Rattle.rnxcmp_c.proofs.Words.{StopsWhenFull, Task, run_for, CallBringsBackWhatPasses}
+use Rattle.rnxcmp_c.proofs.{Kept.{brings-back, judges-status, saves-all_else}, Lossless.brings-back_passed}
 use Rattle.rnxcmp_c.proofs.Words.{CallBringsBackWhatWasCompacted, CallSavesAllElse}
-use Rattle.rnxcmp_c.specs.meaning.{Ended.{CheckPromises, ExpansionPromises}, Stretches.CallKeepsUndamaged}
-use Rattle.rnxcmp_c.specs.meaning.Stretches.{CallWritesWholeUnits}
+use Rattle.rnxcmp_c.specs.meaning.Ended.{CheckPromises, ExpansionPromises}
+use Rattle.rnxcmp_c.specs.meaning.Stretches.{CallKeepsUndamaged, CallWritesWholeUnits}
 use Rattle.crx_filter.proofs.stretches.StretchesSaved.{rest-kept, whole-first}
 
 -- what holds of the result of an expansion holds of what it brings back, saves and keeps

@@ -1,11 +1,10 @@
 -- What became of a run by some bytes, of which it may have as many as an input may have.
-use Rattle.std.proofs.Common.{rules}
+use Rattle.std.proofs.{Common.rules, lemmas.List.take-take}
 use Rattle.rnxcmp_c.proofs.Words.{◌≡◌, ℕ, ◌-◌, ◌<◌, false, List, length, take, Option, None, is_some, arith}
 use Rattle.rnxcmp_c.proofs.Words.{length-take, INPUT_LIMIT, Outcome, FeedsBy, FeedsBytes, HasFed, ReaderRuns}
-use Rattle.rnxcmp_c.proofs.Words.{StandsBy, answer_now, HandlePast, fed_with, Task}
-use Rattle.rnxcmp_c.{proofs.Words.{StopsSoon, allowed_after, filter_for, Answer, Reader}, specs.Handles.IsFed}
-use Rattle.rnxcmp_c.specs.Handles.{ReaderHasPassed}
-use Rattle.std.proofs.lemmas.List.{take-take}
+use Rattle.rnxcmp_c.proofs.Words.{StandsBy, answer_now, HandlePast, fed_with, Task, StopsSoon, allowed_after}
+use Rattle.rnxcmp_c.proofs.Words.{filter_for, Answer, Reader}
+use Rattle.rnxcmp_c.specs.Handles.{IsFed, ReaderHasPassed}
 
 module _ (task : Task) (old new : Reader) (past : HandlePast) (bytes allowed : List ℕ) (used : ℕ)
     (answer : Answer) (first : allowed ≡ take (INPUT_LIMIT - old.fed) bytes) (answers : answer ≡ answer_now

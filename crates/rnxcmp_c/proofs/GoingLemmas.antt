@@ -35,25 +35,12 @@ soon-by filter shows past bytes done some rest old all going none more low =
     let count : length (done ++ some) - 1 ≡ length done + (length some - 1) =
     omega (arith, length-append done some, more) in
     let first : take (length (done ++ some) - 1) bytes ≡ done ++ most =
-    ap (λ (n : ℕ). take n bytes) count ∙ ap (take (length done + (length some - 1))) all ∙ take-append-add
-    done (some ++ rest) (length some - 1) ∙ ap (λ (l : List ℕ). done ++ l)
-    (take-append-le (length some - 1) some rest (omega arith)) in
+    grind (arith, common_steps, take-append-add, take-append-le) in
     let lines : ended_lines_of (past.fed ++ take (length (done ++ some) - 1) bytes) ≡ ended_lines_of
     (past.fed ++ done) = ap (λ (l : List ℕ). ended_lines_of (past.fed ++ l)) first ∙ ap ended_lines_of
     (sym (append_assoc past.fed done most)) ∙ ended-still filter shows old (fed_with past done) most going
     none in
-    record {
-      low = omega (
-        arith,
-        low,
-        ap (λ (ls : List InputLine). length (filter.so_far ls).output) lines,
-        ap (λ (ls : List InputLine). length (notices_text (filter.so_far ls).warnings)) lines,
-        ap length going.text.wrote,
-        ap length going.text.reported,
-        length-append past.output (waiting old.output),
-        length-append past.messages (waiting old.messages),
-      );
-    }
+    grind (arith, common_steps, length-append)
 
 -- the bytes before the first LF have none
 pub no_feed-before : (bytes : List ℕ) (n : ℕ) → n ≤ length bytes
@@ -161,9 +148,7 @@ module _ {filter : Filter} {shows : List InputLine → List Awaited → Type 0} 
         let over : (F : List ℕ → List InputLine) (more : List ℕ)
         → ((y : List ℕ) → F (past.fed ++ y) ≡ ended_lines_of past.fed ++ F (is.tail ++ y))
         → F ((past.fed ++ bytes) ++ more) ≡ ended_lines_of (past.fed ++ bytes) ++ F (bytes_all ++ more) =
-        λ F more so_far. ap F (append_assoc past.fed bytes more) ∙ so_far (bytes ++ more)
-        ∙ ap (λ t. ended_lines_of past.fed ++ F t) (sym (append_assoc is.tail bytes more))
-        ∙ ap (λ ls. ls ++ F (bytes_all ++ more)) (sym still) in
+        grind (arith, common_steps) in
         record {
           shown = rw still is.shown;
           good = rw still is.good;
@@ -264,16 +249,7 @@ module _ {filter : Filter} {shows : List InputLine → List Awaited → Type 0} 
         let more : ended_lines_of (then-fed rest).fed ≡ with_next lines line ++ ended_lines_of rest =
         ap (λ t. ended_lines_of (past.fed ++ t)) (sym (append_assoc bytes (10 ∷ []) rest))
         ∙ ended-first rest in
-        record {
-          fault = memory.0;
-          there = (grind (arith, common_steps, memory.1, more));
-          lines = lines;
-          line = line;
-          first = line-after rest;
-          number = memory.1;
-          cut = cut-by _ _ _ mid new (then-fed rest) is.good (text-fed mid-text) short;
-          lacking = lacking-by _ _ _ mid new mid-good short;
-        }
+        grind (arith, common_steps, line-after, cut-by, text-fed, mid-text, lacking-by, mid-good)
 
     breaks-kept : (new : Held) → AddsWithin mid new → IsKeptWithin new past
     breaks-kept new adds = adds-kept (filter.so_far lines) mid new past mid-text.wrote is.left adds

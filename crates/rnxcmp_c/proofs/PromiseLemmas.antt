@@ -1,13 +1,10 @@
 -- What the state of a reader says of its run, in the words of the promise.
-use Rattle.std.proofs.{Common.{rules, reverse}, lemmas.{Grind.common_steps, List.map-append}}
-use Rattle.std.proofs.lemmas.List.{reverse-append}
-use Rattle.rnxcmp_c.proofs.{Cut.begins-next, GoingLemmas.{begins-then, notices-both}, HandleLemmas.either-fed}
-use Rattle.rnxcmp_c.proofs.{HandleLemmas.{ends-stands, feeds-stands, none-fed}, ReaderLemmas.fault-at}
-use Rattle.rnxcmp_c.proofs.{ReaderLemmas.{faulty-status, lawful-for, output-for}, Words.{◌≡◌, ◌⊎◌, inl, inr}}
-use Rattle.rnxcmp_c.proofs.Words.{⊎_elim, ℕ, ◌-◌, ◌<◌, ◌≤◌, List, [], ◌∷◌, ◌++◌, length, take, drop}
-use Rattle.rnxcmp_c.proofs.Words.{append_assoc, Option, Some, None, is_some, true, false, arith, refl, sym}
-use Rattle.rnxcmp_c.proofs.Words.{ap, ◌∙◌, subst, append-nil, InputLine, lines_of, At, OutOfMemory, Filter}
-use Rattle.rnxcmp_c.proofs.Words.{with_next, error_text, notices_text, Begins, Course, FilterResult}
+use Rattle.std.proofs.Common.{rules, reverse}
+use Rattle.std.proofs.{lemmas.Grind.common_steps, lemmas.List.{map-append, reverse-append}}
+use Rattle.rnxcmp_c.proofs.Words.{◌≡◌, ◌⊎◌, inl, inr, ⊎_elim, ℕ, ◌-◌, ◌<◌, ◌≤◌, List, [], ◌∷◌, ◌++◌, length}
+use Rattle.rnxcmp_c.proofs.Words.{take, drop, append_assoc, Option, Some, None, is_some, true, false, arith}
+use Rattle.rnxcmp_c.proofs.Words.{refl, sym, ap, ◌∙◌, subst, append-nil, InputLine, lines_of, At, OutOfMemory}
+use Rattle.rnxcmp_c.proofs.Words.{Filter, with_next, notices_text, Begins, Course, FilterResult}
 use Rattle.rnxcmp_c.proofs.Words.{result_of_course, AreNext, Outcome, IsLineEnded, IsLastLine, IsLineReached}
 use Rattle.rnxcmp_c.proofs.Words.{ReaderIsOver, ReaderRuns, ReaderStands, RunIsOutOfMemory, RunIsOverLimit}
 use Rattle.rnxcmp_c.proofs.Words.{RunIsTooLong, StandsBy, answer_now, FeedsBy, FeedsBytes, HasEndedBy}
@@ -16,14 +13,16 @@ use Rattle.rnxcmp_c.proofs.Words.{HandlePast, allowed_after, fed_with, filter_fo
 use Rattle.rnxcmp_c.proofs.Words.{past_of, result_for, texts_made, waiting, Answer, OUTPUT_LIMIT, READY_LIMIT}
 use Rattle.rnxcmp_c.proofs.Words.{Reader, BothTexts, line_in, RunHasEnded, StopsAtLimit, StopsForMemory}
 use Rattle.rnxcmp_c.proofs.Words.{StopsWhenFull, Task, Compact, Expand, Check, handle_answer, run_for}
-use Rattle.rnxcmp_c.{proofs.Words.{with_one_more, bare_answer, MISUSED}, specs.Handles.fault_now}
-use Rattle.rnxcmp_c.specs.Handles.{status_now}
-use Rattle.rnxcmp_c.specs.Opened.{EndsHandle, FeedsHandle, HandleStands, IsSoundHandle}
-use Rattle.rnxcmp_c.specs.{Opened.{has_ended, run_state, texts_kept}, Past.AsksMemory}
+use Rattle.rnxcmp_c.proofs.{Cut.begins-next, HandleLemmas.{either-fed, ends-stands, feeds-stands, none-fed}}
+use Rattle.rnxcmp_c.proofs.GoingLemmas.{begins-then, notices-both}
+use Rattle.rnxcmp_c.proofs.ReaderLemmas.{fault-at, faulty-status, lawful-for, output-for}
+use Rattle.rnxcmp_c.proofs.Words.{with_one_more, bare_answer, MISUSED}
+use Rattle.rnxcmp_c.specs.Opened.{EndsHandle, FeedsHandle, HandleStands, IsSoundHandle, has_ended, run_state}
+use Rattle.rnxcmp_c.specs.{Handles.{fault_now, status_now}, Opened.texts_kept, Past.AsksMemory}
 use Rattle.rnxcmp_c.specs.meaning.Handles.{HandlePromise, RunWasEnded, TakesBytes, joined_texts}
-use Rattle.crx_filter.proofs.reading.{CompactPrefixes.whole-more, Forward.rinex-forward, Prefixes.AreMore}
-use Rattle.crx_filter.{proofs.reading.Prefixes.whole-items, specs.meaning.Items.{Item, Accepted, Warned}}
-use Rattle.crx_filter.specs.meaning.Written.{warnings_in}
+use Rattle.crx_filter.proofs.{reading.CompactPrefixes.whole-more, reading.Prefixes.{AreMore, whole-items}}
+use Rattle.crx_filter.proofs.reading.Forward.{rinex-forward}
+use Rattle.crx_filter.specs.{meaning.Items.{Item, Accepted, Warned}, meaning.Written.warnings_in}
 
 -- ---- warnings
 
@@ -188,26 +187,13 @@ module _ (task : Task) (reader : Reader) (past : HandlePast) where
               messages =
                   grind (arith, common_steps, notices-both before.warnings by.notices, by.made.messages);
             }))
-            (λ said. inl (record {
-              answered = answered;
-              output = by.made.output;
-              messages =
-                  grind (arith, common_steps, notices-both before.warnings by.notices, by.made.messages);
-            })) by.last_is;
+            (λ said. inl (grind (arith, common_steps, notices-both))) by.last_is;
       }) (λ hidden.
       let found = some-at (result_for task input).fault hidden.faulty in
       record {
         result = result_for task input;
         is = inl (refl, faulty-status task input found.0 found.1);
-        ends = inr (record {
-          at = found.0;
-          faulty = found.1;
-          answered = answered-by outcome ran.status (fault-at outcome.fault ran.memory
-              ∙ ap (λ (n : ℕ). let a : At = record { line = n; fault = OutOfMemory } in Some a)
-              (hidden.line_is ∙ ap line_in found.1));
-          output = hidden.output_is;
-          messages = hidden.messages_are ∙ ap (λ f. made.messages ++ error_text f) found.1;
-        });
+        ends = grind (arith, common_steps, answered-by, fault-at);
       }) ran.made
 
   is-full : (outcome : Outcome) → RunIsTooLong task reader outcome past
@@ -225,25 +211,8 @@ module _ (task : Task) (reader : Reader) (past : HandlePast) where
           status = OUTPUT_LIMIT;
           fault = None;
         };
-        is = record {
-          lines = over.lines;
-          others = over.others;
-          first = over.first;
-          before = before;
-          before_is = refl;
-          good = over.made.good;
-          after = with_one_more (filter_for task) over.lines over.others;
-          after_is = refl;
-          limited = over.limited;
-          within = over.within;
-          over = over.over;
-          result_is = refl;
-        };
-        ends = inl (record {
-          answered = answered-by outcome over.status over.fault;
-          output = over.made.output;
-          messages = sym (append-nil (notices_text before.warnings)) ∙ over.made.messages;
-        });
+        is = grind (arith, common_steps);
+        ends = grind (arith, common_steps, answered-by, append-nil);
       }
 
   has-result : (outcome : Outcome) (input : List ℕ)

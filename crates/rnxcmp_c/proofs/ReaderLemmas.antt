@@ -3,15 +3,15 @@ use Rattle.std.proofs.{Common.rules, lemmas.Grind.common_steps}
 use Rattle.rnxcmp_c.proofs.Words.{◌≡◌, ◌⊎◌, inl, inr, ⊎_elim, ℕ, List, [], ◌++◌, Option, Some, None, sym, ap}
 use Rattle.rnxcmp_c.proofs.Words.{◌∙◌, subst, ◌<◌, ◌≤◌, ◌+◌, ◌∷◌, is_some, arith, length, append-nil}
 use Rattle.rnxcmp_c.proofs.Words.{append_assoc, length-append, take, InputLine, lines_of, INPUT_LIMIT, At}
-use Rattle.rnxcmp_c.proofs.Words.{InputTooLong, OutOfMemory, IsLawful, Filter, with_next, error_text}
-use Rattle.rnxcmp_c.proofs.Words.{notices_text, Begins, Course, result_of_course, check-lawful}
-use Rattle.rnxcmp_c.proofs.Words.{compaction-lawful, expansion-lawful, Outcome, FaultIs, IsMemoryLacking}
-use Rattle.rnxcmp_c.proofs.Words.{waiting, IsAll, IsCutBy, IsGoing, IsText, IsPastLimit, RunBreaks, RunFails}
-use Rattle.rnxcmp_c.proofs.Words.{Stop, Fault, Limit, ReaderIsOver, ReaderRuns, RunIsOutOfMemory}
-use Rattle.rnxcmp_c.proofs.Words.{RunIsOverLimit, RunIsTooLong, shows_of, too_long_after, HasFedBy}
-use Rattle.rnxcmp_c.proofs.Words.{HasEndedBy, engine_filter, has_ended_of, KeepsToLimit, line_in, HandlePast}
-use Rattle.rnxcmp_c.proofs.Words.{limit_for, result_for, Task, Compact, Expand, Check, filter_for}
-use Rattle.rnxcmp_c.proofs.Words.{memory_next, with_one_more, AnyEngine, Held, Reader, line_reached}
+use Rattle.rnxcmp_c.proofs.Words.{InputTooLong, OutOfMemory, IsLawful, Filter, with_next, error_text, Begins}
+use Rattle.rnxcmp_c.proofs.Words.{Course, result_of_course, check-lawful, compaction-lawful, expansion-lawful}
+use Rattle.rnxcmp_c.proofs.Words.{Outcome, FaultIs, IsMemoryLacking, waiting, IsAll, IsCutBy, IsGoing, IsText}
+use Rattle.rnxcmp_c.proofs.Words.{IsPastLimit, RunBreaks, RunFails, Stop, Fault, Limit, ReaderIsOver}
+use Rattle.rnxcmp_c.proofs.Words.{ReaderRuns, RunIsOutOfMemory, RunIsOverLimit, RunIsTooLong, shows_of}
+use Rattle.rnxcmp_c.proofs.Words.{too_long_after, HasFedBy, HasEndedBy, engine_filter, has_ended_of}
+use Rattle.rnxcmp_c.proofs.Words.{KeepsToLimit, line_in, HandlePast, limit_for, result_for, Task, Compact}
+use Rattle.rnxcmp_c.proofs.Words.{Expand, Check, filter_for, memory_next, with_one_more, AnyEngine, Held}
+use Rattle.rnxcmp_c.proofs.Words.{Reader, line_reached}
 use Rattle.rnxcmp_c.specs.{Going.{LineFails, EndsPastLimit, Breaks}, Handles.{IsOf, IsPut, EndsRunBy}}
 use Rattle.rnxcmp_c.specs.Handles.{EngineGoesOn, status_at_end}
 use Rattle.crx_runs.specs.meaning.Results.{good_status}
@@ -87,22 +87,7 @@ module _ (task : Task) (reader : Reader) (mid : Held) (outcome : Outcome) (past 
           status = put.status;
           made = inl (record {
             at = subst is_line (sym line-is) there;
-            made = record {
-              lines = lines;
-              others = others;
-              first = first;
-              line_is = line-is ∙ number ∙ reached-lines lines others;
-              notices = cut.notices;
-              asked = cut.asked;
-              own = cut.own;
-              last = said.0;
-              last_is = said.1;
-              made = record {
-                good = cut.made.good;
-                output = cut.made.output ∙ ap (λ t. past.output ++ t) (sym put.output);
-                messages = grind (arith, common_steps, cut.made.messages, said.2);
-              };
-            };
+            made = grind (arith, common_steps, line-is, reached-lines);
             lacking = grind (arith, lacking, put.output_good, put.messages_good);
           });
           within = kept;
@@ -166,26 +151,8 @@ module _ (task : Task) (reader : Reader) (mid : Held) (outcome : Outcome) (past 
   is-over_limit input lines others first limited within over good text =
       let filter = filter_for task in
       let longer : Begins (result_for task input).output (with_one_more filter lines others).output =
-      subst (λ t. Begins t (with_one_more filter lines others).output)
-      (sym (output-for task input ∙ ap (λ ls. (filter.whole ls).output) first))
-      (one_more-first filter (lawful-for task) lines others) in
-      record {
-        status = ap (λ (o : Outcome). o.status) stopped.0;
-        fault = ap (λ (o : Outcome). o.fault) stopped.0;
-        limited = limited;
-        longer = omega (arith, over, length-begins _ _ longer);
-        lines = lines;
-        others = others;
-        first = first;
-        within = within;
-        over = over;
-        made = record {
-          good = good;
-          output = text.wrote ∙ ap (λ (h : Held). past.output ++ waiting h.output) (sym stopped.1);
-          messages = append-nil (notices_text (filter.so_far lines).warnings) ∙ text.reported
-              ∙ ap (λ (h : Held). past.messages ++ waiting h.messages) (sym stopped.1);
-        };
-      }
+      grind (arith, common_steps, output-for, one_more-first, lawful-for) in
+      grind (arith, common_steps, length-begins, append-nil)
 
   module _ (limit : mid.limit ≡ limit_for task) where
     limited-by : 0 < mid.limit → 0 < limit_for task

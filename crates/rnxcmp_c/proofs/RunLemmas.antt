@@ -6,7 +6,7 @@ use Rattle.rnxcmp_c.proofs.Words.{length, take, Option, sym, ap, ◌∙◌, subs
 use Rattle.rnxcmp_c.proofs.Words.{take_all, lines_of, ended_lines_of, code_of_fault, At, OutOfMemory}
 use Rattle.rnxcmp_c.proofs.Words.{INPUT_LIMIT, ended_lines-come_first, Outcome, Begins, FilterResult, FaultIs}
 use Rattle.rnxcmp_c.proofs.Words.{Device, Answer, AnswersWithin, BothTexts, HasNoMemory, fault_code_in}
-use Rattle.rnxcmp_c.proofs.Words.{line_in, placed, Task, filter_for, result_for}
+use Rattle.rnxcmp_c.proofs.Words.{placed, Task, filter_for, result_for}
 use Rattle.rnxcmp_c.specs.{Collecting.{AnswersRun, IsCollected, IsEmpty}, Counting.Took}
 use Rattle.rnxcmp_c.specs.{declared.devices.Counted.Counted, meaning.Answers.AnswersAlone}
 use Rattle.crx_runs.specs.meaning.{Interruptions.{IsFrontPart, complete_lines}, Runs.{IsResult, NoneFailed}}
@@ -67,22 +67,7 @@ module _ (task : Task) {input : Input} {given : List ℕ} {writer messages : Dev
       let told = reported whole.messages made.messages_are in
       let count = count-is _ _ _ _ empty _ output in
       let told_count = count-is _ _ messages_before messages_after none_told whole.messages told in
-      record {
-        within = λ few. record {
-          status = grind (arith, common_steps, is.answer_is, count, made.status_is);
-          code = ap (λ (a : Answer). a.code) is.answer_is ∙ ap fault_code_in made.fault_is;
-          line = ap (λ (a : Answer). a.line) is.answer_is ∙ ap line_in made.fault_is;
-          output_length = ap (λ (a : Answer). a.output_length) is.answer_is ∙ count;
-          messages_length = ap (λ (a : Answer). a.messages_length) is.answer_is ∙ told_count;
-          output = is.output_is ∙ ap (λ t. placed t before.output) (kept-is _ _ _ _ empty whole.output output)
-              ∙ placed-taken whole.output before.output;
-          messages = is.messages_are ∙ ap (λ t. placed t before.messages)
-              (kept-is _ _ messages_before messages_after none_told whole.messages told) ∙ placed-taken
-              whole.messages before.messages;
-        };
-        over = λ more. ⊎_elim (λ none. absurd (omega (arith, none, more.0)))
-            (λ few. absurd (omega (arith, few, more.1, count))) is.within;
-      }
+      grind (arith, common_steps, kept-is, placed-taken)
 
   -- what was written by then is first in the whole output
   first-written : IsFrontPart (filter_for task) input given writer

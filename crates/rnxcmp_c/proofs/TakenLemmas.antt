@@ -1,11 +1,10 @@
 -- What was taken from a handle was kept before, and its run's state doesn't change by that.
-use Rattle.std.proofs.lemmas.Grind.{common_steps}
-use Rattle.std.proofs.Common.{arith}
+use Rattle.std.proofs.{lemmas.Grind.common_steps, Common.arith}
 use Rattle.rnxcmp_c.proofs.Words.{◌≡◌, ⊎_elim, inl, inr, ℕ, List, ◌++◌, Option, Some, None, sym, ap, ◌∙◌}
 use Rattle.rnxcmp_c.proofs.Words.{append_assoc, Outcome, Course, IsLineReached, ReaderStands, StandsBy}
 use Rattle.rnxcmp_c.proofs.Words.{texts_of_held, HandlePast, HidesFault, Task, result_for, taken_with}
-use Rattle.rnxcmp_c.proofs.Words.{texts_made, line_in, waiting, Pending}
-use Rattle.rnxcmp_c.{proofs.Words.Reader, specs.{Handles.{RanOutBy}, Past.IsMadeByLines}}
+use Rattle.rnxcmp_c.proofs.Words.{texts_made, line_in, waiting, Pending, Reader}
+use Rattle.rnxcmp_c.specs.{Handles.RanOutBy, Past.IsMadeByLines}
 
 -- what was taken, and then what is kept
 regrouped : (taken given kept before : List ℕ) → before ≡ given ++ kept
@@ -39,18 +38,7 @@ module _ (task : Task) (old : Reader) (past : HandlePast) (output messages : Pen
       → RanOutBy task (IsLineReached past.fed) past.fed new (line_in outcome.fault) then
   ran-out outcome by = record {
     at = by.at;
-    made = record {
-      lines = by.made.lines;
-      others = by.made.others;
-      first = by.made.first;
-      line_is = by.made.line_is;
-      notices = by.made.notices;
-      asked = by.made.asked;
-      own = by.made.own;
-      last = by.made.last;
-      last_is = by.made.last_is;
-      made = same-made _ _ by.made.made;
-    };
+    made = grind (arith, common_steps, same-made);
     lacking = grind (arith, by.lacking);
   }
 
@@ -68,10 +56,7 @@ module _ (task : Task) (old : Reader) (past : HandlePast) (output messages : Pen
     going = record {
       shown = runs.going.shown;
       good = runs.going.good;
-      text = record {
-        wrote = runs.going.text.wrote ∙ same-output;
-        reported = runs.going.text.reported ∙ same-messages;
-      };
+      text = grind (arith, common_steps, same-output, same-messages);
       flag = runs.going.flag;
       number = runs.going.number;
       tail = runs.going.tail;

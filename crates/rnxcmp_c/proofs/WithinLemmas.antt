@@ -1,13 +1,12 @@
 -- The output stays within its limit, or what a line made is let go of.
-use Rattle.std.proofs.Common.{rules}
-use Rattle.std.proofs.{Common.{Result, Ok, Err}, lemmas.{Grind.common_steps, Result.IfErr-at_err}}
+use Rattle.std.proofs.{Common.{rules, Result, Ok, Err}, lemmas.Grind.common_steps, lemmas.Result.IfErr-at_err}
 use Rattle.rnxcmp_c.proofs.Words.{◌≡◌, ℕ, ◌+◌, ◌<◌, List, [], ◌++◌, length, take, refl, sym, ap, ◌∙◌, arith}
 use Rattle.rnxcmp_c.proofs.Words.{length-append, ◌⊎◌, inl, inr, ⊎_elim, append-nil, Bool, ◌||◌, Option, IfErr}
 use Rattle.rnxcmp_c.proofs.Words.{IfOk, At, OutOfMemory, Halt, Unwritten, Unreported, Begins, Course, IsKept}
 use Rattle.rnxcmp_c.proofs.Words.{MovesWithin, PassesLimit, StepStops, StopsBy, StopsShort, StopsCounted}
-use Rattle.rnxcmp_c.proofs.Words.{waiting, Held, Stop, Fault, Limit}
-use Rattle.rnxcmp_c.{proofs.Words.take_at, specs.{Going.LosesText, Holding.{AreCutTo, IsCounted, IsCutBack}}}
-use Rattle.rnxcmp_c.specs.{Holding.{StaysWithin, IsMark, IsMarkWithin}, declared.held.Mark.Mark}
+use Rattle.rnxcmp_c.proofs.Words.{waiting, Held, Stop, Fault, Limit, take_at}
+use Rattle.rnxcmp_c.specs.{Going.LosesText, declared.held.Mark.Mark}
+use Rattle.rnxcmp_c.specs.Holding.{AreCutTo, IsCounted, IsCutBack, StaysWithin, IsMark, IsMarkWithin}
 use Rattle.crx_runs.specs.declared.one_line.Halt.TheVariants.{Fault as Faulty}
 
 -- a text that was cut back to where it was
@@ -65,10 +64,7 @@ module _ (number : ℕ) (memory : Option (List At)) (before after : Course) (old
     reported = cut-to _ _ _ loses.told mark.messages
         (ap (λ (h : Held). waiting h.messages) same ∙ loses.reported) marked.messages cut.messages_are
         ∙ sym (append-nil (waiting old.messages));
-    lacking = inr (⊎_elim
-        (λ output. inl (cut.output_good ∙ ap (λ (h : Held). h.output.failures) same ∙ output.failed))
-        (λ messages. inr (cut.messages_good ∙ ap (λ (h : Held). h.messages.failures) same ∙ messages.failed))
-        loses.lost);
+    lacking = grind (arith, common_steps);
   }
 
   module _ (new : Held) (mark : Mark) (marked : IsMark mark old) (limit : mid.limit ≡ old.limit)

@@ -32,16 +32,13 @@ pub returns-clause-stands : goal.returns-clause-stands
 returns-clause-stands c task fed taken stands = ends-on (returns-clause-ends c task fed taken stands) stands
 
 pub returns-clause-misused : goal.returns-clause-misused
-returns-clause-misused c = λ task fed taken stands ended.
-    ends-refused (returns-clause-ends c task fed taken stands) stands ended
+returns-clause-misused c _ _ _ stands = ends-refused (returns-clause-ends c _ _ _ stands) stands
 
 pub returns-clause-promise : goal.returns-clause-promise
-returns-clause-promise c = λ task fed taken stands runs.
-    ends-promise (returns-clause-ends c task fed taken stands) stands runs
+returns-clause-promise c _ _ _ stands = ends-promise (returns-clause-ends c _ _ _ stands) stands
 
 pub returns-clause-ended : goal.returns-clause-ended
-returns-clause-ended c = λ task fed taken stands runs.
-    ends-was_ended (returns-clause-ends c task fed taken stands) stands runs
+returns-clause-ended c _ _ _ stands = ends-was_ended (returns-clause-ends c _ _ _ stands) stands
 
 pub returns-clause-expansion : goal.returns-clause-expansion
 returns-clause-expansion c = λ choices limit fed taken stands runs memory few. run-expansion fed _ _ _ choices

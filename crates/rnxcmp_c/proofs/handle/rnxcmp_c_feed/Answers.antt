@@ -1,7 +1,6 @@
 use Rattle.std.proofs.Common.{arith}
 use Rattle.rnxcmp_c.proofs.PromiseLemmas.{feeds-on, feeds-promise, feeds-refused, feeds-takes}
-use Rattle.rnxcmp_c.proofs.PromiseLemmas.{feeds-was_ended, sound-holds, stood}
-use Rattle.rnxcmp_c.proofs.Words.{Holds, past_of}
+use Rattle.rnxcmp_c.proofs.{PromiseLemmas.{feeds-was_ended, sound-holds, stood}, Words.{Holds, past_of}}
 use Rattle.rnxcmp_c.proofs.handle.rnxcmp_c_feed.Goals.{After-deref_mut}
 use Rattle.rnxcmp_c.proofs.handle.rnxcmp_c_feed.Goals as goal
 
@@ -30,24 +29,19 @@ returns-clause-feeds c = λ task fed taken stands.
     }
 
 pub returns-clause-stands : goal.returns-clause-stands
-returns-clause-stands c = λ task fed taken stands.
-    feeds-on (returns-clause-feeds c task fed taken stands) stands
+returns-clause-stands c _ _ _ stands = feeds-on (returns-clause-feeds c _ _ _ stands) stands
 
 pub returns-clause-misused : goal.returns-clause-misused
-returns-clause-misused c = λ task fed taken stands ended.
-    feeds-refused (returns-clause-feeds c task fed taken stands) stands ended
+returns-clause-misused c _ _ _ stands = feeds-refused (returns-clause-feeds c _ _ _ stands) stands
 
 pub returns-clause-promise : goal.returns-clause-promise
-returns-clause-promise c = λ task fed taken stands runs.
-    feeds-promise (returns-clause-feeds c task fed taken stands) stands runs
+returns-clause-promise c _ _ _ stands = feeds-promise (returns-clause-feeds c _ _ _ stands) stands
 
 pub returns-clause-takes : goal.returns-clause-takes
-returns-clause-takes c = λ task fed taken stands runs.
-    feeds-takes (returns-clause-feeds c task fed taken stands) stands runs
+returns-clause-takes c _ _ _ stands = feeds-takes (returns-clause-feeds c _ _ _ stands) stands
 
 pub returns-clause-ended : goal.returns-clause-ended
-returns-clause-ended c = λ task fed taken stands runs ended.
-    feeds-was_ended (returns-clause-feeds c task fed taken stands) stands runs ended
+returns-clause-ended c _ _ _ stands = feeds-was_ended (returns-clause-feeds c _ _ _ stands) stands
 
 pub returns-clause-sound : goal.returns-clause-sound
 returns-clause-sound c = λ is_open.

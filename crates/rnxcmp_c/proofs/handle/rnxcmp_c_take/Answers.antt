@@ -1,9 +1,9 @@
-use Rattle.std.proofs.{Common.arith, lemmas.Grind.common_steps}
+use Rattle.std.proofs.{Common.{rules, arith}, lemmas.Grind.common_steps}
 use Rattle.rnxcmp_c.proofs.EndedLemmas.{ended-where, result-where, run-check, run-expansion}
 use Rattle.rnxcmp_c.proofs.PromiseLemmas.{handle-promise, sound-holds, stood}
-use Rattle.rnxcmp_c.proofs.Words.{ℕ, List, Holds, past_of, BothTexts}
-use Rattle.rnxcmp_c.proofs.{Words.{rooms, Task, Expand, Check}, handle.rnxcmp_c_take.Goals.After-deref_mut}
-use Rattle.rnxcmp_c.{proofs.handle.rnxcmp_c_take.Goals.After-put_in, specs.Opened.HandsOut}
+use Rattle.rnxcmp_c.proofs.Words.{ℕ, List, Holds, past_of, BothTexts, rooms, Task, Expand, Check}
+use Rattle.rnxcmp_c.proofs.handle.rnxcmp_c_take.Goals.{After-deref_mut, After-put_in}
+use Rattle.rnxcmp_c.specs.Opened.{HandsOut}
 use Rattle.rnxcmp_c.proofs.handle.rnxcmp_c_take.Goals as goal
 
 pub take_out-reader-requires : goal.take_out-reader-requires
@@ -31,11 +31,7 @@ returns-clause-stands c = λ (task : Task) (fed : List ℕ) (taken : BothTexts) 
     }
 
 pub returns-clause-promise : goal.returns-clause-promise
-returns-clause-promise c = λ (task : Task) (fed : List ℕ) (taken : BothTexts) stands. (
-  returns-clause-still c,
-  handle-promise (returns-clause-stands c task fed taken stands) c.put_in.ensures.reader
-      c.hand_out-answer.ensures.taken.answered,
-)
+returns-clause-promise c = search (rules, returns-clause-still, handle-promise, returns-clause-stands)
 
 pub returns-clause-expansion : goal.returns-clause-expansion
 returns-clause-expansion c = λ choices limit fed taken stands ended memory few long. run-expansion fed _ _ _

@@ -1,8 +1,8 @@
+use Rattle.std.proofs.{Common.arith, lemmas.{Bool.lt-ltb, Grind.common_steps}}
 use Rattle.rnxcmp_c.proofs.{Cut.{cut-stops, kept-where_done}, PieceLemmas.long-where_long}
 use Rattle.rnxcmp_c.proofs.{PieceLemmas.whole-where_not_long, Words.{◌≡◌, length, ap, refl, subst, ◌∙◌, ◌<◌}}
 use Rattle.rnxcmp_c.proofs.Words.{◌≤◌, rules, IfErr-weaker, IfOk-weaker, InputLine, LINE_LIMIT, piece_line}
 use Rattle.rnxcmp_c.{proofs.lines.offer_line.Goals.{then-is_ended, else-is_ended}, specs.Going.LineIsGiven}
-use Rattle.std.proofs.lemmas.Bool.{lt-ltb}
 use Rattle.crx_lines.specs.Reading.{line_shown}
 use Rattle.rnxcmp_c.proofs.lines.offer_line.Goals as goal
 
@@ -34,9 +34,7 @@ returns-clause-step g c = λ lines whole shown kept.
     subst (λ (line : InputLine). LineIsGiven taken.result (g.E.Engine.filter c.args.engine.now)
     (g.E.Engine.shows taken.new.engine) lines line output taken.new.writer messages taken.new.messages)
     (same ∙ ap (λ bs. piece_line bs c.args.is_ended) all) (
-      IfOk-weaker _ _ _
-          (λ warned done. kept-where_done _ _ output taken.new.writer messages taken.new.messages _ warned
-          done) (taken.ensures.taken.done lines _ shown refl),
+      grind (arith, common_steps, IfOk-weaker, kept-where_done),
       IfErr-weaker taken.result _ _
           (λ halt cut. cut-stops _ _ output taken.new.writer messages taken.new.messages _ _ halt cut)
           (taken.ensures.taken.cut lines _ shown refl),

@@ -1,10 +1,9 @@
-use Rattle.std.proofs.lemmas.Grind.{common_steps}
+use Rattle.std.proofs.{lemmas.Grind.common_steps, Common.◌==◌}
 use Rattle.rnxcmp_c.proofs.GoingLemmas.{all-ended, all-but_last, ends-well, ends-stopped, held-going}
-use Rattle.rnxcmp_c.proofs.{GoingLemmas.{held-last, last-stopped}, Words.{◌<◌, [], length, sym, subst, false}}
-use Rattle.rnxcmp_c.proofs.Words.{◌≡◌, ℕ, List, Bool, true}
-use Rattle.std.proofs.Common.{◌==◌}
-use Rattle.rnxcmp_c.proofs.Words.{◌∙◌, arith, on_ok_weaker, IfErr-weaker, err_from_is_err_and, ended_lines_of}
-use Rattle.rnxcmp_c.proofs.{Words.{with_next, piece_line}, lines.take_last.{Given.Over, Goals.Else-is_empty}}
+use Rattle.rnxcmp_c.proofs.Words.{◌<◌, [], length, sym, subst, false, ◌≡◌, ℕ, List, Bool, true, ◌∙◌, arith}
+use Rattle.rnxcmp_c.proofs.Words.{on_ok_weaker, IfErr-weaker, err_from_is_err_and, ended_lines_of, with_next}
+use Rattle.rnxcmp_c.proofs.{GoingLemmas.{held-last, last-stopped}, lines.take_last.Goals.Else-is_empty}
+use Rattle.rnxcmp_c.proofs.{Words.piece_line, lines.take_last.Given.Over}
 use Rattle.rnxcmp_c.specs.Going.{EndStaysWithin}
 use Rattle.rnxcmp_c.proofs.lines.take_last.Goals as goal
 

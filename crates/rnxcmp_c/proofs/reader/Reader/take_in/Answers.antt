@@ -1,20 +1,11 @@
 use Rattle.std.proofs.lemmas.Grind.{common_steps}
 use Rattle.rnxcmp_c.proofs.FedLemmas.{fed-by, fed-bytes, passed-bytes, runs-where_none}
-use Rattle.rnxcmp_c.proofs.PieceLemmas.{first-allowed}
-use Rattle.rnxcmp_c.proofs.{ReaderLemmas.passed-over, Words.{refl, take, sym, ◌∙◌, arith, length, ◌≡◌, ◌<◌}}
-use Rattle.rnxcmp_c.proofs.reader.Reader.take_in.Goals.{Then-not-is_empty}
+use Rattle.rnxcmp_c.proofs.{PieceLemmas.first-allowed, Words.{refl, take, sym, ◌∙◌, arith, length, ◌≡◌, ◌<◌}}
+use Rattle.rnxcmp_c.proofs.{ReaderLemmas.passed-over, reader.Reader.take_in.Goals.Then-not-is_empty}
 use Rattle.rnxcmp_c.proofs.reader.Reader.take_in.Goals as goal
 
 pub feed-used-requires-clause-running : goal.feed-used-requires-clause-running
-feed-used-requires-clause-running c =
-    let old = c.args.self.now in
-    let runs = runs-where_none c.requires.0 old c.requires.1 _
-    (sym c.is_some.ensures ∙ c.if-is_some.false) c.requires.2 in (
-      c.requires.0,
-      c.requires.1,
-      runs,
-      grind (arith, common_steps),
-    )
+feed-used-requires-clause-running c = grind (arith, common_steps, runs-where_none)
 
 -- there are bytes, and an input may have none of them
 full : (c : Then-not-is_empty) → (length (take c.min-count.result c.args.bytes.now) ≡ 0)
