@@ -25,7 +25,6 @@ pub mod SoundTexts
 pub mod reading
 pub mod wayback
 pub mod soundness
-mod ReadyParts
 mod Justified
 pub mod Lists
 pub mod AlikeFrom

@@ -5,7 +5,6 @@ use Rattle.crx_compact.specs.declared.satellite.SatelliteHistory.TheInside.{Insi
 use Rattle.crx_compact.specs.declared.satellites.Satellites.TheInside.{Inside as SatellitesInside}
 use Rattle.crx_compact.specs.declared.history.History.TheInside.{Inside as HistoryInside}
 use Rattle.crx_compact.specs.declared.lines.Lines.TheInside.{Inside as LinesInside}
-use Rattle.crx_compact.specs.declared.copied_line.CopiedLine.TheInside.{Inside as CopiedLineInside}
 use Rattle.crx_compact.specs.declared.expanded_lines.ExpandedLines.TheInside.{Inside as ExpandedLinesInside}
 use Rattle.crx_compact.specs.declared.printed_block.PrintedBlock.{PrintedBlock}
 use Rattle.crx_compact.specs.declared.columns.Columns.TheInside.{Inside as ColumnsInside}
@@ -55,18 +54,9 @@ lines_with one other = record one {
   front = other.front;
 }
 
--- a line that is copied, with the parts of another
-abbrev pub copied_line_with : CopiedLineInside → CopiedLineInside → CopiedLineInside
-copied_line_with one other = record one {
-  bytes = other.bytes;
-  len = other.len;
-}
-
 -- the lines that an expansion has ready, with the parts of another
 abbrev pub expanded_lines_with : ExpandedLinesInside → ExpandedLinesInside → ExpandedLinesInside
 expanded_lines_with one other = record one {
-  copied = other.copied;
-  is_copied = other.is_copied;
   printed = other.printed;
 }
 
@@ -105,9 +95,7 @@ encoder_with one other = record one {
   history = other.history;
   is_kept = other.is_kept;
   in_full = other.in_full;
-  turn = other.turn;
-  program = other.program;
-  copied = other.copied;
+  is_open = other.is_open;
   made = other.made;
   scratch = other.scratch;
   before = kept_tail_with one.before other.before;

@@ -17,7 +17,6 @@ pub mod Entries
 pub mod LineLists
 pub mod PrintedBlocks
 pub mod ReadingRooms
-pub mod ReadyLines
 pub mod Coded
 pub mod Laws
 pub mod ReadingLaws

@@ -1,7 +1,7 @@
 //! Rows to compact lines, one at a time, by the history, which they change in place: Hatanaka's Compact RINEX 3.0.
 
-ghost use Rattle.std.specs.Prelude.{◌≡◌, ◌≤◌, ◌<◌, ◌+◌, ◌*◌, ◌++◌, ◌∷◌, ◌↔◌, [], None, Some, true, false, not, length, drop, slice_get, is_some, if◌then◌else◌, IsTrue, IfSome, IfOk, IsOk, OnOk, OnErr};
-ghost use Rattle.crx_base.specs.declared.limits.TheConstants.{DATE_LIMIT, HEAD_WIDTH, LINE_LIMIT, NAME_WIDTH};
+ghost use Rattle.std.specs.Prelude.{◌≡◌, ◌≤◌, ◌<◌, ◌+◌, ◌*◌, ◌++◌, ◌∷◌, ◌↔◌, [], None, Some, true, false, not, length, drop, slice_get, IsTrue, IfOk, IsOk, OnOk, OnErr};
+ghost use Rattle.crx_base.specs.declared.limits.TheConstants.{DATE_LIMIT, HEAD_WIDTH, NAME_WIDTH};
 ghost use Rattle.crx_header.specs.meaning.CompactHeader.{lines_before_header};
 ghost use Rattle.crx_rinex.specs.meaning.Epochs.{has_satellite};
 ghost use Rattle.crx_compact.specs.Encoding.{EncoderState, forgotten, tail_in};
@@ -11,7 +11,6 @@ ghost use Rattle.crx_compact.specs.EpochLinesRead.{history_cleared};
 ghost use Rattle.crx_compact.specs.Steps.{lines_after_tail, tail_after};
 ghost use Rattle.crx_compact.specs.Written.{epoch_by_rows};
 
-use crate::copied_line::CopiedLine;
 use crate::history::History;
 use crate::kept_tail::KeptTail;
 use crate::lines::{FIRST_LINES, Lines};
@@ -23,25 +22,8 @@ use crx_text::appending::append;
 use std::alloc::{AllocError, Global};
 use std::marker::Model;
 
-/// Which of the lines comes next.
-#[derive(Clone, Copy)]
-pub(crate) enum Turn {
-    /// The first line of compact text, then the others.
-    Version,
-    /// Its second line, then the others.
-    Program,
-    /// The line that is copied, and none after it.
-    Copied,
-    /// None any more, after a line that was copied.
-    Over,
-    /// Those that were made.
-    Made,
-    /// None yet: those of an epoch are being made.
-    Open,
-}
-
-/// Makes the compact lines of epochs whose rows come one by one, and has them ready, as it has lines that are copied and the two before the
-/// header. All memory but that of an epoch's rows is taken at the beginning.
+/// Makes the compact lines of epochs whose rows come one by one, and has them ready, as it has the two lines before the header. All memory but
+/// that of an epoch's rows is taken at the beginning.
 #[derive(Drop)]
 pub struct Encoder {
     history: History,
@@ -49,11 +31,9 @@ pub struct Encoder {
     is_kept: bool,
     /// Whether the open epoch was asked for in full; it is in full also where nothing is kept.
     in_full: bool,
-    turn: Turn,
-    /// The second line of compact text.
-    program: Box<Text>,
-    copied: CopiedLine,
-    /// The compact lines of an epoch.
+    /// Whether an epoch is open; then no line is ready.
+    is_open: bool,
+    /// The lines that are ready, or the compact lines of the open epoch so far.
     made: Lines,
     scratch: Box<Text>,
     /// The tail of the epochs before the open one, whose rows change the history in place.
@@ -63,24 +43,23 @@ pub struct Encoder {
 }
 
 impl Model for Encoder {
-    ghost use Rattle.std.specs.Prelude.{◌≡◌};
+    ghost use Rattle.std.specs.Prelude.{◌≡◌, [], if◌then◌else◌};
     ghost use Rattle.crx_compact.specs.Encoding.{EncoderState, IsEncoding};
     ghost use Rattle.crx_compact.specs.EncodingRooms.{encoding_room};
-    ghost use Rattle.crx_compact.specs.ReadyLines.{is_opened, lines_from};
     ghost use Rattle.crx_compact.specs.declared.lines.TheConstants.{FIRST_LINES};
 
     ghost Value = { EncoderState };
 
     ghost view = { λ encoder. record {
       before = encoder.before.tail;
-      is_open = is_opened encoder.turn;
+      is_open = encoder.is_open;
       in_full = encoder.in_full;
       rows = encoder.rows.rows;
-      pending = lines_from encoder.turn encoder.program.value encoder.copied encoder.made.lines;
+      pending = if encoder.is_open then [] else encoder.made.lines;
       room = encoding_room encoder.history encoder.made;
     } };
 
-    ghost invariant = { λ encoder. IsEncoding (is_opened encoder.turn) encoder.before.tail encoder.is_kept encoder.in_full
+    ghost invariant = { λ encoder. IsEncoding encoder.is_open encoder.before.tail encoder.is_kept encoder.in_full
         encoder.rows.rows encoder.history encoder.made.lines encoder.made.front
         × (encoder.made.reserved ≡ FIRST_LINES) };
 }
@@ -99,8 +78,6 @@ impl Encoder {
         ensures rows { IfOk result (λ e. e.rows ≡ []) }
         ensures pending { IfOk result (λ e. e.pending ≡ []) }
     {
-        let program = Box::new(alloc, Text::new())?;
-        let copied = CopiedLine::new(alloc)?;
         let mut made = Lines::new(alloc);
         made.reserve_front(FIRST_LINES)?;
         let scratch = Box::new(alloc, Text::new())?;
@@ -108,9 +85,7 @@ impl Encoder {
             history: History::new(alloc),
             is_kept: false,
             in_full: false,
-            turn: Turn::Made,
-            program,
-            copied,
+            is_open: false,
             made,
             scratch,
             before: KeptTail::none(),
@@ -123,7 +98,7 @@ impl Encoder {
         // Whatever was asked for is used again.
         ensures emptied { self.new ≡ forgotten self.old [] (all_free self.old.room) }
     {
-        self.turn = Turn::Made;
+        self.is_open = false;
         self.made.clear();
         forget(
             &mut self.history,
@@ -133,33 +108,25 @@ impl Encoder {
         );
     }
 
-    /// Makes a line ready that is copied, in place of all others, and forgets every epoch.
-    pub fn copy(&mut self, line: &[u8])
-        requires short { length line.now ≤ LINE_LIMIT }
-        ensures copied { self.new ≡ forgotten self.old (line.now ∷ []) (all_free self.old.room) }
-    {
-        self.reset();
-        self.copied.put(line);
-        self.turn = Turn::Copied;
-    }
-
-    /// Makes a header line ready, in place of all others, and before the first one the two lines of compact text; forgets every epoch.
-    pub fn copy_header(&mut self, date: &[u8], is_first: bool, line: &[u8])
+    /// Makes the two lines before the header ready, in place of all others, and forgets every epoch.
+    pub fn put_first_lines(&mut self, date: &[u8])
         requires dated { length date.now ≤ DATE_LIMIT }
-        requires short { length line.now ≤ LINE_LIMIT }
-        ensures copied { self.new ≡ forgotten self.old (lines_before_header date.now is_first ++ line.now ∷ [])
-            (all_free self.old.room) }
+        ensures put { self.new ≡ forgotten self.old (lines_before_header date.now true) (all_free self.old.room) }
     {
-        self.reset();
-        self.copied.put(line);
-        self.turn = Turn::Copied;
-        if is_first {
-            self.turn = Turn::Version;
-            self.program.clear();
-            append(&mut self.program, &CRINEX_PROGRAM);
-            append(&mut self.program, &in_columns(date));
-            append(&mut self.program, &CRINEX_PROGRAM_LABEL);
-        }
+        self.is_open = false;
+        self.made.clear();
+        forget(
+            &mut self.history,
+            &mut self.is_kept,
+            &mut self.before,
+            &mut self.rows,
+        );
+        self.scratch.clear();
+        append(&mut self.scratch, &CRINEX_PROGRAM);
+        append(&mut self.scratch, &in_columns(date));
+        append(&mut self.scratch, &CRINEX_PROGRAM_LABEL);
+        self.made.put_front(self.scratch.bytes());
+        self.made.put_front(&CRINEX_VERSION_LINE);
     }
 
     /// Begins an epoch, in place of all lines: in full, where that is asked for or there is no epoch before, else as differences from the
@@ -176,7 +143,7 @@ impl Encoder {
     {
         self.history.begin_rows(full || !self.is_kept);
         self.in_full = full;
-        self.turn = Turn::Open;
+        self.is_open = true;
         self.made.clear();
     }
 
@@ -213,7 +180,7 @@ impl Encoder {
             }
             Ok(false) => Ok(false),
             Err(error) => {
-                self.turn = Turn::Made;
+                self.is_open = false;
                 self.made.clear();
                 forget(
                     &mut self.history,
@@ -251,7 +218,7 @@ impl Encoder {
             .end_rows(head, &mut self.scratch, &mut self.made)
             .is_err()
         {
-            self.turn = Turn::Made;
+            self.is_open = false;
             self.made.clear();
             forget(
                 &mut self.history,
@@ -264,7 +231,7 @@ impl Encoder {
         self.is_kept = true;
         self.before = KeptTail::of(&self.history);
         self.rows = RowsSoFar::new();
-        self.turn = Turn::Made;
+        self.is_open = false;
         Ok(())
     }
 
@@ -272,11 +239,7 @@ impl Encoder {
     pub fn is_drained(&self) -> bool
         ensures value { IsTrue result ↔ (self.now.pending ≡ []) }
     {
-        match self.turn {
-            Turn::Made => self.made.is_empty(),
-            Turn::Open | Turn::Over => true,
-            Turn::Version | Turn::Program | Turn::Copied => false,
-        }
+        self.is_open || self.made.is_empty()
     }
 
     /// Borrows the next of the lines that are ready, without its line end; `None` once none is pending.
@@ -286,42 +249,21 @@ impl Encoder {
         ensures* after_borrow { sem 𝓛 (Rests the_row self.entry
             (λ new. new ≡ record self.old { pending = drop 1 self.old.pending })) }
     {
-        match self.turn {
-            Turn::Version => {
-                self.turn = Turn::Program;
-                Some(&CRINEX_VERSION_LINE)
-            }
-            Turn::Program => {
-                self.turn = Turn::Copied;
-                Some(self.program.bytes())
-            }
-            Turn::Copied => {
-                self.turn = Turn::Over;
-                Some(self.copied.line())
-            }
-            Turn::Made => self.made.next_line(),
-            Turn::Open | Turn::Over => None,
+        if self.is_open {
+            return None;
         }
+        self.made.next_line()
     }
 
-    /// Borrows all lines that are ready as one text, each followed by LF; `None` where one of those before the header is among them, and
-    /// then they stay.
-    pub fn take_text(&mut self) -> Option<&[u8]>
-        ensures value { IfSome result (λ text. text.now ≡ lines_text self.old.pending) }
-        // A line alone is given.
-        ensures none { result ≡ None → 1 < length self.old.pending }
-        ensures* after_borrow { sem 𝓛 (Rests the_row self.entry
-            (λ new. new ≡ record self.old { pending = (if is_some result then [] else self.old.pending) })) }
+    /// Borrows all lines that are ready as one text, each followed by LF, after which none is pending.
+    pub fn take_text(&mut self) -> &[u8]
+        ensures value { result.now ≡ lines_text self.old.pending }
+        ensures* after_borrow { sem 𝓛 (Rests the_row self.entry (λ new. new ≡ record self.old { pending = [] })) }
     {
-        match self.turn {
-            Turn::Made => Some(self.made.take_text()),
-            Turn::Copied => {
-                self.turn = Turn::Over;
-                Some(self.copied.text())
-            }
-            Turn::Open | Turn::Over => Some(&[]),
-            Turn::Version | Turn::Program => None,
+        if self.is_open {
+            return &[];
         }
+        self.made.take_text()
     }
 }
 

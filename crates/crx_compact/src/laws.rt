@@ -1,7 +1,7 @@
 //! Laws over the definitions of this crate: each is the contract of a function that does nothing.
 
 ghost use Rattle.std.specs.Prelude.{◌≡◌};
-ghost use Rattle.crx_compact.specs.Holdings.{satellite_with, satellites_with, history_with, lines_with, copied_line_with, expanded_lines_with, printed_block_with, columns_with, encoder_with, kept_tail_with, rows_with};
+ghost use Rattle.crx_compact.specs.Holdings.{satellite_with, satellites_with, history_with, lines_with, expanded_lines_with, printed_block_with, columns_with, encoder_with, kept_tail_with, rows_with};
 ghost use Rattle.crx_compact.specs.declared.encoder.Encoder.TheInside.{Inside as EncoderInside};
 ghost use Rattle.crx_compact.specs.declared.kept_tail.KeptTail.{KeptTail};
 ghost use Rattle.crx_rinex.specs.declared.rows_so_far.RowsSoFar.{RowsSoFar};
@@ -9,7 +9,6 @@ ghost use Rattle.crx_compact.specs.declared.satellite.SatelliteHistory.TheInside
 ghost use Rattle.crx_compact.specs.declared.satellites.Satellites.TheInside.{Inside as SatellitesInside};
 ghost use Rattle.crx_compact.specs.declared.history.History.TheInside.{Inside as HistoryInside};
 ghost use Rattle.crx_compact.specs.declared.lines.Lines.TheInside.{Inside as LinesInside};
-ghost use Rattle.crx_compact.specs.declared.copied_line.CopiedLine.TheInside.{Inside as CopiedLineInside};
 ghost use Rattle.crx_compact.specs.declared.expanded_lines.ExpandedLines.TheInside.{Inside as ExpandedLinesInside};
 ghost use Rattle.crx_compact.specs.declared.printed_block.PrintedBlock.{PrintedBlock};
 ghost use Rattle.crx_compact.specs.declared.columns.Columns.TheInside.{Inside as ColumnsInside};
@@ -21,7 +20,6 @@ pub fn columns_hold()
     ensures satellites { (one other : SatellitesInside) → satellites_with one other ≡ other }
     ensures history { (one other : HistoryInside) → history_with one other ≡ other }
     ensures lines { (one other : LinesInside) → lines_with one other ≡ other }
-    ensures copied { (one other : CopiedLineInside) → copied_line_with one other ≡ other }
     ensures expanded { (one other : ExpandedLinesInside) → expanded_lines_with one other ≡ other }
     ensures printed { (one other : PrintedBlock) → printed_block_with one other ≡ other }
     ensures columns { (one other : ColumnsInside) → columns_with one other ≡ other }

@@ -7,7 +7,6 @@ pub mod arc;
 pub mod cells;
 pub mod coded;
 pub mod columns;
-mod copied_line;
 pub mod encoder;
 pub mod expanded_lines;
 mod history;

@@ -187,6 +187,7 @@ impl Lines {
         ensures lines { self.new.lines ≡ line.now ∷ self.old.lines }
         ensures front { self.new.front + 1 ≡ self.old.front }
         ensures room { HasSameRoom self.old self.new }
+        ensures free { (self.new.free_lines ≡ self.old.free_lines) × (self.new.free_bytes ≡ self.old.free_bytes) }
     {
         let start = self.handed_out_bytes - line.len() - 1;
         put_line(&mut self.bytes, start, line);

@@ -1,5 +1,5 @@
 -- What a direction has between two lines, and what it does with the next one.
-use Rattle.std.specs.Prelude.{◌≡◌, ◌⊎◌, ◌<◌, ◌≤◌, ℕ, ◌+◌, Bool, true, false, List, [], length, map, Option}
+use Rattle.std.specs.Prelude.{◌≡◌, ◌⊎◌, ◌<◌, ◌≤◌, ℕ, ◌+◌, Bool, true, false, List, [], length, map, Option, Some}
 use Rattle.std.specs.Prelude.{Result, Ok, Err, IfOk, IfErr, OnErr}
 use Rattle.crx_base.specs.declared.limits.TheConstants.{INPUT_LIMIT}
 use Rattle.crx_base.specs.meaning.Lines.{InputLine}
@@ -16,6 +16,9 @@ use Rattle.crx_filter.specs.EngineSteps.{Steps, step_made}
 use Rattle.crx_filter.specs.meaning.Reading.{can_go_on}
 use Rattle.crx_filter.specs.Stages.{is_held, phase_of_stage}
 use Rattle.crx_filter.specs.declared.stage.Stage.{Stage}
+use Rattle.crx_runs.specs.Engines.{lines_handed_out}
+use Rattle.crx_runs.specs.declared.engine.HandedOut.{HandedOut}
+use Rattle.crx_runs.specs.declared.engine.HandedOut.TheVariants.{Nothing, Lines, AsItIs}
 use Rattle.crx_runs.specs.declared.engine.Step.{Step}
 use Rattle.crx_runs.specs.meaning.Filters.{with_next}
 
@@ -48,6 +51,18 @@ pub record EngineParts (D : Type 0) : Type 0 where
 abbrev pub answer_for : Bool → Answer
 answer_for false = Quiet
 answer_for true = Ready
+
+-- whether a line that was taken hands lines out, or its fault
+abbrev pub hands_out : Result HandedOut Fault → Result Bool Fault
+hands_out (Ok Nothing) = Ok false
+hands_out (Ok Lines) = Ok true
+hands_out (Ok AsItIs) = Ok true
+hands_out (Err fault) = Err fault
+
+-- the lines that it hands out: those that are ready, and after them that line itself where it is copied
+abbrev pub handed_out_by : Result HandedOut Fault → List ℕ → List (List ℕ) → List (List ℕ)
+handed_out_by (Ok out) line ready = lines_handed_out (Some out) line ready
+handed_out_by (Err fault) line ready = ready
 
 -- what a line makes
 abbrev pub made_at_parts : {U O K : Type 0} → Direction U O K → DirectionParts O K → List ℕ → Made U O

@@ -1,5 +1,5 @@
 -- The state of an engine of a direction.
-use Rattle.std.specs.Prelude.{◌≡◌, ℕ, Bool, false, List, length, Result, IfOk}
+use Rattle.std.specs.Prelude.{◌≡◌, ℕ, false, List, length, Option, Result, IfOk}
 use Rattle.crx_base.specs.declared.fault.At.{At}
 use Rattle.crx_base.specs.meaning.Lines.{InputLine}
 use Rattle.crx_base.specs.meaning.AsRead.{Content, Overlong}
@@ -7,9 +7,10 @@ use Rattle.crx_filter.specs.EngineLines.{HasTaken}
 use Rattle.crx_filter.specs.DirectionParts.{EngineParts, HasClosed, IsAfterLines, HasStopped, TakesLine}
 use Rattle.crx_filter.specs.DirectionParts.{state_by}
 use Rattle.crx_filter.specs.LineByLine.{RunState, state_end_with, state_next}
-use Rattle.crx_runs.specs.Engines.{Awaited, IsNextLine, answer_given}
+use Rattle.crx_runs.specs.Engines.{Awaited, IsNextLine, answer_given, lines_handed_out}
 use Rattle.crx_filter.specs.EngineLaws.{GoesLineByLine}
 use Rattle.crx_filter.specs.EngineSteps.{step_made}
+use Rattle.crx_runs.specs.declared.engine.HandedOut.{HandedOut}
 use Rattle.crx_runs.specs.declared.engine.Step.{Step}
 use Rattle.crx_runs.specs.meaning.Filters.{with_next}
 use Rattle.crx_filter.specs.declared.direction.Direction.{Ghosts}
@@ -37,10 +38,11 @@ module _ {D : Type 0} (d : Ghosts D) where
     pub chosen : d.chosen e.options ≡ e.options
     pub lawful : GoesLineByLine d.by_line (d.closing_after e.options) (d.state_after_lines e.options) (d.filter e.options)
 
-  -- it has taken a line with this content, after which nothing is to be done, or what is stored is answered
-  abbrev pub EngineTakes : EngineParts D → List ℕ → Bool → EngineParts D → Type 0
-  EngineTakes before line is_quiet after = TakesLine d.by_line (engine_state before) (Content line)
-      (answer_given is_quiet after.answer) (engine_ready after) (engine_state after)
+  -- it has taken a line with this content, which hands out the lines that are ready, and itself where it is copied, or what is
+  -- stored is answered
+  abbrev pub EngineTakes : EngineParts D → List ℕ → Option HandedOut → EngineParts D → Type 0
+  EngineTakes before line out after = TakesLine d.by_line (engine_state before) (Content line)
+      (answer_given out after.answer) (lines_handed_out out line (engine_ready after)) (engine_state after)
 
   -- where nothing is skipped and no fault has ended the run, its direction has noted the next line too
   abbrev pub EngineNotes : EngineParts D → InputLine → Result Step At → EngineParts D → Type 0
@@ -50,10 +52,10 @@ module _ {D : Type 0} (d : Ghosts D) where
       → IfOk result (λ step. before.options.skip ≡ false → d.knows after.direction (with_next lines line))
 
   -- both
-  pub record EngineReads (before : EngineParts D) (line : InputLine) (is_quiet : Bool) (after : EngineParts D)
-      : Type 0 where
-    pub takes : EngineTakes before line.content is_quiet after
-    pub notes : EngineNotes before line (answer_given is_quiet after.answer) after
+  pub record EngineReads (before : EngineParts D) (line : InputLine) (out : Option HandedOut)
+      (after : EngineParts D) : Type 0 where
+    pub takes : EngineTakes before line.content out after
+    pub notes : EngineNotes before line (answer_given out after.answer) after
 
   -- it has taken a line that is too long, or the end of the input
   abbrev pub EngineSkips : EngineParts D → Result Step At → EngineParts D → Type 0

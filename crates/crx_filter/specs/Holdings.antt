@@ -8,6 +8,7 @@ use Rattle.crx_filter.specs.declared.compact_reader.CompactReader.{CompactReader
 use Rattle.crx_filter.specs.CompactionParts.{CompactionState}
 use Rattle.crx_filter.specs.declared.engine.Engine.TheInside.{Inside as EngineInside}
 use Rattle.crx_filter.specs.declared.expansion.Expansion.{Expansion}
+use Rattle.crx_filter.specs.declared.lender.Lender.TheInside.{Inside as LenderInside}
 use Rattle.crx_filter.specs.DirectionParts.{EngineParts}
 use Rattle.crx_filter.specs.declared.checking.Checking.TheInside.{Inside as CheckingInside}
 use Rattle.crx_filter.specs.declared.checking.Noted.{Noted}
@@ -74,18 +75,18 @@ engine_inside_with direction_with one other = record one {
   answer = other.answer;
 }
 
--- a compactor or an expander, with the parts of another
-abbrev pub compactor_with : EngineParts CompactionState → EngineParts CompactionState
+-- an engine of compaction or of expansion, with the parts of another
+abbrev pub compacting_engine_with : EngineParts CompactionState → EngineParts CompactionState
     → EngineParts CompactionState
-compactor_with one other = record one {
+compacting_engine_with one other = record one {
   options = other.options;
   number = other.number;
   direction = compaction_with one.direction other.direction;
   answer = other.answer;
 }
 
-abbrev pub expander_with : EngineParts Expansion → EngineParts Expansion → EngineParts Expansion
-expander_with one other = record one {
+abbrev pub expanding_engine_with : EngineParts Expansion → EngineParts Expansion → EngineParts Expansion
+expanding_engine_with one other = record one {
   options = other.options;
   number = other.number;
   direction = expansion_with one.direction other.direction;
@@ -118,11 +119,20 @@ checking_inside_with one other = record one {
   handed_out = other.handed_out;
 }
 
--- a checker, with the parts of another
-abbrev pub checker_with : EngineParts CheckingState → EngineParts CheckingState → EngineParts CheckingState
-checker_with one other = record one {
+-- an engine of a check, with the parts of another
+abbrev pub checking_engine_with : EngineParts CheckingState → EngineParts CheckingState → EngineParts CheckingState
+checking_engine_with one other = record one {
   options = other.options;
   number = other.number;
   direction = checking_with one.direction other.direction;
   answer = other.answer;
+}
+
+-- an engine that lends every line, by what its engine has, with the parts of another
+abbrev pub lender_inside_with : {D : Type 0} → (EngineParts D → EngineParts D → EngineParts D) → LenderInside D → LenderInside D
+    → LenderInside D
+lender_inside_with engine_with one other = record one {
+  engine = engine_with one.engine other.engine;
+  copied = other.copied;
+  is_copied = other.is_copied;
 }

@@ -26,6 +26,7 @@ pub mod EngineLines
 pub mod DirectionParts
 pub mod EngineLaws
 pub mod EngineState
+pub mod LenderState
 pub mod CheckerState
 pub mod CheckingParts
 pub mod Holdings

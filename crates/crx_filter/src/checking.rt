@@ -19,6 +19,7 @@ ghost use Rattle.crx_filter.specs.declared.rinex_reader.RinexStep.{RinexStep};
 
 use crate::direction::Direction;
 use crate::engine::Engine;
+use crate::lender::Lender;
 use crate::report::{REPORT_LINES, Totals, print_report_line};
 use crate::rinex_reader::{RinexReader, RinexStep};
 use crate::stage::Stage;
@@ -27,6 +28,7 @@ use crx_base::limits::VERSION_WIDTH;
 use crx_base::{Fault, Options};
 use crx_header::Identifiers;
 use crx_lines::Line;
+use crx_runs::HandedOut;
 use crx_text::Text;
 use std::alloc::{AllocError, Global};
 use std::marker::Model;
@@ -56,7 +58,7 @@ pub struct Checking {
 
 /// Checks a RINEX file, whose lines it takes one at a time, and skips no fault, whatever its options are; once the whole input was
 /// accepted, the six lines of the report are borrowed from it. The faults are those of a [`Compactor`](crate::Compactor).
-pub type Checker = Engine<Checking>;
+pub type Checker = Lender<Checking>;
 
 impl Model for Checking {
     ghost use Rattle.crx_filter.specs.CheckingParts.{AreCounted, CheckingState};
@@ -230,10 +232,10 @@ impl Direction for Checking {
         Ok(false)
     }
 
-    fn take(&mut self, _options: &Options, line: Line<'_>) -> Result<bool, Fault> {
+    fn take(&mut self, _options: &Options, line: Line<'_>) -> Result<HandedOut, Fault> {
         let step = self.reader.take(line.bytes())?;
         self.noted.note(&self.reader, step, line);
-        Ok(false)
+        Ok(HandedOut::Nothing)
     }
 
     fn end_with(&mut self, stage: Stage) {
@@ -269,11 +271,20 @@ impl Direction for Checking {
     }
 }
 
-impl Checker {
+impl Engine<Checking> {
     /// The number of the first line that isn't standard, among the lines so far.
     pub fn not_standard(&self) -> Option<u64>
         ensures value { result ≡ self.now.direction.noted.not_standard }
     {
         self.direction.noted.not_standard
+    }
+}
+
+impl Checker {
+    /// The number of the first line that isn't standard, among the lines so far.
+    pub fn not_standard(&self) -> Option<u64>
+        ensures value { result ≡ self.now.engine.direction.noted.not_standard }
+    {
+        self.engine.not_standard()
     }
 }

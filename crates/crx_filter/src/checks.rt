@@ -9,7 +9,8 @@ ghost use Rattle.crx_runs.specs.meaning.Runs.{HasRun, ran_over};
 ghost use Rattle.crx_runs.specs.meaning.Spans.{reader_span, span};
 ghost use Rattle.crx_filter.specs.meaning.Standard.{checked, report_status};
 
-use crate::checking::{Checker, no_options};
+use crate::checking::{Checking, no_options};
+use crate::engine::Engine;
 use crx_lines::{Sink, Source};
 use crx_runs::Outcome;
 use crx_runs::run::run;
@@ -53,11 +54,17 @@ pub fn check<R: Source, W: Sink, M: Sink>(
         (ran_over R.Source reader.old reader.new
         W.Sink writer.old writer.new M.Sink messages.old messages.new result) }
 {
-    match Checker::new(alloc, no_options()) {
-        Ok(mut checker) => {
-            let outcome = run(alloc, &mut checker, reader, writer, messages);
-            outcome_of_check(outcome, checker.not_standard())
+    match Engine::<Checking>::new(alloc, no_options()) {
+        Ok(mut engine) => {
+            let outcome = run(alloc, &mut engine, reader, writer, messages);
+            outcome_of_check(outcome, engine.not_standard())
         }
-        Err(error) => start::<Checker, R, W, M>(alloc, Err(error), reader, writer, messages),
+        Err(error) => start::<Engine<Checking>, R, W, M>(
+            alloc,
+            Err(error),
+            reader,
+            writer,
+            messages,
+        ),
     }
 }

@@ -10,12 +10,13 @@ ghost use Rattle.crx_filter.specs.RinexStages.{is_open_stage};
 ghost use Rattle.crx_filter.specs.meaning.Compacted.{is_at_every};
 
 use crate::direction::Direction;
-use crate::engine::Engine;
+use crate::lender::Lender;
 use crate::rinex_reader::{RinexReader, RinexStep};
 use crate::stage::Stage;
 use crx_base::{Fault, Options};
 use crx_compact::Encoder;
 use crx_lines::Line;
+use crx_runs::HandedOut;
 use std::alloc::{AllocError, Global};
 use std::marker::Model;
 
@@ -28,8 +29,7 @@ pub struct Compaction {
     encoder: Encoder,
 }
 
-/// Makes Compact RINEX 3.0 of the lines of a RINEX file, which it takes one at a time; the lines to be written are borrowed from it. It
-/// takes the memory for the lines that are copied at the beginning.
+/// Makes Compact RINEX 3.0 of the lines of a RINEX file, which it takes one at a time; the lines to be written are borrowed from it.
 ///
 /// The faults of a line are in the header `MissingVersion`, `UnsupportedVersion` and `NotObservation` at the first line, and
 /// `BadTypesLine`; `BadTypesLine` among an event's records, where types lines count; and where faults aren't skipped `NotAnEpoch`,
@@ -37,7 +37,7 @@ pub struct Compaction {
 /// `RepeatedSatellite` in an epoch. `OutOfMemory` comes only at a line without a fault: a types line that counts, a satellite's line, or
 /// the line of an epoch without satellites. At the end the fault is `MissingVersion` before the first line, `NoEndOfHeader` in the header,
 /// `Truncated` among an event's records, and in an epoch where faults aren't skipped.
-pub type Compactor = Engine<Compaction>;
+pub type Compactor = Lender<Compaction>;
 
 impl Model for Compaction {
     ghost use Rattle.crx_filter.specs.CompactionParts.{BelongTogether, CompactionState};
@@ -180,26 +180,29 @@ impl Direction for Compaction {
         Ok(true)
     }
 
-    fn take(&mut self, options: &Options, line: Line<'_>) -> Result<bool, Fault> {
-        let line = line.bytes();
-        match self.reader.take(line)? {
-            RinexStep::Nothing => Ok(false),
+    fn take(&mut self, options: &Options, line: Line<'_>) -> Result<HandedOut, Fault> {
+        match self.reader.take(line.bytes())? {
+            RinexStep::Nothing => Ok(HandedOut::Nothing),
             RinexStep::Begun => {
                 self.encoder.begin(is_at_every(options.every(), self.index));
                 if self.reader.stage.is_in_epoch() {
-                    return Ok(false);
+                    return Ok(HandedOut::Nothing);
                 }
                 end_epoch(&self.reader, &mut self.encoder)?;
                 self.index += 1;
-                Ok(true)
+                Ok(HandedOut::Lines)
             }
             RinexStep::Header { is_first } => {
-                self.encoder.copy_header(options.date(), is_first, line);
-                Ok(true)
+                if is_first {
+                    self.encoder.put_first_lines(options.date());
+                    return Ok(HandedOut::AsItIs);
+                }
+                self.encoder.reset();
+                Ok(HandedOut::AsItIs)
             }
             _ => {
-                self.encoder.copy(line);
-                Ok(true)
+                self.encoder.reset();
+                Ok(HandedOut::AsItIs)
             }
         }
     }
@@ -223,6 +226,6 @@ impl Direction for Compaction {
     }
 
     fn take_text(&mut self) -> Option<&[u8]> {
-        self.encoder.take_text()
+        Some(self.encoder.take_text())
     }
 }

@@ -9,7 +9,7 @@ ghost use Rattle.crx_base.specs.meaning.Lines.{InputLine, lines_text};
 ghost use Rattle.crx_base.specs.meaning.AsRead.{ReadLine};
 ghost use Rattle.crx_lines.specs.Reading.{line_number, line_shown};
 ghost use Rattle.crx_runs.specs.meaning.Filters.{Filter, with_next};
-ghost use Rattle.crx_filter.specs.DirectionParts.{AwaitsLine, CountsOneAtMost, DirectionParts, IsAfterLines, KeepsAllBeside, KnowsNext, Reads, answer_for, state_by};
+ghost use Rattle.crx_filter.specs.DirectionParts.{AwaitsLine, CountsOneAtMost, DirectionParts, IsAfterLines, KeepsAllBeside, KnowsNext, Reads, answer_for, handed_out_by, hands_out, state_by};
 ghost use Rattle.crx_filter.specs.EngineLaws.{IsLawfulDirection};
 ghost use Rattle.crx_filter.specs.LineByLine.{Direction as DirectionByLine, RunState, answer_of_lines, fault_at_end_in};
 ghost use Rattle.crx_filter.specs.RinexStages.{is_open_stage};
@@ -19,6 +19,7 @@ ghost use Rattle.crx_filter.specs.declared.stage.Stage.{Stage};
 use crate::stage::Stage;
 use crx_base::{Fault, Options};
 use crx_lines::Line;
+use crx_runs::HandedOut;
 use std::alloc::{AllocError, Global};
 
 /// A direction of an engine: what it makes of a line, what it forgets after a fault, and the lines that are ready.
@@ -99,17 +100,18 @@ pub trait Direction: Drop {
         ensures knows { KnowsNext chosen state_after_lines (parts self.old) (knows self.old) (knows self.new)
             (line_number line.entry) (line_shown line.entry) result };
 
-    /// Takes a line where no epoch is open: `true` says that lines are ready.
-    fn take(&mut self, options: &Options, line: Line<'_>) -> Result<bool, Fault>
+    /// Takes a line where no epoch is open, and answers what it hands out: a line that is copied, after those that are ready.
+    fn take(&mut self, options: &Options, line: Line<'_>) -> Result<HandedOut, Fault>
         requires running { is_ended (parts self.old).stage ≡ false }
         requires closed { is_open_stage (parts self.old).stage ≡ false }
         requires asked { AwaitsLine (ready self.old) (counted self.old) }
         ensures reads { Reads by_line (λ choices. choices ≡ options.now) (parts self.old)
-            (line_shown line.entry).content result (ready self.new) (parts self.new) }
+            (line_shown line.entry).content (hands_out result)
+            (handed_out_by result (line_shown line.entry).content (ready self.new)) (parts self.new) }
         ensures serves { serves self.new options.now ≡ true }
-        ensures counted { CountsOneAtMost result (counted self.old) (counted self.new) }
+        ensures counted { CountsOneAtMost (hands_out result) (counted self.old) (counted self.new) }
         ensures knows { KnowsNext chosen state_after_lines (parts self.old) (knows self.old) (knows self.new)
-            (line_number line.entry) (line_shown line.entry) result };
+            (line_number line.entry) (line_shown line.entry) (hands_out result) };
 
     /// Goes to a stage after a fault, and forgets the epochs before.
     fn end_with(&mut self, stage: Stage)

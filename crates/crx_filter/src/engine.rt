@@ -1,4 +1,4 @@
-//! Engines of every direction: they take the lines of an input one at a time, and the lines to be written are borrowed from them.
+//! Engines of every direction, as runs have them: they take the lines of an input one at a time, and answer what is to be written.
 
 ghost use Rattle.std.specs.Prelude.{◌≡◌, ◌≤◌, true};
 ghost use Rattle.crx_base.specs.declared.limits.TheConstants.{INPUT_LIMIT, LINE_LIMIT};
@@ -9,19 +9,19 @@ use crate::stage::Stage;
 use crx_base::{At, Fault, Options};
 use crx_lines::Line;
 use crx_rinex::begins_epoch;
-use crx_runs::Step;
-use crx_runs::engine::answer_given;
+use crx_runs::{HandedOut, Step};
 use std::alloc::{AllocError, Global};
 use std::marker::Model;
 
-/// An engine of a direction: it takes the lines of an input one at a time; the lines to be written are borrowed from it.
+/// An engine of a direction, as a run has it: it takes the lines of an input one at a time. The lines that it makes are borrowed from it; of a
+/// line that is copied it says so, and keeps nothing: a [`Lender`](crate::lender::Lender) does.
 #[derive(Drop)]
 pub struct Engine<D: Direction> {
     options: Options,
     /// The number of the last line that counts.
     number: u64,
     pub(crate) direction: D,
-    /// The answer to the line that was taken last, where something was to be written or reported.
+    /// The answer to the line with a fault that was taken last.
     answer: Result<Step, At>,
 }
 
@@ -35,23 +35,21 @@ impl<D: Direction> Model for Engine<D> {
 }
 
 impl<D: Direction> Engine<D> {
-    ghost use Rattle.std.specs.Prelude.{◌+◌, ◌<◌, ◌↔◌, List, [], drop, length, slice_get, OnErr, IfOk, IfErr, Err, IsTrue, false};
+    ghost use Rattle.std.specs.Prelude.{◌+◌, ◌<◌, ◌↔◌, List, [], drop, length, slice_get, IfOk, IfErr, Err, IsTrue, false};
     ghost use Rattle.std.specs.Borrow.{sem};
     ghost use Rattle.std.specs.Io.BufRead.{Rests};
     ghost use Rattle.std.specs.Option.{option_copied};
     ghost use Rattle.crx_base.specs.meaning.Lines.{InputLine, is_long};
-    ghost use Rattle.crx_base.specs.meaning.AsRead.{Content};
     ghost use Rattle.crx_base.specs.declared.fault.At.{At};
     ghost use Rattle.crx_lines.specs.Reading.{line_number, line_shown};
     ghost use Rattle.crx_filter.specs.DirectionParts.{AnswersToFault, IsAfterLines};
     ghost use Rattle.crx_filter.specs.EngineState.{EngineAwaits, EngineConcludes, EngineEnds, EngineGoes, EngineReads, EngineSkips, engine_ready, engine_state, engine_took};
-    ghost use Rattle.crx_filter.specs.EngineSteps.{Steps};
     ghost use Rattle.crx_filter.specs.LineByLine.{Ended, may_skip};
     ghost use Rattle.crx_filter.specs.RinexStages.{is_open_stage};
     ghost use Rattle.crx_filter.specs.Stages.{bare_phase};
     ghost use Rattle.crx_filter.specs.contracts.engine.Engine.{the_row};
     ghost use Rattle.crx_filter.specs.declared.stage.Stage.{Stage};
-    ghost use Rattle.crx_runs.specs.Engines.{answer_given, Awaited, Concludes, EngineAnswers, IsAwaited};
+    ghost use Rattle.crx_runs.specs.Engines.{Awaited, Concludes, EngineAnswers, IsAwaited};
 
     /// An engine before the first line of its input; `AllocError` comes where there is no memory for a line.
     pub fn new(alloc: Global, options: Options) -> Result<Engine<D>, AllocError>
@@ -98,11 +96,10 @@ impl<D: Direction> Engine<D> {
         self.answer = Ok(Step::Warned { notice, again });
     }
 
-    /// Takes the content of a line: see [`Engine::feed`]. `true` says that nothing is to be written or reported after it, as after most
-    /// lines; otherwise the answer is stored, and asked for by another call. An answer that held a notice would be copied from call to
-    /// call at every line.
+    /// Takes a line: see [`Lender::feed`](crate::lender::Lender::feed). It answers what the line hands out; `None` after a fault, to which the
+    /// answer is stored, and asked for by another call. An answer that held a notice would be copied from call to call at every line.
     #[inline(always)]
-    fn take_line(&mut self, line: Line<'_>) -> bool
+    pub(crate) fn take_line(&mut self, line: Line<'_>) -> Option<HandedOut>
         requires next { EngineAwaits D.Direction self.old (line_number line) }
         ensures reads { EngineReads D.Direction self.old (line_shown line.entry) result self.new }
         ensures goes { EngineGoes D.Direction self.old }
@@ -113,15 +110,12 @@ impl<D: Direction> Engine<D> {
         let taken = self.direction.go_on(line);
         self.number += 1;
         match taken {
-            Ok(false) => true,
-            Ok(true) => {
-                self.answer = Ok(Step::Ready);
-                false
-            }
+            Ok(false) => Some(HandedOut::Nothing),
+            Ok(true) => Some(HandedOut::Lines),
             Err(fault) => {
                 // An open epoch may be skipped.
                 self.fail(true, true, fault, begins_epoch(line.bytes()));
-                false
+                None
             }
         }
     }
@@ -129,7 +123,7 @@ impl<D: Direction> Engine<D> {
     /// Takes a line where no epoch is open as [`Engine::take_line`] does, by its parts. An answer that took its place within that one, or a
     /// place for the line, would be set to zero at every line.
     #[inline(never)]
-    fn take_between(&mut self, content: &[u8], number: u64, is_plain: bool) -> bool
+    fn take_between(&mut self, content: &[u8], number: u64, is_plain: bool) -> Option<HandedOut>
         requires closed { is_open_stage (D.parts self.old.direction).stage ≡ false }
         requires short { length content.now ≤ LINE_LIMIT }
         requires next { EngineAwaits D.Direction self.old number }
@@ -141,20 +135,16 @@ impl<D: Direction> Engine<D> {
         if let Stage::Ended(at) = stage {
             self.number += 1;
             self.answer = Err(at);
-            return false;
+            return None;
         }
         let taken = self.direction.take(&self.options, line);
         self.number += 1;
         match taken {
-            Ok(false) => true,
-            Ok(true) => {
-                self.answer = Ok(Step::Ready);
-                false
-            }
+            Ok(handed_out) => Some(handed_out),
             Err(fault) => {
                 let is_open = stage.is_in_epoch();
                 self.fail(stage.may_skip(), is_open, fault, begins_epoch(content));
-                false
+                None
             }
         }
     }
@@ -194,8 +184,8 @@ impl<D: Direction> Engine<D> {
         Err(notice)
     }
 
-    /// Takes a line that is too long, by its number: [`Engine::feed`] with the fault `LineTooLong`, unless a line that begins with `>` is
-    /// looked for: then it is passed over.
+    /// Takes a line that is too long, by its number: it has the fault `LineTooLong`, unless a line that begins with `>` is looked for:
+    /// then it is passed over.
     pub fn overlong(&mut self, number: u64) -> Result<Step, At>
         requires drained { engine_ready D.Direction self.old ≡ [] }
         requires next { number ≡ (engine_state D.Direction self.old).number + 1 }
@@ -233,29 +223,6 @@ impl<D: Direction> Engine<D> {
         ensures repeated { (at : At) → (engine_state D.Direction self.old).phase ≡ Ended at → result ≡ Err at }
     {
         self.close()
-    }
-
-    /// Takes the next line. `Quiet`: nothing is to be written yet; `Ready`: [`Engine::next_line`] gives the lines; `Warned`: a fault is
-    /// skipped, and where reading goes on at this very line, it doesn't count yet and is to be fed once more. The error is the fault that
-    /// ends the run, at this line; from then on each call answers the same, and no line is ready.
-    pub fn feed(&mut self, line: Line<'_>) -> Result<Step, At>
-        requires drained { engine_ready D.Direction self.old ≡ [] }
-        requires next { line_number line ≡ (engine_state D.Direction self.old).number + 1 }
-        requires within { line_number line ≤ INPUT_LIMIT }
-        ensures steps { Steps D.by_line (engine_state D.Direction self.old) (Content
-            (line_shown line.entry).content) result (engine_ready D.Direction self.new) (engine_state D.Direction self.new) }
-        ensures ended { IfErr result (λ at. (engine_state D.Direction self.new).phase ≡ Ended at) }
-        ensures nothing { OnErr result (engine_ready D.Direction self.new ≡ []) }
-        ensures choices { (engine_state D.Direction self.new).choices ≡ (engine_state D.Direction self.old).choices }
-        // After the lines that it has taken, the answer, and the lines that are ready, are what its direction makes of these and the next one.
-        ensures answers { (lines : List InputLine) (notices : List Awaited)
-            → engine_took D.Direction self.old lines notices → IsAwaited notices (line_shown line.entry)
-            → EngineAnswers (D.filter (engine_state D.Direction self.old).choices) (engine_took D.Direction self.new)
-            (engine_ready D.Direction self.new) lines notices (line_shown line.entry) result }
-        ensures repeated { (at : At) → (engine_state D.Direction self.old).phase ≡ Ended at → result ≡ Err at }
-    {
-        let is_quiet = self.take_line(line);
-        answer_given(is_quiet, self.answer)
     }
 
     /// Whether none of the lines that were ready is pending.
@@ -299,7 +266,7 @@ impl<D: Direction> crx_runs::Engine for Engine<D> {
     ghost answer = { λ e. e.answer };
 
     #[inline(always)]
-    fn take(&mut self, line: Line<'_>) -> bool {
+    fn take(&mut self, line: Line<'_>) -> Option<HandedOut> {
         self.take_line(line)
     }
 

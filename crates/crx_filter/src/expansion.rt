@@ -2,11 +2,12 @@
 
 use crate::compact_reader::CompactReader;
 use crate::direction::Direction;
-use crate::engine::Engine;
+use crate::lender::Lender;
 use crate::stage::Stage;
 use crx_base::{Fault, Options};
 use crx_compact::ExpandedLines;
 use crx_lines::Line;
+use crx_runs::HandedOut;
 use std::alloc::{AllocError, Global};
 
 /// What an expansion keeps between two lines.
@@ -26,7 +27,7 @@ pub struct Expansion {
 /// first line, and a satellite's line. At the end the fault is `NotCompact` before the first line, `BadProgLine` before the second,
 /// `MissingVersion` before the header, `NoEndOfHeader` in it, `Truncated` among an event's records, and in an epoch where faults aren't
 /// skipped.
-pub type Expander = Engine<Expansion>;
+pub type Expander = Lender<Expansion>;
 
 impl Direction for Expansion {
     ghost use Rattle.std.specs.Prelude.{⊤, Option, true, []};
@@ -73,10 +74,9 @@ impl Direction for Expansion {
     }
 
     fn new(alloc: Global) -> Result<Expansion, AllocError> {
-        let lines = ExpandedLines::new(alloc)?;
         Ok(Expansion {
             reader: CompactReader::new(alloc),
-            lines,
+            lines: ExpandedLines::new(alloc),
         })
     }
 
@@ -90,17 +90,16 @@ impl Direction for Expansion {
         self.reader.go_on(line.bytes(), &mut self.lines)
     }
 
-    fn take(&mut self, _options: &Options, line: Line<'_>) -> Result<bool, Fault> {
-        let line = line.bytes();
+    fn take(&mut self, _options: &Options, line: Line<'_>) -> Result<HandedOut, Fault> {
         // The line may begin an epoch: one block of memory serves for the printed lines of all.
         if let Stage::Between | Stage::Looking = self.reader.stage {
             self.reader.columns.take_room(&mut self.lines);
         }
-        let is_copied = self.reader.read_between(line)?;
-        if is_copied {
-            self.lines.copy(line);
+        if self.reader.read_between(line.bytes())? {
+            Ok(HandedOut::AsItIs)
+        } else {
+            Ok(HandedOut::Nothing)
         }
-        Ok(is_copied)
     }
 
     fn end_with(&mut self, stage: Stage) {

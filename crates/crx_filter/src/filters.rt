@@ -13,7 +13,10 @@ ghost use Rattle.crx_filter.specs.meaning.Stretches.{KeepsUndamaged, WritesWhole
 ghost use Rattle.crx_runs.specs.meaning.Runs.{HasRun, ran_over};
 ghost use Rattle.crx_runs.specs.meaning.Spans.{reader_span, span};
 
-use crate::{Compactor, Expander, Options};
+use crate::Options;
+use crate::compaction::Compaction;
+use crate::engine::Engine;
+use crate::expansion::Expansion;
 use crx_lines::{Sink, Source};
 use crx_runs::Outcome;
 use crx_runs::start::start;
@@ -46,7 +49,7 @@ pub fn compact<R: Source, W: Sink, M: Sink>(
 {
     start(
         alloc,
-        Compactor::new(alloc, options),
+        Engine::<Compaction>::new(alloc, options),
         reader,
         writer,
         messages,
@@ -91,7 +94,7 @@ pub fn expand<R: Source, W: Sink, M: Sink>(
 {
     start(
         alloc,
-        Expander::new(alloc, options),
+        Engine::<Expansion>::new(alloc, options),
         reader,
         writer,
         messages,

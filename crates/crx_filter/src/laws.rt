@@ -1,7 +1,7 @@
 //! Laws over the definitions of this crate: each is the contract of a function that does nothing.
 
 ghost use Rattle.std.specs.Prelude.{◌≡◌};
-ghost use Rattle.crx_filter.specs.Holdings.{options_with, rinex_reader_with, compaction_with, compaction_inside_with, compact_reader_with, engine_inside_with, expansion_with, checking_with, checking_inside_with};
+ghost use Rattle.crx_filter.specs.Holdings.{options_with, rinex_reader_with, compaction_with, compaction_inside_with, compact_reader_with, compacting_engine_with, engine_inside_with, expanding_engine_with, expansion_with, checking_engine_with, checking_with, checking_inside_with, lender_inside_with};
 ghost use Rattle.crx_base.specs.declared.options.Options.TheInside.{Inside as OptionsInside};
 ghost use Rattle.crx_filter.specs.declared.rinex_reader.RinexReader.{RinexReader};
 ghost use Rattle.crx_filter.specs.declared.compaction.Compaction.TheInside.{Inside as CompactionInside};
@@ -9,6 +9,7 @@ ghost use Rattle.crx_filter.specs.declared.compact_reader.CompactReader.{Compact
 ghost use Rattle.crx_filter.specs.CompactionParts.{CompactionState};
 ghost use Rattle.crx_filter.specs.declared.engine.Engine.TheInside.{Inside as EngineInside};
 ghost use Rattle.crx_filter.specs.declared.expansion.Expansion.{Expansion};
+ghost use Rattle.crx_filter.specs.declared.lender.Lender.TheInside.{Inside as LenderInside};
 ghost use Rattle.crx_filter.specs.declared.checking.Checking.TheInside.{Inside as CheckingInside};
 ghost use Rattle.crx_filter.specs.CheckingParts.{CheckingState};
 
@@ -23,11 +24,17 @@ pub fn readers_hold()
 /// record of the past lines could grow.
 pub fn engines_hold()
     ensures compaction { (one other : CompactionInside) → compaction_inside_with one other ≡ other }
-    ensures compactor { (one other : EngineInside CompactionState)
+    ensures compacting { (one other : EngineInside CompactionState)
         → engine_inside_with compaction_with one other ≡ other }
+    ensures compactor { (one other : LenderInside CompactionState)
+        → lender_inside_with compacting_engine_with one other ≡ other }
     ensures compact_reader { (one other : CompactReader) → compact_reader_with one other ≡ other }
     ensures expansion { (one other : Expansion) → expansion_with one other ≡ other }
-    ensures engine { (one other : EngineInside Expansion) → engine_inside_with expansion_with one other ≡ other }
+    ensures expanding { (one other : EngineInside Expansion) → engine_inside_with expansion_with one other ≡ other }
+    ensures expander { (one other : LenderInside Expansion)
+        → lender_inside_with expanding_engine_with one other ≡ other }
     ensures checking { (one other : CheckingInside) → checking_inside_with one other ≡ other }
-    ensures checker { (one other : EngineInside CheckingState) → engine_inside_with checking_with one other ≡ other }
+    ensures checks { (one other : EngineInside CheckingState) → engine_inside_with checking_with one other ≡ other }
+    ensures checker { (one other : LenderInside CheckingState)
+        → lender_inside_with checking_engine_with one other ≡ other }
 {}

@@ -13,6 +13,7 @@ pub mod expansion;
 mod filters;
 pub mod first_lines;
 pub mod laws;
+pub mod lender;
 pub mod report;
 pub mod rinex_reader;
 pub mod stage;

@@ -9,8 +9,10 @@ use Rattle.crx_runs.proofs.{DeviceSpans.{Joins, all-all, carry-on, notices-appen
 use Rattle.crx_runs.proofs.LineEndings.{all-next, answer-ends, carried-ends, step-comes, step-done}
 use Rattle.crx_runs.specs.{Endings.{Adds, LineEndsRun, EndEndsRun, WarnsAtEnd}, Engines.Awaited}
 use Rattle.crx_runs.specs.Engines.{awaited_notices, EngineAnswers, IsDrainedAfter, RunsOutAt, EndsWith}
-use Rattle.crx_runs.specs.{Engines.{Concludes, GoesOn}, Taking.{HasAnswered, IsDone, IsSettled, KeepsLines}}
+use Rattle.crx_runs.specs.Engines.{Concludes, GoesOn, answer_given}
+use Rattle.crx_runs.specs.Taking.{HasAnswered, IsAnswered, IsCarriedOut, IsDone, IsSettled, KeepsLines}
 use Rattle.crx_runs.specs.{Taking.{LineIsTaken, made_by, step_notices}, declared.engine.Engine.Ghosts}
+use Rattle.crx_runs.specs.declared.engine.HandedOut.{HandedOut, TheVariants.{Nothing, Lines, AsItIs}}
 use Rattle.crx_runs.specs.declared.{engine.Step.{Step, TheVariants.{Quiet, Ready, Warned}}, one_line.Halt.Halt}
 use Rattle.crx_runs.specs.declared.one_line.Halt.TheVariants.{Fault, Unwritten}
 use Rattle.crx_runs.specs.meaning.{Filters.{Filter, with_next}, Messages.notices_text, Results.Course}
@@ -94,10 +96,21 @@ then-done {messages = messages} w m before after shown notice text notices is ad
     }
 then-done w m before after shown notice text notices is adds warned wrote reported flag (Err halt) s = tt
 
-module _ {E : Type 0} (engine : Ghosts E) {before now : E} {can_be : InputLine → Type 0} where
+-- what a line hands out was written, or that failed
+pub written-out : {E : Type 0} (engine : Ghosts E) {now : E} (handed_out : List (List ℕ)) (out : HandedOut)
+    (stored : Result Step At) (new : E) (writer messages : Device) (result : Result Bool Halt)
+    → KeepsLines engine now new → OnOk result (engine.ready new ≡ [])
+    → IsSettled writer messages (made_by handed_out Ready) result
+    → IsCarriedOut engine now new handed_out writer messages (answer_given (Some out) stored) result
+written-out _ _ Nothing _ _ _ _ _ kept drained settled = (kept, drained, settled)
+written-out _ _ Lines _ _ _ _ _ kept drained settled = (kept, drained, settled)
+written-out _ _ AsItIs _ _ _ _ _ kept drained settled = (kept, drained, settled)
+
+module _ {E : Type 0} (engine : Ghosts E) {before now : E} {can_be : InputLine → Type 0}
+    {handed_out : List (List ℕ)} where
   -- a line with a fault
-  pub line-refused : (at : At) (writer messages : Device) → HasAnswered engine before now can_be (Err at)
-      → TookAll writer [] → TookAll messages []
+  pub line-refused : (at : At) (writer messages : Device) → HasAnswered engine before now can_be handed_out
+      (Err at) → TookAll writer [] → TookAll messages []
       → LineIsTaken engine before now can_be writer messages (Err (Fault at))
   line-refused at writer messages a wrote reported = record {
     filter = a.filter;
@@ -109,8 +122,8 @@ module _ {E : Type 0} (engine : Ghosts E) {before now : E} {can_be : InputLine �
 
   -- a line that doesn't come a second time
   pub line-settled : (step : Step) (new : E) (writer messages : Device) (result : Result Bool Halt)
-      → HasAnswered engine before now can_be (Ok step) → Stays step → KeepsLines engine now new → OnOk result
-      (engine.ready new ≡ []) → IsSettled writer messages (made_by (engine.ready now) step) result
+      → HasAnswered engine before now can_be handed_out (Ok step) → Stays step → KeepsLines engine now new →
+      OnOk result (engine.ready new ≡ []) → IsSettled writer messages (made_by handed_out step) result
       → LineIsTaken engine before new can_be writer messages result
   line-settled step new writer messages result a stays kept drained settled =
       let adds = λ (lines : List InputLine) (line : InputLine) (shown : engine.shows before lines [])
@@ -126,10 +139,20 @@ module _ {E : Type 0} (engine : Ghosts E) {before now : E} {can_be : InputLine �
             (λ some. goes.1) (all-next goes.1) result settled;
       }
 
+  -- a line that hands lines out
+  pub line-handed : (out : HandedOut) (stored : Result Step At) (new : E) (writer messages : Device)
+      (result : Result Bool Halt) → HasAnswered engine before now can_be handed_out
+      (answer_given (Some out) stored)
+      → IsCarriedOut engine now new handed_out writer messages (answer_given (Some out) stored) result
+      → LineIsTaken engine before new can_be writer messages result
+  line-handed Nothing _ _ _ _ _ a done = line-settled Quiet _ _ _ _ a tt done.0 done.1 done.2
+  line-handed Lines _ _ _ _ _ a done = line-settled Ready _ _ _ _ a tt done.0 done.1 done.2
+  line-handed AsItIs _ _ _ _ _ a done = line-settled Ready _ _ _ _ a tt done.0 done.1 done.2
+
   -- a line whose warning couldn't be reported, at which reading was to go on
   again-unreported : (notice : At) (new : E) (writer messages : Device) (halt : Halt)
-      → HasAnswered engine before now can_be (Ok (Warned notice true)) → KeepsLines engine now new
-      → IsSettled writer messages (made_by (engine.ready now) (Warned notice true)) (Err halt)
+      → HasAnswered engine before now can_be handed_out (Ok (Warned notice true)) → KeepsLines engine now new
+      → IsSettled writer messages (made_by handed_out (Warned notice true)) (Err halt)
       → LineIsTaken engine before new can_be writer messages (Err halt)
   again-unreported notice new writer messages halt a kept settled = record {
     filter = kept.filter ∙ a.filter;
@@ -143,8 +166,8 @@ module _ {E : Type 0} (engine : Ghosts E) {before now : E} {can_be : InputLine �
 
   -- either of both
   pub line-failed : (step : Step) (new : E) (writer messages : Device) (halt : Halt) → HasAnswered engine
-      before now can_be (Ok step) → KeepsLines engine now new → IsSettled writer messages (made_by
-      (engine.ready now) step) (Err halt) → LineIsTaken engine before new can_be writer messages (Err halt)
+      before now can_be handed_out (Ok step) → KeepsLines engine now new → IsSettled writer messages (made_by
+      handed_out step) (Err halt) → LineIsTaken engine before new can_be writer messages (Err halt)
   line-failed Quiet _ _ _ _ a kept s = line-settled _ _ _ _ _ a tt kept tt s
   line-failed Ready _ _ _ _ a kept s = line-settled _ _ _ _ _ a tt kept tt s
   line-failed (Warned notice true) _ _ _ _ a kept s = again-unreported _ _ _ _ _ a kept s
@@ -152,21 +175,21 @@ module _ {E : Type 0} (engine : Ghosts E) {before now : E} {can_be : InputLine �
 
   -- a line that comes a second time, after its warning
   module _ {step : Step} {notice : At} (is : step ≡ Warned notice true)
-      (answered : HasAnswered engine before now can_be (Ok step)) {mid : E} (kept : KeepsLines engine now mid)
-      {writer1 writer2 writer messages1 messages2 messages : Device} (w : Joins writer1 writer2 writer)
-      (m : Joins messages1 messages2 messages) (warned : Bool)
-      (out : IsSettled writer1 messages1 (made_by (engine.ready now) step) (Ok warned)) (then : E) where
+      (answered : HasAnswered engine before now can_be handed_out (Ok step)) {mid : E} (kept : KeepsLines
+      engine now mid) {writer1 writer2 writer messages1 messages2 messages : Device} (w : Joins writer1
+      writer2 writer) (m : Joins messages1 messages2 messages) (warned : Bool)
+      (out : IsSettled writer1 messages1 (made_by handed_out step) (Ok warned)) where
     abbrev its : Filter
     its = engine.filter before
 
     abbrev awaited : InputLine → List Awaited
     awaited line = record { notice = notice; line = line } ∷ []
 
-    a : HasAnswered engine before now can_be (Ok (Warned notice true))
+    a : HasAnswered engine before now can_be handed_out (Ok (Warned notice true))
     a = rw (← is) answered
 
-    settled : IsSettled writer1 messages1 (made_by (engine.ready now) (Warned notice true)) (Ok warned)
-    settled = subst (λ s. IsSettled writer1 messages1 (made_by (engine.ready now) s) (Ok warned)) is out
+    settled : IsSettled writer1 messages1 (made_by handed_out (Warned notice true)) (Ok warned)
+    settled = subst (λ s. IsSettled writer1 messages1 (made_by handed_out s) (Ok warned)) is out
 
     first-wrote : TookAll writer1 []
     first-wrote = subst (λ r. TookAll writer1 (lines_text r)) a.drained settled.0.wrote
@@ -177,9 +200,10 @@ module _ {E : Type 0} (engine : Ghosts E) {before now : E} {can_be : InputLine �
         let next = (a.answers lines [] line shown tt is).2 in
         (next.0, next.1 ∙ sym (append_assoc _ _ next.0))
 
-    second-answers : (answer : Result Step At) → HasAnswered engine mid then can_be answer
-        → (lines : List InputLine) (line : InputLine) → engine.shows before lines [] → can_be line
-        → EngineAnswers its (engine.shows then) (engine.ready then) lines (awaited line) line answer
+    second-answers : {then : E} {comes_out : List (List ℕ)} (answer : Result Step At)
+        → HasAnswered engine mid then can_be comes_out answer → (lines : List InputLine) (line : InputLine) →
+        engine.shows before lines [] → can_be line → EngineAnswers its (engine.shows then) comes_out lines
+        (awaited line) line answer
     second-answers = grind (arith, common_steps, a)
 
     second-ends : (lines : List InputLine) (line : InputLine) (halt : Halt)
@@ -189,8 +213,9 @@ module _ {E : Type 0} (engine : Ghosts E) {before now : E} {can_be : InputLine �
     second-ends lines line halt e = carried-ends (carry-on w _ [] _ (sym (append-nil _)) first-wrote)
         (carry-on m _ _ _ (notices-append _ _) settled.0.reported) _ _ _ _ halt e
 
-    pub again-refused : (at : At) → HasAnswered engine mid then can_be (Err at) → TookAll writer2 [] → TookAll
-        messages2 [] → LineIsTaken engine before then can_be writer messages (Err (Fault at))
+    again-refused : {then : E} {comes_out : List (List ℕ)} (at : At) → HasAnswered engine mid then can_be
+        comes_out (Err at) → TookAll writer2 [] → TookAll messages2 [] → LineIsTaken engine before then can_be
+        writer messages (Err (Fault at))
     again-refused at b wrote reported = record {
       filter = b.filter ∙ kept.filter ∙ a.filter;
       drained = tt;
@@ -200,16 +225,16 @@ module _ {E : Type 0} (engine : Ghosts E) {before now : E} {can_be : InputLine �
           (either-out _ _ _ _ _ (second-answers (Err at) b lines line shown is)) wrote reported);
     }
 
-    pub again-settled : (second : Step) (new : E) (result : Result Bool Halt) → HasAnswered engine mid then
-        can_be (Ok second) → KeepsLines engine then new → OnOk result (engine.ready new ≡ []) → IsSettled
-        writer2 messages2 (made_by (engine.ready then) second) result → LineIsTaken engine before new can_be
-        writer messages (then_of warned result)
-    again-settled second new result b kept2 drained settled2 =
+    again-settled : {then : E} {comes_out : List (List ℕ)} (second : Step) (new : E) (result : Result Bool
+        Halt) → HasAnswered engine mid then can_be comes_out (Ok second) → KeepsLines engine then new
+        → OnOk result (engine.ready new ≡ []) → IsSettled writer2 messages2 (made_by comes_out second) result
+        → LineIsTaken engine before new can_be writer messages (then_of warned result)
+    again-settled {then = then} {comes_out = comes_out} second new result b kept2 drained settled2 =
         let adds = λ (lines : List InputLine) (line : InputLine)
         (shown : engine.shows before lines []) (is : can_be line).
         let answers = second-answers (Ok second) b lines line shown is in
         answers-add its (engine.shows then) _ lines (awaited line) line second
-        (stays-then its (engine.shows then) (engine.ready then) lines (record
+        (stays-then its (engine.shows then) comes_out lines (record
         { notice = notice; line = line }) line second answers) b.drained answers in
         record {
           filter = kept2.filter ∙ b.filter ∙ kept.filter ∙ a.filter;
@@ -222,6 +247,18 @@ module _ {E : Type 0} (engine : Ghosts E) {before now : E} {can_be : InputLine �
               (step-comes _ _ _ _ (notice ∷ []) _ refl _ _ _ _ (λ some. goes.1)
               (all-next goes.1) result settled2);
         }
+
+    again-done : {then new : E} {comes_out : List (List ℕ)} (answer : Result Step At) (result : Result Bool
+        Halt) → HasAnswered engine mid then can_be comes_out answer
+        → IsCarriedOut engine then new comes_out writer2 messages2 answer result
+        → LineIsTaken engine before new can_be writer messages (then_of warned result)
+    again-done (Ok second) result b out = again-settled second _ result b out.0 out.1 out.2
+    again-done (Err at) result b out = rw (out.0, out.1) (again-refused at b out.2 out.3)
+
+    pub again-answered : {new : E} (result : Result Bool Halt)
+        → IsAnswered engine mid new can_be writer2 messages2 result
+        → LineIsTaken engine before new can_be writer messages (then_of warned result)
+    again-answered result second = again-done second.answer result second.answers second.carried_out
 
 -- the end of the input
 concludes-add : (filter : Filter) (ready : List (List ℕ)) (lines : List InputLine) (step : Step)

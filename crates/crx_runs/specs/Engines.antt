@@ -1,6 +1,6 @@
 -- What an engine answers, line by line.
-use Rattle.std.specs.Prelude.{◌≡◌, ◌⊎◌, ◌≤◌, ℕ, ◌+◌, ⊤, Bool, true, false, List, [], ◌∷◌, ◌++◌, length, Some, None}
-use Rattle.std.specs.Prelude.{Result, Ok, Err, IfOk, OnErr}
+use Rattle.std.specs.Prelude.{◌≡◌, ◌⊎◌, ◌≤◌, ℕ, ◌+◌, ⊤, true, false, List, [], ◌∷◌, ◌++◌, length, Some, None}
+use Rattle.std.specs.Prelude.{Option, Result, Ok, Err, IfOk, OnErr}
 use Rattle.crx_base.specs.meaning.Lines.{InputLine}
 use Rattle.crx_base.specs.declared.fault.At.{At}
 use Rattle.crx_base.specs.declared.fault.Fault.TheVariants.{OutOfMemory}
@@ -8,6 +8,8 @@ use Rattle.crx_base.specs.declared.limits.TheConstants.{INPUT_LIMIT}
 use Rattle.crx_runs.specs.meaning.Results.{Course}
 use Rattle.crx_runs.specs.meaning.Filters.{Filter, with_next}
 use Rattle.crx_base.specs.meaning.Lines.{lines_text}
+use Rattle.crx_runs.specs.declared.engine.HandedOut.{HandedOut}
+use Rattle.crx_runs.specs.declared.engine.HandedOut.TheVariants.{Nothing, Lines, AsItIs}
 use Rattle.crx_runs.specs.declared.engine.Step.{Step}
 use Rattle.crx_runs.specs.declared.engine.Step.TheVariants.{Quiet, Ready, Warned}
 
@@ -24,10 +26,17 @@ IsDrainedAfter Ready ready = ⊤
 IsDrainedAfter Quiet ready = ready ≡ []
 IsDrainedAfter (Warned notice again) ready = ready ≡ []
 
--- the answer to a line: that nothing is to be done, or the answer that is stored
-abbrev pub answer_given : Bool → Result Step At → Result Step At
-answer_given true kept = Ok Quiet
-answer_given false kept = kept
+-- the answer to a line: whether anything is handed out, or the answer that is stored
+abbrev pub answer_given : Option HandedOut → Result Step At → Result Step At
+answer_given None kept = kept
+answer_given (Some Nothing) kept = Ok Quiet
+answer_given (Some Lines) kept = Ok Ready
+answer_given (Some AsItIs) kept = Ok Ready
+
+-- what a line hands out: the lines that are ready, and where it is handed out as it is, after them that line itself
+abbrev pub lines_handed_out : Option HandedOut → List ℕ → List (List ℕ) → List (List ℕ)
+lines_handed_out (Some AsItIs) line ready = ready ++ line ∷ []
+lines_handed_out handed_out line ready = ready
 
 -- a line of this number may be given to an engine that has taken so many: no line is pending, and it is the next one
 pub record IsNextLine (ready : List (List ℕ)) (taken number : ℕ) : Type 0 where

@@ -8,6 +8,7 @@ use Rattle.crx_runs.specs.declared.engine.Engine.{Ghosts as EngineGhosts}
 use Rattle.crx_runs.specs.declared.engine.Step.{Step}
 use Rattle.crx_runs.specs.declared.engine.Step.TheVariants.{Quiet, Ready, Warned}
 use Rattle.crx_runs.specs.declared.one_line.Halt.{Halt}
+use Rattle.crx_runs.specs.declared.one_line.Halt.TheVariants.{Fault}
 use Rattle.crx_runs.specs.declared.one_line.Taken.{Taken}
 use Rattle.crx_runs.specs.declared.one_line.Taken.TheVariants.{Line, Overlong}
 use Rattle.crx_runs.specs.meaning.Results.{Course}
@@ -39,15 +40,15 @@ step_notices (Warned notice again) = notice ∷ []
 abbrev pub MayTake : {E : Type 0} → EngineGhosts E → E → ℕ → Type 0
 MayTake engine now number = IsNextLine (engine.ready now) (engine.taken now) number
 
--- an engine answered so to a line, whichever line it is of those that it can be
-pub record HasAnswered {E : Type 0} (engine : EngineGhosts E)
-    (before now : E) (can_be : InputLine → Type 0) (answer : Result Step At) : Type 0 where
+-- an engine answered so to a line, whichever line it is of those that it can be, which hands these lines out
+pub record HasAnswered {E : Type 0} (engine : EngineGhosts E) (before now : E)
+    (can_be : InputLine → Type 0) (handed_out : List (List ℕ)) (answer : Result Step At) : Type 0 where
   pub filter : engine.filter now ≡ engine.filter before
-  pub drained : IfOk answer (λ step. IsDrainedAfter step (engine.ready now))
+  pub drained : IfOk answer (λ step. IsDrainedAfter step handed_out)
   pub count : IfOk answer (λ step. engine.taken now ≡ taken_after step (engine.taken before))
   pub answers : (lines : List InputLine) (notices : List Awaited) (line : InputLine)
       → engine.shows before lines notices → IsAwaited notices line → can_be line
-      → EngineAnswers (engine.filter before) (engine.shows now) (engine.ready now) lines notices line answer
+      → EngineAnswers (engine.filter before) (engine.shows now) handed_out lines notices line answer
 
 -- it is the line of this content, and LF alone ends it or doesn't
 abbrev pub IsLine : List ℕ → Bool → InputLine → Type 0
@@ -58,7 +59,7 @@ pub record HoldsAnswer {E : Type 0} (engine : EngineGhosts E) (now : E) (content
     (is_plain : Bool) : Type 0 where
   pub short : length content ≤ LINE_LIMIT
   pub answered : (before : E) × MayTake engine before number
-      × HasAnswered engine before now (IsLine content is_plain) (engine.answer now)
+      × HasAnswered engine before now (IsLine content is_plain) (engine.ready now) (engine.answer now)
 
 -- lines were taken over from an engine, and nothing else of it changed
 abbrev pub KeepsLines : {E : Type 0} → EngineGhosts E → E → E → Type 0
@@ -75,13 +76,31 @@ IsTouchedBy (Warned notice again) before now = now ≡ before
 
 -- what a step makes: its lines, or its warning
 abbrev pub made_by : List (List ℕ) → Step → Course
-made_by ready step = record { output = lines_text ready; warnings = step_notices step; fault = None }
+made_by handed_out step = record { output = lines_text handed_out; warnings = step_notices step; fault = None }
 
 -- what a step makes was written and reported, whether it was a warning; or that failed
 abbrev pub IsSettled : Device → Device → Course → Result Bool Halt → Type 0
 IsSettled writer messages made (Ok warned) = IsAllOut writer messages made × (warned ≡ are_some made.warnings)
 IsSettled writer messages made (Err halt) =
     EndsAt None 0 writer messages (record { output = []; warnings = []; fault = None }) made halt
+
+-- what was answered to a line that hands these lines out was done: they were written, or the warning reported, or that
+-- failed; or a fault ended the run
+abbrev pub IsCarriedOut : {E : Type 0} → EngineGhosts E → E → E → List (List ℕ) → Device → Device → Result Step At
+    → Result Bool Halt → Type 0
+IsCarriedOut engine before now handed_out writer messages (Ok step) result = KeepsLines engine before now
+    × OnOk result (engine.ready now ≡ []) × IsSettled writer messages (made_by handed_out step) result
+IsCarriedOut engine before now handed_out writer messages (Err at) result = (now ≡ before)
+    × (result ≡ Err (Fault at)) × TookAll writer [] × TookAll messages []
+
+-- an engine answered to a line, whichever it is of those that it can be, and that was done
+pub record IsAnswered {E : Type 0} (engine : EngineGhosts E) (before now : E)
+    (can_be : InputLine → Type 0) (writer messages : Device) (result : Result Bool Halt) : Type 0 where
+  pub answered : E
+  pub handed_out : List (List ℕ)
+  pub answer : Result Step At
+  pub answers : HasAnswered engine before answered can_be handed_out answer
+  pub carried_out : IsCarriedOut engine answered now handed_out writer messages answer result
 
 -- ---- one line
 
@@ -112,5 +131,5 @@ pub record LineIsTaken {E : Type 0} (engine : EngineGhosts E) (before now : E)
 abbrev pub AnswerIsDone : {E : Type 0} → EngineGhosts E → E → E → List ℕ → Bool → Device → Device → Result Bool Halt
     → Type 0
 AnswerIsDone {E = E} engine answered now content is_plain writer messages result = (before : E)
-    → HasAnswered engine before answered (IsLine content is_plain) (engine.answer answered)
+    → HasAnswered engine before answered (IsLine content is_plain) (engine.ready answered) (engine.answer answered)
     → LineIsTaken engine before now (IsLine content is_plain) writer messages result

@@ -10,7 +10,7 @@ ghost use Rattle.crx_base.specs.declared.fault.At.{At};
 ghost use Rattle.crx_base.specs.declared.limits.TheConstants.{INPUT_LIMIT};
 ghost use Rattle.crx_runs.specs.meaning.Filters.{Filter};
 ghost use Rattle.crx_base.specs.meaning.Lines.{lines_text};
-ghost use Rattle.crx_runs.specs.Engines.{EngineAnswers, answer_given, Awaited, IsAwaited, Concludes, HasStepped, IsNextLine, KeepsAllElse, taken_after};
+ghost use Rattle.crx_runs.specs.Engines.{EngineAnswers, answer_given, Awaited, IsAwaited, Concludes, HasStepped, IsNextLine, KeepsAllElse, lines_handed_out, taken_after};
 
 use crx_base::At;
 use crx_lines::Line;
@@ -31,11 +31,15 @@ pub enum Step {
     },
 }
 
-/// The answer to a line: that nothing is to be done, or the answer that is stored.
-pub fn answer_given(is_quiet: bool, kept: Result<Step, At>) -> Result<Step, At>
-    ensures value { result ≡ answer_given is_quiet kept }
-{
-    if is_quiet { Ok(Step::Quiet) } else { kept }
+/// What is to be written after a line that was taken.
+#[derive(Clone, Copy, Debug, PartialEq, Eq)]
+pub enum HandedOut {
+    /// Nothing yet.
+    Nothing,
+    /// The lines that are ready.
+    Lines,
+    /// The lines that are ready, and after them the line itself, as it is.
+    AsItIs,
 }
 
 /// A filter that takes the lines of an input one at a time; the lines that are to be written are borrowed from it.
@@ -54,26 +58,26 @@ pub trait Engine {
     // The number of the last line that was taken, 0 before the first.
     ghost taken: { Self → ℕ };
 
-    // The answer to the line that `take` took last, where it answered `false`.
+    // The answer to the line that `take` took last, where it answered `None`.
     ghost answer: { Self → Result Step At };
 
     // The end of the input was taken after these lines.
     ghost has_ended: { Self → List InputLine → Type 0 };
 
-    /// Takes a line. `true` says that nothing is to be written yet and nothing to be reported; after `false`
-    /// [`Engine::answer`] says what is.
-    fn take(&mut self, line: Line<'_>) -> bool
+    /// Takes a line. `Some` says what is to be written, and that nothing is to be reported; after `None` [`Engine::answer`] says what is.
+    fn take(&mut self, line: Line<'_>) -> Option<HandedOut>
         requires next { IsNextLine (ready self.old) (taken self.old) (line_number line) }
-        ensures stepped { HasStepped (filter self.old) (filter self.new) (ready self.new)
-            (answer_given result (answer self.new)) }
+        ensures stepped { HasStepped (filter self.old) (filter self.new)
+            (lines_handed_out result (line_shown line.entry).content (ready self.new)) (answer_given result (answer self.new)) }
         ensures count { IfOk (answer_given result (answer self.new))
             (λ step. taken self.new ≡ taken_after step (taken self.old)) }
+        // What a line hands out is what is ready, and after it that line itself where it is copied.
         ensures answers { (lines : List InputLine) (notices : List Awaited) → shows self.old lines notices
-            → IsAwaited notices (line_shown line.entry)
-            → EngineAnswers (filter self.old) (shows self.new) (ready self.new) lines notices
+            → IsAwaited notices (line_shown line.entry) → EngineAnswers (filter self.old) (shows self.new)
+            (lines_handed_out result (line_shown line.entry).content (ready self.new)) lines notices
             (line_shown line.entry) (answer_given result (answer self.new)) };
 
-    /// The answer to the line that [`Engine::take`] took last, where it answered `false`: what is to be written or reported.
+    /// The answer to the line that [`Engine::take`] took last, where it answered `None`: what is to be reported, or ended the run.
     fn answer(&self) -> Result<Step, At>
         ensures value { result ≡ answer self.now };
 

@@ -14,6 +14,6 @@ mod step;
 pub mod until_failure;
 mod work;
 
-pub use engine::{Engine, Step};
+pub use engine::{Engine, HandedOut, Step};
 pub use outcome::Outcome;
 pub use until_failure::UntilFailure;

@@ -1,19 +1,19 @@
 //! One line of the input, through an engine to the writer and the messages.
 
-ghost use Rattle.std.specs.Prelude.{◌≡◌, ◌≤◌, List, [], IfOk, IfErr, OnOk, length, true};
+ghost use Rattle.std.specs.Prelude.{◌≡◌, ◌≤◌, List, [], IfOk, IfErr, OnOk, true};
 ghost use Rattle.crx_base.specs.meaning.Lines.{InputLine, is_long};
 ghost use Rattle.crx_lines.specs.Reading.{line_shown, line_number};
 ghost use Rattle.crx_base.specs.declared.fault.At.{At};
-ghost use Rattle.crx_base.specs.declared.limits.TheConstants.{INPUT_LIMIT, LINE_LIMIT};
+ghost use Rattle.crx_base.specs.declared.limits.TheConstants.{INPUT_LIMIT};
 ghost use Rattle.crx_runs.specs.Endings.{EndEndsRun};
 ghost use Rattle.crx_runs.specs.Engines.{IsDrainedAfter};
 ghost use Rattle.crx_runs.specs.declared.one_line.Halt.TheVariants as halts;
-ghost use Rattle.crx_runs.specs.Taking.{AnswerIsDone, HasAnswered, HoldsAnswer, IsDone, IsSettled, IsTouchedBy, KeepsLines, LineIsTaken, MayTake, TakenIs, made_by, number_taken};
+ghost use Rattle.crx_runs.specs.Taking.{AnswerIsDone, HasAnswered, HoldsAnswer, IsAnswered, IsDone, IsSettled, IsTouchedBy, KeepsLines, LineIsTaken, MayTake, TakenIs, made_by, number_taken};
 ghost use Rattle.crx_runs.specs.meaning.Spans.{span};
 
-use crate::engine::{Engine, Step, answer_given};
+use crate::engine::{Engine, HandedOut, Step};
 use crate::message::{Severity, message};
-use crate::ready_lines::write_ready;
+use crate::ready_lines::{write_handed_out, write_ready};
 use crx_base::At;
 use crx_lines::{Line, Sink, write_all_counted};
 
@@ -43,20 +43,6 @@ pub(crate) enum Taken<'a> {
     Line(Line<'a>),
     /// The number of a line that is too long.
     Overlong(u64),
-}
-
-/// Gives a line to an engine.
-fn offer<E: Engine>(engine: &mut E, taken: Taken<'_>) -> Result<Step, At>
-    requires { MayTake E.Engine engine.old (number_taken taken) }
-    ensures { HasAnswered E.Engine engine.old engine.new (TakenIs taken.entry) result }
-{
-    match taken {
-        Taken::Line(line) => {
-            let is_quiet = engine.take(line);
-            answer_given(is_quiet, engine.answer())
-        }
-        Taken::Overlong(number) => engine.overlong(number),
-    }
 }
 
 /// Writes what a step made ready, or reports its warning; whether it was a warning.
@@ -89,6 +75,35 @@ fn carry_out<E: Engine, W: Sink, M: Sink>(
     }
 }
 
+/// Gives a line to an engine, and does what it answers; whether that is a warning.
+fn offer<E: Engine, W: Sink, M: Sink>(
+    engine: &mut E,
+    writer: &mut W,
+    messages: &mut M,
+    taken: Taken<'_>,
+) -> Result<bool, Halt>
+    requires { MayTake E.Engine engine.old (number_taken taken) }
+    ensures { IsAnswered E.Engine engine.old engine.new (TakenIs taken.entry)
+        (span W.Sink writer.old writer.new) (span M.Sink messages.old messages.new) result }
+{
+    match taken {
+        Taken::Line(line) => match engine.take(line) {
+            Some(handed_out) => match write_handed_out(engine, writer, line.bytes(), handed_out) {
+                Ok(()) => Ok(false),
+                Err(_) => Err(Halt::Unwritten),
+            },
+            None => {
+                let step = engine.answer()?;
+                carry_out(engine, writer, messages, step)
+            }
+        },
+        Taken::Overlong(number) => {
+            let step = engine.overlong(number)?;
+            carry_out(engine, writer, messages, step)
+        }
+    }
+}
+
 /// Does what an engine answered to a line, which is given a second time where reading goes on at it; whether there was a warning.
 #[inline(never)]
 fn take_answered<E: Engine, W: Sink, M: Sink>(
@@ -99,8 +114,8 @@ fn take_answered<E: Engine, W: Sink, M: Sink>(
     answer: Result<Step, At>,
 ) -> Result<bool, Halt>
     requires { (before : E) × MayTake E.Engine before (number_taken taken)
-        × HasAnswered E.Engine before engine.old (TakenIs taken) answer }
-    ensures { (before : E) → HasAnswered E.Engine before engine.old (TakenIs taken.entry) answer
+        × HasAnswered E.Engine before engine.old (TakenIs taken) (E.ready engine.old) answer }
+    ensures { (before : E) → HasAnswered E.Engine before engine.old (TakenIs taken.entry) (E.ready engine.old) answer
         → LineIsTaken E.Engine before engine.new (TakenIs taken.entry)
         (span W.Sink writer.old writer.new) (span M.Sink messages.old messages.new) result }
 {
@@ -110,16 +125,15 @@ fn take_answered<E: Engine, W: Sink, M: Sink>(
         Step::Quiet | Step::Ready => Ok(warned),
         Step::Warned { again, .. } => {
             if again {
-                let second = offer(engine, taken)?;
-                carry_out(engine, writer, messages, second)?;
+                offer(engine, writer, messages, taken)?;
             }
             Ok(warned)
         }
     }
 }
 
-/// Takes a line of the input: gives it to the engine, a second time where reading goes on at it, writes what it makes
-/// ready, and reports its warnings; whether there was one.
+/// Takes a line of the input: gives it to the engine, a second time where reading goes on at it, writes what it hands
+/// out, and reports its warnings; whether there was one.
 #[inline(always)]
 pub fn take_line<E: Engine, W: Sink, M: Sink>(
     engine: &mut E,
@@ -132,46 +146,25 @@ pub fn take_line<E: Engine, W: Sink, M: Sink>(
         (span W.Sink writer.old writer.new)
         (span M.Sink messages.old messages.new) result }
 {
-    if engine.take(line) {
-        return Ok(false);
-    }
-    take_stored(
-        engine,
-        writer,
-        messages,
-        line.bytes(),
-        line.number(),
-        line.plain(),
-    )
-}
-
-/// Does what an engine answered to a line after which something is to be done. In [`take_line`] a place for the line, which is given in its
-/// parts, would be cleared for each line.
-#[inline(never)]
-fn take_stored<E: Engine, W: Sink, M: Sink>(
-    engine: &mut E,
-    writer: &mut W,
-    messages: &mut M,
-    content: &[u8],
-    number: u64,
-    is_plain: bool,
-) -> Result<bool, Halt>
-    requires { HoldsAnswer E.Engine engine.old content.now number is_plain }
-    ensures { AnswerIsDone E.Engine engine.old engine.new content.now is_plain
-        (span W.Sink writer.old writer.new) (span M.Sink messages.old messages.new) result }
-{
-    // Most of these lines are copied: this way saves 70 instructions for each of them.
-    if let Ok(Step::Ready) = engine.answer() {
-        return match write_ready(engine, writer) {
+    match engine.take(line) {
+        Some(HandedOut::Nothing) => Ok(false),
+        Some(handed_out) => match write_handed_out(engine, writer, line.bytes(), handed_out) {
             Ok(()) => Ok(false),
             Err(_) => Err(Halt::Unwritten),
-        };
+        },
+        None => take_by_answer(
+            engine,
+            writer,
+            messages,
+            line.bytes(),
+            line.number(),
+            line.plain(),
+        ),
     }
-    take_by_answer(engine, writer, messages, content, number, is_plain)
 }
 
-/// Does what an engine answered to a line after which more is to be done than to write what is ready. In [`take_stored`] the places for the
-/// answer and for the line would be cleared for each line that is copied.
+/// Does what an engine answered to a line with a fault, which is given in its parts. In [`take_line`] the places for the answer and for the
+/// line would be cleared for each line.
 #[inline(never)]
 fn take_by_answer<E: Engine, W: Sink, M: Sink>(
     engine: &mut E,

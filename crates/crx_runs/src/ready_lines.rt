@@ -1,11 +1,12 @@
-//! Writing the lines that an engine has ready.
+//! Writing what a line hands out.
 
-ghost use Rattle.std.specs.Prelude.{◌≡◌, [], OnOk, OnErr};
+ghost use Rattle.std.specs.Prelude.{◌≡◌, [], Some, OnOk, OnErr};
 ghost use Rattle.crx_base.specs.meaning.Lines.{lines_text};
+ghost use Rattle.crx_runs.specs.Engines.{lines_handed_out};
 ghost use Rattle.crx_runs.specs.Taking.{KeepsLines};
 ghost use Rattle.crx_runs.specs.meaning.Spans.{TookAll, TookPart, span};
 
-use crate::engine::Engine;
+use crate::engine::{Engine, HandedOut};
 use crx_lines::{Sink, WriteFailed, write_all_counted};
 
 /// Writes the lines that an engine has ready, each with LF: as one text where the engine has them as one, as it mostly has, else one by
@@ -28,6 +29,33 @@ pub(crate) fn write_ready<E: Engine, W: Sink>(
     }
     while let Some(line) = engine.next_line() {
         if let Err((_, failed)) = write_all_counted(writer, line) {
+            return Err(failed);
+        }
+        if let Err((_, failed)) = write_all_counted(writer, b"\n") {
+            return Err(failed);
+        }
+    }
+    Ok(())
+}
+
+/// Writes what a line of this content hands out: the lines that are ready, and after them that line itself where it is copied.
+#[inline(never)]
+pub(crate) fn write_handed_out<E: Engine, W: Sink>(
+    engine: &mut E,
+    writer: &mut W,
+    content: &[u8],
+    handed_out: HandedOut,
+) -> Result<(), WriteFailed>
+    ensures drained { OnOk result (E.ready engine.new ≡ []) }
+    ensures kept { KeepsLines E.Engine engine.old engine.new }
+    ensures all { OnOk result (TookAll (span W.Sink writer.old writer.new)
+        (lines_text (lines_handed_out (Some handed_out) content.now (E.ready engine.old)))) }
+    ensures part { OnErr result (TookPart (span W.Sink writer.old writer.new)
+        (lines_text (lines_handed_out (Some handed_out) content.now (E.ready engine.old)))) }
+{
+    write_ready(engine, writer)?;
+    if let HandedOut::AsItIs = handed_out {
+        if let Err((_, failed)) = write_all_counted(writer, content) {
             return Err(failed);
         }
         if let Err((_, failed)) = write_all_counted(writer, b"\n") {

@@ -16,7 +16,7 @@ pub use Rattle.crx_base.specs.meaning.AsRead.{ended_lines_of, as_read}
 pub use Rattle.crx_filter.proofs.following.CheckLawful.{check-lawful}
 pub use Rattle.crx_filter.proofs.following.Lawful.{compaction-lawful, expansion-lawful}
 pub use Rattle.crx_filter.proofs.standard.Lossless.{what-passes}
-pub use Rattle.crx_filter.specs.CompactorState.{compactor_state}
+pub use Rattle.crx_filter.specs.CompactorState.{compacting_state}
 pub use Rattle.crx_filter.specs.meaning.Compacted.{compacted}
 pub use Rattle.crx_filter.specs.meaning.Directions.{compaction_filter}
 pub use Rattle.crx_filter.specs.meaning.Expanded.{expanded, whole_compact}

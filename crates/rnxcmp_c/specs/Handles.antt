@@ -12,14 +12,14 @@ use Rattle.crx_runs.specs.meaning.Messages.{error_text, notices_text}
 use Rattle.crx_filter.specs.meaning.Standard.{report_status}
 use Rattle.crx_filter.specs.meaning.Directions.{check_filter}
 use Rattle.crx_filter.specs.CheckByLine.{check_by_line, check_reading}
-use Rattle.crx_filter.specs.CheckerState.{checker_ready, checker_state}
+use Rattle.crx_filter.specs.CheckerState.{checking_ready, checking_state}
 use Rattle.crx_filter.specs.CheckingParts.{HasFound, HasNoted}
 use Rattle.crx_filter.specs.CompactionByLine.{compaction, compaction_state}
-use Rattle.crx_filter.specs.CompactorState.{compactor_ready, compactor_state}
+use Rattle.crx_filter.specs.CompactorState.{compacting_ready, compacting_state}
 use Rattle.crx_filter.specs.meaning.Directions.{compaction_filter, expansion_filter}
 use Rattle.crx_filter.specs.EngineLines.{HasTaken}
 use Rattle.crx_runs.specs.Engines.{Awaited}
-use Rattle.crx_filter.specs.ExpanderState.{expander_ready, expander_state}
+use Rattle.crx_filter.specs.ExpanderState.{expanding_ready, expanding_state}
 use Rattle.crx_filter.specs.ExpansionByLine.{expansion, expansion_state}
 use Rattle.crx_runs.specs.declared.outcome.Outcome.{Outcome}
 use Rattle.crx_runs.specs.meaning.Runs.{FaultIs}
@@ -44,24 +44,24 @@ use Rattle.rnxcmp_c.specs.declared.stop.Stop.TheVariants.{Fault, Limit}
 -- ---- the engine of a run
 
 abbrev pub engine_filter : AnyEngine → Filter
-engine_filter (Compacting c) = compaction_filter (compactor_state c).choices
+engine_filter (Compacting c) = compaction_filter (compacting_state c).choices
 engine_filter (Expanding e) = expansion_filter e.options
 engine_filter (Checking c) = check_filter
 
 abbrev pub shows_of : AnyEngine → List InputLine → List Awaited → Type 0
 shows_of (Compacting c) lines notices =
-    (HasTaken compaction (compaction_state (compactor_state c).choices) (compactor_state c) lines notices × ⊤)
-    × ((compactor_state c).number ≡ length lines)
+    (HasTaken compaction (compaction_state (compacting_state c).choices) (compacting_state c) lines notices × ⊤)
+    × ((compacting_state c).number ≡ length lines)
 shows_of (Expanding e) lines notices =
-    (HasTaken expansion (expansion_state e.options) (expander_state e) lines notices × ⊤) × (e.number ≡ length lines)
+    (HasTaken expansion (expansion_state e.options) (expanding_state e) lines notices × ⊤) × (e.number ≡ length lines)
 shows_of (Checking c) lines notices =
-    (HasTaken check_by_line check_reading (checker_state c) lines notices × HasNoted c.direction lines)
+    (HasTaken check_by_line check_reading (checking_state c) lines notices × HasNoted c.direction lines)
     × (c.number ≡ length lines)
 
 abbrev pub ready_of : AnyEngine → List (List ℕ)
-ready_of (Compacting c) = compactor_ready c
-ready_of (Expanding e) = expander_ready e
-ready_of (Checking c) = checker_ready c
+ready_of (Compacting c) = compacting_ready c
+ready_of (Expanding e) = expanding_ready e
+ready_of (Checking c) = checking_ready c
 
 -- it takes a line, or the end
 abbrev pub EngineIsReady : AnyEngine → Type 0
@@ -83,7 +83,7 @@ has_ended_of (Checking c) lines = HasFound c.direction lines
 
 -- an engine is of a task
 abbrev pub IsOf : Task → AnyEngine → Type 0
-IsOf (Compact choices limit) (Compacting c) = compaction_filter (compactor_state c).choices ≡ compaction_filter choices
+IsOf (Compact choices limit) (Compacting c) = compaction_filter (compacting_state c).choices ≡ compaction_filter choices
 IsOf (Expand choices limit) (Expanding e) = expansion_filter e.options ≡ expansion_filter choices
 IsOf Check (Checking c) = ⊤
 IsOf task engine = ⊥

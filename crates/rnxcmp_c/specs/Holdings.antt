@@ -1,7 +1,7 @@
 -- All that a handle holds between two calls, part by part. By the law `handle_holds` one that takes over these parts of
 -- another is that other; so there is no part beside them, in which a record of the past lines could grow.
 use Rattle.std.specs.Prelude.{◌≤◌, ◌+◌, length}
-use Rattle.crx_filter.specs.Holdings.{checker_with, compactor_with, expander_with}
+use Rattle.crx_filter.specs.Holdings.{checking_engine_with, compacting_engine_with, expanding_engine_with}
 use Rattle.rnxcmp_c.specs.Waiting.{waiting}
 use Rattle.rnxcmp_c.specs.declared.engines.AnyEngine.{AnyEngine}
 use Rattle.rnxcmp_c.specs.declared.engines.AnyEngine.TheVariants.{Compacting, Expanding, Checking}
@@ -41,9 +41,9 @@ held_with one other = record one {
 
 -- an engine, with the parts of another of its kind
 abbrev pub engine_with : AnyEngine → AnyEngine → AnyEngine
-engine_with (Compacting one) (Compacting other) = Compacting (compactor_with one other)
-engine_with (Expanding one) (Expanding other) = Expanding (expander_with one other)
-engine_with (Checking one) (Checking other) = Checking (checker_with one other)
+engine_with (Compacting one) (Compacting other) = Compacting (compacting_engine_with one other)
+engine_with (Expanding one) (Expanding other) = Expanding (expanding_engine_with one other)
+engine_with (Checking one) (Checking other) = Checking (checking_engine_with one other)
 engine_with one other = other
 
 -- a reader, with the parts of another

@@ -11,18 +11,20 @@ ghost use Rattle.rnxcmp_c.specs.Past.{HandlePast, StopsSoon, fed_with};
 use crate::held::Held;
 use crate::lines::{take_bytes, take_last};
 use crate::stop::Stop;
-use crx_filter::checking::Checker;
-use crx_filter::{Compactor, Expander};
+use crx_filter::checking::Checking;
+use crx_filter::compaction::Compaction;
+use crx_filter::engine::Engine;
+use crx_filter::expansion::Expansion;
 
 /// The engine of a run.
 #[derive(Drop)]
 pub enum AnyEngine {
     /// It compacts.
-    Compacting(Compactor),
+    Compacting(Engine<Compaction>),
     /// It expands.
-    Expanding(Expander),
+    Expanding(Engine<Expansion>),
     /// It checks.
-    Checking(Checker),
+    Checking(Engine<Checking>),
 }
 
 /// Feeds some bytes to the engine of a run, as long as little enough waits to be taken, and answers how many.

@@ -7,8 +7,8 @@ use Words.{Completes, Moves, phase_after, types_after, phase_of_stage, epoch_ope
 use Words.{CompletedEpoch, TakesRinexLine, is_open_stage, RinexStep, Nothing, Header, Begun, MovesReader}
 use Words.{is_at_every, lines_after_tail, tail_after, reader_phase, RinexReader, ObservationHead}
 use Rattle.crx_compact.specs.Encoding.{EncoderState, tail_in}
-use Rattle.crx_filter.specs.{CompactionByLine.is_before_header, DirectionParts.{DirectionParts, Reads}}
-use Rattle.crx_filter.specs.DirectionParts.{RefusesLine, made_at_parts, state_by}
+use Rattle.crx_filter.specs.CompactionByLine.{is_before_header}
+use Rattle.crx_filter.specs.DirectionParts.{DirectionParts, Reads, RefusesLine, made_at_parts, state_by}
 use Rattle.crx_filter.specs.{RinexReaders.RefusesRinexLine, Stages.is_ended}
 use Rattle.crx_header.specs.meaning.CompactHeader.{lines_before_header}
 

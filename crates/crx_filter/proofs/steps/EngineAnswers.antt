@@ -11,7 +11,7 @@ use proofs.Words.{by_bool, Completes, false≢true, answer_of_step, noticed_by, 
 use proofs.Words.{after_warning, failed_by}
 use Rattle.crx_filter.specs.DirectionParts.{EngineParts, IsAfterLines}
 use Rattle.crx_filter.specs.{EngineLaws.{FollowsBy, GoesLineByLine}, EngineLines.HasTaken}
-use Rattle.crx_filter.specs.EngineState.{EngineNotes, engine_ready, engine_state, engine_took}
+use Rattle.crx_filter.specs.EngineState.{EngineNotes, engine_state, engine_took}
 use Rattle.crx_filter.specs.{Laws.is_ready, LineByLine.state_end_with, declared.direction.Direction.Ghosts}
 use Rattle.crx_runs.specs.Engines.{Awaited, IsAwaited, awaited_notices, EngineAnswers, Concludes}
 use Rattle.crx_runs.specs.{declared.engine.Step.{Step, TheVariants.Warned}, meaning.Filters.Filter}
@@ -245,16 +245,17 @@ module _ {D : Type 0} (d : Ghosts D) (before : EngineParts D)
       → IsAfterLines d.chosen d.state_after_lines before.options lines (d.parts before.direction)
   after-lines lines took = grind (arith, common_steps, taken-lines)
 
-  module _ (after : EngineParts D) (lines : List InputLine) (line : InputLine) (read : ReadLine)
+  module _ (after : EngineParts D) {ready : List (List ℕ)} (lines : List InputLine) (line : InputLine)
+      (read : ReadLine)
       (result : Result Step At) (notes : EngineNotes d before line result after)
-      (steps : Steps d.by_line (engine_state d before) read result (engine_ready d after)
+      (steps : Steps d.by_line (engine_state d before) read result ready
       (engine_state d after)) where
     -- no line is to come again where faults aren't skipped
     never : before.options.skip ≡ false → Steps d.by_line (engine_state d before) read result
-        (engine_ready d after) (engine_state d after) → (notice : At) → result ≡ Ok (Warned notice true) → ⊥
+        ready (engine_state d after) → (notice : At) → result ≡ Ok (Warned notice true) → ⊥
     never off (inl e) notice is = false≢true (sym off ∙ (comes-again d.by_line (engine_state d before)
-        (engine_state d after) read notice (engine_ready d after) (subst (λ (r : Result Step At). step_made r
-        (engine_ready d after) (engine_state d after) ≡ state_next d.by_line (engine_state d before) read) is
+        (engine_state d after) read notice ready (subst (λ (r : Result Step At). step_made r
+        ready (engine_state d after) ≡ state_next d.by_line (engine_state d before) read) is
         e)).skips)
     never off (inr out) notice is = absurd (cc (out.is, is))
 
@@ -285,12 +286,12 @@ module _ {D : Type 0} (d : Ghosts D) (before : EngineParts D)
     -- an engine whose choices are as they were answers a line by what is seen of it, and shows what it took
     pub engine-answers : (notices : List Awaited) → after.options ≡ before.options → as_read line ≡ read
         → engine_took d before lines notices → IsAwaited notices line → EngineAnswers
-        (d.filter before.options) (engine_took d after) (engine_ready d after) lines notices line result
+        (d.filter before.options) (engine_took d after) ready lines notices line result
     engine-answers notices same is took awaited = answers-known (d.knows after.direction) lines line
         (d.filter before.options) (HasTaken d.by_line (d.state_after_lines after.options) (engine_state d
-        after)) (engine_ready d after) notices result (known-then notices took) (answers-line goes
+        after)) ready notices result (known-then notices took) (answers-line goes
         (HasTaken d.by_line (d.state_after_lines after.options) (engine_state d after)) (engine_state d
-        before) (engine_state d after) lines notices line (engine_ready d after) result (λ ls ns then. subst
+        before) (engine_state d after) lines notices line ready result (λ ls ns then. subst
         (λ (c : Choices). HasTaken d.by_line (d.state_after_lines c) (engine_state d after) ls ns) (sym same)
         then) took.0 awaited (subst (λ (l : ReadLine). Steps d.by_line (engine_state d before) l result
-        (engine_ready d after) (engine_state d after)) (sym is) steps))
+        ready (engine_state d after)) (sym is) steps))

@@ -2,17 +2,19 @@
 use Rattle.crx_filter.proofs.Words
 use Rattle.crx_filter.specs
 use Words.{common_steps, arith, ◌≡◌, ℕ, ◌+◌, Bool, true, false, ◌&&◌, List, [], Option, Some, None, Result}
-use Words.{Ok, Err, refl, Content, Overlong, At, Fault, LineTooLong, Count, Choices, RunState, Direction}
+use Words.{Ok, Err, inl, refl, Content, Overlong, At, Fault, LineTooLong, Count, Choices, RunState, Direction}
 use Words.{Rejects, made_in, RunEnded, is_skipped_in, may_skip, is_skippable, failed_step, state_next}
 use Words.{begins_epoch, step_made, is_held, phase_of_stage, Stage, false≢true}
-use specs.DirectionParts.{DirectionParts, state_by, Reads, AnswersToFault, TakesLine}
-use specs.{EngineSteps.answer_of_step, LineByLine.{end_step, answer_of_lines, fault_at_end_in}}
-use specs.{LineByLine.state_end_with, Stages.{bare_phase, is_settled}}
+use specs.DirectionParts.{DirectionParts, state_by, Reads, AnswersToFault, TakesLine, handed_out_by}
+use specs.{DirectionParts.hands_out, EngineSteps.answer_of_step, LineByLine.{end_step, answer_of_lines}}
+use specs.{LineByLine.fault_at_end_in, LineByLine.state_end_with, Stages.{bare_phase, is_settled}}
 use specs.declared.stage.Stage.TheVariants.{Looking, Closed, Ended}
 use Rattle.crx_filter.proofs.{Pending.state_in, steps.EngineLemmas.{failed-at, fatal-counts, out-fatal}}
 use Rattle.crx_filter.proofs.steps.EngineLemmas.{no-skip, ran-out}
 use Rattle.crx_runs.specs.declared.engine.Step.{Step, TheVariants.Warned}
 use Rattle.std.proofs.Common.{OnErr, IfErr, IfOk}
+use Rattle.crx_runs.specs.Engines.{answer_given, lines_handed_out}
+use Rattle.crx_runs.specs.declared.engine.HandedOut.{HandedOut, TheVariants.{Nothing, Lines, AsItIs}}
 
 -- no fault is answered where one has ended the run, or after the end
 pub not-settled : (stage : Stage) → (stage ≡ Looking → ⊥) → (stage ≡ Closed → ⊥)
@@ -29,7 +31,29 @@ pub notes-nothing : {A B : Type 0} (P : Type 0) (skip : Bool) (result : Result A
     → IfOk result (λ answer. skip ≡ false → P)
 notes-nothing P skip result on = grind (arith, common_steps, false≢true)
 
+-- what is noted of a line that hands something out, or nothing
+pub notes-handed : (P : Type 0) (skip : Bool) (out : HandedOut) (stored : Result Step At)
+    → IfOk (hands_out (Ok out)) (λ is_ready. P)
+    → IfOk (answer_given (Some out) stored) (λ step. skip ≡ false → P)
+notes-handed P skip Nothing stored known = λ off. known
+notes-handed P skip Lines stored known = λ off. known
+notes-handed P skip AsItIs stored known = λ off. known
+
 module _ {U O K : Type 0} (direction : Direction U O K) where
+  -- a line was taken that hands something out, or nothing
+  pub handed-line : (serves : Choices → Type 0) (choices : Choices) (last : ℕ)
+      (before parts : DirectionParts O K) (line : List ℕ) (out : HandedOut) (stored : Result Step At)
+      (ready : List (List ℕ)) → serves choices
+      → Reads direction serves before line (hands_out (Ok out)) (handed_out_by (Ok out) line ready) parts
+      → TakesLine direction (state_by choices last before) (Content line) (answer_given (Some out) stored)
+      (lines_handed_out (Some out) line ready) (state_by choices (last + 1) parts)
+  handed-line serves choices last before parts line Nothing stored ready chosen reads =
+      record { steps = inl (reads.takes choices last chosen); ended = tt; nothing = tt; choices = refl }
+  handed-line serves choices last before parts line Lines stored ready chosen reads =
+      record { steps = inl (reads.takes choices last chosen); ended = tt; nothing = tt; choices = refl }
+  handed-line serves choices last before parts line AsItIs stored ready chosen reads =
+      record { steps = inl (reads.takes choices last chosen); ended = tt; nothing = tt; choices = refl }
+
   -- a fault that isn't skipped ends the run
   fatal-answer : (before after : RunState O K) (line : List ℕ) (fault : Fault) (result : Result Step At)
       → step_made result [] after ≡ failed_step direction before (Content line) fault

@@ -2,7 +2,7 @@ use Rattle.crx_filter.proofs.Words.{◌≡◌, [], ap, OpenEpoch, RunState, Writ
 use Rattle.crx_filter.proofs.{Words.{compaction_filter, Device}, Kept.kept}
 use Rattle.crx_filter.proofs.{following.Lawful.compaction-lawful, wayback.Canonical.depends-on_normal}
 use Rattle.crx_filter.{proofs.wayback.Units.writes-units, specs.CompactionParts.CompactionState}
-use Rattle.crx_filter.specs.{CompactorState.compactor_state, DirectionParts.EngineParts}
+use Rattle.crx_filter.specs.{CompactorState.compacting_state, DirectionParts.EngineParts}
 use Rattle.crx_runs.specs.meaning.{Runs.Runs, Spans.{Input, reader_span, span}}
 use Rattle.std.proofs.lemmas.Result.{IfOk-weaker}
 use Rattle.crx_filter.proofs.filters.compact.Goals as goal
@@ -15,7 +15,7 @@ returns g c =
     let messages : Device = span g.M.Sink c.args.messages.now c.start.new.messages in
     let status = c.start.result.status in
     let fault = c.start.result.fault in
-    let same : (e : EngineParts CompactionState) → compactor_state e ≡ compaction_state choices []
+    let same : (e : EngineParts CompactionState) → compacting_state e ≡ compaction_state choices []
     → e.options ≡ choices = λ e is. ap (λ (s : RunState OpenEpoch Written). s.choices) is in
     let ran : Runs (λ bytes. compacted bytes choices) (compaction_filter choices) input writer messages status
     fault = c.start.ensures.runs (compaction_filter choices) (compaction-lawful choices)
@@ -29,4 +29,4 @@ returns g c =
 
 pub start-requires-clause-lawful : goal.start-requires-clause-lawful
 start-requires-clause-lawful g c =
-    IfOk-weaker c.new.result _ _ (λ e is. compaction-lawful (compactor_state e).choices) c.new.ensures.state
+    IfOk-weaker c.new.result _ _ (λ e is. compaction-lawful (compacting_state e).choices) c.new.ensures.state

@@ -4,7 +4,7 @@ use Rattle.crx_filter.proofs.Words.{expanded, expansion_filter, Device}
 use Rattle.crx_filter.proofs.{Kept.{kept, brings-back, saves-all_else}, following.Lawful.expansion-lawful}
 use Rattle.crx_filter.proofs.{standard.Lossless.brings-back_passed, wayback.ExpandedStandard.wrote-standard}
 use Rattle.crx_filter.{proofs.wayback.Units.reads-units, specs.DirectionParts.EngineParts}
-use Rattle.crx_filter.specs.{ExpanderState.expander_state, declared.expansion.Expansion.Expansion}
+use Rattle.crx_filter.specs.{ExpanderState.expanding_state, declared.expansion.Expansion.Expansion}
 use Rattle.crx_runs.specs.meaning.{Runs.Runs, Spans.{Input, reader_span, span}}
 use Rattle.std.proofs.lemmas.Result.{IfOk-weaker}
 use Rattle.crx_filter.proofs.filters.expand.Goals as goal
@@ -17,11 +17,11 @@ returns g c =
     let messages : Device = span g.M.Sink c.args.messages.now c.start.new.messages in
     let status = c.start.result.status in
     let fault = c.start.result.fault in
-    let same : (e : EngineParts Expansion) → expander_state e ≡ expansion_state choices []
+    let same : (e : EngineParts Expansion) → expanding_state e ≡ expansion_state choices []
     → e.options ≡ choices = λ e is. ap (λ (s : RunState OpenRawEpoch (Option Tail)). s.choices) is in
     let ran : Runs (λ bytes. expanded bytes choices) (expansion_filter choices) input writer messages status
     fault = c.start.ensures.runs (expansion_filter choices) (expansion-lawful choices)
-    (IfOk-weaker c.new.result (λ (e : EngineParts Expansion). expander_state e ≡ expansion_state choices [])
+    (IfOk-weaker c.new.result (λ (e : EngineParts Expansion). expanding_state e ≡ expansion_state choices [])
     (λ (e : EngineParts Expansion). expansion_filter e.options ≡ expansion_filter choices)
     (λ e is. ap expansion_filter (same e is)) c.new.ensures.state) in
     record {
@@ -37,4 +37,4 @@ returns g c =
 
 pub start-requires-clause-lawful : goal.start-requires-clause-lawful
 start-requires-clause-lawful g c =
-    IfOk-weaker c.new.result _ _ (λ e is. expansion-lawful (expander_state e).choices) c.new.ensures.state
+    IfOk-weaker c.new.result _ _ (λ e is. expansion-lawful (expanding_state e).choices) c.new.ensures.state

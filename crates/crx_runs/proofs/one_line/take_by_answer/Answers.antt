@@ -10,5 +10,6 @@ returns g c = λ before answered.
     (span g.W.Sink c.args.writer.now c.take_answered.new.writer)
     (span g.M.Sink c.args.messages.now c.take_answered.new.messages) c.take_answered.result)
     c.of-line.ensures.shown (c.take_answered.ensures before (subst (λ (shown : InputLine). HasAnswered
-    g.E.Engine before c.args.engine.now (λ l. l ≡ shown) c.answer-answer.result) (sym c.of-line.ensures.shown)
-    (subst (HasAnswered g.E.Engine before c.args.engine.now _) (sym c.answer-answer.ensures.value) answered)))
+    g.E.Engine before c.args.engine.now (λ l. l ≡ shown) (g.E.Engine.ready c.args.engine.now)
+    c.answer-answer.result) (sym c.of-line.ensures.shown) (subst (HasAnswered g.E.Engine before
+    c.args.engine.now _ _) (sym c.answer-answer.ensures.value) answered)))

@@ -1,9 +1,9 @@
-use Rattle.rnxcmp_c.proofs.{ReaderLemmas.going-as, Words.{compactor_state, check-lawful, compaction-lawful}}
+use Rattle.rnxcmp_c.proofs.{ReaderLemmas.going-as, Words.{compacting_state, check-lawful, compaction-lawful}}
 use Rattle.rnxcmp_c.proofs.Words.{expansion-lawful}
 use Rattle.rnxcmp_c.proofs.engines.end_engine.Goals as goal
 
 pub take_last-requires-clause-lawful : goal.take_last-requires-clause-lawful
-take_last-requires-clause-lawful c = compaction-lawful (compactor_state c.in-Compacting.compactor).choices
+take_last-requires-clause-lawful c = compaction-lawful (compacting_state c.in-Compacting.compactor).choices
 
 pub take_last-requires-in-Expanding-clause-lawful : goal.take_last-requires-in-Expanding-clause-lawful
 take_last-requires-in-Expanding-clause-lawful c = expansion-lawful c.in-Expanding.expander.options

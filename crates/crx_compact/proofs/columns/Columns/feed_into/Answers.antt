@@ -1,17 +1,11 @@
-use Rattle.crx_compact.proofs.Words.{rules, arith, List, ℕ, [], ◌∷◌, ◌++◌, if◌then◌else◌, ◌≡◌, ◌∙◌, ◌<◌, sym}
+use Rattle.crx_compact.proofs.Words.{rules, arith, ◌≡◌, ◌∙◌, ◌<◌, sym}
 use Rattle.crx_compact.proofs.Words.{ap, subst, Bool, length, Some, None, true, false, eqb-true, Content}
 use Rattle.crx_compact.proofs.Words.{ColumnsState, HasMade, HasPrintedLines, step_in, step_with_rows}
 use Rattle.crx_compact.proofs.{Words.{tail_of_history, AreLinesTo, IsBlock, Tail}, PrintedBlocks.block-whole}
 use Rattle.crx_compact.proofs.reading.Stages.{rows-left, state-rows, step-by-stage}
 use Rattle.crx_compact.proofs.reading.StepsByCode.{made-more, printed-whole}
-use Rattle.crx_compact.specs.{OpenEpochs.Idle, LineLists.{HeldLines, PendingLines}}
+use Rattle.crx_compact.specs.{OpenEpochs.Idle, LineLists.PendingLines}
 use Rattle.crx_compact.proofs.columns.Columns.feed_into.Goals as goal
-
--- where no line is pending, those that are put there are all
-alone : (is_copied : Bool) (copied : List ℕ) (before new : List (List ℕ))
-    → (if is_copied then copied ∷ [] else []) ++ before ≡ []
-    → (if is_copied then copied ∷ [] else []) ++ new ≡ new
-alone is_copied copied before new e = grind arith
 
 pub returns-then-not-is_whole-clause-made : goal.returns-then-not-is_whole-clause-made
 returns-then-not-is_whole-clause-made c =
@@ -46,14 +40,11 @@ returns-else-not-is_whole-clause-made c =
     subst (λ n. AreLinesTo n block.lines new.history) c.print.ensures.rows
     (subst (λ (b : Bool). IsBlock b block.rows block.lines new.history)
     c.print.ensures.head c.print.ensures.block) in
-    let held = c.lines.inside in
-    let lines_now = (if held.is_copied then held.copied ∷ [] else []) ++ c.swap.new.y.lines in
-    let drained = ap (λ (l : HeldLines). l.lines) c.lines.view_is ∙ c.requires.drained in
+    let lines_now = c.swap.new.y.lines in
     let P : Tail → Type 0 = λ t.
     HasPrintedLines (step_in c.args.self.now.state (Content c.args.line.now))
     (Idle (Some t)) true lines_now in
     subst P (sym (ap {B = Tail} tail_of_history c.end.ensures.ended))
     (printed-whole _ tail new.count lines_now step (omega (arith, come))
-    (alone held.is_copied held.copied held.printed.lines c.swap.new.y.lines drained
-    ∙ ap (λ (l : PendingLines). l.lines) c.swap.ensures.y_after
+    (ap (λ (l : PendingLines). l.lines) c.swap.ensures.y_after
     ∙ block-whole new.history new.count block.lines lines (omega (arith, come))))

@@ -30,7 +30,7 @@ returns-in-Nothing-clause-reads c =
     let drained = rw (← c.self.view_is) at c.requires.asked.drained in
     let takes = rw c.in-Nothing.is at (c.in_ok-take.ensures.takes
     (record { index = c.self.inside.index; tail = c.self.inside.encoder.before })) in
-    rw (← c.self.view_is, ← c.bytes-line.ensures.content) (moved-read takes.0 drained)
+    rw (← c.self.view_is, ← c.bytes.ensures.content) (moved-read takes.0 drained)
 
 pub returns-in-Nothing-clause-serves : goal.returns-in-Nothing-clause-serves
 returns-in-Nothing-clause-serves c =
@@ -47,7 +47,7 @@ pub returns-then-is_in_epoch-clause-reads : goal.returns-then-is_in_epoch-clause
 returns-then-is_in_epoch-clause-reads c =
     let begins = rw c.in-Begun.is at (c.in_ok-take.ensures.takes
     (record { index = c.self.inside.index; tail = c.self.inside.encoder.before })) in
-    rw (← c.self.view_is, c.begin.ensures.begun, ← c.bytes-line.ensures.content) (moved-read (begun-open _ _ _
+    rw (← c.self.view_is, c.begin.ensures.begun, ← c.bytes.ensures.content) (moved-read (begun-open _ _ _
     _ begins (sym c.is_in_epoch.ensures.value ∙ c.if-is_in_epoch.true)) refl)
 
 pub returns-then-is_in_epoch-clause-serves : goal.returns-then-is_in_epoch-clause-serves
@@ -74,7 +74,7 @@ returns-in_err-end_epoch-in-Begun-clause-reads c =
     let begins = rw c.in-Begun.is at (c.in_ok-take.ensures.takes
     (record { index = c.self.inside.index; tail = c.self.inside.encoder.before })) in
     let ended = c.in_err-end_epoch-in-Begun.ensures in
-    rw (← c.self.view_is, p.1, p.2, ended.memory, ← c.bytes-line.ensures.content) (lost-read (begun-whole _ _
+    rw (← c.self.view_is, p.1, p.2, ended.memory, ← c.bytes.ensures.content) (lost-read (begun-whole _ _
     _ _ begins (sym c.is_in_epoch.ensures.value ∙ c.if-is_in_epoch.false)) refl ended.forgotten)
 
 pub returns-in_err-end_epoch-in-Begun-clause-serves : goal.returns-in_err-end_epoch-in-Begun-clause-serves
@@ -92,7 +92,7 @@ returns-in_ok-end_epoch-in-Begun-clause-reads c =
     (record { index = c.self.inside.index; tail = c.self.inside.encoder.before })) in
     let begun = c.begin.ensures.begun in
     let ended = c.in_ok-end_epoch-in-Begun.ensures in
-    rw (← c.self.view_is, ← c.bytes-line.ensures.content) (ended-read (begun-whole _ _ _ _ begins
+    rw (← c.self.view_is, ← c.bytes.ensures.content) (ended-read (begun-whole _ _ _ _ begins
     (sym c.is_in_epoch.ensures.value ∙ c.if-is_in_epoch.false)) c.begin.new.self c.end_epoch.new.encoder
     (λ choices chosen. ap (λ (e : EncoderState). e.in_full) begun ∙ c.is_at_every.ensures
     ∙ ap (λ n. is_at_every n c.self.inside.index) c.every.ensures.value
@@ -104,20 +104,37 @@ pub returns-in_ok-end_epoch-in-Begun-clause-serves : goal.returns-in_ok-end_epoc
 returns-in_ok-end_epoch-in-Begun-clause-serves c = served-closed _ _ _
     (sym c.is_in_epoch.ensures.value ∙ c.if-is_in_epoch.false)
 
+pub invariant_of-self-then-is_first : goal.invariant_of-self-then-is_first
+invariant_of-self-then-is_first c =
+    let takes = rw c.in-Header.is at (c.in_ok-take.ensures.takes (record { index = 0; tail = None })) in
+    rw (c.put_first_lines.ensures.put) (closed-together _ _ takes.0.closed refl refl)
+
+pub returns-then-is_first-clause-reads : goal.returns-then-is_first-clause-reads
+returns-then-is_first-clause-reads c =
+    let takes = rw c.in-Header.is at (c.in_ok-take.ensures.takes
+    (record { index = c.self.inside.index; tail = c.self.inside.encoder.before })) in
+    rw (← c.self.view_is, c.put_first_lines.ensures.put, ← c.bytes.ensures.content)
+    (header-read takes.0 (rw (c.date.ensures.value, sym takes.1 ∙ c.if-is_first.true) refl))
+
+pub returns-then-is_first-clause-serves : goal.returns-then-is_first-clause-serves
+returns-then-is_first-clause-serves c =
+    let takes = rw c.in-Header.is at (c.in_ok-take.ensures.takes (record { index = 0; tail = None })) in
+    served-closed _ _ _ takes.0.closed
+
 pub invariant_of-self-in-Header : goal.invariant_of-self-in-Header
 invariant_of-self-in-Header c =
     let takes = rw c.in-Header.is at (c.in_ok-take.ensures.takes (record { index = 0; tail = None })) in
-    rw (c.copy_header.ensures.copied) (closed-together _ _ takes.0.closed refl refl)
+    rw (c.reset.ensures.emptied) (closed-together _ _ takes.0.closed refl refl)
 
-pub returns-in-Header-clause-reads : goal.returns-in-Header-clause-reads
-returns-in-Header-clause-reads c =
+pub returns-else-is_first-clause-reads : goal.returns-else-is_first-clause-reads
+returns-else-is_first-clause-reads c =
     let takes = rw c.in-Header.is at (c.in_ok-take.ensures.takes
     (record { index = c.self.inside.index; tail = c.self.inside.encoder.before })) in
-    rw (← c.self.view_is, c.copy_header.ensures.copied, ← c.bytes-line.ensures.content)
-    (header-read takes.0 (rw (c.date.ensures.value, takes.1) refl))
+    rw (← c.self.view_is, c.reset.ensures.emptied, ← c.bytes.ensures.content)
+    (header-read takes.0 (rw (sym takes.1 ∙ c.if-is_first.false) refl))
 
-pub returns-in-Header-clause-serves : goal.returns-in-Header-clause-serves
-returns-in-Header-clause-serves c =
+pub returns-else-is_first-clause-serves : goal.returns-else-is_first-clause-serves
+returns-else-is_first-clause-serves c =
     let takes = rw c.in-Header.is at (c.in_ok-take.ensures.takes (record { index = 0; tail = None })) in
     served-closed _ _ _ takes.0.closed
 
@@ -125,16 +142,17 @@ pub invariant_of-self-in_default : goal.invariant_of-self-in_default
 invariant_of-self-in_default c =
     let done = of-event _ c.in_ok-take.ensures.steps c.in_default.not-Nothing c.in_default.not-Begun
     c.in_default.not-Header (c.in_ok-take.ensures.takes (record { index = 0; tail = None })) in
-    rw (c.copy.ensures.copied) (closed-together _ _ (event-closed done) refl refl)
+    rw (c.reset-in_default.ensures.emptied) (closed-together _ _ (event-closed done) refl refl)
 
-pub returns-in_default : goal.returns-in_default
-returns-in_default c =
+pub returns-in_default-clause-reads : goal.returns-in_default-clause-reads
+returns-in_default-clause-reads c =
     let done = of-event _ c.in_ok-take.ensures.steps c.in_default.not-Nothing c.in_default.not-Begun
     c.in_default.not-Header (c.in_ok-take.ensures.takes
     (record { index = c.self.inside.index; tail = c.self.inside.encoder.before })) in
-    rw (← c.self.view_is, c.copy.ensures.copied, ← c.bytes-line.ensures.content) (record {
-      reads = event-read done;
-      serves = served-closed _ _ _ (event-closed done);
-      counted = omega (arith);
-      knows = λ choices lines come known counted. tt;
-    })
+    rw (← c.self.view_is, c.reset-in_default.ensures.emptied, ← c.bytes.ensures.content) (event-read done)
+
+pub returns-in_default-clause-serves : goal.returns-in_default-clause-serves
+returns-in_default-clause-serves c =
+    let done = of-event _ c.in_ok-take.ensures.steps c.in_default.not-Nothing c.in_default.not-Begun
+    c.in_default.not-Header (c.in_ok-take.ensures.takes (record { index = 0; tail = None })) in
+    served-closed _ _ _ (event-closed done)

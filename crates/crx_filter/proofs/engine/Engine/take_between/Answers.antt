@@ -1,5 +1,5 @@
-use Rattle.crx_filter.proofs.Words.{sym, ap, ◌∙◌, begins_epoch, InputLine}
-use Rattle.crx_filter.proofs.steps.EngineFaults.{notes-nothing, refused-line}
+use Rattle.crx_filter.proofs.Words.{sym, refl, ap, ◌+◌, ◌∙◌, begins_epoch, InputLine}
+use Rattle.crx_filter.proofs.steps.EngineFaults.{handed-line, notes-handed, notes-nothing, refused-line}
 use Rattle.crx_filter.proofs.engine.Engine.take_between.Goals as goal
 
 pub returns-in-Err : goal.returns-in-Err
@@ -15,3 +15,19 @@ returns-in-Err g c = rw (← c.self.view_is, ← c.of-line.ensures.shown) (recor
     notes = λ lines counted come known. notes-nothing _ c.self.inside.options.skip _ c.fail.ensures.skips;
   };
 })
+
+pub returns-in-Ok : goal.returns-in-Ok
+returns-in-Ok g c =
+    let d = g.D.Direction in
+    let out = c.in-Ok.handed_out in
+    let next = rw (← c.self.view_is) at c.requires.next in
+    rw (← c.self.view_is, ← c.of-line.ensures.shown) (record {
+      reads = record {
+        takes = handed-line d.by_line _ c.self.inside.options c.self.inside.number
+            (d.parts c.self.inside.direction) (d.parts c.take-taken.new.self) _ out _ _ refl
+            c.in-Ok.ensures.reads;
+        notes = λ lines counted come known. notes-handed _ c.self.inside.options.skip out _
+            (c.in-Ok.ensures.knows c.self.inside.options lines come known
+            (c.of-line.ensures.number ∙ next.next ∙ ap (λ n. n + 1) counted));
+      };
+    })

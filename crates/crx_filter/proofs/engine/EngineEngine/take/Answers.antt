@@ -2,6 +2,7 @@ use Rattle.crx_lines.specs.Reading.{line_shown}
 use Rattle.crx_filter.proofs.{Words.{Content, ap, refl}, steps.EngineAnswers.{engine-answers, as-read-within}}
 use Rattle.crx_filter.proofs.steps.StepCounts.{answers-counted, steps-counted, steps-drained}
 use Rattle.crx_filter.specs.EngineState.{engine_ready, engine_took}
+use Rattle.crx_runs.specs.Engines.{lines_handed_out}
 use Rattle.crx_filter.proofs.engine.EngineEngine.take.Goals as goal
 
 pub returns-clause-stepped : goal.returns-clause-stepped
@@ -23,8 +24,8 @@ returns-clause-answers g c = λ lines notices shown awaited.
     let took = c.take_line.ensures.reads in
     let goes = c.take_line.ensures.goes in
     answers-counted (d.filter c.args.self.now.options) (engine_took d c.take_line.new.self) _ _
-    (engine_ready d c.take_line.new.self) lines notices line _ shown.1 (returns-clause-count g c)
-    (engine-answers d c.args.self.now goes.lawful goes.chosen
+    (lines_handed_out c.take_line.result line.content (engine_ready d c.take_line.new.self)) lines notices
+    line _ shown.1 (returns-clause-count g c) (engine-answers d c.args.self.now goes.lawful goes.chosen
     c.take_line.new.self lines line (Content line.content)
     _ took.notes took.takes.steps notices took.takes.choices (as-read-within line line.content
     c.args.line.short refl) shown.0 awaited)

@@ -1,0 +1,62 @@
+use Rattle.crx_filter.proofs.Words.{Result, refl, sym, ap, ◌∙◌, ◌≡◌, List, ℕ, At, Content, Steps}
+use Rattle.crx_filter.proofs.steps.EngineAnswers.{engine-answers, as-read-within}
+use Rattle.crx_filter.specs.{DirectionParts.EngineParts, EngineState.{EngineGoes, EngineNotes, EngineReads}}
+use Rattle.crx_filter.specs.EngineState.{engine_ready, engine_state}
+use Rattle.crx_filter.specs.LenderState.{LenderParts, lender_ready}
+use Rattle.crx_filter.specs.declared.direction.Direction.{Ghosts}
+use Rattle.crx_runs.specs.{Engines.{answer_given, lines_handed_out}, declared.engine.HandedOut.HandedOut}
+use Rattle.crx_runs.specs.declared.engine.Step.{Step}
+use Rattle.crx_base.specs.meaning.Lines.{InputLine}
+use Rattle.crx_lines.specs.Reading.{line_shown}
+use Rattle.std.proofs.Common.{Option}
+use Rattle.crx_filter.proofs.lender.Lender.feed.Given.{Over}
+use Rattle.crx_filter.proofs.lender.Lender.feed.Goals.{After-answer_given}
+use Rattle.crx_filter.proofs.lender.Lender.feed.Goals as goal
+
+-- What its engine read, what it answers, and what is pending then.
+reads : (g : Over) (c : After-answer_given g) → EngineReads g.D.Direction c.args.self.now.engine
+    (line_shown c.args.line) c.take_line-handed_out.result c.keep.new.self.engine
+reads g c = rw (← c.self.view_is, c.keep.ensures.engine) c.take_line-handed_out.ensures.reads
+
+given : (g : Over) (c : After-answer_given g)
+    → c.answer_given.result ≡ answer_given c.take_line-handed_out.result c.keep.new.self.engine.answer
+given g c = c.answer_given.ensures.value ∙ ap (answer_given c.take_line-handed_out.result)
+    (c.answer.ensures.value ∙ ap (λ (l : LenderParts _). l.engine.answer) c.self-2.view_is)
+
+ready : (g : Over) (c : After-answer_given g) → lender_ready g.D.Direction c.keep.new.self
+    ≡ lines_handed_out c.take_line-handed_out.result (line_shown c.args.line).content
+    (engine_ready g.D.Direction c.keep.new.self.engine)
+ready g c =
+    let d = g.D.Direction in
+    let out = c.take_line-handed_out.result in
+    c.keep.ensures.ready
+    ∙ ap (λ (l : List ℕ). lines_handed_out out l (engine_ready d c.take_line-handed_out.new.self))
+    c.bytes.ensures.content ∙ ap (λ (e : EngineParts _). lines_handed_out out (line_shown c.args.line).content
+    (engine_ready d e)) (sym c.keep.ensures.engine)
+
+module _ {D : Type 0} (d : Ghosts D) {before after : EngineParts D} {line : InputLine}
+    {out : Option HandedOut} {result : Result Step At} {pending : List (List ℕ)}
+    (is : result ≡ answer_given out after.answer)
+    (there : pending ≡ lines_handed_out out line.content (engine_ready d after))
+    (took : EngineReads d before line out after) where
+  steps-so : Steps d.by_line (engine_state d before) (Content line.content) result pending
+      (engine_state d after)
+  steps-so = rw (is, there) took.takes.steps
+
+  notes-so : EngineNotes d before line result after
+  notes-so = rw is took.notes
+
+pub returns-clause-steps : goal.returns-clause-steps
+returns-clause-steps g c = steps-so g.D.Direction (given g c) (ready g c) (reads g c)
+
+pub returns-clause-answers : goal.returns-clause-answers
+returns-clause-answers g c = λ lines notices taken awaited.
+    let d = g.D.Direction in
+    let took = reads g c in
+    let goes : EngineGoes d c.args.self.now.engine =
+    rw (← c.self.view_is) c.take_line-handed_out.ensures.goes in
+    let line = line_shown c.args.line in
+    engine-answers d c.args.self.now.engine goes.lawful goes.chosen c.keep.new.self.engine lines line
+    (Content line.content) c.answer_given.result (notes-so d (given g c) (ready g c) took)
+    (steps-so d (given g c) (ready g c) took) notices took.takes.choices
+    (as-read-within line line.content c.args.line.short refl) taken awaited
