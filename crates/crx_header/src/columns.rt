@@ -1,7 +1,7 @@
 //! Labels of header lines and numbers in columns, with the columns of a line.
 //! RINEX 3.05, tables A1 and A2.
 
-ghost use Rattle.std.specs.Prelude.{◌≡◌, ◌≤◌, ◌<◌, ◌+◌, ◌++◌, ◌≢◌, length, take, IfSome, MatchBool};
+ghost use Rattle.std.specs.Prelude.{◌≡◌, ◌≤◌, ◌<◌, ◌+◌, ◌++◌, ◌≢◌, length, take, drop, IfSome, MatchBool};
 ghost use Rattle.crx_base.specs.declared.limits.TheConstants.{LINE_LIMIT, NAME_WIDTH};
 ghost use Rattle.crx_text.specs.meaning.Columns.{columns};
 ghost use Rattle.crx_header.specs.meaning.Label.{has_label, number_in};
@@ -63,6 +63,7 @@ pub fn identifier(line: &[u8], first: usize) -> [u8; NAME_WIDTH]
 pub fn put_identifier(bytes: &mut [u8], at: usize, name: [u8; NAME_WIDTH])
     requires { at + NAME_WIDTH ≤ length bytes.old }
     ensures put { take (at + NAME_WIDTH) bytes.new ≡ take at bytes.old ++ name }
+    ensures rest { drop (at + NAME_WIDTH) bytes.new ≡ drop (at + NAME_WIDTH) bytes.old }
 {
     bytes[at] = name[0];
     bytes[at + 1] = name[1];
