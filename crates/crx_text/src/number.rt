@@ -96,6 +96,7 @@ pub fn obs_print_cell(
     requires room { at + CELL_WIDTH ≤ length bytes.old }
     ensures written { take (at + CELL_WIDTH) bytes.new ≡ take at bytes.old ++ (observation_text value
         ++ slice_index indicators.now first ∷ slice_index indicators.now (first + 1) ∷ []) }
+    ensures rest { drop (at + CELL_WIDTH) bytes.new ≡ drop (at + CELL_WIDTH) bytes.old }
 {
     let end = at + OBSERVATION_WIDTH;
     obs_print_row(value, &mut bytes[at..at + CELL_WIDTH]);

@@ -1,6 +1,6 @@
 use Rattle.std.proofs.Common.{◌≡◌, ◌≤◌, ℕ, ◌+◌, List, [], ◌∷◌, ◌++◌, length, take, set, get_or, arith}
-use Rattle.std.proofs.lemmas.{Grind.common_steps, List.{length-take-le, length-drop, take-take}}
-use Rattle.std.proofs.lemmas.Slice.{take-put_mid}
+use Rattle.std.proofs.lemmas.{Grind.common_steps, List.{length-take-le, length-drop, take-take, drop-set-lt}}
+use Rattle.std.proofs.lemmas.Slice.{take-put_mid, drop-put_mid}
 use lib.Seq.{take-append-add}
 use borrow.Rule.Slice.PartMut.{put_mid}
 use Rattle.crx_text.proofs.number.obs_print_cell.Goals as goal
@@ -17,5 +17,9 @@ cell_written : (bytes part : List ℕ) (at k one two : ℕ) → length part ≡ 
     ≡ take at bytes ++ (take 14 part ++ one ∷ two ∷ [])
 cell_written = grind (arith, common_steps, length-take-le, field_written)
 
-pub returns : goal.returns
-returns c = grind (arith, common_steps, length-take-le, length-drop, get_or, set, cell_written)
+pub returns-clause-written : goal.returns-clause-written
+returns-clause-written c = grind (arith, common_steps, length-take-le, length-drop, get_or, set, cell_written)
+
+pub returns-clause-rest : goal.returns-clause-rest
+returns-clause-rest c =
+    grind (arith, common_steps, drop-set-lt, drop-put_mid, length-drop, length-take-le, get_or, set, put_mid)
