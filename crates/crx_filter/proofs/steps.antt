@@ -5,6 +5,7 @@ pub mod CompactionSteps
 pub mod RowSteps
 pub mod Together
 pub mod EngineFaults
+pub mod RoomSteps
 pub mod StepCounts
 pub mod CheckerSteps
 pub mod CheckerEnds

@@ -1,12 +1,13 @@
 -- The state of an engine of a direction.
-use Rattle.std.specs.Prelude.{◌≡◌, ℕ, false, List, length, Option, Result, IfOk}
+use Rattle.std.specs.Prelude.{◌≡◌, ℕ, false, List, length, Option, Result, IfOk, IfErr}
 use Rattle.crx_base.specs.declared.fault.At.{At}
+use Rattle.crx_base.specs.declared.fault.Fault.TheVariants.{OutOfMemory}
 use Rattle.crx_base.specs.meaning.Lines.{InputLine}
 use Rattle.crx_base.specs.meaning.AsRead.{Content, Overlong}
 use Rattle.crx_filter.specs.EngineLines.{HasTaken}
 use Rattle.crx_filter.specs.DirectionParts.{EngineParts, HasClosed, IsAfterLines, HasStopped, TakesLine}
 use Rattle.crx_filter.specs.DirectionParts.{state_by}
-use Rattle.crx_filter.specs.LineByLine.{RunState, state_end_with, state_next}
+use Rattle.crx_filter.specs.LineByLine.{Ended, RunState, state_end_with, state_next}
 use Rattle.crx_runs.specs.Engines.{Awaited, IsNextLine, answer_given, lines_handed_out}
 use Rattle.crx_filter.specs.EngineLaws.{GoesLineByLine}
 use Rattle.crx_filter.specs.EngineSteps.{step_made}
@@ -66,6 +67,11 @@ module _ {D : Type 0} (d : Ghosts D) where
   EngineEnds before result after = HasClosed (d.closing before.direction) (state_end_with d.by_line
       (d.closing before.direction) (engine_state before)) result (engine_ready after) (engine_state before)
       (engine_state after)
+
+  -- an answer for want of memory is the one that has ended the run before
+  abbrev pub RanOutBefore : EngineParts D → Result Step At → Type 0
+  RanOutBefore before result =
+      IfErr result (λ at. at.fault ≡ OutOfMemory → (engine_state before).phase ≡ Ended at)
 
   -- at a good end it hands out what it is to hand out after these lines, and has found what is to be found in them
   pub record EngineConcludes (before : EngineParts D) (lines : List InputLine) (result : Result Step At)

@@ -29,4 +29,5 @@ pub mod EngineState
 pub mod LenderState
 pub mod CheckerState
 pub mod CheckingParts
+pub mod Rooms
 pub mod Holdings

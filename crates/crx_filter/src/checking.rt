@@ -1,8 +1,9 @@
 //! The check of a RINEX file, line by line: what a line adds to what is found.
 
 ghost use Rattle.std.specs.Prelude.{◌≡◌, ◌≤◌, ◌<◌, ◌+◌, ◌++◌, ◌∷◌, ℕ, List, [], true, false, length, OnErr, OnOk, IfErr, IfOk};
-ghost use Rattle.crx_base.specs.declared.limits.TheConstants.{INPUT_LIMIT, SATELLITES_LIMIT};
+ghost use Rattle.crx_base.specs.declared.limits.TheConstants.{INPUT_LIMIT, NAME_WIDTH, SATELLITES_LIMIT};
 ghost use Rattle.crx_lines.specs.Reading.{line_number, line_shown};
+ghost use Rattle.crx_text.specs.meaning.Columns.{columns};
 ghost use Rattle.crx_rinex.specs.Printing.{last_line};
 ghost use Rattle.crx_rinex.specs.meaning.EpochPlaces.{OpenEpoch};
 ghost use Rattle.crx_rinex.specs.meaning.Observations.{Epoch as ObservationEpoch};
@@ -12,6 +13,7 @@ ghost use Rattle.crx_filter.specs.CompactionByLine.{is_before_header, Written};
 ghost use Rattle.crx_filter.specs.LineByLine.{Made};
 ghost use Rattle.crx_filter.specs.RinexReaders.{is_row, made_at, reader_phase, IsSameReader, RefusesRinexLine, TakesRinexLine};
 ghost use Rattle.crx_filter.specs.RinexStages.{is_open_stage};
+ghost use Rattle.crx_filter.specs.Rooms.{NeedsRoomForName};
 ghost use Rattle.crx_filter.specs.Totals.{AreBounded, HasPrinted, IsCounting, IsObserved, totals_held};
 ghost use Rattle.crx_filter.specs.meaning.Standard.{is_standard_line};
 ghost use Rattle.crx_filter.specs.declared.rinex_reader.RinexReader.{RinexReader};
@@ -130,7 +132,7 @@ pub fn no_options() -> Options
     }
 }
 
-/// Takes a line of an open epoch. `OutOfMemory` comes only at a good line of a new satellite.
+/// Takes a line of an open epoch. `OutOfMemory` comes only at a good line of a new satellite for whose identifier there is no room.
 #[inline(always)]
 fn take_row(
     reader: &mut RinexReader,
@@ -148,6 +150,9 @@ fn take_row(
     ensures named { is_open_stage reader.new.stage ≡ true → AreNamed names.new.names reader.new.rows.rows }
     ensures rows { OnOk result (reader.new.rows.rows ≡ reader.old.rows.rows ++ reader.new.row ∷ []) }
     ensures few { OnOk result (length reader.new.rows.rows ≤ SATELLITES_LIMIT) }
+    // It asks for memory only for an identifier that isn't held at its place, and where there is no room for one more.
+    ensures asked { IfErr result (λ fault. fault ≡ Fault.OutOfMemory
+        → NeedsRoomForName reader.old.count (columns line.now 1 NAME_WIDTH) names.old) }
 {
     reader.read_row(line)?;
     match names.put(reader.count, *reader.row.name()) {
@@ -172,6 +177,7 @@ fn observed_with(observed: u64, reader: &RinexReader, step: RinexStep) -> u64
 
 impl Direction for Checking {
     ghost use Rattle.crx_filter.specs.CheckingParts.{HasFound, HasNoted, checking_parts, never_skips, pending_report, report_of};
+    ghost use Rattle.crx_filter.specs.Rooms.{HasRoomInCheck};
     ghost use Rattle.crx_filter.specs.meaning.Directions.{check_filter};
     ghost use Rattle.crx_filter.specs.meaning.Standard.{findings_of, report_lines};
 
@@ -200,6 +206,8 @@ impl Direction for Checking {
     ghost counted = { λ c. c.noted.totals.epochs + c.noted.totals.events };
 
     ghost serves = { λ c choices. true };
+
+    ghost has_room = { HasRoomInCheck };
 
     ghost knows = { HasNoted };
 

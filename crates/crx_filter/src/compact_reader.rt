@@ -1,6 +1,6 @@
 //! Compact RINEX 3.0, one line at a time: what each line is, the observation types in force, and the epoch whose lines come.
 
-ghost use Rattle.std.specs.Prelude.{◌≡◌, ◌≢◌, ◌≤◌, ◌⊎◌, if◌then◌else◌, [], None, true, false, length};
+ghost use Rattle.std.specs.Prelude.{◌≡◌, ◌≢◌, ◌≤◌, ◌⊎◌, if◌then◌else◌, [], None, true, false, length, IfErr};
 ghost use Rattle.crx_base.specs.declared.limits.TheConstants.{LINE_LIMIT};
 ghost use Rattle.crx_base.specs.meaning.Choices.{Choices};
 ghost use Rattle.crx_compact.specs.OpenEpochs.{tail_held};
@@ -33,6 +33,7 @@ impl CompactReader {
     ghost use Rattle.crx_filter.specs.CompactReaders.{ReadsCompactLine, compact_reader_parts, line_copied};
     ghost use Rattle.crx_filter.specs.DirectionParts.{state_by};
     ghost use Rattle.crx_filter.specs.ExpansionByLine.{expansion_state};
+    ghost use Rattle.crx_filter.specs.Rooms.{HasRoomToBegin, may_begin};
 
     /// A reader before the first line.
     pub fn new(alloc: Global) -> CompactReader
@@ -55,6 +56,7 @@ impl CompactReader {
         requires short { length line.now ≤ LINE_LIMIT }
         requires drained { lines.old.lines ≡ [] }
         ensures reads { ReadsCompactLine self.old line.now result lines.new.lines self.new }
+        ensures unasked { IfErr result (λ fault. fault ≡ Fault.OutOfMemory → ⊥) }
     {
         match self.columns.feed_into(line, lines) {
             Ok(false) => Ok(false),
@@ -81,6 +83,11 @@ impl CompactReader {
         requires between { self.old.stage ≢ Open }
         requires short { length line.now ≤ LINE_LIMIT }
         ensures reads { ReadsCompactLine self.old line.now result (line_copied line.now result) self.new }
+        // It asks for memory only for the first types, and where there is no room for an epoch's lines.
+        ensures known { (self.old.types ≡ [] → ⊥)
+            → (may_begin self.old.stage ≡ true
+            → HasRoomToBegin self.old.types (tail_held self.old.columns.state) line.now self.old.columns.room)
+            → IfErr result (λ fault. fault ≡ Fault.OutOfMemory → ⊥) }
     {
         match self.stage {
             Stage::FirstLines { count: 0 } => {
@@ -124,6 +131,8 @@ impl CompactReader {
             ⊎ ((self.old.stage ≡ Looking) × (begins_epoch line.now ≡ true)) }
         requires short { length line.now ≤ LINE_LIMIT }
         ensures reads { ReadsCompactLine self.old line.now result (line_copied line.now result) self.new }
+        ensures known { HasRoomToBegin self.old.types (tail_held self.old.columns.state) line.now self.old.columns.room
+            → IfErr result (λ fault. fault ≡ Fault.OutOfMemory → ⊥) }
     {
         if is_event_line(line) {
             let count = records_announced(line)?;

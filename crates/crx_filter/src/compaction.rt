@@ -1,12 +1,13 @@
 //! Compaction, line by line: what a line of RINEX makes.
 
-ghost use Rattle.std.specs.Prelude.{◌≡◌, [], false, length, is_some, Some, OnErr, OnOk, IfSome, IfOk, IfErr, true};
+ghost use Rattle.std.specs.Prelude.{◌≡◌, ◌≤◌, [], false, length, is_some, Some, OnErr, OnOk, IfSome, IfOk, IfErr, IsOk, true};
 ghost use Rattle.crx_compact.specs.Encoding.{tail_in};
 ghost use Rattle.crx_compact.specs.Steps.{lines_after_tail, tail_after};
 ghost use Rattle.crx_compact.specs.Written.{epoch_by_rows};
 ghost use Rattle.crx_rinex.specs.meaning.EpochLines.{ObservationHead};
 ghost use Rattle.crx_filter.specs.CompactionParts.{BelongTogether, HasRefusedRow, HasWrittenRow};
 ghost use Rattle.crx_filter.specs.RinexStages.{is_open_stage};
+ghost use Rattle.crx_filter.specs.Rooms.{HasRoomForRow, HasRoomForText};
 ghost use Rattle.crx_filter.specs.meaning.Compacted.{is_at_every};
 
 use crate::direction::Direction;
@@ -70,6 +71,11 @@ fn take_row(reader: &mut RinexReader, encoder: &mut Encoder, line: &[u8]) -> Res
         (λ is_last. HasWrittenRow reader.old encoder.old line.now is_last reader.new encoder.new) }
     ensures refused { IfErr result
         (λ fault. HasRefusedRow reader.old encoder.old line.now fault reader.new encoder.new) }
+    // Where there is room for the row, the answer isn't for want of memory.
+    ensures known { HasRoomForRow reader.old.types line.now encoder.old.room
+        → IfErr result (λ fault. fault ≡ Fault.OutOfMemory → ⊥) }
+    ensures head { OnOk result (reader.new.head ≡ reader.old.head) }
+    ensures text { encoder.old.room.text ≤ encoder.new.room.text }
 {
     reader.read_row(line)?;
     match encoder.encode_row(&reader.row) {
@@ -100,6 +106,8 @@ fn end_epoch(reader: &RinexReader, encoder: &mut Encoder) -> Result<(), Fault>
     ensures closed { encoder.new.is_open ≡ false }
     ensures rows { encoder.new.rows ≡ [] }
     ensures memory { IfErr result (λ fault. fault ≡ Fault.OutOfMemory) }
+    // Where there is room for the epoch's text, the answer isn't for want of memory.
+    ensures known { HasRoomForText reader.now.head encoder.old.room → IsOk result }
 {
     let Some(head) = &reader.head else {
         unreachable!()
@@ -116,6 +124,7 @@ impl Direction for Compaction {
     ghost use Rattle.crx_rinex.specs.meaning.Observations.{Epoch as ObservationEpoch};
     ghost use Rattle.crx_filter.specs.CompactionByLine.{Written, compaction, compaction_state};
     ghost use Rattle.crx_filter.specs.CompactionParts.{compaction_parts, is_full_where_due};
+    ghost use Rattle.crx_filter.specs.Rooms.{HasRoomInCompaction};
     ghost use Rattle.crx_filter.specs.meaning.Directions.{compaction_filter};
 
     ghost Whole = { ObservationEpoch };
@@ -144,6 +153,8 @@ impl Direction for Compaction {
 
     ghost serves = { λ c choices. is_full_where_due c.reader.stage c.encoder.in_full
         (is_at_every choices.every c.index) };
+
+    ghost has_room = { HasRoomInCompaction };
 
     ghost knows = { λ c lines. ⊤ };
 

@@ -1,6 +1,6 @@
 //! What differs between the directions of an engine.
 
-ghost use Rattle.std.specs.Prelude.{◌≡◌, ◌≤◌, ◌↔◌, ℕ, Bool, List, [], None, drop, slice_get, Result, if◌then◌else◌, is_some, IfOk, IfSome, IsTrue, true, false};
+ghost use Rattle.std.specs.Prelude.{◌≡◌, ◌≤◌, ◌↔◌, ℕ, Bool, List, [], None, drop, slice_get, Result, if◌then◌else◌, is_some, IfErr, IfOk, IfSome, IsTrue, true, false};
 ghost use Rattle.std.specs.Borrow.{sem};
 ghost use Rattle.std.specs.Io.BufRead.{Rests};
 ghost use Rattle.std.specs.Option.{option_copied};
@@ -57,6 +57,9 @@ pub trait Direction: Drop {
     // What it has open was begun by these choices.
     ghost serves: { Self → Choices → Bool };
 
+    // What it holds is enough for the line with this content.
+    ghost has_room: { Self → List ℕ → Type 0 };
+
     // What it has noted of these lines, beside what is seen of it; and at a good end, what it has found in them.
     ghost knows: { Self → List InputLine → Type 0 };
 
@@ -98,7 +101,10 @@ pub trait Direction: Drop {
         ensures serves { (choices : Choices) → serves self.old choices ≡ true → serves self.new choices ≡ true }
         ensures counted { CountsOneAtMost result (counted self.old) (counted self.new) }
         ensures knows { KnowsNext chosen state_after_lines (parts self.old) (knows self.old) (knows self.new)
-            (line_number line.entry) (line_shown line.entry) result };
+            (line_number line.entry) (line_shown line.entry) result }
+        // Where there is room for the line, the answer isn't for want of memory.
+        ensures known { has_room self.old (line_shown line.entry).content
+            → IfErr result (λ fault. fault ≡ Fault.OutOfMemory → ⊥) };
 
     /// Takes a line where no epoch is open, and answers what it hands out: a line that is copied, after those that are ready.
     fn take(&mut self, options: &Options, line: Line<'_>) -> Result<HandedOut, Fault>
@@ -111,7 +117,9 @@ pub trait Direction: Drop {
         ensures serves { serves self.new options.now ≡ true }
         ensures counted { CountsOneAtMost (hands_out result) (counted self.old) (counted self.new) }
         ensures knows { KnowsNext chosen state_after_lines (parts self.old) (knows self.old) (knows self.new)
-            (line_number line.entry) (line_shown line.entry) (hands_out result) };
+            (line_number line.entry) (line_shown line.entry) (hands_out result) }
+        ensures known { has_room self.old (line_shown line.entry).content
+            → IfErr result (λ fault. fault ≡ Fault.OutOfMemory → ⊥) };
 
     /// Goes to a stage after a fault, and forgets the epochs before.
     fn end_with(&mut self, stage: Stage)

@@ -43,13 +43,13 @@ impl<D: Direction> Engine<D> {
     ghost use Rattle.crx_base.specs.declared.fault.At.{At};
     ghost use Rattle.crx_lines.specs.Reading.{line_number, line_shown};
     ghost use Rattle.crx_filter.specs.DirectionParts.{AnswersToFault, IsAfterLines};
-    ghost use Rattle.crx_filter.specs.EngineState.{EngineAwaits, EngineConcludes, EngineEnds, EngineGoes, EngineReads, EngineSkips, engine_ready, engine_state, engine_took};
+    ghost use Rattle.crx_filter.specs.EngineState.{EngineAwaits, EngineConcludes, EngineEnds, EngineGoes, EngineReads, EngineSkips, RanOutBefore, engine_ready, engine_state, engine_took};
     ghost use Rattle.crx_filter.specs.LineByLine.{Ended, may_skip};
     ghost use Rattle.crx_filter.specs.RinexStages.{is_open_stage};
     ghost use Rattle.crx_filter.specs.Stages.{bare_phase};
     ghost use Rattle.crx_filter.specs.contracts.engine.Engine.{the_row};
     ghost use Rattle.crx_filter.specs.declared.stage.Stage.{Stage};
-    ghost use Rattle.crx_runs.specs.Engines.{Awaited, Concludes, EngineAnswers, IsAwaited};
+    ghost use Rattle.crx_runs.specs.Engines.{Awaited, Concludes, EngineAnswers, IsAwaited, answer_given};
 
     /// An engine before the first line of its input; `AllocError` comes where there is no memory for a line.
     pub fn new(alloc: Global, options: Options) -> Result<Engine<D>, AllocError>
@@ -79,6 +79,7 @@ impl<D: Direction> Engine<D> {
         ensures options { self.new.options ≡ self.old.options }
         ensures ended { IfErr self.new.answer (λ at. (engine_state D.Direction self.new).phase ≡ Ended at) }
         ensures skips { IfOk self.new.answer (λ step. self.old.options.skip ≡ true) }
+        ensures fault { IfErr self.new.answer (λ at. at.fault ≡ fault) }
     {
         let notice = At {
             line: self.number,
@@ -103,6 +104,8 @@ impl<D: Direction> Engine<D> {
         requires next { EngineAwaits D.Direction self.old (line_number line) }
         ensures reads { EngineReads D.Direction self.old (line_shown line.entry) result self.new }
         ensures goes { EngineGoes D.Direction self.old }
+        ensures known { D.has_room self.old.direction (line_shown line.entry).content
+            → RanOutBefore D.Direction self.old (answer_given result self.new.answer) }
     {
         let Stage::Open = self.direction.stage() else {
             return self.take_between(line.bytes(), line.number(), line.plain());
@@ -129,6 +132,8 @@ impl<D: Direction> Engine<D> {
         requires next { EngineAwaits D.Direction self.old number }
         ensures reads { EngineReads D.Direction self.old
             (record { content = content.now; is_plain = is_plain }) result self.new }
+        ensures known { D.has_room self.old.direction content.now
+            → RanOutBefore D.Direction self.old (answer_given result self.new.answer) }
     {
         let line = Line::of(content, number, is_plain);
         let stage = self.direction.stage();
@@ -157,6 +162,7 @@ impl<D: Direction> Engine<D> {
             → IsAfterLines D.chosen D.state_after_lines self.old.options lines (D.parts self.old.direction)
             → D.knows self.old.direction lines → EngineConcludes D.Direction self.old lines result self.new }
         ensures goes { EngineGoes D.Direction self.old }
+        ensures unasked { RanOutBefore D.Direction self.old result }
     {
         let stage = self.direction.stage();
         if let Stage::Ended(at) = stage {
@@ -196,6 +202,7 @@ impl<D: Direction> Engine<D> {
             → EngineAnswers (D.filter (engine_state D.Direction self.old).choices)
             (engine_took D.Direction self.new) (engine_ready D.Direction self.new) lines notices line result }
         ensures repeated { (at : At) → (engine_state D.Direction self.old).phase ≡ Ended at → result ≡ Err at }
+        ensures unasked { RanOutBefore D.Direction self.old result }
     {
         let stage = self.direction.stage();
         self.number = number;
@@ -221,6 +228,7 @@ impl<D: Direction> Engine<D> {
         ensures found { (lines : List InputLine) → engine_took D.Direction self.old lines []
             → IfOk result (λ step. D.has_found self.new.direction lines) }
         ensures repeated { (at : At) → (engine_state D.Direction self.old).phase ≡ Ended at → result ≡ Err at }
+        ensures unasked { RanOutBefore D.Direction self.old result }
     {
         self.close()
     }

@@ -35,6 +35,7 @@ impl Direction for Expansion {
     ghost use Rattle.crx_compact.specs.Tails.{Tail};
     ghost use Rattle.crx_filter.specs.ExpansionByLine.{expansion, expansion_state};
     ghost use Rattle.crx_filter.specs.ExpansionParts.{expansion_parts};
+    ghost use Rattle.crx_filter.specs.Rooms.{HasRoomInExpansion};
     ghost use Rattle.crx_filter.specs.meaning.Directions.{expansion_filter};
 
     ghost Whole = { HeldEpoch };
@@ -62,6 +63,8 @@ impl Direction for Expansion {
     ghost counted = { λ e. 0 };
 
     ghost serves = { λ e choices. true };
+
+    ghost has_room = { HasRoomInExpansion };
 
     ghost knows = { λ e lines. ⊤ };
 

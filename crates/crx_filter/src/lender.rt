@@ -55,7 +55,7 @@ impl<D: Direction> Lender<D> {
     ghost use Rattle.crx_base.specs.meaning.Lines.{InputLine, is_long};
     ghost use Rattle.crx_lines.specs.Reading.{line_number, line_shown};
     ghost use Rattle.crx_filter.specs.EngineSteps.{Steps};
-    ghost use Rattle.crx_filter.specs.EngineState.{engine_ready};
+    ghost use Rattle.crx_filter.specs.EngineState.{RanOutBefore, engine_ready};
     ghost use Rattle.crx_filter.specs.LenderState.{LenderEnds, LenderSkips, lender_ready, lender_state, lender_took};
     ghost use Rattle.crx_filter.specs.LineByLine.{Ended};
     ghost use Rattle.crx_filter.specs.contracts.lender.Lender.{the_row};
@@ -104,6 +104,7 @@ impl<D: Direction> Lender<D> {
             → EngineAnswers (D.filter (lender_state D.Direction self.old).choices)
             (lender_took D.Direction self.new) (lender_ready D.Direction self.new) lines notices line result }
         ensures repeated { (at : At) → (lender_state D.Direction self.old).phase ≡ Ended at → result ≡ Err at }
+        ensures unasked { RanOutBefore D.Direction self.old.engine result }
     {
         self.engine.overlong(number)
     }
@@ -119,6 +120,7 @@ impl<D: Direction> Lender<D> {
         ensures found { (lines : List InputLine) → lender_took D.Direction self.old lines []
             → IfOk result (λ step. D.has_found self.new.engine.direction lines) }
         ensures repeated { (at : At) → (lender_state D.Direction self.old).phase ≡ Ended at → result ≡ Err at }
+        ensures unasked { RanOutBefore D.Direction self.old.engine result }
     {
         self.engine.end()
     }
@@ -141,6 +143,9 @@ impl<D: Direction> Lender<D> {
             → EngineAnswers (D.filter (lender_state D.Direction self.old).choices) (lender_took D.Direction self.new)
             (lender_ready D.Direction self.new) lines notices (line_shown line.entry) result }
         ensures repeated { (at : At) → (lender_state D.Direction self.old).phase ≡ Ended at → result ≡ Err at }
+        // Where its direction has room for the line, the answer isn't for want of memory, unless such a one has ended the run before.
+        ensures known { D.has_room self.old.engine.direction (line_shown line.entry).content
+            → RanOutBefore D.Direction self.old.engine result }
     {
         let handed_out = self.engine.take_line(line);
         self.keep(handed_out, line.bytes());

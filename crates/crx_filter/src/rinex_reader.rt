@@ -85,7 +85,7 @@ impl RinexReader {
     ///
     /// In the header: the faults of [`header_first`](crx_header::header_first) for the first line, then `BadTypesLine`. Among an event's
     /// records `BadTypesLine`, where types lines count. Where an epoch or an event may begin, the faults of [`Head::read`]. `OutOfMemory` comes
-    /// only at a line without a fault: a types line that counts. After a fault the reader is as it was.
+    /// only at a line without a fault, the first types line that counts. After a fault the reader is as it was.
     pub fn take(&mut self, line: &[u8]) -> Result<RinexStep, Fault>
         requires running { is_ended self.old.stage ≡ false }
         requires closed { is_open_stage self.old.stage ≡ false }
@@ -95,6 +95,8 @@ impl RinexReader {
             (λ fault. RefusesRinexLine (made_at self.old line.now kept) self.old line.now fault) }
         ensures steps { IfOk result (λ step. is_row step ≡ false) }
         ensures same { OnErr result (IsSameReader self.old self.new) }
+        // It asks for memory only for the first types.
+        ensures asked { IfErr result (λ fault. fault ≡ Fault.OutOfMemory → self.old.types ≡ []) }
     {
         match self.stage {
             Stage::Header { is_first } => {
@@ -126,6 +128,7 @@ impl RinexReader {
         requires stage { (self.old.stage ≡ Stage.Between)
             ⊎ ((self.old.stage ≡ Stage.Looking) × (begins_epoch line.now ≡ true)) }
         ensures reads { ReadsRinexLine self.old line.now result self.new }
+        ensures unasked { IfErr result (λ fault. fault ≡ Fault.OutOfMemory → ⊥) }
     {
         match Head::read(line)? {
             Head::Event { count, .. } => {
@@ -158,6 +161,7 @@ impl RinexReader {
         ensures memory { OnOk result (has_satellite self.new.row.name self.old.rows.rows ≡ false
             → may_take_memory (λ first. false) is_next_row (reader_phase self.old) (Content line.now) ≡ true) }
         ensures refused { (kept : Written) → IfErr result (λ fault. made_at self.old line.now kept ≡ Rejects fault) }
+        ensures unasked { IfErr result (λ fault. fault ≡ Fault.OutOfMemory → ⊥) }
         ensures same { IsSameReader self.old self.new }
     {
         if begins_epoch(line) {
@@ -176,6 +180,7 @@ impl RinexReader {
         ensures steps { is_row result ≡ true }
         ensures rows { self.new.rows.rows ≡ self.old.rows.rows ++ self.old.row ∷ [] }
         ensures row { self.new.row ≡ self.old.row }
+        ensures head { self.new.head ≡ self.old.head }
         ensures few { length self.new.rows.rows ≤ SATELLITES_LIMIT }
     {
         self.rows.add(&self.row);

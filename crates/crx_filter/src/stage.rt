@@ -1,6 +1,6 @@
 //! Where a run is between two lines, in either direction.
 
-ghost use Rattle.std.specs.Prelude.{ℕ, ◌≡◌, List, Option, Some, true, false, if◌then◌else◌};
+ghost use Rattle.std.specs.Prelude.{ℕ, ◌≡◌, List, Option, Some, IfSome, true, false, if◌then◌else◌};
 ghost use Rattle.crx_rinex.specs.meaning.EpochPlaces.{OpenEpoch};
 ghost use Rattle.crx_compact.specs.OpenEpochs.{OpenRawEpoch};
 ghost use Rattle.crx_filter.specs.LineByLine.{fault_at_end_in, may_skip, with_records_left, InHeader, BetweenUnits};
@@ -65,6 +65,7 @@ impl Stage {
     pub fn fault_at_end(&self) -> Option<Fault>
         ensures value { result ≡ fault_at_end_in (bare_phase self.now) }
         ensures open { is_open_stage self.now ≡ true → result ≡ Some Fault.Truncated }
+        ensures unasked { IfSome result (λ fault. fault ≡ Fault.OutOfMemory → ⊥) }
     {
         match self {
             Stage::FirstLines { count: 0 } => Some(Fault::NotCompact),

@@ -1,7 +1,7 @@
 //! Lines that may declare observation types, in either direction: header lines, and records of events.
 
 ghost use Rattle.std.specs.Option.{is_some};
-ghost use Rattle.std.specs.Prelude.{◌≡◌, ◌⊎◌, ◌&&◌, None, Some, is_none, true, false, if◌then◌else◌, OnOk, OnErr, IfOk, IfErr};
+ghost use Rattle.std.specs.Prelude.{◌≡◌, ◌⊎◌, ◌&&◌, [], None, Some, is_none, true, false, if◌then◌else◌, OnOk, OnErr, IfOk, IfErr};
 ghost use Rattle.crx_header.specs.meaning.ObservationTypes.{count_of_types_line};
 ghost use Rattle.crx_header.specs.ObservationTypes.{with_line};
 ghost use Rattle.crx_filter.specs.meaning.Expanded.{empties_state};
@@ -11,7 +11,7 @@ use crx_base::Fault;
 use crx_header::{Types, header_first, is_types};
 
 /// Takes in a header line, or answers what is wrong with it: the first line has checks of its own. After a fault the types
-/// are as they were.
+/// are as they were. `OutOfMemory` comes only where no system has types yet.
 pub fn accept_header_line(types: &mut Types, is_first: bool, line: &[u8]) -> Result<(), Fault>
     ensures good { OnOk result (header_line_fault is_first line.now ≡ None) }
     ensures ok { OnOk result (types.new ≡ with_line types.old line.now) }
@@ -19,6 +19,7 @@ pub fn accept_header_line(types: &mut Types, is_first: bool, line: &[u8]) -> Res
     ensures refused { IfErr result (λ fault. (header_line_fault is_first line.now ≡ Some fault)
         ⊎ ((fault ≡ Fault.OutOfMemory) × ((is_some (count_of_types_line line.now)
         && is_none (header_line_fault is_first line.now)) ≡ true))) }
+    ensures asked { IfErr result (λ fault. fault ≡ Fault.OutOfMemory → types.old ≡ []) }
 {
     if is_first {
         header_first(line)?;
@@ -27,7 +28,7 @@ pub fn accept_header_line(types: &mut Types, is_first: bool, line: &[u8]) -> Res
 }
 
 /// Takes in a record of an event: types lines among them count where this is said, and `true` says that it is one that counts. After a
-/// fault the types are as they were.
+/// fault the types are as they were. `OutOfMemory` comes only where no system has types yet.
 pub fn accept_record(types: &mut Types, counted: bool, line: &[u8]) -> Result<bool, Fault>
     ensures types { IfOk result (λ is_accepted. is_accepted ≡ empties_state counted line.now) }
     ensures good { OnOk result ((if counted then types_fault line.now else None) ≡ None) }
@@ -35,6 +36,7 @@ pub fn accept_record(types: &mut Types, counted: bool, line: &[u8]) -> Result<bo
     ensures same { OnErr result (types.new ≡ types.old) }
     ensures refused { IfErr result (λ fault. ((if counted then types_fault line.now else None) ≡ Some fault)
         ⊎ ((fault ≡ Fault.OutOfMemory) × ((counted && is_some (count_of_types_line line.now)) ≡ true))) }
+    ensures asked { IfErr result (λ fault. fault ≡ Fault.OutOfMemory → types.old ≡ []) }
 {
     if !(counted && is_types(line)) {
         return Ok(false);

@@ -1,4 +1,4 @@
-use Rattle.crx_filter.proofs.{Words.{common_steps, arith, inl, inr, refl}, steps.Together.row-lost}
+use Rattle.crx_filter.proofs.{Words.{common_steps, arith, inl, inr, refl, ◌∙◌}, steps.Together.row-lost}
 use Rattle.crx_filter.proofs.steps.Together.{row-or-epoch, row-refused, row-repeated, row-written, rows-there}
 use Rattle.crx_filter.proofs.compaction.take_row.Goals as goal
 
@@ -43,4 +43,7 @@ returns c =
           (encoded.written c.in-Ok-true.field-0-test) took.takes took.steps took.rows
           (row-or-epoch _ took.steps c.in_default.not-Row);
       refused = tt;
+      known = λ room. tt;
+      head = took.head ∙ read.same.head;
+      text = encoded.only.kept.text;
     }

@@ -1,9 +1,10 @@
-use Rattle.crx_filter.proofs.Words.{common_steps, None, arith, ap, sym, refl, ◌∙◌, is_open_stage}
+use Rattle.crx_filter.proofs.Words.{common_steps, None, arith, false≢true, ap, sym, refl, ◌∙◌, is_open_stage}
 use Rattle.crx_filter.proofs.{Words.{Choices, is_at_every}, steps.CompactionSteps.{ended-read, event-closed}}
 use Rattle.crx_filter.proofs.steps.CompactionSteps.{event-read, header-read, lost-read, moved-read, of-event}
 use Rattle.crx_filter.proofs.steps.{CompactionSteps.refused-read, Together.{begun-asked, begun-open}}
 use Rattle.crx_filter.proofs.steps.Together.{begun-rows, begun-together, begun-whole, closed-together}
 use Rattle.crx_filter.proofs.steps.Together.{none-there, same-together, served-closed, served-open}
+use Rattle.crx_filter.proofs.steps.RoomSteps.{empty-text}
 use Rattle.std.proofs.lemmas.Result.{err_from_is_err_and}
 use Rattle.crx_compact.specs.Encoding.{EncoderState}
 use Rattle.crx_filter.proofs.compaction.CompactionDirection.take.Goals as goal
@@ -80,6 +81,18 @@ returns-in_err-end_epoch-in-Begun-clause-reads c =
 pub returns-in_err-end_epoch-in-Begun-clause-serves : goal.returns-in_err-end_epoch-in-Begun-clause-serves
 returns-in_err-end_epoch-in-Begun-clause-serves c = served-closed _ _ _
     (sym c.is_in_epoch.ensures.value ∙ c.if-is_in_epoch.false)
+
+pub returns-in_err-end_epoch-in-Begun-clause-known : goal.returns-in_err-end_epoch-in-Begun-clause-known
+returns-in_err-end_epoch-in-Begun-clause-known c =
+    let closed = rw (← c.self.view_is) at c.requires.closed in
+    let begins = rw c.in-Begun.is at (c.in_ok-take.ensures.takes (record { index = 0; tail = None })) in
+    let begun = c.begin.ensures.begun in
+    let asked = begun-asked c.self.inside.encoder begins begun
+    (sym c.is_in_epoch.ensures.value ∙ c.if-is_in_epoch.false) in
+    rw (← c.self.view_is) (λ has. absurd (false≢true (c.in_err-end_epoch-in-Begun.ensures.known (empty-text
+    c.take.new.self.head c.begin.new.self.rows c.self.inside.encoder.room c.begin.new.self.room asked.1.0
+    (ap (λ (e : EncoderState). e.rows) begun) (has.empty closed)
+    (ap (λ (e : EncoderState). e.room.text) begun)))))
 
 pub invariant_of-self-in-Begun : goal.invariant_of-self-in-Begun
 invariant_of-self-in-Begun c = closed-together _ _

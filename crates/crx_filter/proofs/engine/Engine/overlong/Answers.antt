@@ -3,6 +3,7 @@ use Rattle.crx_filter.proofs.steps.{EngineAnswers.{engine-answers, as-read-long}
 use Rattle.crx_filter.proofs.steps.{EngineFaults.{not-settled, notes-nothing}, EngineLemmas.repeats}
 use Rattle.crx_filter.specs.{DirectionParts.EngineParts, EngineState.{EngineGoes, EngineNotes, EngineSkips}}
 use Rattle.crx_filter.specs.EngineState.{engine_state}
+use Rattle.crx_filter.proofs.steps.RoomSteps.{not-lost}
 use Rattle.crx_filter.proofs.engine.Engine.overlong.Goals as goal
 
 pub returns-in_default : goal.returns-in_default
@@ -34,4 +35,5 @@ returns-in_default g c =
           (notes line) (inl (ap (λ (ls : List (List ℕ)). step_made then.answer ls (engine_state d then))
           stops.drained ∙ stops.steps)) notices stops.choices (as-read-long line long) taken awaited;
       repeated = λ at is. repeats d.by_line _ _ Overlong _ _ at (inl stops.steps) is;
+      unasked = not-lost _ then.answer _ c.fail.ensures.fault (λ is. absurd (cc (is)));
     })

@@ -1,5 +1,6 @@
-use Rattle.crx_filter.proofs.Words.{sym, refl, ap, ◌+◌, ◌∙◌, begins_epoch, InputLine}
+use Rattle.crx_filter.proofs.Words.{sym, subst, refl, ap, ◌+◌, ◌∙◌, begins_epoch, InputLine}
 use Rattle.crx_filter.proofs.steps.EngineFaults.{handed-line, notes-handed, notes-nothing, refused-line}
+use Rattle.crx_filter.proofs.steps.RoomSteps.{handed-well, not-lost}
 use Rattle.crx_filter.proofs.engine.Engine.take_between.Goals as goal
 
 pub returns-in-Err : goal.returns-in-Err
@@ -14,6 +15,9 @@ returns-in-Err g c = rw (← c.self.view_is, ← c.of-line.ensures.shown) (recor
         c.in-Err.ensures.reads c.fail.ensures.drained c.fail.ensures.ended c.fail.ensures.options;
     notes = λ lines counted come known. notes-nothing _ c.self.inside.options.skip _ c.fail.ensures.skips;
   };
+  known = λ room. not-lost _ c.fail.new.self.answer _ c.fail.ensures.fault
+      (c.in-Err.ensures.known (subst (g.D.Direction.has_room c.self.inside.direction)
+      (ap (λ (l : InputLine). l.content) (sym c.of-line.ensures.shown)) room));
 })
 
 pub returns-in-Ok : goal.returns-in-Ok
@@ -30,4 +34,5 @@ returns-in-Ok g c =
             (c.in-Ok.ensures.knows c.self.inside.options lines come known
             (c.of-line.ensures.number ∙ next.next ∙ ap (λ n. n + 1) counted));
       };
+      known = λ room. handed-well out _ _;
     })

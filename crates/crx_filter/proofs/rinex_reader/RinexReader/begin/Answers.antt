@@ -29,6 +29,7 @@ returns-in-Event c =
         steps = refl;
         same = tt;
       };
+      unasked = tt;
     }
 
 pub returns-after-count-eq0 : goal.returns-after-count-eq0
@@ -53,4 +54,5 @@ returns-after-count-eq0 c =
         steps = refl;
         same = tt;
       };
+      unasked = tt;
     }

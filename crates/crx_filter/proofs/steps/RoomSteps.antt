@@ -1,0 +1,84 @@
+-- Where there is room for a line, the answer isn't for want of memory.
+use Rattle.crx_filter.proofs.Words.{common_steps, arith, ◌≡◌, ◌≤◌, ◌⊎◌, true, inl, inr, sym, ◌∙◌, ℕ, List, []}
+use Rattle.crx_filter.proofs.Words.{length, Option, Some, Result, Ok, Err, At, Fault, OutOfMemory, Count}
+use Rattle.crx_filter.proofs.Words.{ObservationHead, OpenRawEpoch, HEAD_WIDTH, Row as ObservationRow}
+use Rattle.std.{proofs.Common.{IfErr, IfOk}, specs.Prelude.IfSome}
+use Rattle.crx_compact.specs.{EncodingRooms.EncodingRoom, LineLists.{BlockRoom, HasNoMoreRoom}}
+use Rattle.crx_compact.specs.OpenEpochs.{ColumnsState, is_idle, opened_raw, tail_for_line, tail_held}
+use Rattle.crx_compact.specs.ReadingRooms.{HasRoomFor, HeldColumns, KeepsHistoryRoom, KeepsRoom, ReadingRoom}
+use Rattle.crx_filter.specs.Rooms.{HasRoomForText, HasRoomInColumns, HasRoomToBegin, may_begin}
+use Rattle.crx_filter.specs.{CompactStages.is_compact_stage, declared.stage.Stage.Stage}
+use Rattle.crx_filter.specs.declared.stage.Stage.TheVariants.{Between, Looking}
+use Rattle.crx_runs.specs.Engines.{answer_given}
+use Rattle.crx_runs.specs.declared.engine.{HandedOut.{HandedOut, TheVariants.{Nothing, Lines, AsItIs}}, Step.Step}
+
+-- a fault that isn't for want of memory isn't answered as one that is
+pub not-lost : (fault : Fault) (result : Result Step At) (P : At → Type 0)
+    → IfErr result (λ at. at.fault ≡ fault) → (fault ≡ OutOfMemory → ⊥)
+    → IfErr result (λ at. at.fault ≡ OutOfMemory → P at)
+not-lost fault (Ok step) P is other = tt
+not-lost fault (Err at) P is other = λ out. absurd (other (sym is ∙ out))
+
+-- a line that hands something out, or nothing, has no fault
+pub handed-well : (out : HandedOut) (stored : Result Step At) (P : At → Type 0)
+    → IfErr (answer_given (Some out) stored) P
+handed-well Nothing stored P = tt
+handed-well Lines stored P = tt
+handed-well AsItIs stored P = tt
+
+-- the text of an epoch without satellites fits
+pub empty-text : (head : Option ObservationHead) (rows : List ObservationRow) (before room : EncodingRoom)
+    → IfSome head (λ h. length rows ≡ h.count) → rows ≡ [] → HEAD_WIDTH ≤ before.text
+    → room.text ≡ before.text → HasRoomForText head room
+empty-text head rows before room counted none fits same = grind (arith, common_steps)
+
+-- ---- an epoch that a line begins
+
+-- where one may begin, none is open
+pub idle-between : (stage : Stage) (state : ColumnsState) → (stage ≡ Between) ⊎ (stage ≡ Looking)
+    → is_compact_stage stage state ≡ true → is_idle state ≡ true
+idle-between stage state between consistent = grind (arith, common_steps)
+
+pub begins-nowhere-else : (stage : Stage) → (stage ≡ Between → ⊥) → (stage ≡ Looking → ⊥)
+    → may_begin stage ≡ true → ⊥
+begins-nowhere-else stage a b may = grind (arith, common_steps)
+
+kept-room : (begun : OpenRawEpoch) (before after : ReadingRoom) → KeepsRoom before after
+    → HasRoomFor begun before → HasRoomFor begun after
+kept-room begun before after kept has = record {
+  text = omega (arith, has.text, kept.history.text);
+  rows = λ k d within. kept.history.rooms _ _ (has.rows k d within);
+  lines = omega (arith, has.lines, kept.block.held_lines);
+  bytes = omega (arith, has.bytes, kept.block.held_bytes);
+}
+
+moved-room : (begun : OpenRawEpoch) (before after : ReadingRoom) (block : BlockRoom)
+    → KeepsHistoryRoom before after → after.block ≡ block → HasRoomFor begun (record before { block = block })
+    → HasRoomFor begun after
+moved-room begun before after block kept is has = record {
+  text = omega (arith, has.text, kept.text);
+  rows = λ k d within. kept.rooms _ _ (has.rows k d within);
+  lines = rw (is) has.lines;
+  bytes = rw (is) has.bytes;
+}
+
+if-begun : (made : Result OpenRawEpoch Fault) (before after : ReadingRoom)
+    → ((begun : OpenRawEpoch) → HasRoomFor begun before → HasRoomFor begun after)
+    → IfOk made (λ begun. HasRoomFor begun before) → IfOk made (λ begun. HasRoomFor begun after)
+if-begun (Ok begun) before after goes has = goes begun has
+if-begun (Err fault) before after goes has = tt
+
+-- columns that may have taken the memory of printed lines have room where one of the two blocks was enough
+pub room-taken : (types : List Count) (line : List ℕ) (before after : HeldColumns) (block : BlockRoom)
+    → after.state ≡ before.state → KeepsRoom before.room after.room
+    → (HasNoMoreRoom before.room.block block → after.room.block ≡ block)
+    → HasRoomInColumns types before line before.room.block
+    ⊎ (HasNoMoreRoom before.room.block block × HasRoomInColumns types before line block)
+    → HasRoomToBegin types (tail_held after.state) line after.room
+room-taken types line before after block same kept takes (inl has) = rw (same) (if-begun
+    (opened_raw types line (tail_for_line (tail_held before.state) line)) before.room after.room
+    (λ begun. kept-room begun before.room after.room kept) has)
+room-taken types line before after block same kept takes (inr (more, has)) = rw (same) (if-begun
+    (opened_raw types line (tail_for_line (tail_held before.state) line))
+    (record before.room { block = block }) after.room
+    (λ begun. moved-room begun before.room after.room block kept.history (takes more)) has)

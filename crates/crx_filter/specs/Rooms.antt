@@ -1,0 +1,79 @@
+-- For how much there is room in a direction: where there is enough for a line, memory doesn't run out at it.
+use Rattle.std.specs.Prelude.{◌≡◌, ◌⊎◌, ◌≤◌, ◌+◌, ◌*◌, ℕ, Bool, true, false, List, [], Option, Some, IfOk, IfSome}
+use Rattle.std.specs.Prelude.{slice_get}
+use Rattle.crx_base.specs.declared.limits.TheConstants.{HEAD_WIDTH, NAME_WIDTH}
+use Rattle.crx_text.specs.meaning.Columns.{columns}
+use Rattle.crx_header.specs.Identifiers.{HeldIdentifiers}
+use Rattle.crx_header.specs.meaning.ObservationTypes.{Count}
+use Rattle.crx_rinex.specs.meaning.EpochLines.{ObservationHead}
+use Rattle.crx_rinex.specs.meaning.SatelliteLines.{row_of}
+use Rattle.crx_compact.specs.EncodingRooms.{EncodingRoom, HasRowRoom}
+use Rattle.crx_compact.specs.LineLists.{BlockRoom, HasNoMoreRoom}
+use Rattle.crx_compact.specs.OpenEpochs.{opened_raw, tail_for_line, tail_held}
+use Rattle.crx_compact.specs.ReadingRooms.{HasRoomFor, HeldColumns, ReadingRoom}
+use Rattle.crx_compact.specs.Tails.{Tail}
+use Rattle.crx_filter.specs.CheckingParts.{CheckingState}
+use Rattle.crx_filter.specs.CompactionParts.{CompactionState}
+use Rattle.crx_filter.specs.RinexStages.{is_open_stage}
+use Rattle.crx_filter.specs.declared.expansion.Expansion.{Expansion}
+use Rattle.crx_filter.specs.declared.stage.Stage.{Stage}
+use Rattle.crx_filter.specs.declared.stage.Stage.TheVariants.{Between, Looking}
+
+-- ---- a check
+
+-- no identifier can be put at an index without memory: it isn't there already, and there is no room for one more
+pub record NeedsRoomForName (index : ℕ) (name : List ℕ) (held : HeldIdentifiers) : Type 0 where
+  pub spare : held.spare ≡ 0
+  pub other : slice_get held.names index ≡ Some name → ⊥
+
+-- where no epoch is open, some system has types; in an epoch the line's identifier is held at its place, or there is
+-- room for it
+pub record HasRoomInCheck (c : CheckingState) (line : List ℕ) : Type 0 where
+  pub types : is_open_stage c.reader.stage ≡ false → c.reader.types ≡ [] → ⊥
+  pub name : is_open_stage c.reader.stage ≡ true
+      → NeedsRoomForName c.reader.count (columns line 1 NAME_WIDTH) c.names → ⊥
+
+-- ---- a compaction
+
+-- where a line is a row's, there is room for the row
+abbrev pub HasRoomForRow : List Count → List ℕ → EncodingRoom → Type 0
+HasRoomForRow types line room = IfOk (row_of types line) (λ row. HasRowRoom row room)
+
+-- there is room for the text of an epoch with this line
+abbrev pub HasRoomForText : Option ObservationHead → EncodingRoom → Type 0
+HasRoomForText head room = IfSome head (λ head. HEAD_WIDTH + NAME_WIDTH * head.count ≤ room.text)
+
+-- where no epoch is open, some system has types, and the text of an epoch without satellites fits; in an epoch there is
+-- room for the line's row, and for the epoch's text
+pub record HasRoomInCompaction (c : CompactionState) (line : List ℕ) : Type 0 where
+  pub types : is_open_stage c.reader.stage ≡ false → c.reader.types ≡ [] → ⊥
+  pub empty : is_open_stage c.reader.stage ≡ false → HEAD_WIDTH ≤ c.encoder.room.text
+  pub row : is_open_stage c.reader.stage ≡ true → HasRoomForRow c.reader.types line c.encoder.room
+  pub text : is_open_stage c.reader.stage ≡ true → HasRoomForText c.reader.head c.encoder.room
+
+-- ---- an expansion
+
+-- whether an epoch may begin
+abbrev pub may_begin : Stage → Bool
+may_begin Between = true
+may_begin Looking = true
+may_begin stage = false
+
+-- where a line begins an epoch after this tail, there is room for all lines of that one
+abbrev pub HasRoomToBegin : List Count → Option Tail → List ℕ → ReadingRoom → Type 0
+HasRoomToBegin types tail line room =
+    IfOk (opened_raw types line (tail_for_line tail line)) (λ begun. HasRoomFor begun room)
+
+-- the same of columns, where their printed lines have this room
+abbrev pub HasRoomInColumns : List Count → HeldColumns → List ℕ → BlockRoom → Type 0
+HasRoomInColumns types columns line block =
+    HasRoomToBegin types (tail_held columns.state) line (record columns.room { block = block })
+
+-- in the header and in an event, some system has types; where an epoch may begin, there is room for the one that the line begins, and of
+-- the two blocks of printed lines the larger one counts; in an epoch no memory is needed
+pub record HasRoomInExpansion (e : Expansion) (line : List ℕ) : Type 0 where
+  pub types : is_open_stage e.reader.stage ≡ false → e.reader.types ≡ [] → ⊥
+  pub epoch : may_begin e.reader.stage ≡ true
+      → HasRoomInColumns e.reader.types e.reader.columns line e.reader.columns.room.block
+      ⊎ (HasNoMoreRoom e.reader.columns.room.block e.lines.room
+      × HasRoomInColumns e.reader.types e.reader.columns line e.lines.room)
