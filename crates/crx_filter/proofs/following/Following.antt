@@ -1,6 +1,6 @@
 -- One line more, as it is fed and as it is read: the same in both directions.
 use Rattle.crx_filter.proofs
-use proofs.Words.{common_steps, ℕ, suc, ◌≡◌, ◌⊎◌, ◌+◌, ◌-◌, max, ◌<◌, ◌≤◌, Bool, true, false, List, [], ◌∷◌}
+use proofs.Words.{common_steps, ℕ, suc, ◌≡◌, ◌⊎◌, ◌+◌, max, ◌<◌, ◌≤◌, Bool, true, false, List, [], ◌∷◌}
 use proofs.Words.{◌++◌, length, drop, Option, Some, None, refl, ap, sym, ◌∙◌, arith, length-append}
 use proofs.Words.{append-nil, ◌&&◌, drop-append_seam, ReadLine, Fault, At, Count, Place, Done, Fails}
 use proofs.Words.{NeedsMore, FileUnit, HeaderLine, EventLine, EventRecord, Observation, Choices, Item}

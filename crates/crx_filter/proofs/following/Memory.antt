@@ -9,7 +9,7 @@ use Words.{AtLines, Looking, is_skipped, can_go_on, event_record, header_line, h
 use Words.{unless_wrong, is_again, Answer, BetweenUnits, Direction, Failed, Rejects, InEpoch, InEvent}
 use Words.{InHeader, Made, Notice, Phase, RunState, Step, after_warning, is_in_epoch, is_skipped_in, kept_in}
 use Words.{phase_after_items, state_next, state_of, step_of_made, may_take_memory, takes_memory, rules}
-use Words.{none-some, and_parts, by_bool, false-true, Completes}
+use Words.{none-some, and_parts, by_bool, false-true}
 use Rattle.crx_filter.proofs.{Pending.again-lines, following.Following.{AgreeOn, IsCarriedOut, body-place}}
 use Rattle.crx_filter.proofs.following.Following.{failed-ends, place, failed-skipped, state_in, skipped-same}
 use Rattle.crx_filter.proofs.following.{Following.wrong-last, Lines.{IsStopped, by_phase, header-place}}

@@ -19,7 +19,7 @@ use Rattle.crx_base.specs.declared.fault.Fault.TheVariants.{NotCompact, BadProgL
 use Rattle.crx_header.specs.meaning.{Label.has_label, ObservationTypes.is_bad_types_line, Header.is_supported}
 use Rattle.crx_header.specs.{meaning.Header.first_header_fault, declared.labels.TheConstants.VERSION_LABEL}
 use Rattle.crx_header.specs.declared.crinex.TheConstants.{CRINEX_VERSION, CRINEX_VERSION_LABEL}
-use Rattle.crx_rinex.specs.meaning.{EpochPlaces.row_at, SatelliteLines.{values_in, flags_in, row_with}}
+use Rattle.crx_rinex.specs.meaning.{EpochPlaces.row_at, SatelliteLines.{values_in}}
 
 -- ---- results, options and places whose faults are those of lines
 

@@ -10,7 +10,8 @@ use Rattle.crx_filter.specs.Rooms.{HasRoomForText, HasRoomInColumns, HasRoomToBe
 use Rattle.crx_filter.specs.{CompactStages.is_compact_stage, declared.stage.Stage.Stage}
 use Rattle.crx_filter.specs.declared.stage.Stage.TheVariants.{Between, Looking}
 use Rattle.crx_runs.specs.Engines.{answer_given}
-use Rattle.crx_runs.specs.declared.engine.{HandedOut.{HandedOut, TheVariants.{Nothing, Lines, AsItIs}}, Step.Step}
+use Rattle.crx_runs.specs.declared.engine.{HandedOut.HandedOut, Step.Step}
+use Rattle.crx_runs.specs.declared.engine.HandedOut.TheVariants.{Nothing, Lines, AsItIs}
 
 -- a fault that isn't for want of memory isn't answered as one that is
 pub not-lost : (fault : Fault) (result : Result Step At) (P : At → Type 0)

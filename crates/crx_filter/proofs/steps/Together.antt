@@ -1,10 +1,10 @@
 -- How the parts of a compaction belong together after a line, and what is said of a row that it takes.
 use Rattle.crx_filter.proofs.Words
 use Words.{common_steps, arith, inl, inr, ◌≡◌, ◌++◌, ◌∷◌, [], ℕ, Bool, true, false, not, List, not-true}
-use Words.{if◌then◌else◌, Fault, OutOfMemory, None, Option, Ok, refl, sym, ap, subst, ◌∙◌, true≢false}
+use Words.{if◌then◌else◌, Fault, OutOfMemory, None, Option, Ok, sym, ap, subst, ◌∙◌, true≢false}
 use Words.{false≢true, length, is_some, begins_epoch, ObservationHead, Some, has_satellite, ObservationEpoch}
 use Words.{OpenEpoch, row_of, Written, is_row, made_at, CompletedEpoch, IsSameReader, MovesReader}
-use Words.{TakesRinexLine, Made, is_open_stage, RinexReader, RinexStep, Stage, Open, Row as ObservationRow}
+use Words.{TakesRinexLine, Made, is_open_stage, RinexReader, RinexStep, Stage, Row as ObservationRow}
 use Rattle.crx_filter.{proofs.steps.RowSteps.taken-from, specs.RinexReaders.{BeginsEpoch, RefusesRinexLine}}
 use Rattle.crx_filter.specs.{RinexStages.rows_open, declared.rinex_reader.RinexStep.TheVariants.{Row, Epoch}}
 use Rattle.crx_filter.specs.CompactionParts.{BelongTogether, HasRefusedRow, HasWrittenRow, is_full_where_due}

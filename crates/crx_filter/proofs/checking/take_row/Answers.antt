@@ -76,3 +76,9 @@ returns-in-Err-clause-refuses c kept =
           c.requires.open read.same (counts-rows c.read_row.new.self)
           c.name.ensures.value refl c.in-Err.ensures.err),
     )
+
+pub returns-in-Err-clause-asked : goal.returns-in-Err-clause-asked
+returns-in-Err-clause-asked c = λ out. record {
+  spare = c.in-Err.ensures.asked;
+  other = λ there. grind (arith, common_steps);
+}

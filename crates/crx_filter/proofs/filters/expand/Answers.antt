@@ -1,5 +1,5 @@
-use Rattle.crx_filter.proofs.{stretches.StretchesKept.{keeps-undamaged, writes-whole_units}, Words.{◌≡◌, ℕ}}
-use Rattle.crx_filter.proofs.Words.{List, [], Option, ap, OpenRawEpoch, Tail, expansion_state, RunState}
+use Rattle.crx_filter.proofs.{stretches.StretchesKept.{keeps-undamaged, writes-whole_units}, Words.{◌≡◌}}
+use Rattle.crx_filter.proofs.Words.{[], Option, ap, OpenRawEpoch, Tail, expansion_state, RunState}
 use Rattle.crx_filter.proofs.Words.{expanded, expansion_filter, Device}
 use Rattle.crx_filter.proofs.{Kept.{kept, brings-back, saves-all_else}, following.Lawful.expansion-lawful}
 use Rattle.crx_filter.proofs.{standard.Lossless.brings-back_passed, wayback.ExpandedStandard.wrote-standard}
