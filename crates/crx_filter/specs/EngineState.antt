@@ -1,5 +1,5 @@
 -- The state of an engine of a direction.
-use Rattle.std.specs.Prelude.{◌≡◌, ℕ, false, List, length, Option, Result, IfOk, IfErr}
+use Rattle.std.specs.Prelude.{◌≡◌, ℕ, false, List, length, Option, Result, IfOk, IfErr, OnErr}
 use Rattle.crx_base.specs.declared.fault.At.{At}
 use Rattle.crx_base.specs.declared.fault.Fault.TheVariants.{OutOfMemory}
 use Rattle.crx_base.specs.meaning.Lines.{InputLine}
@@ -72,6 +72,11 @@ module _ {D : Type 0} (d : Ghosts D) where
   abbrev pub RanOutBefore : EngineParts D → Result Step At → Type 0
   RanOutBefore before result =
       IfErr result (λ at. at.fault ≡ OutOfMemory → (engine_state before).phase ≡ Ended at)
+
+  -- what it had noted of some lines it has noted after a fault too
+  abbrev pub EngineKeepsNotes : EngineParts D → Result Step At → EngineParts D → Type 0
+  EngineKeepsNotes before result after = (lines : List InputLine) → d.knows before.direction lines
+      → OnErr result (d.knows after.direction lines)
 
   -- at a good end it hands out what it is to hand out after these lines, and has found what is to be found in them
   pub record EngineConcludes (before : EngineParts D) (lines : List InputLine) (result : Result Step At)

@@ -207,6 +207,8 @@ impl Direction for Checking {
 
     ghost serves = { λ c choices. true };
 
+    ghost takes_at_start = { false };
+
     ghost has_room = { HasRoomInCheck };
 
     ghost knows = { HasNoted };

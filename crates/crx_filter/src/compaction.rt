@@ -154,6 +154,8 @@ impl Direction for Compaction {
     ghost serves = { λ c choices. is_full_where_due c.reader.stage c.encoder.in_full
         (is_at_every choices.every c.index) };
 
+    ghost takes_at_start = { true };
+
     ghost has_room = { HasRoomInCompaction };
 
     ghost knows = { λ c lines. ⊤ };

@@ -1,6 +1,6 @@
 //! What differs between the directions of an engine.
 
-ghost use Rattle.std.specs.Prelude.{◌≡◌, ◌≤◌, ◌↔◌, ℕ, Bool, List, [], None, drop, slice_get, Result, if◌then◌else◌, is_some, IfErr, IfOk, IfSome, IsTrue, true, false};
+ghost use Rattle.std.specs.Prelude.{◌≡◌, ◌≤◌, ◌↔◌, ℕ, Bool, List, [], None, drop, slice_get, Result, if◌then◌else◌, is_some, IfErr, IfOk, OnErr, IfSome, IsTrue, true, false};
 ghost use Rattle.std.specs.Borrow.{sem};
 ghost use Rattle.std.specs.Io.BufRead.{Rests};
 ghost use Rattle.std.specs.Option.{option_copied};
@@ -57,6 +57,9 @@ pub trait Direction: Drop {
     // What it has open was begun by these choices.
     ghost serves: { Self → Choices → Bool };
 
+    // Whether it takes memory before the first line.
+    ghost takes_at_start: { Bool };
+
     // What it holds is enough for the line with this content.
     ghost has_room: { Self → List ℕ → Type 0 };
 
@@ -81,7 +84,8 @@ pub trait Direction: Drop {
         ensures drained { IfOk result (λ d. ready d ≡ []) }
         ensures counted { IfOk result (λ d. counted d ≡ 0) }
         ensures serves { (choices : Choices) → IfOk result (λ d. serves d choices ≡ true) }
-        ensures knows { IfOk result (λ d. knows d []) };
+        ensures knows { IfOk result (λ d. knows d []) }
+        ensures asked { OnErr result (takes_at_start ≡ true) };
 
     /// Where it is between two lines.
     fn stage(&self) -> Stage
@@ -102,6 +106,8 @@ pub trait Direction: Drop {
         ensures counted { CountsOneAtMost result (counted self.old) (counted self.new) }
         ensures knows { KnowsNext chosen state_after_lines (parts self.old) (knows self.old) (knows self.new)
             (line_number line.entry) (line_shown line.entry) result }
+        // After a fault it has noted of the lines before what it had noted.
+        ensures stays { (lines : List InputLine) → knows self.old lines → OnErr result (knows self.new lines) }
         // Where there is room for the line, the answer isn't for want of memory.
         ensures known { has_room self.old (line_shown line.entry).content
             → IfErr result (λ fault. fault ≡ Fault.OutOfMemory → ⊥) };
@@ -118,10 +124,11 @@ pub trait Direction: Drop {
         ensures counted { CountsOneAtMost (hands_out result) (counted self.old) (counted self.new) }
         ensures knows { KnowsNext chosen state_after_lines (parts self.old) (knows self.old) (knows self.new)
             (line_number line.entry) (line_shown line.entry) (hands_out result) }
+        ensures stays { (lines : List InputLine) → knows self.old lines → OnErr result (knows self.new lines) }
         ensures known { has_room self.old (line_shown line.entry).content
             → IfErr result (λ fault. fault ≡ Fault.OutOfMemory → ⊥) };
 
-    /// Goes to a stage after a fault, and forgets the epochs before.
+    /// Goes to a stage after a fault, and forgets the epochs before, but not what is noted of lines.
     fn end_with(&mut self, stage: Stage)
         requires settled { is_settled stage ≡ true }
         requires drained { ready self.old ≡ [] }
@@ -130,7 +137,8 @@ pub trait Direction: Drop {
         ensures kept { (parts self.new).kept ≡ by_line.emptied (parts self.old).kept }
         ensures drained { ready self.new ≡ [] }
         ensures serves { (choices : Choices) → serves self.new choices ≡ true }
-        ensures counted { counted self.new ≤ counted self.old };
+        ensures counted { counted self.new ≤ counted self.old }
+        ensures stays { (lines : List InputLine) → knows self.old lines → knows self.new lines };
 
     /// Takes a good end of the input: `true` says that lines are ready.
     fn conclude(&mut self) -> bool

@@ -35,7 +35,7 @@ impl<D: Direction> Model for Engine<D> {
 }
 
 impl<D: Direction> Engine<D> {
-    ghost use Rattle.std.specs.Prelude.{◌+◌, ◌<◌, ◌↔◌, List, [], drop, length, slice_get, IfOk, IfErr, Err, IsTrue, false};
+    ghost use Rattle.std.specs.Prelude.{◌+◌, ◌<◌, ◌↔◌, List, [], drop, length, slice_get, OnErr, IfOk, IfErr, Err, IsTrue, false};
     ghost use Rattle.std.specs.Borrow.{sem};
     ghost use Rattle.std.specs.Io.BufRead.{Rests};
     ghost use Rattle.std.specs.Option.{option_copied};
@@ -43,7 +43,7 @@ impl<D: Direction> Engine<D> {
     ghost use Rattle.crx_base.specs.declared.fault.At.{At};
     ghost use Rattle.crx_lines.specs.Reading.{line_number, line_shown};
     ghost use Rattle.crx_filter.specs.DirectionParts.{AnswersToFault, IsAfterLines};
-    ghost use Rattle.crx_filter.specs.EngineState.{EngineAwaits, EngineConcludes, EngineEnds, EngineGoes, EngineReads, EngineSkips, RanOutBefore, engine_ready, engine_state, engine_took};
+    ghost use Rattle.crx_filter.specs.EngineState.{EngineAwaits, EngineConcludes, EngineEnds, EngineGoes, EngineKeepsNotes, EngineReads, EngineSkips, RanOutBefore, engine_ready, engine_state, engine_took};
     ghost use Rattle.crx_filter.specs.LineByLine.{Ended, may_skip};
     ghost use Rattle.crx_filter.specs.RinexStages.{is_open_stage};
     ghost use Rattle.crx_filter.specs.Stages.{bare_phase};
@@ -56,6 +56,7 @@ impl<D: Direction> Engine<D> {
         ensures state { IfOk result (λ e. engine_state D.Direction e ≡ D.state_after_lines (D.chosen options) []) }
         ensures drained { IfOk result (λ e. engine_ready D.Direction e ≡ []) }
         ensures knows { IfOk result (λ e. D.knows e.direction []) }
+        ensures asked { OnErr result (D.takes_at_start ≡ true) }
     {
         let direction = D::new(alloc)?;
         Ok(Engine {
@@ -80,6 +81,7 @@ impl<D: Direction> Engine<D> {
         ensures ended { IfErr self.new.answer (λ at. (engine_state D.Direction self.new).phase ≡ Ended at) }
         ensures skips { IfOk self.new.answer (λ step. self.old.options.skip ≡ true) }
         ensures fault { IfErr self.new.answer (λ at. at.fault ≡ fault) }
+        ensures stays { (lines : List InputLine) → D.knows self.old.direction lines → D.knows self.new.direction lines }
     {
         let notice = At {
             line: self.number,
@@ -106,6 +108,7 @@ impl<D: Direction> Engine<D> {
         ensures goes { EngineGoes D.Direction self.old }
         ensures known { D.has_room self.old.direction (line_shown line.entry).content
             → RanOutBefore D.Direction self.old (answer_given result self.new.answer) }
+        ensures stays { EngineKeepsNotes D.Direction self.old (answer_given result self.new.answer) self.new }
     {
         let Stage::Open = self.direction.stage() else {
             return self.take_between(line.bytes(), line.number(), line.plain());
@@ -134,6 +137,7 @@ impl<D: Direction> Engine<D> {
             (record { content = content.now; is_plain = is_plain }) result self.new }
         ensures known { D.has_room self.old.direction content.now
             → RanOutBefore D.Direction self.old (answer_given result self.new.answer) }
+        ensures stays { EngineKeepsNotes D.Direction self.old (answer_given result self.new.answer) self.new }
     {
         let line = Line::of(content, number, is_plain);
         let stage = self.direction.stage();
@@ -163,6 +167,7 @@ impl<D: Direction> Engine<D> {
             → D.knows self.old.direction lines → EngineConcludes D.Direction self.old lines result self.new }
         ensures goes { EngineGoes D.Direction self.old }
         ensures unasked { RanOutBefore D.Direction self.old result }
+        ensures stays { EngineKeepsNotes D.Direction self.old result self.new }
     {
         let stage = self.direction.stage();
         if let Stage::Ended(at) = stage {
@@ -203,6 +208,7 @@ impl<D: Direction> Engine<D> {
             (engine_took D.Direction self.new) (engine_ready D.Direction self.new) lines notices line result }
         ensures repeated { (at : At) → (engine_state D.Direction self.old).phase ≡ Ended at → result ≡ Err at }
         ensures unasked { RanOutBefore D.Direction self.old result }
+        ensures stays { EngineKeepsNotes D.Direction self.old result self.new }
     {
         let stage = self.direction.stage();
         self.number = number;
@@ -229,6 +235,7 @@ impl<D: Direction> Engine<D> {
             → IfOk result (λ step. D.has_found self.new.direction lines) }
         ensures repeated { (at : At) → (engine_state D.Direction self.old).phase ≡ Ended at → result ≡ Err at }
         ensures unasked { RanOutBefore D.Direction self.old result }
+        ensures stays { EngineKeepsNotes D.Direction self.old result self.new }
     {
         self.close()
     }

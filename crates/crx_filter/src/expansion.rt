@@ -30,7 +30,7 @@ pub struct Expansion {
 pub type Expander = Lender<Expansion>;
 
 impl Direction for Expansion {
-    ghost use Rattle.std.specs.Prelude.{⊤, Option, true, []};
+    ghost use Rattle.std.specs.Prelude.{⊤, Option, true, false, []};
     ghost use Rattle.crx_compact.specs.OpenEpochs.{HeldEpoch, OpenRawEpoch};
     ghost use Rattle.crx_compact.specs.Tails.{Tail};
     ghost use Rattle.crx_filter.specs.ExpansionByLine.{expansion, expansion_state};
@@ -63,6 +63,8 @@ impl Direction for Expansion {
     ghost counted = { λ e. 0 };
 
     ghost serves = { λ e choices. true };
+
+    ghost takes_at_start = { false };
 
     ghost has_room = { HasRoomInExpansion };
 

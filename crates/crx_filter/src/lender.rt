@@ -55,7 +55,7 @@ impl<D: Direction> Lender<D> {
     ghost use Rattle.crx_base.specs.meaning.Lines.{InputLine, is_long};
     ghost use Rattle.crx_lines.specs.Reading.{line_number, line_shown};
     ghost use Rattle.crx_filter.specs.EngineSteps.{Steps};
-    ghost use Rattle.crx_filter.specs.EngineState.{RanOutBefore, engine_ready};
+    ghost use Rattle.crx_filter.specs.EngineState.{EngineKeepsNotes, RanOutBefore, engine_ready};
     ghost use Rattle.crx_filter.specs.LenderState.{LenderEnds, LenderSkips, lender_ready, lender_state, lender_took};
     ghost use Rattle.crx_filter.specs.LineByLine.{Ended};
     ghost use Rattle.crx_filter.specs.contracts.lender.Lender.{the_row};
@@ -105,11 +105,13 @@ impl<D: Direction> Lender<D> {
             (lender_took D.Direction self.new) (lender_ready D.Direction self.new) lines notices line result }
         ensures repeated { (at : At) → (lender_state D.Direction self.old).phase ≡ Ended at → result ≡ Err at }
         ensures unasked { RanOutBefore D.Direction self.old.engine result }
+        ensures stays { EngineKeepsNotes D.Direction self.old.engine result self.new.engine }
     {
         self.engine.overlong(number)
     }
 
     /// Takes the end of the input. Lines are ready then where its direction hands out some at a good end, as a check does.
+    /// At a second end it answers a good one, with the same lines, or again the fault that has ended the run.
     pub fn end(&mut self) -> Result<Step, At>
         requires drained { lender_ready D.Direction self.old ≡ [] }
         ensures stops { LenderEnds D.Direction self.old result self.new }
@@ -121,6 +123,7 @@ impl<D: Direction> Lender<D> {
             → IfOk result (λ step. D.has_found self.new.engine.direction lines) }
         ensures repeated { (at : At) → (lender_state D.Direction self.old).phase ≡ Ended at → result ≡ Err at }
         ensures unasked { RanOutBefore D.Direction self.old.engine result }
+        ensures stays { EngineKeepsNotes D.Direction self.old.engine result self.new.engine }
     {
         self.engine.end()
     }
@@ -146,6 +149,8 @@ impl<D: Direction> Lender<D> {
         // Where its direction has room for the line, the answer isn't for want of memory, unless such a one has ended the run before.
         ensures known { D.has_room self.old.engine.direction (line_shown line.entry).content
             → RanOutBefore D.Direction self.old.engine result }
+        // After a fault it has noted of the lines before what it had noted.
+        ensures stays { EngineKeepsNotes D.Direction self.old.engine result self.new.engine }
     {
         let handed_out = self.engine.take_line(line);
         self.keep(handed_out, line.bytes());

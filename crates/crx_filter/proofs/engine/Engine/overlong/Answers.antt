@@ -1,6 +1,6 @@
 use Rattle.crx_filter.proofs.Words.{ap, ◌∙◌, sym, ◌+◌, inl, List, ℕ, Overlong, step_made, InputLine}
 use Rattle.crx_filter.proofs.steps.{EngineAnswers.{engine-answers, as-read-long}, EngineFaults.long-failed}
-use Rattle.crx_filter.proofs.steps.{EngineFaults.{not-settled, notes-nothing}, EngineLemmas.repeats}
+use Rattle.crx_filter.proofs.steps.{EngineFaults.{after-error, not-settled, notes-nothing}, EngineLemmas.repeats}
 use Rattle.crx_filter.specs.{DirectionParts.EngineParts, EngineState.{EngineGoes, EngineNotes, EngineSkips}}
 use Rattle.crx_filter.specs.EngineState.{engine_state}
 use Rattle.crx_filter.proofs.steps.RoomSteps.{not-lost}
@@ -36,4 +36,5 @@ returns-in_default g c =
           stops.drained ∙ stops.steps)) notices stops.choices (as-read-long line long) taken awaited;
       repeated = λ at is. repeats d.by_line _ _ Overlong _ _ at (inl stops.steps) is;
       unasked = not-lost _ then.answer _ c.fail.ensures.fault (λ is. absurd (cc (is)));
+      stays = rw (← c.self.view_is) (λ lines known. after-error _ (c.fail.ensures.stays lines known));
     })

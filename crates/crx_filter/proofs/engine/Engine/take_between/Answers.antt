@@ -1,5 +1,6 @@
 use Rattle.crx_filter.proofs.Words.{sym, subst, refl, ap, ◌+◌, ◌∙◌, begins_epoch, InputLine}
-use Rattle.crx_filter.proofs.steps.EngineFaults.{handed-line, notes-handed, notes-nothing, refused-line}
+use Rattle.crx_filter.proofs.steps.EngineFaults.{after-error, handed-line, notes-handed, notes-nothing}
+use Rattle.crx_filter.proofs.steps.EngineFaults.{refused-line}
 use Rattle.crx_filter.proofs.steps.RoomSteps.{handed-well, not-lost}
 use Rattle.crx_filter.proofs.engine.Engine.take_between.Goals as goal
 
@@ -18,6 +19,7 @@ returns-in-Err g c = rw (← c.self.view_is, ← c.of-line.ensures.shown) (recor
   known = λ room. not-lost _ c.fail.new.self.answer _ c.fail.ensures.fault
       (c.in-Err.ensures.known (subst (g.D.Direction.has_room c.self.inside.direction)
       (ap (λ (l : InputLine). l.content) (sym c.of-line.ensures.shown)) room));
+  stays = λ lines known. after-error _ (c.fail.ensures.stays lines (c.in-Err.ensures.stays lines known));
 })
 
 pub returns-in-Ok : goal.returns-in-Ok
@@ -35,4 +37,5 @@ returns-in-Ok g c =
             (c.of-line.ensures.number ∙ next.next ∙ ap (λ n. n + 1) counted));
       };
       known = λ room. handed-well out _ _;
+      stays = λ lines known. handed-well out _ _;
     })
