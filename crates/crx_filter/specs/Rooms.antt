@@ -1,6 +1,6 @@
 -- For how much there is room in a direction: where there is enough for a line, memory doesn't run out at it.
-use Rattle.std.specs.Prelude.{◌≡◌, ◌⊎◌, ◌≤◌, ◌+◌, ◌*◌, ℕ, Bool, true, false, List, [], Option, Some, IfOk, IfSome}
-use Rattle.std.specs.Prelude.{slice_get}
+use Rattle.std.specs.Prelude.{◌≡◌, ◌⊎◌, ◌≤◌, ◌<◌, ◌+◌, ◌*◌, ℕ, Bool, true, false, List, [], Option, Some, IfOk}
+use Rattle.std.specs.Prelude.{IfSome, length, slice_get}
 use Rattle.crx_base.specs.declared.limits.TheConstants.{HEAD_WIDTH, NAME_WIDTH}
 use Rattle.crx_text.specs.meaning.Columns.{columns}
 use Rattle.crx_header.specs.Identifiers.{HeldIdentifiers}
@@ -21,13 +21,14 @@ use Rattle.crx_filter.specs.declared.stage.Stage.TheVariants.{Between, Looking}
 
 -- ---- a check
 
--- no identifier can be put at an index without memory: it isn't there already, and there is no room for one more
+-- no identifier can be put at an index without memory: there is no room for one more, it isn't there already, and of
+-- those that are there fewer are dropped for it than stay
 pub record NeedsRoomForName (index : ℕ) (name : List ℕ) (held : HeldIdentifiers) : Type 0 where
   pub spare : held.spare ≡ 0
   pub other : slice_get held.names index ≡ Some name → ⊥
+  pub fewer : index < length held.names → 2 * index ≤ length held.names → ⊥
 
--- where no epoch is open, some system has types; in an epoch the line's identifier is held at its place, or there is
--- room for it
+-- where no epoch is open, some system has types; in an epoch the line's identifier can be put at its place
 pub record HasRoomInCheck (c : CheckingState) (line : List ℕ) : Type 0 where
   pub types : is_open_stage c.reader.stage ≡ false → c.reader.types ≡ [] → ⊥
   pub name : is_open_stage c.reader.stage ≡ true

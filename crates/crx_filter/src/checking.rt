@@ -150,7 +150,7 @@ fn take_row(
     ensures named { is_open_stage reader.new.stage ≡ true → AreNamed names.new.names reader.new.rows.rows }
     ensures rows { OnOk result (reader.new.rows.rows ≡ reader.old.rows.rows ++ reader.new.row ∷ []) }
     ensures few { OnOk result (length reader.new.rows.rows ≤ SATELLITES_LIMIT) }
-    // It asks for memory only for an identifier that isn't held at its place, and where there is no room for one more.
+    // It asks for memory only where the identifier can't be put at its place without.
     ensures asked { IfErr result (λ fault. fault ≡ Fault.OutOfMemory
         → NeedsRoomForName reader.old.count (columns line.now 1 NAME_WIDTH) names.old) }
 {

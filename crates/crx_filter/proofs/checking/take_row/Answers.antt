@@ -81,4 +81,5 @@ pub returns-in-Err-clause-asked : goal.returns-in-Err-clause-asked
 returns-in-Err-clause-asked c = λ out. record {
   spare = c.in-Err.ensures.asked;
   other = λ there. grind (arith, common_steps);
+  fewer = λ within half. grind (arith, common_steps);
 }
