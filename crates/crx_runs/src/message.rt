@@ -10,7 +10,7 @@ use itoa::Buffer;
 use std::marker::Model;
 
 /// How many bytes a message has at most.
-const MESSAGE_LIMIT: usize = 256;
+const MESSAGE_LIMIT: usize = 80;
 
 /// How grave a fault is.
 #[derive(Clone, Copy, Debug, PartialEq, Eq)]
@@ -62,16 +62,15 @@ impl MessageLine {
 pub fn message(severity: Severity, at: At) -> MessageLine
     ensures value { result ≡ message_text (word_of severity) at }
 {
-    let word = match severity {
-        Severity::Error => "ERROR",
-        Severity::Warning => "WARNING",
-    };
     let mut message = MessageLine {
         bytes: [0; MESSAGE_LIMIT],
         len: 0,
     };
-    message.append(word.as_bytes());
-    message.append(b" line ");
+    // A text of constant length is copied without a call.
+    match severity {
+        Severity::Error => message.append(b"ERROR line "),
+        Severity::Warning => message.append(b"WARNING line "),
+    }
     message.append(Buffer::new().format(at.line).as_bytes());
     message.append(b" code ");
     message.append(Buffer::new().format(at.fault.code()).as_bytes());
