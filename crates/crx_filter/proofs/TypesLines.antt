@@ -2,7 +2,8 @@
 use Rattle.crx_filter.proofs.Words.{common_steps, arith, ◌≡◌, ◌⊎◌, Bool, true, List, ℕ, Option, Some, None}
 use Rattle.crx_filter.proofs.Words.{if◌then◌else◌, ◌&&◌, is_some, and_from, Fault, OutOfMemory, Count}
 use Rattle.crx_filter.{proofs.Words.{false-true, types_fault}, specs.meaning.UnitPlaces.first_fault}
-use Rattle.std.specs.Prelude.{is_none}
+use Rattle.crx_filter.specs.meaning.Items.{are_lacking}
+use Rattle.std.specs.Prelude.{is_none, [], IfErr, Result}
 use Rattle.crx_base.specs.declared.fault.Fault.TheVariants.{BadTypesLine}
 use Rattle.crx_header.specs.meaning.ObservationTypes.{is_bad_types_line, count_of_types_line}
 
@@ -23,15 +24,20 @@ good-if : (b : Bool) (o : Option Count)
     → is_some (if b then o else None) ≡ true → (if b && is_none o then Some BadTypesLine else None) ≡ None
 good-if b o h = grind (arith, common_steps, false-true)
 
--- the same of a header line
-abbrev pub RefusedFirst : Option Fault → List ℕ → Fault → Type 0
-RefusedFirst wrong line fault = (wrong ≡ Some fault)
-    ⊎ ((fault ≡ OutOfMemory) × ((is_some (count_of_types_line line) && is_none wrong) ≡ true))
+-- the same of a header line, where memory is asked for only while no system has types
+abbrev pub RefusedFirst : List Count → Option Fault → List ℕ → Fault → Type 0
+RefusedFirst types wrong line fault = (wrong ≡ Some fault) ⊎ ((fault ≡ OutOfMemory)
+    × ((are_lacking types && (is_some (count_of_types_line line) && is_none wrong)) ≡ true))
 
-pub refused-first : (wrong : Option Fault) (line : List ℕ) (fault : Fault) → wrong ≡ None
-    → RefusedAs (types_fault line) line fault → RefusedFirst (first_fault wrong (types_fault line)) line fault
-refused-first wrong line fault none e =
+pub refused-first : (types : List Count) (wrong : Option Fault) (line : List ℕ) (fault : Fault) → wrong ≡ None
+    → (fault ≡ OutOfMemory → types ≡ []) → RefusedAs (types_fault line) line fault
+    → RefusedFirst types (first_fault wrong (types_fault line)) line fault
+refused-first types wrong line fault none asked e =
     grind (arith, common_steps, first_fault, types_fault, good-if, and_from, is_some, count_of_types_line)
 
 pub if-none : (b : Bool) (o : Option Fault) → o ≡ None → (if b then o else None) ≡ None
 if-none other o none = grind (arith, common_steps)
+
+pub if-err-both : {X E : Type 0} (r : Result X E) (P Q R : E → Type 0)
+    → ((e : E) → P e → Q e → R e) → IfErr r P → IfErr r Q → IfErr r R
+if-err-both r P Q R f p q = grind arith

@@ -72,7 +72,7 @@ made_at_parts direction parts line =
 -- a fault is that of the line, or memory ran out at a line that may take some
 abbrev pub RefusesLine : {U O K : Type 0} → Direction U O K → DirectionParts O K → List ℕ → Fault → Type 0
 RefusesLine direction parts line fault = (made_at_parts direction parts line ≡ Rejects fault) ⊎ ((fault ≡ OutOfMemory)
-    × (may_take_memory (direction.memory_first parts.types parts.kept) direction.memory_next
+    × (may_take_memory parts.types (direction.memory_first parts.types parts.kept) direction.memory_next
     (phase_of_stage parts.begun parts.stage) (Content line) ≡ true))
 
 -- what a direction answers to a line, by the choices that it serves: whether lines are ready, as the line's step says,

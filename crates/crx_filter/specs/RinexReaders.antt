@@ -54,7 +54,7 @@ pub record CompletedEpoch (made : Made ObservationEpoch OpenEpoch)
   pub held : after.head ≡ Some head
   pub is : Completed made (Observation (epoch_by_rows head after.rows.rows)) before after
   pub counted : length after.rows.rows ≡ head.count
-  pub allowed : may_take_memory (epoch_written before.types before.types) is_next_row
+  pub allowed : may_take_memory before.types (epoch_written before.types before.types) is_next_row
       (reader_phase before) (Content line) ≡ true
 
 -- a line after which no unit is complete
@@ -90,7 +90,7 @@ TakesRinexLine made before line Epoch after = CompletedEpoch made line before af
 -- none
 abbrev pub RefusesRinexLine : Made ObservationEpoch OpenEpoch → RinexReader → List ℕ → Fault → Type 0
 RefusesRinexLine made before line fault = (made ≡ Rejects fault) ⊎ ((fault ≡ OutOfMemory)
-    × (may_take_memory (λ first. false) is_next_row (reader_phase before) (Content line) ≡ true))
+    × (may_take_memory before.types (λ first. false) is_next_row (reader_phase before) (Content line) ≡ true))
 
 -- what a reader answers to a line that is no row of an open epoch, whatever is kept of the epochs before; after
 -- a fault it is as it was

@@ -159,7 +159,7 @@ impl RinexReader {
         ensures repeated { (kept : Written) → OnOk result (has_satellite self.new.row.name self.old.rows.rows ≡ true
             → made_at self.old line.now kept ≡ Rejects Fault.RepeatedSatellite) }
         ensures memory { OnOk result (has_satellite self.new.row.name self.old.rows.rows ≡ false
-            → may_take_memory (λ first. false) is_next_row (reader_phase self.old) (Content line.now) ≡ true) }
+            → may_take_memory self.old.types (λ first. false) is_next_row (reader_phase self.old) (Content line.now) ≡ true) }
         ensures refused { (kept : Written) → IfErr result (λ fault. made_at self.old line.now kept ≡ Rejects fault) }
         ensures unasked { IfErr result (λ fault. fault ≡ Fault.OutOfMemory → ⊥) }
         ensures same { IsSameReader self.old self.new }

@@ -5,6 +5,7 @@ ghost use Rattle.std.specs.Prelude.{◌≡◌, ◌⊎◌, ◌&&◌, [], None, So
 ghost use Rattle.crx_header.specs.meaning.ObservationTypes.{count_of_types_line};
 ghost use Rattle.crx_header.specs.ObservationTypes.{with_line};
 ghost use Rattle.crx_filter.specs.meaning.Expanded.{empties_state};
+ghost use Rattle.crx_filter.specs.meaning.Items.{are_lacking};
 ghost use Rattle.crx_filter.specs.meaning.UnitPlaces.{header_line_fault, types_fault};
 
 use crx_base::Fault;
@@ -17,8 +18,8 @@ pub fn accept_header_line(types: &mut Types, is_first: bool, line: &[u8]) -> Res
     ensures ok { OnOk result (types.new ≡ with_line types.old line.now) }
     ensures same { OnErr result (types.new ≡ types.old) }
     ensures refused { IfErr result (λ fault. (header_line_fault is_first line.now ≡ Some fault)
-        ⊎ ((fault ≡ Fault.OutOfMemory) × ((is_some (count_of_types_line line.now)
-        && is_none (header_line_fault is_first line.now)) ≡ true))) }
+        ⊎ ((fault ≡ Fault.OutOfMemory) × ((are_lacking types.old && (is_some (count_of_types_line line.now)
+        && is_none (header_line_fault is_first line.now))) ≡ true))) }
     ensures asked { IfErr result (λ fault. fault ≡ Fault.OutOfMemory → types.old ≡ []) }
 {
     if is_first {
@@ -35,7 +36,8 @@ pub fn accept_record(types: &mut Types, counted: bool, line: &[u8]) -> Result<bo
     ensures ok { OnOk result (types.new ≡ (if counted then with_line types.old line.now else types.old)) }
     ensures same { OnErr result (types.new ≡ types.old) }
     ensures refused { IfErr result (λ fault. ((if counted then types_fault line.now else None) ≡ Some fault)
-        ⊎ ((fault ≡ Fault.OutOfMemory) × ((counted && is_some (count_of_types_line line.now)) ≡ true))) }
+        ⊎ ((fault ≡ Fault.OutOfMemory) × ((are_lacking types.old
+        && (counted && is_some (count_of_types_line line.now))) ≡ true))) }
     ensures asked { IfErr result (λ fault. fault ≡ Fault.OutOfMemory → types.old ≡ []) }
 {
     if !(counted && is_types(line)) {

@@ -16,6 +16,7 @@ use Rattle.crx_filter.proofs.following.{Following.wrong-last, Lines.{IsStopped, 
 use Rattle.crx_filter.proofs.{following.Lines.record-place, steps.EngineAnswers.{ComesAgain, comes-again}}
 use Rattle.crx_filter.specs.{LineByLine.{Quiet, Ready}, meaning.Memory.{line_takes, takes_after_warning}}
 use Rattle.{crx_header.specs.meaning.ObservationTypes.count_of_types_line, std.specs.Prelude.is_none}
+use Rattle.crx_filter.specs.meaning.Items.{are_lacking}
 
 -- ---- types lines
 
@@ -35,24 +36,30 @@ counts-well line = by_types (is_types_line line) refl (count_in line) refl
 
 -- a header line, by its fault
 header-takes : {E : Type 0} (takes : ℕ → Bool → Bool) (items : List (Item E)) (is_first : Bool)
-    (line : List ℕ) → (is_some (count_of_types_line line) && is_none (header_line_fault is_first line)) ≡ true
+    (line : List ℕ) → (are_lacking (types_in_force items) && (is_some (count_of_types_line line) && is_none
+    (header_line_fault is_first line))) ≡ true
     → place_takes takes items 0 (first_line (Content line ∷ []) (header_line is_first)) ≡ true
-header-takes {E = E} takes items is_first line = by_fault (header_line_fault is_first line) refl
+header-takes {E = E} takes items is_first line h =
+    let each = and_parts (are_lacking (types_in_force items)) _ h in
+    by_fault (header_line_fault is_first line) refl each.0 each.1
   where
     by_fault : (o : Option Fault) → header_line_fault is_first line ≡ o
-        → (is_some (count_of_types_line line) && is_none o) ≡ true
+        → are_lacking (types_in_force items) ≡ true → (is_some (count_of_types_line line) && is_none o) ≡ true
         → place_takes {E = E} takes items 0 (one_line (unless_wrong (HeaderLine line) o)) ≡ true
-    by_fault None e h = (counts-well line (and_parts (is_some (count_of_types_line line)) true h).0).0
-    by_fault (Some fault) e h = false-true (and_parts (is_some (count_of_types_line line)) false h).1
+    by_fault None e l h =
+        let well = counts-well line (and_parts (is_some (count_of_types_line line)) true h).0 in cc (l, well.0)
+    by_fault (Some fault) e l h = false-true (and_parts (is_some (count_of_types_line line)) false h).1
 
 -- a record of an event
 record-takes : {E : Type 0} (takes : ℕ → Bool → Bool) (items : List (Item E)) (line : List ℕ)
-    → (records_count_types items && is_some (count_of_types_line line)) ≡ true → place_takes takes items 0
+    → (are_lacking (types_in_force items) && (records_count_types items && is_some (count_of_types_line line)))
+    ≡ true → place_takes takes items 0
     (first_line (Content line ∷ []) (event_record (records_count_types items))) ≡ true
 record-takes {E = E} takes items line h =
-    let each = and_parts (records_count_types items) (is_some (count_of_types_line line)) h in
+    let lacking = and_parts (are_lacking (types_in_force items)) _ h in
+    let each = and_parts (records_count_types items) (is_some (count_of_types_line line)) lacking.1 in
     let well = counts-well line each.1 in
-    cc (each.0, well.1, each.0, well.0)
+    cc (each.0, well.1, each.0, well.0, lacking.0)
 
 -- ---- a direction that takes memory by what is at its lines
 
@@ -75,7 +82,7 @@ module _ {E U O K : Type 0} {beginning : List (Item E) → List ReadLine → Pla
     {takes : ℕ → Bool → Bool} (t : TakesAsItStands beginning direction open_with kept_of takes) where
   -- whether memory may run out in a phase
   abbrev taken_in : List (Item E) → ReadLine → Phase O → Bool
-  taken_in items line phase = may_take_memory (direction.memory_first
+  taken_in items line phase = may_take_memory (types_in_force items) (direction.memory_first
       (types_in_force items) (kept_in direction phase (kept_of items))) direction.memory_next phase line
 
   -- where an epoch or an event may begin

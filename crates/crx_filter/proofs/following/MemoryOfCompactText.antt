@@ -1,17 +1,16 @@
 -- The memory that an expansion takes, by what is at its lines.
 use Rattle.crx_filter.proofs
-use proofs.Words.{common_steps, ℕ, ◌≡◌, Bool, true, false, List, [], ◌∷◌, ◌++◌, length, Option, Some, None}
-use proofs.Words.{Result, Ok, refl, none-some, ReadLine, Content, Overlong, Fault, Count, ReadEpoch}
-use proofs.Words.{Satellite, OpenRawEpoch, RawStep, first_step, next_step, open_raw_after, Tail, and_then}
-use proofs.Words.{Choices, Item, types_in_force, place_takes, begins_event, compact_open, expansion}
+use proofs.Words.{common_steps, ℕ, ◌≡◌, Bool, true, false, List, [], ◌∷◌, length, Option, Some, None}
+use proofs.Words.{refl, ReadLine, Content, Overlong, ReadEpoch}
+use proofs.Words.{OpenRawEpoch, RawStep, first_step, Tail}
+use proofs.Words.{Choices, Item, types_in_force, place_takes, compact_open, expansion}
 use proofs.Words.{made_of_raw_step, tail_of_items, ◌+◌, drop, arith, length-drop, At, Place, Done, Fails}
 use proofs.Words.{NeedsMore, expansion_state, Notice, RunState, state_next, takes_memory, compact_memory}
-use proofs.Words.{compact_place, first_lines, memory_allowed, reading_from, and_parts, not-true, false-true}
-use Rattle.crx_compact.specs.OpenEpochs.{Going, is_faulty, before_clock, has_come, makes_epoch, tail_opened}
-use Rattle.crx_compact.specs.OpenEpochs.{opened_raw, opening}
+use proofs.Words.{compact_place, first_lines, memory_allowed, reading_from, not-true, false-true}
+use Rattle.crx_compact.specs.OpenEpochs.{is_faulty}
 use Rattle.crx_filter.specs.meaning.Memory.{expansion_takes}
 use proofs.following.ExpandedOn.{reading_by, state_by}
-use proofs.following.Expansion.{Agrees, agree-content, agree-continues, expansion-carried_out}
+use proofs.following.Expansion.{Agrees, agree-content, expansion-carried_out}
 use proofs.following.{Lines.IsStopped, Memory.{TakesAsItStands, allowed-again, allowed-first}}
 use proofs.reading.{CompactPrefixes.remains, ForwardCompact.{compact_beginning, compact-forward}}
 use proofs.{reading.Stopping.reading-stopped, steps.EngineAnswers.comes-again}
@@ -23,47 +22,6 @@ step-takes : (choices : Choices) (items : List (Item ReadEpoch)) (lines : List R
     → place_takes expansion_takes items count (compact_beginning items lines) ≡ true
 step-takes choices items lines count step takes fine a = grind (arith, common_steps)
 
--- a step that makes an epoch takes memory, where the epoch's last line does
-last-takes : (choices : Choices) (items : List (Item ReadEpoch)) (lines : List ReadLine) (count : ℕ)
-    (step : RawStep) → expansion_takes count true ≡ true → makes_epoch step ≡ true
-    → Agrees choices items lines (made_of_raw_step step)
-    → place_takes expansion_takes items count (compact_beginning items lines) ≡ true
-last-takes choices items lines count v1 takes last a = grind (arith)
-
--- ---- the clock line
-
-abbrev clock_read : RawStep → Bool
-clock_read (Going so_far) = has_come so_far.clock
-clock_read step = false
-
-opened-clock : (line : List ℕ) (before : Tail) (read : Result (List Satellite) Fault)
-    → clock_read (opening (and_then read (λ (satellites : List Satellite).
-    Ok (before_clock (tail_opened before line satellites))))) ≡ false
-opened-clock line before v1 = grind (arith)
-
-by-tail : (types : List Count) (line : List ℕ) (tail : Option Tail)
-    → clock_read (opening (opened_raw types line tail)) ≡ false
-by-tail types line v1 = grind (arith, opened-clock)
-
--- where the clock line has come, two lines are before the next one
-takes-next : (items : List (Item ReadEpoch)) (lines : List ReadLine) (so_far : OpenRawEpoch) → compact_open
-    items lines ≡ Some so_far → has_come so_far.clock ≡ true → expansion_takes (length lines) true ≡ true
-takes-next items [] so_far opens read = absurd (none-some so_far opens)
-takes-next items (line ∷ []) so_far opens read = by_event (begins_event (line ∷ [])) refl
-  where
-    clock_of : Option OpenRawEpoch → Bool
-    clock_of None = false
-    clock_of (Some begun) = has_come begun.clock
-
-    of_step : (step : RawStep) → clock_of (open_raw_after step []) ≡ clock_read step
-    of_step step = grind (arith, common_steps)
-
-    by_event : (b : Bool) → begins_event (line ∷ []) ≡ b → expansion_takes 1 true ≡ true
-    by_event true e = grind (arith, common_steps, none-some, begins_event, compact_open)
-    by_event false e =
-        grind (arith, common_steps, false-true, clock_of, of_step, first_step, types_in_force, by-tail)
-takes-next items (one ∷ two ∷ lines) so_far opens read = refl
-
 takes-always : (is_whole : Bool) → expansion_takes 0 is_whole ≡ true
 takes-always is_whole = refl
 
@@ -74,11 +32,7 @@ expansion-takes choices = record {
       (first_step (types_in_force items) (tail_of_items items) (Content line)) takes-always
       (not-true (is_faulty (first_step (types_in_force items) (tail_of_items items) (Content line))) good)
       (agree-content choices items line false other);
-  next = λ items lines line so_far opens good.
-      let each = and_parts (has_come so_far.clock) (makes_epoch (next_step so_far (Content line))) good in
-      last-takes choices items (lines ++ Content line ∷ []) (length lines) (next_step so_far (Content line))
-      (takes-next items lines so_far opens each.0) each.1
-      (agree-continues choices items lines (Content line) so_far opens);
+  next = λ items lines line so_far opens good. false-true good;
 }
 
 -- ---- where memory may run out

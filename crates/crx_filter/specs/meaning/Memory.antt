@@ -1,4 +1,5 @@
--- At which lines memory may run out: only where what is at a line has no fault, and where the line takes memory.
+-- At which lines memory may run out: only where what is at a line has no fault, and where the line takes memory. For
+-- observation types memory is taken once, for all systems.
 -- Which lines of an epoch take memory differs between compaction, expansion and check: the function `takes` says it, by
 -- how many of the epoch's lines are before the line, and whether the epoch is whole with it.
 -- Lists of items have the newest first.
@@ -9,16 +10,17 @@ use Rattle.crx_base.specs.declared.fault.At.{At}
 use Rattle.crx_header.specs.meaning.ObservationTypes.{is_types_line}
 use Rattle.crx_rinex.specs.meaning.Places.{Place, Done, Fails, NeedsMore}
 use Rattle.crx_rinex.specs.meaning.Units.{Unit, HeaderLine, EventLine, EventRecord, Observation}
-use Rattle.crx_filter.specs.meaning.Items.{Item, Warned, records_count_types}
+use Rattle.crx_filter.specs.meaning.Items.{Item, Warned, are_lacking, records_count_types, types_in_force}
 use Rattle.crx_filter.specs.meaning.Reading.{Reading, AtFault, AtLines, Looking, is_skipped, can_go_on}
 
 -- whether a line takes memory that completes a unit after some items, so many lines of the unit being before it: a
--- types line that counts does, other header lines and records and an event's line don't, and an epoch's last line as
--- `takes` says
+-- types line that counts does where no system has types yet, other header lines and records and an event's line don't,
+-- and an epoch's last line as `takes` says
 abbrev pub unit_takes : {E : Type 0} → (ℕ → Bool → Bool) → List (Item E) → ℕ → Unit E → Bool
-unit_takes takes items count (HeaderLine line) = is_types_line line
+unit_takes takes items count (HeaderLine line) = are_lacking (types_in_force items) && is_types_line line
 unit_takes takes items count (EventLine line) = false
-unit_takes takes items count (EventRecord line) = records_count_types items && is_types_line line
+unit_takes takes items count (EventRecord line) =
+    are_lacking (types_in_force items) && (records_count_types items && is_types_line line)
 unit_takes takes items count (Observation epoch) = takes count true
 
 -- whether a line takes memory, by what is at the lines up to it: none that has a fault does, and an epoch's other
@@ -62,11 +64,10 @@ abbrev pub compaction_takes : ℕ → Bool → Bool
 compaction_takes zero is_whole = is_whole
 compaction_takes (suc count) is_whole = true
 
--- compact text: an epoch's line takes memory, and the line of its last satellite; no line between them does
+-- compact text: an epoch's line takes memory, for all lines of the epoch; no line after it does
 abbrev pub expansion_takes : ℕ → Bool → Bool
 expansion_takes zero is_whole = true
-expansion_takes (suc zero) is_whole = false
-expansion_takes (suc (suc count)) is_whole = is_whole
+expansion_takes (suc count) is_whole = false
 
 -- RINEX, checked: each satellite's line does
 abbrev pub check_takes : ℕ → Bool → Bool

@@ -1,7 +1,7 @@
 use Rattle.std.proofs.Common.{◌≡◌, None, if◌then◌else◌}
 use Rattle.crx_header.specs.meaning.Header.{first_header_fault}
-use Rattle.crx_filter.proofs.TypesLines.{Bad, RefusedFirst, refused-types, refused-first, if-none}
-use Rattle.crx_compact.proofs.Marks.{if-err}
+use Rattle.crx_filter.proofs.TypesLines.{Bad, RefusedFirst, refused-types, refused-first, if-err-both, if-none}
+use Rattle.crx_filter.proofs.Words.{OutOfMemory, []}
 use Rattle.crx_filter.proofs.types_lines.accept_header_line.Goals.{then-is_first+in_ok-header_first}
 use Rattle.crx_filter.proofs.types_lines.accept_header_line.Goals.{else-is_first}
 use Rattle.crx_filter.proofs.types_lines.accept_header_line.Goals as goal
@@ -15,5 +15,7 @@ returns-clause-refused c =
           if-none c.args.is_first (first_header_fault line) w.in_ok-header_first.ensures.fault
       | else-is_first w ↦ search w.if-is_first
     ] in
-    if-err c.accept_line.result (Bad line) (RefusedFirst _ line)
-    (λ fault bad. refused-first _ line fault good (refused-types line fault bad)) c.accept_line.ensures.bad
+    if-err-both c.accept_line.result (Bad line) (λ fault. fault ≡ OutOfMemory → c.args.types.now ≡ [])
+    (RefusedFirst c.args.types.now _ line)
+    (λ fault bad asked. refused-first c.args.types.now _ line fault good asked (refused-types line fault bad))
+    c.accept_line.ensures.bad c.accept_line.ensures.asked
