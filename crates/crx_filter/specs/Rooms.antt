@@ -17,7 +17,13 @@ use Rattle.crx_filter.specs.CompactionParts.{CompactionState}
 use Rattle.crx_filter.specs.RinexStages.{is_open_stage}
 use Rattle.crx_filter.specs.declared.expansion.Expansion.{Expansion}
 use Rattle.crx_filter.specs.declared.stage.Stage.{Stage}
-use Rattle.crx_filter.specs.declared.stage.Stage.TheVariants.{Between, Looking}
+use Rattle.crx_filter.specs.declared.stage.Stage.TheVariants.{Header, Between, Event, Looking}
+
+-- whether types lines count at a stage: in the header, and among the records of some events
+abbrev pub do_types_count : Stage → Bool
+do_types_count (Header is_first) = true
+do_types_count (Event left counted) = counted
+do_types_count stage = false
 
 -- ---- a check
 
@@ -28,9 +34,9 @@ pub record NeedsRoomForName (index : ℕ) (name : List ℕ) (held : HeldIdentifi
   pub other : slice_get held.names index ≡ Some name → ⊥
   pub fewer : index < length held.names → 2 * index ≤ length held.names → ⊥
 
--- where no epoch is open, some system has types; in an epoch the line's identifier can be put at its place
+-- where types lines count, some system has types; in an epoch the line's identifier can be put at its place
 pub record HasRoomInCheck (c : CheckingState) (line : List ℕ) : Type 0 where
-  pub types : is_open_stage c.reader.stage ≡ false → c.reader.types ≡ [] → ⊥
+  pub types : do_types_count c.reader.stage ≡ true → c.reader.types ≡ [] → ⊥
   pub name : is_open_stage c.reader.stage ≡ true
       → NeedsRoomForName c.reader.count (columns line 1 NAME_WIDTH) c.names → ⊥
 
@@ -40,14 +46,14 @@ pub record HasRoomInCheck (c : CheckingState) (line : List ℕ) : Type 0 where
 abbrev pub HasRoomForRow : List Count → List ℕ → EncodingRoom → Type 0
 HasRoomForRow types line room = IfOk (row_of types line) (λ row. HasRowRoom row room)
 
--- there is room for the text of an epoch with this line
+-- there is room for the text of an epoch with this epoch line
 abbrev pub HasRoomForText : Option ObservationHead → EncodingRoom → Type 0
 HasRoomForText head room = IfSome head (λ head. HEAD_WIDTH + NAME_WIDTH * head.count ≤ room.text)
 
--- where no epoch is open, some system has types, and the text of an epoch without satellites fits; in an epoch there is
--- room for the line's row, and for the epoch's text
+-- where types lines count, some system has types; where no epoch is open, the text of an epoch without satellites fits;
+-- in an epoch there is room for the line's row, and for the epoch's text
 pub record HasRoomInCompaction (c : CompactionState) (line : List ℕ) : Type 0 where
-  pub types : is_open_stage c.reader.stage ≡ false → c.reader.types ≡ [] → ⊥
+  pub types : do_types_count c.reader.stage ≡ true → c.reader.types ≡ [] → ⊥
   pub empty : is_open_stage c.reader.stage ≡ false → HEAD_WIDTH ≤ c.encoder.room.text
   pub row : is_open_stage c.reader.stage ≡ true → HasRoomForRow c.reader.types line c.encoder.room
   pub text : is_open_stage c.reader.stage ≡ true → HasRoomForText c.reader.head c.encoder.room
@@ -70,10 +76,10 @@ abbrev pub HasRoomInColumns : List Count → HeldColumns → List ℕ → BlockR
 HasRoomInColumns types columns line block =
     HasRoomToBegin types (tail_held columns.state) line (record columns.room { block = block })
 
--- in the header and in an event, some system has types; where an epoch may begin, there is room for the one that the line begins, and of
--- the two blocks of printed lines the larger one counts; in an epoch no memory is needed
+-- where types lines count, some system has types. Where an epoch may begin, there is room for the one that the line
+-- begins: of the two blocks of printed lines the larger one counts. In an epoch no memory is needed
 pub record HasRoomInExpansion (e : Expansion) (line : List ℕ) : Type 0 where
-  pub types : is_open_stage e.reader.stage ≡ false → e.reader.types ≡ [] → ⊥
+  pub types : do_types_count e.reader.stage ≡ true → e.reader.types ≡ [] → ⊥
   pub epoch : may_begin e.reader.stage ≡ true
       → HasRoomInColumns e.reader.types e.reader.columns line e.reader.columns.room.block
       ⊎ (HasNoMoreRoom e.reader.columns.room.block e.lines.room

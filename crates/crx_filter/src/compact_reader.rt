@@ -33,7 +33,7 @@ impl CompactReader {
     ghost use Rattle.crx_filter.specs.CompactReaders.{ReadsCompactLine, compact_reader_parts, line_copied};
     ghost use Rattle.crx_filter.specs.DirectionParts.{state_by};
     ghost use Rattle.crx_filter.specs.ExpansionByLine.{expansion_state};
-    ghost use Rattle.crx_filter.specs.Rooms.{HasRoomToBegin, may_begin};
+    ghost use Rattle.crx_filter.specs.Rooms.{HasRoomToBegin, do_types_count, may_begin};
 
     /// A reader before the first line.
     pub fn new(alloc: Global) -> CompactReader
@@ -76,7 +76,8 @@ impl CompactReader {
     /// `NotCompact` comes where the first line isn't that of Compact RINEX 3.0, `BadProgLine` where the second one has another label.
     /// In the header the faults of its first line come first, then `BadTypesLine`; among an event's records `BadTypesLine`, where
     /// types lines count. Where an epoch or an event may begin, `BadEpoch` comes where an event's count is none; then the refusals of
-    /// [`Columns::begin`]. `OutOfMemory` comes only at a line without a fault: a types line that counts, and an epoch's first line.
+    /// [`Columns::begin`]. `OutOfMemory` comes only at a line without a fault: the first types line that counts, and an epoch's first
+    /// line.
     #[inline(never)]
     pub(crate) fn read_between(&mut self, line: &[u8]) -> Result<bool, Fault>
         requires running { is_ended self.old.stage ≡ false }
@@ -84,7 +85,7 @@ impl CompactReader {
         requires short { length line.now ≤ LINE_LIMIT }
         ensures reads { ReadsCompactLine self.old line.now result (line_copied line.now result) self.new }
         // It asks for memory only for the first types, and where there is no room for an epoch's lines.
-        ensures known { (self.old.types ≡ [] → ⊥)
+        ensures known { (do_types_count self.old.stage ≡ true → self.old.types ≡ [] → ⊥)
             → (may_begin self.old.stage ≡ true
             → HasRoomToBegin self.old.types (tail_held self.old.columns.state) line.now self.old.columns.room)
             → IfErr result (λ fault. fault ≡ Fault.OutOfMemory → ⊥) }

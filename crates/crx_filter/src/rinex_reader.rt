@@ -63,6 +63,7 @@ impl RinexReader {
     ghost use Rattle.crx_filter.specs.RinexStages.{is_open_stage};
     ghost use Rattle.crx_filter.specs.Stages.{is_ended};
     ghost use Rattle.crx_filter.specs.RinexReaders.{is_row, reader_phase, made_at, IsSameReader, ReadsRinexLine, TakesRinexLine, RefusesRinexLine};
+    ghost use Rattle.crx_filter.specs.Rooms.{do_types_count};
 
     /// A reader before the first line.
     pub fn new(alloc: Global) -> RinexReader
@@ -96,7 +97,8 @@ impl RinexReader {
         ensures steps { IfOk result (λ step. is_row step ≡ false) }
         ensures same { OnErr result (IsSameReader self.old self.new) }
         // It asks for memory only for the first types.
-        ensures asked { IfErr result (λ fault. fault ≡ Fault.OutOfMemory → self.old.types ≡ []) }
+        ensures asked { IfErr result (λ fault. fault ≡ Fault.OutOfMemory
+            → (do_types_count self.old.stage ≡ true) × (self.old.types ≡ [])) }
     {
         match self.stage {
             Stage::Header { is_first } => {

@@ -14,12 +14,12 @@ returns-in_err-read_between-clause-known c = λ has.
       | in-Between w ↦
           let after = w.take_room.new.self in
           let idle = idle-between reader.stage reader.columns.state w.in-Between.is reader.consistent in
-          (rw w.self-is at c.in_err-read_between.ensures.known) (has.types c.requires.closed) (λ may.
+          (rw w.self-is at c.in_err-read_between.ensures.known) has.types (λ may.
           subst (λ (line : List ℕ). HasRoomToBegin reader.types (tail_held after.state) line after.room)
           (sym c.bytes.ensures.content) (room-taken reader.types c.args.line.content.now reader.columns
           after c.args.self.now.lines.room (ap (λ (h : HeldColumns). h.state) w.take_room.ensures.others)
           w.take_room.ensures.kept (w.take_room.ensures.taken idle) (has.epoch may)))
       | in_default w ↦
-          (rw w.self-is at c.in_err-read_between.ensures.known) (has.types c.requires.closed) (λ may. absurd
+          (rw w.self-is at c.in_err-read_between.ensures.known) has.types (λ may. absurd
           (begins-nowhere-else reader.stage w.in_default.not-Between w.in_default.not-Looking may))
     ])
