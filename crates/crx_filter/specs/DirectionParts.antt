@@ -40,7 +40,7 @@ state_by choices number parts = record {
 }
 
 -- the parts of an engine: the user's choices, the number of the last line that counts, its direction, and the answer to
--- the line that was taken last, where something was to be written or reported
+-- the line with a fault that was taken last
 pub record EngineParts (D : Type 0) : Type 0 where
   pub options : Choices
   pub number : ℕ

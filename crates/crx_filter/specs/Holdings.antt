@@ -134,5 +134,5 @@ abbrev pub lender_inside_with : {D : Type 0} → (EngineParts D → EngineParts 
 lender_inside_with engine_with one other = record one {
   engine = engine_with one.engine other.engine;
   copied = other.copied;
-  is_copied = other.is_copied;
+  is_pending = other.is_pending;
 }

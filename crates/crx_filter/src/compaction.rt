@@ -35,7 +35,7 @@ pub struct Compaction {
 /// The faults of a line are in the header `MissingVersion`, `UnsupportedVersion` and `NotObservation` at the first line, and
 /// `BadTypesLine`; `BadTypesLine` among an event's records, where types lines count; and where faults aren't skipped `NotAnEpoch`,
 /// `BadEpoch` and `BadClock` where an epoch or an event may begin, and `Truncated`, `BadSatellite`, `BadField`, `BadFlags` and
-/// `RepeatedSatellite` in an epoch. `OutOfMemory` comes only at a line without a fault: a types line that counts, a satellite's line, or
+/// `RepeatedSatellite` in an epoch. `OutOfMemory` comes only at a line without a fault: the first types line that counts, a satellite's line, or
 /// the line of an epoch without satellites. At the end the fault is `MissingVersion` before the first line, `NoEndOfHeader` in the header,
 /// `Truncated` among an event's records, and in an epoch where faults aren't skipped.
 pub type Compactor = Lender<Compaction>;

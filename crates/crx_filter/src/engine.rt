@@ -13,8 +13,8 @@ use crx_runs::{HandedOut, Step};
 use std::alloc::{AllocError, Global};
 use std::marker::Model;
 
-/// An engine of a direction, as a run has it: it takes the lines of an input one at a time. The lines that it makes are borrowed from it; of a
-/// line that is copied it says so, and keeps nothing: a [`Lender`](crate::lender::Lender) does.
+/// An engine of a direction, as a run has it: it takes the lines of an input one at a time. The lines that it makes are borrowed from it. A
+/// line that is copied it hands out as it is, and keeps none; a [`Lender`](crate::lender::Lender) keeps a copy.
 #[derive(Drop)]
 pub struct Engine<D: Direction> {
     options: Options,
@@ -51,7 +51,8 @@ impl<D: Direction> Engine<D> {
     ghost use Rattle.crx_filter.specs.declared.stage.Stage.{Stage};
     ghost use Rattle.crx_runs.specs.Engines.{Awaited, Concludes, EngineAnswers, IsAwaited, answer_given};
 
-    /// An engine before the first line of its input; `AllocError` comes where there is no memory for a line.
+    /// An engine before the first line of its input; `AllocError` comes where there is no memory for what its direction begins
+    /// with.
     pub fn new(alloc: Global, options: Options) -> Result<Engine<D>, AllocError>
         ensures state { IfOk result (λ e. engine_state D.Direction e ≡ D.state_after_lines (D.chosen options) []) }
         ensures drained { IfOk result (λ e. engine_ready D.Direction e ≡ []) }
@@ -197,7 +198,7 @@ impl<D: Direction> Engine<D> {
 
     /// Takes a line that is too long, by its number: it has the fault `LineTooLong`, unless a line that begins with `>` is looked for:
     /// then it is passed over.
-    pub fn overlong(&mut self, number: u64) -> Result<Step, At>
+    pub(crate) fn overlong(&mut self, number: u64) -> Result<Step, At>
         requires drained { engine_ready D.Direction self.old ≡ [] }
         requires next { number ≡ (engine_state D.Direction self.old).number + 1 }
         requires within { number ≤ INPUT_LIMIT }
@@ -224,7 +225,7 @@ impl<D: Direction> Engine<D> {
     }
 
     /// Takes the end of the input. Lines are ready then where its direction hands out some at a good end, as a check does.
-    pub fn end(&mut self) -> Result<Step, At>
+    pub(crate) fn end(&mut self) -> Result<Step, At>
         requires drained { engine_ready D.Direction self.old ≡ [] }
         ensures stops { EngineEnds D.Direction self.old result self.new }
         // After the lines that it has taken, the answer is what its direction makes of them all.
@@ -241,14 +242,14 @@ impl<D: Direction> Engine<D> {
     }
 
     /// Whether none of the lines that were ready is pending.
-    pub fn is_drained(&self) -> bool
+    pub(crate) fn is_drained(&self) -> bool
         ensures value { IsTrue result ↔ (engine_ready D.Direction self.now ≡ []) }
     {
         self.direction.is_drained()
     }
 
     /// Borrows the next of the lines that are ready, without its line end; `None` once none is pending.
-    pub fn next_line(&mut self) -> Option<&[u8]>
+    pub(crate) fn next_line(&mut self) -> Option<&[u8]>
         ensures value { option_copied result ≡ slice_get (engine_ready D.Direction self.old) 0 }
         // That line is no longer pending; all else of the engine is the same, and of its direction what is seen, known and found.
         ensures* after_borrow { sem 𝓛 (Rests (the_row D.row D.Direction) self.entry (λ new. (engine_ready D.Direction new

@@ -21,7 +21,7 @@ pub struct Lender<D: Direction> {
     /// The line that was copied last.
     copied: Box<Text>,
     /// Whether it is pending.
-    is_copied: bool,
+    is_pending: bool,
 }
 
 impl<D: Direction> Model for Lender<D> {
@@ -30,7 +30,7 @@ impl<D: Direction> Model for Lender<D> {
 
     ghost Value = { LenderParts D };
 
-    ghost view = { λ l. record { engine = l.engine; copied = if l.is_copied then Some l.copied.value else None } };
+    ghost view = { λ l. record { engine = l.engine; copied = if l.is_pending then Some l.copied.value else None } };
 }
 
 /// The answer to a line by what it hands out, or the answer that is stored.
@@ -72,7 +72,7 @@ impl<D: Direction> Lender<D> {
         Ok(Lender {
             engine,
             copied,
-            is_copied: false,
+            is_pending: false,
         })
     }
 
@@ -89,7 +89,7 @@ impl<D: Direction> Lender<D> {
         };
         self.copied.clear();
         append(&mut self.copied, line);
-        self.is_copied = true;
+        self.is_pending = true;
     }
 
     /// Takes a line that is too long, by its number: [`Lender::feed`] with the fault `LineTooLong`, unless a line that begins with `>` is
@@ -111,7 +111,7 @@ impl<D: Direction> Lender<D> {
     }
 
     /// Takes the end of the input. Lines are ready then where its direction hands out some at a good end, as a check does.
-    /// At a second end it answers a good one, with the same lines, or again the fault that has ended the run.
+    /// A second end is answered as a good one, with the same lines, or by the fault that has ended the run.
     pub fn end(&mut self) -> Result<Step, At>
         requires drained { lender_ready D.Direction self.old ≡ [] }
         ensures stops { LenderEnds D.Direction self.old result self.new }
@@ -161,7 +161,7 @@ impl<D: Direction> Lender<D> {
     pub fn is_drained(&self) -> bool
         ensures value { IsTrue result ↔ (lender_ready D.Direction self.now ≡ []) }
     {
-        !self.is_copied && self.engine.is_drained()
+        !self.is_pending && self.engine.is_drained()
     }
 
     /// Borrows the next of the lines that are ready, without its line end; `None` once none is pending.
@@ -178,10 +178,10 @@ impl<D: Direction> Lender<D> {
         if !self.engine.is_drained() {
             return self.engine.next_line();
         }
-        if !self.is_copied {
+        if !self.is_pending {
             return None;
         }
-        self.is_copied = false;
+        self.is_pending = false;
         Some(self.copied.bytes())
     }
 }

@@ -42,7 +42,8 @@ pub enum HandedOut {
     AsItIs,
 }
 
-/// A filter that takes the lines of an input one at a time; the lines that are to be written are borrowed from it.
+/// A filter that takes the lines of an input one at a time. The lines that it makes are borrowed from it; a line that is copied it answers as
+/// it is.
 pub trait Engine {
     ghost use Rattle.crx_runs.specs.declared.engine.Step.{Step};
 
