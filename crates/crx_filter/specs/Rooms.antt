@@ -47,16 +47,17 @@ abbrev pub HasRoomForRow : List Count → List ℕ → EncodingRoom → Type 0
 HasRoomForRow types line room = IfOk (row_of types line) (λ row. HasRowRoom row room)
 
 -- there is room for the text of an epoch with this epoch line
-abbrev pub HasRoomForText : Option ObservationHead → EncodingRoom → Type 0
-HasRoomForText head room = IfSome head (λ head. HEAD_WIDTH + NAME_WIDTH * head.count ≤ room.text)
+abbrev pub HasRoomForText : ObservationHead → EncodingRoom → Type 0
+HasRoomForText head room = HEAD_WIDTH + NAME_WIDTH * head.count ≤ room.text
 
 -- where types lines count, some system has types; where no epoch is open, the text of an epoch without satellites fits;
--- in an epoch there is room for the line's row, and for the epoch's text
+-- in an epoch there is room for the line's row, and where this is the last one, for the epoch's text
 pub record HasRoomInCompaction (c : CompactionState) (line : List ℕ) : Type 0 where
   pub types : do_types_count c.reader.stage ≡ true → c.reader.types ≡ [] → ⊥
   pub empty : is_open_stage c.reader.stage ≡ false → HEAD_WIDTH ≤ c.encoder.room.text
   pub row : is_open_stage c.reader.stage ≡ true → HasRoomForRow c.reader.types line c.encoder.room
-  pub text : is_open_stage c.reader.stage ≡ true → HasRoomForText c.reader.head c.encoder.room
+  pub text : is_open_stage c.reader.stage ≡ true → IfSome c.reader.head (λ head.
+      length c.encoder.rows + 1 ≡ head.count → HasRoomForText head c.encoder.room)
 
 -- ---- an expansion
 

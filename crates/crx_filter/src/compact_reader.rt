@@ -132,8 +132,8 @@ impl CompactReader {
             ⊎ ((self.old.stage ≡ Looking) × (begins_epoch line.now ≡ true)) }
         requires short { length line.now ≤ LINE_LIMIT }
         ensures reads { ReadsCompactLine self.old line.now result (line_copied line.now result) self.new }
-        ensures known { HasRoomToBegin self.old.types (tail_held self.old.columns.state) line.now self.old.columns.room
-            → IfErr result (λ fault. fault ≡ Fault.OutOfMemory → ⊥) }
+        ensures known { HasRoomToBegin self.old.types (tail_held self.old.columns.state) line.now
+            self.old.columns.room → IfErr result (λ fault. fault ≡ Fault.OutOfMemory → ⊥) }
     {
         if is_event_line(line) {
             let count = records_announced(line)?;

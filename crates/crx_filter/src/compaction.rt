@@ -1,6 +1,6 @@
 //! Compaction, line by line: what a line of RINEX makes.
 
-ghost use Rattle.std.specs.Prelude.{◌≡◌, ◌≤◌, [], false, length, is_some, Some, OnErr, OnOk, IfSome, IfOk, IfErr, IsOk, true};
+ghost use Rattle.std.specs.Prelude.{◌≡◌, ◌≤◌, ◌+◌, [], false, length, is_some, Some, OnErr, OnOk, IfSome, IfOk, IfErr, IsOk, true};
 ghost use Rattle.crx_compact.specs.Encoding.{tail_in};
 ghost use Rattle.crx_compact.specs.Steps.{lines_after_tail, tail_after};
 ghost use Rattle.crx_compact.specs.Written.{epoch_by_rows};
@@ -75,6 +75,7 @@ fn take_row(reader: &mut RinexReader, encoder: &mut Encoder, line: &[u8]) -> Res
     ensures known { HasRoomForRow reader.old.types line.now encoder.old.room
         → IfErr result (λ fault. fault ≡ Fault.OutOfMemory → ⊥) }
     ensures head { OnOk result (reader.new.head ≡ reader.old.head) }
+    ensures rows { OnOk result (length encoder.new.rows ≡ length encoder.old.rows + 1) }
     ensures text { encoder.old.room.text ≤ encoder.new.room.text }
 {
     reader.read_row(line)?;
@@ -107,7 +108,7 @@ fn end_epoch(reader: &RinexReader, encoder: &mut Encoder) -> Result<(), Fault>
     ensures rows { encoder.new.rows ≡ [] }
     ensures memory { IfErr result (λ fault. fault ≡ Fault.OutOfMemory) }
     // Where there is room for the epoch's text, the answer isn't for want of memory.
-    ensures known { HasRoomForText reader.now.head encoder.old.room → IsOk result }
+    ensures known { IfSome reader.now.head (λ head. HasRoomForText head encoder.old.room) → IsOk result }
 {
     let Some(head) = &reader.head else {
         unreachable!()

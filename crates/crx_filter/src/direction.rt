@@ -107,7 +107,8 @@ pub trait Direction: Drop {
         ensures knows { KnowsNext chosen state_after_lines (parts self.old) (knows self.old) (knows self.new)
             (line_number line.entry) (line_shown line.entry) result }
         // After a fault it has noted of the lines before what it had noted.
-        ensures stays { (lines : List InputLine) → knows self.old lines → OnErr result (knows self.new lines) }
+        ensures stays { (lines : List InputLine) → knows self.old lines
+            → OnErr result (knows self.new lines) }
         // Where there is room for the line, the answer isn't for want of memory.
         ensures known { has_room self.old (line_shown line.entry).content
             → IfErr result (λ fault. fault ≡ Fault.OutOfMemory → ⊥) };
@@ -124,7 +125,8 @@ pub trait Direction: Drop {
         ensures counted { CountsOneAtMost (hands_out result) (counted self.old) (counted self.new) }
         ensures knows { KnowsNext chosen state_after_lines (parts self.old) (knows self.old) (knows self.new)
             (line_number line.entry) (line_shown line.entry) (hands_out result) }
-        ensures stays { (lines : List InputLine) → knows self.old lines → OnErr result (knows self.new lines) }
+        ensures stays { (lines : List InputLine) → knows self.old lines
+            → OnErr result (knows self.new lines) }
         ensures known { has_room self.old (line_shown line.entry).content
             → IfErr result (λ fault. fault ≡ Fault.OutOfMemory → ⊥) };
 

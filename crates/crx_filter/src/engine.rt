@@ -82,7 +82,8 @@ impl<D: Direction> Engine<D> {
         ensures ended { IfErr self.new.answer (λ at. (engine_state D.Direction self.new).phase ≡ Ended at) }
         ensures skips { IfOk self.new.answer (λ step. self.old.options.skip ≡ true) }
         ensures fault { IfErr self.new.answer (λ at. at.fault ≡ fault) }
-        ensures stays { (lines : List InputLine) → D.knows self.old.direction lines → D.knows self.new.direction lines }
+        ensures stays { (lines : List InputLine) → D.knows self.old.direction lines
+            → D.knows self.new.direction lines }
     {
         let notice = At {
             line: self.number,

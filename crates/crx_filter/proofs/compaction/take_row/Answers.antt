@@ -1,4 +1,5 @@
-use Rattle.crx_filter.proofs.{Words.{common_steps, arith, inl, inr, refl, ◌∙◌}, steps.Together.row-lost}
+use Rattle.crx_filter.proofs.Words.{common_steps, arith, inl, inr, refl, ap, ◌∙◌, length, length-append}
+use Rattle.{crx_compact.specs.Encoding.EncoderState, crx_filter.proofs.steps.Together.row-lost}
 use Rattle.crx_filter.proofs.steps.Together.{row-or-epoch, row-refused, row-repeated, row-written, rows-there}
 use Rattle.crx_filter.proofs.compaction.take_row.Goals as goal
 
@@ -45,5 +46,7 @@ returns c =
       refused = tt;
       known = λ room. tt;
       head = took.head ∙ read.same.head;
+      rows = ap (λ (e : EncoderState). length e.rows) (encoded.written c.in-Ok-true.field-0-test)
+          ∙ length-append c.args.encoder.now.rows _;
       text = encoded.only.kept.text;
     }

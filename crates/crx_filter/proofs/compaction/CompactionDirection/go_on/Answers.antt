@@ -1,4 +1,5 @@
-use Rattle.crx_filter.proofs.Words.{common_steps, arith, refl, ap, ◌∙◌, is_at_every}
+use Rattle.crx_filter.proofs.steps.RoomSteps.{last-text}
+use Rattle.crx_filter.proofs.Words.{common_steps, arith, false≢true, refl, ap, ◌∙◌, is_at_every}
 use Rattle.std.proofs.lemmas.Result.{err_from_is_err_and}
 use Rattle.crx_compact.specs.Encoding.{EncoderState}
 use Rattle.crx_filter.proofs.steps.CompactionSteps.{ended-read, lost-read, moved-read, refused-read}
@@ -42,6 +43,16 @@ returns-in_err-end_epoch-clause-reads c =
     let ended = c.in_err-end_epoch.ensures in
     rw (← c.self.view_is, p.1, p.2, ended.memory, ← c.bytes.ensures.content)
     (lost-read (row-ends c.in_ok-is_last.ensures.written _ c.if-not-is_last.false) refl ended.forgotten)
+
+pub returns-in_err-end_epoch-clause-known : goal.returns-in_err-end_epoch-clause-known
+returns-in_err-end_epoch-clause-known c =
+    let opened = rw (← c.self.view_is) at c.requires.open in
+    let row = c.in_ok-is_last.ensures in
+    let asked = row-asked row.written c.self.invariant opened c.if-not-is_last.false in
+    rw (← c.self.view_is) (λ has. absurd (false≢true (c.in_err-end_epoch.ensures.known (last-text
+    c.self.inside.reader.head c.take_row.new.reader.head c.self.inside.encoder.rows
+    c.take_row.new.encoder.rows c.self.inside.encoder.room c.take_row.new.encoder.room row.head asked.1.0
+    row.rows row.text (has.text opened)))))
 
 pub returns-in_err-end_epoch-clause-serves : goal.returns-in_err-end_epoch-clause-serves
 returns-in_err-end_epoch-clause-serves c = λ choices is. served-closed _ _ _
