@@ -15,7 +15,7 @@ use Rattle.crx_filter.specs.meaning.Compacted.{epochs_accepted}
 use Rattle.crx_filter.specs.meaning.Directions.{rinex_reading}
 use Rattle.crx_filter.specs.LineByLine.{Phase, InEpoch, RunState, Made, Completes, Moves, Rejects, Repeats, Direction, Step}
 use Rattle.crx_filter.specs.LineByLine.{made_in, state_next, state_of, phase_of}
-use Rattle.crx_filter.specs.CompactionByLine.{rinex_begins, rinex_continues, rinex_open, is_before_header, is_next_row}
+use Rattle.crx_filter.specs.CompactionByLine.{rinex_begins, rinex_continues, rinex_open, is_before_header}
 use Rattle.crx_filter.specs.meaning.Standard.{Findings, printed_items, version_in, events_accepted}
 use Rattle.crx_filter.specs.meaning.Standard.{observations_accepted, is_standard_line, first_not_standard}
 
@@ -54,7 +54,7 @@ checking = record {
   begins = rinex_begins;
   continues = rinex_continues;
   memory_first = λ types kept line. false;
-  memory_next = is_next_row;
+  memory_next = λ so_far line. false;
   kept_after = totals_after;
   kept_open = λ kept. kept;
   emptied = λ kept. kept;

@@ -1,11 +1,13 @@
 -- What a check has between two lines, and how its parts belong together.
-use Rattle.std.specs.Prelude.{◌≡◌, ◌≤◌, ◌+◌, ℕ, Bool, true, false, List, drop, take, map, length, Option}
+use Rattle.std.specs.Prelude.{◌≡◌, ◌+◌, ℕ, Bool, true, false, List, drop, Option}
 use Rattle.std.proofs.Common.{ap, ◌∙◌}
 use Rattle.std.proofs.lemmas.Bool.{false≢true}
 use Rattle.crx_base.specs.meaning.Choices.{Choices}
 use Rattle.crx_base.specs.meaning.Lines.{InputLine}
-use Rattle.crx_header.specs.Identifiers.{HeldIdentifiers}
+use Rattle.crx_header.specs.Identifiers.{has_identifier}
+use Rattle.crx_header.specs.meaning.Satellites.{is_identifier}
 use Rattle.crx_rinex.specs.meaning.EpochPlaces.{OpenEpoch}
+use Rattle.crx_rinex.specs.meaning.Epochs.{has_satellite}
 use Rattle.crx_rinex.specs.meaning.Observations.{Row as ObservationRow}
 use Rattle.crx_filter.specs.CheckByLine.{CheckState, Totals as TotalsNoted, no_choices, printed_so_far}
 use Rattle.crx_filter.specs.DirectionParts.{DirectionParts}
@@ -22,17 +24,17 @@ use Rattle.crx_filter.specs.declared.rinex_reader.RinexReader.{RinexReader}
 -- were handed out
 pub record CheckingState : Type 0 where
   pub reader : RinexReader
-  pub names : HeldIdentifiers
+  pub names : List Bool
   pub noted : Noted
   pub handed_out : ℕ
 
--- the first identifiers are those of some rows
-abbrev pub AreNamed : List (List ℕ) → List ObservationRow → Type 0
-AreNamed names rows = (length rows ≤ length names)
-    × (take (length rows) names ≡ map (λ (row : ObservationRow). row.name) rows)
+-- a table has the identifiers of some rows
+abbrev pub AreNamed : List Bool → List ObservationRow → Type 0
+AreNamed names rows = (name : List ℕ) → is_identifier name ≡ true
+    → has_identifier names name ≡ has_satellite name rows
 
 -- the rows of an open epoch are named and their observations counted, and the totals are those of so many units
-pub record AreCounted (reader : RinexReader) (names : List (List ℕ)) (noted : Noted) : Type 0 where
+pub record AreCounted (reader : RinexReader) (names : List Bool) (noted : Noted) : Type 0 where
   pub named : is_open_stage reader.stage ≡ true → AreNamed names reader.rows.rows
   pub observed : is_open_stage reader.stage ≡ true → IsObserved noted.observed reader.rows.rows
   pub bounded : AreBounded noted.totals (noted.totals.epochs + noted.totals.events)

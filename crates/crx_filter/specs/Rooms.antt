@@ -1,9 +1,6 @@
 -- For how much there is room in a direction: where there is enough for a line, memory doesn't run out at it.
-use Rattle.std.specs.Prelude.{◌≡◌, ◌⊎◌, ◌≤◌, ◌<◌, ◌+◌, ◌*◌, ℕ, Bool, true, false, List, [], Option, Some, IfOk}
-use Rattle.std.specs.Prelude.{IfSome, length, slice_get}
+use Rattle.std.specs.Prelude.{◌≡◌, ◌⊎◌, ◌≤◌, ◌<◌, ◌+◌, ◌*◌, ℕ, Bool, true, false, List, [], Option, IfOk, IfSome, length}
 use Rattle.crx_base.specs.declared.limits.TheConstants.{HEAD_WIDTH, NAME_WIDTH}
-use Rattle.crx_text.specs.meaning.Columns.{columns}
-use Rattle.crx_header.specs.Identifiers.{HeldIdentifiers}
 use Rattle.crx_header.specs.meaning.ObservationTypes.{Count}
 use Rattle.crx_rinex.specs.meaning.EpochLines.{ObservationHead}
 use Rattle.crx_rinex.specs.meaning.SatelliteLines.{row_of}
@@ -27,18 +24,9 @@ do_types_count stage = false
 
 -- ---- a check
 
--- no identifier can be put at an index without memory: there is no room for one more, it isn't there already, and of
--- those that are there fewer are dropped for it than stay
-pub record NeedsRoomForName (index : ℕ) (name : List ℕ) (held : HeldIdentifiers) : Type 0 where
-  pub spare : held.spare ≡ 0
-  pub other : slice_get held.names index ≡ Some name → ⊥
-  pub fewer : index < length held.names → 2 * index ≤ length held.names → ⊥
-
--- where types lines count, some system has types; in an epoch the line's identifier can be put at its place
-pub record HasRoomInCheck (c : CheckingState) (line : List ℕ) : Type 0 where
-  pub types : do_types_count c.reader.stage ≡ true → c.reader.types ≡ [] → ⊥
-  pub name : is_open_stage c.reader.stage ≡ true
-      → NeedsRoomForName c.reader.count (columns line 1 NAME_WIDTH) c.names → ⊥
+-- where types lines count, some system has types; in an epoch no memory is needed
+abbrev pub HasRoomInCheck : CheckingState → List ℕ → Type 0
+HasRoomInCheck c line = do_types_count c.reader.stage ≡ true → c.reader.types ≡ [] → ⊥
 
 -- ---- a compaction
 

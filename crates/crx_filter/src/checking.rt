@@ -1,19 +1,18 @@
 //! The check of a RINEX file, line by line: what a line adds to what is found.
 
 ghost use Rattle.std.specs.Prelude.{◌≡◌, ◌≤◌, ◌<◌, ◌+◌, ◌++◌, ◌∷◌, ℕ, List, [], true, false, length, OnErr, OnOk, IfErr, IfOk};
-ghost use Rattle.crx_base.specs.declared.limits.TheConstants.{INPUT_LIMIT, NAME_WIDTH, SATELLITES_LIMIT};
+ghost use Rattle.crx_base.specs.declared.limits.TheConstants.{INPUT_LIMIT, SATELLITES_LIMIT};
 ghost use Rattle.crx_lines.specs.Reading.{line_number, line_shown};
-ghost use Rattle.crx_text.specs.meaning.Columns.{columns};
+ghost use Rattle.crx_header.specs.Identifiers.{has_identifier};
 ghost use Rattle.crx_rinex.specs.Printing.{last_line};
 ghost use Rattle.crx_rinex.specs.meaning.EpochPlaces.{OpenEpoch};
 ghost use Rattle.crx_rinex.specs.meaning.Observations.{Epoch as ObservationEpoch};
 ghost use Rattle.crx_filter.specs.CheckByLine.{Totals as TotalsNoted, check_by_line, check_reading, earliest, no_choices, printed_made, totals_made};
 ghost use Rattle.crx_filter.specs.CheckingParts.{AreNamed};
 ghost use Rattle.crx_filter.specs.CompactionByLine.{is_before_header, Written};
-ghost use Rattle.crx_filter.specs.LineByLine.{Made};
-ghost use Rattle.crx_filter.specs.RinexReaders.{is_row, made_at, reader_phase, IsSameReader, RefusesRinexLine, TakesRinexLine};
+ghost use Rattle.crx_filter.specs.LineByLine.{Made, Rejects};
+ghost use Rattle.crx_filter.specs.RinexReaders.{is_row, made_at, reader_phase, IsSameReader, TakesRinexLine};
 ghost use Rattle.crx_filter.specs.RinexStages.{is_open_stage};
-ghost use Rattle.crx_filter.specs.Rooms.{NeedsRoomForName};
 ghost use Rattle.crx_filter.specs.Totals.{AreBounded, HasPrinted, IsCounting, IsObserved, totals_held};
 ghost use Rattle.crx_filter.specs.meaning.Standard.{is_standard_line};
 ghost use Rattle.crx_filter.specs.declared.rinex_reader.RinexReader.{RinexReader};
@@ -51,7 +50,7 @@ pub struct Noted {
 #[derive(Drop)]
 pub struct Checking {
     reader: RinexReader,
-    /// The identifiers of the open epoch's rows, and after them those of the epoch before.
+    /// The identifiers of the open epoch's rows.
     names: Identifiers,
     noted: Noted,
     /// How many lines of the report were handed out; all before the end.
@@ -69,7 +68,7 @@ impl Model for Checking {
 
     ghost view = { λ c. record { reader = c.reader; names = c.names; noted = c.noted; handed_out = c.handed_out } };
 
-    ghost invariant = { λ c. AreCounted c.reader c.names.names c.noted };
+    ghost invariant = { λ c. AreCounted c.reader c.names c.noted };
 }
 
 impl Noted {
@@ -132,7 +131,7 @@ pub fn no_options() -> Options
     }
 }
 
-/// Takes a line of an open epoch. `OutOfMemory` comes only at a good line of a new satellite for whose identifier there is no room.
+/// Takes a line of an open epoch, for which no memory is asked.
 #[inline(always)]
 fn take_row(
     reader: &mut RinexReader,
@@ -140,25 +139,30 @@ fn take_row(
     line: &[u8],
 ) -> Result<RinexStep, Fault>
     requires open { is_open_stage reader.old.stage ≡ true }
-    requires named { AreNamed names.old.names reader.old.rows.rows }
+    requires named { AreNamed names.old reader.old.rows.rows }
     ensures takes { (kept : Written) → IfOk result
         (λ step. TakesRinexLine (made_at reader.old line.now kept) reader.old line.now step reader.new) }
-    ensures refuses { (kept : Written) → IfErr result
-        (λ fault. RefusesRinexLine (made_at reader.old line.now kept) reader.old line.now fault) }
+    ensures refused { (kept : Written) → IfErr result (λ fault. made_at reader.old line.now kept ≡ Rejects fault) }
+    ensures unasked { IfErr result (λ fault. fault ≡ Fault.OutOfMemory → ⊥) }
     ensures steps { IfOk result (λ step. is_row step ≡ true) }
     ensures same { OnErr result (IsSameReader reader.old reader.new) }
-    ensures named { is_open_stage reader.new.stage ≡ true → AreNamed names.new.names reader.new.rows.rows }
+    ensures named { is_open_stage reader.new.stage ≡ true → AreNamed names.new reader.new.rows.rows }
     ensures rows { OnOk result (reader.new.rows.rows ≡ reader.old.rows.rows ++ reader.new.row ∷ []) }
     ensures few { OnOk result (length reader.new.rows.rows ≤ SATELLITES_LIMIT) }
-    // It asks for memory only where the identifier can't be put at its place without.
-    ensures asked { IfErr result (λ fault. fault ≡ Fault.OutOfMemory
-        → NeedsRoomForName reader.old.count (columns line.now 1 NAME_WIDTH) names.old) }
 {
     reader.read_row(line)?;
-    match names.put(reader.count, *reader.row.name()) {
-        Ok(true) => Ok(reader.take_row()),
-        Ok(false) => Err(Fault::RepeatedSatellite),
-        Err(_) => Err(Fault::OutOfMemory),
+    if names.put(*reader.row.name()) {
+        return Ok(reader.take_row());
+    }
+    Err(Fault::RepeatedSatellite)
+}
+
+/// Where a line has begun an epoch, no satellite of it has come.
+fn clear_if_begun(names: &mut Identifiers, step: RinexStep)
+    ensures empty { step ≡ RinexStep.Begun → (name : List ℕ) → has_identifier names.new name ≡ false }
+{
+    if let RinexStep::Begun = step {
+        names.clear();
     }
 }
 
@@ -224,7 +228,7 @@ impl Direction for Checking {
     fn new(alloc: Global) -> Result<Checking, AllocError> {
         Ok(Checking {
             reader: RinexReader::new(alloc),
-            names: Identifiers::new(alloc),
+            names: Identifiers::new(),
             noted: Noted::new(),
             handed_out: REPORT_LINES,
         })
@@ -244,6 +248,7 @@ impl Direction for Checking {
 
     fn take(&mut self, _options: &Options, line: Line<'_>) -> Result<HandedOut, Fault> {
         let step = self.reader.take(line.bytes())?;
+        clear_if_begun(&mut self.names, step);
         self.noted.note(&self.reader, step, line);
         Ok(HandedOut::Nothing)
     }

@@ -1,69 +1,82 @@
-//! The identifiers of an epoch's satellites, each at its place: RINEX 3.05, table A3.
+//! Which identifiers of satellites have come: RINEX 3.05, table A3.
 
-ghost use Rattle.std.specs.Prelude.{ℕ, List, ◌≡◌, ◌≤◌, ◌<◌, ◌+◌, ◌*◌, ◌++◌, ◌∷◌, [], Some, length, take, slice_get, not, true, false, IsOk, OnErr, IfOk};
-ghost use Rattle.crx_header.specs.meaning.Satellites.{is_among};
+ghost use Rattle.std.specs.Prelude.{List, ℕ, ◌≡◌, ◌||◌, not, true, false};
+ghost use Rattle.std.specs.Str.{bytes_eq};
+ghost use Rattle.crx_header.specs.Identifiers.{has_identifier, index_of};
+ghost use Rattle.crx_header.specs.meaning.Satellites.{is_identifier};
 
-use crate::columns::is_same_identifier;
 use crx_base::limits::NAME_WIDTH;
-use indexmap::IndexSet;
-use std::alloc::{AllocError, Global};
+use crx_text::columns::character;
 use std::marker::Model;
 
-/// A list of different identifiers, in which the place of one is found without a search through the list.
+/// The least letter of a system.
+const FIRST_LETTER: u8 = b'C';
+
+/// How many letters there are from it to the greatest one of a system, S.
+const LETTERS: usize = 17;
+
+/// How many characters the first of the two digits may be: a digit or a blank.
+const TENS: usize = 11;
+
+/// How many the second may be.
+const UNITS: usize = 10;
+
+/// A set of identifiers, with a place for each that can be spelt: it asks for no memory.
 #[derive(Drop)]
 pub struct Identifiers {
-    names: IndexSet<[u8; NAME_WIDTH]>,
+    have_come: [bool; LETTERS * TENS * UNITS],
 }
 
 impl Model for Identifiers {
-    ghost use Rattle.crx_header.specs.Identifiers.{HeldIdentifiers};
-    ghost use Rattle.indexmap.specs.IndexSet.{spare};
+    ghost use Rattle.std.specs.Prelude.{Bool, List};
 
-    ghost Value = { HeldIdentifiers };
+    ghost Value = { List Bool };
 
-    ghost view = { λ identifiers. record {
-      names = identifiers.names.keys;
-      spare = spare identifiers.names;
-    } };
+    ghost view = { λ identifiers. identifiers.have_come };
 }
 
 impl Identifiers {
     /// No identifiers.
-    pub fn new(alloc: Global) -> Identifiers
-        ensures empty { result.names ≡ [] }
+    pub fn new() -> Identifiers
+        ensures empty { (name : List ℕ) → has_identifier result name ≡ false }
     {
         Identifiers {
-            names: IndexSet::new(alloc),
+            have_come: [false; LETTERS * TENS * UNITS],
         }
     }
 
-    /// Puts an identifier at a place, where none of those before it is the same: `false` comes where one is. Those before it
-    /// stay in any case.
-    #[inline(always)]
-    pub fn put(&mut self, index: usize, name: [u8; NAME_WIDTH]) -> Result<bool, AllocError>
-        requires within { index ≤ length self.old.names }
-        ensures new { IfOk result
-            (λ is_new. is_among (λ (n : List ℕ). n) name (take index self.old.names) ≡ not is_new) }
-        ensures next { IfOk result (λ is_new. is_new ≡ true
-            → take (index + 1) self.new.names ≡ take index self.old.names ++ name ∷ []) }
-        ensures kept { take index self.new.names ≡ take index self.old.names }
-        ensures within { index ≤ length self.new.names }
-        // There are no more than before, or than the places up to this one.
-        ensures few { (n : ℕ) → length self.old.names ≤ n → index < n → length self.new.names ≤ n }
-        ensures err { OnErr result (is_among (λ (n : List ℕ). n) name (take index self.old.names) ≡ false) }
-        // Where there is room, or the same identifier was at the place, no memory is asked for; nor where at least as many of those that
-        // were there are dropped as stay, since their memory is used again.
-        ensures asked { OnErr result (self.old.spare ≡ 0) }
-        ensures known { slice_get self.old.names index ≡ Some name → IsOk result }
-        ensures used_again { index < length self.old.names → 2 * index ≤ length self.old.names → IsOk result }
-        // No more room is used than for this one.
-        ensures room { self.old.spare ≤ self.new.spare + 1 }
+    /// Takes all identifiers out.
+    pub fn clear(&mut self)
+        ensures empty { (name : List ℕ) → has_identifier self.new name ≡ false }
     {
-        let names = self.names.as_slice();
-        if index < names.len() && is_same_identifier(names[index], name) {
-            return Ok(true);
-        }
-        self.names.truncate(index);
-        Ok(self.names.insert(name)?)
+        self.have_come = [false; LETTERS * TENS * UNITS];
     }
+
+    /// Puts an identifier in: `false` says that it was there.
+    #[inline(always)]
+    pub fn put(&mut self, name: [u8; NAME_WIDTH]) -> bool
+        requires named { is_identifier name ≡ true }
+        ensures new { result ≡ not (has_identifier self.old name) }
+        ensures put { (other : List ℕ) → is_identifier other ≡ true
+            → has_identifier self.new other ≡ (bytes_eq name other || has_identifier self.old other) }
+    {
+        let index = index_of(&name);
+        let is_new = !self.have_come[index];
+        self.have_come[index] = true;
+        is_new
+    }
+}
+
+/// The place of an identifier.
+#[inline(always)]
+fn index_of(name: &[u8; NAME_WIDTH]) -> usize
+    ensures value { result ≡ index_of name.now }
+{
+    let tens = match character(name, 2) {
+        b' ' => TENS - 1,
+        digit => digit.saturating_sub(b'0') as usize,
+    };
+    let letter = character(name, 1).saturating_sub(FIRST_LETTER) as usize;
+    let units = character(name, 3).saturating_sub(b'0') as usize;
+    (letter * TENS + tens) * UNITS + units
 }

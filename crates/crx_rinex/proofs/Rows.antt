@@ -1,12 +1,12 @@
 -- Rows of different satellites, one after another.
-use Rattle.std.proofs.Common.{◌≡◌, ℕ, ◌≤◌, Bool, false, List, [], ◌∷◌, ◌++◌, length, take, map, ◌||◌, refl}
+use Rattle.std.proofs.Common.{◌≡◌, ℕ, ◌≤◌, Bool, false, List, [], ◌∷◌, ◌++◌, length, map, ◌||◌, refl}
 use Rattle.std.proofs.Common.{ap, sym, ◌∙◌, arith, Option, None, unwrap_or, cond, leb}
 use Rattle.std.proofs.lemmas.{Bool.{cases_Bool, leb-true, eqb-false}, Grind.common_steps, List.length_push}
 use Rattle.std.proofs.lemmas.{List.{map-append, Elements.All-push}, Slice.Eq.bytes_eq-Decides}
 use Rattle.std.specs.{List.list_any, Option.option_and_then, Str.bytes_eq}
 use Rattle.crx_base.specs.declared.limits.TheConstants.{SATELLITES_LIMIT}
-use Rattle.crx_header.proofs.Apart.{among-map, apart-push, other_way}
-use Rattle.crx_header.specs.meaning.{EpochColumns.{satellites_of, count_within_limit}, Satellites.is_among}
+use Rattle.crx_header.proofs.Apart.{apart-push, other_way}
+use Rattle.crx_header.specs.meaning.EpochColumns.{satellites_of, count_within_limit}
 use Rattle.crx_rinex.specs.Epochs.{with_row, is_full_epoch, AreEpochParts}
 use Rattle.crx_rinex.specs.meaning.{EpochLines.ObservationHead, Epochs.{has_satellite, IsSoundEpoch}}
 use Rattle.crx_rinex.specs.meaning.{Observations.{Row, Epoch}, SatelliteLines.IsSoundRow}
@@ -33,13 +33,6 @@ few = grind (arith, common_steps, cases_Bool, leb, leb-true)
 -- columns announce no more satellites than the limit
 pub satellites_few : (head : List ℕ) → satellites_of head ≤ SATELLITES_LIMIT
 satellites_few head = grind (arith, common_steps, few)
-
--- the identifiers of the rows say which satellites they have
-pub by_names : (epoch : Epoch) (names : List (List ℕ)) (rows : List Row) (count : ℕ)
-    (name name' : List ℕ) (b : Bool) → name' ≡ name → rows ≡ epoch.rows → count ≡ length rows
-    → take (length rows) names ≡ map (λ (row : Row). row.name) rows
-    → is_among (λ (n : List ℕ). n) name' (take count names) ≡ b → has_satellite name epoch.rows ≡ b
-by_names epoch names rows count name name' b is e long h new = grind (arith, common_steps, among-map)
 
 -- the parts of an epoch that isn't full with one more row, of a new satellite, and its identifier
 pub parts-more : (head : ObservationHead) (names : List (List ℕ)) (rows : List Row) (row : Row)

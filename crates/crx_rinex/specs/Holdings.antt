@@ -35,7 +35,7 @@ row_buffer_with one other = record one {
 -- identifiers, with the parts of another
 abbrev pub identifiers_with : IdentifiersInside → IdentifiersInside → IdentifiersInside
 identifiers_with one other = record one {
-  names = other.names;
+  have_come = other.have_come;
 }
 
 -- an epoch line, with the parts of another

@@ -9,7 +9,7 @@ use proofs.Words.{compaction_state, rinex_open, written_of, Direction, Made, Not
 use proofs.Words.{state_of, compact_unit, rinex_place, false-true}
 use Rattle.crx_filter.specs.{CompactionByLine.is_whole_at_once, meaning.Memory.check_takes}
 use Rattle.std.specs.Result.{is_ok}
-use proofs.following.{Check.{check-carried_out, printed_after}, Compaction.compaction-carried_out}
+use proofs.following.{Check.check-carried_out, Compaction.compaction-carried_out}
 use proofs.following.{Following.AgreeOn, Memory.{TakesAsItStands, allowed-again, allowed-first}}
 use proofs.reading.{Forward.{rinex-forward, rinex_beginning}, Stopping.reading-stopped}
 
@@ -62,10 +62,7 @@ compaction-takes choices = record {
 pub check-takes : TakesAsItStands rinex_beginning checking rinex_open totals_of check_takes
 check-takes = record {
   first = λ items line other good. false-true good;
-  next = λ items lines line so_far opens good. step-takes checking totals_of printed_after no_choices items
-      (lines ++ Content line ∷ []) check_takes (length lines) (after-first check_takes
-      (λ count is_whole. refl) items lines so_far opens) (epoch_step so_far (Content line)) (fine-row so_far
-      (next_row so_far line) good) (check-carried_out.continues items lines (Content line) so_far opens);
+  next = λ items lines line so_far opens good. false-true good;
 }
 
 -- ---- where memory may run out

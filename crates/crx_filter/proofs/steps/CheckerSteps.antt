@@ -17,7 +17,10 @@ use Rattle.crx_filter.specs.{CompactionByLine.is_before_header, DirectionParts.{
 use Rattle.crx_filter.specs.{LineByLine.Quiet as LineQuiet, RinexReaders.RefusesRinexLine, Stages.is_ended}
 use Rattle.crx_filter.specs.{Stages.is_passing, Totals.{IsBehindARow, IsCounting, totals_held, HasPrinted}}
 use Rattle.crx_filter.specs.meaning.{Directions.fault_so_far, Standard.{Findings, report_lines}}
-use Rattle.std.proofs.lemmas.List.{drop_all}
+use Rattle.std.proofs.lemmas.{List.drop_all, Slice.Eq.bytes_eq-Decides}
+use Rattle.crx_filter.specs.CompactionByLine.{is_next_row}
+use Rattle.crx_header.specs.{Identifiers.has_identifier, meaning.Satellites.is_identifier}
+use proofs.Words.{Begun, Bool, Rejects, bytes_eq, has_satellite, may_take_memory, inl, inr, ◌||◌, ◌++◌, ◌∷◌}
 
 -- nothing is kept of the epochs
 abbrev pub nothing_kept : Written
@@ -104,6 +107,13 @@ took-line before after number totals then named named_then line step lines short
 
 -- ---- what a check's direction answers
 
+-- where no epoch is open, what a line of an epoch takes doesn't count
+in-no-epoch : (before : RinexReader) (content : List ℕ) → is_open_stage before.stage ≡ false
+    → may_take_memory before.types (λ first. false) is_next_row (reader_phase before) (Content content) ≡ true
+    → may_take_memory before.types (λ first. false) (λ so_far line. false) (reader_phase before)
+    (Content content) ≡ true
+in-no-epoch before content closed takes = grind (arith, common_steps, false≢true)
+
 abbrev parts_with : RinexReader → Held → DirectionParts OpenEpoch Totals
 parts_with reader totals = record {
   stage = reader.stage;
@@ -114,11 +124,24 @@ parts_with reader totals = record {
 
 module _ (serves : Choices → Type 0) (before after : RinexReader) (totals : Held) (content : List ℕ)
     (ready : List (List ℕ)) where
-  pub refused-reads : (fault : Fault) → IsSameReader before after
+  pub rejected-reads : (fault : Fault) → IsSameReader before after
+      → made_there before content ≡ Rejects fault → ready ≡ []
+      → Reads check_by_line serves (parts_with before totals) content (Err fault) ready (parts_with after
+      totals)
+  rejected-reads fault same rejects none = grind (arith, common_steps, made-alike, made-same)
+
+  pub refused-reads : (fault : Fault) → IsSameReader before after → is_open_stage before.stage ≡ false
       → RefusesRinexLine (made_there before content) before content fault → ready ≡ []
       → Reads check_by_line serves (parts_with before totals) content (Err fault) ready (parts_with after
       totals)
-  refused-reads fault same refuses none = grind (arith, common_steps, made-alike, made-same)
+  refused-reads fault same closed (inl rejects) none = rejected-reads fault same rejects none
+  refused-reads fault same closed (inr (is, takes)) none = record {
+    takes = λ choices number served. tt;
+    refuses = inr (is, in-no-epoch before content closed takes);
+    types = same.types;
+    kept = refl;
+    nothing = none;
+  }
 
   pub taken-reads : (then : Held) (step : RinexStep) → IsTaken before content step after
       → AreTotals before content totals then → ready ≡ []
@@ -170,8 +193,40 @@ module _ (choices : Choices) (before : RinexReader) (totals : Held) (lines : Lis
 -- ---- names and counts
 
 -- where no row has come, none has to be named
-none-named : (names : List (List ℕ)) (rows : List ObservationRow) → rows ≡ [] → AreNamed names rows
-none-named names rows none = subst (AreNamed names) (sym none) (omega arith, refl)
+none-named : (names : List Bool) (rows : List ObservationRow) → rows ≡ []
+    → ((name : List ℕ) → has_identifier names name ≡ false) → AreNamed names rows
+none-named names rows none empty = λ name named. empty name ∙ rw (none) refl
+
+-- whether a satellite is among some rows and one more
+among-more : (name : List ℕ) (rows : List ObservationRow) (row : ObservationRow)
+    → has_satellite name (rows ++ row ∷ []) ≡ (bytes_eq row.name name || has_satellite name rows)
+among-more name [] row = refl
+among-more name (r ∷ rows) row = swapped (bytes_eq r.name name) (bytes_eq row.name name) _ _ (among-more name rows row)
+  where
+    swapped : (b c : Bool) (d e : Bool) → d ≡ (c || e) → (b || d) ≡ (c || (b || e))
+    swapped b c d e is = grind (arith, common_steps)
+
+-- an identifier was put into a table
+abbrev pub IsPut : List Bool → List ℕ → List Bool → Type 0
+IsPut names name then = (other : List ℕ) → is_identifier other ≡ true
+    → has_identifier then other ≡ (bytes_eq name other || has_identifier names other)
+
+module _ (names then : List Bool) (rows : List ObservationRow) (row : ObservationRow) (named : AreNamed names rows)
+    (put : IsPut names row.name then) (sound : is_identifier row.name ≡ true) where
+  -- with the next row's identifier all rows are named
+  pub named-next : AreNamed then (rows ++ row ∷ [])
+  named-next = λ name is.
+      put name is ∙ ap (λ b. bytes_eq row.name name || b) (named name is) ∙ sym (among-more name rows row)
+
+  -- and with one that is there already nothing changes
+  pub named-still : has_satellite row.name rows ≡ true → AreNamed then rows
+  named-still there = λ name is. put name is ∙ decided name is (bytes_eq row.name name) refl
+    where
+      decided : (name : List ℕ) → is_identifier name ≡ true → (b : Bool) → bytes_eq row.name name ≡ b
+          → (b || has_identifier names name) ≡ has_satellite name rows
+      decided name is true same = sym (subst (λ (n : List ℕ). has_satellite n rows ≡ true)
+          ((bytes_eq-Decides row.name name).0 same) there)
+      decided name is false other = named name is
 
 module _ (made : Made ObservationEpoch OpenEpoch) (before after : RinexReader) (line : List ℕ) where
   -- a line that is no row has nothing to be counted but where it begins an epoch
@@ -179,11 +234,19 @@ module _ (made : Made ObservationEpoch OpenEpoch) (before after : RinexReader) (
       → TakesRinexLine made before line step after → IsCounting step observed after
   step-counting observed step no_row takes = grind (arith, common_steps, false≢true)
 
-  -- and where an epoch is open after it, none of the rows has come
-  pub step-named : (names : List (List ℕ)) (step : RinexStep) → is_row step ≡ false
+  -- and where an epoch is open after it, it has begun one, and none of the rows has come
+  step-begun : (step : RinexStep) → is_row step ≡ false
       → TakesRinexLine made before line step after → is_open_stage after.stage ≡ true
-      → AreNamed names after.rows.rows
-  step-named names step no_row takes is_open = grind (arith, common_steps, none-named, false≢true)
+      → (step ≡ Begun) × (after.rows.rows ≡ [])
+  step-begun step no_row takes is_open = grind (arith, common_steps, false≢true)
+
+  pub step-named : (names : List Bool) (step : RinexStep) → is_row step ≡ false
+      → TakesRinexLine made before line step after
+      → (step ≡ Begun → (name : List ℕ) → has_identifier names name ≡ false)
+      → is_open_stage after.stage ≡ true → AreNamed names after.rows.rows
+  step-named names step no_row takes empty is_open =
+      let begun = step-begun step no_row takes is_open in
+      none-named names after.rows.rows begun.1 (empty begun.0)
 
 -- all six lines of a report were handed out where none is pending, and only there
 pub none-pending : (handed_out : ℕ) (found : Findings) → 6 ≤ handed_out

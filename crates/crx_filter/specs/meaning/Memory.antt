@@ -69,7 +69,6 @@ abbrev pub expansion_takes : ℕ → Bool → Bool
 expansion_takes zero is_whole = true
 expansion_takes (suc count) is_whole = false
 
--- RINEX, checked: each satellite's line does
+-- RINEX, checked: no line of an epoch does
 abbrev pub check_takes : ℕ → Bool → Bool
-check_takes zero is_whole = false
-check_takes (suc count) is_whole = true
+check_takes count is_whole = false

@@ -1,5 +1,5 @@
 use Rattle.crx_filter.proofs.{Words.subst, steps.CheckerSteps.{IsTaken, noted-next, nothing_kept}}
-use Rattle.crx_filter.proofs.steps.CheckerSteps.{open-runs, row-counting, refused-reads, still-drained}
+use Rattle.crx_filter.proofs.steps.CheckerSteps.{open-runs, row-counting, rejected-reads, still-drained}
 use Rattle.crx_filter.proofs.steps.{CheckerSteps.taken-reads, EngineAnswers.short-line}
 use Rattle.std.proofs.lemmas.Result.{err_from_is_err_and}
 use Rattle.crx_lines.specs.Reading.{line_number, line_shown}
@@ -9,9 +9,9 @@ pub returns-in_err-step-clause-reads : goal.returns-in_err-step-clause-reads
 returns-in_err-step-clause-reads c =
     let p = err_from_is_err_and c.from_residual.result c.from_residual.ensures.1 in
     let drained = rw (← c.self.view_is) at c.requires.asked.drained in
-    rw (← c.self.view_is, p.1, p.2, ← c.bytes.ensures.content) (refused-reads _ c.self.inside.reader
+    rw (← c.self.view_is, p.1, p.2, ← c.bytes.ensures.content) (rejected-reads _ c.self.inside.reader
     c.take_row.new.reader c.self.inside.noted.totals c.bytes.result.now _ _ c.in_err-step.ensures.same
-    (c.in_err-step.ensures.refuses nothing_kept) (still-drained c.self.inside.handed_out _ _ drained))
+    (c.in_err-step.ensures.refused nothing_kept) (still-drained c.self.inside.handed_out _ _ drained))
 
 pub note-requires-clause-observed : goal.note-requires-clause-observed
 note-requires-clause-observed c =

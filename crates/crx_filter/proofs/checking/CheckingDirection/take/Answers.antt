@@ -9,8 +9,9 @@ pub returns-in_err-step-clause-reads : goal.returns-in_err-step-clause-reads
 returns-in_err-step-clause-reads c =
     let p = err_from_is_err_and c.from_residual.result c.from_residual.ensures.1 in
     let drained = rw (← c.self.view_is) at c.requires.asked.drained in
+    let closed = rw (← c.self.view_is) at c.requires.closed in
     rw (← c.self.view_is, p.1, p.2, ← c.bytes.ensures.content) (refused-reads _ c.self.inside.reader
-    c.take.new.self c.self.inside.noted.totals c.bytes.result.now _ _ c.in_err-step.ensures.same
+    c.take.new.self c.self.inside.noted.totals c.bytes.result.now _ _ c.in_err-step.ensures.same closed
     (c.in_err-step.ensures.refuses nothing_kept) (still-drained c.self.inside.handed_out _ _ drained))
 
 pub note-requires-clause-observed : goal.note-requires-clause-observed
@@ -24,7 +25,8 @@ invariant_of-self-2 c =
     let shown = subst (λ t. IsTaken before t c.in_ok-step.step c.take.new.self)
     c.bytes.ensures.content takes in
     record {
-      named = λ is_open. step-named _ _ _ _ _ _ c.in_ok-step.ensures.steps takes is_open;
+      named = λ is_open. step-named _ _ _ _ _ _ c.in_ok-step.ensures.steps takes
+          c.clear_if_begun.ensures.empty is_open;
       observed = c.note.ensures.observed before _ shown;
       bounded = c.note.ensures.bounded;
     }

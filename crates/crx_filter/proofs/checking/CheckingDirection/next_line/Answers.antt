@@ -1,0 +1,32 @@
+use Rattle.crx_filter.proofs.Words.{◌≡◌, ◌∙◌, ℕ, zero, suc, List, [], ◌∷◌, refl, sym, drop}
+use Rattle.std.{proofs.lemmas.List.drop-drop, specs.List.slice_get}
+use Rattle.crx_filter.specs.{Totals.found_held, meaning.Standard.report_lines}
+use Rattle.crx_filter.proofs.checking.CheckingDirection.next_line.Goals as goal
+
+-- the first of the lines behind others
+first-behind : (lines : List (List ℕ)) (count : ℕ) → slice_get (drop count lines) 0 ≡ slice_get lines count
+first-behind [] zero = refl
+first-behind [] (suc count) = refl
+first-behind (line ∷ lines) zero = refl
+first-behind (line ∷ lines) (suc count) = first-behind lines count
+
+pub returns-then-print_report_line : goal.returns-then-print_report_line
+returns-then-print_report_line c =
+    let report = report_lines (found_held c.self.inside.noted.totals c.self.inside.reader.types
+    c.self.inside.noted.not_standard) in
+    let count = c.self.inside.handed_out in
+    rw (← c.self.view_is) (
+      (
+        refl,
+        (λ there. tt),
+        (
+          sym (drop-drop 1 count report),
+          (refl, refl, (λ choices served. served), (λ lines known. known), (λ lines known. known)),
+        ),
+      ),
+      record {
+        value = rw (c.bytes.ensures.value) (sym (first-behind report count
+            ∙ c.if-print_report_line.ensures.line));
+        after_borrow = tt;
+      },
+    )
