@@ -23,10 +23,9 @@ pub struct Expansion {
 /// The faults of a line are those of the first two lines, `NotCompact` and `BadProgLine`; `MissingVersion`, `UnsupportedVersion`,
 /// `NotObservation` and `BadTypesLine` in the header; `BadTypesLine` among an event's records, where types lines count; and where faults
 /// aren't skipped those of an event's first line and of [`Columns::begin`](crx_compact::Columns::begin) and
-/// [`Columns::feed`](crx_compact::Columns::feed). `OutOfMemory` comes only at a line without a fault: a types line that counts, while
-/// no system has types, and an epoch's first line. At the end the fault is `NotCompact` before the first line, `BadProgLine` before the second,
-/// `MissingVersion` before the header, `NoEndOfHeader` in it, `Truncated` among an event's records, and in an epoch where faults aren't
-/// skipped.
+/// [`Columns::feed`](crx_compact::Columns::feed). `OutOfMemory` comes only at a line without a fault: the first types line that counts, and
+/// an epoch's first line. At the end the fault is `NotCompact` before the first line, `BadProgLine` before the second, `MissingVersion`
+/// before the header, `NoEndOfHeader` in it, `Truncated` among an event's records, and in an epoch where faults aren't skipped.
 pub type Expander = Lender<Expansion>;
 
 impl Direction for Expansion {
