@@ -7,13 +7,12 @@ use Rattle.crx_compact.specs.Placing.{GrowsOnly, HasRoom, HasSameRooms, HaveRoom
 use Rattle.crx_compact.specs.Placing.{KeepsRooms, OpenHistory, row_room}
 use Rattle.crx_rinex.specs.meaning.Observations.{Epoch, Row}
 
--- so many types of each satellite that is known; a text of so many characters, and so many where the newest one is,
--- which the text after the next one takes; so many compact lines of an epoch's rows, of so many bytes with their LFs;
--- how many of these lines and bytes the open epoch has left; and for how many lines and bytes more memory is held
+-- so many types of each satellite that is known; a text of so many characters; so many compact lines of an epoch's rows,
+-- of so many bytes with their LFs; how many of these lines and bytes the open epoch has left; and for how many lines and
+-- bytes more memory is held
 pub record EncodingRoom : Type 0 where
   pub rooms : List (List ℕ × ℕ)
   pub text : ℕ
-  pub held : ℕ
   pub lines : ℕ
   pub bytes : ℕ
   pub free_lines : ℕ
@@ -27,7 +26,6 @@ encoding_room history made =
     record {
       rooms = history.satellites.rooms;
       text = history.text_room;
-      held = history.held_room;
       lines = made.all_lines;
       bytes = made.all_bytes;
       free_lines = made.free_lines;
@@ -42,7 +40,6 @@ no_encoding_room =
     record {
       rooms = [];
       text = 0;
-      held = 0;
       lines = 0;
       bytes = 0;
       free_lines = 0;
@@ -125,11 +122,6 @@ pub record HasSameMemory (before after : EncodingRoom) : Type 0 where
   pub bytes : after.bytes ≡ before.bytes
   pub spare_lines : after.spare_lines ≡ before.spare_lines
   pub spare_bytes : after.spare_bytes ≡ before.spare_bytes
-
--- a text of so many characters was put: there is room for it from now on, and where there was before, for the next one too
-pub record HasTakenText (count : ℕ) (before after : EncodingRoom) : Type 0 where
-  pub held : count ≤ after.held
-  pub next : count ≤ before.held → count ≤ after.text
 
 -- a row was put: there is room for its satellite from now on; one line more is in use, and no more bytes than a line of so many types may have,
 -- for which there was room; where there was none, memory came into use for the line, and for no more than that

@@ -1,11 +1,11 @@
 //! Rows to compact lines, one at a time, by the history, which they change in place: Hatanaka's Compact RINEX 3.0.
 
 ghost use Rattle.std.specs.Prelude.{◌≡◌, ◌≤◌, ◌<◌, ◌+◌, ◌*◌, ◌++◌, ◌∷◌, ◌↔◌, [], None, Some, true, false, not, length, drop, slice_get, IsTrue, IfOk, IsOk, OnOk, OnErr};
-ghost use Rattle.crx_base.specs.declared.limits.TheConstants.{DATE_LIMIT, HEAD_WIDTH, NAME_WIDTH};
+ghost use Rattle.crx_base.specs.declared.limits.TheConstants.{DATE_LIMIT};
 ghost use Rattle.crx_header.specs.meaning.CompactHeader.{lines_before_header};
 ghost use Rattle.crx_rinex.specs.meaning.Epochs.{has_satellite};
 ghost use Rattle.crx_compact.specs.Encoding.{EncoderState, forgotten, tail_in};
-ghost use Rattle.crx_compact.specs.EncodingRooms.{GrowsForRow, HasRowRoom, HasSameMemory, HasTakenRow, HasTakenText, all_free};
+ghost use Rattle.crx_compact.specs.EncodingRooms.{GrowsForRow, HasRowRoom, HasSameMemory, HasTakenRow, all_free};
 ghost use Rattle.crx_compact.specs.LineLists.{lines_text};
 ghost use Rattle.crx_compact.specs.EpochLinesRead.{history_cleared};
 ghost use Rattle.crx_compact.specs.Steps.{lines_after_tail, tail_after};
@@ -23,7 +23,7 @@ use std::alloc::{AllocError, Global};
 use std::marker::Model;
 
 /// Makes the compact lines of epochs whose rows come one by one, and has them ready, as it has the two lines before the header. All memory but
-/// that of an epoch's rows is taken at the beginning.
+/// that of an epoch's rows is taken at the beginning, for the texts of all epochs too.
 #[derive(Drop)]
 pub struct Encoder {
     history: History,
@@ -43,9 +43,10 @@ pub struct Encoder {
 }
 
 impl Model for Encoder {
-    ghost use Rattle.std.specs.Prelude.{◌≡◌, [], if◌then◌else◌};
+    ghost use Rattle.std.specs.Prelude.{◌≡◌, ◌≤◌, [], if◌then◌else◌};
     ghost use Rattle.crx_compact.specs.Encoding.{EncoderState, IsEncoding};
     ghost use Rattle.crx_compact.specs.EncodingRooms.{encoding_room};
+    ghost use Rattle.crx_compact.specs.declared.history.TheConstants.{TEXT_LIMIT};
     ghost use Rattle.crx_compact.specs.declared.lines.TheConstants.{FIRST_LINES};
 
     ghost Value = { EncoderState };
@@ -61,7 +62,7 @@ impl Model for Encoder {
 
     ghost invariant = { λ encoder. IsEncoding encoder.is_open encoder.before.tail encoder.is_kept encoder.in_full
         encoder.rows.rows encoder.history encoder.made.lines encoder.made.front
-        × (encoder.made.reserved ≡ FIRST_LINES) };
+        × (encoder.made.reserved ≡ FIRST_LINES) × (TEXT_LIMIT ≤ encoder.history.text_room) };
 }
 
 impl Encoder {
@@ -81,8 +82,9 @@ impl Encoder {
         let mut made = Lines::new(alloc);
         made.reserve_front(FIRST_LINES)?;
         let scratch = Box::new(alloc, Text::new())?;
+        let history = History::with_texts(alloc)?;
         Ok(Encoder {
-            history: History::new(alloc),
+            history,
             is_kept: false,
             in_full: false,
             is_open: false,
@@ -160,7 +162,6 @@ impl Encoder {
         ensures forgotten { OnErr result (self.new ≡ forgotten self.old [] self.new.room) }
         // Where there is room for the row, the answer isn't for want of memory.
         ensures known { HasRowRoom row.now self.old.room → IsOk result }
-        ensures held { self.new.room.held ≡ self.old.room.held }
         ensures taken { IfOk result (λ is_new. is_new ≡ true
             → HasTakenRow row.now self.old.room self.new.room) }
         // There is never less room than before, after a refusal too; and lines have no more memory than before, or than twice what those so
@@ -193,46 +194,26 @@ impl Encoder {
         }
     }
 
-    /// Ends the open epoch, whose rows have all come: its compact lines are ready. After `AllocError` everything is forgotten.
-    pub fn end(&mut self, head: &EpochLine) -> Result<(), AllocError>
+    /// Ends the open epoch, whose rows have all come: its compact lines are ready. There is room for its text.
+    pub fn end(&mut self, head: &EpochLine)
         requires open { self.old.is_open ≡ true }
         requires counted { length self.old.rows ≡ head.now.count }
-        ensures lines { OnOk result (self.new.pending
-            ≡ lines_after_tail (tail_in self.old) (epoch_by_rows head.now self.old.rows)) }
-        ensures before { OnOk result (self.new.before
-            ≡ Some (tail_after (tail_in self.old) (epoch_by_rows head.now self.old.rows))) }
+        ensures lines { self.new.pending
+            ≡ lines_after_tail (tail_in self.old) (epoch_by_rows head.now self.old.rows) }
+        ensures before { self.new.before
+            ≡ Some (tail_after (tail_in self.old) (epoch_by_rows head.now self.old.rows)) }
         ensures closed { self.new.is_open ≡ false }
         ensures rows { self.new.rows ≡ [] }
-        ensures forgotten { OnErr result (self.new ≡ forgotten self.old [] self.new.room) }
-        // Where there is room for the epoch's text, the answer isn't for want of memory.
-        ensures known { HEAD_WIDTH + NAME_WIDTH * head.now.count ≤ self.old.room.text → IsOk result }
-        // There is room where this text is, and where there was before, there is for the next one too: so after two epochs of as many
-        // satellites the answer isn't for want of memory.
-        ensures taken { OnOk result (HasTakenText (HEAD_WIDTH + NAME_WIDTH * head.now.count)
-            self.old.room self.new.room) }
-        // There is never less room than before, after a refusal too, and memory for no more satellites and lines.
+        // There is never less room than before, and memory for no more satellites and lines.
         ensures memory { HasSameMemory self.old.room self.new.room }
     {
-        if self
-            .history
+        self.history
             .end_rows(head, &mut self.scratch, &mut self.made)
-            .is_err()
-        {
-            self.is_open = false;
-            self.made.clear();
-            forget(
-                &mut self.history,
-                &mut self.is_kept,
-                &mut self.before,
-                &mut self.rows,
-            );
-            return Err(AllocError);
-        }
+            .unwrap();
         self.is_kept = true;
         self.before = KeptTail::of(&self.history);
         self.rows = RowsSoFar::new();
         self.is_open = false;
-        Ok(())
     }
 
     /// Whether no line is pending.

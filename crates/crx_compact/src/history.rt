@@ -11,13 +11,14 @@ ghost use Rattle.crx_rinex.specs.meaning.Observations.{Row};
 ghost use Rattle.crx_header.specs.meaning.Satellites.{types_of_satellite};
 ghost use Rattle.crx_rinex.specs.meaning.Printing.{printed_head};
 ghost use Rattle.crx_compact.specs.ArcSteps.{shown_value};
-ghost use Rattle.crx_compact.specs.EncodingRooms.{GrowsForEpoch, GrowsForRow, HasRoomForEpoch, HasRowRoom, HasSameMemory, HasTakenRow, HasTakenText, encoding_room};
+ghost use Rattle.crx_compact.specs.EncodingRooms.{GrowsForEpoch, GrowsForRow, HasRoomForEpoch, HasRowRoom, HasSameMemory, HasTakenRow, encoding_room};
 ghost use Rattle.crx_compact.specs.EpochLinesRead.{AnswersSatellites, AreSatellitesRefused, IsEpochLineRead, IsEpochLineRefused, history_cleared};
 ghost use Rattle.crx_compact.specs.HeldRows.{IsAwaitedSatellite, past_of_tail, row_held};
 ghost use Rattle.crx_compact.specs.LineLists.{HasLineRoom, HasSameRoom, HasTakenLine, KeepsLinesRoom, room_of_lines};
 ghost use Rattle.crx_compact.specs.meaning.CompactPlaces.{clock_line_read, satellites_of_text};
 ghost use Rattle.crx_compact.specs.meaning.EpochText.{names_in, satellites_named};
 ghost use Rattle.crx_compact.specs.Placing.{GrowsOnly, HasAllowedCount, HasAskedRoom, HasNoLessRoom, HasSameTexts, HaveRoom, IsAnnounced, IsAskedAmong, IsBetween, IsPlaced, IsRowRead, KeepsRooms, padded, row_of_parts, row_room, satellite_of, tail_of_history};
+ghost use Rattle.crx_compact.specs.declared.history.TheConstants.{TEXT_LIMIT};
 ghost use Rattle.crx_compact.specs.Written.{AreRowsWritten, IsEpochWritten, IsRowWritten, epoch_by_rows};
 ghost use Rattle.crx_rinex.specs.meaning.SatelliteLines.{IsSoundRow};
 ghost use Rattle.crx_compact.specs.RowsSoFar.{NamesSatellites, HasClock};
@@ -31,7 +32,7 @@ use crate::lines::{FIRST_LINES, Lines, lengthen};
 use crate::refusals::prepare_names;
 use crate::satellites::Satellites;
 use crx_base::Fault;
-use crx_base::limits::{HEAD_WIDTH, LINE_LIMIT, NAME_WIDTH, TYPES_LIMIT};
+use crx_base::limits::{HEAD_WIDTH, LINE_LIMIT, NAME_WIDTH, SATELLITES_LIMIT, TYPES_LIMIT};
 use crx_header::{Types, after_columns, all_blank, identifier, padded, put_identifier};
 use crx_rinex::{Epoch, EpochLine, SatRow, begins_epoch, print_head, types_of_satellite};
 use crx_text::block::put_text;
@@ -41,6 +42,9 @@ use crx_text::{Text, code_print, code_read, trim_end};
 use std::alloc::{AllocError, Global};
 use std::marker::Model;
 use std::mem;
+
+/// How long the text of an epoch can be: columns 1 to 41 of its line, and the identifiers of as many satellites as it may have.
+pub const TEXT_LIMIT: usize = HEAD_WIDTH + NAME_WIDTH * SATELLITES_LIMIT;
 
 /// The history: the text of the newest epoch, the clock's arc, and its satellites in the order of the file.
 #[derive(Drop)]
@@ -87,6 +91,23 @@ impl History {
             satellites: Satellites::new(alloc),
             alloc,
         }
+    }
+
+    /// The same, with room for the texts of all epochs.
+    pub(crate) fn with_texts(alloc: Global) -> Result<History, AllocError>
+        ensures empty { IfOk result (λ history. tail_of_history history ≡ no_tail) }
+        ensures between { IfOk result IsBetween }
+        ensures room { IfOk result (λ history. TEXT_LIMIT ≤ history.text_room) }
+    {
+        let text = Vec::with_capacity(alloc, TEXT_LIMIT)?;
+        let next_text = Vec::with_capacity(alloc, TEXT_LIMIT)?;
+        Ok(History {
+            text,
+            next_text,
+            clock: ClockArc::new(),
+            satellites: Satellites::new(alloc),
+            alloc,
+        })
     }
 
     /// Forgets everything; the memory is used again.
@@ -216,9 +237,7 @@ impl History {
         ensures lines { HasSameRoom lines.old lines.new }
         // Where room was asked for before, the answer isn't for want of memory.
         ensures known { HEAD_WIDTH + NAME_WIDTH * head.now.count ≤ length self.old.next_text → IsOk result }
-        ensures asked { HEAD_WIDTH + NAME_WIDTH * head.now.count ≤ self.old.text_room → IsOk result }
-        ensures taken { OnOk result (HasTakenText (HEAD_WIDTH + NAME_WIDTH * head.now.count)
-            (encoding_room self.old lines.old) (encoding_room self.new lines.new)) }
+        ensures ample { TEXT_LIMIT ≤ self.old.text_room → IsOk result }
         ensures memory { HasSameMemory (encoding_room self.old lines.old) (encoding_room self.new lines.new) }
     {
         self.satellites.end();
@@ -421,9 +440,8 @@ fn renew_text(
         (head.now.head ++ flat_map (λ (row : RowTail). row.name) satellites.now.rows)) }
     ensures within { length text.new.items ≤ LINE_LIMIT }
     ensures known { HEAD_WIDTH + NAME_WIDTH * head.now.count ≤ length text.old.items → IsOk result }
-    ensures asked { HEAD_WIDTH + NAME_WIDTH * head.now.count ≤ vec_capacity text.old → IsOk result }
+    ensures ample { TEXT_LIMIT ≤ vec_capacity text.old → IsOk result }
     ensures room { vec_capacity text.old ≤ vec_capacity text.new }
-    ensures fits { OnOk result (HEAD_WIDTH + NAME_WIDTH * head.now.count ≤ vec_capacity text.new) }
     ensures held { vec_capacity text.new ≤ max (vec_capacity text.old) (HEAD_WIDTH + NAME_WIDTH * head.now.count) }
     ensures bounded { vec_capacity text.old ≤ LINE_LIMIT → vec_capacity text.new ≤ LINE_LIMIT }
 {

@@ -1,8 +1,8 @@
 -- Compaction line by line: the state between two lines, by the tail of the epochs alone.
-use Rattle.std.specs.Prelude.{ℕ, Bool, true, false, ◌+◌, List, [], ◌∷◌, ◌++◌, length, Option, Some, None, Result, Ok}
+use Rattle.std.specs.Prelude.{ℕ, Bool, false, ◌+◌, List, [], ◌∷◌, ◌++◌, length, Option, Some, None, Result, Ok}
 use Rattle.std.specs.Prelude.{Err, if◌then◌else◌}
 use Rattle.std.specs.Result.{is_ok}
-use Rattle.crx_base.specs.meaning.AsRead.{ReadLine, Content}
+use Rattle.crx_base.specs.meaning.AsRead.{ReadLine}
 use Rattle.crx_base.specs.declared.fault.Fault.{Fault}
 use Rattle.crx_rinex.specs.meaning.Observations.{Epoch}
 use Rattle.crx_rinex.specs.meaning.Units.{Unit, HeaderLine, EventLine, EventRecord, Observation}
@@ -14,7 +14,7 @@ use Rattle.crx_compact.specs.Tails.{Tail, tail_or_nothing}
 use Rattle.crx_compact.specs.Steps.{lines_after_tail, tail_after, tail_written_after}
 use Rattle.crx_base.specs.meaning.Choices.{Choices}
 use Rattle.crx_filter.specs.meaning.Items.{Item, types_in_force}
-use Rattle.crx_filter.specs.LineByLine.{Phase, InHeader, InEpoch, RunState, Made, Completes, Moves, Rejects, Repeats}
+use Rattle.crx_filter.specs.LineByLine.{Phase, InHeader, InEpoch, RunState, Made, Completes, Moves, Rejects}
 use Rattle.crx_filter.specs.LineByLine.{made_of_line, Direction, state_of}
 use Rattle.crx_filter.specs.meaning.Compacted.{epochs_accepted, is_interrupted, is_at_every, marked_epochs}
 use Rattle.crx_header.specs.meaning.CompactHeader.{lines_before_header}
@@ -47,20 +47,6 @@ abbrev pub rinex_continues : OpenEpoch → ReadLine → Made Epoch OpenEpoch
 rinex_continues so_far line = made_of_epoch_step (epoch_step so_far line)
 
 -- ---- what takes memory
-
--- whether an epoch is whole with its line, since it has no satellites
-abbrev pub is_whole_at_once : Made Epoch OpenEpoch → Bool
-is_whole_at_once (Completes (HeaderLine line)) = false
-is_whole_at_once (Completes (EventLine line)) = false
-is_whole_at_once (Completes (EventRecord line)) = false
-is_whole_at_once (Completes (Observation epoch)) = true
-is_whole_at_once (Moves phase) = false
-is_whole_at_once (Rejects fault) = false
-is_whole_at_once (Repeats at) = false
-
--- an epoch's line takes memory where the epoch is whole with it, and is written
-abbrev pub epoch_written : {K : Type 0} → List Count → K → List ℕ → Bool
-epoch_written types kept line = is_whole_at_once (rinex_begins types kept (Content line))
 
 -- a satellite's line takes memory where it is a good row of a new satellite
 abbrev pub is_next_row : OpenEpoch → List ℕ → Bool
@@ -97,7 +83,7 @@ abbrev pub compaction : Direction Epoch OpenEpoch Written
 compaction = record {
   begins = rinex_begins;
   continues = rinex_continues;
-  memory_first = epoch_written;
+  memory_first = λ types kept line. false;
   memory_next = is_next_row;
   kept_after = written_kept;
   kept_open = λ kept. kept;

@@ -9,7 +9,7 @@ use Rattle.crx_rinex.specs.meaning.Observations.{Epoch as ObservationEpoch}
 use Rattle.crx_rinex.specs.meaning.EpochPlaces.{OpenEpoch}
 use Rattle.crx_rinex.specs.meaning.Units.{Unit, HeaderLine, EventLine, EventRecord, Observation}
 use Rattle.crx_compact.specs.Written.{epoch_by_rows}
-use Rattle.crx_filter.specs.CompactionByLine.{compaction, epoch_written, is_before_header, is_next_row, Written}
+use Rattle.crx_filter.specs.CompactionByLine.{compaction, is_before_header, is_next_row, Written}
 use Rattle.crx_filter.specs.LineByLine.{Phase, Made, Completes, Moves, Rejects, made_in, phase_after, types_after}
 use Rattle.crx_filter.specs.Memory.{may_take_memory}
 use Rattle.crx_filter.specs.Stages.{phase_of_stage, is_ended}
@@ -54,8 +54,6 @@ pub record CompletedEpoch (made : Made ObservationEpoch OpenEpoch)
   pub held : after.head ≡ Some head
   pub is : Completed made (Observation (epoch_by_rows head after.rows.rows)) before after
   pub counted : length after.rows.rows ≡ head.count
-  pub allowed : may_take_memory before.types (epoch_written before.types before.types) is_next_row
-      (reader_phase before) (Content line) ≡ true
 
 -- a line after which no unit is complete
 pub record MovesReader (made : Made ObservationEpoch OpenEpoch) (before after : RinexReader) : Type 0 where

@@ -1,8 +1,6 @@
 -- For how much there is room in a direction: where there is enough for a line, memory doesn't run out at it.
-use Rattle.std.specs.Prelude.{◌≡◌, ◌⊎◌, ◌≤◌, ◌<◌, ◌+◌, ◌*◌, ℕ, Bool, true, false, List, [], Option, IfOk, IfSome, length}
-use Rattle.crx_base.specs.declared.limits.TheConstants.{HEAD_WIDTH, NAME_WIDTH}
+use Rattle.std.specs.Prelude.{◌≡◌, ◌⊎◌, ℕ, Bool, true, false, List, [], Option, IfOk}
 use Rattle.crx_header.specs.meaning.ObservationTypes.{Count}
-use Rattle.crx_rinex.specs.meaning.EpochLines.{ObservationHead}
 use Rattle.crx_rinex.specs.meaning.SatelliteLines.{row_of}
 use Rattle.crx_compact.specs.EncodingRooms.{EncodingRoom, HasRowRoom}
 use Rattle.crx_compact.specs.LineLists.{BlockRoom, HasNoMoreRoom}
@@ -34,18 +32,10 @@ HasRoomInCheck c line = do_types_count c.reader.stage ≡ true → c.reader.type
 abbrev pub HasRoomForRow : List Count → List ℕ → EncodingRoom → Type 0
 HasRoomForRow types line room = IfOk (row_of types line) (λ row. HasRowRoom row room)
 
--- there is room for the text of an epoch with this epoch line
-abbrev pub HasRoomForText : ObservationHead → EncodingRoom → Type 0
-HasRoomForText head room = HEAD_WIDTH + NAME_WIDTH * head.count ≤ room.text
-
--- where types lines count, some system has types; where no epoch is open, the text of an epoch without satellites fits;
--- in an epoch there is room for the line's row, and where this is the last one, for the epoch's text
+-- where types lines count, some system has types; in an epoch there is room for the line's row
 pub record HasRoomInCompaction (c : CompactionState) (line : List ℕ) : Type 0 where
   pub types : do_types_count c.reader.stage ≡ true → c.reader.types ≡ [] → ⊥
-  pub empty : is_open_stage c.reader.stage ≡ false → HEAD_WIDTH ≤ c.encoder.room.text
   pub row : is_open_stage c.reader.stage ≡ true → HasRoomForRow c.reader.types line c.encoder.room
-  pub text : is_open_stage c.reader.stage ≡ true → IfSome c.reader.head (λ head.
-      length c.encoder.rows + 1 ≡ head.count → HasRoomForText head c.encoder.room)
 
 -- ---- an expansion
 

@@ -1,13 +1,13 @@
 //! Compaction, line by line: what a line of RINEX makes.
 
-ghost use Rattle.std.specs.Prelude.{◌≡◌, ◌≤◌, ◌+◌, [], false, length, is_some, Some, OnErr, OnOk, IfSome, IfOk, IfErr, IsOk, true};
+ghost use Rattle.std.specs.Prelude.{◌≡◌, [], false, length, is_some, Some, IfSome, IfOk, IfErr, true};
 ghost use Rattle.crx_compact.specs.Encoding.{tail_in};
 ghost use Rattle.crx_compact.specs.Steps.{lines_after_tail, tail_after};
 ghost use Rattle.crx_compact.specs.Written.{epoch_by_rows};
 ghost use Rattle.crx_rinex.specs.meaning.EpochLines.{ObservationHead};
 ghost use Rattle.crx_filter.specs.CompactionParts.{BelongTogether, HasRefusedRow, HasWrittenRow};
 ghost use Rattle.crx_filter.specs.RinexStages.{is_open_stage};
-ghost use Rattle.crx_filter.specs.Rooms.{HasRoomForRow, HasRoomForText};
+ghost use Rattle.crx_filter.specs.Rooms.{HasRoomForRow};
 ghost use Rattle.crx_filter.specs.meaning.Compacted.{is_at_every};
 
 use crate::direction::Direction;
@@ -35,8 +35,8 @@ pub struct Compaction {
 /// The faults of a line are in the header `MissingVersion`, `UnsupportedVersion` and `NotObservation` at the first line, and
 /// `BadTypesLine`; `BadTypesLine` among an event's records, where types lines count; and where faults aren't skipped `NotAnEpoch`,
 /// `BadEpoch` and `BadClock` where an epoch or an event may begin, and `Truncated`, `BadSatellite`, `BadField`, `BadFlags` and
-/// `RepeatedSatellite` in an epoch. `OutOfMemory` comes only at a line without a fault: the first types line that counts, a satellite's line, or
-/// the line of an epoch without satellites. At the end the fault is `MissingVersion` before the first line, `NoEndOfHeader` in the header,
+/// `RepeatedSatellite` in an epoch. `OutOfMemory` comes only at a line without a fault: the first types line that counts, and a satellite's
+/// line. At the end the fault is `MissingVersion` before the first line, `NoEndOfHeader` in the header,
 /// `Truncated` among an event's records, and in an epoch where faults aren't skipped.
 pub type Compactor = Lender<Compaction>;
 
@@ -74,9 +74,6 @@ fn take_row(reader: &mut RinexReader, encoder: &mut Encoder, line: &[u8]) -> Res
     // Where there is room for the row, the answer isn't for want of memory.
     ensures known { HasRoomForRow reader.old.types line.now encoder.old.room
         → IfErr result (λ fault. fault ≡ Fault.OutOfMemory → ⊥) }
-    ensures head { OnOk result (reader.new.head ≡ reader.old.head) }
-    ensures rows { OnOk result (length encoder.new.rows ≡ length encoder.old.rows + 1) }
-    ensures text { encoder.old.room.text ≤ encoder.new.room.text }
 {
     reader.read_row(line)?;
     match encoder.encode_row(&reader.row) {
@@ -94,29 +91,22 @@ fn take_row(reader: &mut RinexReader, encoder: &mut Encoder, line: &[u8]) -> Res
     Ok(true)
 }
 
-/// Makes the compact lines of an epoch whose rows have all come. After a fault everything is forgotten.
-fn end_epoch(reader: &RinexReader, encoder: &mut Encoder) -> Result<(), Fault>
+/// Makes the compact lines of an epoch whose rows have all come.
+fn end_epoch(reader: &RinexReader, encoder: &mut Encoder)
     requires open { encoder.old.is_open ≡ true }
     requires whole { IfSome reader.now.head (λ head. length encoder.old.rows ≡ head.count) }
     requires begun { is_some reader.now.head ≡ true }
-    ensures lines { (head : ObservationHead) → reader.now.head ≡ Some head → OnOk result (encoder.new.pending
-        ≡ lines_after_tail (tail_in encoder.old) (epoch_by_rows head encoder.old.rows)) }
-    ensures before { (head : ObservationHead) → reader.now.head ≡ Some head → OnOk result (encoder.new.before
-        ≡ Some (tail_after (tail_in encoder.old) (epoch_by_rows head encoder.old.rows))) }
-    ensures forgotten { OnErr result (encoder.new.pending ≡ []) }
+    ensures lines { (head : ObservationHead) → reader.now.head ≡ Some head → encoder.new.pending
+        ≡ lines_after_tail (tail_in encoder.old) (epoch_by_rows head encoder.old.rows) }
+    ensures before { (head : ObservationHead) → reader.now.head ≡ Some head → encoder.new.before
+        ≡ Some (tail_after (tail_in encoder.old) (epoch_by_rows head encoder.old.rows)) }
     ensures closed { encoder.new.is_open ≡ false }
     ensures rows { encoder.new.rows ≡ [] }
-    ensures memory { IfErr result (λ fault. fault ≡ Fault.OutOfMemory) }
-    // Where there is room for the epoch's text, the answer isn't for want of memory.
-    ensures known { IfSome reader.now.head (λ head. HasRoomForText head encoder.old.room) → IsOk result }
 {
     let Some(head) = &reader.head else {
         unreachable!()
     };
-    match encoder.end(head) {
-        Ok(()) => Ok(()),
-        Err(_) => Err(Fault::OutOfMemory),
-    }
+    encoder.end(head);
 }
 
 impl Direction for Compaction {
@@ -189,7 +179,7 @@ impl Direction for Compaction {
         if !is_last {
             return Ok(false);
         }
-        end_epoch(&self.reader, &mut self.encoder)?;
+        end_epoch(&self.reader, &mut self.encoder);
         self.index += 1;
         Ok(true)
     }
@@ -202,7 +192,7 @@ impl Direction for Compaction {
                 if self.reader.stage.is_in_epoch() {
                     return Ok(HandedOut::Nothing);
                 }
-                end_epoch(&self.reader, &mut self.encoder)?;
+                end_epoch(&self.reader, &mut self.encoder);
                 self.index += 1;
                 Ok(HandedOut::Lines)
             }

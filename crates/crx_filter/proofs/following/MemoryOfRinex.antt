@@ -2,12 +2,12 @@
 use Rattle.crx_filter.proofs
 use proofs.Words.{common_steps, ℕ, suc, ◌≡◌, Bool, true, false, List, [], ◌∷◌, ◌++◌, length, Some, Result}
 use proofs.Words.{refl, ◌+◌, arith, At, none-some, ReadLine, Content, Fault, OpenEpoch, next_row, Epoch, Row}
-use proofs.Words.{FileUnit, EpochStep, Faulty, after_row, epoch_step, Choices, Item, types_in_force}
+use proofs.Words.{FileUnit, EpochStep, Faulty, after_row, epoch_step, Choices, Item}
 use proofs.Words.{compaction_takes, memory_allowed, place_takes, rinex_reading, takes_memory, checking}
-use proofs.Words.{no_choices, totals_of, compaction, made_of_epoch_step, rinex_begins, Written}
-use proofs.Words.{compaction_state, rinex_open, written_of, Direction, Made, Notice, RunState, state_next}
+use proofs.Words.{no_choices, totals_of, compaction, made_of_epoch_step, Written}
+use proofs.Words.{compaction_state, rinex_open, written_of, Direction, Notice, RunState, state_next}
 use proofs.Words.{state_of, compact_unit, rinex_place, false-true}
-use Rattle.crx_filter.specs.{CompactionByLine.is_whole_at_once, meaning.Memory.check_takes}
+use Rattle.crx_filter.specs.meaning.Memory.{check_takes}
 use Rattle.std.specs.Result.{is_ok}
 use proofs.following.{Check.check-carried_out, Compaction.compaction-carried_out}
 use proofs.following.{Following.AgreeOn, Memory.{TakesAsItStands, allowed-again, allowed-first}}
@@ -25,12 +25,6 @@ fine-row so_far v1 e = grind (arith, false-true)
 module _ {K : Type 0} (direction : Direction Epoch OpenEpoch K) (kept_of : List (Item Epoch) → K)
     (unit_lines : List (Item Epoch) → FileUnit Epoch → List (List ℕ)) (choices : Choices)
     (items : List (Item Epoch)) (lines : List ReadLine) (takes : ℕ → Bool → Bool) where
-  -- an epoch that is whole with its line
-  whole-takes : takes 0 true ≡ true → (m : Made Epoch OpenEpoch) → is_whole_at_once m ≡ true
-      → AgreeOn rinex_beginning direction rinex_open kept_of unit_lines choices items lines m
-      → place_takes takes items 0 (rinex_beginning items lines) ≡ true
-  whole-takes sure v1 e a = grind (arith, false-true)
-
   step-takes : (count : ℕ) → ((is_whole : Bool) → takes count is_whole ≡ true) → (step : EpochStep)
       → is_fine step ≡ true → AgreeOn rinex_beginning direction rinex_open kept_of unit_lines choices items
       lines (made_of_epoch_step step) → place_takes takes items count (rinex_beginning items lines) ≡ true
@@ -48,10 +42,7 @@ after-first takes sure items (line ∷ lines) so_far opens is_whole = sure (leng
 pub compaction-takes : (choices : Choices)
     → TakesAsItStands rinex_beginning compaction rinex_open (written_of choices.every) compaction_takes
 compaction-takes choices = record {
-  first = λ items line other good. whole-takes compaction (written_of choices.every)
-      (compact_unit choices) choices items (Content line ∷ []) compaction_takes refl
-      (rinex_begins (types_in_force items) (written_of choices.every items) (Content line)) good
-      ((compaction-carried_out choices).begins items (Content line));
+  first = λ items line other good. false-true good;
   next = λ items lines line so_far opens good. step-takes compaction (written_of choices.every)
       (compact_unit choices) choices items (lines ++ Content line ∷ []) compaction_takes
       (length lines) (after-first compaction_takes (λ count is_whole. refl) items lines so_far opens)

@@ -1,7 +1,7 @@
 -- What a compaction makes of a line: a fault, another stage, a line that is copied, or an epoch.
 use Rattle.crx_filter.proofs.Words
-use Words.{common_steps, arith, ◌≡◌, ◌⊎◌, inr, ℕ, ◌+◌, true, false, List, [], Some, None, Ok, Err, ◌++◌, ◌∷◌}
-use Words.{refl, Fault, OutOfMemory, ObservationEpoch, Bool, OpenEpoch, EventLine, EventRecord, HeaderLine}
+use Words.{common_steps, arith, ◌≡◌, ◌⊎◌, ℕ, ◌+◌, true, false, List, [], Some, None, Ok, Err, ◌++◌, ◌∷◌}
+use Words.{refl, Fault, ObservationEpoch, Bool, OpenEpoch, EventLine, EventRecord, HeaderLine}
 use Words.{FileUnit, epoch_by_rows, Choices, Written, compact_written, compaction, written_kept, Made}
 use Words.{Completes, Moves, phase_after, types_after, phase_of_stage, epoch_open, is_row, made_at, Completed}
 use Words.{CompletedEpoch, TakesRinexLine, is_open_stage, RinexStep, Nothing, Header, Begun, MovesReader}
@@ -58,11 +58,6 @@ module _ {serves : Choices → Type 0} {before after : RinexReader} {kept : Writ
   moved-read moves none = moved-reads moves.moved moves.types_then moves.goes_on refl none
 
   module _ (done : CompletedEpoch (made_at before line kept) line before after) where
-    -- memory ran out for an epoch's lines
-    pub lost-read : {now : Written} {ready : List (List ℕ)} → now.index ≡ kept.index → ready ≡ []
-        → Reads compaction serves (parts_with before kept) line (Err OutOfMemory) ready (parts_with after now)
-    lost-read counted none = refused-reads (inr (refl, done.allowed)) done.is.types_then counted none
-
     -- an epoch's lines are ready, whose rows the encoder had
     pub ended-read : (rows ended : EncoderState) → ((choices : Choices) → serves choices → rows.in_full
         ≡ is_at_every choices.every kept.index) → rows.before ≡ kept.tail → rows.rows ≡ after.rows.rows

@@ -1,13 +1,12 @@
 -- Where there is room for a line, the answer isn't for want of memory.
-use Rattle.crx_filter.proofs.Words.{common_steps, arith, ◌≡◌, ◌≤◌, ◌+◌, ◌⊎◌, true, inl, inr, sym, ◌∙◌, ℕ}
-use Rattle.crx_filter.proofs.Words.{List, [], length, Option, None, Some, Result, Ok, Err, At, Fault, Count}
-use Rattle.crx_filter.proofs.Words.{OutOfMemory, ObservationHead, OpenRawEpoch, HEAD_WIDTH}
-use Rattle.crx_filter.proofs.Words.{Row as ObservationRow}
-use Rattle.std.{proofs.Common.{IfErr, IfOk}, specs.Prelude.IfSome}
-use Rattle.crx_compact.specs.{EncodingRooms.EncodingRoom, LineLists.{BlockRoom, HasNoMoreRoom}}
+use Rattle.crx_filter.proofs.Words.{common_steps, arith, ◌≡◌, ◌⊎◌, true, inl, inr, sym, ◌∙◌, ℕ, List}
+use Rattle.crx_filter.proofs.Words.{Some, Result, Ok, Err, At, Fault, OutOfMemory, Count}
+use Rattle.crx_filter.proofs.Words.{OpenRawEpoch}
+use Rattle.std.proofs.Common.{IfErr, IfOk}
+use Rattle.crx_compact.specs.LineLists.{BlockRoom, HasNoMoreRoom}
 use Rattle.crx_compact.specs.OpenEpochs.{ColumnsState, is_idle, opened_raw, tail_for_line, tail_held}
 use Rattle.crx_compact.specs.ReadingRooms.{HasRoomFor, HeldColumns, KeepsHistoryRoom, KeepsRoom, ReadingRoom}
-use Rattle.crx_filter.specs.Rooms.{HasRoomForText, HasRoomInColumns, HasRoomToBegin, may_begin}
+use Rattle.crx_filter.specs.Rooms.{HasRoomInColumns, HasRoomToBegin, may_begin}
 use Rattle.crx_filter.specs.{CompactStages.is_compact_stage, declared.stage.Stage.Stage}
 use Rattle.crx_filter.specs.declared.stage.Stage.TheVariants.{Between, Looking}
 use Rattle.crx_runs.specs.Engines.{answer_given}
@@ -27,24 +26,6 @@ pub handed-well : (out : HandedOut) (stored : Result Step At) (P : At → Type 0
 handed-well Nothing stored P = tt
 handed-well Lines stored P = tt
 handed-well AsItIs stored P = tt
-
--- the text of an epoch without satellites fits
-pub empty-text : (head : Option ObservationHead) (rows : List ObservationRow) (before room : EncodingRoom)
-    → IfSome head (λ h. length rows ≡ h.count) → rows ≡ [] → HEAD_WIDTH ≤ before.text
-    → room.text ≡ before.text → IfSome head (λ h. HasRoomForText h room)
-empty-text head rows before room counted none fits same = grind (arith, common_steps)
-
--- the text of an epoch whose last row has come fits
-pub last-text : (before head : Option ObservationHead) (rows come : List ObservationRow)
-    (room after : EncodingRoom) → head ≡ before → IfSome head (λ h. length come ≡ h.count)
-    → length come ≡ length rows + 1 → room.text ≤ after.text
-    → IfSome before (λ h. length rows + 1 ≡ h.count → HasRoomForText h room)
-    → IfSome head (λ h. HasRoomForText h after)
-last-text before None rows come room after same counted more kept fits = tt
-last-text before (Some head) rows come room after same counted more kept fits =
-    let fits : length rows + 1 ≡ head.count → HasRoomForText head room = rw (← same) at fits in
-    let there = fits (sym more ∙ counted) in
-    omega (arith, there, kept)
 
 -- ---- an epoch that a line begins
 

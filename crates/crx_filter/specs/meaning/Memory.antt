@@ -59,9 +59,9 @@ memory_allowed place takes skip r line =
       | Looking number ↦ if can_go_on line && line_takes place takes r.items [] line then Some [] else None
     ]
 
--- RINEX, compacted: an epoch's line takes memory where the epoch is whole with it, and each satellite's line does
+-- RINEX, compacted: each satellite's line takes memory, and an epoch's own line doesn't
 abbrev pub compaction_takes : ℕ → Bool → Bool
-compaction_takes zero is_whole = is_whole
+compaction_takes zero is_whole = false
 compaction_takes (suc count) is_whole = true
 
 -- compact text: an epoch's line takes memory, for all lines of the epoch; no line after it does

@@ -1,5 +1,4 @@
-use Rattle.crx_filter.proofs.Words.{common_steps, arith, inl, inr, refl, ap, ◌∙◌, length, length-append}
-use Rattle.{crx_compact.specs.Encoding.EncoderState, crx_filter.proofs.steps.Together.row-lost}
+use Rattle.crx_filter.proofs.{Words.{common_steps, arith, inl, inr, refl}, steps.Together.row-lost}
 use Rattle.crx_filter.proofs.steps.Together.{row-or-epoch, row-refused, row-repeated, row-written, rows-there}
 use Rattle.crx_filter.proofs.compaction.take_row.Goals as goal
 
@@ -45,8 +44,4 @@ returns c =
           (row-or-epoch _ took.steps c.in_default.not-Row);
       refused = tt;
       known = λ room. tt;
-      head = took.head ∙ read.same.head;
-      rows = ap (λ (e : EncoderState). length e.rows) (encoded.written c.in-Ok-true.field-0-test)
-          ∙ length-append c.args.encoder.now.rows _;
-      text = encoded.only.kept.text;
     }

@@ -1,8 +1,6 @@
-use Rattle.crx_filter.proofs.steps.RoomSteps.{last-text}
-use Rattle.crx_filter.proofs.Words.{common_steps, arith, false≢true, refl, ap, ◌∙◌, is_at_every}
-use Rattle.std.proofs.lemmas.Result.{err_from_is_err_and}
+use Rattle.crx_filter.proofs.Words.{common_steps, arith, ap, ◌∙◌, is_at_every}
 use Rattle.crx_compact.specs.Encoding.{EncoderState}
-use Rattle.crx_filter.proofs.steps.CompactionSteps.{ended-read, lost-read, moved-read, refused-read}
+use Rattle.crx_filter.proofs.steps.CompactionSteps.{ended-read, moved-read, refused-read}
 use Rattle.crx_filter.proofs.steps.Together.{closed-together, due-there, row-asked, row-closed, row-ends}
 use Rattle.crx_filter.proofs.steps.Together.{row-moves, row-together, served-closed}
 use Rattle.crx_filter.proofs.compaction.CompactionDirection.go_on.Goals as goal
@@ -32,32 +30,6 @@ end_epoch-requires c =
     let asked = row-asked c.in_ok-is_last.ensures.written c.self.invariant opened c.if-not-is_last.false in
     record { «open» = asked.0; whole = asked.1.0; begun = asked.1.1 }
 
-pub invariant_of-self-in_err-end_epoch : goal.invariant_of-self-in_err-end_epoch
-invariant_of-self-in_err-end_epoch c = closed-together _ _ (row-closed c.in_ok-is_last.ensures.written
-    c.if-not-is_last.false) c.end_epoch.ensures.closed c.end_epoch.ensures.rows
-
-pub returns-in_err-end_epoch-clause-reads : goal.returns-in_err-end_epoch-clause-reads
-returns-in_err-end_epoch-clause-reads c =
-    let p = err_from_is_err_and c.from_residual-in_err-end_epoch.result
-    c.from_residual-in_err-end_epoch.ensures.1 in
-    let ended = c.in_err-end_epoch.ensures in
-    rw (← c.self.view_is, p.1, p.2, ended.memory, ← c.bytes.ensures.content)
-    (lost-read (row-ends c.in_ok-is_last.ensures.written _ c.if-not-is_last.false) refl ended.forgotten)
-
-pub returns-in_err-end_epoch-clause-known : goal.returns-in_err-end_epoch-clause-known
-returns-in_err-end_epoch-clause-known c =
-    let opened = rw (← c.self.view_is) at c.requires.open in
-    let row = c.in_ok-is_last.ensures in
-    let asked = row-asked row.written c.self.invariant opened c.if-not-is_last.false in
-    rw (← c.self.view_is) (λ has. absurd (false≢true (c.in_err-end_epoch.ensures.known (last-text
-    c.self.inside.reader.head c.take_row.new.reader.head c.self.inside.encoder.rows
-    c.take_row.new.encoder.rows c.self.inside.encoder.room c.take_row.new.encoder.room row.head asked.1.0
-    row.rows row.text (has.text opened)))))
-
-pub returns-in_err-end_epoch-clause-serves : goal.returns-in_err-end_epoch-clause-serves
-returns-in_err-end_epoch-clause-serves c = λ choices is. served-closed _ _ _
-    (row-closed c.in_ok-is_last.ensures.written c.if-not-is_last.false)
-
 pub invariant_of-self-2 : goal.invariant_of-self-2
 invariant_of-self-2 c = closed-together _ _ (row-closed c.in_ok-is_last.ensures.written
     c.if-not-is_last.false) c.end_epoch.ensures.closed c.end_epoch.ensures.rows
@@ -65,7 +37,7 @@ invariant_of-self-2 c = closed-together _ _ (row-closed c.in_ok-is_last.ensures.
 pub returns-clause-reads : goal.returns-clause-reads
 returns-clause-reads c =
     let opened = rw (← c.self.view_is) at c.requires.open in
-    let ended = c.in_ok-end_epoch.ensures in
+    let ended = c.end_epoch.ensures in
     let row = c.in_ok-is_last.ensures.written in
     rw (← c.self.view_is, ← c.bytes.ensures.content) (ended-read (row-ends row _ c.if-not-is_last.false)
     c.take_row.new.encoder c.end_epoch.new.encoder

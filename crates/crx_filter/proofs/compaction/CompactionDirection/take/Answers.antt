@@ -1,11 +1,9 @@
-use Rattle.crx_filter.proofs.Words.{common_steps, None, arith, false≢true, ap, sym, refl, ◌∙◌, is_open_stage}
+use Rattle.crx_filter.proofs.Words.{common_steps, None, arith, ap, sym, refl, ◌∙◌, is_open_stage}
 use Rattle.crx_filter.proofs.{Words.{Choices, is_at_every}, steps.CompactionSteps.{ended-read, event-closed}}
-use Rattle.crx_filter.proofs.steps.CompactionSteps.{event-read, header-read, lost-read, moved-read, of-event}
+use Rattle.crx_filter.proofs.steps.CompactionSteps.{event-read, header-read, moved-read, of-event}
 use Rattle.crx_filter.proofs.steps.{CompactionSteps.refused-read, Together.{begun-asked, begun-open}}
 use Rattle.crx_filter.proofs.steps.Together.{begun-rows, begun-together, begun-whole, closed-together}
 use Rattle.crx_filter.proofs.steps.Together.{none-there, same-together, served-closed, served-open}
-use Rattle.crx_filter.proofs.steps.RoomSteps.{empty-text}
-use Rattle.std.proofs.lemmas.Result.{err_from_is_err_and}
 use Rattle.crx_compact.specs.Encoding.{EncoderState}
 use Rattle.crx_filter.proofs.compaction.CompactionDirection.take.Goals as goal
 
@@ -63,48 +61,17 @@ end_epoch-requires c =
     (sym c.is_in_epoch.ensures.value ∙ c.if-is_in_epoch.false) in
     record { «open» = asked.0; whole = asked.1.0; begun = asked.1.1 }
 
-pub invariant_of-self-in_err-end_epoch-in-Begun : goal.invariant_of-self-in_err-end_epoch-in-Begun
-invariant_of-self-in_err-end_epoch-in-Begun c = closed-together _ _
-    (sym c.is_in_epoch.ensures.value ∙ c.if-is_in_epoch.false) c.end_epoch.ensures.closed
-    c.end_epoch.ensures.rows
-
-pub returns-in_err-end_epoch-in-Begun-clause-reads : goal.returns-in_err-end_epoch-in-Begun-clause-reads
-returns-in_err-end_epoch-in-Begun-clause-reads c =
-    let p = err_from_is_err_and c.from_residual-in_err-end_epoch-in-Begun.result
-    c.from_residual-in_err-end_epoch-in-Begun.ensures.1 in
-    let begins = rw c.in-Begun.is at (c.in_ok-take.ensures.takes
-    (record { index = c.self.inside.index; tail = c.self.inside.encoder.before })) in
-    let ended = c.in_err-end_epoch-in-Begun.ensures in
-    rw (← c.self.view_is, p.1, p.2, ended.memory, ← c.bytes.ensures.content) (lost-read (begun-whole _ _
-    _ _ begins (sym c.is_in_epoch.ensures.value ∙ c.if-is_in_epoch.false)) refl ended.forgotten)
-
-pub returns-in_err-end_epoch-in-Begun-clause-serves : goal.returns-in_err-end_epoch-in-Begun-clause-serves
-returns-in_err-end_epoch-in-Begun-clause-serves c = served-closed _ _ _
-    (sym c.is_in_epoch.ensures.value ∙ c.if-is_in_epoch.false)
-
-pub returns-in_err-end_epoch-in-Begun-clause-known : goal.returns-in_err-end_epoch-in-Begun-clause-known
-returns-in_err-end_epoch-in-Begun-clause-known c =
-    let closed = rw (← c.self.view_is) at c.requires.closed in
-    let begins = rw c.in-Begun.is at (c.in_ok-take.ensures.takes (record { index = 0; tail = None })) in
-    let begun = c.begin.ensures.begun in
-    let asked = begun-asked c.self.inside.encoder begins begun
-    (sym c.is_in_epoch.ensures.value ∙ c.if-is_in_epoch.false) in
-    rw (← c.self.view_is) (λ has. absurd (false≢true (c.in_err-end_epoch-in-Begun.ensures.known (empty-text
-    c.take.new.self.head c.begin.new.self.rows c.self.inside.encoder.room c.begin.new.self.room asked.1.0
-    (ap (λ (e : EncoderState). e.rows) begun) (has.empty closed)
-    (ap (λ (e : EncoderState). e.room.text) begun)))))
-
 pub invariant_of-self-in-Begun : goal.invariant_of-self-in-Begun
 invariant_of-self-in-Begun c = closed-together _ _
     (sym c.is_in_epoch.ensures.value ∙ c.if-is_in_epoch.false) c.end_epoch.ensures.closed
     c.end_epoch.ensures.rows
 
-pub returns-in_ok-end_epoch-in-Begun-clause-reads : goal.returns-in_ok-end_epoch-in-Begun-clause-reads
-returns-in_ok-end_epoch-in-Begun-clause-reads c =
+pub returns-else-is_in_epoch-clause-reads : goal.returns-else-is_in_epoch-clause-reads
+returns-else-is_in_epoch-clause-reads c =
     let begins = rw c.in-Begun.is at (c.in_ok-take.ensures.takes
     (record { index = c.self.inside.index; tail = c.self.inside.encoder.before })) in
     let begun = c.begin.ensures.begun in
-    let ended = c.in_ok-end_epoch-in-Begun.ensures in
+    let ended = c.end_epoch.ensures in
     rw (← c.self.view_is, ← c.bytes.ensures.content) (ended-read (begun-whole _ _ _ _ begins
     (sym c.is_in_epoch.ensures.value ∙ c.if-is_in_epoch.false)) c.begin.new.self c.end_epoch.new.encoder
     (λ choices chosen. ap (λ (e : EncoderState). e.in_full) begun ∙ c.is_at_every.ensures
@@ -113,8 +80,8 @@ returns-in_ok-end_epoch-in-Begun-clause-reads c =
     (ap (λ (e : EncoderState). e.before) begun) (begun-rows c.self.inside.encoder begins begun) ended.lines
     ended.before)
 
-pub returns-in_ok-end_epoch-in-Begun-clause-serves : goal.returns-in_ok-end_epoch-in-Begun-clause-serves
-returns-in_ok-end_epoch-in-Begun-clause-serves c = served-closed _ _ _
+pub returns-else-is_in_epoch-clause-serves : goal.returns-else-is_in_epoch-clause-serves
+returns-else-is_in_epoch-clause-serves c = served-closed _ _ _
     (sym c.is_in_epoch.ensures.value ∙ c.if-is_in_epoch.false)
 
 pub invariant_of-self-then-is_first : goal.invariant_of-self-then-is_first
