@@ -1,8 +1,8 @@
 -- Each identifier has an index of its own.
 use Rattle.std.proofs.Common.{◌≡◌, ◌≤◌, ◌<◌, ◌+◌, ◌*◌, ◌-◌, ◌⊎◌, ℕ, Bool, true, false, List, [], ◌∷◌}
-use Rattle.std.proofs.Common.{zero, suc, length, get_or, set, replicate, refl, sym, arith, ◌∙◌, ◌||◌, ◌==◌}
+use Rattle.std.proofs.Common.{zero, suc, length, get_or, map, set, replicate, refl, sym, arith, ◌∙◌, ◌||◌, ◌==◌}
 use Rattle.std.proofs.lemmas.{Bool.{and_parts, eqb-true, false≢true}, Grind.common_steps, Slice.Eq.bytes_eq-Decides}
-use Rattle.std.proofs.lemmas.List.{get_or-set_same, get_or-set_other}
+use Rattle.std.proofs.lemmas.List.{get_or-set_same, get_or-set_other, length-map, map-set}
 use Rattle.std.specs.{Char.is_ascii_digit, Str.bytes_eq}
 use Rattle.crx_header.specs.Identifiers.{has_identifier, index_of, tens_of}
 use Rattle.crx_header.specs.declared.identifiers.TheConstants.{FIRST_LETTER, LETTERS, TENS, UNITS}
@@ -89,12 +89,25 @@ index-within name e =
 
 -- ---- what a table has
 
-pub none-there : (count k : ℕ) → get_or (replicate count false) k false ≡ false
-none-there zero k = refl
-none-there (suc count) zero = refl
-none-there (suc count) (suc k) = none-there count k
+pub zeros : (count k : ℕ) → get_or (replicate {A = ℕ} count 0) k 0 ≡ zero
+zeros zero k = refl
+zeros (suc count) zero = refl
+zeros (suc count) (suc k) = zeros count k
 
-pub put-there : (table : List Bool) (name other : List ℕ) → length table ≡ LETTERS * TENS * UNITS
+not-same : (r round : ℕ) → r < round → (r == round) ≡ false
+not-same r round e = grind (arith, common_steps)
+
+same-round : (round : ℕ) → (round == round) ≡ true
+same-round round = grind (arith, common_steps)
+
+-- in a round that is later than all of its places, a table has none
+pub none-there : (rounds : List ℕ) (round : ℕ) → ((k : ℕ) → get_or rounds k 0 < round) → (k : ℕ)
+    → get_or (map (λ (r : ℕ). r == round) rounds) k false ≡ false
+none-there [] round before k = refl
+none-there (r ∷ rounds) round before zero = not-same r round (before zero)
+none-there (r ∷ rounds) round before (suc k) = none-there rounds round (λ j. before (suc j)) k
+
+put-there : (table : List Bool) (name other : List ℕ) → length table ≡ LETTERS * TENS * UNITS
     → is_identifier name ≡ true → is_identifier other ≡ true
     → has_identifier (set table (index_of name) true) other
     ≡ (bytes_eq name other || has_identifier table other)
@@ -106,3 +119,12 @@ put-there table name other long e f = decided (bytes_eq name other) refl
         (rw (long) (index-within name e)))
     decided false is = get_or-set_other table (index_of name) (index_of other) true false
         (λ same. false≢true (sym is ∙ (bytes_eq-Decides name other).1 (index-apart name other e f (sym same))))
+
+-- a round is noted at the place of an identifier
+pub noted : (rounds : List ℕ) (round : ℕ) (name other : List ℕ) → length rounds ≡ LETTERS * TENS * UNITS
+    → is_identifier name ≡ true → is_identifier other ≡ true
+    → has_identifier (map (λ (r : ℕ). r == round) (set rounds (index_of name) round)) other
+    ≡ (bytes_eq name other || has_identifier (map (λ (r : ℕ). r == round) rounds) other)
+noted rounds round name other long e f =
+    rw (map-set (λ (r : ℕ). r == round) rounds (index_of name) round, same-round round)
+    (put-there (map (λ (r : ℕ). r == round) rounds) name other (length-map rounds (λ (r : ℕ). r == round) ∙ long) e f)

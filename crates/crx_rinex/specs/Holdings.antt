@@ -35,7 +35,8 @@ row_buffer_with one other = record one {
 -- identifiers, with the parts of another
 abbrev pub identifiers_with : IdentifiersInside → IdentifiersInside → IdentifiersInside
 identifiers_with one other = record one {
-  have_come = other.have_come;
+  rounds = other.rounds;
+  round = other.round;
 }
 
 -- an epoch line, with the parts of another
