@@ -1,6 +1,6 @@
 //! Rows to compact lines, one at a time, by the history, which they change in place: Hatanaka's Compact RINEX 3.0.
 
-ghost use Rattle.std.specs.Prelude.{◌≡◌, ◌≤◌, ◌<◌, ◌+◌, ◌*◌, ◌++◌, ◌∷◌, ◌↔◌, [], None, Some, true, false, not, length, drop, slice_get, IsTrue, IfOk, IsOk, OnOk, OnErr};
+ghost use Rattle.std.specs.Prelude.{◌≡◌, ◌≤◌, ◌<◌, ◌+◌, ◌*◌, ◌++◌, ◌∷◌, ◌↔◌, [], None, Some, true, false, not, length, drop, slice_get, IsTrue, IfOk, IsOk, OnErr};
 ghost use Rattle.crx_base.specs.declared.limits.TheConstants.{DATE_LIMIT};
 ghost use Rattle.crx_header.specs.meaning.CompactHeader.{lines_before_header};
 ghost use Rattle.crx_rinex.specs.meaning.Epochs.{has_satellite};

@@ -35,7 +35,7 @@ counts-well line = by_types (is_types_line line) refl (count_in line) refl
     by_types false is o e h = false-true h
 
 -- a header line, by its fault
-header-takes : {E : Type 0} (takes : ℕ → Bool → Bool) (items : List (Item E)) (is_first : Bool)
+header-takes : {E : Type 0} (takes : ℕ → Bool) (items : List (Item E)) (is_first : Bool)
     (line : List ℕ) → (are_lacking (types_in_force items) && (is_some (count_of_types_line line) && is_none
     (header_line_fault is_first line))) ≡ true
     → place_takes takes items 0 (first_line (Content line ∷ []) (header_line is_first)) ≡ true
@@ -51,7 +51,7 @@ header-takes {E = E} takes items is_first line h =
     by_fault (Some fault) e l h = false-true (and_parts (is_some (count_of_types_line line)) false h).1
 
 -- a record of an event
-record-takes : {E : Type 0} (takes : ℕ → Bool → Bool) (items : List (Item E)) (line : List ℕ)
+record-takes : {E : Type 0} (takes : ℕ → Bool) (items : List (Item E)) (line : List ℕ)
     → (are_lacking (types_in_force items) && (records_count_types items && is_some (count_of_types_line line)))
     ≡ true → place_takes takes items 0
     (first_line (Content line ∷ []) (event_record (records_count_types items))) ≡ true
@@ -67,7 +67,7 @@ record-takes {E = E} takes items line h =
 -- may begin, and in an epoch
 pub record TakesAsItStands {E U O K : Type 0} (beginning : List (Item E) → List ReadLine → Place (FileUnit E))
     (direction : Direction U O K) (open_with : List (Item E) → List ReadLine → Option O)
-    (kept_of : List (Item E) → K) (takes : ℕ → Bool → Bool) : Type 0 where
+    (kept_of : List (Item E) → K) (takes : ℕ → Bool) : Type 0 where
   pub first : (items : List (Item E)) (line : List ℕ) → is_event_line line ≡ false
       → direction.memory_first (types_in_force items) (kept_of items) line ≡ true
       → place_takes takes items 0 (beginning items (Content line ∷ [])) ≡ true
@@ -79,7 +79,7 @@ module _ {E U O K : Type 0} {beginning : List (Item E) → List ReadLine → Pla
     {direction : Direction U O K} {open_with : List (Item E) → List ReadLine → Option O}
     {kept_of : List (Item E) → K} {unit_lines : List (Item E) → FileUnit E → List (List ℕ)}
     {choices : Choices} (h : IsCarriedOut beginning direction open_with kept_of unit_lines choices)
-    {takes : ℕ → Bool → Bool} (t : TakesAsItStands beginning direction open_with kept_of takes) where
+    {takes : ℕ → Bool} (t : TakesAsItStands beginning direction open_with kept_of takes) where
   -- whether memory may run out in a phase
   abbrev taken_in : List (Item E) → ReadLine → Phase O → Bool
   taken_in items line phase = may_take_memory (types_in_force items) (direction.memory_first

@@ -1,6 +1,6 @@
 -- The memory that an expansion takes, by what is at its lines.
 use Rattle.crx_filter.proofs
-use proofs.Words.{common_steps, ℕ, ◌≡◌, Bool, true, false, List, [], ◌∷◌, length, Option, Some, None}
+use proofs.Words.{common_steps, ℕ, ◌≡◌, true, false, List, [], ◌∷◌, length, Option, Some, None}
 use proofs.Words.{refl, ReadLine, Content, Overlong, ReadEpoch}
 use proofs.Words.{OpenRawEpoch, RawStep, first_step, Tail}
 use proofs.Words.{Choices, Item, types_in_force, place_takes, compact_open, expansion}
@@ -17,19 +17,16 @@ use proofs.{reading.Stopping.reading-stopped, steps.EngineAnswers.comes-again}
 
 -- a step without a fault takes memory, where its line does
 step-takes : (choices : Choices) (items : List (Item ReadEpoch)) (lines : List ReadLine) (count : ℕ)
-    (step : RawStep) → ((is_whole : Bool) → expansion_takes count is_whole ≡ true) → is_faulty step ≡ false
+    (step : RawStep) → expansion_takes count ≡ true → is_faulty step ≡ false
     → Agrees choices items lines (made_of_raw_step step)
     → place_takes expansion_takes items count (compact_beginning items lines) ≡ true
 step-takes choices items lines count step takes fine a = grind (arith, common_steps)
-
-takes-always : (is_whole : Bool) → expansion_takes 0 is_whole ≡ true
-takes-always is_whole = refl
 
 pub expansion-takes : (choices : Choices)
     → TakesAsItStands compact_beginning expansion compact_open tail_of_items expansion_takes
 expansion-takes choices = record {
   first = λ items line other good. step-takes choices items (Content line ∷ []) 0
-      (first_step (types_in_force items) (tail_of_items items) (Content line)) takes-always
+      (first_step (types_in_force items) (tail_of_items items) (Content line)) refl
       (not-true (is_faulty (first_step (types_in_force items) (tail_of_items items) (Content line))) good)
       (agree-content choices items line false other);
   next = λ items lines line so_far opens good. false-true good;

@@ -24,18 +24,18 @@ fine-row so_far v1 e = grind (arith, false-true)
 
 module _ {K : Type 0} (direction : Direction Epoch OpenEpoch K) (kept_of : List (Item Epoch) → K)
     (unit_lines : List (Item Epoch) → FileUnit Epoch → List (List ℕ)) (choices : Choices)
-    (items : List (Item Epoch)) (lines : List ReadLine) (takes : ℕ → Bool → Bool) where
-  step-takes : (count : ℕ) → ((is_whole : Bool) → takes count is_whole ≡ true) → (step : EpochStep)
+    (items : List (Item Epoch)) (lines : List ReadLine) (takes : ℕ → Bool) where
+  step-takes : (count : ℕ) → takes count ≡ true → (step : EpochStep)
       → is_fine step ≡ true → AgreeOn rinex_beginning direction rinex_open kept_of unit_lines choices items
       lines (made_of_epoch_step step) → place_takes takes items count (rinex_beginning items lines) ≡ true
   step-takes count sure e h a = grind (arith, common_steps, place_takes, false-true)
 
 -- an epoch's line is before it
-after-first : (takes : ℕ → Bool → Bool) → ((count : ℕ) (is_whole : Bool) → takes (suc count) is_whole ≡ true)
+after-first : (takes : ℕ → Bool) → ((count : ℕ) → takes (suc count) ≡ true)
     → (items : List (Item Epoch)) (lines : List ReadLine) (so_far : OpenEpoch) → rinex_open items lines
-    ≡ Some so_far → (is_whole : Bool) → takes (length lines) is_whole ≡ true
-after-first takes sure items [] so_far opens is_whole = absurd (none-some so_far opens)
-after-first takes sure items (line ∷ lines) so_far opens is_whole = sure (length lines) is_whole
+    ≡ Some so_far → takes (length lines) ≡ true
+after-first takes sure items [] so_far opens = absurd (none-some so_far opens)
+after-first takes sure items (line ∷ lines) so_far opens = sure (length lines)
 
 -- ---- both
 
@@ -45,7 +45,7 @@ compaction-takes choices = record {
   first = λ items line other good. false-true good;
   next = λ items lines line so_far opens good. step-takes compaction (written_of choices.every)
       (compact_unit choices) choices items (lines ++ Content line ∷ []) compaction_takes
-      (length lines) (after-first compaction_takes (λ count is_whole. refl) items lines so_far opens)
+      (length lines) (after-first compaction_takes (λ count. refl) items lines so_far opens)
       (epoch_step so_far (Content line)) (fine-row so_far (next_row so_far line) good)
       ((compaction-carried_out choices).continues items lines (Content line) so_far opens);
 }
