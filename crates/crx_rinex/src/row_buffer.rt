@@ -1,10 +1,10 @@
 //! The row of the satellite line that was read last, in memory that is used again. RINEX 3.05, table A3.
 
-ghost use Rattle.std.specs.Prelude.{◌≡◌, ◌≤◌, ◌*◌, length, take, Ok, Err, OnOk, IfErr};
+ghost use Rattle.std.specs.Prelude.{◌≡◌, ◌≤◌, ◌*◌, codes, length, take, Ok, Err, OnOk, IfErr};
 ghost use Rattle.crx_base.specs.declared.limits.TheConstants.{NAME_WIDTH, TYPES_LIMIT};
 ghost use Rattle.crx_rinex.specs.meaning.Observations.{observations_of};
 ghost use Rattle.crx_rinex.specs.meaning.Printing.{printed_row};
-ghost use Rattle.crx_rinex.specs.SatelliteLines.{row_by_cells, IsRowOf};
+ghost use Rattle.crx_rinex.specs.SatelliteLines.{blank_row, row_by_cells, IsRowOf};
 ghost use Rattle.crx_rinex.specs.meaning.SatelliteLines.{row_of, IsSoundRow};
 
 use crate::satellite_row::{print_row, read_cells};
@@ -39,7 +39,9 @@ impl Model for RowBuffer {
 
 impl RowBuffer {
     /// A buffer before the first line: it has the row of a satellite with one type, whose value is missing.
-    pub fn new() -> RowBuffer {
+    pub fn new() -> RowBuffer
+        ensures value { result ≡ blank_row (codes "G01") 1 }
+    {
         RowBuffer {
             name: *b"G01",
             count: 1,
