@@ -114,6 +114,8 @@ pub fn open_file<H: Files>(files: &H, name: &str) -> io::Result<Std<Uninterrupte
     ensures unread { IfOk result (λ device. device.is_unread ≡ true) }
     ensures failures { IfOk result (λ device. device.failures ≡ 0) }
     ensures ends { IfOk result (λ device. device.ends ≡ 0) }
+    ensures flushed { IfOk result (λ device. device.flushed ≡ false) }
+    ensures flushes { IfOk result (λ device. device.flushes ≡ 0) }
 {
     let file = fs::open(files, name)?;
     Ok(Std {
