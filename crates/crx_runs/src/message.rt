@@ -1,12 +1,12 @@
 //! Messages about faults.
 
-ghost use Rattle.std.specs.Prelude.{◌≡◌, ◌≤◌, ◌+◌, ◌++◌, [], length};
+ghost use Rattle.std.specs.Prelude.{◌≡◌, ◌≤◌, ◌+◌, ◌++◌, drop, length};
 ghost use Rattle.crx_runs.specs.meaning.Messages.{message_text};
 ghost use Rattle.crx_runs.specs.Severities.{word_of};
 ghost use Rattle.crx_runs.specs.declared.message.TheConstants.{MESSAGE_LIMIT};
 
 use crx_base::At;
-use itoa::Buffer;
+use itoa::write_digits;
 use std::marker::Model;
 
 /// How many bytes a message has at most.
@@ -21,61 +21,61 @@ pub enum Severity {
     Warning,
 }
 
-/// A message, held in place. It is small, since it is set to zero and moved for each fault that is skipped.
+/// A message, held in place: it ends where the place ends.
 #[derive(Drop)]
 pub struct MessageLine {
     bytes: [u8; MESSAGE_LIMIT],
-    len: usize,
+    start: usize,
 }
 
 impl Model for MessageLine {
-    ghost use Rattle.std.specs.Prelude.{ℕ, List, ◌≤◌, take};
+    ghost use Rattle.std.specs.Prelude.{ℕ, List, ◌≤◌, drop};
     ghost use Rattle.crx_runs.specs.declared.message.TheConstants.{MESSAGE_LIMIT};
 
     ghost Value = { List ℕ };
 
-    ghost view = { λ message. take message.len message.bytes };
+    ghost view = { λ message. drop message.start message.bytes };
 
-    ghost invariant = { λ message. message.len ≤ MESSAGE_LIMIT };
+    ghost invariant = { λ message. message.start ≤ MESSAGE_LIMIT };
 }
 
 impl MessageLine {
-    /// Appends bytes that fit.
-    fn append(&mut self, bytes: &[u8])
-        requires { length self.old + length bytes.now ≤ MESSAGE_LIMIT }
-        ensures { self.new ≡ self.old ++ bytes.now }
-    {
-        let end = self.len + bytes.len();
-        self.bytes[self.len..end].copy_from_slice(bytes);
-        self.len = end;
-    }
-
     /// The bytes of the message.
     pub fn bytes(&self) -> &[u8]
         ensures value { result.now ≡ self.now }
     {
-        &self.bytes[..self.len]
+        &self.bytes[self.start..]
     }
 }
 
-/// The line of a fault, as `ERROR line 7 code 18: bad indicator`, with its LF. It takes no memory.
+/// Writes a text so that it ends at `end`, and returns where it starts.
+#[inline(always)]
+fn put_before(text: &[u8], bytes: &mut [u8; MESSAGE_LIMIT], end: usize) -> usize
+    requires { (length text.now ≤ end) × (end ≤ MESSAGE_LIMIT) }
+    ensures start { result + length text.now ≡ end }
+    ensures written { drop result bytes.new ≡ text.now ++ drop end bytes.old }
+{
+    let start = end - text.len();
+    bytes[start..end].copy_from_slice(text);
+    start
+}
+
+/// The line of a fault, as `ERROR line 7 code 18: bad indicator`, with its LF. It takes no memory. It is written from its end to its front,
+/// so that a number's digits are written where they stay.
 pub fn message(severity: Severity, at: At) -> MessageLine
     ensures value { result ≡ message_text (word_of severity) at }
 {
-    let mut message = MessageLine {
-        bytes: [0; MESSAGE_LIMIT],
-        len: 0,
-    };
+    let mut bytes = [0; MESSAGE_LIMIT];
+    let mut start = put_before(b"\n", &mut bytes, MESSAGE_LIMIT);
+    start = put_before(at.fault.words().as_bytes(), &mut bytes, start);
+    start = put_before(b": ", &mut bytes, start);
+    start = write_digits(u64::from(at.fault.code()), &mut bytes, start);
+    start = put_before(b" code ", &mut bytes, start);
+    start = write_digits(at.line, &mut bytes, start);
     // A text of constant length is copied without a call.
-    match severity {
-        Severity::Error => message.append(b"ERROR line "),
-        Severity::Warning => message.append(b"WARNING line "),
-    }
-    message.append(Buffer::new().format(at.line).as_bytes());
-    message.append(b" code ");
-    message.append(Buffer::new().format(at.fault.code()).as_bytes());
-    message.append(b": ");
-    message.append(at.fault.words().as_bytes());
-    message.append(b"\n");
-    message
+    start = match severity {
+        Severity::Error => put_before(b"ERROR line ", &mut bytes, start),
+        Severity::Warning => put_before(b"WARNING line ", &mut bytes, start),
+    };
+    MessageLine { bytes, start }
 }
