@@ -1,6 +1,6 @@
 //! One line of the input, through an engine to the writer and the messages.
 
-ghost use Rattle.std.specs.Prelude.{◌≡◌, ◌≤◌, List, [], IfOk, IfErr, OnOk, true};
+ghost use Rattle.std.specs.Prelude.{◌≡◌, ◌≤◌, List, [], ◌∷◌, None, IfOk, IfErr, OnOk, true};
 ghost use Rattle.crx_base.specs.meaning.Lines.{InputLine, is_long};
 ghost use Rattle.crx_lines.specs.Reading.{line_shown, line_number};
 ghost use Rattle.crx_base.specs.declared.fault.At.{At};
@@ -12,10 +12,10 @@ ghost use Rattle.crx_runs.specs.Taking.{AnswerIsDone, HasAnswered, HoldsAnswer, 
 ghost use Rattle.crx_runs.specs.meaning.Spans.{span};
 
 use crate::engine::{Engine, HandedOut, Step};
-use crate::message::{Severity, message};
+use crate::message::{Severity, write_message};
 use crate::ready_lines::{write_handed_out, write_ready};
 use crx_base::At;
-use crx_lines::{Line, Sink, write_all_counted};
+use crx_lines::{Line, Sink};
 
 /// What ended a run.
 #[derive(Clone, Copy, Debug, PartialEq, Eq)]
@@ -45,6 +45,18 @@ pub(crate) enum Taken<'a> {
     Overlong(u64),
 }
 
+/// Reports a warning, and answers that there was one. The writer is there for the contract alone: nothing is written to it.
+#[inline(always)]
+fn warn<W: Sink, M: Sink>(_writer: &W, messages: &mut M, notice: At) -> Result<bool, Halt>
+    ensures { IsSettled (span W.Sink _writer.now _writer.now) (span M.Sink messages.old messages.new)
+        (record { output = []; warnings = notice ∷ []; fault = None }) result }
+{
+    match write_message(messages, Severity::Warning, notice) {
+        Ok(()) => Ok(true),
+        Err(_) => Err(Halt::Unreported),
+    }
+}
+
 /// Writes what a step made ready, or reports its warning; whether it was a warning.
 #[inline(never)]
 fn carry_out<E: Engine, W: Sink, M: Sink>(
@@ -66,12 +78,7 @@ fn carry_out<E: Engine, W: Sink, M: Sink>(
             Ok(()) => Ok(false),
             Err(_) => Err(Halt::Unwritten),
         },
-        Step::Warned { notice, .. } => {
-            match write_all_counted(messages, message(Severity::Warning, notice).bytes()) {
-                Ok(()) => Ok(true),
-                Err(_) => Err(Halt::Unreported),
-            }
-        }
+        Step::Warned { notice, .. } => warn(writer, messages, notice),
     }
 }
 
@@ -164,9 +171,35 @@ pub fn take_line<E: Engine, W: Sink, M: Sink>(
 }
 
 /// Does what an engine answered to a line with a fault, which is given in its parts. In [`take_line`] the places for the answer and for the
-/// line would be cleared for each line.
+/// line would be cleared for each line. Mostly it is a warning, after which reading goes on at the next line.
 #[inline(never)]
 fn take_by_answer<E: Engine, W: Sink, M: Sink>(
+    engine: &mut E,
+    writer: &mut W,
+    messages: &mut M,
+    content: &[u8],
+    number: u64,
+    is_plain: bool,
+) -> Result<bool, Halt>
+    requires { HoldsAnswer E.Engine engine.old content.now number is_plain }
+    ensures { AnswerIsDone E.Engine engine.old engine.new content.now is_plain
+        (span W.Sink writer.old writer.new) (span M.Sink messages.old messages.new) result }
+{
+    if let Ok(
+        Step::Warned {
+            notice,
+            again: false,
+        },
+    ) = engine.answer()
+    {
+        return warn(writer, messages, notice);
+    }
+    take_other_answer(engine, writer, messages, content, number, is_plain)
+}
+
+/// Does the same with each answer. In [`take_by_answer`] the places for it and for the line would be cleared for each warning.
+#[inline(never)]
+fn take_other_answer<E: Engine, W: Sink, M: Sink>(
     engine: &mut E,
     writer: &mut W,
     messages: &mut M,

@@ -1,15 +1,17 @@
-use Rattle.std.proofs.Common.{◌≡◌, subst, sym}
-use Rattle.crx_base.specs.meaning.Lines.{InputLine}
-use Rattle.crx_runs.specs.Taking.{HasAnswered, LineIsTaken}
-use Rattle.crx_runs.specs.meaning.Spans.{span}
+use Rattle.std.proofs.lemmas.Grind.{common_steps}
+use Rattle.std.proofs.Common.{◌≡◌, false, Ok, subst, arith}
+use Rattle.crx_runs.proofs.LinesTaken.{line-settled}
+use Rattle.crx_runs.specs.Taking.{HasAnswered, IsLine, KeepsLines}
+use Rattle.crx_runs.specs.declared.engine.Step.TheVariants.{Warned}
 use Rattle.crx_runs.proofs.one_line.take_by_answer.Goals as goal
 
-pub returns : goal.returns
-returns g c = λ before answered.
-    subst (λ shown. LineIsTaken g.E.Engine before c.take_answered.new.engine (λ l. l ≡ shown)
-    (span g.W.Sink c.args.writer.now c.take_answered.new.writer)
-    (span g.M.Sink c.args.messages.now c.take_answered.new.messages) c.take_answered.result)
-    c.of-line.ensures.shown (c.take_answered.ensures before (subst (λ (shown : InputLine). HasAnswered
-    g.E.Engine before c.args.engine.now (λ l. l ≡ shown) (g.E.Engine.ready c.args.engine.now)
-    c.answer-answer.result) (sym c.of-line.ensures.shown) (subst (HasAnswered g.E.Engine before
-    c.args.engine.now _ _) (sym c.answer-answer.ensures.value) answered)))
+pub returns-in-Ok-Warned-default-false : goal.returns-in-Ok-Warned-default-false
+returns-in-Ok-Warned-default-false g c = λ before answered.
+    let now = c.args.engine.now in
+    let notice = c.in-Ok-Warned-default-false.notice in
+    let is : g.E.Engine.answer now ≡ Ok (Warned notice false) = grind (arith, common_steps) in
+    let a : HasAnswered g.E.Engine before now (IsLine c.args.content.now c.args.is_plain) (g.E.Engine.ready now)
+    (Ok (Warned notice false)) = subst (HasAnswered g.E.Engine before now _ _) is answered in
+    let kept : KeepsLines g.E.Engine now now = search in
+    line-settled g.E.Engine (Warned notice false) now _ _ c.warn.result a tt kept (grind arith) (rw (a.drained)
+    c.warn.ensures)
