@@ -10,8 +10,9 @@ returns-in-Ok-Warned-default-false g c = λ before answered.
     let now = c.args.engine.now in
     let notice = c.in-Ok-Warned-default-false.notice in
     let is : g.E.Engine.answer now ≡ Ok (Warned notice false) = grind (arith, common_steps) in
-    let a : HasAnswered g.E.Engine before now (IsLine c.args.content.now c.args.is_plain) (g.E.Engine.ready now)
-    (Ok (Warned notice false)) = subst (HasAnswered g.E.Engine before now _ _) is answered in
+    let line = IsLine c.args.content.now c.args.is_plain in
+    let a : HasAnswered g.E.Engine before now line (g.E.Engine.ready now) (Ok (Warned notice false)) =
+    subst (HasAnswered g.E.Engine before now _ _) is answered in
     let kept : KeepsLines g.E.Engine now now = search in
-    line-settled g.E.Engine (Warned notice false) now _ _ c.warn.result a tt kept (grind arith) (rw (a.drained)
-    c.warn.ensures)
+    line-settled g.E.Engine (Warned notice false) now _ _ c.warn.result a tt kept (grind arith)
+    (rw (a.drained) c.warn.ensures)
