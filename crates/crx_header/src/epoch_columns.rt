@@ -1,8 +1,10 @@
 //! The columns of an epoch line before the clock: its flag and its count. RINEX 3.05, table A3, EPOCH record.
 
-ghost use Rattle.std.specs.Prelude.{◌≡◌, ◌≤◌, IfSome};
+ghost use Rattle.std.specs.Prelude.{◌≡◌, ◌≤◌, None, IfSome, if◌then◌else◌};
+ghost use Rattle.std.specs.List.{list_all};
 ghost use Rattle.crx_base.specs.declared.limits.TheConstants.{SATELLITES_LIMIT};
-ghost use Rattle.crx_header.specs.meaning.EpochColumns.{begins_epoch, epoch_count, is_event_flag, is_event_line, records_in};
+ghost use Rattle.crx_text.specs.meaning.Texts.{is_kept};
+ghost use Rattle.crx_header.specs.meaning.EpochColumns.{begins_epoch, epoch_count, is_event_flag, is_event_line, is_observation_flag, records_in, satellites_in};
 
 use crate::columns::number;
 use crx_base::limits::SATELLITES_LIMIT;
@@ -42,14 +44,33 @@ pub fn records_in(line: &[u8]) -> Option<usize>
     }
 }
 
+/// Whether a flag in column 32 is that of an observation epoch: 0, or 1 for a power failure.
+#[inline(always)]
+pub fn is_observation_flag(flag: u8) -> bool
+    ensures value { result ≡ is_observation_flag flag }
+{
+    matches!(flag, b'0' | b'1')
+}
+
 /// How many satellites columns 1 to 41 announce, if they are those of an observation epoch: its flag in column 32 is 0, or 1 for a power
 /// failure, and the count in columns 33 to 35 is within the limit.
 pub fn satellites(columns: &[u8]) -> Option<usize>
     ensures value { result ≡ epoch_count columns.now }
     ensures within { IfSome result (λ count. count ≤ SATELLITES_LIMIT) }
 {
-    let is_observation = matches!(character(columns, 32), b'0' | b'1');
-    if !begins_epoch(columns) || !is_observation || !all_kept(columns) {
+    if !begins_epoch(columns) || !is_observation_flag(character(columns, 32)) {
+        return None;
+    }
+    satellites_by_count(columns)
+}
+
+/// How many satellites columns 1 to 41 announce, where they begin with `>` and have the flag of an observation epoch.
+#[inline(always)]
+pub fn satellites_by_count(columns: &[u8]) -> Option<usize>
+    ensures value { result ≡ (if list_all is_kept columns.now then satellites_in columns.now else None) }
+    ensures within { IfSome result (λ count. count ≤ SATELLITES_LIMIT) }
+{
+    if !all_kept(columns) {
         return None;
     }
     let count = number(columns, 33)?;

@@ -7,3 +7,4 @@ pub mod ReadingBack
 pub mod Rows
 pub mod SoundEpochs
 pub mod Copied
+pub mod HeadColumns

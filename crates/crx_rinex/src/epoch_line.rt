@@ -11,7 +11,9 @@ ghost use Rattle.crx_rinex.specs.Heads.{head_line};
 
 use crx_base::Fault;
 use crx_base::limits::{CLOCK_WIDTH, HEAD_WIDTH};
-use crx_header::epoch_columns::{is_event_flag, records_in, satellites};
+use crx_header::epoch_columns::{
+    is_event_flag, is_observation_flag, records_in, satellites, satellites_by_count,
+};
 use crx_header::{after_columns, all_blank, padded};
 use crx_text::clock_read;
 use crx_text::columns::character;
@@ -104,6 +106,7 @@ impl Head {
     /// 6, the count in columns 33 to 35 is none, or, in an observation epoch, columns 1 to 41 hold a character
     /// that may not be there or something is after column 56; then `BadClock` where columns 42 to 56
     /// hold neither blanks nor a number of format F15.12.
+    #[inline(always)]
     pub fn read(line: &[u8]) -> Result<Head, Fault>
         ensures value { MatchResult result
             (λ head. head_of line.now ≡ Ok (head_line head))
@@ -123,8 +126,12 @@ impl Head {
                 None => Err(Fault::BadEpoch),
             };
         }
+        // A line with another flag is refused before its columns are copied.
+        if !is_observation_flag(flag) {
+            return Err(Fault::BadEpoch);
+        }
         let head = padded(line, 1);
-        let Some(count) = satellites(&head) else {
+        let Some(count) = satellites_by_count(&head) else {
             return Err(Fault::BadEpoch);
         };
         if !all_blank(after_columns(line, HEAD_WIDTH + CLOCK_WIDTH)) {
