@@ -87,6 +87,7 @@ impl RinexReader {
     /// In the header: the faults of [`header_first`](crx_header::header_first) for the first line, then `BadTypesLine`. Among an event's
     /// records `BadTypesLine`, where types lines count. Where an epoch or an event may begin, the faults of [`Head::read`]. `OutOfMemory` comes
     /// only at a line without a fault, the first types line that counts. After a fault the reader is as it was.
+    #[inline(always)]
     pub fn take(&mut self, line: &[u8]) -> Result<RinexStep, Fault>
         requires running { is_ended self.old.stage ≡ false }
         requires closed { is_open_stage self.old.stage ≡ false }
