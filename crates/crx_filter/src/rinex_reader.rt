@@ -127,6 +127,7 @@ impl RinexReader {
     }
 
     /// Takes a line where an epoch or an event may begin.
+    #[inline(always)]
     fn begin(&mut self, line: &[u8]) -> Result<RinexStep, Fault>
         requires stage { (self.old.stage ≡ Stage.Between)
             ⊎ ((self.old.stage ≡ Stage.Looking) × (begins_epoch line.now ≡ true)) }
