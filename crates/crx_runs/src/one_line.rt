@@ -194,12 +194,12 @@ fn take_by_answer<E: Engine, W: Sink, M: Sink>(
     {
         return warn(writer, messages, notice);
     }
-    take_other_answer(engine, writer, messages, content, number, is_plain)
+    take_stored_answer(engine, writer, messages, content, number, is_plain)
 }
 
 /// Does the same with each answer. In [`take_by_answer`] the places for it and for the line would be cleared for each warning.
 #[inline(never)]
-fn take_other_answer<E: Engine, W: Sink, M: Sink>(
+fn take_stored_answer<E: Engine, W: Sink, M: Sink>(
     engine: &mut E,
     writer: &mut W,
     messages: &mut M,

@@ -2,7 +2,7 @@ use Rattle.std.proofs.Common.{◌≡◌, subst, sym}
 use Rattle.crx_base.specs.meaning.Lines.{InputLine}
 use Rattle.crx_runs.specs.Taking.{HasAnswered, LineIsTaken}
 use Rattle.crx_runs.specs.meaning.Spans.{span}
-use Rattle.crx_runs.proofs.one_line.take_other_answer.Goals as goal
+use Rattle.crx_runs.proofs.one_line.take_stored_answer.Goals as goal
 
 pub returns : goal.returns
 returns g c = λ before answered.
