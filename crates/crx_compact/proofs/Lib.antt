@@ -8,6 +8,7 @@ pub mod LineTexts
 pub mod Characters
 pub mod EncodingRooms
 pub mod EpochLines
+pub mod EpochTexts
 pub mod RowByRow
 pub mod ComeRows
 pub mod Writing

@@ -1,7 +1,9 @@
 -- The room that an epoch's lines need, by its satellites and by its rows.
-use Rattle.crx_compact.proofs.Words.{rules, sym, ◌∙◌, ap, subst, arith, ◌≡◌, ◌≤◌, ◌<◌, ◌+◌, refl, ℕ, List, []}
+use Rattle.crx_compact.proofs.Words.{rules, sym, ◌∙◌, ap, subst, arith, ◌≡◌, ◌≤◌, ◌<◌, ◌+◌, ◌*◌, refl, ℕ}
+use Rattle.crx_compact.proofs.Words.{List, []}
 use Rattle.crx_compact.proofs.Words.{◌∷◌, map, sum, length, Option, Some, Result, Ok, Err, All-head, All-tail}
-use Rattle.crx_compact.proofs.Words.{length-each_place, patched, LINE_LIMIT, Content, Fault, Count}
+use Rattle.crx_compact.proofs.Words.{length-each_place, length-map, patched, HEAD_WIDTH, NAME_WIDTH}
+use Rattle.crx_compact.proofs.Words.{LINE_LIMIT, Content, Fault, Count}
 use Rattle.crx_compact.proofs.Words.{past_of_tail, satellites_of_line, Satellite, and_then, before_clock}
 use Rattle.crx_compact.proofs.Words.{first_step, opened_raw, opening, tail_for_line, tail_opened, HasRoom}
 use Rattle.crx_compact.proofs.Words.{HaveTypesRoom, OpenHistory, padded, printed_room, cell_of_tail}
@@ -90,17 +92,19 @@ satellites-known types line before begun room rooms opened has same =
 
 pub text-known : (types : List Count) (line : List ℕ) (before : Tail) (begun : OpenRawEpoch)
     (room : ReadingRoom)
-    (held : ℕ) → IsOpened types line before begun → HasRoomFor begun room → room.text ≡ held
-    → length (patched before.text line) ≤ held
-text-known types line before begun room held opened has same = grind arith
+    (held : ℕ) (opened : IsOpened types line before begun) → HasRoomFor begun room → room.text ≡ held
+    → HEAD_WIDTH + NAME_WIDTH * length opened.satellites ≤ held
+text-known types line before begun room held opened has same =
+    let many = ap length opened.rows ∙ length-map opened.satellites (row_before before) in
+    omega (arith, has.text, many, same)
 
 -- what was read for has room
 pub room-for : (types : List Count) (line : List ℕ) (before : Tail) (begun : OpenRawEpoch)
     (opened : IsOpened types line before begun) (new : OpenHistory) (after : PrintedBlock)
-    → new.text ≡ patched before.text line → length new.text ≤ new.held_room
+    → HEAD_WIDTH + NAME_WIDTH * length new.satellites.rows ≤ new.held_room
     → HaveTypesRoom opened.satellites new.satellites.rooms → new.satellites.rows ≡ begun.rows
     → length new.satellites.rows < after.lines.all_lines
     → LINE_LIMIT + 1 + sum (map printed_room new.satellites.rows) ≤ after.lines.all_bytes
     → HasRoomReady begun (reading_room new after)
-room-for types line before begun opened new after made fits known rows lines bytes =
+room-for types line before begun opened new after fits known rows lines bytes =
     search (rules, cells-room)

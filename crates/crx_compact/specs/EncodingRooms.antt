@@ -8,8 +8,8 @@ use Rattle.crx_compact.specs.Placing.{KeepsRooms, OpenHistory, row_room}
 use Rattle.crx_rinex.specs.meaning.Observations.{Epoch, Row}
 
 -- so many types of each satellite that is known; a text of so many characters; so many compact lines of an epoch's rows,
--- of so many bytes with their LFs; how many of these lines and bytes the open epoch has left; and for how many lines and
--- bytes more memory is held
+-- of so many bytes with their LFs; how many of these lines and bytes the open epoch has left; for how many lines and bytes
+-- more memory is held; and how many bytes the rows of the open epoch claim, each as many as a line of its types may have
 pub record EncodingRoom : Type 0 where
   pub rooms : List (List ℕ × ℕ)
   pub text : ℕ
@@ -19,6 +19,7 @@ pub record EncodingRoom : Type 0 where
   pub free_bytes : ℕ
   pub spare_lines : ℕ
   pub spare_bytes : ℕ
+  pub claimed_bytes : ℕ
 
 -- the room of a history, and of the lines that are made after it
 abbrev pub encoding_room : OpenHistory → PendingLines → EncodingRoom
@@ -32,6 +33,7 @@ encoding_room history made =
       free_bytes = made.free_bytes;
       spare_lines = made.spare_lines;
       spare_bytes = made.spare_bytes;
+      claimed_bytes = made.claimed_bytes;
     }
 
 -- nothing is held
@@ -46,11 +48,12 @@ no_encoding_room =
       free_bytes = 0;
       spare_lines = 0;
       spare_bytes = 0;
+      claimed_bytes = 0;
     }
 
 -- all lines are dropped: whatever was ever asked for them is free
 abbrev pub all_free : EncodingRoom → EncodingRoom
-all_free room = record room { free_lines = room.lines; free_bytes = room.bytes }
+all_free room = record room { free_lines = room.lines; free_bytes = room.bytes; claimed_bytes = 0 }
 
 -- the lines have this room, in which none is pending
 abbrev pub with_lines : LinesRoom → EncodingRoom → EncodingRoom
@@ -62,6 +65,7 @@ with_lines lines room =
       free_bytes = lines.bytes;
       spare_lines = lines.spare_lines;
       spare_bytes = lines.spare_bytes;
+      claimed_bytes = 0;
     }
 
 -- the room of the lines, with so many in front
@@ -80,6 +84,7 @@ pub record HasRowRoom (row : Row) (room : EncodingRoom) : Type 0 where
   pub satellite : HasRoom row.name (length row.values) room.rooms
   pub line : 0 < room.free_lines + room.spare_lines
   pub bytes : row_room row ≤ room.free_bytes + room.spare_bytes
+  pub claim : room.claimed_bytes + row_room row ≤ room.bytes + room.spare_bytes
 
 -- there is room for an epoch: its text, its satellites with their types, and the lines of its rows
 pub record HasRoomForEpoch (epoch : Epoch) (room : EncodingRoom) : Type 0 where
@@ -97,15 +102,16 @@ pub record KeepsEncodingRoom (before after : EncodingRoom) : Type 0 where
   pub held_lines : before.lines + before.spare_lines ≤ after.lines + after.spare_lines
   pub held_bytes : before.bytes + before.spare_bytes ≤ after.bytes + after.spare_bytes
 
--- there is no less room than before, and no more is held, but for a row: room for its satellite's types, and twice what the lines so far and
--- the row's need
+-- there is no less room than before, and no more is held, but for a row: room for its satellite's types, and twice what the lines so far
+-- need or claim with the row's
 pub record GrowsForRow (row : Row) (before after : EncodingRoom) : Type 0 where
   pub kept : KeepsEncodingRoom before after
   pub rooms : GrowsOnly (IsAskedFor row.name (length row.values)) before.rooms after.rooms
   pub text : after.text ≤ before.text
   pub lines : IsHeldFor (before.lines - before.free_lines + 1) (before.lines + before.spare_lines)
       (after.lines + after.spare_lines)
-  pub bytes : IsHeldFor (before.bytes - before.free_bytes + row_room row) (before.bytes + before.spare_bytes)
+  pub bytes : IsHeldFor (max (before.bytes - before.free_bytes) before.claimed_bytes + row_room row)
+      (before.bytes + before.spare_bytes)
       (after.bytes + after.spare_bytes)
 
 -- no more is held for an epoch than before, but room for its satellites' types, and twice what its lines need
@@ -130,5 +136,7 @@ pub record HasTakenRow (row : Row) (before after : EncodingRoom) : Type 0 where
   pub lines : after.free_lines + (before.lines + 1) ≡ before.free_lines + after.lines
   pub bytes : before.free_bytes + after.bytes ≤ after.free_bytes + (before.bytes + row_room row)
   pub asked : before.bytes + row_room row ≤ before.free_bytes + after.bytes
+  pub claimed : after.claimed_bytes ≡ before.claimed_bytes + row_room row
+  pub held : after.claimed_bytes ≤ after.bytes + after.spare_bytes
   pub only_lines : after.lines + before.free_lines ≤ before.lines + max before.free_lines 1
   pub only_bytes : after.bytes + before.free_bytes ≤ before.bytes + max before.free_bytes (row_room row)

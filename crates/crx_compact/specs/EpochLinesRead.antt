@@ -1,6 +1,8 @@
 -- What reading an epoch line makes of a history: its satellites have come, or the line is refused.
-use Rattle.std.specs.Prelude.{◌≡◌, ◌≤◌, ℕ, List, [], All, length, map, Result, Ok, Some, None, OnOk, IfErr}
+use Rattle.std.specs.Prelude.{◌≡◌, ◌≤◌, ◌+◌, ◌*◌, ℕ, List, [], All, length, map, Result, Ok, Some, None, OnOk}
+use Rattle.std.specs.Prelude.{IfErr}
 use Rattle.crx_base.specs.declared.fault.Fault.{Fault}
+use Rattle.crx_base.specs.declared.limits.TheConstants.{HEAD_WIDTH, NAME_WIDTH}
 use Rattle.crx_base.specs.declared.fault.Fault.TheVariants.{OutOfMemory}
 use Rattle.crx_text.specs.Texts.{patched}
 use Rattle.crx_header.specs.meaning.ObservationTypes.{Count}
@@ -66,7 +68,7 @@ pub record IsEpochLineRead (types : List Count) (line : List ℕ) (old new : Ope
   pub clock : new.clock ≡ old.clock
   pub announced : IsAnnounced new
   pub room : HaveTypesRoom satellites new.satellites.rooms
-  pub fits : length new.text ≤ new.held_room
+  pub fits : HEAD_WIDTH + NAME_WIDTH * length new.satellites.rows ≤ new.held_room
 
 -- an epoch line is refused: by its fault, where it has one, and then no room was asked for; else for want of memory, where there wasn't room
 pub record IsEpochLineRefused (types : List Count) (line : List ℕ) (old new : OpenHistory) (fault : Fault)
@@ -76,4 +78,5 @@ pub record IsEpochLineRefused (types : List Count) (line : List ℕ) (old new : 
       → KeepsRooms new.satellites.rooms old.satellites.rooms × (new.held_room ≡ old.held_room)
   pub wanting : (satellites : List Satellite)
       → satellites_of_line types (past_of_tail (tail_of_history old)) line ≡ Ok satellites
-      → HaveTypesRoom satellites old.satellites.rooms → length (patched old.text line) ≤ old.held_room → ⊥
+      → HaveTypesRoom satellites old.satellites.rooms
+      → HEAD_WIDTH + NAME_WIDTH * length satellites ≤ old.held_room → ⊥

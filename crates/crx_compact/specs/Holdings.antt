@@ -46,6 +46,7 @@ abbrev pub lines_with : LinesInside → LinesInside → LinesInside
 lines_with one other = record one {
   bytes = other.bytes;
   filled = other.filled;
+  claimed = other.claimed;
   lengths = other.lengths;
   count = other.count;
   handed_out = other.handed_out;

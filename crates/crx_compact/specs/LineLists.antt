@@ -15,8 +15,8 @@ pub record AreCut (lengths text : List ℕ) (past past_bytes : ℕ) : Type 0 whe
   pub whole : lines_text (cut (drop past lengths) (drop past_bytes text)) ≡ drop past_bytes text
 
 -- lines that are pending; how many lines more, of how many bytes, there is room for; how many lines, of how many bytes, there is room for
--- once all are dropped; for how many lines and bytes more memory is held; for how many lines room is left in front of the first one; and how
--- many can be put there now
+-- once all are dropped; for how many lines and bytes more memory is held; how many bytes rows claim, each as many as a line of its types
+-- may have; for how many lines room is left in front of the first one; and how many can be put there now
 pub record PendingLines : Type 0 where
   pub lines : List (List ℕ)
   pub free_lines : ℕ
@@ -25,6 +25,7 @@ pub record PendingLines : Type 0 where
   pub all_bytes : ℕ
   pub spare_lines : ℕ
   pub spare_bytes : ℕ
+  pub claimed_bytes : ℕ
   pub reserved : ℕ
   pub front : ℕ
 
@@ -86,6 +87,7 @@ cleared lines = record lines {
   lines = [];
   free_lines = lines.all_lines;
   free_bytes = lines.all_bytes;
+  claimed_bytes = 0;
   front = lines.reserved;
 }
 
@@ -102,16 +104,17 @@ pub record HasMoreRoom (old new : PendingLines) : Type 0 where
   pub among_bytes : new.free_bytes ≤ new.all_bytes
   pub grown_lines : new.free_lines + old.all_lines ≡ old.free_lines + new.all_lines
   pub grown_bytes : new.free_bytes + old.all_bytes ≡ old.free_bytes + new.all_bytes
+  pub claimed_bytes : new.claimed_bytes ≡ old.claimed_bytes
 
 -- no more is held than before, or than twice what is needed
 abbrev pub IsHeldFor : ℕ → ℕ → ℕ → Type 0
 IsHeldFor needed before after = after ≤ max before (2 * needed)
 
--- no more is held than before, or than twice what the lines that are there need with so many more, of so many bytes
+-- no more is held than before, or than twice what the lines that are there need or claim with so many more, of so many bytes
 pub record AreHeldFor (many size : ℕ) (old new : PendingLines) : Type 0 where
   pub lines : IsHeldFor (old.all_lines - old.free_lines + many) (old.all_lines + old.spare_lines)
       (new.all_lines + new.spare_lines)
-  pub bytes : IsHeldFor (old.all_bytes - old.free_bytes + size) (old.all_bytes + old.spare_bytes)
+  pub bytes : IsHeldFor (max (old.all_bytes - old.free_bytes) old.claimed_bytes + size) (old.all_bytes + old.spare_bytes)
       (new.all_bytes + new.spare_bytes)
 
 -- for how many lines and bytes memory is held, those in front among them
@@ -162,6 +165,7 @@ pub record HasTakenLine (count : ℕ) (old new : PendingLines) : Type 0 where
   pub all_bytes : new.all_bytes ≡ old.all_bytes
   pub spare_lines : new.spare_lines ≡ old.spare_lines
   pub spare_bytes : new.spare_bytes ≡ old.spare_bytes
+  pub claimed_bytes : new.claimed_bytes ≤ old.claimed_bytes + count
   pub reserved : new.reserved ≡ old.reserved
   pub front : new.front ≡ old.front
 

@@ -1,7 +1,7 @@
 -- The state of columns: a reader of compact epochs, and for how much it has room.
-use Rattle.std.specs.Prelude.{◌≡◌, ◌≤◌, ◌<◌, ◌+◌, ℕ, List, [], All, length, map, sum, Result, IsOk, OnOk}
+use Rattle.std.specs.Prelude.{◌≡◌, ◌≤◌, ◌<◌, ◌+◌, ◌*◌, ℕ, List, [], All, length, map, sum, Result, IsOk, OnOk}
 use Rattle.crx_base.specs.declared.fault.Fault.{Fault}
-use Rattle.crx_base.specs.declared.limits.TheConstants.{LINE_LIMIT}
+use Rattle.crx_base.specs.declared.limits.TheConstants.{HEAD_WIDTH, LINE_LIMIT, NAME_WIDTH}
 use Rattle.crx_compact.specs.EncodingRooms.{EncodingRoom, KeepsEncodingRoom}
 use Rattle.crx_compact.specs.LineLists.{BlockRoom, HasNoMoreRoom, IsHeldFor, no_block_room}
 use Rattle.crx_compact.specs.OpenEpochs.{ColumnsState, OpenRawEpoch}
@@ -30,9 +30,10 @@ pub record HeldColumns : Type 0 where
 abbrev pub HaveCellsRoom : List RowTail → List (List ℕ × ℕ) → Type 0
 HaveCellsRoom rows rooms = All (λ (row : RowTail). HasRoom row.name (length row.cells) rooms) rows
 
--- there is room for all that an epoch's lines need: its text, its satellites with their types, and its printed lines
+-- there is room for all that an epoch's lines need: the text of as many satellites at its longest, the satellites with
+-- their types, and the printed lines
 pub record HasRoomFor (begun : OpenRawEpoch) (room : ReadingRoom) : Type 0 where
-  pub text : length begun.text ≤ room.text
+  pub text : HEAD_WIDTH + NAME_WIDTH * length begun.rows ≤ room.text
   pub rows : HaveCellsRoom begun.rows room.rooms
   pub lines : length begun.rows < room.block.lines + room.block.spare_lines
   pub bytes : LINE_LIMIT + 1 + sum (map printed_room begun.rows) ≤ room.block.bytes + room.block.spare_bytes

@@ -148,7 +148,7 @@ impl History {
             (room_of_lines lines.old) (room_of_lines lines.new)) }
     {
         let length = HEAD_WIDTH + NAME_WIDTH * epoch.count();
-        make_long(&mut self.next_text, length)?;
+        make_long(&mut self.next_text, length, length)?;
         self.text
             .reserve_exact(length.saturating_sub(self.text.len()))?;
         let room = prepare_rows(&mut self.satellites, epoch)?;
@@ -282,7 +282,9 @@ impl History {
         // Most lines have marks in the columns before the identifiers alone.
         let are_same = is_named & (line.len() <= HEAD_WIDTH);
         read_satellites(types, text, are_same, &mut self.satellites)?;
-        if make_long(&mut self.text, text.len()).is_err() {
+        // The text is no longer than this. So there is room for that of each later epoch with no more satellites.
+        let room = HEAD_WIDTH + NAME_WIDTH * self.satellites.placed();
+        if make_long(&mut self.text, text.len(), room).is_err() {
             return Err(Fault::OutOfMemory);
         }
         put_text(&mut self.text, 0, text);
@@ -446,7 +448,7 @@ fn renew_text(
     ensures bounded { vec_capacity text.old ≤ LINE_LIMIT → vec_capacity text.new ≤ LINE_LIMIT }
 {
     let length = HEAD_WIDTH + NAME_WIDTH * head.count();
-    make_long(text, length)?;
+    make_long(text, length, length)?;
     put_text(text, 0, head.columns());
     put_names(text, satellites);
     let end = trim_end(&text[..length]).len();
@@ -454,17 +456,22 @@ fn renew_text(
     Ok(())
 }
 
-/// Makes a text have at least so many characters; those that are there stay.
-fn make_long(text: &mut Vec<u8>, count: usize) -> Result<(), AllocError>
-    requires short { count ≤ LINE_LIMIT }
+/// Makes a text have at least so many characters, and memory for as many as `room`; those that are there stay.
+fn make_long(text: &mut Vec<u8>, count: usize, room: usize) -> Result<(), AllocError>
+    requires short { room ≤ LINE_LIMIT }
+    requires fits { count ≤ room }
     requires within { length text.old.items ≤ LINE_LIMIT }
     ensures room { OnOk result (count ≤ length text.new.items) }
     ensures within { length text.new.items ≤ LINE_LIMIT }
-    ensures known { count ≤ length text.old.items → IsOk result }
-    ensures asked { count ≤ vec_capacity text.old → IsOk result }
+    ensures memory { OnOk result (room ≤ vec_capacity text.new) }
+    ensures known { room ≤ length text.old.items → IsOk result }
+    ensures asked { room ≤ vec_capacity text.old → IsOk result }
     ensures capacity { vec_capacity text.old ≤ vec_capacity text.new }
-    ensures held { vec_capacity text.new ≤ max (vec_capacity text.old) count }
+    ensures held { vec_capacity text.new ≤ max (vec_capacity text.old) room }
 {
+    if text.capacity() < room {
+        lengthen(text, room, room, b' ')?;
+    }
     if text.len() < count {
         lengthen(text, count, count, b' ')?;
     }

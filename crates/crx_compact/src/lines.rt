@@ -15,8 +15,9 @@ ghost use Rattle.crx_compact.specs.Steps.{row_line_after, row_tail_after};
 ghost use Rattle.crx_compact.specs.Tails.{RowTail};
 ghost use Rattle.crx_rinex.specs.meaning.Printing.{printed_row};
 
+use crate::cells::CELL_ROOM;
 use crate::satellites::Satellites;
-use crx_base::limits::LINE_LIMIT;
+use crx_base::limits::{LINE_LIMIT, TYPES_LIMIT};
 use crx_text::Text;
 use crx_text::block::put_line;
 use std::alloc::{AllocError, Global};
@@ -33,6 +34,9 @@ pub struct Lines {
     bytes: Vec<u8>,
     /// How many of the bytes are lines, the room in front of them among these.
     filled: usize,
+    /// For how many bytes rows claim memory, the room in front among them: for as many as the line of a row of so many types may have. So there
+    /// is enough for each later epoch of no more rows and types, however long its lines are.
+    claimed: usize,
     /// The length of each line; those after the lines are of earlier ones, and mean nothing.
     lengths: Vec<usize>,
     /// How many lines there are, with those for which room is left in front.
@@ -61,6 +65,7 @@ impl Model for Lines {
       all_bytes = length lines.bytes.items - lines.reserved * (LINE_LIMIT + 1);
       spare_lines = vec_capacity lines.lengths - length lines.lengths.items;
       spare_bytes = vec_capacity lines.bytes - length lines.bytes.items;
+      claimed_bytes = lines.claimed - lines.reserved * (LINE_LIMIT + 1);
       reserved = lines.reserved;
       front = lines.front;
     } };
@@ -69,7 +74,8 @@ impl Model for Lines {
         lines.handed_out lines.handed_out_bytes
         × (lines.count ≤ length lines.lengths.items) × (lines.filled ≤ length lines.bytes.items)
         × HasFront lines.front lines.handed_out lines.handed_out_bytes
-        × HasFront lines.reserved lines.count lines.filled };
+        × HasFront lines.reserved lines.count lines.filled
+        × (lines.reserved * (LINE_LIMIT + 1) ≤ lines.claimed) × (lines.claimed ≤ vec_capacity lines.bytes) };
 }
 
 impl Lines {
@@ -83,6 +89,7 @@ impl Lines {
         Lines {
             bytes: Vec::new(alloc),
             filled: 0,
+            claimed: 0,
             lengths: Vec::new(alloc),
             count: 0,
             handed_out: 0,
@@ -99,6 +106,7 @@ impl Lines {
         ensures cleared { self.new ≡ cleared self.old }
     {
         self.filled = self.reserved * (LINE_LIMIT + 1);
+        self.claimed = self.filled;
         self.count = self.reserved;
         self.handed_out = self.reserved;
         self.handed_out_bytes = self.filled;
@@ -112,7 +120,7 @@ impl Lines {
         ensures front { OnOk result (self.new.front ≡ lines) }
         ensures reserved { OnOk result (self.new.reserved ≡ lines) }
         ensures unused { OnOk result ((self.new.free_lines ≡ self.new.all_lines)
-            × (self.new.free_bytes ≡ self.new.all_bytes)) }
+            × (self.new.free_bytes ≡ self.new.all_bytes) × (self.new.claimed_bytes ≡ 0)) }
         ensures held { OnOk result (AllAreHeldFor lines (lines * (LINE_LIMIT + 1)) (room_of_lines self.old)
             (room_of_lines self.new)) }
         // Where room was left for as many before, none is asked for now, and all that was asked for other lines is free.
@@ -130,6 +138,7 @@ impl Lines {
         let bytes = lines * (LINE_LIMIT + 1);
         self.make_room(lines, bytes)?;
         self.filled = bytes;
+        self.claimed = bytes;
         self.count = lines;
         self.handed_out = lines;
         self.handed_out_bytes = bytes;
@@ -150,27 +159,53 @@ impl Lines {
             && self.bytes.capacity() <= other.bytes.capacity()
     }
 
-    /// Asks for room for so many lines more, and for so many bytes, in which each line has one more than its length. The lines stay.
+    /// Asks for room for so many lines more, and for so many bytes, in which each line has one more than its length. The lines stay. Memory is
+    /// held for these bytes beside those that rows claim.
     #[inline(always)]
     pub(crate) fn make_room(&mut self, lines: usize, bytes: usize) -> Result<(), AllocError>
         ensures grown { HasMoreRoom self.old self.new }
         ensures free_lines { OnOk result (lines ≤ self.new.free_lines) }
         ensures free_bytes { OnOk result (bytes ≤ self.new.free_bytes) }
+        ensures claimed { OnOk result (self.new.claimed_bytes + bytes ≤ self.new.all_bytes + self.new.spare_bytes) }
         ensures held { AreHeldFor lines bytes self.old self.new }
         // No more memory comes into use than that, and where there is room, none.
         ensures only_lines { self.new.free_lines ≤ max self.old.free_lines lines }
         ensures only_bytes { self.new.free_bytes ≤ max self.old.free_bytes bytes }
         // It is refused only where less memory is held.
         ensures known { lines ≤ self.old.free_lines + self.old.spare_lines
-            → bytes ≤ self.old.free_bytes + self.old.spare_bytes → IsOk result }
+            → bytes ≤ self.old.free_bytes + self.old.spare_bytes
+            → self.old.claimed_bytes + bytes ≤ self.old.all_bytes + self.old.spare_bytes → IsOk result }
     {
-        // Mostly there is room: the two calls would take 15 instructions a row, and two sums that saturate 4 more.
-        if bytes <= self.bytes.len() - self.filled && lines <= self.lengths.len() - self.count {
+        // Mostly there is room: with a row, these tests take some 12 instructions.
+        if bytes <= self.bytes.len() - self.filled
+            && bytes <= self.bytes.capacity() - self.claimed
+            && lines <= self.lengths.len() - self.count
+        {
             return Ok(());
         }
+        self.enlarge(lines, bytes)
+    }
+
+    /// Asks for that room where there isn't enough.
+    #[cold]
+    #[inline(never)]
+    fn enlarge(&mut self, lines: usize, bytes: usize) -> Result<(), AllocError>
+        ensures grown { HasMoreRoom self.old self.new }
+        ensures free_lines { OnOk result (lines ≤ self.new.free_lines) }
+        ensures free_bytes { OnOk result (bytes ≤ self.new.free_bytes) }
+        ensures claimed { OnOk result (self.new.claimed_bytes + bytes ≤ self.new.all_bytes + self.new.spare_bytes) }
+        ensures held { AreHeldFor lines bytes self.old self.new }
+        ensures only_lines { self.new.free_lines ≤ max self.old.free_lines lines }
+        ensures only_bytes { self.new.free_bytes ≤ max self.old.free_bytes bytes }
+        ensures known { lines ≤ self.old.free_lines + self.old.spare_lines
+            → bytes ≤ self.old.free_bytes + self.old.spare_bytes
+            → self.old.claimed_bytes + bytes ≤ self.old.all_bytes + self.old.spare_bytes → IsOk result }
+    {
         let filled = self.filled.saturating_add(bytes);
+        let claimed = self.claimed.saturating_add(bytes);
         let count = self.count.saturating_add(lines);
         let front = self.reserved * (LINE_LIMIT + 1);
+        hold(&mut self.bytes, claimed, front)?;
         if filled > self.bytes.len() {
             lengthen(&mut self.bytes, filled, front, b'\n')?;
         }
@@ -187,7 +222,8 @@ impl Lines {
         ensures lines { self.new.lines ≡ line.now ∷ self.old.lines }
         ensures front { self.new.front + 1 ≡ self.old.front }
         ensures room { HasSameRoom self.old self.new }
-        ensures free { (self.new.free_lines ≡ self.old.free_lines) × (self.new.free_bytes ≡ self.old.free_bytes) }
+        ensures free { (self.new.free_lines ≡ self.old.free_lines) × (self.new.free_bytes ≡ self.old.free_bytes)
+            × (self.new.claimed_bytes ≡ self.old.claimed_bytes) }
     {
         let start = self.handed_out_bytes - line.len() - 1;
         put_line(&mut self.bytes, start, line);
@@ -221,6 +257,8 @@ impl Lines {
         scratch: &mut Text,
     )
         requires room { HasLineRoom (room_of_types (length values.now)) self.old }
+        requires claim { self.old.claimed_bytes + room_of_types (length values.now)
+            ≤ self.old.all_bytes + self.old.spare_bytes }
         requires within { index < length satellites.old.rows }
         requires sound { (old : RowTail) → slice_get satellites.old.rows index ≡ Some old
             → IsSoundRow (row_of_parts old.name values.now flags.now)
@@ -231,6 +269,8 @@ impl Lines {
         ensures lines { (old : RowTail) → slice_get satellites.old.rows index ≡ Some old → self.new.lines
             ≡ self.old.lines ++ row_line_after (Some old) (row_of_parts old.name values.now flags.now) ∷ [] }
         ensures taken { HasTakenLine (room_of_types (length values.now)) self.old self.new }
+        // It claims as many bytes as a line of so many types may have, however long it is.
+        ensures claimed { self.new.claimed_bytes ≡ self.old.claimed_bytes + room_of_types (length values.now) }
         ensures kept { KeepsRest satellites.old satellites.new }
     {
         // The place of the bytes and the index are read once: after the line is written they would be read again, by 4 instructions.
@@ -241,6 +281,7 @@ impl Lines {
         self.lengths[self.count] = length;
         self.count += 1;
         self.filled = filled + (length + 1);
+        self.claimed += CELL_ROOM * values.len() + 2 * TYPES_LIMIT + 1;
     }
 
     /// Puts the printed line of the row that a satellite shows after the others, for which there is room; the satellite is at an index among
@@ -302,8 +343,25 @@ impl Lines {
     }
 }
 
-/// Makes a list longer by items that are all the same. Where there is no room for them, the memory is doubled, but that of so many items in
-/// front, or made as large as these items need, where that is more.
+/// Has a list hold memory for so many items. Where it holds less, the memory is doubled, but that of so many items in front, or made as large
+/// as these items need, where that is more.
+fn hold<T: Copy>(items: &mut Vec<T>, count: usize, front: usize) -> Result<(), AllocError>
+    requires front { front ≤ count }
+    ensures kept { items.new.items ≡ items.old.items }
+    ensures enough { OnOk result (count ≤ vec_capacity items.new) }
+    ensures asked { count ≤ vec_capacity items.old → IsOk result }
+    ensures capacity { vec_capacity items.old ≤ vec_capacity items.new }
+    ensures held { vec_capacity items.new ≤ max (vec_capacity items.old) (2 * count - front) }
+{
+    let capacity = items.capacity();
+    if capacity < count {
+        let most = capacity.saturating_add(capacity.saturating_sub(front));
+        items.reserve_exact(most.max(count) - items.len())?;
+    }
+    Ok(())
+}
+
+/// Makes a list longer by items that are all the same, for which it comes to hold memory as [`hold`] says.
 #[cold]
 #[inline(never)]
 pub(crate) fn lengthen<T: Copy>(
@@ -321,11 +379,7 @@ pub(crate) fn lengthen<T: Copy>(
     ensures capacity { vec_capacity items.old ≤ vec_capacity items.new }
     ensures held { vec_capacity items.new ≤ max (vec_capacity items.old) (2 * count - front) }
 {
-    let capacity = items.capacity();
-    if capacity < count {
-        let most = capacity.saturating_add(capacity.saturating_sub(front));
-        items.reserve_exact(most.max(count) - items.len())?;
-    }
+    hold(items, count, front)?;
     let alloc = *items.allocator();
     *items = filled(mem::replace(items, Vec::new(alloc)), count, item);
     Ok(())

@@ -9,7 +9,7 @@ use Rattle.crx_compact.specs.Placing.{HasAllowedCount}
 -- ---- they stay
 
 -- another row of the same satellite
-satellites-set : (rows : List RowTail) (place : ℕ) (row left : RowTail) → slice_get rows place ≡ Some row
+pub satellites-set : (rows : List RowTail) (place : ℕ) (row left : RowTail) → slice_get rows place ≡ Some row
     → left.name ≡ row.name → length left.cells ≡ length row.cells
     → map satellite_of (slice_set rows place left) ≡ map satellite_of rows
 satellites-set [] place row left there name sized = refl

@@ -69,7 +69,7 @@ epochs-left : (older : List RawEpoch) → past_of_epochs older ≡ option_map pa
 epochs-left [] = refl
 epochs-left (e ∷ older) = ap {B = Option Past} Some (past-left (block_of (e ∷ older)))
 
-line-left : (older : List RawEpoch) (line : List ℕ)
+pub line-left : (older : List RawEpoch) (line : List ℕ)
     → past_of_line older line ≡ option_map past_of_tail (tail_for_line (tail_left older) line)
 line-left older line = grind (arith, past-left [], epochs-left older)
 

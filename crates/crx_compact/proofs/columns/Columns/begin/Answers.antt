@@ -39,7 +39,7 @@ returns-in-Ok-begin-clause-room c begun step =
       known = search rules;
       room = room-for c.args.types.now c.args.line.now
           (tail_of_history history) begun opened c.read_epoch_line.new.self
-          c.begin.new.self read.text read.fits
+          c.begin.new.self read.fits
           (search (rules, ok-same, c.in-Ok.ensures.ok, opened-from, tail_held, tail_of_history, before-line))
           (rows-opened c.args.types.now c.args.line.now
           (tail_of_history history) begun read.satellites _ opened read.read read.rows)

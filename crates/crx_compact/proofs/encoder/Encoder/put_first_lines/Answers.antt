@@ -17,9 +17,10 @@ program-is date columns one two three is first second third = search rules
 -- a line in front of the others takes no room of theirs
 same-room : (history : OpenHistory) (old new : PendingLines) → HasSameRoom old new
     → (new.free_lines ≡ old.free_lines) × (new.free_bytes ≡ old.free_bytes)
+    × (new.claimed_bytes ≡ old.claimed_bytes)
     → encoding_room history new ≡ encoding_room history old
 same-room history old new same free =
-    rw (same.all_lines, same.all_bytes, same.spare_lines, same.spare_bytes, free.0, free.1) refl
+    rw (same.all_lines, same.all_bytes, same.spare_lines, same.spare_bytes, free.0, free.1, free.2) refl
 
 all-forgotten : (state : EncoderState) (before : Option Tail) (rows : List Row)
     (pending lines : List (List ℕ)) (room free : EncodingRoom)

@@ -50,6 +50,8 @@ loop-row-init c =
       };
       free_lines = omega arith;
       free_bytes = omega arith;
+      claimed = omega arith;
+      claims = omega arith;
       text = omega arith;
       front = c.make_room.ensures.grown.front ∙ front.front;
       reserved = c.make_room.ensures.grown.reserved ∙ front.reserved;
@@ -85,6 +87,7 @@ unwrap-requires c =
           c.loop-row.invariant.room.rows here));
       line = omega arith;
       bytes = omega arith;
+      claim = omega arith;
     })
 
 pub overflow_add-index : goal.overflow_add-index
@@ -134,6 +137,8 @@ loop-row-preserved c =
       room = room-kept c.args.epoch.now old new kept known.room;
       free_lines = omega arith;
       free_bytes = omega arith;
+      claimed = omega arith;
+      claims = omega arith;
       text = omega arith;
       front = omega arith;
       reserved = omega arith;

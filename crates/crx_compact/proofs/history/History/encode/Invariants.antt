@@ -15,6 +15,9 @@ invariant-loop-row l = record {
   room : HasRoomForEpoch l.epoch (encoding_room l.self l.lines);
   free_lines : length l.epoch.rows ≤ l.lines.free_lines + l.index;
   free_bytes : sum (map row_room (drop l.index l.epoch.rows)) ≤ l.lines.free_bytes;
+  claimed : l.lines.claimed_bytes ≤ sum (map row_room (take l.index l.epoch.rows));
+  claims : l.lines.claimed_bytes + sum (map row_room (drop l.index l.epoch.rows))
+      ≤ l.lines.all_bytes + l.lines.spare_bytes;
   text : HEAD_WIDTH + NAME_WIDTH * length l.epoch.rows ≤ length l.self.next_text;
   front : l.lines.front ≡ FIRST_LINES;
   reserved : l.lines.reserved ≡ FIRST_LINES;

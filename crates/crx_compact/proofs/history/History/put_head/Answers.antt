@@ -40,6 +40,7 @@ returns-in_default-clause-taken c =
       all_bytes = put.all_bytes;
       spare_lines = put.spare_lines;
       spare_bytes = put.spare_bytes;
+      claimed_bytes = omega (arith, few, put.claimed_bytes);
       reserved = put.reserved;
       front = put.front;
     }

@@ -1,9 +1,11 @@
-use Rattle.crx_compact.proofs.Words.{◌≡◌, ◌++◌, List, ℕ, Result, true, inr, length, map, ap, refl, subst, sym}
+use Rattle.crx_compact.proofs.Words.{common_steps, ◌≡◌, ◌≤◌, ◌+◌, ◌*◌, Ok, length-map, ◌++◌, List, ℕ, Result}
+use Rattle.crx_compact.proofs.Words.{true, inr, length, map, ap, refl, subst, sym}
 use Rattle.crx_compact.proofs.Words.{◌∙◌, arith, rules, take, take_at, err_from_is_err_and, Count, is_ok}
 use Rattle.crx_compact.proofs.Words.{list_all, append-nil, is_printable, Fault, patched, past_of_tail}
 use Rattle.crx_compact.proofs.Words.{satellites_of_line, satellites_of_text, Satellite, HasRoom}
 use Rattle.crx_compact.proofs.Words.{HaveTypesRoom, OpenHistory, PlacedRows, padded_among, tail_of_history}
 use Rattle.crx_compact.proofs.{Words.{RowTail, Tail, and_parts, satellite_of}, Results.{by_err, by_ok}}
+use Rattle.crx_compact.proofs.EpochTexts.{bounded-text}
 use Rattle.crx_compact.proofs.{NamedAgain.named-kept, AnnouncedRows.{announced-rows, line-of_text}}
 use Rattle.crx_compact.proofs.history.History.read_epoch_line.Goals.{After-read_satellites}
 use Rattle.crx_compact.specs.{Refusals.AnswersRefusal, RowsSoFar.NamesSatellites}
@@ -47,6 +49,69 @@ rooms : (c : After-read_satellites) → c.begin.new.self.rooms ≡ c.args.self.n
 rooms c = ap (λ (p : PlacedRows). p.rooms) c.begin.ensures.begun
     ∙ ap (λ (h : OpenHistory). h.satellites.rooms) c.self.view_is
 
+-- the text, by how many satellites have come
+bounded : (c : After-read_satellites) (rest : List RowTail) (new : PlacedRows) (satellites : List Satellite)
+    → satellites_of_text c.args.types.now c.bytes-text.result.now ≡ Ok satellites
+    → new.rows ≡ map (padded_among rest) satellites
+    → (length c.bytes-text.result.now ≤ 41 + 3 * length new.rows) × (length new.rows ≤ 999)
+bounded c rest new satellites read rows =
+    let facts = bounded-text c.args.types.now (tail_of_history c.args.self.now) c.args.line.now satellites
+    (same c ∙ read) in
+    let many = ap length rows ∙ length-map satellites (padded_among rest) in
+    let long = ap length (text c) in
+    (omega (arith, facts.within, many, long), omega (arith, facts.few, many))
+
+pub overflow_mul-room : goal.overflow_mul-room
+overflow_mul-room c =
+    let found = c.in_ok-read_satellites.ensures.ok in
+    let few = bounded (goal.at.overflow_mul-room c).After-read_satellites c.begin.new.self.rest
+    c.read_satellites.new.satellites found.satellites found.read found.rows in
+    omega (arith, few.1)
+
+pub overflow_add-room : goal.overflow_add-room
+overflow_add-room c =
+    let found = c.in_ok-read_satellites.ensures.ok in
+    let few = bounded (goal.at.overflow_add-room c).After-read_satellites c.begin.new.self.rest
+    c.read_satellites.new.satellites found.satellites found.read found.rows in
+    omega (arith, few.1)
+
+pub make_long-requires-clause-short : goal.make_long-requires-clause-short
+make_long-requires-clause-short c =
+    let found = c.in_ok-read_satellites.ensures.ok in
+    let few = bounded (goal.at.make_long-requires-clause-short c).After-read_satellites c.begin.new.self.rest
+    c.read_satellites.new.satellites found.satellites found.read found.rows in
+    omega (arith, few.1)
+
+pub make_long-requires-clause-fits : goal.make_long-requires-clause-fits
+make_long-requires-clause-fits c =
+    let found = c.in_ok-read_satellites.ensures.ok in
+    let few = bounded (goal.at.make_long-requires-clause-fits c).After-read_satellites c.begin.new.self.rest
+    c.read_satellites.new.satellites found.satellites found.read found.rows in
+    omega (arith, few.0)
+
+pub put_text-requires : goal.put_text-requires
+put_text-requires c =
+    let found = c.in_ok-read_satellites.ensures.ok in
+    let few = bounded (goal.at.put_text-requires c).After-read_satellites c.begin.new.self.rest
+    c.read_satellites.new.satellites found.satellites found.read found.rows in
+    let room = by_ok c.make_long.result (search (rules, c.is_err-2, c.if-is_err-2)) c.make_long.ensures.room
+    in
+    omega (arith, few.0, room, c.deref_mut.ensures.len)
+
+pub invariant_of-self-then-is_err-2 : goal.invariant_of-self-then-is_err-2
+invariant_of-self-then-is_err-2 c =
+    let found = c.in_ok-read_satellites.ensures.ok in
+    let few = bounded (goal.at.invariant_of-self-then-is_err-2 c).After-read_satellites c.begin.new.self.rest
+    c.read_satellites.new.satellites found.satellites found.read found.rows in
+    grind (arith, common_steps, few.1)
+
+pub invariant_of-self-2 : goal.invariant_of-self-2
+invariant_of-self-2 c =
+    let found = c.in_ok-read_satellites.ensures.ok in
+    let few = bounded (goal.at.invariant_of-self-2 c).After-read_satellites c.begin.new.self.rest
+    c.read_satellites.new.satellites found.satellites found.read found.rows in
+    grind (arith, common_steps, few.1)
+
 pub returns-in_err-read_satellites-clause-err : goal.returns-in_err-read_satellites-clause-err
 returns-in_err-read_satellites-clause-err c =
     let p = err_from_is_err_and c.from_residual.result c.from_residual.ensures.1 in
@@ -75,10 +140,14 @@ returns-then-is_err-2-clause-err c = record {
   };
   unasked = λ other. absurd (other refl);
   wanting = λ satellites is has within.
-      let few = ap length (text (goal.at.returns-then-is_err-2-clause-err c).After-read_satellites) in
+      let found = c.in_ok-read_satellites.ensures.ok in
+      let again = ap (λ (r : Result (List Satellite) Fault). r) (sym found.read ∙ sym
+      (same (goal.at.returns-then-is_err-2-clause-err c).After-read_satellites) ∙ is) in
+      let few : length found.satellites ≡ length satellites = grind (arith, again) in
+      let many = ap length found.rows ∙ length-map found.satellites (padded_among c.begin.new.self.rest) in
       let held = ap (λ (h : OpenHistory). h.held_room) c.self.view_is in
       by_err c.make_long.result (search (rules, c.is_err-2, c.if-is_err-2))
-      (c.make_long.ensures.asked (omega (arith, few, held, within)));
+      (c.make_long.ensures.asked (omega (arith, few, many, held, within)));
 }
 
 -- the rows of the epoch before are awaited

@@ -54,7 +54,7 @@ returns-in_err-make_room-clause-memory c = λ after rows written.
 
 pub returns-in_err-make_room-clause-known : goal.returns-in_err-make_room-clause-known
 returns-in_err-make_room-clause-known c = λ known.
-    absurd (false≢true (c.in_err-make_room.ensures.known (omega arith) (omega arith)))
+    absurd (false≢true (c.in_err-make_room.ensures.known (omega arith) (omega arith) (omega arith)))
 
 -- what is asked for is what the row needs
 only : (c : After-place_or_add)

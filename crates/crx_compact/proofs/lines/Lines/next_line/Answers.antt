@@ -24,8 +24,13 @@ here : (c : After-index) → NextLine (take c.self.inside.count c.self.inside.le
 here c =
     let inside = c.self.inside in
     line-there inside.lengths.items inside.bytes.items inside.count inside.filled inside.handed_out
-    inside.handed_out_bytes inside.reserved inside.front c.index.result.now c.self.invariant c.if-self.false
-    c.index.ensures
+    inside.handed_out_bytes inside.reserved inside.front c.index.result.now (
+      c.self.invariant.0,
+      c.self.invariant.1,
+      c.self.invariant.2,
+      c.self.invariant.3,
+      c.self.invariant.4,
+    ) c.if-self.false c.index.ensures
 
 pub overflow_add-end : goal.overflow_add-end
 overflow_add-end c = omega (arith, (here (goal.at.overflow_add-end c).After-index).within)
@@ -40,6 +45,8 @@ invariant_of-self-2 c = (
   c.self.invariant.2,
   front-kept _ _ _ _ _ c.self.invariant.3 (omega arith) (omega arith),
   c.self.invariant.4,
+  c.self.invariant.5,
+  c.self.invariant.6,
 )
 
 pub slice_bounds-result-end : goal.slice_bounds-result-end

@@ -32,6 +32,8 @@ invariant_of-self c =
       omega (arith, c.requires.room.bytes, ap length c.deref_mut.ensures.value, free'),
       c.self.invariant.3,
       front-kept _ _ _ _ _ c.self.invariant.4 (omega arith) (omega arith),
+      c.self.invariant.5,
+      c.self.invariant.6,
     )
 
 pub returns-clause-lines : goal.returns-clause-lines

@@ -31,6 +31,8 @@ invariant_of-self c =
       omega arith,
       (omega arith, omega arith),
       c.self.invariant.4,
+      c.self.invariant.5,
+      c.self.invariant.6,
     )
 
 pub returns-clause-lines : goal.returns-clause-lines

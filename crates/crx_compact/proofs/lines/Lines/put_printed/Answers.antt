@@ -49,6 +49,8 @@ invariant_of-self c =
       omega (arith, long),
       c.self.invariant.3,
       front-kept _ _ _ _ _ c.self.invariant.4 (omega arith) (omega arith),
+      c.self.invariant.5,
+      c.self.invariant.6,
     )
 
 pub returns-clause-lines : goal.returns-clause-lines
@@ -76,6 +78,7 @@ returns-clause-taken c = λ old there.
       all_bytes = omega (arith, long);
       spare_lines = omega (arith, many);
       spare_bytes = omega (arith, long);
+      claimed_bytes = omega arith;
       reserved = refl;
       front = refl;
     })

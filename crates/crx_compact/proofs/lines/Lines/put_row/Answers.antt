@@ -41,6 +41,14 @@ invariant_of-self c =
       omega (arith, long),
       c.self.invariant.3,
       front-kept _ _ _ _ _ c.self.invariant.4 (omega arith) (omega arith),
+      omega (arith, c.self.invariant.5),
+      omega (
+        arith,
+        c.requires.claim,
+        c.self.invariant.5,
+        ap (λ (l : PendingLines). l.claimed_bytes) c.self.view_is,
+        ap (λ (l : PendingLines). l.all_bytes + l.spare_bytes) c.self.view_is,
+      ),
     )
 
 pub returns-clause-lines : goal.returns-clause-lines
