@@ -2,6 +2,8 @@
 pub mod Following
 pub mod Lines
 pub mod MoreLines
+pub mod Epochs
+pub mod Collecting
 pub mod Rinex
 pub mod Compaction
 pub mod Expansion

@@ -6,6 +6,13 @@ pub mod RowSteps
 pub mod Together
 pub mod EngineFaults
 pub mod RoomSteps
+pub mod Enough
+pub mod RoomsOfBlocks
+pub mod EnoughRoom
+pub mod EpochsRead
+pub mod RoomsOfLines
 pub mod StepCounts
 pub mod CheckerSteps
 pub mod CheckerEnds
+pub mod RoomsOfEpochs
+pub mod CompactionKnows

@@ -1,22 +1,23 @@
 -- What a direction has between two lines, and what it does with the next one.
-use Rattle.std.specs.Prelude.{◌≡◌, ◌⊎◌, ◌<◌, ◌≤◌, ℕ, ◌+◌, Bool, true, false, List, [], length, map, Option, Some}
+use Rattle.std.specs.Prelude.{◌≡◌, ◌⊎◌, ◌<◌, ◌≤◌, ℕ, ◌+◌, Bool, true, false, not, List, [], length, map, Option, Some}
 use Rattle.std.specs.Prelude.{Result, Ok, Err, IfOk, IfErr, OnErr}
 use Rattle.crx_base.specs.declared.limits.TheConstants.{INPUT_LIMIT}
-use Rattle.crx_base.specs.meaning.Lines.{InputLine}
-use Rattle.crx_base.specs.meaning.AsRead.{ReadLine, Content, as_read}
+use Rattle.crx_base.specs.meaning.Lines.{InputLine, is_long}
+use Rattle.crx_base.specs.meaning.AsRead.{ReadLine, Content, Overlong, as_read}
 use Rattle.crx_base.specs.meaning.Choices.{Choices}
 use Rattle.crx_base.specs.declared.fault.Fault.{Fault}
 use Rattle.crx_base.specs.declared.fault.Fault.TheVariants.{OutOfMemory}
 use Rattle.crx_header.specs.meaning.ObservationTypes.{Count}
 use Rattle.crx_base.specs.declared.fault.At.{At}
-use Rattle.crx_filter.specs.LineByLine.{RunState, Direction, Made, Rejects, Ended, Answer, Quiet, Ready, made_in}
+use Rattle.crx_filter.specs.LineByLine.{RunState, Direction, Made, Rejects, Ended, Answer, Quiet, Ready, Notice, made_in}
 use Rattle.crx_filter.specs.LineByLine.{Step as LineStep, failed_step, state_next}
 use Rattle.crx_filter.specs.Memory.{may_take_memory}
+use Rattle.crx_filter.specs.EngineLines.{HasTaken}
 use Rattle.crx_filter.specs.EngineSteps.{Steps, step_made}
 use Rattle.crx_filter.specs.meaning.Reading.{can_go_on}
 use Rattle.crx_filter.specs.Stages.{is_held, phase_of_stage}
 use Rattle.crx_filter.specs.declared.stage.Stage.{Stage}
-use Rattle.crx_runs.specs.Engines.{lines_handed_out}
+use Rattle.crx_runs.specs.Engines.{Awaited, IsAwaited, lines_handed_out}
 use Rattle.crx_runs.specs.declared.engine.HandedOut.{HandedOut}
 use Rattle.crx_runs.specs.declared.engine.HandedOut.TheVariants.{Nothing, Lines, AsItIs}
 use Rattle.crx_runs.specs.declared.engine.Step.{Step}
@@ -112,22 +113,54 @@ abbrev pub CountsOneAtMost : Result Bool Fault → ℕ → ℕ → Type 0
 CountsOneAtMost (Ok is_ready) before after = after ≤ before + 1
 CountsOneAtMost (Err fault) before after = after ≤ before
 
--- what it knows of the lines that it has taken, it knows then of the next one too, unless it refuses that
-abbrev pub KnowsNext : {O K : Type 0} → (Choices → Choices) → (Choices → List ReadLine → RunState O K)
-    → DirectionParts O K → (List InputLine → Type 0) → (List InputLine → Type 0) → ℕ → InputLine → Result Bool Fault
-    → Type 0
-KnowsNext chosen state_after_lines before knew knows number line result = (choices : Choices) (lines : List InputLine)
-    → IsAfterLines chosen state_after_lines choices lines before → knew lines → number ≡ length lines + 1
-    → IfOk result (λ is_ready. knows (with_next lines line))
+-- whether a line that is answered so brings nothing: its fault is skipped and it doesn't come again, or it is too
+-- long and is passed over
+abbrev pub brings_nothing : Answer → ReadLine → Bool
+brings_nothing (Notice at again) line = not again
+brings_nothing Quiet Overlong = true
+brings_nothing answer line = false
+
+module _ {U O K : Type 0} (direction : Direction U O K) (chosen : Choices → Choices)
+    (state_after_lines : Choices → List ReadLine → RunState O K) where
+  -- by these choices, which it takes as they are, a direction has taken these lines, and this line comes next: for the
+  -- first time, or a second time after a warning
+  pub record ComesAfter (choices : Choices) (lines : List InputLine) (line : InputLine)
+      (parts : DirectionParts O K) : Type 0 where
+    pub taken_as : chosen choices ≡ choices
+    pub notices : List Awaited
+    pub has_taken : HasTaken direction (state_after_lines choices)
+        (state_by choices (length lines) parts) lines notices
+    pub awaited : IsAwaited notices line
+
+  -- what it knows of the lines that it has taken, it knows then of the next one too, unless it refuses that
+  abbrev pub KnowsNext : DirectionParts O K → (Choices → List InputLine → Type 0)
+      → (Choices → List InputLine → Type 0) → ℕ → InputLine → Result Bool Fault → Type 0
+  KnowsNext before knew knows number line result = (choices : Choices) (lines : List InputLine)
+      → ComesAfter choices lines line before → knew choices lines → number ≡ length lines + 1
+      → IfOk result (λ is_ready. knows choices (with_next lines line))
+
+  -- what it knows of the lines that it has taken, it knows of them with this one too, where this one brings nothing
+  abbrev pub KnowsStill : DirectionParts O K → (Choices → List InputLine → Type 0) → Type 0
+  KnowsStill parts knows = (choices : Choices) (lines : List InputLine) (line : InputLine)
+      → ComesAfter choices lines line parts → knows choices lines → brings_nothing (state_next direction
+      (state_by choices (length lines) parts) (as_read line)).answer (as_read line) ≡ true
+      → knows choices (with_next lines line)
+
+  -- by what it knows of the lines that it has taken, there is room for the next one where that needs no more
+  abbrev pub HasEnough : (Choices → List InputLine → InputLine → Bool) → DirectionParts O K
+      → (Choices → List InputLine → Type 0) → (List ℕ → Type 0) → Type 0
+  HasEnough outgrows parts knows has_room = (choices : Choices) (lines : List InputLine) (line : InputLine)
+      → ComesAfter choices lines line parts → knows choices lines → is_long line ≡ false
+      → outgrows choices lines line ≡ false → has_room line.content
 
 -- lines that are ready are borrowed from it, and all else stays: its parts, its count, the choices that it serves, what
 -- it knows of some lines, and what it has found in them
 abbrev pub KeepsAllBeside : {O K : Type 0} → DirectionParts O K → DirectionParts O K → ℕ → ℕ
-    → (Choices → Bool) → (Choices → Bool) → (List InputLine → Type 0) → (List InputLine → Type 0)
-    → (List InputLine → Type 0) → (List InputLine → Type 0) → Type 0
+    → (Choices → Bool) → (Choices → Bool) → (Choices → List InputLine → Type 0)
+    → (Choices → List InputLine → Type 0) → (List InputLine → Type 0) → (List InputLine → Type 0) → Type 0
 KeepsAllBeside before after count counted served serves knew knows had_found has_found = (after ≡ before)
     × (counted ≡ count) × ((choices : Choices) → served choices ≡ true → serves choices ≡ true)
-    × ((lines : List InputLine) → knew lines → knows lines)
+    × ((choices : Choices) (lines : List InputLine) → knew choices lines → knows choices lines)
     × ((lines : List InputLine) → had_found lines → has_found lines)
 
 -- an engine has made this step, and no line is ready; its choices are as they were, and a fault that it

@@ -1,5 +1,5 @@
 -- What a direction has to keep to, in the words of a filter.
-use Rattle.std.specs.Prelude.{◌≡◌, ℕ, true, List, [], ◌∷◌, ◌++◌, map, length, Some, reverse}
+use Rattle.std.specs.Prelude.{◌≡◌, ℕ, Bool, true, List, [], ◌∷◌, ◌++◌, map, length, Some, reverse}
 use Rattle.crx_base.specs.meaning.Lines.{InputLine, lines_text}
 use Rattle.crx_base.specs.meaning.AsRead.{ReadLine, Overlong, as_read}
 use Rattle.crx_base.specs.declared.fault.At.{At}
@@ -29,22 +29,22 @@ pub record EndsLineByLine (filter : Filter) {O K : Type 0} (lines : List InputLi
       (noticed_by end.answer)
   pub fault : (filter.whole lines).fault ≡ failed_by end.answer
 
--- a direction goes line by line as its filter says, by the state after some lines and by the lines that it hands
--- out at
--- a good end after them
+-- a direction goes line by line as its filter says, by the state after some lines, by the lines that it hands out
+-- at a good end after them, and by whether a line after them may need more memory than they did
 pub record GoesLineByLine {U O K : Type 0} (direction : Direction U O K) (closing_after : List InputLine
-    → List (List ℕ)) (state_after_lines : List ReadLine → RunState O K) (filter : Filter) : Type 0 where
+    → List (List ℕ)) (state_after_lines : List ReadLine → RunState O K)
+    (outgrows : List InputLine → InputLine → Bool) (filter : Filter) : Type 0 where
   pub follows : (lines : List InputLine) (line : InputLine) → FollowsBy filter lines line
       (state_after_lines (map as_read (with_next lines line))) (fed direction (state_after_lines (map as_read lines)) (as_read line))
   pub ends : (lines : List InputLine) → EndsLineByLine filter lines
       (state_end_with direction (closing_after lines) (state_after_lines (map as_read lines)))
   pub number : (lines : List InputLine) → (state_after_lines (map as_read lines)).number ≡ length lines
-  -- memory may run out at a line at once, or after the warning of one that comes again
-  pub memory_first : (lines : List InputLine) (line : InputLine)
+  -- memory may run out at a line that needs more: at once, or after the warning of one that comes again
+  pub memory_first : (lines : List InputLine) (line : InputLine) → outgrows lines line ≡ true
       → takes_memory direction (state_after_lines (map as_read lines)) (as_read line) ≡ true
       → filter.memory_after lines line ≡ Some []
   pub memory_again : (lines : List InputLine) (line : InputLine) (next : RunState O K) (notice : At)
-      → record { answer = Notice notice true; handed_out = []; next = next }
+      → outgrows lines line ≡ true → record { answer = Notice notice true; handed_out = []; next = next }
       ≡ state_next direction (state_after_lines (map as_read lines)) (as_read line)
       → takes_memory direction next (as_read line) ≡ true → filter.memory_after lines line ≡ Some (notice ∷ [])
   -- a line that is too long is a fault
@@ -53,6 +53,8 @@ pub record GoesLineByLine {U O K : Type 0} (direction : Direction U O K) (closin
 
 -- a direction keeps to what its filter says, whatever the choices are that it takes of the user's
 abbrev pub IsLawfulDirection : {U O K : Type 0} → Direction U O K → (Choices → Choices)
-    → (Choices → List InputLine → List (List ℕ)) → (Choices → List ReadLine → RunState O K) → (Choices → Filter) → Type 0
-IsLawfulDirection direction chosen closing_after state_after_lines filter = (choices : Choices) → chosen choices ≡ choices
-    → GoesLineByLine direction (closing_after choices) (state_after_lines choices) (filter choices)
+    → (Choices → List InputLine → List (List ℕ)) → (Choices → List ReadLine → RunState O K)
+    → (Choices → List InputLine → InputLine → Bool) → (Choices → Filter) → Type 0
+IsLawfulDirection direction chosen closing_after state_after_lines outgrows filter = (choices : Choices)
+    → chosen choices ≡ choices → GoesLineByLine direction (closing_after choices) (state_after_lines choices)
+    (outgrows choices) (filter choices)

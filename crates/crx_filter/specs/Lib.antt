@@ -30,4 +30,5 @@ pub mod LenderState
 pub mod CheckerState
 pub mod CheckingParts
 pub mod Rooms
+pub mod ExpansionRooms
 pub mod Holdings

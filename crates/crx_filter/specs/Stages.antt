@@ -49,9 +49,3 @@ is_settled Looking = true
 is_settled Closed = true
 is_settled (Ended at) = true
 is_settled stage = false
-
--- whether a line that is too long is passed over
-abbrev pub is_passing : Stage → Bool
-is_passing Looking = true
-is_passing Closed = true
-is_passing stage = false

@@ -215,9 +215,11 @@ impl Direction for Checking {
 
     ghost has_room = { HasRoomInCheck };
 
-    ghost knows = { HasNoted };
+    ghost knows = { λ c choices lines. HasNoted c lines };
 
     ghost has_found = { HasFound };
+
+    ghost outgrows = { λ choices lines line. true };
 
     ghost skipping = { λ c choices lines taken skips. never_skips choices taken skips };
 

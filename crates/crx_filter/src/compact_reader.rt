@@ -1,9 +1,13 @@
 //! Compact RINEX 3.0, one line at a time: what each line is, the observation types in force, and the epoch whose lines come.
 
-ghost use Rattle.std.specs.Prelude.{◌≡◌, ◌≢◌, ◌≤◌, ◌⊎◌, if◌then◌else◌, [], None, true, false, length, IfErr};
+ghost use Rattle.std.specs.Prelude.{◌≡◌, ◌≢◌, ◌≤◌, ◌⊎◌, if◌then◌else◌, List, [], None, true, false, length, IfErr};
 ghost use Rattle.crx_base.specs.declared.limits.TheConstants.{LINE_LIMIT};
 ghost use Rattle.crx_base.specs.meaning.Choices.{Choices};
+ghost use Rattle.crx_rinex.specs.meaning.Observations.{Epoch};
+ghost use Rattle.crx_compact.specs.LineLists.{BlockRoom};
 ghost use Rattle.crx_compact.specs.OpenEpochs.{tail_held};
+ghost use Rattle.crx_compact.specs.OpenEpochs.ColumnsState.{Idle};
+ghost use Rattle.crx_compact.specs.ReadingRooms.{no_reading_room};
 ghost use Rattle.crx_header.specs.meaning.EpochColumns.{begins_epoch};
 ghost use Rattle.crx_filter.specs.CompactStages.{is_compact_stage};
 ghost use Rattle.crx_filter.specs.Stages.{is_ended, is_settled};
@@ -33,12 +37,14 @@ impl CompactReader {
     ghost use Rattle.crx_filter.specs.CompactReaders.{ReadsCompactLine, compact_reader_parts, line_copied};
     ghost use Rattle.crx_filter.specs.DirectionParts.{state_by};
     ghost use Rattle.crx_filter.specs.ExpansionByLine.{expansion_state};
+    ghost use Rattle.crx_filter.specs.ExpansionRooms.{AreHeldAmong, AreHeldInColumns, AreHeldInLines};
     ghost use Rattle.crx_filter.specs.Rooms.{HasRoomToBegin, do_types_count, may_begin};
 
     /// A reader before the first line.
     pub fn new(alloc: Global) -> CompactReader
         ensures start { (choices : Choices) → state_by choices 0 (compact_reader_parts result)
             ≡ expansion_state choices [] }
+        ensures nothing { (result.columns.state ≡ Idle None) × (result.columns.room ≡ no_reading_room) }
     {
         CompactReader {
             stage: Stage::FirstLines { count: 0 },
@@ -57,6 +63,9 @@ impl CompactReader {
         requires drained { lines.old.lines ≡ [] }
         ensures reads { ReadsCompactLine self.old line.now result lines.new.lines self.new }
         ensures unasked { IfErr result (λ fault. fault ≡ Fault.OutOfMemory → ⊥) }
+        // There is room for as many epochs as before, and for the one whose lines come: its block goes to the lines that are ready.
+        ensures held { (epochs : List Epoch) → AreHeldInColumns epochs self.old.columns lines.old.room
+            → AreHeldAmong epochs self.new.columns lines.new.room }
     {
         match self.columns.feed_into(line, lines) {
             Ok(false) => Ok(false),
@@ -89,6 +98,11 @@ impl CompactReader {
             → (may_begin self.old.stage ≡ true
             → HasRoomToBegin self.old.types (tail_held self.old.columns.state) line.now self.old.columns.room)
             → IfErr result (λ fault. fault ≡ Fault.OutOfMemory → ⊥) }
+        // There is room for as many epochs as before, and for one that the line begins.
+        ensures held { (epochs : List Epoch) (lines : BlockRoom) → AreHeldInColumns epochs self.old.columns lines
+            → AreHeldInColumns epochs self.new.columns lines }
+        ensures beside { may_begin self.old.stage ≡ false → (epochs : List Epoch) (lines : BlockRoom)
+            → AreHeldInLines epochs self.old.columns lines → AreHeldInLines epochs self.new.columns lines }
     {
         match self.stage {
             Stage::FirstLines { count: 0 } => {
@@ -134,6 +148,8 @@ impl CompactReader {
         ensures reads { ReadsCompactLine self.old line.now result (line_copied line.now result) self.new }
         ensures known { HasRoomToBegin self.old.types (tail_held self.old.columns.state) line.now
             self.old.columns.room → IfErr result (λ fault. fault ≡ Fault.OutOfMemory → ⊥) }
+        ensures held { (epochs : List Epoch) (lines : BlockRoom) → AreHeldInColumns epochs self.old.columns lines
+            → AreHeldInColumns epochs self.new.columns lines }
     {
         if is_event_line(line) {
             let count = records_announced(line)?;
@@ -151,6 +167,8 @@ impl CompactReader {
         ensures stage { self.new.stage ≡ stage }
         ensures types { self.new.types ≡ self.old.types }
         ensures tail { tail_held self.new.columns.state ≡ None }
+        ensures held { (epochs : List Epoch) (lines : BlockRoom) → AreHeldAmong epochs self.old.columns lines
+            → AreHeldAmong epochs self.new.columns lines }
     {
         self.columns.reset();
         self.stage = stage;

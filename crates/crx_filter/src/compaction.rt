@@ -2,6 +2,7 @@
 
 ghost use Rattle.std.specs.Prelude.{◌≡◌, [], false, length, is_some, Some, IfSome, IfOk, IfErr, true};
 ghost use Rattle.crx_compact.specs.Encoding.{tail_in};
+ghost use Rattle.crx_compact.specs.EncodingRooms.{HasSameMemory};
 ghost use Rattle.crx_compact.specs.Steps.{lines_after_tail, tail_after};
 ghost use Rattle.crx_compact.specs.Written.{epoch_by_rows};
 ghost use Rattle.crx_rinex.specs.meaning.EpochLines.{ObservationHead};
@@ -36,8 +37,8 @@ pub struct Compaction {
 /// `BadTypesLine`; `BadTypesLine` among an event's records, where types lines count; and where faults aren't skipped `NotAnEpoch`,
 /// `BadEpoch` and `BadClock` where an epoch or an event may begin, and `Truncated`, `BadSatellite`, `BadField`, `BadFlags` and
 /// `RepeatedSatellite` in an epoch. `OutOfMemory` comes only at a line without a fault: the first types line that counts, and a satellite's
-/// line. At the end the fault is `MissingVersion` before the first line, `NoEndOfHeader` in the header,
-/// `Truncated` among an event's records, and in an epoch where faults aren't skipped.
+/// line that needs more than the epochs accepted before it. At the end the fault is `MissingVersion` before the first line,
+/// `NoEndOfHeader` in the header, `Truncated` among an event's records, and in an epoch where faults aren't skipped.
 pub type Compactor = Lender<Compaction>;
 
 impl Model for Compaction {
@@ -102,6 +103,7 @@ fn end_epoch(reader: &RinexReader, encoder: &mut Encoder)
         ≡ Some (tail_after (tail_in encoder.old) (epoch_by_rows head encoder.old.rows)) }
     ensures closed { encoder.new.is_open ≡ false }
     ensures rows { encoder.new.rows ≡ [] }
+    ensures memory { HasSameMemory encoder.old.room encoder.new.room }
 {
     let Some(head) = &reader.head else {
         unreachable!()
@@ -114,7 +116,7 @@ impl Direction for Compaction {
     ghost use Rattle.crx_rinex.specs.meaning.EpochPlaces.{OpenEpoch};
     ghost use Rattle.crx_rinex.specs.meaning.Observations.{Epoch as ObservationEpoch};
     ghost use Rattle.crx_filter.specs.CompactionByLine.{Written, compaction, compaction_state};
-    ghost use Rattle.crx_filter.specs.CompactionParts.{compaction_parts, is_full_where_due};
+    ghost use Rattle.crx_filter.specs.CompactionParts.{HoldsEpochs, compaction_line_outgrows, compaction_parts, is_full_where_due};
     ghost use Rattle.crx_filter.specs.Rooms.{HasRoomInCompaction};
     ghost use Rattle.crx_filter.specs.meaning.Directions.{compaction_filter};
 
@@ -149,11 +151,13 @@ impl Direction for Compaction {
 
     ghost has_room = { HasRoomInCompaction };
 
-    ghost knows = { λ c lines. ⊤ };
+    ghost knows = { HoldsEpochs };
 
     ghost has_found = { λ c lines. ⊤ };
 
-    ghost skipping = { λ c choices lines taken skips. (tt, tt) };
+    ghost outgrows = { compaction_line_outgrows };
+
+    ghost skipping = { λ c choices lines taken skips. tt };
 
     fn chosen(options: Options) -> Options {
         options

@@ -8,12 +8,12 @@ ghost use Rattle.crx_base.specs.meaning.Choices.{Choices};
 ghost use Rattle.crx_base.specs.meaning.Lines.{InputLine, lines_text};
 ghost use Rattle.crx_base.specs.meaning.AsRead.{ReadLine};
 ghost use Rattle.crx_lines.specs.Reading.{line_number, line_shown};
-ghost use Rattle.crx_runs.specs.meaning.Filters.{Filter, with_next};
-ghost use Rattle.crx_filter.specs.DirectionParts.{AwaitsLine, CountsOneAtMost, DirectionParts, IsAfterLines, KeepsAllBeside, KnowsNext, Reads, answer_for, handed_out_by, hands_out, state_by};
+ghost use Rattle.crx_runs.specs.meaning.Filters.{Filter};
+ghost use Rattle.crx_filter.specs.DirectionParts.{AwaitsLine, CountsOneAtMost, DirectionParts, HasEnough, IsAfterLines, KeepsAllBeside, KnowsNext, KnowsStill, Reads, answer_for, handed_out_by, hands_out, state_by};
 ghost use Rattle.crx_filter.specs.EngineLaws.{IsLawfulDirection};
 ghost use Rattle.crx_filter.specs.LineByLine.{Direction as DirectionByLine, RunState, answer_of_lines, fault_at_end_in};
 ghost use Rattle.crx_filter.specs.RinexStages.{is_open_stage};
-ghost use Rattle.crx_filter.specs.Stages.{bare_phase, is_ended, is_held, is_passing, is_settled};
+ghost use Rattle.crx_filter.specs.Stages.{bare_phase, is_ended, is_held, is_settled};
 ghost use Rattle.crx_filter.specs.declared.stage.Stage.{Stage};
 
 use crate::stage::Stage;
@@ -63,14 +63,20 @@ pub trait Direction: Drop {
     // What it holds is enough for the line with this content.
     ghost has_room: { Self → List ℕ → Type 0 };
 
-    // What it has noted of these lines, beside what is seen of it; and at a good end, what it has found in them.
-    ghost knows: { Self → List InputLine → Type 0 };
+    // What it knows of these lines by these choices, beside what is seen of it: that the memory that it holds is enough for their epochs, or
+    // what a check has noted of them.
+    ghost knows: { Self → Choices → List InputLine → Type 0 };
 
+    // What it has found in these lines at a good end.
     ghost has_found: { Self → List InputLine → Type 0 };
 
-    // One that skips faults has nothing to note or to find.
+    // Whether a line that comes after these may need more memory than they did; where none is needed at all, either may be said. The filter is
+    // held to say the same (`lawful`).
+    ghost outgrows: { Choices → List InputLine → InputLine → Bool };
+
+    // One that skips faults has nothing to find.
     ghost skipping: { (d : Self) (choices : Choices) (lines : List InputLine)
-        → chosen choices ≡ choices → choices.skip ≡ true → knows d lines × has_found d lines };
+        → chosen choices ≡ choices → choices.skip ≡ true → has_found d lines };
 
     /// The user's choices, as it takes them.
     fn chosen(options: Options) -> Options
@@ -84,17 +90,17 @@ pub trait Direction: Drop {
         ensures drained { IfOk result (λ d. ready d ≡ []) }
         ensures counted { IfOk result (λ d. counted d ≡ 0) }
         ensures serves { (choices : Choices) → IfOk result (λ d. serves d choices ≡ true) }
-        ensures knows { IfOk result (λ d. knows d []) }
+        ensures knows { (choices : Choices) → IfOk result (λ d. knows d choices []) }
         ensures asked { OnErr result (takes_at_start ≡ true) };
 
     /// Where it is between two lines.
     fn stage(&self) -> Stage
         ensures value { result ≡ (parts self.now).stage }
         ensures held { is_held result (parts self.now).begun ≡ true }
-        ensures lawful { IsLawfulDirection by_line chosen closing_after state_after_lines filter }
-        ensures passes { (choices : Choices) (lines : List InputLine) (line : InputLine)
-            → IsAfterLines chosen state_after_lines choices lines (parts self.now) → is_passing result ≡ true
-            → knows self.now lines → knows self.now (with_next lines line) };
+        ensures lawful { IsLawfulDirection by_line chosen closing_after state_after_lines outgrows filter }
+        ensures passes { KnowsStill by_line chosen state_after_lines (parts self.now) (knows self.now) }
+        ensures enough { HasEnough by_line chosen state_after_lines outgrows (parts self.now)
+            (knows self.now) (has_room self.now) };
 
     /// Takes a line of an open epoch: `true` says that lines are ready.
     fn go_on(&mut self, line: Line<'_>) -> Result<bool, Fault>
@@ -104,11 +110,11 @@ pub trait Direction: Drop {
             (line_shown line.entry).content result (ready self.new) (parts self.new) }
         ensures serves { (choices : Choices) → serves self.old choices ≡ true → serves self.new choices ≡ true }
         ensures counted { CountsOneAtMost result (counted self.old) (counted self.new) }
-        ensures knows { KnowsNext chosen state_after_lines (parts self.old) (knows self.old) (knows self.new)
-            (line_number line.entry) (line_shown line.entry) result }
+        ensures knows { KnowsNext by_line chosen state_after_lines (parts self.old) (knows self.old)
+            (knows self.new) (line_number line.entry) (line_shown line.entry) result }
         // After a fault it has noted of the lines before what it had noted.
-        ensures stays { (lines : List InputLine) → knows self.old lines
-            → OnErr result (knows self.new lines) }
+        ensures stays { (choices : Choices) (lines : List InputLine) → knows self.old choices lines
+            → OnErr result (knows self.new choices lines) }
         // Where there is room for the line, the answer isn't for want of memory.
         ensures known { has_room self.old (line_shown line.entry).content
             → IfErr result (λ fault. fault ≡ Fault.OutOfMemory → ⊥) };
@@ -123,10 +129,10 @@ pub trait Direction: Drop {
             (handed_out_by result (line_shown line.entry).content (ready self.new)) (parts self.new) }
         ensures serves { serves self.new options.now ≡ true }
         ensures counted { CountsOneAtMost (hands_out result) (counted self.old) (counted self.new) }
-        ensures knows { KnowsNext chosen state_after_lines (parts self.old) (knows self.old) (knows self.new)
-            (line_number line.entry) (line_shown line.entry) (hands_out result) }
-        ensures stays { (lines : List InputLine) → knows self.old lines
-            → OnErr result (knows self.new lines) }
+        ensures knows { KnowsNext by_line chosen state_after_lines (parts self.old) (knows self.old)
+            (knows self.new) (line_number line.entry) (line_shown line.entry) (hands_out result) }
+        ensures stays { (choices : Choices) (lines : List InputLine) → knows self.old choices lines
+            → OnErr result (knows self.new choices lines) }
         ensures known { has_room self.old (line_shown line.entry).content
             → IfErr result (λ fault. fault ≡ Fault.OutOfMemory → ⊥) };
 
@@ -140,7 +146,8 @@ pub trait Direction: Drop {
         ensures drained { ready self.new ≡ [] }
         ensures serves { (choices : Choices) → serves self.new choices ≡ true }
         ensures counted { counted self.new ≤ counted self.old }
-        ensures stays { (lines : List InputLine) → knows self.old lines → knows self.new lines };
+        ensures stays { (choices : Choices) (lines : List InputLine)
+            → knows self.old choices lines → knows self.new choices lines };
 
     /// Takes a good end of the input: `true` says that lines are ready.
     fn conclude(&mut self) -> bool
@@ -153,7 +160,8 @@ pub trait Direction: Drop {
         ensures serves { (choices : Choices) → serves self.new choices ≡ true }
         ensures counted { counted self.new ≤ counted self.old }
         ensures closing { (choices : Choices) (lines : List InputLine)
-            → IsAfterLines chosen state_after_lines choices lines (parts self.old) → knows self.old lines
+            → IsAfterLines chosen state_after_lines choices lines (parts self.old)
+            → knows self.old choices lines
             → (closing self.old ≡ closing_after choices lines) × has_found self.new lines };
 
     /// Whether none of the lines that were ready is pending.

@@ -39,11 +39,12 @@ impl<D: Direction> Engine<D> {
     ghost use Rattle.std.specs.Borrow.{sem};
     ghost use Rattle.std.specs.Io.BufRead.{Rests};
     ghost use Rattle.std.specs.Option.{option_copied};
+    ghost use Rattle.crx_base.specs.meaning.Choices.{Choices};
     ghost use Rattle.crx_base.specs.meaning.Lines.{InputLine, is_long};
     ghost use Rattle.crx_base.specs.declared.fault.At.{At};
     ghost use Rattle.crx_lines.specs.Reading.{line_number, line_shown};
     ghost use Rattle.crx_filter.specs.DirectionParts.{AnswersToFault, IsAfterLines};
-    ghost use Rattle.crx_filter.specs.EngineState.{EngineAwaits, EngineConcludes, EngineEnds, EngineGoes, EngineKeepsNotes, EngineReads, EngineSkips, RanOutBefore, engine_ready, engine_state, engine_took};
+    ghost use Rattle.crx_filter.specs.EngineState.{AnswersBySeen, ConcludesBySeen, EngineAwaits, EngineConcludes, EngineEnds, EngineGoes, EngineKeepsNotes, EngineReads, EngineSkips, RanOutBefore, engine_ready, engine_state, engine_took, is_refusal};
     ghost use Rattle.crx_filter.specs.LineByLine.{Ended, may_skip};
     ghost use Rattle.crx_filter.specs.RinexStages.{is_open_stage};
     ghost use Rattle.crx_filter.specs.Stages.{bare_phase};
@@ -56,7 +57,7 @@ impl<D: Direction> Engine<D> {
     pub fn new(alloc: Global, options: Options) -> Result<Engine<D>, AllocError>
         ensures state { IfOk result (λ e. engine_state D.Direction e ≡ D.state_after_lines (D.chosen options) []) }
         ensures drained { IfOk result (λ e. engine_ready D.Direction e ≡ []) }
-        ensures knows { IfOk result (λ e. D.knows e.direction []) }
+        ensures knows { IfOk result (λ e. D.knows e.direction e.options []) }
         ensures asked { OnErr result (D.takes_at_start ≡ true) }
     {
         let direction = D::new(alloc)?;
@@ -80,10 +81,10 @@ impl<D: Direction> Engine<D> {
         ensures drained { engine_ready D.Direction self.new ≡ [] }
         ensures options { self.new.options ≡ self.old.options }
         ensures ended { IfErr self.new.answer (λ at. (engine_state D.Direction self.new).phase ≡ Ended at) }
-        ensures skips { IfOk self.new.answer (λ step. self.old.options.skip ≡ true) }
+        ensures refuses { is_refusal self.new.answer ≡ true }
         ensures fault { IfErr self.new.answer (λ at. at.fault ≡ fault) }
-        ensures stays { (lines : List InputLine) → D.knows self.old.direction lines
-            → D.knows self.new.direction lines }
+        ensures stays { (choices : Choices) (lines : List InputLine)
+            → D.knows self.old.direction choices lines → D.knows self.new.direction choices lines }
     {
         let notice = At {
             line: self.number,
@@ -166,7 +167,8 @@ impl<D: Direction> Engine<D> {
         ensures stops { EngineEnds D.Direction self.old result self.new }
         ensures closing { (lines : List InputLine)
             → IsAfterLines D.chosen D.state_after_lines self.old.options lines (D.parts self.old.direction)
-            → D.knows self.old.direction lines → EngineConcludes D.Direction self.old lines result self.new }
+            → D.knows self.old.direction self.old.options lines
+            → EngineConcludes D.Direction self.old lines result self.new }
         ensures goes { EngineGoes D.Direction self.old }
         ensures unasked { RanOutBefore D.Direction self.old result }
         ensures stays { EngineKeepsNotes D.Direction self.old result self.new }
@@ -208,6 +210,8 @@ impl<D: Direction> Engine<D> {
             → engine_took D.Direction self.old lines notices → IsAwaited notices line → is_long line ≡ true
             → EngineAnswers (D.filter (engine_state D.Direction self.old).choices)
             (engine_took D.Direction self.new) (engine_ready D.Direction self.new) lines notices line result }
+        ensures by_seen { (line : InputLine) → is_long line ≡ true
+            → AnswersBySeen D.Direction self.old line result (engine_ready D.Direction self.new) self.new }
         ensures repeated { (at : At) → (engine_state D.Direction self.old).phase ≡ Ended at → result ≡ Err at }
         ensures unasked { RanOutBefore D.Direction self.old result }
         ensures stays { EngineKeepsNotes D.Direction self.old result self.new }
@@ -232,6 +236,7 @@ impl<D: Direction> Engine<D> {
         // After the lines that it has taken, the answer is what its direction makes of them all.
         ensures concludes { (lines : List InputLine) → engine_took D.Direction self.old lines []
             → Concludes (D.filter (engine_state D.Direction self.old).choices) (engine_ready D.Direction self.new) lines result }
+        ensures by_seen { ConcludesBySeen D.Direction self.old result (engine_ready D.Direction self.new) }
         // After a good end it has found in them what is to be found.
         ensures found { (lines : List InputLine) → engine_took D.Direction self.old lines []
             → IfOk result (λ step. D.has_found self.new.direction lines) }
@@ -255,7 +260,8 @@ impl<D: Direction> Engine<D> {
         // That line is no longer pending; all else of the engine is the same, and of its direction what is seen, known and found.
         ensures* after_borrow { sem 𝓛 (Rests (the_row D.row D.Direction) self.entry (λ new. (engine_ready D.Direction new
             ≡ drop 1 (engine_ready D.Direction self.old)) × (engine_state D.Direction new ≡ engine_state D.Direction self.old)
-            × ((lines : List InputLine) → D.knows self.old.direction lines → D.knows new.direction lines)
+            × ((choices : Choices) (lines : List InputLine) → D.knows self.old.direction choices lines
+            → D.knows new.direction choices lines)
             × ((lines : List InputLine) → D.has_found self.old.direction lines → D.has_found new.direction lines)
             × (new ≡ record self.old { direction = new.direction })
             × (D.parts new.direction ≡ D.parts self.old.direction))) }

@@ -24,18 +24,22 @@ pub struct Expansion {
 /// `NotObservation` and `BadTypesLine` in the header; `BadTypesLine` among an event's records, where types lines count; and where faults
 /// aren't skipped those of an event's first line and of [`Columns::begin`](crx_compact::Columns::begin) and
 /// [`Columns::feed`](crx_compact::Columns::feed). `OutOfMemory` comes only at a line without a fault: the first types line that counts, and
-/// an epoch's first line. At the end the fault is `NotCompact` before the first line, `BadProgLine` before the second, `MissingVersion`
-/// before the header, `NoEndOfHeader` in it, `Truncated` among an event's records, and in an epoch where faults aren't skipped.
+/// an epoch's first line that needs more than the epochs accepted before it. At the end the fault is `NotCompact` before the first line,
+/// `BadProgLine` before the second, `MissingVersion` before the header, `NoEndOfHeader` in it, `Truncated` among an event's records, and in an
+/// epoch where faults aren't skipped.
 pub type Expander = Lender<Expansion>;
 
 impl Direction for Expansion {
-    ghost use Rattle.std.specs.Prelude.{⊤, Option, true, false, []};
+    ghost use Rattle.std.specs.Prelude.{⊤, Option, true, false, [], map};
+    ghost use Rattle.crx_base.specs.meaning.AsRead.{as_read};
     ghost use Rattle.crx_compact.specs.OpenEpochs.{HeldEpoch, OpenRawEpoch};
     ghost use Rattle.crx_compact.specs.Tails.{Tail};
     ghost use Rattle.crx_filter.specs.ExpansionByLine.{expansion, expansion_state};
     ghost use Rattle.crx_filter.specs.ExpansionParts.{expansion_parts};
+    ghost use Rattle.crx_filter.specs.ExpansionRooms.{HasRoomForLines};
     ghost use Rattle.crx_filter.specs.Rooms.{HasRoomInExpansion};
-    ghost use Rattle.crx_filter.specs.meaning.Directions.{expansion_filter};
+    ghost use Rattle.crx_filter.specs.meaning.Directions.{compact_reading, expansion_filter};
+    ghost use Rattle.crx_filter.specs.meaning.Memory.{expansion_outgrows};
 
     ghost Whole = { HeldEpoch };
 
@@ -67,11 +71,14 @@ impl Direction for Expansion {
 
     ghost has_room = { HasRoomInExpansion };
 
-    ghost knows = { λ e lines. ⊤ };
+    ghost knows = { HasRoomForLines };
 
     ghost has_found = { λ e lines. ⊤ };
 
-    ghost skipping = { λ e choices lines taken skips. (tt, tt) };
+    ghost outgrows = { λ choices lines line.
+        expansion_outgrows (compact_reading choices.skip (map as_read lines)) (as_read line) };
+
+    ghost skipping = { λ e choices lines taken skips. tt };
 
     fn chosen(options: Options) -> Options {
         options

@@ -50,12 +50,14 @@ impl<D: Direction> Lender<D> {
     ghost use Rattle.std.specs.Io.BufRead.{Rests};
     ghost use Rattle.std.specs.Option.{option_copied};
     ghost use Rattle.crx_base.specs.declared.fault.At.{At};
+    ghost use Rattle.crx_base.specs.declared.fault.Fault.TheVariants.{OutOfMemory};
     ghost use Rattle.crx_base.specs.declared.limits.TheConstants.{INPUT_LIMIT, LINE_LIMIT};
     ghost use Rattle.crx_base.specs.meaning.AsRead.{Content};
+    ghost use Rattle.crx_base.specs.meaning.Choices.{Choices};
     ghost use Rattle.crx_base.specs.meaning.Lines.{InputLine, is_long};
     ghost use Rattle.crx_lines.specs.Reading.{line_number, line_shown};
     ghost use Rattle.crx_filter.specs.EngineSteps.{Steps};
-    ghost use Rattle.crx_filter.specs.EngineState.{EngineKeepsNotes, RanOutBefore, engine_ready};
+    ghost use Rattle.crx_filter.specs.EngineState.{AnswersBySeen, ConcludesBySeen, EngineKeepsNotes, RanOutBefore, engine_ready};
     ghost use Rattle.crx_filter.specs.LenderState.{LenderEnds, LenderSkips, lender_ready, lender_state, lender_took};
     ghost use Rattle.crx_filter.specs.LineByLine.{Ended};
     ghost use Rattle.crx_filter.specs.contracts.lender.Lender.{the_row};
@@ -65,7 +67,7 @@ impl<D: Direction> Lender<D> {
     pub fn new(alloc: Global, options: Options) -> Result<Lender<D>, AllocError>
         ensures state { IfOk result (λ e. lender_state D.Direction e ≡ D.state_after_lines (D.chosen options) []) }
         ensures drained { IfOk result (λ e. lender_ready D.Direction e ≡ []) }
-        ensures knows { IfOk result (λ e. D.knows e.engine.direction []) }
+        ensures knows { IfOk result (λ e. D.knows e.engine.direction e.engine.options []) }
     {
         let engine = Engine::new(alloc, options)?;
         let copied = Box::new(alloc, Text::new())?;
@@ -103,6 +105,9 @@ impl<D: Direction> Lender<D> {
             → lender_took D.Direction self.old lines notices → IsAwaited notices line → is_long line ≡ true
             → EngineAnswers (D.filter (lender_state D.Direction self.old).choices)
             (lender_took D.Direction self.new) (lender_ready D.Direction self.new) lines notices line result }
+        // The same after any lines that leave what is seen of it.
+        ensures by_seen { (line : InputLine) → is_long line ≡ true → AnswersBySeen D.Direction self.old.engine
+            line result (lender_ready D.Direction self.new) self.new.engine }
         ensures repeated { (at : At) → (lender_state D.Direction self.old).phase ≡ Ended at → result ≡ Err at }
         ensures unasked { RanOutBefore D.Direction self.old.engine result }
         ensures stays { EngineKeepsNotes D.Direction self.old.engine result self.new.engine }
@@ -118,6 +123,10 @@ impl<D: Direction> Lender<D> {
         // After the lines that it has taken, the answer is what its direction makes of them all.
         ensures concludes { (lines : List InputLine) → lender_took D.Direction self.old lines []
             → Concludes (D.filter (lender_state D.Direction self.old).choices) (lender_ready D.Direction self.new) lines result }
+        // The same after any lines that leave what is seen of it, where a good end hands out what is to be handed out after them. A
+        // compaction and an expansion hand out nothing at the end.
+        ensures by_seen { ConcludesBySeen D.Direction self.old.engine result
+            (lender_ready D.Direction self.new) }
         // After a good end it has found in them what is to be found.
         ensures found { (lines : List InputLine) → lender_took D.Direction self.old lines []
             → IfOk result (λ step. D.has_found self.new.engine.direction lines) }
@@ -145,6 +154,10 @@ impl<D: Direction> Lender<D> {
             → lender_took D.Direction self.old lines notices → IsAwaited notices (line_shown line.entry)
             → EngineAnswers (D.filter (lender_state D.Direction self.old).choices) (lender_took D.Direction self.new)
             (lender_ready D.Direction self.new) lines notices (line_shown line.entry) result }
+        // The same after any lines that leave what is seen of it, unless memory runs out.
+        ensures by_seen { IfErr result (λ at. at.fault ≡ OutOfMemory → ⊥)
+            → AnswersBySeen D.Direction self.old.engine (line_shown line.entry) result
+            (lender_ready D.Direction self.new) self.new.engine }
         ensures repeated { (at : At) → (lender_state D.Direction self.old).phase ≡ Ended at → result ≡ Err at }
         // Where its direction has room for the line, the answer isn't for want of memory, unless such a one has ended the run before.
         ensures known { D.has_room self.old.engine.direction (line_shown line.entry).content
@@ -170,7 +183,8 @@ impl<D: Direction> Lender<D> {
         // That line is no longer pending; all else of the engine is the same, and of its direction what is seen, known and found.
         ensures* after_borrow { sem 𝓛 (Rests (the_row D.row D.Direction) self.entry (λ new. (lender_ready D.Direction new
             ≡ drop 1 (lender_ready D.Direction self.old)) × (lender_state D.Direction new ≡ lender_state D.Direction self.old)
-            × ((lines : List InputLine) → D.knows self.old.engine.direction lines → D.knows new.engine.direction lines)
+            × ((choices : Choices) (lines : List InputLine) → D.knows self.old.engine.direction choices lines
+            → D.knows new.engine.direction choices lines)
             × ((lines : List InputLine) → D.has_found self.old.engine.direction lines → D.has_found new.engine.direction lines)
             × (new.engine ≡ record self.old.engine { direction = new.engine.direction })
             × (D.parts new.engine.direction ≡ D.parts self.old.engine.direction))) }

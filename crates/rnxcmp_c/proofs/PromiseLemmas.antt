@@ -415,4 +415,5 @@ module _ {task : Task} {old new : Handle} {fed : List ℕ} {taken : BothTexts} {
 
     pub ends-was_ended : (has_ended new ≡ true) × RunHasEnded (Last task is.after (past_of fed taken))
         (joined_texts taken (texts_kept new)) (texts_kept new) answer
-    ends-was_ended = search (rules, came-to-end, reader-ended)
+    ends-was_ended = rw (is.holds, came-to-end.1)
+        (reader-ended task is.after (past_of fed taken) came-to-end.0)

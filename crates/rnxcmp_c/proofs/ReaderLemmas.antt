@@ -14,6 +14,7 @@ use Rattle.rnxcmp_c.proofs.Words.{Expand, Check, filter_for, memory_next, with_o
 use Rattle.rnxcmp_c.proofs.Words.{Reader, line_reached}
 use Rattle.rnxcmp_c.specs.{Going.{LineFails, EndsPastLimit, Breaks}, Handles.{IsOf, IsPut, EndsRunBy}}
 use Rattle.rnxcmp_c.specs.Handles.{EngineGoesOn, status_at_end}
+use Rattle.rnxcmp_c.specs.{Holding.texts_of_held, Past.{IsShortOfMemory, texts_made}}
 use Rattle.crx_runs.specs.meaning.Results.{good_status}
 
 pub filter-is : (task : Task) (engine : AnyEngine) → IsOf task engine → engine_filter engine ≡ filter_for task
@@ -73,6 +74,30 @@ module _ (task : Task) (reader : Reader) (mid : Held) (outcome : Outcome) (past 
     said-or_not : (text : List ℕ) × Last text × (waiting reader.held.messages ≡ waiting mid.messages ++ text)
     said-or_not = search (rules, ⊎_elim, fault-at, no-memory, append-nil)
 
+    -- at a line that comes after these, by any filter
+    short-made : (filter : Filter) (input : List ℕ) (lines others : List InputLine)
+        → lines_of input ≡ lines ++ others → at.line ≡ line_reached lines others
+        → IsCutBy (filter.so_far lines) (with_one_more filter lines others) (memory_next filter lines others) mid past
+        → IsMemoryLacking (is_some (memory_next filter lines others)) mid
+        → (m : IsShortOfMemory filter input (line_in outcome.fault) (texts_made past (texts_of_held reader.held)))
+        × IsMemoryLacking (is_some (memory_next filter m.lines m.others)) reader.held
+    short-made filter input lines others first number cut lacking =
+        let said = said-or_not in (
+          record {
+            lines = lines;
+            others = others;
+            first = first;
+            line_is = line-is ∙ number ∙ reached-lines lines others;
+            notices = cut.notices;
+            asked = cut.asked;
+            own = grind (arith, cut.own);
+            last = said.0;
+            last_is = said.1;
+            made = grind (arith, common_steps, cut.made, said.2, put.output_good, put.messages_good);
+          },
+          grind (arith, lacking, put.output_good, put.messages_good),
+        )
+
     short-at : (is_line : ℕ → Type 0) (input : List ℕ) → is_line at.line
         → (lines others : List InputLine) → lines_of input ≡ lines ++ others
         → at.line ≡ line_reached lines others
@@ -81,15 +106,11 @@ module _ (task : Task) (reader : Reader) (mid : Held) (outcome : Outcome) (past 
         → IsMemoryLacking (is_some (memory_next (filter_for task) lines others)) mid
         → RunIsOutOfMemory task is_line input reader outcome past
     short-at is_line input there lines others first number cut lacking =
-        let said = said-or_not in
+        let short = short-made (filter_for task) input lines others first number cut lacking in
         record {
           memory = no-memory;
           status = put.status;
-          made = inl (record {
-            at = subst is_line (sym line-is) there;
-            made = grind (arith, common_steps, line-is, reached-lines);
-            lacking = grind (arith, lacking, put.output_good, put.messages_good);
-          });
+          made = inl (record { at = subst is_line (sym line-is) there; made = short.0; lacking = short.1 });
           within = kept;
         }
 

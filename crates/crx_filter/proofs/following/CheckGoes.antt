@@ -1,8 +1,8 @@
 -- A check goes line by line, in the words of its filter: it hands out nothing before the end of the input,
 -- and then its report.
 use Rattle.crx_filter.proofs.Words
-use Words.{common_steps, arith, ℕ, ◌≡◌, false, List, [], ◌∷◌, map, Option, Some, None, refl, ap, sym, ◌∙◌}
-use Words.{reverse, map-append, length-map, InputLine, ReadLine, as_read, At, Choices, Count, Epoch}
+use Words.{common_steps, arith, ℕ, ◌≡◌, true, false, List, [], ◌∷◌, map, Option, Some, None, refl, ap, sym}
+use Words.{◌∙◌, reverse, map-append, length-map, InputLine, ReadLine, as_read, At, Choices, Count, Epoch}
 use Words.{lines_text, with_next, noticed_by, failed_by, is_again, Made, RunState, Phase, OpenEpoch, fed}
 use Words.{made_in, step_of_made, state_next, state_end, LineStep, Totals, checking, check_by_line}
 use Words.{check_reading, check_filter, no_choices, whole_reading_of, findings_of, false-true}
@@ -88,13 +88,13 @@ check-ends lines =
     }
 
 pub check-goes : (choices : Choices) → no_choices ≡ choices → GoesLineByLine check_by_line
-    (λ lines. report_lines (findings_of lines)) check_reading check_filter
+    (λ lines. report_lines (findings_of lines)) check_reading (λ lines line. true) check_filter
 check-goes choices taken = record {
   follows = check-follows;
   ends = check-ends;
   number = λ lines. length-map lines as_read;
-  memory_first = λ lines line. check-allowed (map as_read lines) (as_read line);
-  memory_again = λ lines line next notice is takes. false-true
+  memory_first = λ lines line needed. check-allowed (map as_read lines) (as_read line);
+  memory_again = λ lines line next notice needed is takes. false-true
       (sym (step-quiet (map as_read lines) (as_read line)).once
       ∙ ap (λ (s : LineStep OpenEpoch Totals). is_again s.answer) (sym is));
   too_long_first = λ types kept. refl;

@@ -111,7 +111,7 @@ two-lines first Overlong lines (Ok version) e wanted = grind (arith, common_step
 two-lines first (Content second) lines (Ok version) e wanted =
     grind (arith, common_steps, crinex_program, first_lines)
 
-before-header : (lines : List ReadLine) → first_lines lines ≡ NeedsMore → IsBeforeHeader lines
+pub before-header : (lines : List ReadLine) → first_lines lines ≡ NeedsMore → IsBeforeHeader lines
 before-header [] wanted = NoLine refl
 before-header (Overlong ∷ lines) wanted = absurd (cc)
 before-header (Content first ∷ []) wanted = by_result (crinex_version first) refl

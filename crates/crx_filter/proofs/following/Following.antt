@@ -169,7 +169,7 @@ module _ {E : Type 0} {place : List (Item E) → List ReadLine → Place (FileUn
     last-skipped skip units items number count rest line offset fault wanted e on counted =
         grind (arith, common_steps, wrong-last, within-wrong, fault-skipped)
 
-looked-through-later : (first : ReadLine) (rest : List ReadLine) (line : ReadLine)
+pub looked-through-later : (first : ReadLine) (rest : List ReadLine) (line : ReadLine)
     → drop (max (length (first ∷ rest)) 1) ((first ∷ rest) ++ line ∷ []) ≡ line ∷ []
 looked-through-later first rest line = grind (arith, common_steps, max, drop-append_seam)
 

@@ -81,7 +81,7 @@ IsStopped place items (AtLines number rest) next = (place items rest ≡ NeedsMo
 IsStopped place items (Looking number) next = (number ≡ next)
     × (header_has_ended items ≡ true) × (records_left items ≡ 0)
 
-more-units : {E : Type 0} (place : List (Item E) → List ReadLine → Place (FileUnit E))
+pub more-units : {E : Type 0} (place : List (Item E) → List ReadLine → Place (FileUnit E))
     → IsReadForward place → (skip : Bool) (items : List (Item E)) (number : ℕ) (rest : List ReadLine)
     (line : ReadLine) → reading_from place skip items number (rest ++ line ∷ [])
     ≡ reading_within place skip (suc (suc (length rest))) items number (rest ++ line ∷ [])
@@ -90,7 +90,7 @@ more-units place h skip items number rest line = enough-units place h skip (leng
     (omega (arith, length-append rest (line ∷ [])))
 
 -- what a line makes that is looked at as the first of an epoch or an event, or passed over
-made-looking : {U O K : Type 0} (direction : Direction U O K) (types : List Count) (kept : K)
+pub made-looking : {U O K : Type 0} (direction : Direction U O K) (types : List Count) (kept : K)
     (line : ReadLine)
     → can_go_on line ≡ true → made_in direction LookingOn types kept line ≡ direction.begins types kept line
 made-looking direction types kept line e = rw e refl

@@ -8,18 +8,21 @@ use proofs.Words.{printed_made, earliest, CheckState, no_choices, check_state, c
 use proofs.Words.{RinexReader, RinexStep, false-true, first_not_standard, printed_so_far, Stage}
 use proofs.Words.{phase_of_stage, epoch_open, ◌≤◌, is_open_stage, is_row, drop, Row as ObservationRow, Ok}
 use proofs.Words.{Err, IsSameReader, Choices, length-drop, check_by_line, check_reading, map, length}
-use proofs.{Words.{false≢true, Written}, following.CheckGoes.{made-alike, made-quiet}}
+use proofs.{Words.{false≢true, Written}, following.CheckGoes.{made-alike, made-quiet, step-quiet}}
 use proofs.following.{CheckedOn.{checked-on, same-state}, Following.state_in}
 use proofs.standard.{CheckEnded.kept-always, CheckLines.{IsReached, Grows, line-grows, phase-reached}}
 use proofs.steps.EngineAnswers.{as-read-short}
 use Rattle.crx_filter.specs.{CheckByLine.totals_made, CheckingParts.{AreNamed, is_reading}}
-use Rattle.crx_filter.specs.{CompactionByLine.is_before_header, DirectionParts.{DirectionParts, Reads}}
-use Rattle.crx_filter.specs.{LineByLine.Quiet as LineQuiet, RinexReaders.RefusesRinexLine, Stages.is_ended}
-use Rattle.crx_filter.specs.{Stages.is_passing, Totals.{IsBehindARow, IsCounting, totals_held, HasPrinted}}
+use Rattle.crx_filter.specs.{CompactionByLine.is_before_header, EngineLines.HasTaken, Stages.is_ended}
+use Rattle.crx_filter.specs.DirectionParts.{DirectionParts, ComesAfter, Reads, brings_nothing, state_by}
+use Rattle.crx_filter.specs.{LineByLine.Quiet as LineQuiet, RinexReaders.RefusesRinexLine}
+use Rattle.crx_filter.specs.{Totals.{IsBehindARow, IsCounting, totals_held, HasPrinted}}
 use Rattle.crx_filter.specs.meaning.{Directions.fault_so_far, Standard.{Findings, report_lines}}
 use Rattle.std.proofs.lemmas.{List.drop_all, Slice.Eq.bytes_eq-Decides}
 use Rattle.crx_filter.specs.CompactionByLine.{is_next_row}
 use Rattle.crx_header.specs.{Identifiers.has_identifier, meaning.Satellites.is_identifier}
+use Rattle.crx_runs.specs.Engines.{Awaited}
+use proofs.Words.{LineStep, Overlong, is_again, state_next}
 use proofs.Words.{Begun, Bool, Rejects, bytes_eq, has_satellite, may_take_memory, inl, inr, ◌||◌, ◌++◌, ◌∷◌}
 
 -- nothing is kept of the epochs
@@ -156,15 +159,47 @@ module _ (serves : Choices → Type 0) (before after : RinexReader) (totals : He
 
 -- ---- what a check knows
 
+-- no fault is skipped, and a line that is too long has one
+made-never : (number : ℕ) (phase : Phase OpenEpoch) (types : List Count) (kept : Totals) (content : List ℕ)
+    (made : Made ObservationEpoch OpenEpoch) → brings_nothing (step_of_made check_by_line
+    (state_in no_choices number phase types kept) (Content content) made).answer (Content content) ≡ false
+made-never number phase types kept content made = grind (arith, common_steps)
+
+never-passed : (number : ℕ) (phase : Phase OpenEpoch) (types : List Count) (kept : Totals) (line : ReadLine)
+    → IsReached phase → brings_nothing (state_next check_by_line (state_in no_choices number phase types kept)
+    line).answer line ≡ false
+never-passed number phase types kept Overlong reached = grind (arith, common_steps)
+never-passed number phase types kept (Content content) reached =
+    made-never number phase types kept content (made_in check_by_line phase types kept (Content content))
+
 -- it reads on where no fault has ended it
 pub reads-on : (begun : Option OpenEpoch) (stage : Stage) → IsReached (phase_of_stage begun stage)
     → is_ended stage ≡ false → is_reading (phase_of_stage begun stage) ≡ true
 reads-on begun stage reached running = grind (arith, common_steps, false≢true)
 
--- and passes nothing over
-pub passes-nothing : {X : Type 0} (begun : Option OpenEpoch) (stage : Stage)
-    → IsReached (phase_of_stage begun stage) → is_passing stage ≡ true → X
-passes-nothing begun stage reached passing = grind (arith, common_steps, false≢true)
+-- no line comes a second time
+module _ (choices : Choices) (lines : List InputLine) (line : InputLine)
+    (parts : DirectionParts OpenEpoch Totals) (given : ComesAfter check_by_line (λ choices. no_choices)
+    (λ choices. check_reading) choices lines line parts) where
+  pub given-after : state_by choices (length lines) parts ≡ check_reading (map as_read lines)
+  given-after = by-notices given.notices given.has_taken
+    where
+      by-notices : (notices : List Awaited)
+          → HasTaken check_by_line check_reading (state_by choices (length lines) parts) lines notices
+          → state_by choices (length lines) parts ≡ check_reading (map as_read lines)
+      by-notices [] taken = taken
+      by-notices (a ∷ []) taken = false-true (sym (step-quiet (map as_read lines) (as_read a.line)).once
+          ∙ ap (λ (s : LineStep OpenEpoch Totals). is_again s.answer) (sym taken))
+      by-notices (a ∷ b ∷ others) taken = absurd taken
+
+  -- and none is passed over
+  pub passes-nothing : {X : Type 0} → brings_nothing (state_next check_by_line
+      (state_by choices (length lines) parts) (as_read line)).answer (as_read line) ≡ true → X
+  passes-nothing passed =
+      let state = check_reading (map as_read lines) in
+      false-true (sym (never-passed state.number state.phase state.types state.kept (as_read line)
+      (phase-reached (map as_read lines))) ∙ subst (λ (s : RunState OpenEpoch Totals). brings_nothing
+      (state_next check_by_line s (as_read line)).answer (as_read line) ≡ true) given-after passed)
 
 module _ (choices : Choices) (before : RinexReader) (totals : Held) (lines : List InputLine)
     (taken : no_choices ≡ choices) (is : state_in choices (length lines) (reader_phase before) before.types

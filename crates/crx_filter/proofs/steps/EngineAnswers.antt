@@ -8,14 +8,15 @@ use proofs.Words.{Choices, with_next, step_made, Steps, is_again, Fed, fed_once,
 use proofs.Words.{RunState, Direction, Made, Rejects, Notice, LineStep, made_in, may_skip, is_in_epoch}
 use proofs.Words.{is_skipped_in, step_of_made, state_next, takes_memory, can_go_on, is_skippable, ◌++◌}
 use proofs.Words.{by_bool, Completes, false≢true, answer_of_step, noticed_by, reverse-append, false-true}
-use proofs.Words.{after_warning, failed_by}
-use Rattle.crx_filter.specs.DirectionParts.{EngineParts, IsAfterLines}
-use Rattle.crx_filter.specs.{EngineLaws.{FollowsBy, GoesLineByLine}, EngineLines.HasTaken}
-use Rattle.crx_filter.specs.EngineState.{EngineNotes, engine_state, engine_took}
+use proofs.Words.{after_warning, failed_by, RunEnded, Bool}
+use Rattle.std.specs.Prelude.{IfErr}
+use Rattle.crx_filter.specs.DirectionParts.{EngineParts, IsAfterLines, ComesAfter, state_by}
+use Rattle.crx_filter.specs.{EngineLaws.{FollowsBy, GoesLineByLine}, EngineLines.HasTaken, EngineSteps.RanOut}
+use Rattle.crx_filter.specs.EngineState.{EngineGoes, EngineNotes, KnowsAfter, RanOutBefore, engine_state}
+use Rattle.crx_filter.specs.EngineState.{AnswersBySeen, ConcludesBySeen, engine_seen, engine_took}
 use Rattle.crx_filter.specs.{Laws.is_ready, LineByLine.state_end_with, declared.direction.Direction.Ghosts}
 use Rattle.crx_runs.specs.Engines.{Awaited, IsAwaited, awaited_notices, EngineAnswers, Concludes}
 use Rattle.crx_runs.specs.{declared.engine.Step.{Step, TheVariants.Warned}, meaning.Filters.Filter}
-use Rattle.std.specs.Prelude.{IfOk, ⊤}
 use proofs.Pending.{again-lines, quiet-next, quiet-end}
 use proofs.following.Following.{fed-once as feeds-once, fed-twice as feeds-twice, failed-ends, failed-skipped}
 
@@ -63,8 +64,9 @@ comes-again direction before next line at handed_out e = again-by-made direction
 -- ---- one answer
 
 module _ {U O K : Type 0} {direction : Direction U O K} {closing_after : List InputLine → List (List ℕ)}
-    {state_after_lines : List ReadLine → RunState O K} {filter : Filter}
-    (goes : GoesLineByLine direction closing_after state_after_lines filter) where
+    {state_after_lines : List ReadLine → RunState O K} {needs : List InputLine → InputLine → Bool}
+    {filter : Filter}
+    (goes : GoesLineByLine direction closing_after state_after_lines needs filter) where
   -- ---- a line that is fed once, or comes a second time
 
   fed-once : (before : RunState O K) (line : ReadLine) (step : LineStep O K) → step ≡ state_next direction
@@ -140,41 +142,53 @@ module _ {U O K : Type 0} {direction : Direction U O K} {closing_after : List In
         (awaited_notices notices) → EngineAnswers filter shows ready lines notices line result
     ran-out shows ready notices number at result is fault place same allowed = grind (arith, common_steps)
 
-  -- an engine's own step, or memory that ran out, is an answer
-  answers-line : (shows : List InputLine → List Awaited → Type 0) (before now : RunState O K)
+  -- where a line comes a second time, the first time it gave the warning
+  first-step : (before : RunState O K) (lines : List InputLine) (a : Awaited) (line : InputLine)
+      → HasTaken direction state_after_lines before lines (a ∷ []) → a.line ≡ line
+      → record { answer = Notice a.notice true; handed_out = []; next = before }
+      ≡ state_next direction (state_after_lines (map as_read lines)) (as_read line)
+  first-step before lines a line taken awaited =
+      subst (λ (l : InputLine). record { answer = Notice a.notice true; handed_out = []; next = before }
+      ≡ state_next direction (state_after_lines (map as_read lines)) (as_read l)) awaited taken
+
+  -- an engine's own step is an answer
+  answers-step : (shows : List InputLine → List Awaited → Type 0) (before now : RunState O K)
       (lines : List InputLine) (notices : List Awaited) (line : InputLine) (ready : List (List ℕ))
       (result : Result Step At)
       → ((ls : List InputLine) (ns : List Awaited) → HasTaken direction state_after_lines now ls ns → shows ls
-      ns) → HasTaken direction state_after_lines before lines notices → IsAwaited notices line → Steps
-      direction before (as_read line) result ready now → EngineAnswers filter shows ready lines notices line
-      result
-  answers-line shows before now lines [] line ready result showing taken awaited (inl e) =
+      ns) → HasTaken direction state_after_lines before lines notices → IsAwaited notices line
+      → step_made result ready now ≡ state_next direction before (as_read line)
+      → EngineAnswers filter shows ready lines notices line result
+  answers-step shows before now lines [] line ready result showing taken awaited e =
       first-time lines line shows now ready showing result
       (subst (λ (s : RunState O K). step_made result ready now ≡ state_next direction s (as_read line)) taken
       e)
-  answers-line shows before now lines [] line ready result showing taken awaited (inr r) =
-      grind (arith, common_steps, ran-out, takes_memory, as_read)
-  answers-line shows before now lines (a ∷ []) line ready result showing taken awaited steps =
+  answers-step shows before now lines (a ∷ []) line ready result showing taken awaited e =
       subst (λ (l : InputLine). EngineAnswers filter shows ready lines
-      (record { notice = a.notice; line = l } ∷ []) line result) (sym awaited) (answers steps)
-    where
-      one : record { answer = Notice a.notice true; handed_out = []; next = before }
-          ≡ state_next direction (state_after_lines (map as_read lines)) (as_read line)
-      one = subst (λ (l : InputLine). record { answer = Notice a.notice true; handed_out = []; next = before }
-          ≡ state_next direction (state_after_lines (map as_read lines)) (as_read l)) awaited taken
+      (record { notice = a.notice; line = l } ∷ []) line result) (sym awaited)
+      (second-time lines line shows now ready showing a.notice before result
+      (first-step before lines a line taken awaited) e)
+  answers-step shows before now lines (a ∷ b ∷ others) line ready result showing taken awaited e =
+      absurd taken
 
-      answers : Steps direction before (as_read line) result ready now → EngineAnswers filter shows ready
-          lines (record { notice = a.notice; line = line } ∷ []) line result
-      answers (inl e) = second-time lines line shows now ready showing a.notice before result one e
-      answers (inr r) =
-          let again = comes-again direction (state_after_lines (map as_read lines)) before
-          (as_read line) a.notice [] one in
-          ran-out lines line shows ready (record {
-            notice = a.notice;
-            line = line;
-          } ∷ []) before.number r.at result r.is r.fault r.place (again.number ∙ goes.number lines)
-          (goes.memory_again lines line before a.notice one r.allowed)
-  answers-line shows before now lines (a ∷ b ∷ others) line ready result showing taken awaited steps =
+  -- memory that ran out where the line needs more is one
+  answers-lost : (shows : List InputLine → List Awaited → Type 0) (before now : RunState O K)
+      (lines : List InputLine) (notices : List Awaited) (line : InputLine) (ready : List (List ℕ))
+      (result : Result Step At) → HasTaken direction state_after_lines before lines notices
+      → IsAwaited notices line → needs lines line ≡ true → RanOut direction before (as_read line) result now
+      → EngineAnswers filter shows ready lines notices line result
+  answers-lost shows before now lines [] line ready result taken awaited needed r =
+      ran-out lines line shows ready [] before.number r.at result r.is r.fault r.place
+      (ap (λ (s : RunState O K). s.number) taken ∙ goes.number lines)
+      (goes.memory_first lines line needed
+      (subst (λ (s : RunState O K). takes_memory direction s (as_read line) ≡ true) taken r.allowed))
+  answers-lost shows before now lines (a ∷ []) line ready result taken awaited needed r =
+      let one = first-step before lines a line taken awaited in
+      let again = comes-again direction (state_after_lines (map as_read lines)) before
+      (as_read line) a.notice [] one in
+      ran-out lines line shows ready (a ∷ []) before.number r.at result r.is r.fault r.place
+      (again.number ∙ goes.number lines) (goes.memory_again lines line before a.notice needed one r.allowed)
+  answers-lost shows before now lines (a ∷ b ∷ others) line ready result taken awaited needed r =
       absurd taken
 
   -- ---- the end of the input
@@ -204,8 +218,9 @@ as-read-within line bytes h e = grind (arith, common_steps, as-read-short, short
 -- ---- an engine with its choices
 
 module _ {U O K : Type 0} {direction : Direction U O K} {closing_after : List InputLine → List (List ℕ)}
-    {state_after_lines : List ReadLine → RunState O K} {filter : Filter}
-    (goes : GoesLineByLine direction closing_after state_after_lines filter) where
+    {state_after_lines : List ReadLine → RunState O K} {needs : List InputLine → InputLine → Bool}
+    {filter : Filter}
+    (goes : GoesLineByLine direction closing_after state_after_lines needs filter) where
   -- the count of an engine that has taken some lines is that of the lines
   pub taken-lines : (now : RunState O K) (lines : List InputLine) (notices : List Awaited)
       → HasTaken direction state_after_lines now lines notices → now.number ≡ length lines
@@ -214,84 +229,103 @@ module _ {U O K : Type 0} {direction : Direction U O K} {closing_after : List In
       (as_read a.line) a.notice [] taken).number ∙ goes.number lines
   taken-lines now lines (a ∷ b ∷ others) taken = absurd taken
 
--- what is known after an answer to a line: of these lines where that one is to come again, else of one more
-abbrev KnowsAfter : (List InputLine → Type 0) → List InputLine → InputLine → Result Step At → Type 0
-KnowsAfter knows lines line (Ok (Warned notice true)) = knows lines
-KnowsAfter knows lines line (Ok step) = knows (with_next lines line)
-KnowsAfter knows lines line (Err at) = ⊤
+-- an answer shows what is known, too
+answers-known : (knows : List InputLine → Type 0) (lines : List InputLine) (line : InputLine)
+    (filter : Filter) (shows : List InputLine → List Awaited → Type 0) (ready : List (List ℕ))
+    (notices : List Awaited) (result : Result Step At) → KnowsAfter knows lines line result
+    → EngineAnswers filter shows ready lines notices line result
+    → EngineAnswers filter (λ ls ns. shows ls ns × knows ls) ready lines notices line result
+answers-known knows lines line filter shows ready notices result known answers = grind (arith, common_steps)
 
-module _ (knows : List InputLine → Type 0) (lines : List InputLine) (line : InputLine) where
-  all-known : (result : Result Step At) → ((ls : List InputLine) → knows ls)
-      → KnowsAfter knows lines line result
-  all-known result known = grind (arith, common_steps)
+-- no memory is taken once a fault has ended the run
+ended-takes : {U O K : Type 0} (direction : Direction U O K) (before : RunState O K) (line : ReadLine)
+    (at : At) → before.phase ≡ RunEnded at → takes_memory direction before line ≡ true → ⊥
+ended-takes direction before line at ended takes = grind (arith, common_steps, false≢true)
 
-  -- where no line is to come again
-  next-known : (result : Result Step At) → ((notice : At) → result ≡ Ok (Warned notice true) → ⊥)
-      → IfOk result (λ step. knows (with_next lines line)) → KnowsAfter knows lines line result
-  next-known result once known = grind (arith, common_steps)
-
-  -- an answer shows what is known, too
-  answers-known : (filter : Filter) (shows : List InputLine → List Awaited → Type 0) (ready : List (List ℕ))
-      (notices : List Awaited) (result : Result Step At) → KnowsAfter knows lines line result
-      → EngineAnswers filter shows ready lines notices line result
-      → EngineAnswers filter (λ ls ns. shows ls ns × knows ls) ready lines notices line result
-  answers-known filter shows ready notices result known answers = grind (arith, common_steps)
-
-module _ {D : Type 0} (d : Ghosts D) (before : EngineParts D)
-    (goes : GoesLineByLine d.by_line (d.closing_after before.options) (d.state_after_lines before.options)
-    (d.filter before.options)) (chosen : d.chosen before.options ≡ before.options) where
+module _ {D : Type 0} (d : Ghosts D) (before : EngineParts D) (goes : EngineGoes d before) where
   -- an engine that has taken some lines has come to them
   pub after-lines : (lines : List InputLine) → engine_took d before lines []
       → IsAfterLines d.chosen d.state_after_lines before.options lines (d.parts before.direction)
-  after-lines lines took = grind (arith, common_steps, taken-lines)
+  after-lines lines took = grind (arith, common_steps, taken-lines goes.lawful, goes.chosen)
+
+  -- and is given the next one
+  given-line : (lines : List InputLine) (notices : List Awaited) (line : InputLine)
+      → engine_took d before lines notices → IsAwaited notices line
+      → ComesAfter d.by_line d.chosen d.state_after_lines before.options lines line (d.parts before.direction)
+  given-line lines notices line took awaited = record {
+    taken_as = goes.chosen;
+    notices = notices;
+    has_taken = subst (λ (n : ℕ). HasTaken d.by_line (d.state_after_lines before.options)
+        (state_by before.options n (d.parts before.direction)) lines notices)
+        (taken-lines goes.lawful (engine_state d before) lines notices took.0) took.0;
+    awaited = awaited;
+  }
+
+  -- an engine whose choices are as they were answers a line by what is seen of it
+  module _ (after : EngineParts D) {ready : List (List ℕ)} (line : InputLine) (read : ReadLine)
+      (result : Result Step At) (same : after.options ≡ before.options) (is : as_read line ≡ read) where
+    pub answers-seen : step_made result ready (engine_state d after)
+        ≡ state_next d.by_line (engine_state d before) read → AnswersBySeen d before line result ready after
+    answers-seen made = λ lines notices seen awaited.
+        answers-step goes.lawful (engine_seen d after) (engine_state d before) (engine_state d after) lines
+        notices line ready result (λ ls ns then. subst (λ (c : Choices). HasTaken d.by_line
+        (d.state_after_lines c) (engine_state d after) ls ns) (sym same) then) seen awaited
+        (made ∙ ap (state_next d.by_line (engine_state d before)) (sym is))
+
+    -- where memory doesn't run out
+    pub answers-kept : IfErr result (λ at. at.fault ≡ OutOfMemory → ⊥)
+        → Steps d.by_line (engine_state d before) read result ready (engine_state d after)
+        → AnswersBySeen d before line result ready after
+    answers-kept kept (inl made) = answers-seen made
+    answers-kept kept (inr out) = absurd ((rw (out.is) at kept) out.fault)
+
+  -- and concludes by it where it hands out what is to be handed out
+  pub concludes-seen : (now : RunState d.Open d.Kept) (ready : List (List ℕ)) (result : Result Step At)
+      → step_made result ready now
+      ≡ state_end_with d.by_line (d.closing before.direction) (engine_state d before)
+      → ConcludesBySeen d before result ready
+  concludes-seen now ready result made = λ lines seen there.
+      concludes goes.lawful (engine_state d before) now lines ready result seen
+      (made ∙ ap (λ (ls : List (List ℕ)). state_end_with d.by_line ls (engine_state d before)) there)
 
   module _ (after : EngineParts D) {ready : List (List ℕ)} (lines : List InputLine) (line : InputLine)
-      (read : ReadLine)
-      (result : Result Step At) (notes : EngineNotes d before line result after)
-      (steps : Steps d.by_line (engine_state d before) read result ready
-      (engine_state d after)) where
-    -- no line is to come again where faults aren't skipped
-    never : before.options.skip ≡ false → Steps d.by_line (engine_state d before) read result
-        ready (engine_state d after) → (notice : At) → result ≡ Ok (Warned notice true) → ⊥
-    never off (inl e) notice is = false≢true (sym off ∙ (comes-again d.by_line (engine_state d before)
-        (engine_state d after) read notice ready (subst (λ (r : Result Step At). step_made r
-        ready (engine_state d after) ≡ state_next d.by_line (engine_state d before) read) is
-        e)).skips)
-    never off (inr out) notice is = absurd (cc (out.is, is))
+      (read : ReadLine) (result : Result Step At)
+      (known : d.has_room before.direction line.content → RanOutBefore d before result)
+      (notes : EngineNotes d before line result after)
+      (steps : Steps d.by_line (engine_state d before) read result ready (engine_state d after)) where
+    -- where there is room, memory doesn't run out
+    never : d.has_room before.direction line.content
+        → RanOut d.by_line (engine_state d before) (as_read line) result (engine_state d after) → ⊥
+    never room out = ended-takes d.by_line (engine_state d before) (as_read line) out.at
+        ((rw (out.is) at (known room)) out.fault) out.allowed
 
-    known-then : (notices : List Awaited) → engine_took d before lines notices
-        → KnowsAfter (d.knows after.direction) lines line result
-    known-then notices took = by_bool before.options.skip
-        (λ on. all-known (d.knows after.direction) lines line result
-        (λ ls. (d.skipping after.direction before.options ls chosen on).0))
-        (λ off. by-notices off notices took)
-      where
-        with-off : (r : Result Step At) → before.options.skip ≡ false → IfOk r (λ step. before.options.skip
-            ≡ false → d.knows after.direction (with_next lines line))
-            → IfOk r (λ step. d.knows after.direction (with_next lines line))
-        with-off (Ok step) off h = h off
-        with-off (Err at) off h = tt
+    -- so where it runs out, the line needs more
+    needed : (notices : List Awaited) → engine_took d before lines notices → IsAwaited notices line
+        → RanOut d.by_line (engine_state d before) (as_read line) result (engine_state d after)
+        → d.outgrows before.options lines line ≡ true
+    needed notices took awaited out = by_bool (d.outgrows before.options lines line) (λ on. on)
+        (λ off. by_bool (is_long line)
+        (λ long. absurd (false≢true (ap (takes_memory d.by_line (engine_state d before))
+        (sym (as-read-long line long)) ∙ out.allowed)))
+        (λ short. absurd (never (goes.enough before.options lines line
+        (given-line lines notices line took awaited) took.1 short off) out)))
 
-        by-notices : before.options.skip ≡ false → (ns : List Awaited) → engine_took d before lines ns
-            → KnowsAfter (d.knows after.direction) lines line result
-        by-notices off [] took = next-known (d.knows after.direction) lines line result (never off steps)
-            (with-off result off (notes lines (taken-lines goes (engine_state d before) lines [] took.0)
-            (after-lines lines took) took.1))
-        by-notices off (a ∷ []) took =
-            let again = comes-again d.by_line (d.state_after_lines before.options (map as_read lines))
-            (engine_state d before) (as_read a.line) a.notice [] took.0 in
-            absurd (false≢true (sym off ∙ ap (λ (c : Choices). c.skip) again.choices ∙ again.skips))
-        by-notices off (a ∷ b ∷ others) took = absurd took.0
-
-    -- an engine whose choices are as they were answers a line by what is seen of it, and shows what it took
+    -- and shows what it took
     pub engine-answers : (notices : List Awaited) → after.options ≡ before.options → as_read line ≡ read
         → engine_took d before lines notices → IsAwaited notices line → EngineAnswers
         (d.filter before.options) (engine_took d after) ready lines notices line result
-    engine-answers notices same is took awaited = answers-known (d.knows after.direction) lines line
-        (d.filter before.options) (HasTaken d.by_line (d.state_after_lines after.options) (engine_state d
-        after)) ready notices result (known-then notices took) (answers-line goes
-        (HasTaken d.by_line (d.state_after_lines after.options) (engine_state d after)) (engine_state d
-        before) (engine_state d after) lines notices line ready result (λ ls ns then. subst
-        (λ (c : Choices). HasTaken d.by_line (d.state_after_lines c) (engine_state d after) ls ns) (sym same)
-        then) took.0 awaited (subst (λ (l : ReadLine). Steps d.by_line (engine_state d before) l result
-        ready (engine_state d after)) (sym is) steps))
+    engine-answers notices same is took awaited =
+        answers-known (d.knows after.direction after.options) lines line (d.filter before.options)
+        (engine_seen d after) ready notices result
+        (subst (λ (c : Choices). KnowsAfter (d.knows after.direction c) lines line result) (sym same)
+        (notes lines (taken-lines goes.lawful (engine_state d before) lines notices took.0)
+        (given-line lines notices line took awaited) took.1)) (answered steps)
+      where
+        answered : Steps d.by_line (engine_state d before) read result ready (engine_state d after)
+            → EngineAnswers (d.filter before.options) (engine_seen d after) ready lines notices line result
+        answered (inl made) = answers-seen after line read result same is made lines notices took.0 awaited
+        answered (inr out) =
+            let lost = subst (λ (l : ReadLine). RanOut d.by_line (engine_state d before) l result
+            (engine_state d after)) (sym is) out in
+            answers-lost goes.lawful (engine_seen d after) (engine_state d before) (engine_state d after)
+            lines notices line ready result took.0 awaited (needed notices took awaited lost) lost

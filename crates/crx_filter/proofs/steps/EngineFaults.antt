@@ -4,14 +4,16 @@ use Rattle.crx_filter.specs
 use Words.{common_steps, arith, ◌≡◌, ℕ, ◌+◌, Bool, true, false, ◌&&◌, List, [], Option, Some, None, Result}
 use Words.{Ok, Err, inl, refl, Content, Overlong, At, Fault, LineTooLong, Count, Choices, RunState, Direction}
 use Words.{Rejects, made_in, RunEnded, is_skipped_in, may_skip, is_skippable, failed_step, state_next}
-use Words.{begins_epoch, step_made, is_held, phase_of_stage, Stage, false≢true}
+use Words.{begins_epoch, step_made, is_held, phase_of_stage, Stage, false≢true, InputLine, with_next}
+use Words.{ReadLine, LineStep, Steps, as_read, length, ap, sym, inr}
 use specs.DirectionParts.{DirectionParts, state_by, Reads, AnswersToFault, TakesLine, handed_out_by}
+use specs.{DirectionParts.{ComesAfter, KnowsStill, brings_nothing}, EngineState.{KnowsAfter, is_refusal}}
 use specs.{DirectionParts.hands_out, EngineSteps.answer_of_step, LineByLine.{end_step, answer_of_lines}}
 use specs.{LineByLine.fault_at_end_in, LineByLine.state_end_with, Stages.{bare_phase, is_settled}}
 use specs.declared.stage.Stage.TheVariants.{Looking, Closed, Ended}
 use Rattle.crx_filter.proofs.{Pending.state_in, steps.EngineLemmas.{failed-at, fatal-counts, out-fatal}}
 use Rattle.crx_filter.proofs.steps.EngineLemmas.{no-skip, ran-out}
-use Rattle.crx_runs.specs.declared.engine.Step.{Step, TheVariants.Warned}
+use Rattle.crx_runs.specs.declared.engine.Step.{Step, TheVariants.{Quiet, Ready, Warned}}
 use Rattle.std.proofs.Common.{OnErr, IfErr, IfOk}
 use Rattle.crx_runs.specs.Engines.{answer_given, lines_handed_out}
 use Rattle.crx_runs.specs.declared.engine.HandedOut.{HandedOut, TheVariants.{Nothing, Lines, AsItIs}}
@@ -25,19 +27,45 @@ not-settled stage a b c = grind (arith, common_steps)
 pub after-error : {A B P : Type 0} (result : Result A B) → P → OnErr result P
 after-error result is = grind (arith, common_steps)
 
--- where nothing is skipped, an answer after a fault is an error
-pub notes-nothing : {A B : Type 0} (P : Type 0) (skip : Bool) (result : Result A B) → IfOk result (λ answer.
-    skip ≡ true)
-    → IfOk result (λ answer. skip ≡ false → P)
-notes-nothing P skip result on = grind (arith, common_steps, false≢true)
+-- what is known after a line that hands something out, or nothing
+pub notes-handed : (knows : List InputLine → Type 0) (lines : List InputLine) (line : InputLine)
+    (out : HandedOut) (stored : Result Step At)
+    → IfOk (hands_out (Ok out)) (λ is_ready. knows (with_next lines line))
+    → KnowsAfter knows lines line (answer_given (Some out) stored)
+notes-handed knows lines line Nothing stored known = known
+notes-handed knows lines line Lines stored known = known
+notes-handed knows lines line AsItIs stored known = known
 
--- what is noted of a line that hands something out, or nothing
-pub notes-handed : (P : Type 0) (skip : Bool) (out : HandedOut) (stored : Result Step At)
-    → IfOk (hands_out (Ok out)) (λ is_ready. P)
-    → IfOk (answer_given (Some out) stored) (λ step. skip ≡ false → P)
-notes-handed P skip Nothing stored known = λ off. known
-notes-handed P skip Lines stored known = λ off. known
-notes-handed P skip AsItIs stored known = λ off. known
+-- a line with a warning that doesn't come again brings nothing
+warned-passed : {U O K : Type 0} (direction : Direction U O K) (before after : RunState O K) (line : ReadLine)
+    (ready : List (List ℕ)) (notice : At) → Steps direction before line (Ok (Warned notice false)) ready after
+    → brings_nothing (state_next direction before line).answer line ≡ true
+warned-passed {O = O} {K = K} direction before after line ready notice (inl e) =
+    ap (λ (s : LineStep O K). brings_nothing s.answer line) (sym e)
+warned-passed direction before after line ready notice (inr out) = absurd (cc (out.is))
+
+module _ {U O K : Type 0} (direction : Direction U O K) (chosen : Choices → Choices)
+    (state_after_lines : Choices → List ReadLine → RunState O K) (choices : Choices) (number : ℕ)
+    (before : DirectionParts O K) (knew knows : Choices → List InputLine → Type 0)
+    (past : KnowsStill direction chosen state_after_lines before knew)
+    (stays : (lines : List InputLine) → knew choices lines → knows choices lines) (line : InputLine) where
+  -- what is known after a line that was refused
+  pub notes-refused : (result : Result Step At) (read : ReadLine) (ready : List (List ℕ))
+      (after : RunState O K) → is_refusal result ≡ true → as_read line ≡ read
+      → Steps direction (state_by choices number before) read result ready after
+      → (lines : List InputLine) → number ≡ length lines
+      → ComesAfter direction chosen state_after_lines choices lines line before → knew choices lines
+      → KnowsAfter (knows choices) lines line result
+  notes-refused (Ok (Warned notice true)) read ready after refused is steps lines counted given known =
+      stays lines known
+  notes-refused (Ok (Warned notice false)) read ready after refused is steps lines counted given known =
+      stays (with_next lines line) (past choices lines line given known (rw (is, ← counted)
+      (warned-passed direction (state_by choices number before) after read ready notice steps)))
+  notes-refused (Ok Quiet) read ready after refused is steps lines counted given known =
+      absurd (false≢true refused)
+  notes-refused (Ok Ready) read ready after refused is steps lines counted given known =
+      absurd (false≢true refused)
+  notes-refused (Err at) read ready after refused is steps lines counted given known = tt
 
 module _ {U O K : Type 0} (direction : Direction U O K) where
   -- a line was taken that hands something out, or nothing

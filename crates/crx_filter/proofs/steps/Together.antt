@@ -7,9 +7,12 @@ use Words.{OpenEpoch, row_of, Written, is_row, made_at, CompletedEpoch, IsSameRe
 use Words.{TakesRinexLine, Made, is_open_stage, RinexReader, RinexStep, Stage, Row as ObservationRow}
 use Rattle.crx_filter.{proofs.steps.RowSteps.taken-from, specs.RinexReaders.{BeginsEpoch, RefusesRinexLine}}
 use Rattle.crx_filter.specs.{RinexStages.rows_open, declared.rinex_reader.RinexStep.TheVariants.{Row, Epoch}}
-use Rattle.crx_filter.specs.CompactionParts.{BelongTogether, HasRefusedRow, HasWrittenRow, is_full_where_due}
+use Rattle.crx_filter.specs.CompactionParts.{BelongTogether, HasRefusedRow, HasWrittenRow, HoldsRows}
+use Rattle.crx_filter.specs.CompactionParts.{is_full_where_due}
 use Rattle.std.{proofs.lemmas.Bool.not-false, specs.Prelude.IfSome}
-use Rattle.crx_compact.specs.{Encoding.{EncoderState, forgotten}, EncodingRooms.EncodingRoom}
+use Rattle.crx_compact.specs.Encoding.{EncoderState, forgotten}
+use Rattle.crx_compact.specs.EncodingRooms.{EncodingRoom, HasTakenRow, KeepsEncodingRoom, all_free}
+use Rattle.crx_filter.proofs.steps.RoomsOfEpochs.{none-held, room-freed, row-held}
 
 -- ---- by the stage
 
@@ -37,8 +40,13 @@ closed-together reader encoder closed ended none = grind (arith, common_steps, t
 
 -- an epoch is open
 open-together : (reader : RinexReader) (encoder : EncoderState) → is_open_stage reader.stage ≡ true
-    → encoder.is_open ≡ true → encoder.rows ≡ reader.rows.rows → BelongTogether reader encoder
-open-together reader encoder opened begun rows = grind (arith, common_steps, rows-opened)
+    → encoder.is_open ≡ true → encoder.rows ≡ reader.rows.rows → HoldsRows encoder.rows encoder.room
+    → BelongTogether reader encoder
+open-together reader encoder opened begun rows holds = record {
+  opened = begun ∙ sym opened;
+  rows = rows ∙ sym (rows-opened reader.stage reader.rows.rows opened);
+  held = λ is. holds;
+}
 
 -- the encoder has the rows that the reader has
 pub rows-there : (reader : RinexReader) (encoder : EncoderState) → BelongTogether reader encoder
@@ -80,6 +88,7 @@ module _ (before mid : RinexReader) (encoder new : EncoderState) (line : List �
     (together : BelongTogether before encoder) (same : IsSameReader before mid) where
   -- the row was written and taken
   pub row-written : (after : RinexReader) (step : RinexStep) (is_last answer : Bool) (row : ObservationRow)
+      → HasTakenRow row encoder.room new.room → KeepsEncodingRoom encoder.room new.room
       → is_open_stage before.stage ≡ true → row_of before.types line ≡ Ok mid.row → begins_epoch line ≡ false
       → row ≡ mid.row → answer ≡ not (has_satellite row.name encoder.rows) → answer ≡ true → new ≡ record
       encoder { rows = encoder.rows ++ row ∷ []; room = new.room } → ((l : List ℕ) (kept : Written) → row_of
@@ -87,9 +96,10 @@ module _ (before mid : RinexReader) (encoder new : EncoderState) (line : List �
       → TakesRinexLine (made_at mid l kept) mid l step after) → is_row step ≡ true → after.rows.rows
       ≡ mid.rows.rows ++ mid.row ∷ [] → step ≡ (if is_last then Epoch else Row) → HasWrittenRow before encoder
       line is_last after new
-  row-written after step is_last answer row opened read other same_row said fresh written takes is added
-      which =
+  row-written after step is_last answer row taken kept opened read other same_row said fresh written takes is
+      added which =
       let there = rows-there before encoder together opened in
+      let holds = together.held (together.opened ∙ opened) in
       record {
         takes = λ kept. subst (λ s. TakesRinexLine (made_at before line kept) before line s after) which
             (taken-from before mid after line kept step is same (takes line kept (ap (λ ts. row_of ts line)
@@ -97,6 +107,10 @@ module _ (before mid : RinexReader) (encoder new : EncoderState) (line : List �
             (there ∙ sym same.rows) fresh)));
         written = written ∙ ap (λ (rs : List ObservationRow). record encoder { rows = rs; room = new.room })
             (rw (there, same_row, ← same.rows) (sym added));
+        held = subst (λ (rs : List ObservationRow). HoldsRows rs new.room)
+            (sym (ap (λ (e : EncoderState). e.rows) written))
+            (row-held encoder.rows row encoder.room new.room holds kept taken);
+        kept = kept;
       }
 
   -- nothing has changed
@@ -106,10 +120,11 @@ module _ (before mid : RinexReader) (encoder new : EncoderState) (line : List �
   row-refused fault is none refuses = grind (arith, common_steps, same-together)
 
   -- everything was forgotten
-  pub row-lost : (after : RinexReader) (room : EncodingRoom) → new ≡ forgotten encoder [] room → after.types
+  pub row-lost : (after : RinexReader) (room : EncodingRoom) → KeepsEncodingRoom encoder.room new.room
+      → new ≡ forgotten encoder [] room → after.types
       ≡ mid.types → is_open_stage after.stage ≡ false → ((kept : Written) → RefusesRinexLine (made_at before
       line kept) before line OutOfMemory) → HasRefusedRow before encoder line OutOfMemory after new
-  row-lost after room is typed closed refuses =
+  row-lost after room kept is typed closed refuses =
       grind (arith, common_steps, closed-together, forgotten, served-closed)
 
 -- what an epoch's end asks for
@@ -139,7 +154,7 @@ module _ {before after : RinexReader} {encoder new : EncoderState} {line : List 
 
     pub row-together : is_last ≡ false → BelongTogether after new
     row-together is = open-together after new (row-moves (record { index = 0; tail = None }) is).1 still-open
-        (ap (λ (e : EncoderState). e.rows) row.written)
+        (ap (λ (e : EncoderState). e.rows) row.written) row.held
 
     -- what the epoch's end asks for
     pub row-asked : is_last ≡ true → (new.is_open ≡ true)
@@ -165,14 +180,22 @@ begun-whole made line before after (none, inl opened) is = absurd (cc (opened.0,
 begun-whole made line before after (none, inr whole) is = whole.1
 
 module _ {made : Made ObservationEpoch OpenEpoch} {line : List ℕ} {before after : RinexReader}
-    (encoder : EncoderState) {new : EncoderState} {full : Bool} {room : EncodingRoom}
-    (begins : BeginsEpoch made line before after) (begun : new
-    ≡ record encoder { is_open = true; in_full = full; rows = []; pending = []; room = room }) where
+    (encoder : EncoderState) {new : EncoderState} {full : Bool}
+    (begins : BeginsEpoch made line before after) (begun : new ≡ record encoder
+    { is_open = true; in_full = full; rows = []; pending = []; room = all_free encoder.room }) where
   pub begun-rows : new.rows ≡ after.rows.rows
   begun-rows = ap (λ (e : EncoderState). e.rows) begun ∙ sym begins.0
 
+  pub begun-holds : HoldsRows new.rows new.room
+  begun-holds = subst (λ (e : EncoderState). HoldsRows e.rows e.room) (sym begun) (none-held encoder.room)
+
+  pub begun-kept : KeepsEncodingRoom encoder.room new.room
+  begun-kept = subst (λ (e : EncoderState). KeepsEncodingRoom encoder.room e.room) (sym begun)
+      (room-freed encoder.room)
+
   pub begun-together : is_open_stage after.stage ≡ true → BelongTogether after new
-  begun-together opened = grind (arith, common_steps, open-together, begun-rows)
+  begun-together opened =
+      open-together after new opened (ap (λ (e : EncoderState). e.is_open) begun) begun-rows begun-holds
 
   pub begun-asked : is_open_stage after.stage ≡ false → (new.is_open ≡ true)
       × (IfSome after.head (λ h. length new.rows ≡ h.count) × (is_some after.head ≡ true))

@@ -1,6 +1,6 @@
 -- Both directions and the check as filters: what is written and reported for the lines so far, and for all lines of an
 -- input; and at which lines memory may run out. Lists of items have the newest first.
-use Rattle.std.specs.Prelude.{List, ℕ, ◌+◌, Bool, false, [], drop, map, reverse, Option, Some, None}
+use Rattle.std.specs.Prelude.{List, ℕ, ◌+◌, Bool, false, [], drop, map, reverse, Option, Some, None, if◌then◌else◌}
 use Rattle.crx_base.specs.meaning.AsRead.{ReadLine, as_read}
 use Rattle.crx_base.specs.declared.fault.At.{At}
 use Rattle.crx_rinex.specs.meaning.Observations.{Epoch}
@@ -14,7 +14,8 @@ use Rattle.crx_runs.specs.meaning.Results.{Course}
 use Rattle.crx_filter.specs.meaning.Written.{written_lines, whole_course}
 use Rattle.crx_base.specs.meaning.Lines.{lines_text}
 use Rattle.crx_filter.specs.meaning.Written.{warnings_in}
-use Rattle.crx_filter.specs.meaning.Memory.{check_takes, compaction_takes, expansion_takes, memory_allowed}
+use Rattle.crx_filter.specs.meaning.Memory.{check_takes, compaction_outgrows, compaction_takes, expansion_outgrows}
+use Rattle.crx_filter.specs.meaning.Memory.{expansion_takes, memory_allowed}
 use Rattle.crx_filter.specs.meaning.Standard.{Findings, findings_of, report_lines, whole_reading_of}
 use Rattle.crx_base.specs.meaning.Lines.{InputLine}
 use Rattle.crx_runs.specs.meaning.Filters.{Filter}
@@ -43,13 +44,19 @@ course_so_far unit_lines r = record {
   fault = fault_of_stop r.stop;
 }
 
+-- memory may run out only where a line needs more than the lines before it did
+abbrev pub memory_where_needed : Bool → Option (List At) → Option (List At)
+memory_where_needed needs allowed = if needs then allowed else None
+
 -- compaction
 abbrev pub compaction_filter : Choices → Filter
 compaction_filter choices = record {
   so_far = λ lines. course_so_far (compact_unit choices) (rinex_reading choices.skip (map as_read lines));
   whole = λ lines. whole_course (compact_unit choices) (whole_rinex choices.skip (map as_read lines));
-  memory_after = λ lines line. memory_allowed rinex_place compaction_takes choices.skip
-      (rinex_reading choices.skip (map as_read lines)) (as_read line);
+  memory_after = λ lines line.
+      let before : Reading Epoch = rinex_reading choices.skip (map as_read lines) in
+      memory_where_needed (compaction_outgrows before (as_read line))
+      (memory_allowed rinex_place compaction_takes choices.skip before (as_read line));
 }
 
 -- the warnings of a line of compact text after which memory may run out at it, where it may at all: none may before the
@@ -67,7 +74,8 @@ abbrev pub expansion_filter : Choices → Filter
 expansion_filter choices = record {
   so_far = λ lines. course_so_far expanded_unit (compact_reading choices.skip (map as_read lines));
   whole = λ lines. whole_course expanded_unit (whole_compact choices.skip (map as_read lines));
-  memory_after = λ lines line. compact_memory choices.skip (map as_read lines) (as_read line);
+  memory_after = λ lines line. memory_where_needed (expansion_outgrows (compact_reading choices.skip (map as_read lines))
+      (as_read line)) (compact_memory choices.skip (map as_read lines) (as_read line));
 }
 
 -- ---- a check

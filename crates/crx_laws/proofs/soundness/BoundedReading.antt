@@ -44,7 +44,7 @@ use Rattle.crx_compact.proofs.SoundTexts.{length-held}
 use Rattle.crx_compact.proofs.soundness.Goodness.{typed-parts}
 use Rattle.crx_compact.proofs.soundness.Soundness.{AreReadCells, IsReadCell, RowFacts, line-facts, read-cell}
 use Rattle.crx_compact.proofs.Results.{if-err}
-use Rattle.crx_compact.proofs.EpochLines.{line-facts_of, names_of}
+use Rattle.crx_compact.proofs.{EpochLines.{line-facts_of, names_of}, EpochTexts.{blank-after, ends-within}}
 
 -- ---- orders of codes that are read
 
@@ -70,35 +70,6 @@ cells-ordered : (value : ℕ → Code → Result (Option ℤ) Fault) (cells : Li
     → AreReadCells value cells → AllByRecursion HasOrder (map (λ (c : ReadCell). c.code) cells)
 cells-ordered value [] h = tt
 cells-ordered value (c ∷ cs) h = (cell-ordered (value 0) c h.0, cells-ordered (λ j. value (suc j)) cs h.1)
-
--- ---- texts without blanks at their end
-
-length-before : (c : ℕ) (text : List ℕ) → length (before_end_blanks c text) ≤ suc (length text)
-length-before c [] = grind arith
-length-before c (d ∷ ds) = omega arith
-
-ends-within : (n : ℕ) (text : List ℕ) → ((p : ℕ) → at text (n + p) ≡ 32)
-    → length (without_end_blanks text) ≤ n
-ends-within zero text h =
-    let none : without_end_blanks text ≡ [] =
-    same_characters text [] (λ p. let place : p ≡ 0 + p = omega arith in ap (at text) place ∙ h p) in
-    let long : length (without_end_blanks text) ≡ 0 = ap (λ (t : List ℕ). length t) none in
-    omega (arith, long)
-ends-within (suc n) [] h = omega arith
-ends-within (suc n) (c ∷ cs) h = grind (
-  arith,
-  ends-within n cs
-      (λ p. let place : suc (n + p) ≡ suc n + p = omega arith in ap (at (c ∷ cs)) place ∙ h p),
-  length-before c (without_end_blanks cs),
-)
-
-is-blank : (c : ℕ) → is_blank c ≡ true → c ≡ 32
-is-blank c h = grind (arith, h)
-
-blank-after : (n : ℕ) (text : List ℕ) → list_all is_blank (drop n text) ≡ true → (p : ℕ)
-    → at text (n + p) ≡ 32
-blank-after n text h p = sym (at-drop n text p)
-    ∙ is-blank (at (drop n text) p) (list_all-at is_blank refl (drop n text) h p)
 
 -- ---- arcs
 

@@ -21,7 +21,7 @@ returns-then-print_report_line c =
         (λ there. tt),
         (
           sym (drop-drop 1 count report),
-          (refl, refl, (λ choices served. served), (λ lines known. known), (λ lines known. known)),
+          (refl, refl, (λ choices served. served), (λ choices lines known. known), (λ lines known. known)),
         ),
       ),
       record {

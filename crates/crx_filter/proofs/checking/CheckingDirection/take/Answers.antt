@@ -1,4 +1,5 @@
-use Rattle.crx_filter.proofs.{Words.subst, steps.CheckerSteps.{IsTaken, noted-next, nothing_kept}}
+use Rattle.crx_filter.proofs.{Words.subst, steps.CheckerSteps.{IsTaken, given-after, noted-next}}
+use Rattle.crx_filter.proofs.steps.CheckerSteps.{nothing_kept}
 use Rattle.crx_filter.proofs.steps.CheckerSteps.{step-counting, step-named, refused-reads, still-drained}
 use Rattle.crx_filter.proofs.steps.{CheckerSteps.taken-reads, EngineAnswers.short-line}
 use Rattle.std.proofs.lemmas.Result.{err_from_is_err_and}
@@ -49,8 +50,8 @@ returns-clause-knows c =
     let takes = subst (λ t. IsTaken before t c.in_ok-step.step c.take.new.self)
     c.bytes.ensures.content (c.in_ok-step.ensures.takes nothing_kept) in
     let running = rw (← c.self.view_is) at c.requires.running in
-    rw (← c.self.view_is) (λ choices lines come known counted. noted-next choices before noted.totals lines
-    come.taken_as come.is_state noted.not_standard known c.take.new.self c.note.new.self.totals
-    c.note.new.self.not_standard
+    rw (← c.self.view_is) (λ choices lines given known counted. noted-next choices before noted.totals lines
+    given.taken_as (given-after choices lines line _ given) noted.not_standard known
+    c.take.new.self c.note.new.self.totals c.note.new.self.not_standard
     line c.in_ok-step.step (line_number c.args.line) running (short-line line c.args.line.short) takes
     (c.note.ensures.totals before _ takes) (λ some. c.note.ensures.standard before _ takes some) counted)

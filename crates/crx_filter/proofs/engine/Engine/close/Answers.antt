@@ -13,7 +13,7 @@ returns-then-skip-may_skip-clause-closing g c =
       steps = warned-alike g.D.Direction.by_line (g.D.Direction.closing c.self.inside.direction)
           (g.D.Direction.closing_after c.self.inside.options lines) _ _ _ _ (state_by c.self.inside.options
           c.self.inside.number (g.D.Direction.parts c.self.inside.direction)) stops.steps;
-      found = (g.D.Direction.skipping _ _ lines come.taken_as (sym c.skip.ensures.value ∙ on)).1;
+      found = (g.D.Direction.skipping _ _ lines come.taken_as (sym c.skip.ensures.value ∙ on));
     })
 
 pub returns-clause-stops : goal.returns-clause-stops

@@ -25,7 +25,8 @@ returns-clause-answers g c = λ lines notices shown awaited.
     let goes = c.take_line.ensures.goes in
     answers-counted (d.filter c.args.self.now.options) (engine_took d c.take_line.new.self) _ _
     (lines_handed_out c.take_line.result line.content (engine_ready d c.take_line.new.self)) lines notices
-    line _ shown.1 (returns-clause-count g c) (engine-answers d c.args.self.now goes.lawful goes.chosen
+    line _ shown.1 (returns-clause-count g c) (engine-answers d c.args.self.now goes
     c.take_line.new.self lines line (Content line.content)
-    _ took.notes took.takes.steps notices took.takes.choices (as-read-within line line.content
+    _ c.take_line.ensures.known took.notes took.takes.steps notices took.takes.choices
+    (as-read-within line line.content
     c.args.line.short refl) shown.0 awaited)

@@ -1,6 +1,14 @@
-use Rattle.crx_filter.proofs.Words.{ap, subst, sym, ℕ, List}
+use Rattle.crx_filter.proofs.Words.{Option, OpenRawEpoch, Tail, ◌≡◌, ap, subst, sym, refl, length, inl, ℕ}
+use Rattle.crx_filter.proofs.Words.{List, ObservationEpoch}
+use Rattle.crx_filter.proofs.steps.{EngineAnswers.as-read-within, RoomsOfBlocks.block-taken}
+use Rattle.crx_filter.proofs.steps.RoomsOfLines.{beside-held, never-begins, next-known, on-err}
+use Rattle.crx_filter.specs.{CompactReaders.compact_reader_parts, ExpansionRooms.{AreHeldAmong, epochs_read}}
+use Rattle.crx_lines.specs.Reading.{line_shown}
+use Rattle.crx_filter.proofs.expansion.ExpansionDirection.take.Goals.{After-read_between}
 use Rattle.crx_filter.proofs.steps.RoomSteps.{begins-nowhere-else, idle-between, room-taken}
 use Rattle.std.proofs.lemmas.Result.{err_from_is_err_and}
+use Rattle.crx_compact.specs.OpenEpochs.{ColumnsState}
+use Rattle.crx_filter.specs.{CompactStages.open_in, DirectionParts.DirectionParts}
 use Rattle.crx_compact.specs.{OpenEpochs.tail_held, ReadingRooms.HeldColumns}
 use Rattle.crx_filter.specs.Rooms.{HasRoomToBegin}
 use Rattle.crx_filter.proofs.expansion.ExpansionDirection.take.Goals.{in-Between, in_default}
@@ -23,3 +31,71 @@ returns-in_err-read_between-clause-known c = λ has.
           (rw w.self-is at c.in_err-read_between.ensures.known) has.types (λ may. absurd
           (begins-nowhere-else reader.stage w.in_default.not-Between w.in_default.not-Looking may))
     ])
+
+-- whatever is answered, there is room for as many epochs
+held-after : (c : After-read_between) (epochs : List ObservationEpoch)
+    → AreHeldAmong epochs c.args.self.now.reader.columns c.args.self.now.lines.room
+    → AreHeldAmong epochs c.read_between.new.self.columns c.match-self.self.lines.room
+held-after c epochs held =
+    let reader = c.args.self.now.reader in
+    elim c.match-self.branch [
+      | in-Between w ↦
+          let after = w.take_room.new.self in
+          let idle = idle-between reader.stage reader.columns.state w.in-Between.is reader.consistent in
+          let taken = block-taken epochs reader.columns after c.args.self.now.lines.room
+          w.take_room.new.lines.room
+          (ap (λ (h : HeldColumns). h.state) w.take_room.ensures.others) w.take_room.ensures.kept
+          (w.take_room.ensures.taken idle) w.take_room.ensures.places held in
+          rw w.self-is (inl ((rw w.self-is at c.read_between.ensures.held) epochs w.take_room.new.lines.room
+          taken))
+      | in_default w ↦
+          let never = never-begins reader.stage w.in_default.not-Between w.in_default.not-Looking in
+          rw w.self-is (beside-held epochs reader.columns c.read_between.new.self.columns
+          c.args.self.now.lines.room
+          ((rw w.self-is at c.read_between.ensures.held) epochs c.args.self.now.lines.room)
+          ((rw w.self-is at c.read_between.ensures.beside) never epochs c.args.self.now.lines.room) held)
+    ]
+
+-- what is seen of the reader stays
+parts-same : (c : After-read_between)
+    → compact_reader_parts c.match-self.self.reader ≡ compact_reader_parts c.args.self.now.reader
+parts-same c =
+    let reader = c.args.self.now.reader in
+    let parts : ColumnsState → DirectionParts OpenRawEpoch (Option Tail) = λ state. record {
+      stage = reader.stage;
+      begun = open_in state;
+      types = reader.types;
+      kept = tail_held state;
+    } in
+    elim c.match-self.branch [
+      | in-Between w ↦ rw w.self-is (ap parts (ap (λ (h : HeldColumns). h.state) w.take_room.ensures.others))
+      | in_default w ↦ rw w.self-is refl
+    ]
+
+pub returns-in_err-read_between-clause-stays : goal.returns-in_err-read_between-clause-stays
+returns-in_err-read_between-clause-stays c choices lines known = on-err c.from_residual.result (held-after
+    (goal.at.returns-in_err-read_between-clause-stays c).After-read_between (epochs_read choices lines) known)
+
+pub returns-then-branch-clause-knows : goal.returns-then-branch-clause-knows
+returns-then-branch-clause-knows c choices lines given known counted =
+    let read = (goal.at.returns-then-branch-clause-knows c).After-read_between in
+    next-known c.args.self.now choices lines (line_shown c.args.line) given
+    (compact_reader_parts c.match-self.self.reader) (compact_reader_parts c.read_between.new.self)
+    c.bytes.result.now c.in_ok-read_between.field-0 _ c.read_between.new.self.columns
+    c.match-self.self.lines.room
+    (parts-same read)
+    (as-read-within (line_shown c.args.line) c.bytes.result.now c.args.line.short c.bytes.ensures.content)
+    (c.in_ok-read_between.ensures.reads.takes choices (length lines) tt) refl
+    (held-after read (epochs_read choices lines) known)
+
+pub returns-else-branch-clause-knows : goal.returns-else-branch-clause-knows
+returns-else-branch-clause-knows c choices lines given known counted =
+    let read = (goal.at.returns-else-branch-clause-knows c).After-read_between in
+    next-known c.args.self.now choices lines (line_shown c.args.line) given
+    (compact_reader_parts c.match-self.self.reader) (compact_reader_parts c.read_between.new.self)
+    c.bytes.result.now c.in_ok-read_between.field-0 _ c.read_between.new.self.columns
+    c.match-self.self.lines.room
+    (parts-same read)
+    (as-read-within (line_shown c.args.line) c.bytes.result.now c.args.line.short c.bytes.ensures.content)
+    (c.in_ok-read_between.ensures.reads.takes choices (length lines) tt) refl
+    (held-after read (epochs_read choices lines) known)

@@ -1,6 +1,7 @@
 use Rattle.crx_filter.proofs.Words.{Result, refl, sym, ap, ◌∙◌, ◌≡◌, List, ℕ, At, Content, Steps}
-use Rattle.crx_filter.proofs.steps.EngineAnswers.{engine-answers, as-read-within}
+use Rattle.crx_filter.proofs.steps.EngineAnswers.{answers-kept, engine-answers, as-read-within}
 use Rattle.crx_filter.specs.{DirectionParts.EngineParts, EngineState.{EngineGoes, EngineNotes, EngineReads}}
+use Rattle.crx_filter.specs.EngineState.{RanOutBefore}
 use Rattle.crx_filter.specs.EngineState.{engine_ready, engine_state}
 use Rattle.crx_filter.specs.LenderState.{LenderParts, lender_ready}
 use Rattle.crx_filter.specs.declared.direction.Direction.{Ghosts}
@@ -46,17 +47,33 @@ module _ {D : Type 0} (d : Ghosts D) {before after : EngineParts D} {line : Inpu
   notes-so : EngineNotes d before line result after
   notes-so = rw is took.notes
 
+known-so : (g : Over) (c : After-answer_given g)
+    → g.D.Direction.has_room c.args.self.now.engine.direction (line_shown c.args.line).content
+    → RanOutBefore g.D.Direction c.args.self.now.engine c.answer_given.result
+known-so g c =
+    rw (given g c, c.keep.ensures.engine) (rw (← c.self.view_is) c.take_line-handed_out.ensures.known)
+
 pub returns-clause-steps : goal.returns-clause-steps
 returns-clause-steps g c = steps-so g.D.Direction (given g c) (ready g c) (reads g c)
+
+goes : (g : Over) (c : After-answer_given g) → EngineGoes g.D.Direction c.args.self.now.engine
+goes g c = rw (← c.self.view_is) c.take_line-handed_out.ensures.goes
 
 pub returns-clause-answers : goal.returns-clause-answers
 returns-clause-answers g c = λ lines notices taken awaited.
     let d = g.D.Direction in
     let took = reads g c in
-    let goes : EngineGoes d c.args.self.now.engine =
-    rw (← c.self.view_is) c.take_line-handed_out.ensures.goes in
     let line = line_shown c.args.line in
-    engine-answers d c.args.self.now.engine goes.lawful goes.chosen c.keep.new.self.engine lines line
-    (Content line.content) c.answer_given.result (notes-so d (given g c) (ready g c) took)
+    engine-answers d c.args.self.now.engine (goes g c) c.keep.new.self.engine lines line
+    (Content line.content) c.answer_given.result (known-so g c) (notes-so d (given g c) (ready g c) took)
     (steps-so d (given g c) (ready g c) took) notices took.takes.choices
     (as-read-within line line.content c.args.line.short refl) taken awaited
+
+pub returns-clause-by_seen : goal.returns-clause-by_seen
+returns-clause-by_seen g c = λ kept.
+    let d = g.D.Direction in
+    let took = reads g c in
+    let line = line_shown c.args.line in
+    answers-kept d c.args.self.now.engine (goes g c) c.keep.new.self.engine line (Content line.content)
+    c.answer_given.result took.takes.choices (as-read-within line line.content c.args.line.short refl) kept
+    (steps-so d (given g c) (ready g c) took)

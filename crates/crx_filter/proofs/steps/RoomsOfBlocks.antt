@@ -1,0 +1,350 @@
+-- The room of an expansion: what was enough for epochs before is enough for one that needs no more.
+use Rattle.crx_filter.proofs.Words.{common_steps, arith, rules, ◌≡◌, ◌⊎◌, inl, inr, true, false, refl, sym, ap, ◌∙◌}
+use Rattle.crx_filter.proofs.Words.{subst, ◌+◌, ◌*◌, ◌≤◌, ℕ, Bool, List, [], ◌∷◌, length, map, Option, Some, None}
+use Rattle.crx_filter.proofs.Words.{Result, Ok, Err, All, All-nil, All-cons, All-head, All-tail, length-map, Fault}
+use Rattle.crx_filter.proofs.Words.{and_parts, by_bool, false-true, bytes_eq, LINE_LIMIT, HEAD_WIDTH, NAME_WIDTH}
+use Rattle.crx_filter.proofs.Words.{Content, Count, ObservationEpoch, Row, Satellite, Tail, OpenRawEpoch, next_step}
+use Rattle.crx_filter.proofs.Words.{RawStep, RawEpoch, Past, past_of_line, epoch_begun, BegunEpoch, ReadEpoch}
+use Rattle.crx_filter.proofs.Words.{epoch_at, satellites_of_line, Done, satellite_line_read}
+use Rattle.std.proofs.lemmas.{Bool.leb-true, List.Sums.sum_by-cons, Slice.Eq.bytes_eq-Decides}
+use Rattle.std.proofs.lemmas.{List.Folds.list_any-append}
+use Rattle.std.specs.{List.{list_any, list_all}, Prelude.{sum, nat_le, ⊤, slice_get, slice_set, IfOk}}
+use Rattle.crx_base.specs.declared.limits.TheConstants.{CELL_WIDTH}
+use Rattle.crx_compact.specs.{ArcTails.ArcTail, LineLists.{BlockRoom, HasNoMoreRoom}, PrintedBlocks.printed_room}
+use Rattle.crx_compact.specs.OpenEpochs.{ColumnsState, Idle, Reading, Going, Whole, Faulty, before_clock}
+use Rattle.crx_compact.specs.OpenEpochs.{is_idle, opened_raw, rows_before, tail_for_line, tail_opened}
+use Rattle.crx_compact.specs.{Placing.{HasRoom, HaveTypesRoom, padded}, Steps.{cell_of_tail, tail_named}}
+use Rattle.crx_compact.specs.Placing.{satellite_of as satellite_of_tail}
+use Rattle.crx_compact.specs.ReadingRooms.{HasRoomFor, HaveCellsRoom, HeldColumns, KeepsHistoryRoom, KeepsRoom}
+use Rattle.crx_compact.specs.{ReadingRooms.ReadingRoom, HeldRows.past_of_tail, Tails.RowTail}
+use Rattle.crx_compact.specs.OpenEpochs.{Before, After, HeldEpoch, OpenClock, awaited_row, line_step, row_step}
+use Rattle.crx_compact.specs.OpenEpochs.{past_of_clock, raw_step_with_clock, raw_step_with_row, step_in}
+use Rattle.crx_compact.specs.{OpenEpochs.whole_or_awaiting, HeldRows.{HeldRow, held_from, past_of_row, row_held}}
+use Rattle.crx_compact.specs.meaning.{Cells.ReadCell, CompactPlaces.{ReadRow, clock_line_read}}
+use Rattle.crx_compact.proofs.{reading.Announced.satellites-set, soundness.Soundness.line-facts}
+use Rattle.crx_compact.proofs.Results.{and_then-ok, ok-same}
+use Rattle.crx_text.proofs.EachPlace.{length-each_place}
+use Rattle.crx_filter.specs.ExpansionRooms.{AreHeldAmong, AreHeldInColumns, AreHeldInLines, HasRoomAgain}
+use Rattle.crx_filter.specs.ExpansionRooms.{HasRoomForEpochs, HasRoomForNewest, HasRoomForSatellites}
+use Rattle.crx_filter.specs.{CompactStages.is_compact_stage, declared.stage.Stage.{Stage, TheVariants.Open}}
+use Rattle.crx_filter.specs.{Rooms.HasRoomToBegin, meaning.Memory.{bytes_together, printed_line_room}}
+
+-- ---- room stays
+
+pub satellites-kept : (satellites : List Satellite) (before after : ReadingRoom) → KeepsRoom before after
+    → HasRoomForSatellites satellites before → HasRoomForSatellites satellites after
+satellites-kept satellites before after kept has = record {
+  text = omega (arith, has.text, kept.history.text);
+  types = λ k d within. kept.history.rooms _ _ (has.types k d within);
+  lines = omega (arith, has.lines, kept.block.held_lines);
+  bytes = omega (arith, has.bytes, kept.block.held_bytes);
+}
+
+newest-kept : (state : ColumnsState) (before after : ReadingRoom) → KeepsRoom before after
+    → HasRoomForNewest state before → HasRoomForNewest state after
+newest-kept (Idle None) before after kept has = tt
+newest-kept (Idle (Some tail)) before after kept has =
+    satellites-kept (map satellite_of_tail tail.rows) before after kept has
+newest-kept (Reading begun) before after kept has =
+    satellites-kept (map satellite_of_tail begun.rows) before after kept has
+
+pub all-kept : (epochs : List ObservationEpoch) (state : ColumnsState) (before after : ReadingRoom)
+    → KeepsRoom before after → HasRoomForEpochs epochs state before → HasRoomForEpochs epochs state after
+all-kept epochs state before after kept has = record {
+  each = λ k d within. satellites-kept _ before after kept (has.each k d within);
+  newest = newest-kept state before after kept has.newest;
+}
+
+pub same-block : (block : BlockRoom) → HasNoMoreRoom block block
+same-block block = record {
+  lines = omega arith;
+  bytes = omega arith;
+  held_lines = omega arith;
+  held_bytes = omega arith;
+}
+
+-- ---- an epoch's room, by its satellites and by its rows
+
+-- as many bytes as the printed lines of some rows have, by their satellites
+printed-together : (rows : List RowTail) → sum (map printed_room rows)
+    ≡ bytes_together printed_line_room (map satellite_of_tail rows)
+printed-together [] = refl
+printed-together (row ∷ rows) =
+    let more = printed-together rows in
+    let bytes = sum_by-cons (λ (n : ℕ). n) (printed_room row) (map printed_room rows) in
+    let rest = sum_by-cons (λ (s : Satellite). printed_line_room s.count) (satellite_of_tail row)
+    (map satellite_of_tail rows) in
+    omega (arith, more, bytes, rest)
+
+types-of_rows : (rows : List RowTail) (rooms : List (List ℕ × ℕ)) → HaveCellsRoom rows rooms
+    → HaveTypesRoom (map satellite_of_tail rows) rooms
+types-of_rows [] rooms has = All-nil (λ (s : Satellite). HasRoom s.name s.count rooms)
+types-of_rows (row ∷ rows) rooms has = All-cons (λ (s : Satellite). HasRoom s.name s.count rooms)
+    (satellite_of_tail row) (map satellite_of_tail rows)
+    (All-head (λ (r : RowTail). HasRoom r.name (length r.cells) rooms) row rows has)
+    (types-of_rows rows rooms (All-tail (λ (r : RowTail). HasRoom r.name (length r.cells) rooms) row rows has))
+
+pub begun-room : (begun : OpenRawEpoch) (room : ReadingRoom) → HasRoomFor begun room
+    → HasRoomForSatellites (map satellite_of_tail begun.rows) room
+begun-room begun room has =
+    let many = length-map begun.rows satellite_of_tail in
+    record {
+      text = omega (arith, has.text, many);
+      types = types-of_rows begun.rows room.rooms has.rows;
+      lines = omega (arith, has.lines, many);
+      bytes = omega (arith, has.bytes, printed-together begun.rows);
+    }
+
+-- the rows of an epoch's satellites before their lines
+satellites-before : (before : Tail) (satellites : List Satellite)
+    → map satellite_of_tail (rows_before before satellites) ≡ satellites
+satellites-before before [] = refl
+satellites-before before (s ∷ ss) = grind (arith, common_steps, satellites-before before ss, length-each_place)
+
+cells-room : (before : Tail) (satellites : List Satellite) (rooms : List (List ℕ × ℕ))
+    → HaveTypesRoom satellites rooms → HaveCellsRoom (rows_before before satellites) rooms
+cells-room before [] rooms has = All-nil (λ (r : RowTail). HasRoom r.name (length r.cells) rooms)
+cells-room before (s ∷ ss) rooms has =
+    let row : RowTail = padded s (tail_named s.name before) in
+    let counted = length-each_place s.count (λ place. cell_of_tail place (tail_named s.name before)) in
+    All-cons (λ (r : RowTail). HasRoom r.name (length r.cells) rooms) row (rows_before before ss)
+    (subst (λ n. HasRoom s.name n rooms) (sym counted)
+    (All-head (λ (t : Satellite). HasRoom t.name t.count rooms) s ss has))
+    (cells-room before ss rooms (All-tail (λ (t : Satellite). HasRoom t.name t.count rooms) s ss has))
+
+pub opened-room : (before : Tail) (line : List ℕ) (satellites : List Satellite) (room : ReadingRoom)
+    → HasRoomForSatellites satellites room
+    → HasRoomFor (before_clock (tail_opened before line satellites)) room
+opened-room before line satellites room has =
+    let rows = rows_before before satellites in
+    let same = satellites-before before satellites in
+    let many = sym (length-map rows satellite_of_tail) ∙ ap length same in
+    let together = ap (bytes_together printed_line_room) same in
+    record {
+      text = omega (arith, has.text, many);
+      rows = cells-room before satellites room.rooms has.types;
+      lines = omega (arith, has.lines, many);
+      bytes = omega (arith, has.bytes, printed-together rows, together);
+    }
+
+-- ---- a line of an open epoch leaves its satellites as they are
+
+abbrev StepHas : List Satellite → RawStep → Type 0
+StepHas satellites (Going begun) = map satellite_of_tail begun.rows ≡ satellites
+StepHas satellites (Whole held) = map satellite_of_tail held.tail.rows ≡ satellites
+StepHas satellites (Faulty fault) = ⊤
+
+-- what a satellite's line leaves has its name, and as many types
+left-row : (row : RowTail) (line : List ℕ) (held : HeldRow)
+    → row_held (Some row) (satellite_of_tail row) line ≡ Ok held
+    → (held.tail.name ≡ row.name) × (length held.tail.cells ≡ length row.cells)
+left-row row line held e =
+    let past = past_of_row row.cells row.flags in
+    let step = and_then-ok (satellite_line_read past (satellite_of_tail row) line)
+    (λ read. Ok (held_from row.cells row.flags read)) held e in
+    let facts = line-facts past (satellite_of_tail row) line step.from step.first in
+    let same = ok-same (held_from row.cells row.flags step.from) held step.next in
+    let codes = length-map facts.cells (λ (c : ReadCell). c.code) in (
+      sym (ap (λ (h : HeldRow). h.tail.name) same) ∙ sym (ap (λ (r : ReadRow). r.raw.name) facts.is_read),
+      sym (ap (λ (h : HeldRow). length h.tail.cells) same) ∙ length-each_place (length step.from.raw.codes) _
+          ∙ sym (ap (λ (r : ReadRow). length r.raw.codes) facts.is_read) ∙ codes ∙ facts.counted,
+    )
+
+step-satellites : (begun : OpenRawEpoch) (line : List ℕ)
+    → StepHas (map satellite_of_tail begun.rows) (next_step begun (Content line))
+step-satellites begun line = by_clock begun.clock
+  where
+    awaiting : (tail : Tail) (count : ℕ) (o : Option RowTail)
+        → map satellite_of_tail tail.rows ≡ map satellite_of_tail begun.rows
+        → StepHas (map satellite_of_tail begun.rows) (whole_or_awaiting tail count o)
+    awaiting tail count None same = same
+    awaiting tail count (Some row) same = same
+
+    with_clock : (r : Result ReadCell Fault) → StepHas (map satellite_of_tail begun.rows)
+        (raw_step_with_clock begun r)
+    with_clock (Err fault) = tt
+    with_clock (Ok cell) = awaiting _ _ _ refl
+
+    with_row : (row : RowTail) → slice_get begun.rows begun.count ≡ Some row → (r : Result HeldRow Fault)
+        → row_held (Some row) (satellite_of_tail row) line ≡ r
+        → StepHas (map satellite_of_tail begun.rows) (raw_step_with_row begun r)
+    with_row row there (Err fault) e = tt
+    with_row row there (Ok held) e =
+        let left = left-row row line held e in
+        awaiting _ _ _ (satellites-set begun.rows begun.count row held.tail there left.0 left.1)
+
+    by_row : (o : Option RowTail) → awaited_row begun ≡ o → StepHas (map satellite_of_tail begun.rows)
+        (row_step begun o line)
+    by_row None e = refl
+    by_row (Some row) e = with_row row e (row_held (Some row) (satellite_of_tail row) line) refl
+
+    by_clock : (clock : OpenClock) → StepHas (map satellite_of_tail begun.rows) (line_step begun clock line)
+    by_clock (Before arc) = with_clock (clock_line_read (past_of_clock arc) line)
+    by_clock (After arc) = by_row (awaited_row begun) refl
+
+abbrev IfStep : RawStep → (List Satellite → Type 0) → Type 0
+IfStep (Going begun) P = P (map satellite_of_tail begun.rows)
+IfStep (Whole held) P = P (map satellite_of_tail held.tail.rows)
+IfStep (Faulty fault) P = ⊤
+
+-- ---- columns after a line
+
+larger-still : (lines before after : BlockRoom) → HasNoMoreRoom lines before → HasNoMoreRoom before after
+    → HasNoMoreRoom lines after
+larger-still lines before after one other = record {
+  lines = omega (arith, one.lines, other.lines);
+  bytes = omega (arith, one.bytes, other.bytes);
+  held_lines = omega (arith, one.held_lines, other.held_lines);
+  held_bytes = omega (arith, one.held_bytes, other.held_bytes);
+}
+
+-- an epoch was begun
+pub columns-begun : (epochs : List ObservationEpoch) (old new : HeldColumns) (lines : BlockRoom)
+    (begun : OpenRawEpoch) → KeepsRoom old.room new.room → new.state ≡ Reading begun
+    → HasRoomFor begun new.room → AreHeldInColumns epochs old lines → AreHeldInColumns epochs new lines
+columns-begun epochs old new lines begun kept state has held = record {
+  larger = larger-still lines old.room.block new.room.block held.larger kept.block;
+  held = record {
+    each = (all-kept epochs old.state old.room new.room kept held.held).each;
+    newest = subst (λ (s : ColumnsState). HasRoomForNewest s new.room) (sym state)
+        (begun-room begun new.room has);
+  };
+}
+
+-- everything was forgotten
+pub columns-emptied : (epochs : List ObservationEpoch) (old new : HeldColumns) (lines : BlockRoom)
+    → KeepsRoom old.room new.room → new.state ≡ Idle None
+    → AreHeldInColumns epochs old lines → AreHeldInColumns epochs new lines
+columns-emptied epochs old new lines kept state held = record {
+  larger = larger-still lines old.room.block new.room.block held.larger kept.block;
+  held = record {
+    each = (all-kept epochs old.state old.room new.room kept held.held).each;
+    newest = subst (λ (s : ColumnsState). HasRoomForNewest s new.room) (sym state) tt;
+  };
+}
+
+-- the satellites after a line are those before it
+stepped : (state : ColumnsState) (line : List ℕ) (step : RawStep) (room : ReadingRoom)
+    → step_in state (Content line) ≡ step → is_idle state ≡ false → HasRoomForNewest state room
+    → IfStep step (λ satellites. HasRoomForSatellites satellites room)
+stepped (Idle tail) line step room e reading has = false-true (sym reading)
+stepped (Reading begun) line step room e reading has = by_step step
+    (subst (StepHas (map satellite_of_tail begun.rows)) e (step-satellites begun line))
+  where
+    by_step : (s : RawStep) → StepHas (map satellite_of_tail begun.rows) s
+        → IfStep s (λ satellites. HasRoomForSatellites satellites room)
+    by_step (Going next) same = subst (λ ss. HasRoomForSatellites ss room) (sym same) has
+    by_step (Whole held) same = subst (λ ss. HasRoomForSatellites ss room) (sym same) has
+    by_step (Faulty fault) same = tt
+
+-- in the stage of an open epoch its lines are read
+pub reads-on : (stage : Stage) (state : ColumnsState) → stage ≡ Open → is_compact_stage stage state ≡ true
+    → is_idle state ≡ false
+reads-on stage state here consistent = grind (arith, common_steps)
+
+-- more lines are wanted
+pub columns-gone_on : (epochs : List ObservationEpoch) (old new : HeldColumns) (before after : BlockRoom)
+    (line : List ℕ) (begun : OpenRawEpoch) → is_idle old.state ≡ false
+    → step_in old.state (Content line) ≡ Going begun → new.state ≡ Reading begun
+    → KeepsRoom old.room new.room → after ≡ before
+    → AreHeldInColumns epochs old before → AreHeldAmong epochs new after
+columns-gone_on epochs old new before after line begun reading step state kept same held =
+    let rooms = all-kept epochs old.state old.room new.room kept held.held in
+    rw same (inl (record {
+      larger = larger-still before old.room.block new.room.block held.larger kept.block;
+      held = record {
+        each = rooms.each;
+        newest = subst (λ (s : ColumnsState). HasRoomForNewest s new.room) (sym state)
+            (stepped old.state line (Going begun) new.room step reading rooms.newest);
+      };
+    }))
+
+-- the epoch is whole: its block goes to the lines
+pub columns-handed_over : (epochs : List ObservationEpoch) (old new : HeldColumns) (before after : BlockRoom)
+    (line : List ℕ) (held : HeldEpoch) → is_idle old.state ≡ false
+    → step_in old.state (Content line) ≡ Whole held → new.state ≡ Idle (Some held.tail)
+    → KeepsHistoryRoom old.room new.room → after ≡ old.room.block → new.room.block ≡ before
+    → AreHeldInColumns epochs old before → AreHeldAmong epochs new after
+columns-handed_over epochs old new before after line whole reading step state kept given taken held =
+    let room : ReadingRoom = record new.room { block = old.room.block } in
+    let rooms = all-kept epochs old.state old.room room
+    (record { history = record { text = kept.text; rooms = kept.rooms }; block = same-block old.room.block })
+    held.held in
+    rw given (inr (record {
+      idle = rw state refl;
+      larger = subst (λ (b : BlockRoom). HasNoMoreRoom b old.room.block) (sym taken) held.larger;
+      held = record {
+        each = rooms.each;
+        newest = subst (λ (s : ColumnsState). HasRoomForNewest s room) (sym state)
+            (stepped old.state line (Whole whole) room step reading rooms.newest);
+      };
+    }))
+
+-- the line is refused
+pub columns-refused : (epochs : List ObservationEpoch) (old new : HeldColumns) (before after : BlockRoom)
+    → KeepsRoom old.room new.room → new.state ≡ Idle None → after ≡ before
+    → AreHeldInColumns epochs old before → AreHeldAmong epochs new after
+columns-refused epochs old new before after kept state same held =
+    rw same (inl (columns-emptied epochs old new before kept state held))
+
+-- nothing but the state has changed: it is as it was, or everything was forgotten
+pub lines-beside : (epochs : List ObservationEpoch) (old new : HeldColumns) (lines : BlockRoom)
+    → new.room ≡ old.room → (new.state ≡ old.state) ⊎ (new.state ≡ Idle None)
+    → AreHeldInLines epochs old lines → AreHeldInLines epochs new lines
+lines-beside epochs old new lines same (inl state) held = rw (same, state) (record {
+  idle = held.idle;
+  larger = held.larger;
+  held = held.held;
+})
+lines-beside epochs old new lines same (inr state) held = rw (same, state) (record {
+  idle = refl;
+  larger = held.larger;
+  held = record { each = held.held.each; newest = tt };
+})
+
+pub columns-beside : (epochs : List ObservationEpoch) (old new : HeldColumns) (lines : BlockRoom)
+    → new.room ≡ old.room → (new.state ≡ old.state) ⊎ (new.state ≡ Idle None)
+    → AreHeldInColumns epochs old lines → AreHeldInColumns epochs new lines
+columns-beside epochs old new lines same (inl state) held =
+    rw (same, state) (record { larger = held.larger; held = held.held })
+columns-beside epochs old new lines same (inr state) held = rw (same, state) (record {
+  larger = held.larger;
+  held = record { each = held.held.each; newest = tt };
+})
+
+-- ---- the memory of the lines that were ready is taken back
+
+pub block-taken : (epochs : List ObservationEpoch) (old new : HeldColumns) (before after : BlockRoom)
+    → new.state ≡ old.state → KeepsRoom old.room new.room
+    → (HasNoMoreRoom old.room.block before → new.room.block ≡ before)
+    → ((new.room.block ≡ before) × (after ≡ old.room.block)) ⊎ ((new.room ≡ old.room) × (after ≡ before))
+    → AreHeldAmong epochs old before → AreHeldInColumns epochs new after
+block-taken epochs old new before after state kept takes (inl places) (inl held) = record {
+  larger = subst (λ (b : BlockRoom). HasNoMoreRoom b new.room.block) (sym places.1) kept.block;
+  held = rw state (all-kept epochs old.state old.room new.room kept held.held);
+}
+block-taken epochs old new before after state kept takes (inl places) (inr held) =
+    let room : ReadingRoom = record old.room { block = before } in
+    let more : KeepsRoom room new.room = record {
+      history = record { text = kept.history.text; rooms = kept.history.rooms };
+      block = subst (λ (b : BlockRoom). HasNoMoreRoom before b) (sym places.0) (same-block before);
+    } in
+    record {
+      larger = subst (λ (b : BlockRoom). HasNoMoreRoom b new.room.block) (sym places.1) kept.block;
+      held = rw state (all-kept epochs old.state room new.room more held.held);
+    }
+block-taken epochs old new before after state kept takes (inr places) (inl held) = record {
+  larger = rw (places.0, places.1) held.larger;
+  held = rw (places.0, state) held.held;
+}
+block-taken epochs old new before after state kept takes (inr places) (inr held) =
+    let room : ReadingRoom = record old.room { block = before } in
+    let more : KeepsRoom room new.room = record {
+      history = record { text = kept.history.text; rooms = kept.history.rooms };
+      block = subst (λ (b : BlockRoom). HasNoMoreRoom before b) (sym (takes held.larger)) (same-block before);
+    } in
+    record {
+      larger = subst (λ (b : BlockRoom). HasNoMoreRoom after b) (sym (takes held.larger))
+          (subst (λ (b : BlockRoom). HasNoMoreRoom b before) (sym places.1) (same-block before));
+      held = rw state (all-kept epochs old.state room new.room more held.held);
+    }
