@@ -2,7 +2,6 @@
 pub mod Following
 pub mod Lines
 pub mod MoreLines
-pub mod Epochs
 pub mod Collecting
 pub mod Rinex
 pub mod Compaction

@@ -7,9 +7,9 @@ pub mod Together
 pub mod EngineFaults
 pub mod RoomSteps
 pub mod Enough
+pub mod Given
 pub mod RoomsOfBlocks
 pub mod EnoughRoom
-pub mod EpochsRead
 pub mod RoomsOfLines
 pub mod StepCounts
 pub mod CheckerSteps

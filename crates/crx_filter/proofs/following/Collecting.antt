@@ -1,184 +1,296 @@
--- The epochs of a RINEX file that were accepted, line by line: whoever reads RINEX accepts the same.
-use Rattle.crx_filter.proofs.Words.{common_steps, ℕ, ◌≡◌, ◌+◌, Bool, true, false, List, [], ◌∷◌, ◌++◌, map}
-use Rattle.crx_filter.proofs.Words.{refl, ap, sym, ◌∙◌, arith, length, length-append, length-map}
-use Rattle.crx_filter.proofs.Words.{map-append, inl, InputLine, ReadLine, as_read, At, Count, Epoch}
-use Rattle.crx_filter.proofs.Words.{FileUnit, HeaderLine, EventLine, EventRecord, Observation, OpenEpoch}
-use Rattle.crx_filter.proofs.Words.{epoch_place, Choices, Item, types_in_force, rinex_reading, RunState}
-use Rattle.crx_filter.proofs.Words.{Phase, LookingOn, Made, Completes, Moves, Rejects, Direction, Notice}
-use Rattle.crx_filter.proofs.Words.{Step, made_in, kept_in, state_of, state_next, step_of_made, failed_step}
-use Rattle.crx_filter.proofs.Words.{is_skipped_in, is_in_epoch, can_go_on, after_warning, is_again, fed}
-use Rattle.crx_filter.proofs.Words.{fed_once, fed_twice, rinex_begins, rinex_open, compaction}
-use Rattle.crx_filter.proofs.Words.{compaction_state, Written, Fed, phase_of, false-true, by_bool}
-use Rattle.crx_filter.specs.LineByLine.{Repeats}
-use Rattle.crx_filter.proofs.Pending.{again-lines}
-use Rattle.crx_filter.specs.CompactionByLine.{rinex_continues}
-use Rattle.crx_filter.specs.meaning.Memory.{accepted_epochs}
-use Rattle.crx_filter.proofs.following.Following.{IsCarriedOut, fed-once, fed-twice, failed-skipped}
-use Rattle.crx_filter.proofs.following.Following.{failed-ends}
-use Rattle.crx_filter.proofs.following.Rinex.{AreSame, either-same, agree-begins, agree-continues, no-lines}
-use Rattle.crx_filter.proofs.following.MoreLines.{more-line}
-use Rattle.crx_filter.proofs.reading.Forward.{rinex-forward}
+-- A direction that also keeps something of each epoch that was accepted: with it one line more gives that of those
+-- after it.
+use Rattle.crx_filter.proofs
+use proofs.Words.{common_steps, ℕ, ◌≡◌, ◌⊎◌, inl, inr, true, false, List, [], ◌∷◌, ◌++◌, map, refl, ap, sym}
+use proofs.Words.{◌∙◌, arith, subst, length, map-append, InputLine, ReadLine, as_read, Option, FileUnit}
+use proofs.Words.{Observation, Place, Choices, Item, Count, types_in_force, RunState, Phase, Made, Completes}
+use proofs.Words.{Moves, Rejects, Direction, Notice, LineStep, made_in, kept_in, state_next, step_of_made}
+use proofs.Words.{is_skipped_in, is_again, fed, Fed, by_bool, with_next, Answer, Content, Overlong}
+use proofs.Words.{LineTooLong, not-true, false-true, At, state_of, phase_of, Reading, Some}
+use proofs.{Pending.again-lines, following.Following.{AgreeOn, IsCarriedOut, IsSameEpoch, fed-once}}
+use proofs.following.Following.{fed-twice, failed-skipped, failed-ends}
+use Rattle.crx_filter.specs.DirectionParts.{DirectionParts, ComesAfter, brings_nothing, state_by}
+use Rattle.crx_filter.specs.{EngineLines.HasTaken, LineByLine.{Repeats, answer_of_lines}}
+use Rattle.{crx_filter.specs.meaning.Memory.accepted_epochs, crx_runs.specs.Engines.{Awaited, IsAwaited}}
 
--- ---- a direction that keeps the epochs, and writes nothing
-
-abbrev collected : RunState OpenEpoch (List Epoch) → FileUnit Epoch → List Epoch
-collected state (HeaderLine line) = state.kept
-collected state (EventLine line) = state.kept
-collected state (EventRecord line) = state.kept
-collected state (Observation epoch) = epoch ∷ state.kept
-
-abbrev collecting : Direction Epoch OpenEpoch (List Epoch)
-collecting = record {
-  begins = rinex_begins;
-  continues = rinex_continues;
-  memory_first = λ types kept line. false;
-  memory_next = λ so_far line. false;
-  kept_after = collected;
-  kept_open = λ kept. kept;
-  emptied = λ kept. kept;
-  written = λ state unit. [];
-}
-
-abbrev no_lines : List (Item Epoch) → FileUnit Epoch → List (List ℕ)
-no_lines items unit = []
-
-collected-same : (choices : Choices) → AreSame collecting accepted_epochs no_lines choices
-collected-same choices = record {
-  same = λ items lines epoch count here. record {
-    kept = λ number phase types kept either. ap (λ (k : List Epoch). epoch ∷ k) (either-same either);
-    lines = λ number phase types kept either. refl;
-  };
-}
-
-collecting-carried_out : (choices : Choices) → IsCarriedOut (λ (before : List (Item Epoch)). epoch_place
-    (types_in_force before)) collecting rinex_open accepted_epochs no_lines choices
-collecting-carried_out choices = record {
-  forward = rinex-forward;
-  wants = λ items. refl;
-  none_open = λ items. refl;
-  wanted_open = λ items. no-lines (types_in_force items);
-  begins = agree-begins (collected-same choices);
-  continues = agree-continues (collected-same choices);
-  header_kept = λ items number types line. refl;
-  header_lines = λ items number types line. refl;
-  event_kept = λ items number phase types line. refl;
-  event_lines = λ items number phase types kept line. refl;
-  record_kept = λ items number left types line. refl;
-  record_lines = λ items number phase types kept line. refl;
-  warned = λ items at. refl;
-  emptied_open = λ kept. refl;
-  open_open = λ kept. refl;
-}
-
--- ---- the epochs after one line more
-
--- the epochs that were accepted in some lines
-abbrev pub epochs_collected : Choices → List ReadLine → List Epoch
-epochs_collected choices lines = accepted_epochs (rinex_reading choices.skip lines).items
-
--- the epochs after what a line makes
-abbrev pub add_made : List Epoch → Made Epoch OpenEpoch → List Epoch
-add_made epochs (Completes (Observation epoch)) = epoch ∷ epochs
-add_made epochs made = epochs
-
-same-kept : (phase : Phase OpenEpoch) (kept : List Epoch) → kept_in collecting phase kept ≡ kept
-same-kept phase kept = grind (arith, common_steps)
+-- what a direction keeps, and what is kept of the epochs
+pub record Collected (K V : Type 0) : Type 0 where
+  pub own : K
+  pub epochs : List V
 
 -- the same state of lines, with epochs
-abbrev with_epochs : RunState OpenEpoch Written → List Epoch → RunState OpenEpoch (List Epoch)
+abbrev pub with_epochs : {O K V : Type 0} → RunState O K → List V → RunState O (Collected K V)
 with_epochs s epochs = record {
   choices = s.choices;
   number = s.number;
   phase = s.phase;
   types = s.types;
-  kept = epochs;
+  kept = record { own = s.kept; epochs = epochs };
 }
 
--- what a line makes isn't by what is kept
-same-made : (phase : Phase OpenEpoch) (types : List Count) (kept : List Epoch) (other : Written)
-    (line : ReadLine) → made_in collecting phase types kept line ≡ made_in compaction phase types other line
-same-made phase types kept other line = grind (arith, common_steps)
+abbrev without_epochs : {O K V : Type 0} → RunState O (Collected K V) → RunState O K
+without_epochs s = record {
+  choices = s.choices;
+  number = s.number;
+  phase = s.phase;
+  types = s.types;
+  kept = s.kept.own;
+}
 
-module _ (s : RunState OpenEpoch Written) (epochs : List Epoch) (line : ReadLine) where
-  -- a line comes again or doesn't, whatever is kept
-  again-alike : (m : Made Epoch OpenEpoch)
-      → is_again (step_of_made collecting (with_epochs s epochs) line m).answer
-      ≡ is_again (step_of_made compaction s line m).answer
-  again-alike m = grind (arith, common_steps, again-lines)
+-- the epochs after a unit, and after what a line makes
+module _ {U V : Type 0} (epoch_of : U → V) where
+  abbrev pub add_unit : List V → FileUnit U → List V
+  add_unit epochs (Observation held) = epoch_of held ∷ epochs
+  add_unit epochs unit = epochs
 
-  -- before it comes again no epoch is added
-  next-alike : (m : Made Epoch OpenEpoch) → is_again (step_of_made compaction s line m).answer ≡ true
-      → (step_of_made collecting (with_epochs s epochs) line m).next
-      ≡ with_epochs (step_of_made compaction s line m).next epochs
-  next-alike m again = grind (arith, common_steps, again-lines, false-true)
+  abbrev pub add_made : {O : Type 0} → List V → Made U O → List V
+  add_made epochs (Completes unit) = add_unit epochs unit
+  add_made epochs made = epochs
 
-  kept-after : (m : Made Epoch OpenEpoch)
-      → (step_of_made collecting (with_epochs s epochs) line m).next.kept ≡ add_made epochs m
-  kept-after (Completes (HeaderLine l)) = refl
-  kept-after (Completes (EventLine l)) = refl
-  kept-after (Completes (EventRecord l)) = refl
-  kept-after (Completes (Observation epoch)) = refl
-  kept-after (Moves phase) = same-kept phase epochs
-  kept-after (Rejects fault) = by_bool (is_skipped_in (with_epochs s epochs) fault)
-      (λ on. ap (λ (t : Step OpenEpoch (List Epoch)). t.next.kept) (failed-skipped collecting
-      (with_epochs s epochs) line fault on))
-      (λ off. ap (λ (t : Step OpenEpoch (List Epoch)). t.next.kept) (failed-ends collecting
-      (with_epochs s epochs) line fault off))
-  kept-after (Repeats at) = refl
+module _ {U O K V : Type 0} (direction : Direction U O K) (epoch_of : U → V) where
+  abbrev pub collecting : Direction U O (Collected K V)
+  collecting = record {
+    begins = λ types kept line. direction.begins types kept.own line;
+    continues = direction.continues;
+    memory_first = λ types kept line. direction.memory_first types kept.own line;
+    memory_next = direction.memory_next;
+    kept_after = λ state unit. record {
+      own = direction.kept_after (without_epochs state) unit;
+      epochs = add_unit epoch_of state.kept.epochs unit;
+    };
+    kept_open = λ kept. record { own = direction.kept_open kept.own; epochs = kept.epochs };
+    emptied = λ kept. record { own = direction.emptied kept.own; epochs = kept.epochs };
+    written = λ state unit. direction.written (without_epochs state) unit;
+  }
 
-module _ (choices : Choices) (lines : List ReadLine) (line : ReadLine) where
-  abbrev pub state : RunState OpenEpoch Written
-  state = compaction_state choices lines
+  -- ---- a step
 
-  abbrev first : List Epoch → Step OpenEpoch (List Epoch)
-  first epochs = state_next collecting (with_epochs state epochs) line
+  pub same-kept : (phase : Phase O) (kept : K) (epochs : List V)
+      → kept_in collecting phase (record { own = kept; epochs = epochs })
+      ≡ record { own = kept_in direction phase kept; epochs = epochs }
+  same-kept phase kept epochs = grind (arith, common_steps)
 
-  is-fed : epochs_collected choices (lines ++ line ∷ [])
-      ≡ (fed collecting (with_epochs state (epochs_collected choices lines)) line).next.kept
-  is-fed =
-      let on = more-line (collecting-carried_out choices) 1 (length lines) (length (lines ++ line ∷ [])) lines
-      (lines ++ line ∷ []) line (omega arith) (length-append lines (line ∷ [])) refl in
-      let r = rinex_reading choices.skip lines in
-      sym (same-kept _ _) ∙ ap (λ (s : RunState OpenEpoch (List Epoch)). s.kept) on.next
-      ∙ ap (λ (k : List Epoch). (fed collecting (with_epochs state k) line).next.kept)
-      (same-kept (phase_of rinex_open r) (accepted_epochs r.items))
+  same-made : (phase : Phase O) (types : List Count) (kept : K) (epochs : List V)
+      (line : ReadLine) → made_in collecting phase types (record { own = kept; epochs = epochs }) line
+      ≡ made_in direction phase types kept line
+  same-made phase types kept epochs line = grind (arith, common_steps)
 
-  abbrev pub made : Made Epoch OpenEpoch
-  made = made_in compaction state.phase state.types state.kept line
+  -- a step, with the epochs after it
+  abbrev step_with : LineStep O K → List V → LineStep O (Collected K V)
+  step_with step epochs = record {
+    answer = step.answer;
+    handed_out = step.handed_out;
+    next = with_epochs step.next epochs;
+  }
 
-  step-alike : first (epochs_collected choices lines)
-      ≡ step_of_made collecting (with_epochs state (epochs_collected choices lines)) line made
-  step-alike = ap (step_of_made collecting (with_epochs state (epochs_collected choices lines)) line)
-      (same-made state.phase state.types (epochs_collected choices lines) state.kept line)
+  step-alike : (s : RunState O K) (epochs : List V) (line : ReadLine) (made : Made U O)
+      → step_of_made collecting (with_epochs s epochs) line made
+      ≡ step_with (step_of_made direction s line made) (add_made epoch_of epochs made)
+  step-alike s epochs line (Completes unit) = refl
+  step-alike s epochs line (Moves phase) = grind (arith, common_steps, same-kept)
+  step-alike s epochs line (Rejects fault) = by_bool (is_skipped_in s fault)
+      (λ on. failed-skipped collecting (with_epochs s epochs) line fault on
+      ∙ sym (ap (λ (t : LineStep O K). step_with t epochs) (failed-skipped direction s line fault on)))
+      (λ off. failed-ends collecting (with_epochs s epochs) line fault off
+      ∙ sym (ap (λ (t : LineStep O K). step_with t epochs) (failed-ends direction s line fault off)))
+  step-alike s epochs line (Repeats at) = refl
 
-  -- a line that doesn't come again
-  pub epochs-once : is_again (state_next compaction state line).answer ≡ false
-      → epochs_collected choices (lines ++ line ∷ []) ≡ add_made (epochs_collected choices lines) made
-  epochs-once once =
-      let epochs = epochs_collected choices lines in
-      is-fed ∙ ap (λ (f : Fed OpenEpoch (List Epoch)). f.next.kept) (fed-once collecting
-      (with_epochs state epochs) line (ap (λ (s : Step OpenEpoch (List Epoch)). is_again s.answer) step-alike
-      ∙ again-alike state epochs line made ∙ once)) ∙ ap (λ (s : Step OpenEpoch (List Epoch)). s.next.kept)
-      step-alike ∙ kept-after state epochs line made
+  pub next-alike : (s : RunState O K) (epochs : List V) (line : ReadLine)
+      → state_next collecting (with_epochs s epochs) line ≡ step_with (state_next direction s line)
+      (add_made epoch_of epochs (made_in direction s.phase s.types s.kept line))
+  next-alike s epochs line = ap (step_of_made collecting (with_epochs s epochs) line)
+      (same-made s.phase s.types s.kept epochs line)
+      ∙ step-alike s epochs line (made_in direction s.phase s.types s.kept line)
 
-  -- a line that comes again, by its second step
-  pub epochs-twice : (next : RunState OpenEpoch Written) (notice : At)
-      → record { answer = Notice notice true; handed_out = []; next = next } ≡ state_next compaction state
-      line
-      → epochs_collected choices (lines ++ line ∷ []) ≡ add_made (epochs_collected choices lines)
-      (made_in compaction next.phase next.types next.kept line)
-  epochs-twice next notice e =
-      let epochs = epochs_collected choices lines in
-      let again : is_again (state_next compaction state line).answer ≡ true =
-      ap (λ (s : Step OpenEpoch Written). is_again s.answer) (sym e) in
-      let then : (first epochs).next ≡ with_epochs next epochs =
-      ap (λ (s : Step OpenEpoch (List Epoch)). s.next) step-alike ∙ next-alike state epochs line made again
-      ∙ ap (λ (s : Step OpenEpoch Written). with_epochs s.next epochs) (sym e) in
-      is-fed ∙ ap (λ (f : Fed OpenEpoch (List Epoch)). f.next.kept) (fed-twice collecting
-      (with_epochs state epochs) line (ap (λ (s : Step OpenEpoch (List Epoch)). is_again s.answer) step-alike
-      ∙ again-alike state epochs line made ∙ again))
-      ∙ ap (λ (s : RunState OpenEpoch (List Epoch)). (state_next collecting s line).next.kept) then
-      ∙ ap (λ (m : Made Epoch OpenEpoch). (step_of_made collecting (with_epochs next epochs) line
-      m).next.kept)
-      (same-made next.phase next.types epochs next.kept line) ∙ kept-after next epochs line
-      (made_in compaction next.phase next.types next.kept line)
+  -- ---- one line more
+
+  again-adds : (s : RunState O K) (epochs : List V) (line : ReadLine) (made : Made U O)
+      → is_again (step_of_made direction s line made).answer ≡ true → add_made epoch_of epochs made ≡ epochs
+  again-adds s epochs line made again = grind (arith, common_steps, again-lines)
+
+  module _ (s : RunState O K) (epochs : List V) (line : ReadLine) where
+    abbrev pub epochs_fed : List V
+    epochs_fed = (fed collecting (with_epochs s epochs) line).next.kept.epochs
+
+    -- a line that doesn't come again
+    epochs-once : is_again (state_next direction s line).answer ≡ false
+        → epochs_fed ≡ add_made epoch_of epochs (made_in direction s.phase s.types s.kept line)
+    epochs-once once =
+        let alike = next-alike s epochs line in
+        ap (λ (f : Fed O (Collected K V)). f.next.kept.epochs) (fed-once collecting (with_epochs s epochs) line
+        (ap (λ (t : LineStep O (Collected K V)). is_again t.answer) alike ∙ once))
+        ∙ ap (λ (t : LineStep O (Collected K V)). t.next.kept.epochs) alike
+
+    -- a line that comes again, by its second step
+    epochs-twice : (next : RunState O K) (notice : At)
+        → record { answer = Notice notice true; handed_out = []; next = next } ≡ state_next direction s line
+        → epochs_fed ≡ add_made epoch_of epochs (made_in direction next.phase next.types next.kept line)
+    epochs-twice next notice e =
+        let alike = next-alike s epochs line in
+        let again : is_again (state_next direction s line).answer ≡ true =
+        ap (λ (t : LineStep O K). is_again t.answer) (sym e) in
+        let then : (state_next collecting (with_epochs s epochs) line).next ≡ with_epochs next epochs =
+        ap (λ (t : LineStep O (Collected K V)). t.next) alike ∙ ap (with_epochs (state_next direction s line).next)
+        (again-adds s epochs line (made_in direction s.phase s.types s.kept line) again)
+        ∙ ap (λ (t : LineStep O K). with_epochs t.next epochs) (sym e) in
+        ap (λ (f : Fed O (Collected K V)). f.next.kept.epochs) (fed-twice collecting (with_epochs s epochs) line
+        (ap (λ (t : LineStep O (Collected K V)). is_again t.answer) alike ∙ again))
+        ∙ ap (λ (t : RunState O (Collected K V)). (state_next collecting t line).next.kept.epochs) then
+        ∙ ap (λ (t : LineStep O (Collected K V)). t.next.kept.epochs) (next-alike next epochs line)
+
+  -- a line that brings nothing adds none
+  module _ (long_first : (types : List Count) (kept : K)
+      → direction.begins types kept Overlong ≡ Rejects LineTooLong) (long_next : (so_far : O)
+      → direction.continues so_far Overlong ≡ Rejects LineTooLong) (epochs : List V) where
+    long-adds : (phase : Phase O) (types : List Count) (kept : K)
+        → add_made epoch_of epochs (made_in direction phase types kept Overlong) ≡ epochs
+    long-adds phase types kept = grind (arith, common_steps, long_first, long_next)
+
+    lines-brought : {X : Type 0} (lines : List (List ℕ)) (content : List ℕ)
+        → brings_nothing (answer_of_lines lines) (Content content) ≡ true → X
+    lines-brought [] content passed = false-true passed
+    lines-brought (line ∷ lines) content passed = false-true passed
+
+    passed-adds : (s : RunState O K) (content : List ℕ) (made : Made U O)
+        → brings_nothing (step_of_made direction s (Content content) made).answer (Content content) ≡ true
+        → add_made epoch_of epochs made ≡ epochs
+    passed-adds s content (Completes unit) passed = lines-brought (direction.written s unit) content passed
+    passed-adds s content made passed = refl
+
+    past-adds : (s : RunState O K) (line : ReadLine)
+        → brings_nothing (state_next direction s line).answer line ≡ true
+        → add_made epoch_of epochs (made_in direction s.phase s.types s.kept line) ≡ epochs
+    past-adds s Overlong passed = long-adds s.phase s.types s.kept
+    past-adds s (Content content) passed =
+        passed-adds s content (made_in direction s.phase s.types s.kept (Content content)) passed
+
+  passed-once : (answer : Answer) (line : ReadLine) → brings_nothing answer line ≡ true
+      → is_again answer ≡ false
+  passed-once answer line passed = grind (arith, common_steps, not-true, false-true)
+
+  -- the epochs of some lines, where one line more adds to them what it is fed as
+  abbrev pub Collects : (List ReadLine → RunState O K) → (List ReadLine → List V) → Type 0
+  Collects state_after epochs_after = (lines : List ReadLine) (line : ReadLine)
+      → epochs_after (lines ++ line ∷ []) ≡ epochs_fed (state_after lines) (epochs_after lines) line
+
+  -- a line that is given, and doesn't come again after it
+  module _ (state_after : Choices → List ReadLine → RunState O K) (choices : Choices)
+      (epochs_after : List ReadLine → List V)
+      (collects : Collects (state_after choices) epochs_after) (lines : List InputLine) (line : InputLine)
+      (parts : DirectionParts O K)
+      (given : ComesAfter direction (λ choices. choices) state_after choices lines line parts) where
+    abbrev seen : RunState O K
+    seen = state_by choices (length lines) parts
+
+    pub given-epochs : is_again (state_next direction seen (as_read line)).answer ≡ false
+        → epochs_after (map as_read (with_next lines line)) ≡ add_made epoch_of
+        (epochs_after (map as_read lines)) (made_in direction seen.phase seen.types seen.kept (as_read line))
+    given-epochs once = ap epochs_after (map-append as_read lines (line ∷ []))
+        ∙ collects (map as_read lines) (as_read line) ∙ by_notices given.notices given.has_taken given.awaited
+      where
+        before : RunState O K
+        before = state_after choices (map as_read lines)
+
+        epochs : List V
+        epochs = epochs_after (map as_read lines)
+
+        by_notices : (notices : List Awaited) → HasTaken direction (state_after choices) seen lines notices
+            → IsAwaited notices line → epochs_fed before epochs (as_read line) ≡ add_made epoch_of epochs
+            (made_in direction seen.phase seen.types seen.kept (as_read line))
+        by_notices [] taken awaited = subst (λ (s : RunState O K). epochs_fed s epochs (as_read line)
+            ≡ add_made epoch_of epochs (made_in direction seen.phase seen.types seen.kept (as_read line))) taken
+            (epochs-once seen epochs (as_read line) once)
+        by_notices (a ∷ []) taken awaited = epochs-twice before epochs (as_read line) seen a.notice
+            (taken ∙ ap (λ (l : InputLine). state_next direction before (as_read l)) awaited)
+        by_notices (a ∷ b ∷ others) taken awaited = absurd taken
+
+    pub given-past : ((types : List Count) (kept : K)
+        → direction.begins types kept Overlong ≡ Rejects LineTooLong)
+        → ((so_far : O) → direction.continues so_far Overlong ≡ Rejects LineTooLong)
+        → brings_nothing (state_next direction seen (as_read line)).answer (as_read line) ≡ true
+        → epochs_after (map as_read (with_next lines line)) ≡ epochs_after (map as_read lines)
+    given-past long_first long_next passed =
+        given-epochs (passed-once (state_next direction seen (as_read line)).answer (as_read line) passed)
+        ∙ past-adds long_first long_next (epochs_after (map as_read lines)) seen (as_read line) passed
+
+-- ---- it is carried out as the direction is
+
+module _ {E U O K V : Type 0} {beginning : List (Item E) → List ReadLine → Place (FileUnit E)}
+    {direction : Direction U O K} {open_with : List (Item E) → List ReadLine → Option O}
+    {kept_of : List (Item E) → K} {unit_lines : List (Item E) → FileUnit E → List (List ℕ)}
+    {choices : Choices} (h : IsCarriedOut beginning direction open_with kept_of unit_lines choices)
+    (epoch_of : U → V) (epoch_read : E → V) where
+  -- the epochs of some items
+  abbrev epochs_of : List (Item E) → List V
+  epochs_of items = map epoch_read (accepted_epochs items)
+
+  abbrev pub collected_of : List (Item E) → Collected K V
+  collected_of items = record { own = kept_of items; epochs = epochs_of items }
+
+  abbrev AreKept : List (Item E) → Collected K V → Type 0
+  AreKept items kept = ((kept.own ≡ kept_of items) ⊎ (kept.own ≡ direction.kept_open (kept_of items)))
+      × (kept.epochs ≡ epochs_of items)
+
+  both-kept : (items : List (Item E)) (kept : Collected K V) → (kept ≡ collected_of items)
+      ⊎ (kept ≡ (collecting direction epoch_of).kept_open (collected_of items)) → AreKept items kept
+  both-kept items kept (inl e) =
+      (inl (ap (λ (k : Collected K V). k.own) e), ap (λ (k : Collected K V). k.epochs) e)
+  both-kept items kept (inr e) =
+      (inr (ap (λ (k : Collected K V). k.own) e), ap (λ (k : Collected K V). k.epochs) e)
+
+  -- an epoch that is the same as it comes line by line, and so is its observation epoch
+  pub both-same : (items : List (Item E)) (epoch : E) (held : U)
+      → IsSameEpoch direction kept_of unit_lines choices items epoch held → epoch_of held ≡ epoch_read epoch
+      → IsSameEpoch (collecting direction epoch_of) collected_of unit_lines choices items epoch held
+  both-same items epoch held same alike = record {
+    kept = λ number phase types kept either.
+        let both = both-kept items kept either in
+        cc (same.kept number phase types kept.own both.0, both.1, alike);
+    lines = λ number phase types kept either.
+        same.lines number phase types kept.own (both-kept items kept either).0;
+  }
+
+  abbrev AgreesOn : List (Item E) → List ReadLine → Made U O → Type 0
+  AgreesOn = AgreeOn beginning (collecting direction epoch_of) open_with collected_of unit_lines choices
+
+  abbrev with_own : K → List (Item E) → Collected K V
+  with_own kept items = record { own = kept; epochs = epochs_of items }
+
+  pub collecting-carried_out : ((items : List (Item E)) (line : ReadLine)
+      → AgreesOn items (line ∷ []) (direction.begins (types_in_force items) (kept_of items) line))
+      → ((items : List (Item E)) (lines : List ReadLine) (line : ReadLine) (so_far : O)
+      → open_with items lines ≡ Some so_far
+      → AgreesOn items (lines ++ line ∷ []) (direction.continues so_far line))
+      → IsCarriedOut beginning (collecting direction epoch_of) open_with collected_of unit_lines choices
+  collecting-carried_out begins continues = record {
+    forward = h.forward;
+    wants = h.wants;
+    none_open = h.none_open;
+    wanted_open = h.wanted_open;
+    begins = begins;
+    continues = continues;
+    header_kept = λ items number types line.
+        ap (λ (k : K). with_own k items) (h.header_kept items number types line);
+    header_lines = h.header_lines;
+    event_kept = λ items number phase types line.
+        ap (λ (k : K). with_own k items) (h.event_kept items number phase types line);
+    event_lines = λ items number phase types kept line. h.event_lines items number phase types kept.own line;
+    record_kept = λ items number left types line.
+        ap (λ (k : K). with_own k items) (h.record_kept items number left types line);
+    record_lines = λ items number phase types kept line. h.record_lines items number phase types kept.own line;
+    warned = λ items at. ap (λ (k : K). with_own k items) (h.warned items at);
+    emptied_open = λ kept. ap (λ (k : K). record { own = k; epochs = kept.epochs }) (h.emptied_open kept.own);
+    open_open = λ kept. ap (λ (k : K). record { own = k; epochs = kept.epochs }) (h.open_open kept.own);
+  }
+
+  -- what is seen after a reading
+  pub state-with : (count : ℕ) (r : Reading E)
+      → state_of (collecting direction epoch_of) open_with collected_of choices count r
+      ≡ with_epochs (state_of direction open_with kept_of choices count r) (epochs_of r.items)
+  state-with count r = ap (λ (k : Collected K V). record {
+    choices = choices;
+    number = count;
+    phase = phase_of open_with r;
+    types = types_in_force r.items;
+    kept = k;
+  }) (same-kept direction epoch_of (phase_of open_with r) (kept_of r.items) (epochs_of r.items))

@@ -21,7 +21,7 @@ same-tail : (choices : Choices) (items : List (Item Epoch)) (epoch : Epoch)
     (is_at_every choices.every (epochs_accepted items)) (written_of choices.every items).tail
 same-tail choices items epoch = grind (arith, common_steps)
 
-same-epochs : (choices : Choices)
+pub same-epochs : (choices : Choices)
     → AreSame compaction (written_of choices.every) (compact_unit choices) choices
 same-epochs choices = record {
   same = λ items lines epoch count here.

@@ -6,7 +6,7 @@ use proofs.Words.{ReadLine, Content, Overlong, Fault, BadEpoch, is_event_line, r
 use proofs.Words.{NeedsMore, FileUnit, EventLine, RawEpoch, ReadEpoch, epoch_at, Tail, OpenRawEpoch, RawStep}
 use proofs.Words.{first_step, next_step, open_raw_after, open_raw_with, Choices, Item, types_in_force}
 use proofs.Words.{raws_kept, event_line, as_observation, expanded_unit, Made, made_of_unit, made_of_raw_step}
-use proofs.Words.{expansion, tail_of_items, begins_event, compact_open, by_bool}
+use proofs.Words.{Direction, expansion, tail_of_items, begins_event, compact_open, by_bool}
 use Rattle.crx_compact.proofs.reading.LineByLine.{steps-agree, wanted-where_open, steps-from_open}
 use Rattle.crx_compact.proofs.reading.RawTailing.{place-by_tail, left-by_tail}
 use Rattle.crx_compact.proofs.soundness.Soundness.{reads-soundly}
@@ -16,9 +16,16 @@ use Rattle.{crx_compact.specs.Tails.tail_left, crx_filter.specs.ExpansionByLine.
 use proofs.following.{Following.{IsSameEpoch, AgreeOn, IsCarriedOut}, Lines.one_line-decided}
 use proofs.reading.ForwardCompact.{compact-forward, compact_beginning}
 
-abbrev pub Agrees : Choices → List (Item ReadEpoch) → List ReadLine → Made HeldEpoch OpenRawEpoch → Type 0
-Agrees choices items lines made =
-    AgreeOn compact_beginning expansion compact_open tail_of_items expanded_unit choices items lines made
+-- ---- what is asked of a direction
+
+-- an epoch that is read is kept and written as the steps hold it
+pub record AreSame {K : Type 0} (direction : Direction HeldEpoch OpenRawEpoch K)
+    (kept_of : List (Item ReadEpoch) → K) (unit_lines : List (Item ReadEpoch) → FileUnit ReadEpoch
+    → List (List ℕ)) (choices : Choices) : Type 0 where
+  pub same : (items : List (Item ReadEpoch)) (lines : List ReadLine) (read : ReadEpoch) (held : HeldEpoch)
+      (count : ℕ) → epoch_at (types_in_force items) (raws_kept items) lines ≡ Done read count
+      → held_after (tail_of_items items) read ≡ held
+      → IsSameEpoch direction kept_of unit_lines choices items read held
 
 -- ---- what is at a place, by what it leaves
 
@@ -42,66 +49,9 @@ placed-wanted tail p e = grind (arith, common_steps)
 
 -- ---- one line
 
--- an epoch is kept and written as it is held
-same-epoch : (choices : Choices) (items : List (Item ReadEpoch)) (lines : List ReadLine) (read : ReadEpoch)
-    (held : HeldEpoch) (count : ℕ) → epoch_at (types_in_force items) (raws_kept items) lines ≡ Done read count
-    → held_after (tail_of_items items) read ≡ held
-    → IsSameEpoch expansion tail_of_items expanded_unit choices items read held
-same-epoch choices items lines read held count here same = record {
-  kept = λ number phase types kept either. ap {B = Option Tail} (λ (h : HeldEpoch). Some h.tail) (sym same)
-      ∙ sym (left-by_tail read.raw (raws_kept items) (reads-soundly (types_in_force items) (raws_kept items)
-      lines read count here).single);
-  lines = λ number phase types kept either. cc;
-}
-
--- what some lines make where no event begins, by the step that the last of them is
-agree-step : (choices : Choices) (items : List (Item ReadEpoch))
-    (lines : List ReadLine) (before : ℕ) (step : RawStep) → compact_beginning items lines ≡ as_observation
-    (epoch_at (types_in_force items) (raws_kept items) lines) → placed_as (held_after (tail_of_items items))
-    (epoch_after (types_in_force items) (tail_of_items items) lines) ≡ place_of_step before step
-    → compact_open items lines ≡ open_raw_after step [] → Agrees choices items lines (made_of_raw_step step)
-agree-step choices items lines before (Going so_far) place placed opens =
-    grind (arith, common_steps, place-by_tail, placed-wanted)
-agree-step choices items lines before (Whole held) place placed opens =
-    let h = placed-here (tail_of_items items) _ held (suc before) placed in
-    let here = place-by_tail (types_in_force items) (raws_kept items) lines ∙ h.here in (
-      suc before,
-      h.read,
-      place ∙ ap as_observation here,
-      same-epoch choices items lines h.read held (suc before) here h.same,
-    )
-agree-step choices items lines before (Faulty fault) place placed opens = (
-  before,
-  place ∙ ap as_observation (place-by_tail (types_in_force items) (raws_kept items) lines
-      ∙ placed-wrong (tail_of_items items) _ before fault placed),
-)
-
 -- a first line alone
 steps-last : (step : RawStep) → place_of_steps 0 step [] ≡ place_of_step 0 step
 steps-last step = grind (arith, common_steps)
-
-agree-event : (choices : Choices) (items : List (Item ReadEpoch)) (content : List ℕ)
-    → is_event_line content ≡ true → (o : Option ℕ)
-    → records_in content ≡ o → Agrees choices items (Content content ∷ []) (made_of_unit (elim o as
-    (λ _. Result (FileUnit HeldEpoch) Fault) [ Some count ↦ Ok (EventLine content) | None ↦ Err BadEpoch ]))
-agree-event choices items content is None e = (0, rw is (rw (e, event_line) refl))
-agree-event choices items content is (Some count) e = (1, rw is (rw (e, event_line) refl), refl)
-
-pub agree-content : (choices : Choices) (items : List (Item ReadEpoch)) (content : List ℕ) (b : Bool)
-    → is_event_line content ≡ b
-    → Agrees choices items (Content content ∷ []) (cond b (made_of_unit (event_line content))
-    (made_of_raw_step (first_step (types_in_force items) (tail_of_items items) (Content content))))
-agree-content choices items content true e = agree-event choices items content e (records_in content) refl
-agree-content choices items content false e = agree-step choices items (Content content ∷ []) 0
-    (first_step (types_in_force items) (tail_of_items items) (Content content)) (rw e refl)
-    (steps-agree (types_in_force items) (tail_of_items items) (Content content ∷ [])
-    ∙ steps-last (first_step (types_in_force items) (tail_of_items items) (Content content))) (rw e refl)
-
-agree-begins : (choices : Choices) (items : List (Item ReadEpoch)) (line : ReadLine)
-    → Agrees choices items (line ∷ []) (compact_begins (types_in_force items) (tail_of_items items) line)
-agree-begins choices items Overlong = (0, refl)
-agree-begins choices items (Content content) = agree-content choices items content
-    (is_event_line content) refl
 
 -- where an epoch is open, no event began
 no-event : (items : List (Item ReadEpoch)) (lines : List ReadLine) (so_far : OpenRawEpoch) (b : Bool)
@@ -122,18 +72,69 @@ same-beginning : (line : ReadLine) (lines more : List ReadLine)
     → begins_event (line ∷ lines) ≡ false → begins_event (line ∷ more) ≡ false
 same-beginning line lines more e = grind (arith, common_steps)
 
-pub agree-continues : (choices : Choices) (items : List (Item ReadEpoch))
-    (lines : List ReadLine) (line : ReadLine) (so_far : OpenRawEpoch) → compact_open items lines ≡ Some so_far
-    → Agrees choices items (lines ++ line ∷ []) (made_of_raw_step (next_step so_far line))
-agree-continues choices items [] line so_far opens = absurd (none-some so_far opens)
-agree-continues choices items (first ∷ rest) line so_far opens =
-    let none = no-event items (first ∷ rest) so_far (begins_event (first ∷ rest)) refl opens in
-    let more = same-beginning first rest (rest ++ line ∷ []) none in
-    let step = steps-from_open (types_in_force items) (tail_of_items items) (first ∷ rest) line so_far
-    (sym (by-steps items (first ∷ rest) none) ∙ opens) in
-    agree-step choices items (first ∷ (rest ++ line ∷ [])) (length (first ∷ rest)) (next_step so_far line)
-    (at-observation items first (rest ++ line ∷ []) more) step.place (by-steps items (first ∷
-    (rest ++ line ∷ [])) more ∙ step.open_epoch)
+module _ {K : Type 0} {direction : Direction HeldEpoch OpenRawEpoch K} {kept_of : List (Item ReadEpoch) → K}
+    {unit_lines : List (Item ReadEpoch) → FileUnit ReadEpoch → List (List ℕ)} {choices : Choices}
+    (s : AreSame direction kept_of unit_lines choices) where
+  abbrev pub Agrees : List (Item ReadEpoch) → List ReadLine → Made HeldEpoch OpenRawEpoch → Type 0
+  Agrees = AgreeOn compact_beginning direction compact_open kept_of unit_lines choices
+
+  -- what some lines make where no event begins, by the step that the last of them is
+  agree-step : (items : List (Item ReadEpoch))
+      (lines : List ReadLine) (before : ℕ) (step : RawStep) → compact_beginning items lines ≡ as_observation
+      (epoch_at (types_in_force items) (raws_kept items) lines) → placed_as (held_after (tail_of_items items))
+      (epoch_after (types_in_force items) (tail_of_items items) lines) ≡ place_of_step before step
+      → compact_open items lines ≡ open_raw_after step [] → Agrees items lines (made_of_raw_step step)
+  agree-step items lines before (Going so_far) place placed opens =
+      grind (arith, common_steps, place-by_tail, placed-wanted)
+  agree-step items lines before (Whole held) place placed opens =
+      let h = placed-here (tail_of_items items) _ held (suc before) placed in
+      let here = place-by_tail (types_in_force items) (raws_kept items) lines ∙ h.here in (
+        suc before,
+        h.read,
+        place ∙ ap as_observation here,
+        s.same items lines h.read held (suc before) here h.same,
+      )
+  agree-step items lines before (Faulty fault) place placed opens = (
+    before,
+    place ∙ ap as_observation (place-by_tail (types_in_force items) (raws_kept items) lines
+        ∙ placed-wrong (tail_of_items items) _ before fault placed),
+  )
+
+  agree-event : (items : List (Item ReadEpoch)) (content : List ℕ)
+      → is_event_line content ≡ true → (o : Option ℕ)
+      → records_in content ≡ o → Agrees items (Content content ∷ []) (made_of_unit (elim o as
+      (λ _. Result (FileUnit HeldEpoch) Fault) [ Some count ↦ Ok (EventLine content) | None ↦ Err BadEpoch ]))
+  agree-event items content is None e = (0, rw is (rw (e, event_line) refl))
+  agree-event items content is (Some count) e = (1, rw is (rw (e, event_line) refl), refl)
+
+  pub agree-content : (items : List (Item ReadEpoch)) (content : List ℕ) (b : Bool)
+      → is_event_line content ≡ b
+      → Agrees items (Content content ∷ []) (cond b (made_of_unit (event_line content))
+      (made_of_raw_step (first_step (types_in_force items) (tail_of_items items) (Content content))))
+  agree-content items content true e = agree-event items content e (records_in content) refl
+  agree-content items content false e = agree-step items (Content content ∷ []) 0
+      (first_step (types_in_force items) (tail_of_items items) (Content content)) (rw e refl)
+      (steps-agree (types_in_force items) (tail_of_items items) (Content content ∷ [])
+      ∙ steps-last (first_step (types_in_force items) (tail_of_items items) (Content content))) (rw e refl)
+
+  pub agree-begins : (items : List (Item ReadEpoch)) (line : ReadLine)
+      → Agrees items (line ∷ []) (compact_begins (types_in_force items) (tail_of_items items) line)
+  agree-begins items Overlong = (0, refl)
+  agree-begins items (Content content) = agree-content items content
+      (is_event_line content) refl
+
+  pub agree-continues : (items : List (Item ReadEpoch))
+      (lines : List ReadLine) (line : ReadLine) (so_far : OpenRawEpoch) → compact_open items lines ≡ Some so_far
+      → Agrees items (lines ++ line ∷ []) (made_of_raw_step (next_step so_far line))
+  agree-continues items [] line so_far opens = absurd (none-some so_far opens)
+  agree-continues items (first ∷ rest) line so_far opens =
+      let none = no-event items (first ∷ rest) so_far (begins_event (first ∷ rest)) refl opens in
+      let more = same-beginning first rest (rest ++ line ∷ []) none in
+      let step = steps-from_open (types_in_force items) (tail_of_items items) (first ∷ rest) line so_far
+      (sym (by-steps items (first ∷ rest) none) ∙ opens) in
+      agree-step items (first ∷ (rest ++ line ∷ [])) (length (first ∷ rest)) (next_step so_far line)
+      (at-observation items first (rest ++ line ∷ []) more) step.place (by-steps items (first ∷
+      (rest ++ line ∷ [])) more ∙ step.open_epoch)
 
 -- ---- where more lines are wanted
 
@@ -155,6 +156,17 @@ no-lines items (line ∷ lines) wanted none = by_bool (begins_event (line ∷ li
     absurd (true≢false (sym (ap is_wanted after) ∙ wanted-where_open (types_in_force items)
     (tail_of_items items) (line ∷ lines) ∙ ap is_some (sym (by-steps items (line ∷ lines) off) ∙ none))))
 
+-- an epoch is kept and written as it is held
+pub same-epochs : (choices : Choices) → AreSame expansion tail_of_items expanded_unit choices
+same-epochs choices = record {
+  same = λ items lines read held count here same. record {
+    kept = λ number phase types kept either. ap {B = Option Tail} (λ (h : HeldEpoch). Some h.tail) (sym same)
+        ∙ sym (left-by_tail read.raw (raws_kept items) (reads-soundly (types_in_force items) (raws_kept items)
+        lines read count here).single);
+    lines = λ number phase types kept either. cc;
+  };
+}
+
 kept-record : (b : Bool) (raws : List RawEpoch) → cond b None (tail_left raws) ≡ tail_left (cond b [] raws)
 kept-record b raws = grind (arith, common_steps)
 
@@ -165,8 +177,8 @@ expansion-carried_out choices = record {
   wants = λ items. refl;
   none_open = λ items. refl;
   wanted_open = no-lines;
-  begins = agree-begins choices;
-  continues = agree-continues choices;
+  begins = agree-begins (same-epochs choices);
+  continues = agree-continues (same-epochs choices);
   header_kept = λ items number types line. refl;
   header_lines = λ items number types line. refl;
   event_kept = λ items number phase types line. refl;

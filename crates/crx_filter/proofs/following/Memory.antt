@@ -194,7 +194,7 @@ module _ {E U O K : Type 0} {beginning : List (Item E) → List ReadLine → Pla
   allowed-again items stop count line next notice stopped e taken = by_stop stop stopped
       (comes-again direction _ next line notice [] e) e
     where
-      by_stop : (s : Stop) → IsStopped (place h) items s (count + 1) → ComesAgain
+      by_stop : (s : Stop) → IsStopped (place h) items s (count + 1) → ComesAgain direction
           (state_of direction open_with kept_of choices count (record { items = items; stop = s })) next line
           → record { answer = Notice notice true; handed_out = []; next = next } ≡ state_next direction
           (state_of direction open_with kept_of choices count (record { items = items; stop = s })) line

@@ -1,24 +1,22 @@
 -- The memory that an expansion takes, by what is at its lines.
 use Rattle.crx_filter.proofs
-use proofs.Words.{common_steps, ℕ, ◌≡◌, true, false, List, [], ◌∷◌, length, Option, Some, None}
-use proofs.Words.{refl, ReadLine, Content, Overlong, ReadEpoch}
-use proofs.Words.{OpenRawEpoch, RawStep, first_step, Tail}
-use proofs.Words.{Choices, Item, types_in_force, place_takes, compact_open, expansion}
-use proofs.Words.{made_of_raw_step, tail_of_items, ◌+◌, drop, arith, length-drop, At, Place, Done, Fails}
-use proofs.Words.{NeedsMore, expansion_state, Notice, RunState, state_next, takes_memory, compact_memory}
-use proofs.Words.{compact_place, first_lines, memory_allowed, reading_from, not-true, false-true}
-use Rattle.crx_compact.specs.OpenEpochs.{is_faulty}
-use Rattle.crx_filter.specs.meaning.Memory.{expansion_takes}
-use proofs.following.ExpandedOn.{reading_by, state_by}
-use proofs.following.Expansion.{Agrees, agree-content, expansion-carried_out}
-use proofs.following.{Lines.IsStopped, Memory.{TakesAsItStands, allowed-again, allowed-first}}
-use proofs.reading.{CompactPrefixes.remains, ForwardCompact.{compact_beginning, compact-forward}}
-use proofs.{reading.Stopping.reading-stopped, steps.EngineAnswers.comes-again}
+use proofs.Words.{common_steps, ℕ, ◌≡◌, true, false, List, [], ◌∷◌, length, Option, Some, None, refl}
+use proofs.Words.{ReadLine, Content, Overlong, ReadEpoch, OpenRawEpoch, RawStep, first_step, Tail, Choices}
+use proofs.Words.{Item, types_in_force, place_takes, compact_open, expansion, made_of_raw_step, tail_of_items}
+use proofs.Words.{◌+◌, drop, arith, length-drop, At, Place, Done, Fails, NeedsMore, expansion_state, Notice}
+use proofs.Words.{RunState, state_next, takes_memory, compact_memory, compact_place, first_lines}
+use proofs.{Words.{memory_allowed, reading_from, not-true, false-true}, following.ExpandedOn.reading_by}
+use proofs.following.{ExpandedOn.state_by, Expansion.{Agrees, agree-content, expansion-carried_out}}
+use proofs.following.{Expansion.same-epochs, Lines.IsStopped, Memory.{TakesAsItStands, allowed-again}}
+use proofs.{following.Memory.allowed-first, reading.CompactPrefixes.remains}
+use proofs.reading.{ForwardCompact.{compact_beginning, compact-forward}, Stopping.reading-stopped}
+use proofs.steps.EngineAnswers.{comes-again}
+use Rattle.{crx_compact.specs.OpenEpochs.is_faulty, crx_filter.specs.meaning.Memory.expansion_takes}
 
 -- a step without a fault takes memory, where its line does
 step-takes : (choices : Choices) (items : List (Item ReadEpoch)) (lines : List ReadLine) (count : ℕ)
     (step : RawStep) → expansion_takes count ≡ true → is_faulty step ≡ false
-    → Agrees choices items lines (made_of_raw_step step)
+    → Agrees (same-epochs choices) items lines (made_of_raw_step step)
     → place_takes expansion_takes items count (compact_beginning items lines) ≡ true
 step-takes choices items lines count step takes fine a = grind (arith, common_steps)
 
@@ -28,7 +26,7 @@ expansion-takes choices = record {
   first = λ items line other good. step-takes choices items (Content line ∷ []) 0
       (first_step (types_in_force items) (tail_of_items items) (Content line)) refl
       (not-true (is_faulty (first_step (types_in_force items) (tail_of_items items) (Content line))) good)
-      (agree-content choices items line false other);
+      (agree-content (same-epochs choices) items line false other);
   next = λ items lines line so_far opens good. false-true good;
 }
 

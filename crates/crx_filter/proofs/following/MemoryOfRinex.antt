@@ -2,16 +2,14 @@
 use Rattle.crx_filter.proofs
 use proofs.Words.{common_steps, ℕ, suc, ◌≡◌, Bool, true, false, List, [], ◌∷◌, ◌++◌, length, Some, Result}
 use proofs.Words.{refl, ◌+◌, arith, At, none-some, ReadLine, Content, Fault, OpenEpoch, next_row, Epoch, Row}
-use proofs.Words.{FileUnit, EpochStep, Faulty, after_row, epoch_step, Choices, Item}
-use proofs.Words.{compaction_takes, memory_allowed, place_takes, rinex_reading, takes_memory, checking}
-use proofs.Words.{no_choices, totals_of, compaction, made_of_epoch_step, Written}
-use proofs.Words.{compaction_state, rinex_open, written_of, Direction, Notice, RunState, state_next}
-use proofs.Words.{state_of, compact_unit, rinex_place, false-true}
-use Rattle.crx_filter.specs.meaning.Memory.{check_takes}
-use Rattle.std.specs.Result.{is_ok}
-use proofs.following.{Check.check-carried_out, Compaction.compaction-carried_out}
-use proofs.following.{Following.AgreeOn, Memory.{TakesAsItStands, allowed-again, allowed-first}}
-use proofs.reading.{Forward.{rinex-forward, rinex_beginning}, Stopping.reading-stopped}
+use proofs.Words.{FileUnit, EpochStep, Faulty, after_row, epoch_step, Choices, Item, compaction_takes}
+use proofs.Words.{memory_allowed, place_takes, rinex_reading, takes_memory, checking, no_choices, totals_of}
+use proofs.Words.{compaction, made_of_epoch_step, Written, compaction_state, rinex_open, written_of}
+use proofs.Words.{Direction, Notice, RunState, state_next, state_of, compact_unit, rinex_place, false-true}
+use proofs.following.{Check.check-carried_out, Compaction.compaction-carried_out, Following.AgreeOn}
+use proofs.{following.Memory.{TakesAsItStands, allowed-again, allowed-first}, reading.Forward.rinex-forward}
+use proofs.reading.{Forward.rinex_beginning, Stopping.reading-stopped}
+use Rattle.{crx_filter.specs.meaning.Memory.check_takes, std.specs.Result.is_ok}
 
 -- ---- satellites' lines
 

@@ -8,22 +8,20 @@ use proofs.Words.{printed_made, earliest, CheckState, no_choices, check_state, c
 use proofs.Words.{RinexReader, RinexStep, false-true, first_not_standard, printed_so_far, Stage}
 use proofs.Words.{phase_of_stage, epoch_open, ◌≤◌, is_open_stage, is_row, drop, Row as ObservationRow, Ok}
 use proofs.Words.{Err, IsSameReader, Choices, length-drop, check_by_line, check_reading, map, length}
-use proofs.{Words.{false≢true, Written}, following.CheckGoes.{made-alike, made-quiet, step-quiet}}
+use proofs.Words.{false≢true, Written, Overlong, state_next, Begun, Bool, Rejects, bytes_eq, has_satellite}
+use proofs.{Words.{may_take_memory, inl, inr, ◌||◌, ◌++◌, ◌∷◌}, following.CheckGoes.{made-alike, made-quiet}}
 use proofs.following.{CheckedOn.{checked-on, same-state}, Following.state_in}
 use proofs.standard.{CheckEnded.kept-always, CheckLines.{IsReached, Grows, line-grows, phase-reached}}
 use proofs.steps.EngineAnswers.{as-read-short}
-use Rattle.crx_filter.specs.{CheckByLine.totals_made, CheckingParts.{AreNamed, is_reading}}
-use Rattle.crx_filter.specs.{CompactionByLine.is_before_header, EngineLines.HasTaken, Stages.is_ended}
-use Rattle.crx_filter.specs.DirectionParts.{DirectionParts, ComesAfter, Reads, brings_nothing, state_by}
-use Rattle.crx_filter.specs.{LineByLine.Quiet as LineQuiet, RinexReaders.RefusesRinexLine}
-use Rattle.crx_filter.specs.{Totals.{IsBehindARow, IsCounting, totals_held, HasPrinted}}
-use Rattle.crx_filter.specs.meaning.{Directions.fault_so_far, Standard.{Findings, report_lines}}
-use Rattle.std.proofs.lemmas.{List.drop_all, Slice.Eq.bytes_eq-Decides}
-use Rattle.crx_filter.specs.CompactionByLine.{is_next_row}
+use Rattle.crx_filter.{proofs.steps.Given.given-either, specs.CheckByLine.totals_made}
+use Rattle.crx_filter.specs.{CheckingParts.{AreNamed, is_reading}, CompactionByLine.is_before_header}
+use Rattle.crx_filter.specs.{CompactionByLine.is_next_row, DirectionParts.{DirectionParts, ComesAfter, Reads}}
+use Rattle.crx_filter.specs.{DirectionParts.{brings_nothing, state_by}, LineByLine.Quiet as LineQuiet}
+use Rattle.crx_filter.specs.{RinexReaders.RefusesRinexLine, Stages.is_ended, Totals.IsBehindARow}
+use Rattle.crx_filter.specs.{Totals.{IsCounting, totals_held, HasPrinted}, meaning.Directions.fault_so_far}
+use Rattle.crx_filter.specs.meaning.Standard.{Findings, report_lines}
 use Rattle.crx_header.specs.{Identifiers.has_identifier, meaning.Satellites.is_identifier}
-use Rattle.crx_runs.specs.Engines.{Awaited}
-use proofs.Words.{LineStep, Overlong, is_again, state_next}
-use proofs.Words.{Begun, Bool, Rejects, bytes_eq, has_satellite, may_take_memory, inl, inr, ◌||◌, ◌++◌, ◌∷◌}
+use Rattle.std.proofs.lemmas.{List.drop_all, Slice.Eq.bytes_eq-Decides}
 
 -- nothing is kept of the epochs
 abbrev pub nothing_kept : Written
@@ -182,15 +180,11 @@ module _ (choices : Choices) (lines : List InputLine) (line : InputLine)
     (parts : DirectionParts OpenEpoch Totals) (given : ComesAfter check_by_line (λ choices. no_choices)
     (λ choices. check_reading) choices lines line parts) where
   pub given-after : state_by choices (length lines) parts ≡ check_reading (map as_read lines)
-  given-after = by-notices given.notices given.has_taken
-    where
-      by-notices : (notices : List Awaited)
-          → HasTaken check_by_line check_reading (state_by choices (length lines) parts) lines notices
-          → state_by choices (length lines) parts ≡ check_reading (map as_read lines)
-      by-notices [] taken = taken
-      by-notices (a ∷ []) taken = false-true (sym (step-quiet (map as_read lines) (as_read a.line)).once
-          ∙ ap (λ (s : LineStep OpenEpoch Totals). is_again s.answer) (sym taken))
-      by-notices (a ∷ b ∷ others) taken = absurd taken
+  given-after = elim (given-either check_by_line (λ choices. check_reading) choices lines line parts given) as
+      (λ _. state_by choices (length lines) parts ≡ check_reading (map as_read lines)) [
+        | inl same ↦ same
+        | inr again ↦ false-true again.skips
+      ]
 
   -- and none is passed over
   pub passes-nothing : {X : Type 0} → brings_nothing (state_next check_by_line

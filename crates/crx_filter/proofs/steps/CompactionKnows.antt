@@ -1,81 +1,37 @@
 -- What a compaction knows of the lines that it has taken: what it holds is enough for each epoch that was accepted.
 use Rattle.crx_filter.proofs
-use proofs.Words.{common_steps, arith, ℕ, zero, suc, ◌≡◌, ◌+◌, Bool, true, false, not, List, [], ◌∷◌, ◌++◌, map, All, length, drop}
-use proofs.Words.{Option, Some, None, Result, Ok, Err, refl, ap, sym, subst, ◌∙◌, append-nil, append_assoc, none-some}
-use proofs.Words.{map-append, flat_map, flat_map-append, false-true, true≢false, by_bool}
-use proofs.Words.{InputLine, ReadLine, Content, Overlong, as_read, At, Count, Epoch, Row, Observation}
-use proofs.Words.{OpenEpoch, next_row, row_of, with_next_row, rows_wanted}
-use proofs.Words.{Choices, Item, types_in_force, rinex_reading, Reading, Stop, AtFault, AtLines, Looking}
-use proofs.Words.{RunState, Phase, InEpoch, Made, Completes, Notice, LineStep, made_in, state_next}
-use proofs.Words.{step_of_made, is_again, compaction, compaction_state, rinex_open, Written, with_next, Stage, is_open_stage}
-use proofs.Words.{phase_of, phase_of_stage, phase_in_body, epoch_open}
-use proofs.following.Collecting.{add_made, epochs_collected, epochs-once, epochs-twice}
-use proofs.steps.EngineAnswers.{comes-again}
-use proofs.steps.CompactionSteps.{CompletesEvent}
-use proofs.steps.RoomsOfEpochs.{epochs-kept, held-kept, room-later, room-stays, row-enough, whole-held}
-use proofs.Words.{inl, inr, RinexReader, made_at, reader_phase, MovesReader, Completed, CompletedEpoch, FileUnit}
-use proofs.Words.{HeaderLine, EventLine, EventRecord, epoch_by_rows}
-use Rattle.crx_compact.specs.Encoding.{EncoderState}
-use Rattle.crx_compact.specs.EncodingRooms.{HasSameMemory}
-use proofs.Words.{Fault, Answer, not-true, after_row, Beginning, EventBegins, EpochBegins, ObservationHead, beginning_of}
-use proofs.Words.{Moves, Rejects, is_in_epoch, is_skipped_in, is_long, Open}
-use proofs.Pending.{again-lines}
-use proofs.following.Following.{failed-ends, failed-skipped}
-use proofs.steps.EngineAnswers.{as-read-short}
-use proofs.steps.Together.{rows-there}
-use Rattle.crx_compact.specs.EncodingRooms.{HasRowRoom}
-use Rattle.crx_filter.specs.RinexStages.{is_rinex_stage, open_epoch}
-use Rattle.crx_filter.specs.meaning.Memory.{are_types_awaited, compact_line_room, compaction_outgrows}
-use Rattle.crx_filter.proofs.steps.Enough.{never-counted, types-awaited}
-use Rattle.std.proofs.lemmas.Bool.{not-false, or_parts}
-use proofs.Words.{opened, InHeader, header_has_ended, is_at_start, records_left, records_count_types, cond}
-use Rattle.crx_filter.specs.LineByLine.{answer_of_lines, Repeats}
-use Rattle.std.proofs.lemmas.Option.{same_Some}
-use Rattle.crx_compact.specs.EncodingRooms.{EncodingRoom, KeepsEncodingRoom}
-use Rattle.crx_compact.specs.meaning.EpochText.{Satellite}
-use Rattle.crx_filter.specs.CompactionParts.{BelongTogether, CompactionState, HasHeldFor, HoldsEpochs, HoldsRows}
-use Rattle.crx_filter.specs.CompactionParts.{compaction_line_outgrows, compaction_parts}
-use Rattle.crx_filter.specs.DirectionParts.{DirectionParts, ComesAfter, brings_nothing, state_by}
-use Rattle.crx_filter.specs.EngineLines.{HasTaken}
-use Rattle.crx_filter.specs.Rooms.{HasRoomForRow, HasRoomInCompaction, do_types_count}
-use Rattle.crx_filter.specs.meaning.Memory.{accepted_epochs, are_enough_for, brought_by_line, brought_by_row}
-use Rattle.crx_filter.specs.meaning.Memory.{lines_open, satellite_of_row}
+use proofs.Words.{common_steps, arith, ℕ, zero, suc, ◌≡◌, Bool, true, false, not, List, [], ◌∷◌, ◌++◌, map}
+use proofs.Words.{All, length, drop, Option, Some, None, Result, Ok, Err, refl, ap, sym, subst, ◌∙◌}
+use proofs.Words.{append-nil, append_assoc, none-some, map-append, flat_map, flat_map-append, false-true}
+use proofs.Words.{true≢false, InputLine, ReadLine, Content, Overlong, as_read, Count, Epoch, Row, Observation}
+use proofs.Words.{OpenEpoch, next_row, row_of, with_next_row, rows_wanted, Choices, Item, types_in_force}
+use proofs.Words.{rinex_reading, Reading, Stop, AtFault, AtLines, Looking, RunState, InEpoch, Made, Completes}
+use proofs.Words.{made_in, state_next, step_of_made, is_again, compaction, compaction_state, rinex_open}
+use proofs.Words.{Written, with_next, Stage, is_open_stage, phase_of, phase_of_stage, phase_in_body}
+use proofs.Words.{epoch_open, inl, inr, RinexReader, made_at, reader_phase, MovesReader, Completed}
+use proofs.Words.{CompletedEpoch, FileUnit, HeaderLine, EventLine, EventRecord, epoch_by_rows, Fault}
+use proofs.Words.{after_row, Beginning, EventBegins, EpochBegins, ObservationHead, beginning_of, Moves}
+use proofs.Words.{is_in_epoch, is_long, Open, opened, InHeader, header_has_ended, is_at_start, records_left}
+use proofs.{Words.{records_count_types, cond, LINE_LIMIT, ◌≤◌}, Pending.again-lines}
+use proofs.following.{Collecting.{add_made, given-epochs, given-past}, CompactedOn.as_it_is}
+use proofs.following.CompactedOn.{compaction-collects, epochs_collected}
+use proofs.steps.{CompactionSteps.CompletesEvent, EngineAnswers.{as-read-within, as-read-short}}
+use proofs.steps.{Given.{counts-there, given-either, types-there}, RoomsOfEpochs.{epochs-kept, held-kept}}
+use proofs.steps.{RoomsOfEpochs.{room-later, row-enough, whole-held}, Together.rows-there}
+use Rattle.crx_compact.specs.{Encoding.EncoderState, EncodingRooms.{HasSameMemory, HasRowRoom, EncodingRoom}}
+use Rattle.crx_compact.specs.{EncodingRooms.KeepsEncodingRoom, meaning.EpochText.Satellite}
+use Rattle.crx_filter.specs.CompactionParts.{BelongTogether, CompactionState, HasHeldFor, HoldsEpochs}
+use Rattle.crx_filter.specs.CompactionParts.{HoldsRows, compaction_line_outgrows, compaction_parts}
+use Rattle.crx_filter.specs.DirectionParts.{ComesAfter, brings_nothing, state_by}
+use Rattle.crx_filter.specs.{RinexStages.{is_rinex_stage, open_epoch}, Rooms.HasRoomForRow}
+use Rattle.crx_filter.specs.{Rooms.HasRoomInCompaction, meaning.Memory.{are_types_awaited, compact_line_room}}
+use Rattle.crx_filter.specs.meaning.Memory.{compaction_outgrows, accepted_epochs, are_enough_for}
+use Rattle.crx_filter.specs.meaning.Memory.{brought_by_line, brought_by_row, lines_open, satellite_of_row}
 use Rattle.crx_rinex.specs.EpochPlaces.{open_after, open_with, opened_by, still_open, when_wanted}
-use Rattle.crx_runs.specs.Engines.{Awaited, IsAwaited}
-use Rattle.std.proofs.lemmas.List.Elements.{All-cons}
+use Rattle.std.proofs.lemmas.{Bool.{not-false, or_parts}, List.Elements.All-cons, Option.same_Some}
 use Rattle.std.specs.Prelude.{IfOk, ⊤}
 
 -- ---- the epochs after one line more
-
--- a line that is given, and doesn't come again after it
-module _ (choices : Choices) (lines : List InputLine) (line : InputLine) (parts : DirectionParts OpenEpoch Written)
-    (given : ComesAfter compaction (λ choices. choices) compaction_state choices lines line parts) where
-  -- what is seen of the direction
-  abbrev pub seen : RunState OpenEpoch Written
-  seen = state_by choices (length lines) parts
-
-  -- what the line makes
-  abbrev pub makes : Made Epoch OpenEpoch
-  makes = made_in compaction seen.phase seen.types seen.kept (as_read line)
-
-  pub given-epochs : is_again (state_next compaction seen (as_read line)).answer ≡ false
-      → epochs_collected choices (map as_read (with_next lines line))
-      ≡ add_made (epochs_collected choices (map as_read lines)) makes
-  given-epochs once = ap (epochs_collected choices) (map-append as_read lines (line ∷ []))
-      ∙ by_notices given.notices given.has_taken given.awaited
-    where
-      by_notices : (notices : List Awaited) → HasTaken compaction (compaction_state choices) seen lines notices
-          → IsAwaited notices line → epochs_collected choices (map as_read lines ++ as_read line ∷ [])
-          ≡ add_made (epochs_collected choices (map as_read lines)) makes
-      by_notices [] taken awaited = epochs-once choices (map as_read lines) (as_read line)
-          (subst (λ (s : RunState OpenEpoch Written). is_again (state_next compaction s (as_read line)).answer
-          ≡ false) taken once) ∙ ap (λ (s : RunState OpenEpoch Written).
-          add_made (epochs_collected choices (map as_read lines))
-          (made_in compaction s.phase s.types s.kept (as_read line))) (sym taken)
-      by_notices (a ∷ []) taken awaited = epochs-twice choices (map as_read lines) (as_read line) seen a.notice
-          (taken ∙ ap (λ (l : InputLine). state_next compaction
-          (compaction_state choices (map as_read lines)) (as_read l)) awaited)
-      by_notices (a ∷ b ∷ others) taken awaited = absurd taken
 
 -- what a line adds is held
 abbrev pub AddsHeld : EncodingRoom → Made Epoch OpenEpoch → Type 0
@@ -83,14 +39,14 @@ AddsHeld room (Completes (Observation epoch)) = HasHeldFor room epoch
 AddsHeld room made = ⊤
 
 all-added : (room : EncodingRoom) (epochs : List Epoch) (made : Made Epoch OpenEpoch) → AddsHeld room made
-    → All (HasHeldFor room) epochs → All (HasHeldFor room) (add_made epochs made)
+    → All (HasHeldFor room) epochs → All (HasHeldFor room) (add_made as_it_is epochs made)
 all-added room epochs made adds all = grind (arith, common_steps, All-cons)
 
 module _ (choices : Choices) (lines : List InputLine) (line : InputLine) (before : CompactionState)
     (given : ComesAfter compaction (λ choices. choices) compaction_state choices lines line
     (compaction_parts before)) (knew : HoldsEpochs before choices lines) where
   abbrev state : RunState OpenEpoch Written
-  state = seen choices lines line (compaction_parts before) given
+  state = state_by choices (length lines) (compaction_parts before)
 
   -- after a line that makes this
   pub knows-next : (after : CompactionState) (made : Made Epoch OpenEpoch)
@@ -100,51 +56,22 @@ module _ (choices : Choices) (lines : List InputLine) (line : InputLine) (before
       → AddsHeld after.encoder.room made → HoldsEpochs after choices (with_next lines line)
   knows-next after made kept is once adds =
       let epochs = epochs_collected choices (map as_read lines) in
-      let then = given-epochs choices lines line (compaction_parts before) given
+      let then = given-epochs compaction as_it_is compaction_state choices (epochs_collected choices)
+      (compaction-collects choices) lines line (compaction_parts before) given
       (ap (λ (m : Made Epoch OpenEpoch). is_again (step_of_made compaction state (as_read line) m).answer) is
-      ∙ once) ∙ ap (add_made epochs) is in
+      ∙ once) ∙ ap (add_made as_it_is epochs) is in
       subst (All (HasHeldFor after.encoder.room)) (sym then) (all-added after.encoder.room epochs made adds
       (epochs-kept before.encoder.room after.encoder.room epochs kept knew))
 
--- ---- a line that brings nothing
-
-passed-once : (answer : Answer) (line : ReadLine) → brings_nothing answer line ≡ true → is_again answer ≡ false
-passed-once answer line passed = grind (arith, common_steps, not-true, false-true)
-
-module _ (s : RunState OpenEpoch Written) (room : EncodingRoom) where
-  never-lines : {X : Type 0} (ls : List (List ℕ)) (content : List ℕ)
-      → brings_nothing (answer_of_lines ls) (Content content) ≡ true → X
-  never-lines [] content passed = false-true passed
-  never-lines (l ∷ ls) content passed = false-true passed
-
-  passed-made : (content : List ℕ) (made : Made Epoch OpenEpoch)
-      → brings_nothing (step_of_made compaction s (Content content) made).answer (Content content) ≡ true
-      → AddsHeld room made
-  passed-made content (Completes (Observation epoch)) passed =
-      never-lines (compaction.written s (Observation epoch)) content passed
-  passed-made content made passed = grind (arith, common_steps)
-
-  passed-long : (phase : Phase OpenEpoch) (types : List Count) (kept : Written)
-      → AddsHeld room (made_in compaction phase types kept Overlong)
-  passed-long phase types kept = grind (arith, common_steps)
-
-  passed-adds : (line : ReadLine) → brings_nothing (state_next compaction s line).answer line ≡ true
-      → AddsHeld room (made_in compaction s.phase s.types s.kept line)
-  passed-adds Overlong passed = passed-long s.phase s.types s.kept
-  passed-adds (Content content) passed =
-      passed-made content (made_in compaction s.phase s.types s.kept (Content content)) passed
-
+-- a line that brings nothing
 pub knows-past : (choices : Choices) (lines : List InputLine) (line : InputLine) (c : CompactionState)
     → (given : ComesAfter compaction (λ choices. choices) compaction_state choices lines line (compaction_parts c))
     → HoldsEpochs c choices lines → brings_nothing (state_next compaction
     (state_by choices (length lines) (compaction_parts c)) (as_read line)).answer (as_read line) ≡ true
     → HoldsEpochs c choices (with_next lines line)
-knows-past choices lines line c given knew passed =
-    let state = state_by choices (length lines) (compaction_parts c) in
-    let made = made_in compaction state.phase state.types state.kept (as_read line) in
-    knows-next choices lines line c given knew c made (room-stays c.encoder.room) refl
-    (passed-once (state_next compaction state (as_read line)).answer (as_read line) passed)
-    (passed-adds state c.encoder.room (as_read line) passed)
+knows-past choices lines line c given knew passed = subst (All (HasHeldFor c.encoder.room)) (sym (given-past
+    compaction as_it_is compaction_state choices (epochs_collected choices) (compaction-collects choices) lines
+    line (compaction_parts c) given (λ types kept. refl) (λ so_far. refl) passed)) knew
 
 -- ---- the rows of an open epoch are those of its lines
 
@@ -266,82 +193,32 @@ row-there line types rows epochs before room holds all come enough = by_row (row
         (map satellite_of_row rows ++ new) epochs) one) ∙ sym (ap (λ (together : List Satellite).
         are_enough_for compact_line_room (brought_by_line types (Content line)) together epochs) all-come) ∙ enough)
 
--- a line that comes again leaves the types as they are
-again-types : (s next : RunState OpenEpoch Written) (line : ReadLine) (at : At) (made : Made Epoch OpenEpoch)
-    → record { answer = Notice at true; handed_out = []; next = next } ≡ step_of_made compaction s line made
-    → next.types ≡ s.types
-again-types s next line at (Rejects fault) e = by_bool (is_skipped_in s fault)
-    (λ on. ap (λ (t : LineStep OpenEpoch Written). t.next.types)
-    (e ∙ failed-skipped compaction s line fault on)) (λ off. false-true (sym
-    (ap (λ (t : LineStep OpenEpoch Written). is_again t.answer) (e ∙ failed-ends compaction s line fault off))))
-again-types s next line at (Completes unit) e = false-true (sym (ap (λ (t : LineStep OpenEpoch Written).
-    is_again t.answer) e ∙ again-lines (compaction.written s unit)))
-again-types s next line at (Moves phase) e =
-    false-true (sym (ap (λ (t : LineStep OpenEpoch Written). is_again t.answer) e))
-again-types s next line at (Repeats found) e =
-    false-true (sym (ap (λ (t : LineStep OpenEpoch Written). is_again t.answer) e))
-
 module _ (choices : Choices) (lines : List InputLine) (line : InputLine) (c : CompactionState)
     (given : ComesAfter compaction (λ choices. choices) compaction_state choices lines line (compaction_parts c))
   where
     abbrev read : Reading Epoch
     read = rinex_reading choices.skip (map as_read lines)
 
-    -- the types in force
-    types-there : c.reader.types ≡ types_in_force read.items
-    types-there = by_notices given.notices given.has_taken
-      where
-        by_notices : (notices : List Awaited) → HasTaken compaction (compaction_state choices)
-            (state_by choices (length lines) (compaction_parts c)) lines notices
-            → c.reader.types ≡ types_in_force read.items
-        by_notices [] taken = ap (λ (s : RunState OpenEpoch Written). s.types) taken
-        by_notices (a ∷ []) taken = again-types (compaction_state choices (map as_read lines))
-            (state_by choices (length lines) (compaction_parts c)) (as_read a.line) a.notice (made_in compaction
-            (compaction_state choices (map as_read lines)).phase
-            (compaction_state choices (map as_read lines)).types
-            (compaction_state choices (map as_read lines)).kept (as_read a.line)) taken
-        by_notices (a ∷ b ∷ others) taken = absurd taken
-
     -- in an open epoch
     phase-there : (so_far : OpenEpoch) → phase_of_stage (epoch_open c.reader) c.reader.stage ≡ InEpoch so_far
         → InEpoch so_far ≡ phase_of rinex_open read
-    phase-there so_far opens = by_notices given.notices given.has_taken
-      where
-        by_notices : (notices : List Awaited) → HasTaken compaction (compaction_state choices)
-            (state_by choices (length lines) (compaction_parts c)) lines notices
-            → InEpoch so_far ≡ phase_of rinex_open read
-        by_notices [] taken = sym opens ∙ ap (λ (s : RunState OpenEpoch Written). s.phase) taken
-        by_notices (a ∷ []) taken =
-            let looking = comes-again compaction (compaction_state choices (map as_read lines))
-            (state_by choices (length lines) (compaction_parts c)) (as_read a.line) a.notice [] taken in
-            false-true (ap (is_in_epoch {O = OpenEpoch}) (sym looking.phase ∙ opens))
-        by_notices (a ∷ b ∷ others) taken = absurd taken
-
-    -- where types lines count and there are none, the first one is awaited
-    counts-there : do_types_count c.reader.stage ≡ true → c.reader.types ≡ []
-        → are_types_awaited read.items ≡ true
-    counts-there counts none = by_notices given.notices given.has_taken
-      where
-        by_notices : (notices : List Awaited) → HasTaken compaction (compaction_state choices)
-            (state_by choices (length lines) (compaction_parts c)) lines notices
-            → are_types_awaited read.items ≡ true
-        by_notices [] taken = types-awaited rinex_open read (epoch_open c.reader) c.reader.stage
-            (ap (λ (s : RunState OpenEpoch Written). s.phase) taken) counts (sym types-there ∙ none)
-        by_notices (a ∷ []) taken =
-            let looking = comes-again compaction (compaction_state choices (map as_read lines))
-            (state_by choices (length lines) (compaction_parts c)) (as_read a.line) a.notice [] taken in
-            absurd (never-counted (epoch_open c.reader) c.reader.stage _ looking.phase (inl refl) counts)
-        by_notices (a ∷ b ∷ others) taken = absurd taken
+    phase-there so_far opens = elim (given-either compaction compaction_state choices lines line
+        (compaction_parts c) given) as (λ _. InEpoch so_far ≡ phase_of rinex_open read) [
+          | inl same ↦ sym opens ∙ ap (λ (s : RunState OpenEpoch Written). s.phase) same
+          | inr again ↦ false-true (ap (is_in_epoch {O = OpenEpoch}) (sym again.phase ∙ opens))
+        ]
 
     pub has-enough : BelongTogether c.reader c.encoder → HoldsEpochs c choices lines → is_long line ≡ false
         → compaction_line_outgrows choices lines line ≡ false → HasRoomInCompaction c line.content
     has-enough together knew short needs =
         let needs_here : compaction_outgrows read (Content line.content) ≡ false =
         ap (compaction_outgrows read) (sym (as-read-short line short)) ∙ needs in
-        let there = types-there in
+        let there = types-there compaction compaction_state choices lines line (compaction_parts c) given in
         let both = or_parts (are_types_awaited read.items) _ needs_here in
         record {
-          types = λ counts none. true≢false (sym (counts-there counts none) ∙ both.0);
+          types = λ counts none. true≢false (sym (counts-there compaction compaction_state
+              choices lines line (compaction_parts c) given rinex_open read refl (λ counted same. same) counts none)
+              ∙ both.0);
           row = λ opened.
               let held = open-held c.reader.stage c.reader.types c.reader.head c.reader.count c.reader.rows.rows
               c.reader.consistent opened in
@@ -361,7 +238,7 @@ abbrev pub compaction_of : ℕ → RinexReader → EncoderState → CompactionSt
 compaction_of index reader encoder = record { index = index; reader = reader; encoder = encoder }
 
 module _ (index : ℕ) (reader : RinexReader) (encoder : EncoderState) (bytes : List ℕ) (line : InputLine)
-    (read : as_read line ≡ Content bytes) (choices : Choices) (lines : List InputLine)
+    (short : length line.content ≤ LINE_LIMIT) (content : bytes ≡ line.content) (choices : Choices) (lines : List InputLine)
     (given : ComesAfter compaction (λ choices. choices) compaction_state choices lines line
     (compaction_parts (compaction_of index reader encoder)))
     (knew : HoldsEpochs (compaction_of index reader encoder) choices lines) where
@@ -370,7 +247,8 @@ module _ (index : ℕ) (reader : RinexReader) (encoder : EncoderState) (bytes : 
 
   made-read : (made : Made Epoch OpenEpoch) → made_at reader bytes kept_before ≡ made
       → made_in compaction (reader_phase reader) reader.types kept_before (as_read line) ≡ made
-  made-read made is = ap (made_in compaction (reader_phase reader) reader.types kept_before) read ∙ is
+  made-read made is = ap (made_in compaction (reader_phase reader) reader.types kept_before)
+      (as-read-within line bytes short content) ∙ is
 
   -- it completes no unit
   pub knows-moved : (after : CompactionState) (next : RinexReader)
@@ -385,7 +263,7 @@ module _ (index : ℕ) (reader : RinexReader) (encoder : EncoderState) (bytes : 
       → HoldsEpochs after choices (with_next lines line)
   knows-unit after unit is kept adds =
       let before = compaction_of index reader encoder in
-      let state = seen choices lines line (compaction_parts before) given in
+      let state = state_by choices (length lines) (compaction_parts before) in
       knows-next choices lines line before given knew after (Completes unit) kept (made-read (Completes unit) is)
       (again-lines (compaction.written state unit)) adds
 

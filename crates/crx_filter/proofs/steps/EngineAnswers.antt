@@ -23,18 +23,21 @@ use proofs.following.Following.{fed-once as feeds-once, fed-twice as feeds-twice
 -- ---- a line that comes again
 
 -- where a line is to come again, it is in an epoch whose fault is skipped, and one is looked for then
-pub record ComesAgain {O K : Type 0} (before next : RunState O K) (line : ReadLine) : Type 0 where
+pub record ComesAgain {U O K : Type 0} (direction : Direction U O K) (before next : RunState O K)
+    (line : ReadLine) : Type 0 where
   pub skips : before.choices.skip ≡ true
   pub epoch : is_in_epoch before.phase ≡ true
   pub fits : can_go_on line ≡ true
   pub phase : next.phase ≡ LookingOn
   pub number : next.number ≡ before.number
   pub choices : next.choices ≡ before.choices
+  pub types : next.types ≡ before.types
+  pub kept : next.kept ≡ direction.emptied before.kept
 
 again-by-made : {U O K : Type 0} (direction : Direction U O K)
     (before next : RunState O K) (line : ReadLine) (at : At) (handed_out : List (List ℕ)) (made : Made U O)
     → record { answer = Notice at true; handed_out = handed_out; next = next }
-    ≡ step_of_made direction before line made → ComesAgain before next line
+    ≡ step_of_made direction before line made → ComesAgain direction before next line
 again-by-made {O = O} {K = K} direction before next line at handed_out (Rejects fault) e =
     by_bool (is_skipped_in before fault) (λ on.
     let is = e ∙ failed-skipped direction before line fault on in
@@ -48,6 +51,8 @@ again-by-made {O = O} {K = K} direction before next line at handed_out (Rejects 
       phase = ap (λ (s : RunState O K). s.phase) then;
       number = ap (λ (s : RunState O K). s.number) then;
       choices = ap (λ (s : RunState O K). s.choices) then;
+      types = ap (λ (s : RunState O K). s.types) then;
+      kept = ap (λ (s : RunState O K). s.kept) then;
     }) (λ off. false-true (sym (ap (λ (s : LineStep O K). is_again s.answer)
     (e ∙ failed-ends direction before line fault off))))
 again-by-made {O = O} {K = K} direction before next line at handed_out (Completes unit) e =
@@ -57,7 +62,7 @@ again-by-made {O = O} {K = K} direction before next line at handed_out made e = 
 pub comes-again : {U O K : Type 0}
     (direction : Direction U O K) (before next : RunState O K) (line : ReadLine) (at : At)
     (handed_out : List (List ℕ)) → record { answer = Notice at true; handed_out = handed_out; next = next }
-    ≡ state_next direction before line → ComesAgain before next line
+    ≡ state_next direction before line → ComesAgain direction before next line
 comes-again direction before next line at handed_out e = again-by-made direction before next line at
     handed_out (made_in direction before.phase before.types before.kept line) e
 

@@ -1,17 +1,43 @@
 -- Where the memory of epochs before is enough for a line, each satellite that it brings has room, and there are epochs as
 -- large as the line's.
-use Rattle.crx_filter.proofs.Words.{common_steps, arith, ℕ, ◌≡◌, ◌≤◌, Bool, true, List, [], ◌∷◌, ◌&&◌, length, subst}
-use Rattle.crx_filter.proofs.Words.{All, All-nil, All-cons, All-head, All-tail, and_parts, by_bool, false-true, bytes_eq}
-use Rattle.crx_filter.proofs.Words.{list_all, Epoch, Satellite, ◌⊎◌, inl, inr, refl, ap, ◌∙◌, not, Option, ReadLine, At}
-use Rattle.crx_filter.proofs.Words.{Item, Reading, AtFault, AtLines, Looking, Phase, InHeader, Ended, LookingOn}
-use Rattle.crx_filter.proofs.Words.{header_has_ended, is_at_start, phase_in_body, records_count_types, records_left}
-use Rattle.crx_filter.proofs.Words.{types_in_force, phase_of}
+use Rattle.crx_filter.proofs.Words.{common_steps, arith, ℕ, ◌≡◌, ◌≤◌, Bool, true, List, [], ◌∷◌, ◌&&◌, length}
+use Rattle.crx_filter.proofs.Words.{subst, All, All-nil, All-cons, All-head, All-tail, and_parts, by_bool}
+use Rattle.crx_filter.proofs.Words.{false-true, bytes_eq, list_all, Epoch, Satellite, ◌⊎◌, inl, inr, refl, ap}
+use Rattle.crx_filter.proofs.Words.{◌∙◌, not, Option, ReadLine, At, Item, Reading, AtFault, AtLines, Looking}
+use Rattle.crx_filter.proofs.Words.{Phase, InHeader, Ended, LookingOn, header_has_ended, is_at_start}
+use Rattle.crx_filter.proofs.Words.{phase_in_body, records_count_types, records_left, types_in_force}
+use Rattle.{crx_filter.proofs.Words.{phase_of, map, sym}, crx_compact.specs.Placing.{HasRoom, HaveTypesRoom}}
 use Rattle.crx_filter.specs.{Rooms.do_types_count, Stages.phase_of_stage, declared.stage.Stage.Stage}
-use Rattle.crx_filter.specs.meaning.{Memory.are_types_awaited, Reading.Stop}
-use Rattle.std.proofs.lemmas.{Bool.leb-true, Slice.Eq.bytes_eq-Decides}
-use Rattle.std.specs.{List.list_any, Prelude.{nat_le, nat_lt, ◌||◌, if◌then◌else◌}}
-use Rattle.crx_compact.specs.Placing.{HasRoom, HaveTypesRoom}
-use Rattle.crx_filter.specs.meaning.Memory.{are_enough_for, bytes_together, has_satellite_for, satellites_had}
+use Rattle.crx_filter.specs.meaning.Memory.{are_types_awaited, are_enough_for, bytes_together}
+use Rattle.crx_filter.specs.meaning.{Memory.{has_satellite_for, satellites_had}, Reading.Stop}
+use Rattle.std.proofs.lemmas.{Bool.leb-true, List.{Elements.All-map, Sums.sum-map}, Simd.map-map}
+use Rattle.std.{proofs.lemmas.Slice.Eq.bytes_eq-Decides, specs.{List.list_any, Prelude.{sum, nat_le, nat_lt}}}
+use Rattle.std.specs.Prelude.{◌||◌, if◌then◌else◌}
+
+-- ---- rows as satellites
+
+module _ {R : Type 0} (satellite_of : R → Satellite) (rows : List R) where
+  -- as many bytes as the lines of some rows have, by their satellites
+  pub bytes-of_rows : (line_room : ℕ → ℕ) → bytes_together line_room (map satellite_of rows)
+      ≡ sum (map (λ (row : R). line_room (satellite_of row).count) rows)
+  bytes-of_rows line_room =
+      sym (sum-map (λ (s : Satellite). line_room s.count) (map satellite_of rows))
+      ∙ ap sum (map-map (λ (s : Satellite). line_room s.count) satellite_of rows)
+
+  -- their satellites have room where they have
+  pub types-of_rows : (rooms : List (List ℕ × ℕ))
+      → All (λ (row : R). HasRoom (satellite_of row).name (satellite_of row).count rooms) rows
+      → HaveTypesRoom (map satellite_of rows) rooms
+  types-of_rows rooms has = All-map (λ (s : Satellite). HasRoom s.name s.count rooms) satellite_of rows has
+
+-- what each of some things has by what is made of it
+pub all-made : {X Y : Type 0} (P : Y → Type 0) (f : X → Y) (xs : List X) → All P (map f xs)
+    → All (λ (x : X). P (f x)) xs
+all-made P f [] all = All-nil (λ x. P (f x))
+all-made P f (x ∷ xs) all = All-cons (λ x. P (f x)) x xs (All-head P (f x) (map f xs) all)
+    (all-made P f xs (All-tail P (f x) (map f xs) all))
+
+-- ---- what epochs before had
 
 -- one that passes a test, where all have something
 record IsFound {X : Type 0} (p : X → Bool) (P : X → Type 0) : Type 0 where

@@ -1,19 +1,13 @@
 -- An epoch that needs no more than epochs before it has room.
-use Rattle.crx_filter.proofs.Words.{common_steps, arith, ◌≡◌, ◌⊎◌, inl, inr, true, false, refl, sym, ap, ◌∙◌, subst}
-use Rattle.crx_filter.proofs.Words.{◌+◌, ◌*◌, ◌≤◌, ℕ, Bool, List, [], ◌∷◌, length, map, Option, Some, None, Result, Ok}
-use Rattle.crx_filter.proofs.Words.{Err, All, All-nil, All-cons, All-head, All-tail, length-map, Fault, and_parts}
-use Rattle.crx_filter.proofs.Words.{by_bool, false-true, bytes_eq, list_all, Count, ObservationEpoch, Row, Satellite}
-use Rattle.crx_filter.proofs.Words.{Tail, RawEpoch, Past, past_of_line, epoch_begun, satellites_of_line}
-use Rattle.std.proofs.lemmas.{Bool.leb-true, Slice.Eq.bytes_eq-Decides}
-use Rattle.std.specs.{List.list_any, Option.option_map, Prelude.{nat_le, IfOk, ◌&&◌}}
-use Rattle.crx_compact.specs.OpenEpochs.{tail_for_line, tail_opened, opened_raw}
-use Rattle.crx_compact.specs.{Placing.{HasRoom, HaveTypesRoom}, ReadingRooms.{HasRoomFor, ReadingRoom}}
-use Rattle.crx_compact.specs.{HeldRows.past_of_tail}
-use Rattle.crx_filter.specs.ExpansionRooms.{HasRoomAgain, HasRoomForSatellites}
-use Rattle.crx_filter.specs.{Rooms.HasRoomToBegin, meaning.Memory.{are_enough_for, brought_by_epoch}}
-use Rattle.crx_filter.specs.meaning.Memory.{printed_line_room}
-use Rattle.crx_filter.proofs.steps.Enough.{enough}
-use Rattle.crx_filter.proofs.steps.RoomsOfBlocks.{opened-room}
+use Rattle.crx_filter.proofs.Words.{arith, ◌≡◌, true, refl, ap, ◌∙◌, subst, ℕ, List, Option, Some, None}
+use Rattle.crx_filter.proofs.Words.{Result, Ok, Err, All, Fault, Count, ObservationEpoch, Satellite, Tail}
+use Rattle.crx_filter.proofs.Words.{Past, epoch_begun, satellites_of_line}
+use Rattle.crx_compact.specs.{HeldRows.past_of_tail, OpenEpochs.{tail_for_line, opened_raw}}
+use Rattle.{crx_compact.specs.ReadingRooms.{HasRoomFor, ReadingRoom}, crx_filter.proofs.steps.Enough.enough}
+use Rattle.crx_filter.{proofs.steps.RoomsOfBlocks.opened-room, specs.ExpansionRooms.HasRoomAgain}
+use Rattle.crx_filter.specs.{ExpansionRooms.HasRoomForSatellites, Rooms.HasRoomToBegin}
+use Rattle.crx_filter.specs.meaning.Memory.{are_enough_for, brought_by_epoch, printed_line_room}
+use Rattle.std.specs.{Option.option_map, Prelude.IfOk}
 
 -- ---- an epoch that was as large, and one with a satellite
 

@@ -1,17 +1,15 @@
 -- Where there is room for a line, the answer isn't for want of memory.
-use Rattle.crx_filter.proofs.Words.{common_steps, arith, ◌≡◌, ◌⊎◌, true, inl, inr, sym, ◌∙◌, ℕ, List}
-use Rattle.crx_filter.proofs.Words.{Some, Result, Ok, Err, At, Fault, OutOfMemory, Count}
-use Rattle.crx_filter.proofs.Words.{OpenRawEpoch}
-use Rattle.std.proofs.Common.{IfErr, IfOk}
-use Rattle.crx_compact.specs.LineLists.{BlockRoom, HasNoMoreRoom}
-use Rattle.crx_compact.specs.OpenEpochs.{ColumnsState, is_idle, opened_raw, tail_for_line, tail_held}
-use Rattle.crx_compact.specs.ReadingRooms.{HasRoomFor, HeldColumns, KeepsHistoryRoom, KeepsRoom, ReadingRoom}
-use Rattle.crx_filter.specs.Rooms.{HasRoomInColumns, HasRoomToBegin, may_begin}
-use Rattle.crx_filter.specs.{CompactStages.is_compact_stage, declared.stage.Stage.Stage}
+use Rattle.crx_filter.proofs.Words.{common_steps, arith, ◌≡◌, ◌⊎◌, true, inl, inr, sym, ◌∙◌, ℕ, List, Some}
+use Rattle.crx_filter.proofs.Words.{Result, Ok, Err, At, Fault, OutOfMemory, Count, OpenRawEpoch, subst}
+use Rattle.crx_compact.specs.{LineLists.{BlockRoom, HasNoMoreRoom}, OpenEpochs.{ColumnsState, is_idle}}
+use Rattle.crx_compact.specs.{OpenEpochs.{opened_raw, tail_for_line, tail_held}, ReadingRooms.HasRoomFor}
+use Rattle.crx_compact.specs.ReadingRooms.{HeldColumns, KeepsRoom, ReadingRoom}
+use Rattle.crx_filter.{proofs.steps.RoomsOfBlocks.same-block, specs.CompactStages.is_compact_stage}
+use Rattle.crx_filter.specs.{Rooms.{HasRoomInColumns, HasRoomToBegin, may_begin}, declared.stage.Stage.Stage}
 use Rattle.crx_filter.specs.declared.stage.Stage.TheVariants.{Between, Looking}
-use Rattle.crx_runs.specs.Engines.{answer_given}
-use Rattle.crx_runs.specs.declared.engine.{HandedOut.HandedOut, Step.Step}
-use Rattle.crx_runs.specs.declared.engine.HandedOut.TheVariants.{Nothing, Lines, AsItIs}
+use Rattle.crx_runs.specs.{Engines.answer_given, declared.engine.HandedOut.{HandedOut, TheVariants.Nothing}}
+use Rattle.crx_runs.specs.declared.engine.{HandedOut.TheVariants.{Lines, AsItIs}, Step.Step}
+use Rattle.std.proofs.Common.{IfErr, IfOk}
 
 -- a fault that isn't for want of memory isn't answered as one that is
 pub not-lost : (fault : Fault) (result : Result Step At) (P : At → Type 0)
@@ -47,16 +45,6 @@ kept-room begun before after kept has = record {
   bytes = omega (arith, has.bytes, kept.block.held_bytes);
 }
 
-moved-room : (begun : OpenRawEpoch) (before after : ReadingRoom) (block : BlockRoom)
-    → KeepsHistoryRoom before after → after.block ≡ block → HasRoomFor begun (record before { block = block })
-    → HasRoomFor begun after
-moved-room begun before after block kept is has = record {
-  text = omega (arith, has.text, kept.text);
-  rows = λ k d within. kept.rooms _ _ (has.rows k d within);
-  lines = rw (is) has.lines;
-  bytes = rw (is) has.bytes;
-}
-
 if-begun : (made : Result OpenRawEpoch Fault) (before after : ReadingRoom)
     → ((begun : OpenRawEpoch) → HasRoomFor begun before → HasRoomFor begun after)
     → IfOk made (λ begun. HasRoomFor begun before) → IfOk made (λ begun. HasRoomFor begun after)
@@ -76,4 +64,7 @@ room-taken types line before after block same kept takes (inl has) = rw (same) (
 room-taken types line before after block same kept takes (inr (more, has)) = rw (same) (if-begun
     (opened_raw types line (tail_for_line (tail_held before.state) line))
     (record before.room { block = block }) after.room
-    (λ begun. moved-room begun before.room after.room block kept.history (takes more)) has)
+    (λ begun. kept-room begun (record before.room { block = block }) after.room (record {
+      history = record { text = kept.history.text; rooms = kept.history.rooms };
+      block = subst (λ (b : BlockRoom). HasNoMoreRoom block b) (sym (takes more)) (same-block block);
+    })) has)

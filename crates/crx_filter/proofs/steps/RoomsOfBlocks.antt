@@ -1,33 +1,25 @@
 -- The room of an expansion: what was enough for epochs before is enough for one that needs no more.
-use Rattle.crx_filter.proofs.Words.{common_steps, arith, rules, ◌≡◌, ◌⊎◌, inl, inr, true, false, refl, sym, ap, ◌∙◌}
-use Rattle.crx_filter.proofs.Words.{subst, ◌+◌, ◌*◌, ◌≤◌, ℕ, Bool, List, [], ◌∷◌, length, map, Option, Some, None}
-use Rattle.crx_filter.proofs.Words.{Result, Ok, Err, All, All-nil, All-cons, All-head, All-tail, length-map, Fault}
-use Rattle.crx_filter.proofs.Words.{and_parts, by_bool, false-true, bytes_eq, LINE_LIMIT, HEAD_WIDTH, NAME_WIDTH}
-use Rattle.crx_filter.proofs.Words.{Content, Count, ObservationEpoch, Row, Satellite, Tail, OpenRawEpoch, next_step}
-use Rattle.crx_filter.proofs.Words.{RawStep, RawEpoch, Past, past_of_line, epoch_begun, BegunEpoch, ReadEpoch}
-use Rattle.crx_filter.proofs.Words.{epoch_at, satellites_of_line, Done, satellite_line_read}
-use Rattle.std.proofs.lemmas.{Bool.leb-true, List.Sums.sum_by-cons, Slice.Eq.bytes_eq-Decides}
-use Rattle.std.proofs.lemmas.{List.Folds.list_any-append}
-use Rattle.std.specs.{List.{list_any, list_all}, Prelude.{sum, nat_le, ⊤, slice_get, slice_set, IfOk}}
-use Rattle.crx_base.specs.declared.limits.TheConstants.{CELL_WIDTH}
-use Rattle.crx_compact.specs.{ArcTails.ArcTail, LineLists.{BlockRoom, HasNoMoreRoom}, PrintedBlocks.printed_room}
+use Rattle.crx_filter.proofs.Words.{common_steps, arith, ◌≡◌, ◌⊎◌, inl, inr, true, false, refl, sym, ap, ◌∙◌}
+use Rattle.crx_filter.proofs.Words.{subst, ℕ, List, [], ◌∷◌, length, map, Option, Some, None, Result, Ok, Err}
+use Rattle.crx_filter.proofs.Words.{length-map, Fault, false-true, Content, ObservationEpoch, Satellite, Tail}
+use Rattle.crx_filter.proofs.Words.{OpenRawEpoch, next_step, RawStep, satellite_line_read}
+use Rattle.crx_compact.proofs.{Results.{and_then-ok, ok-same}, reading.Announced.satellites-set}
+use Rattle.crx_compact.{proofs.soundness.Soundness.line-facts, specs.HeldRows.{HeldRow, held_from}}
+use Rattle.crx_compact.specs.{HeldRows.{past_of_row, row_held}, LineLists.{BlockRoom, HasNoMoreRoom}}
 use Rattle.crx_compact.specs.OpenEpochs.{ColumnsState, Idle, Reading, Going, Whole, Faulty, before_clock}
-use Rattle.crx_compact.specs.OpenEpochs.{is_idle, opened_raw, rows_before, tail_for_line, tail_opened}
-use Rattle.crx_compact.specs.{Placing.{HasRoom, HaveTypesRoom, padded}, Steps.{cell_of_tail, tail_named}}
-use Rattle.crx_compact.specs.Placing.{satellite_of as satellite_of_tail}
-use Rattle.crx_compact.specs.ReadingRooms.{HasRoomFor, HaveCellsRoom, HeldColumns, KeepsHistoryRoom, KeepsRoom}
-use Rattle.crx_compact.specs.{ReadingRooms.ReadingRoom, HeldRows.past_of_tail, Tails.RowTail}
-use Rattle.crx_compact.specs.OpenEpochs.{Before, After, HeldEpoch, OpenClock, awaited_row, line_step, row_step}
-use Rattle.crx_compact.specs.OpenEpochs.{past_of_clock, raw_step_with_clock, raw_step_with_row, step_in}
-use Rattle.crx_compact.specs.{OpenEpochs.whole_or_awaiting, HeldRows.{HeldRow, held_from, past_of_row, row_held}}
-use Rattle.crx_compact.specs.meaning.{Cells.ReadCell, CompactPlaces.{ReadRow, clock_line_read}}
-use Rattle.crx_compact.proofs.{reading.Announced.satellites-set, soundness.Soundness.line-facts}
-use Rattle.crx_compact.proofs.Results.{and_then-ok, ok-same}
-use Rattle.crx_text.proofs.EachPlace.{length-each_place}
-use Rattle.crx_filter.specs.ExpansionRooms.{AreHeldAmong, AreHeldInColumns, AreHeldInLines, HasRoomAgain}
+use Rattle.crx_compact.specs.OpenEpochs.{is_idle, rows_before, tail_opened, Before, After, HeldEpoch}
+use Rattle.crx_compact.specs.OpenEpochs.{OpenClock, awaited_row, line_step, row_step, past_of_clock}
+use Rattle.crx_compact.specs.OpenEpochs.{raw_step_with_clock, raw_step_with_row, step_in, whole_or_awaiting}
+use Rattle.crx_compact.specs.Placing.{HasRoom, HaveTypesRoom, satellite_of as satellite_of_tail}
+use Rattle.crx_compact.specs.ReadingRooms.{HasRoomFor, HeldColumns, KeepsHistoryRoom, KeepsRoom, ReadingRoom}
+use Rattle.crx_compact.specs.{Tails.RowTail, meaning.{Cells.ReadCell, CompactPlaces.ReadRow}}
+use Rattle.{crx_compact.specs.meaning.CompactPlaces.clock_line_read, crx_filter.proofs.steps.Enough.all-made}
+use Rattle.crx_filter.proofs.steps.Enough.{bytes-of_rows, types-of_rows}
+use Rattle.crx_filter.specs.{CompactStages.is_compact_stage, ExpansionRooms.{AreHeldAmong, AreHeldInColumns}}
 use Rattle.crx_filter.specs.ExpansionRooms.{HasRoomForEpochs, HasRoomForNewest, HasRoomForSatellites}
-use Rattle.crx_filter.specs.{CompactStages.is_compact_stage, declared.stage.Stage.{Stage, TheVariants.Open}}
-use Rattle.crx_filter.specs.{Rooms.HasRoomToBegin, meaning.Memory.{bytes_together, printed_line_room}}
+use Rattle.crx_filter.specs.{declared.stage.Stage.{Stage, TheVariants.Open}, meaning.Memory.bytes_together}
+use Rattle.{crx_filter.specs.meaning.Memory.printed_line_room, crx_text.proofs.EachPlace.length-each_place}
+use Rattle.std.specs.Prelude.{⊤, slice_get}
 
 -- ---- room stays
 
@@ -65,34 +57,15 @@ same-block block = record {
 
 -- ---- an epoch's room, by its satellites and by its rows
 
--- as many bytes as the printed lines of some rows have, by their satellites
-printed-together : (rows : List RowTail) → sum (map printed_room rows)
-    ≡ bytes_together printed_line_room (map satellite_of_tail rows)
-printed-together [] = refl
-printed-together (row ∷ rows) =
-    let more = printed-together rows in
-    let bytes = sum_by-cons (λ (n : ℕ). n) (printed_room row) (map printed_room rows) in
-    let rest = sum_by-cons (λ (s : Satellite). printed_line_room s.count) (satellite_of_tail row)
-    (map satellite_of_tail rows) in
-    omega (arith, more, bytes, rest)
-
-types-of_rows : (rows : List RowTail) (rooms : List (List ℕ × ℕ)) → HaveCellsRoom rows rooms
-    → HaveTypesRoom (map satellite_of_tail rows) rooms
-types-of_rows [] rooms has = All-nil (λ (s : Satellite). HasRoom s.name s.count rooms)
-types-of_rows (row ∷ rows) rooms has = All-cons (λ (s : Satellite). HasRoom s.name s.count rooms)
-    (satellite_of_tail row) (map satellite_of_tail rows)
-    (All-head (λ (r : RowTail). HasRoom r.name (length r.cells) rooms) row rows has)
-    (types-of_rows rows rooms (All-tail (λ (r : RowTail). HasRoom r.name (length r.cells) rooms) row rows has))
-
 pub begun-room : (begun : OpenRawEpoch) (room : ReadingRoom) → HasRoomFor begun room
     → HasRoomForSatellites (map satellite_of_tail begun.rows) room
 begun-room begun room has =
     let many = length-map begun.rows satellite_of_tail in
     record {
       text = omega (arith, has.text, many);
-      types = types-of_rows begun.rows room.rooms has.rows;
+      types = types-of_rows satellite_of_tail begun.rows room.rooms has.rows;
       lines = omega (arith, has.lines, many);
-      bytes = omega (arith, has.bytes, printed-together begun.rows);
+      bytes = omega (arith, has.bytes, bytes-of_rows satellite_of_tail begun.rows printed_line_room);
     }
 
 -- the rows of an epoch's satellites before their lines
@@ -100,17 +73,6 @@ satellites-before : (before : Tail) (satellites : List Satellite)
     → map satellite_of_tail (rows_before before satellites) ≡ satellites
 satellites-before before [] = refl
 satellites-before before (s ∷ ss) = grind (arith, common_steps, satellites-before before ss, length-each_place)
-
-cells-room : (before : Tail) (satellites : List Satellite) (rooms : List (List ℕ × ℕ))
-    → HaveTypesRoom satellites rooms → HaveCellsRoom (rows_before before satellites) rooms
-cells-room before [] rooms has = All-nil (λ (r : RowTail). HasRoom r.name (length r.cells) rooms)
-cells-room before (s ∷ ss) rooms has =
-    let row : RowTail = padded s (tail_named s.name before) in
-    let counted = length-each_place s.count (λ place. cell_of_tail place (tail_named s.name before)) in
-    All-cons (λ (r : RowTail). HasRoom r.name (length r.cells) rooms) row (rows_before before ss)
-    (subst (λ n. HasRoom s.name n rooms) (sym counted)
-    (All-head (λ (t : Satellite). HasRoom t.name t.count rooms) s ss has))
-    (cells-room before ss rooms (All-tail (λ (t : Satellite). HasRoom t.name t.count rooms) s ss has))
 
 pub opened-room : (before : Tail) (line : List ℕ) (satellites : List Satellite) (room : ReadingRoom)
     → HasRoomForSatellites satellites room
@@ -122,9 +84,10 @@ opened-room before line satellites room has =
     let together = ap (bytes_together printed_line_room) same in
     record {
       text = omega (arith, has.text, many);
-      rows = cells-room before satellites room.rooms has.types;
+      rows = all-made (λ (s : Satellite). HasRoom s.name s.count room.rooms) satellite_of_tail rows
+          (subst (λ ss. HaveTypesRoom ss room.rooms) (sym same) has.types);
       lines = omega (arith, has.lines, many);
-      bytes = omega (arith, has.bytes, printed-together rows, together);
+      bytes = omega (arith, has.bytes, bytes-of_rows satellite_of_tail rows printed_line_room, together);
     }
 
 -- ---- a line of an open epoch leaves its satellites as they are
@@ -211,18 +174,6 @@ columns-begun epochs old new lines begun kept state has held = record {
   };
 }
 
--- everything was forgotten
-pub columns-emptied : (epochs : List ObservationEpoch) (old new : HeldColumns) (lines : BlockRoom)
-    → KeepsRoom old.room new.room → new.state ≡ Idle None
-    → AreHeldInColumns epochs old lines → AreHeldInColumns epochs new lines
-columns-emptied epochs old new lines kept state held = record {
-  larger = larger-still lines old.room.block new.room.block held.larger kept.block;
-  held = record {
-    each = (all-kept epochs old.state old.room new.room kept held.held).each;
-    newest = subst (λ (s : ColumnsState). HasRoomForNewest s new.room) (sym state) tt;
-  };
-}
-
 -- the satellites after a line are those before it
 stepped : (state : ColumnsState) (line : List ℕ) (step : RawStep) (room : ReadingRoom)
     → step_in state (Content line) ≡ step → is_idle state ≡ false → HasRoomForNewest state room
@@ -280,38 +231,6 @@ columns-handed_over epochs old new before after line whole reading step state ke
       };
     }))
 
--- the line is refused
-pub columns-refused : (epochs : List ObservationEpoch) (old new : HeldColumns) (before after : BlockRoom)
-    → KeepsRoom old.room new.room → new.state ≡ Idle None → after ≡ before
-    → AreHeldInColumns epochs old before → AreHeldAmong epochs new after
-columns-refused epochs old new before after kept state same held =
-    rw same (inl (columns-emptied epochs old new before kept state held))
-
--- nothing but the state has changed: it is as it was, or everything was forgotten
-pub lines-beside : (epochs : List ObservationEpoch) (old new : HeldColumns) (lines : BlockRoom)
-    → new.room ≡ old.room → (new.state ≡ old.state) ⊎ (new.state ≡ Idle None)
-    → AreHeldInLines epochs old lines → AreHeldInLines epochs new lines
-lines-beside epochs old new lines same (inl state) held = rw (same, state) (record {
-  idle = held.idle;
-  larger = held.larger;
-  held = held.held;
-})
-lines-beside epochs old new lines same (inr state) held = rw (same, state) (record {
-  idle = refl;
-  larger = held.larger;
-  held = record { each = held.held.each; newest = tt };
-})
-
-pub columns-beside : (epochs : List ObservationEpoch) (old new : HeldColumns) (lines : BlockRoom)
-    → new.room ≡ old.room → (new.state ≡ old.state) ⊎ (new.state ≡ Idle None)
-    → AreHeldInColumns epochs old lines → AreHeldInColumns epochs new lines
-columns-beside epochs old new lines same (inl state) held =
-    rw (same, state) (record { larger = held.larger; held = held.held })
-columns-beside epochs old new lines same (inr state) held = rw (same, state) (record {
-  larger = held.larger;
-  held = record { each = held.held.each; newest = tt };
-})
-
 -- ---- the memory of the lines that were ready is taken back
 
 pub block-taken : (epochs : List ObservationEpoch) (old new : HeldColumns) (before after : BlockRoom)
@@ -323,28 +242,21 @@ block-taken epochs old new before after state kept takes (inl places) (inl held)
   larger = subst (λ (b : BlockRoom). HasNoMoreRoom b new.room.block) (sym places.1) kept.block;
   held = rw state (all-kept epochs old.state old.room new.room kept held.held);
 }
-block-taken epochs old new before after state kept takes (inl places) (inr held) =
-    let room : ReadingRoom = record old.room { block = before } in
-    let more : KeepsRoom room new.room = record {
-      history = record { text = kept.history.text; rooms = kept.history.rooms };
-      block = subst (λ (b : BlockRoom). HasNoMoreRoom before b) (sym places.0) (same-block before);
-    } in
-    record {
-      larger = subst (λ (b : BlockRoom). HasNoMoreRoom b new.room.block) (sym places.1) kept.block;
-      held = rw state (all-kept epochs old.state room new.room more held.held);
-    }
 block-taken epochs old new before after state kept takes (inr places) (inl held) = record {
   larger = rw (places.0, places.1) held.larger;
   held = rw (places.0, state) held.held;
 }
-block-taken epochs old new before after state kept takes (inr places) (inr held) =
+block-taken epochs old new before after state kept takes places (inr held) =
     let room : ReadingRoom = record old.room { block = before } in
+    let same : new.room.block ≡ before = takes held.larger in
     let more : KeepsRoom room new.room = record {
       history = record { text = kept.history.text; rooms = kept.history.rooms };
-      block = subst (λ (b : BlockRoom). HasNoMoreRoom before b) (sym (takes held.larger)) (same-block before);
+      block = subst (λ (b : BlockRoom). HasNoMoreRoom before b) (sym same) (same-block before);
     } in
     record {
-      larger = subst (λ (b : BlockRoom). HasNoMoreRoom after b) (sym (takes held.larger))
-          (subst (λ (b : BlockRoom). HasNoMoreRoom b before) (sym places.1) (same-block before));
+      larger = elim places as (λ _. HasNoMoreRoom after new.room.block) [
+        | inl moved ↦ subst (λ (b : BlockRoom). HasNoMoreRoom b new.room.block) (sym moved.1) kept.block
+        | inr left ↦ rw (same, left.1) (same-block before)
+      ];
       held = rw state (all-kept epochs old.state room new.room more held.held);
     }

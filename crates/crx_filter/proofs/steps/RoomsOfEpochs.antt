@@ -1,22 +1,15 @@
 -- What epochs needed that were accepted before is enough for a row that needs no more.
-use Rattle.crx_filter.proofs.Words.{common_steps, arith, ℕ, ◌≡◌, ◌≤◌, ◌+◌, ◌*◌, Bool, true, false, List, [], ◌∷◌}
-use Rattle.crx_filter.proofs.Words.{◌++◌, ◌&&◌, length, map, refl, ap, sym, subst, ◌∙◌, All, All-nil, All-head, All-tail}
-use Rattle.crx_filter.proofs.Words.{and_parts, false-true, bytes_eq, Epoch, Row, length-append, length-map, inl, inr}
-use Rattle.crx_compact.specs.EncodingRooms.{EncodingRoom, HasRowRoom, HasTakenRow, KeepsEncodingRoom, all_free}
-use Rattle.crx_compact.specs.Placing.{HasRoom, HaveRoom, HaveTypesRoom, row_room}
-use Rattle.crx_compact.specs.meaning.EpochText.{Satellite}
-use Rattle.crx_filter.specs.CompactionParts.{HasHeldFor, HoldsRows}
-use Rattle.crx_filter.specs.meaning.Memory.{are_enough_for, bytes_together, compact_line_room, satellite_of_row}
-use Rattle.std.proofs.lemmas.List.{Elements.{All-cons, All-push}, Sums.{sum_by-cons, sum_by_push}}
-use Rattle.crx_filter.proofs.steps.Enough.{enough}
-use Rattle.std.specs.Prelude.{sum}
+use Rattle.crx_filter.proofs.Words.{arith, ◌≡◌, true, List, [], ◌∷◌, ◌++◌, length, map, refl, All, All-nil}
+use Rattle.crx_filter.proofs.Words.{All-head, Epoch, Row, length-append, length-map}
+use Rattle.crx_compact.specs.EncodingRooms.{EncodingRoom, HasRowRoom, HasTakenRow, KeepsEncodingRoom}
+use Rattle.crx_compact.specs.{EncodingRooms.all_free, Placing.{HasRoom, row_room}}
+use Rattle.{crx_compact.specs.meaning.EpochText.Satellite, crx_filter.proofs.steps.Enough.bytes-of_rows}
+use Rattle.crx_filter.{proofs.steps.Enough.{enough, types-of_rows}, specs.CompactionParts.HasHeldFor}
+use Rattle.crx_filter.specs.{CompactionParts.HoldsRows, meaning.Memory.{are_enough_for, compact_line_room}}
+use Rattle.{crx_filter.specs.meaning.Memory.satellite_of_row, std.proofs.lemmas.List.Elements.All-push}
+use Rattle.std.proofs.lemmas.List.{Elements.All-weaker, Sums.{sum-map, sum_by_push}}
 
 -- ---- what stays
-
-pub all-kept : {X : Type 0} (P Q : X → Type 0) → ((x : X) → P x → Q x) → (xs : List X) → All P xs → All Q xs
-all-kept P Q goes [] all = All-nil Q
-all-kept P Q goes (x ∷ xs) all =
-    All-cons Q x xs (goes x (All-head P x xs all)) (all-kept P Q goes xs (All-tail P x xs all))
 
 pub room-stays : (room : EncodingRoom) → KeepsEncodingRoom room room
 room-stays room = record {
@@ -59,7 +52,7 @@ held-kept before after epoch kept held = record {
 
 pub epochs-kept : (before after : EncodingRoom) (epochs : List Epoch) → KeepsEncodingRoom before after
     → All (HasHeldFor before) epochs → All (HasHeldFor after) epochs
-epochs-kept before after epochs kept held = all-kept (HasHeldFor before) (HasHeldFor after)
+epochs-kept before after epochs kept held = All-weaker (HasHeldFor before) (HasHeldFor after)
     (λ epoch. held-kept before after epoch kept) epochs held
 
 -- ---- the rows of an open epoch
@@ -79,53 +72,28 @@ pub row-held : (rows : List Row) (row : Row) (before after : EncodingRoom) → H
     → KeepsEncodingRoom before after → HasTakenRow row before after → HoldsRows (rows ++ row ∷ []) after
 row-held rows row before after holds kept taken =
     let many = length-append rows (row ∷ []) in
-    let size = rooms-push rows row in
+    let size = sum_by_push row_room rows row in
+    let sums = sum-map row_room (rows ++ row ∷ []) in
+    let before_it = sum-map row_room rows in
     record {
-      rooms = All-push (λ (r : Row). HasRoom r.name (length r.values) after.rooms) rows row (all-kept
+      rooms = All-push (λ (r : Row). HasRoom r.name (length r.values) after.rooms) rows row (All-weaker
           (λ (r : Row). HasRoom r.name (length r.values) before.rooms)
           (λ (r : Row). HasRoom r.name (length r.values) after.rooms)
           (λ r. kept.rooms r.name (length r.values)) rows holds.rooms) taken.satellite;
       lines = omega (arith, holds.lines, taken.lines, many);
-      bytes = omega (arith, holds.bytes, taken.bytes, size);
-      claimed = omega (arith, holds.claimed, taken.claimed, size);
+      bytes = omega (arith, holds.bytes, taken.bytes, size, sums, before_it);
+      claimed = omega (arith, holds.claimed, taken.claimed, size, sums, before_it);
       held = taken.held;
     }
-  where
-    rooms-push : (rs : List Row) (r : Row)
-        → sum (map row_room (rs ++ r ∷ [])) ≡ sum (map row_room rs) + row_room r
-    rooms-push [] r = refl
-    rooms-push (x ∷ rs) r =
-        let first = sum_by-cons (λ (n : ℕ). n) (row_room x) (map row_room (rs ++ r ∷ [])) in
-        let rest = sum_by-cons (λ (n : ℕ). n) (row_room x) (map row_room rs) in
-        let next = rooms-push rs r in
-        omega (arith, first, rest, next)
 
 -- ---- rows as satellites
-
-types-of : (rows : List Row) (rooms : List (List ℕ × ℕ)) → HaveRoom rows rooms
-    → HaveTypesRoom (map satellite_of_row rows) rooms
-types-of [] rooms has = All-nil (λ (s : Satellite). HasRoom s.name s.count rooms)
-types-of (row ∷ rows) rooms has = All-cons (λ (s : Satellite). HasRoom s.name s.count rooms)
-    (satellite_of_row row) (map satellite_of_row rows)
-    (All-head (λ (r : Row). HasRoom r.name (length r.values) rooms) row rows has)
-    (types-of rows rooms (All-tail (λ (r : Row). HasRoom r.name (length r.values) rooms) row rows has))
-
-rooms-together : (rows : List Row)
-    → bytes_together compact_line_room (map satellite_of_row rows) ≡ sum (map row_room rows)
-rooms-together [] = refl
-rooms-together (row ∷ rows) =
-    let first = sum_by-cons (λ (n : ℕ). n) (row_room row) (map row_room rows) in
-    let one = sum_by-cons (λ (s : Satellite). compact_line_room s.count) (satellite_of_row row)
-    (map satellite_of_row rows) in
-    let rest = rooms-together rows in
-    omega (arith, first, one, rest)
 
 -- once an epoch is whole, what is held is enough for it
 pub whole-held : (epoch : Epoch) (room : EncodingRoom) → HoldsRows epoch.rows room → HasHeldFor room epoch
 whole-held epoch room holds = record {
-  types = types-of epoch.rows room.rooms holds.rooms;
+  types = types-of_rows satellite_of_row epoch.rows room.rooms holds.rooms;
   lines = omega (arith, holds.lines, length-map epoch.rows satellite_of_row);
-  bytes = omega (arith, holds.claimed, holds.held, rooms-together epoch.rows);
+  bytes = omega (arith, holds.claimed, holds.held, bytes-of_rows satellite_of_row epoch.rows compact_line_room);
 }
 
 -- a row has room where the accepted epochs were enough for it with the open epoch's rows
@@ -139,7 +107,7 @@ row-enough rows row epochs room holds all is =
     let many = length-append (map satellite_of_row rows) (one ∷ []) in
     let mapped = length-map rows satellite_of_row in
     let last = sum_by_push (λ (s : Satellite). compact_line_room s.count) (map satellite_of_row rows) one in
-    let size = rooms-together rows in
+    let size = bytes-of_rows satellite_of_row rows compact_line_room in
     record {
       satellite = All-head (λ (s : Satellite). HasRoom s.name s.count room.rooms) one [] has.types;
       line = omega (arith, has.lines, has.many_has.lines, many, mapped, holds.lines);

@@ -1,41 +1,34 @@
 -- What an expansion knows of its lines: there is room again for each epoch that they made.
 use Rattle.crx_filter.proofs
-use proofs.Words.{common_steps, arith, ℕ, ◌≡◌, ◌⊎◌, inl, inr, true, false, Bool, List, [], ◌∷◌, map, refl, sym, ap}
-use proofs.Words.{◌∙◌, subst, length, Option, Some, None, ReadLine, Content, InputLine, as_read, At, Fault, Place}
-use proofs.Words.{Done, Fails, NeedsMore, Observation, Choices, types_in_force, with_next, ◌&&◌, ◌||◌, not}
-use proofs.Words.{ObservationEpoch, Satellite, Tail, OpenRawEpoch, raws_kept, compact_reading, first_lines, expansion}
-use proofs.Words.{expansion_state, tail_of_items, Completes, Rejects, made_in, RunState, Notice, Failed, state_next}
-use proofs.Words.{step_of_made, is_in_epoch, can_go_on, by_bool, false-true, All, All-cons, Phase, LineStep, Count}
-use proofs.Words.{failed_step, is_skipped_in, begins_epoch, past_of_line, Past, kept_in, phase_of_stage, is_long, rules}
-use proofs.Words.{not-true, compact_open, phase_of, RawEpoch}
-use Rattle.std.proofs.lemmas.Bool.{or_parts}
-use Rattle.std.specs.Option.{option_map}
-use Rattle.crx_compact.proofs.reading.RawTailing.{line-left}
-use Rattle.crx_compact.specs.{LineLists.{BlockRoom, HasNoMoreRoom}, HeldRows.past_of_tail}
-use Rattle.crx_compact.specs.OpenEpochs.{ColumnsState, HeldEpoch, Idle, Reading, tail_for_line, tail_held}
-use Rattle.crx_compact.specs.Placing.{satellite_of as satellite_of_tail}
-use Rattle.crx_compact.specs.ReadingRooms.{HeldColumns, ReadingRoom}
+use proofs.Words.{common_steps, arith, ℕ, ◌≡◌, ◌⊎◌, inl, inr, true, false, Bool, List, [], map, refl, sym, ap}
+use proofs.Words.{◌∙◌, subst, length, Option, Some, None, ReadLine, Content, InputLine, as_read, Fault, Place}
+use proofs.Words.{Observation, Choices, types_in_force, with_next, ◌||◌, not, ObservationEpoch, Satellite}
+use proofs.Words.{Tail, OpenRawEpoch, raws_kept, compact_reading, first_lines, expansion, expansion_state}
+use proofs.Words.{tail_of_items, Completes, made_in, RunState, state_next, step_of_made, can_go_on, by_bool}
+use proofs.Words.{false-true, All, All-cons, Phase, LineStep, begins_epoch, past_of_line, Past, kept_in}
+use proofs.Words.{phase_of_stage, is_long, compact_open, phase_of, RawEpoch, Result, Ok, Err, ◌+◌}
+use proofs.Words.{is_open_stage, ReadEpoch, Made, is_again, Count}
+use proofs.{Words.Reading, following.{Collecting.{add_made, given-epochs, given-past}, ExpandedOn.phase_by}}
+use proofs.following.ExpandedOn.{satellites_expanded, expansion-collects, of_held}
+use proofs.steps.{EngineAnswers.as-read-short, Enough.all-made, EnoughRoom.begins-within, Given.counts-there}
+use proofs.steps.{Given.{given-either, types-there}, RoomSteps.begins-nowhere-else, RoomsOfBlocks.reads-on}
+use Rattle.crx_compact.{proofs.reading.RawTailing.line-left, specs.HeldRows.past_of_tail}
+use Rattle.crx_compact.specs.{LineLists.{BlockRoom, HasNoMoreRoom}, OpenEpochs.{ColumnsState, HeldEpoch}}
+use Rattle.crx_compact.specs.OpenEpochs.{Idle, Reading as InRows, tail_for_line, tail_held}
+use Rattle.crx_compact.specs.{Placing.satellite_of as satellite_of_tail, ReadingRooms.HeldColumns}
+use Rattle.{crx_compact.specs.ReadingRooms.ReadingRoom, crx_filter.specs.CompactStages.is_compact_stage}
 use Rattle.crx_filter.specs.DirectionParts.{DirectionParts, ComesAfter, answer_for, brings_nothing, state_by}
-use Rattle.crx_filter.specs.{EngineLines.HasTaken, ExpansionParts.expansion_parts}
-use Rattle.crx_filter.specs.ExpansionRooms.{AreHeldAmong, HasRoomAgain, HasRoomForEpochs, HasRoomForNewest}
-use Rattle.crx_filter.specs.ExpansionRooms.{HasRoomForLines, HasRoomForSatellites, epochs_read}
-use Rattle.crx_filter.specs.Rooms.{HasRoomInColumns, HasRoomInExpansion, HasRoomToBegin, may_begin}
-use Rattle.crx_filter.specs.{LineByLine.Answer, declared.expansion.Expansion.Expansion}
-use Rattle.crx_filter.specs.declared.stage.Stage.{Stage}
-use Rattle.crx_filter.specs.meaning.Memory.{are_enough_for, are_types_awaited, brought_after, expansion_outgrows}
-use Rattle.crx_filter.specs.meaning.Memory.{printed_line_room}
-use Rattle.crx_filter.specs.Rooms.{do_types_count}
-use Rattle.crx_filter.proofs.steps.Enough.{never-counted, types-awaited}
-use Rattle.crx_filter.specs.meaning.Memory.{satellite_of_row}
-use Rattle.crx_runs.specs.Engines.{Awaited, IsAwaited}
-use proofs.following.{ExpandedOn.phase_by, Following.{failed-ends, failed-skipped}}
+use Rattle.crx_filter.specs.{ExpansionParts.expansion_parts, ExpansionRooms.{AreHeldAmong, HasRoomAgain}}
+use Rattle.crx_filter.specs.ExpansionRooms.{HasRoomForEpochs, HasRoomForNewest, HasRoomForLines}
+use Rattle.crx_filter.specs.ExpansionRooms.{HasRoomForSatellites, epochs_read, AreHeldInColumns}
+use Rattle.crx_filter.specs.{ExpansionRooms.AreHeldInLines, Rooms.{HasRoomInColumns, HasRoomInExpansion}}
+use Rattle.crx_filter.specs.Rooms.{HasRoomToBegin, may_begin, do_types_count}
+use Rattle.crx_filter.specs.declared.{expansion.Expansion.Expansion, stage.Stage.{Stage, TheVariants.Between}}
+use Rattle.crx_filter.specs.{declared.stage.Stage.TheVariants.{Looking, Open}, meaning.Memory.are_enough_for}
+use Rattle.crx_filter.specs.meaning.Memory.{are_types_awaited, brought_after, expansion_outgrows}
+use Rattle.crx_filter.specs.meaning.Memory.{printed_line_room, accepted_epochs, satellites_had}
+use Rattle.std.{proofs.lemmas.{Bool.or_parts, List.Elements.All-map, Simd.map-map}, specs.Option.option_map}
 use Rattle.std.specs.Prelude.{OnErr, IfOk}
-use Rattle.crx_filter.specs.{CompactStages.is_compact_stage, ExpansionRooms.{AreHeldInColumns, AreHeldInLines}}
-use Rattle.crx_filter.specs.declared.stage.Stage.TheVariants.{Between, Looking, Open}
-use proofs.steps.{RoomSteps.begins-nowhere-else, RoomsOfBlocks.reads-on}
-use proofs.Words.{Result, Ok, Err, ◌+◌, is_open_stage}
-use proofs.steps.{EngineAnswers.as-read-short, EnoughRoom.begins-within}
-use proofs.steps.EpochsRead.{Added, CutOff, EpochsAfter, HasCut, IsAdded, Same, epochs-after, has-cut}
 
 -- ---- an epoch more
 
@@ -44,102 +37,76 @@ newest-has : (state : ColumnsState) (tail : Tail) (room : ReadingRoom) → tail_
 newest-has (Idle None) tail room e has = absurd (cc (e))
 newest-has (Idle (Some held)) tail room e has = subst
     (λ (o : Option Tail). HasRoomForNewest (Idle o) room) e has
-newest-has (Reading begun) tail room e has = absurd (cc (e))
+newest-has (InRows begun) tail room e has = absurd (cc (e))
 
-one-more : (epochs : List ObservationEpoch) (epoch : ObservationEpoch) (state : ColumnsState) (tail : Tail)
-    (room : ReadingRoom) → tail_held state ≡ Some tail
-    → map satellite_of_row epoch.rows ≡ map satellite_of_tail tail.rows
-    → HasRoomForEpochs epochs state room → HasRoomForEpochs (epoch ∷ epochs) state room
-one-more epochs epoch state tail room e same has = record {
-  each = All-cons (HasRoomAgain room) epoch epochs
-      (subst (λ ss. HasRoomForSatellites ss room) (sym same) (newest-has state tail room e has.newest)) has.each;
-  newest = has.newest;
-}
+-- the satellites of some epochs have room for all lines of an epoch
+abbrev HaveRoomAgain : ReadingRoom → List (List Satellite) → Type 0
+HaveRoomAgain room = All (λ (satellites : List Satellite). HasRoomForSatellites satellites room)
 
-pub epoch-more : (epochs : List ObservationEpoch) (epoch : ObservationEpoch) (columns : HeldColumns)
-    (lines : BlockRoom) (tail : Tail) → tail_held columns.state ≡ Some tail
-    → map satellite_of_row epoch.rows ≡ map satellite_of_tail tail.rows
-    → AreHeldAmong epochs columns lines → AreHeldAmong (epoch ∷ epochs) columns lines
-epoch-more epochs epoch columns lines tail e same (inl held) = inl (record {
-  larger = held.larger;
-  held = one-more epochs epoch columns.state tail columns.room e same held.held;
-})
-epoch-more epochs epoch columns lines tail e same (inr held) = inr (record {
-  idle = held.idle;
-  larger = held.larger;
-  held = one-more epochs epoch columns.state tail (record columns.room { block = lines }) e same held.held;
-})
+-- the satellites of other epochs have room where those of these do
+held-again : (old new : List ObservationEpoch) (found : List (List Satellite)) (columns : HeldColumns)
+    (lines : BlockRoom) → map satellites_had new ≡ found → ((room : ReadingRoom)
+    → HasRoomForNewest columns.state room → HaveRoomAgain room (map satellites_had old)
+    → HaveRoomAgain room found) → AreHeldAmong old columns lines → AreHeldAmong new columns lines
+held-again old new found columns lines is goes held = elim held as (λ _. AreHeldAmong new columns lines) [
+  | inl h ↦ inl (record { larger = h.larger; held = rooms columns.room h.held })
+  | inr h ↦ inr (record {
+    idle = h.idle;
+    larger = h.larger;
+    held = rooms (record columns.room { block = lines }) h.held;
+  })
+]
+  where
+    rooms : (room : ReadingRoom) → HasRoomForEpochs old columns.state room
+        → HasRoomForEpochs new columns.state room
+    rooms room has = record {
+      each = all-made (λ (ss : List Satellite). HasRoomForSatellites ss room) satellites_had new
+          (subst (HaveRoomAgain room) (sym is) (goes room has.newest (All-map (λ (ss : List Satellite).
+          HasRoomForSatellites ss room) satellites_had old has.each)));
+      newest = has.newest;
+    }
 
--- ---- the next line
-
-quiet-notice : (b : Bool) (at : At) (again : Bool) → answer_for b ≡ Notice at again → ⊥
-quiet-notice b at again e = grind (arith, common_steps)
-
-quiet-failed : (b : Bool) (at : At) → answer_for b ≡ Failed at → ⊥
-quiet-failed b at e = grind (arith, common_steps)
-
-never-failed : (b : Bool) (ready : List (List ℕ)) (now next : RunState OpenRawEpoch (Option Tail))
-    (line : ReadLine) (fault : Fault)
-    → record { answer = answer_for b; handed_out = ready; next = next } ≡ failed_step expansion now line fault → ⊥
-never-failed b ready now next line fault e = by_bool (is_skipped_in now fault)
-    (λ on. quiet-notice b _ _ (ap (λ (s : LineStep OpenRawEpoch (Option Tail)). s.answer)
-    (e ∙ failed-skipped expansion now line fault on)))
-    (λ off. quiet-failed b _ (ap (λ (s : LineStep OpenRawEpoch (Option Tail)). s.answer)
-    (e ∙ failed-ends expansion now line fault off)))
-
-pub rooms-next : (before after : List ObservationEpoch) (now next : RunState OpenRawEpoch (Option Tail))
-    (line : ReadLine) (b : Bool) (ready : List (List ℕ)) (columns : HeldColumns) (lines : BlockRoom)
-    → EpochsAfter before after now line
-    → record { answer = answer_for b; handed_out = ready; next = next } ≡ state_next expansion now line
-    → next.kept ≡ tail_held columns.state → AreHeldAmong before columns lines → AreHeldAmong after columns lines
-rooms-next before after now next line b ready columns lines (Same same) step kept held =
-    subst (λ (es : List ObservationEpoch). AreHeldAmong es columns lines) (sym same) held
-rooms-next before after now next line b ready columns lines (Added whole made added) step kept held =
-    let then = ap (λ (s : LineStep OpenRawEpoch (Option Tail)). s.next.kept) (rw made at step) in
-    subst (λ (es : List ObservationEpoch). AreHeldAmong es columns lines) (sym added.more)
-    (epoch-more before added.epoch columns lines whole.tail (sym kept ∙ then) added.same held)
-rooms-next before after now next line b ready columns lines (CutOff fault made cut) step kept held =
-    absurd (never-failed b ready now next line fault (rw made at step))
-
--- a line that brings nothing brings no epoch
-pub epochs-past : (before after : List ObservationEpoch) (now : RunState OpenRawEpoch (Option Tail))
-    (line : ReadLine) → EpochsAfter before after now line
-    → brings_nothing (state_next expansion now line).answer line ≡ true → after ≡ before
-epochs-past before after now line (Same same) passed = same
-epochs-past before after now line (Added whole made added) passed = false-true (rw made at passed)
-epochs-past before after now line (CutOff fault made cut) passed = by_bool (is_skipped_in now fault)
-    (λ on. false-true (subst (λ (again : Bool). not again ≡ true) cut (subst
-    (λ (s : LineStep OpenRawEpoch (Option Tail)). brings_nothing s.answer line ≡ true)
-    (failed-skipped expansion now line fault on) (rw made at passed))))
-    (λ off. false-true (subst (λ (s : LineStep OpenRawEpoch (Option Tail)). brings_nothing s.answer line ≡ true)
-    (failed-ends expansion now line fault off) (rw made at passed)))
+-- after a line that was taken, with what it makes
+adds-held : (found : List (List Satellite)) (now next : RunState OpenRawEpoch (Option Tail)) (line : ReadLine)
+    (b : Bool) (ready : List (List ℕ)) (state : ColumnsState) (made : Made HeldEpoch OpenRawEpoch)
+    → record { answer = answer_for b; handed_out = ready; next = next } ≡ step_of_made expansion now line made
+    → next.kept ≡ tail_held state → (room : ReadingRoom) → HasRoomForNewest state room
+    → HaveRoomAgain room found → HaveRoomAgain room (add_made of_held found made)
+adds-held found now next line b ready state (Completes (Observation held)) step kept room newest each =
+    let then = ap (λ (s : LineStep OpenRawEpoch (Option Tail)). s.next.kept) step in
+    All-cons (λ (ss : List Satellite). HasRoomForSatellites ss room) (of_held held) found
+    (newest-has state held.tail room (sym kept ∙ then) newest) each
+adds-held found now next line b ready state made step kept room newest each = each
 
 -- ---- where a line is given
+
+answered-once : (b : Bool) → is_again (answer_for b) ≡ false
+answered-once true = refl
+answered-once false = refl
 
 module _ (e : Expansion) (choices : Choices) (lines : List InputLine) (line : InputLine)
     (given : ComesAfter expansion (λ cs. cs) expansion_state choices lines line (expansion_parts e)) where
   abbrev now : RunState OpenRawEpoch (Option Tail)
   now = state_by choices (length lines) (expansion_parts e)
 
-  pub given-epochs : EpochsAfter (epochs_read choices lines) (epochs_read choices (with_next lines line)) now
-      (as_read line)
-  given-epochs = epochs-after choices lines line now given.notices given.has_taken given.awaited
+  -- the satellites of the epochs of some lines
+  abbrev found : List InputLine → List (List Satellite)
+  found ls = satellites_expanded choices (map as_read ls)
+
+  found-read : (ls : List InputLine) → map satellites_had (epochs_read choices ls) ≡ found ls
+  found-read ls = map-map satellites_had (λ (read : ReadEpoch). read.epoch)
+      (accepted_epochs (compact_reading choices.skip (map as_read ls)).items)
 
   pub knows-past : brings_nothing (state_next expansion now (as_read line)).answer (as_read line) ≡ true
       → HasRoomForLines e choices lines → HasRoomForLines e choices (with_next lines line)
-  knows-past passed held = subst (λ (es : List ObservationEpoch). AreHeldAmong es e.reader.columns e.lines.room)
-      (sym (epochs-past (epochs_read choices lines) (epochs_read choices (with_next lines line)) now (as_read line)
-      given-epochs passed)) held
+  knows-past passed held = held-again (epochs_read choices lines) (epochs_read choices (with_next lines line))
+      (found lines) e.reader.columns e.lines.room (found-read (with_next lines line) ∙ given-past expansion of_held
+      expansion_state choices (satellites_expanded choices) (expansion-collects choices) lines line
+      (expansion_parts e) given (λ types kept. refl) (λ so_far. refl) passed)
+      (λ room newest each. subst (HaveRoomAgain room) (found-read lines) each) held
 
-  -- what the line is read after is what the epochs before give to it
-  record IsReadAfter : Type 0 where
-    counts : do_types_count e.reader.stage ≡ true
-        → types_in_force (compact_reading choices.skip (map as_read lines)).items ≡ []
-        → are_types_awaited (compact_reading choices.skip (map as_read lines)).items ≡ true
-    types : e.reader.types ≡ types_in_force (compact_reading choices.skip (map as_read lines)).items
-    past : may_begin e.reader.stage ≡ true
-        → past_of_line (raws_kept (compact_reading choices.skip (map as_read lines)).items) line.content
-        ≡ option_map past_of_tail (tail_for_line (tail_held e.reader.columns.state) line.content)
+  abbrev reading : Reading ReadEpoch
+  reading = compact_reading choices.skip (map as_read lines)
 
   kept-here : (ls : List ReadLine) (stage : Stage) (begun : Option OpenRawEpoch) (p : Place (List (List ℕ)))
       (phase : Phase OpenRawEpoch) (kept : Option Tail) → may_begin stage ≡ true
@@ -151,40 +118,27 @@ module _ (e : Expansion) (choices : Choices) (lines : List InputLine) (line : In
       → phase_of_stage begun stage ≡ phase_by ls p phase → phase_of_stage begun stage ≡ phase
   counted-here ls stage begun p phase counts same = grind (arith, common_steps)
 
-  read-after : (notices : List Awaited) → HasTaken expansion (expansion_state choices) now lines notices
-      → IsAwaited notices line → as_read line ≡ Content line.content → IsReadAfter
-  read-after [] taken awaited is =
-      let ls = map as_read lines in
-      let r = compact_reading choices.skip ls in
-      record {
-        counts = λ counts none. types-awaited compact_open r (expansion_parts e).begun e.reader.stage
-            (counted-here ls e.reader.stage _ (first_lines ls) (phase_of compact_open r) counts
-            (ap (λ (s : RunState OpenRawEpoch (Option Tail)). s.phase) taken)) counts none;
-        types = ap (λ (s : RunState OpenRawEpoch (Option Tail)). s.types) taken;
-        past = λ may.
-            let kept = ap (λ (s : RunState OpenRawEpoch (Option Tail)). s.kept) taken
-            ∙ kept-here ls e.reader.stage _ (first_lines ls) (phase_of compact_open r) (tail_of_items r.items) may
-            (ap (λ (s : RunState OpenRawEpoch (Option Tail)). s.phase) taken) in
-            line-left (raws_kept r.items) line.content ∙ ap (λ (o : Option Tail). option_map past_of_tail
-            (tail_for_line o line.content)) (sym kept);
-      }
-  read-after (a ∷ []) taken awaited is =
-      let before = expansion_state choices (map as_read lines) in
-      let cut = subst (λ (l : InputLine). HasCut before now (as_read l)) awaited
-      (has-cut before now (as_read a.line) a.notice taken) in
-      let begins : begins_epoch line.content ≡ true = sym (ap can_go_on is) ∙ cut.fits in
-      record {
-        counts = λ counts none. absurd (never-counted (expansion_parts e).begun e.reader.stage _ cut.phase
-            (inl refl) counts);
-        types = cut.types;
-        past = λ may. anew _ begins ∙ line-left [] line.content ∙ ap (λ (o : Option Tail). option_map past_of_tail
-            (tail_for_line o line.content)) (sym cut.kept);
-      }
+  -- what the line is read after is what the epochs before give to it
+  past-there : as_read line ≡ Content line.content → may_begin e.reader.stage ≡ true
+      → past_of_line (raws_kept reading.items) line.content
+      ≡ option_map past_of_tail (tail_for_line (tail_held e.reader.columns.state) line.content)
+  past-there is may =
+      elim (given-either expansion expansion_state choices lines line (expansion_parts e) given) as
+      (λ _. past_of_line (raws_kept reading.items) line.content ≡ tail_read (tail_held e.reader.columns.state)) [
+        | inl same ↦ line-left (raws_kept reading.items) line.content ∙ ap tail_read (sym
+            (ap (λ (s : RunState OpenRawEpoch (Option Tail)). s.kept) same ∙ kept-here (map as_read lines)
+            e.reader.stage _ (first_lines (map as_read lines)) (phase_of compact_open reading)
+            (tail_of_items reading.items) may (ap (λ (s : RunState OpenRawEpoch (Option Tail)). s.phase) same)))
+        | inr again ↦ anew (raws_kept reading.items) (sym (ap can_go_on is) ∙ again.fits)
+            ∙ line-left [] line.content ∙ ap tail_read (sym again.kept)
+      ]
     where
+      tail_read : Option Tail → Option Past
+      tail_read kept = option_map past_of_tail (tail_for_line kept line.content)
+
       anew : (raws : List RawEpoch) → begins_epoch line.content ≡ true
           → past_of_line raws line.content ≡ past_of_line [] line.content
       anew raws begins = rw begins refl
-  read-after (a ∷ b ∷ others) taken awaited is = absurd taken
 
   needed : (awaited : Bool) (epochs : List ObservationEpoch) (satellites : List Satellite)
       → (awaited || not (are_enough_for printed_line_room satellites satellites epochs)) ≡ false
@@ -192,47 +146,32 @@ module _ (e : Expansion) (choices : Choices) (lines : List InputLine) (line : In
   needed awaited epochs satellites none = grind (arith, common_steps, or_parts)
 
   pub has-enough : is_long line ≡ false → HasRoomForLines e choices lines
-      → expansion_outgrows (compact_reading choices.skip (map as_read lines)) (as_read line) ≡ false
-      → HasRoomInExpansion e line.content
+      → expansion_outgrows reading (as_read line) ≡ false → HasRoomInExpansion e line.content
   has-enough short held none =
-      let r = compact_reading choices.skip (map as_read lines) in
       let is = as-read-short line short in
-      let after = read-after given.notices given.has_taken given.awaited is in
-      let both = needed (are_types_awaited r.items) (epochs_read choices lines) (brought_after r.items (Content
-      line.content)) (rw is at none) in
+      let tail = tail_held e.reader.columns.state in
+      let types = types-there expansion expansion_state choices lines line (expansion_parts e) given in
+      let both = needed (are_types_awaited reading.items) (epochs_read choices lines)
+      (brought_after reading.items (Content line.content)) (rw is at none) in
       record {
-        types = λ counts none. false-true (sym both.0 ∙ after.counts counts (sym after.types ∙ none));
-        epoch = λ may. rooms (after.past may) after.types both.1 held;
+        types = λ counts none. false-true (sym both.0 ∙ counts-there expansion expansion_state choices lines line
+            (expansion_parts e) given compact_open reading refl (counted-here (map as_read lines) e.reader.stage _
+            (first_lines (map as_read lines)) (phase_of compact_open reading)) counts none);
+        epoch = λ may.
+            let begins = λ (room : ReadingRoom) (each : All (HasRoomAgain room) (epochs_read choices lines)).
+            subst (λ (counts : List Count). HasRoomToBegin counts tail line.content room) (sym types)
+            (begins-within (types_in_force reading.items) _ tail line.content (epochs_read choices lines) room
+            (past-there is may) each both.1) in
+            elim held as (λ _. HasRoomInColumns e.reader.types e.reader.columns line.content
+            e.reader.columns.room.block ⊎ (HasNoMoreRoom e.reader.columns.room.block e.lines.room
+            × HasRoomInColumns e.reader.types e.reader.columns line.content e.lines.room)) [
+              | inl h ↦ inl (begins e.reader.columns.room h.held.each)
+              | inr h ↦ inr (
+                h.larger,
+                begins (record e.reader.columns.room { block = e.lines.room }) h.held.each,
+              )
+            ];
       }
-    where
-      begins : (room : ReadingRoom)
-          → past_of_line (raws_kept (compact_reading choices.skip (map as_read lines)).items) line.content
-          ≡ option_map past_of_tail (tail_for_line (tail_held e.reader.columns.state) line.content)
-          → e.reader.types ≡ types_in_force (compact_reading choices.skip (map as_read lines)).items
-          → are_enough_for printed_line_room (brought_after (compact_reading choices.skip (map as_read lines)).items
-          (Content line.content)) (brought_after (compact_reading choices.skip (map as_read lines)).items
-          (Content line.content)) (epochs_read choices lines) ≡ true
-          → All (HasRoomAgain room) (epochs_read choices lines)
-          → HasRoomToBegin e.reader.types (tail_held e.reader.columns.state) line.content room
-      begins room past types enough each = rw types (begins-within
-          (types_in_force (compact_reading choices.skip (map as_read lines)).items) _
-          (tail_held e.reader.columns.state) line.content (epochs_read choices lines) room past each enough)
-
-      rooms : past_of_line (raws_kept (compact_reading choices.skip (map as_read lines)).items) line.content
-          ≡ option_map past_of_tail (tail_for_line (tail_held e.reader.columns.state) line.content)
-          → e.reader.types ≡ types_in_force (compact_reading choices.skip (map as_read lines)).items
-          → are_enough_for printed_line_room (brought_after (compact_reading choices.skip (map as_read lines)).items
-          (Content line.content)) (brought_after (compact_reading choices.skip (map as_read lines)).items
-          (Content line.content)) (epochs_read choices lines) ≡ true
-          → HasRoomForLines e choices lines
-          → HasRoomInColumns e.reader.types e.reader.columns line.content e.reader.columns.room.block
-          ⊎ (HasNoMoreRoom e.reader.columns.room.block e.lines.room
-          × HasRoomInColumns e.reader.types e.reader.columns line.content e.lines.room)
-      rooms past types enough (inl held) = inl (begins e.reader.columns.room past types enough held.held.each)
-      rooms past types enough (inr held) = inr (
-        held.larger,
-        begins (record e.reader.columns.room { block = e.lines.room }) past types enough held.held.each,
-      )
 
   -- what is known of a line that was taken
   pub next-known : (parts after : DirectionParts OpenRawEpoch (Option Tail)) (text : List ℕ) (b : Bool)
@@ -245,15 +184,17 @@ module _ (e : Expansion) (choices : Choices) (lines : List InputLine) (line : In
       → after.kept ≡ tail_held columns.state → AreHeldAmong (epochs_read choices lines) columns block
       → AreHeldAmong (epochs_read choices (with_next lines line)) columns block
   next-known parts after text b ready columns block same is step kept held =
-      let Made : RunState OpenRawEpoch (Option Tail) → ReadLine → Type 0 = λ s l. record {
-        answer = answer_for b;
-        handed_out = ready;
-        next = state_by choices (length lines + 1) after;
-      } ≡ state_next expansion s l in
-      rooms-next (epochs_read choices lines) (epochs_read choices (with_next lines line)) now
-      (state_by choices (length lines + 1) after) (as_read line) b ready columns block given-epochs
-      (subst (Made now) (sym is) (subst (λ (p : DirectionParts OpenRawEpoch (Option Tail)).
-      Made (state_by choices (length lines) p) (Content text)) same step)) kept held
+      let taken = step ∙ ap (λ (p : DirectionParts OpenRawEpoch (Option Tail)). state_next expansion
+      (state_by choices (length lines) p) (Content text)) same ∙ ap (state_next expansion now) (sym is) in
+      let once = sym (ap (λ (s : LineStep OpenRawEpoch (Option Tail)). is_again s.answer) taken)
+      ∙ answered-once b in
+      held-again (epochs_read choices lines) (epochs_read choices (with_next lines line)) (add_made of_held
+      (found lines) (made_in expansion now.phase now.types now.kept (as_read line))) columns block
+      (found-read (with_next lines line) ∙ given-epochs expansion of_held expansion_state choices
+      (satellites_expanded choices) (expansion-collects choices) lines line (expansion_parts e) given once)
+      (λ room newest each. adds-held (found lines) now (state_by choices (length lines + 1) after) (as_read line) b
+      ready columns.state (made_in expansion now.phase now.types now.kept (as_read line)) taken kept room newest
+      (subst (HaveRoomAgain room) (found-read lines) each)) held
 
   -- the same of one that was taken or refused
   pub known-if_taken : (after : DirectionParts OpenRawEpoch (Option Tail)) (text : List ℕ)

@@ -1,18 +1,17 @@
 -- How the parts of a compaction belong together after a line, and what is said of a row that it takes.
 use Rattle.crx_filter.proofs.Words
 use Words.{common_steps, arith, inl, inr, ◌≡◌, ◌++◌, ◌∷◌, [], ℕ, Bool, true, false, not, List, not-true}
-use Words.{if◌then◌else◌, Fault, OutOfMemory, None, Option, Ok, sym, ap, subst, ◌∙◌, true≢false}
-use Words.{false≢true, length, is_some, begins_epoch, ObservationHead, Some, has_satellite, ObservationEpoch}
-use Words.{OpenEpoch, row_of, Written, is_row, made_at, CompletedEpoch, IsSameReader, MovesReader}
-use Words.{TakesRinexLine, Made, is_open_stage, RinexReader, RinexStep, Stage, Row as ObservationRow}
-use Rattle.crx_filter.{proofs.steps.RowSteps.taken-from, specs.RinexReaders.{BeginsEpoch, RefusesRinexLine}}
-use Rattle.crx_filter.specs.{RinexStages.rows_open, declared.rinex_reader.RinexStep.TheVariants.{Row, Epoch}}
+use Words.{if◌then◌else◌, Fault, OutOfMemory, None, Option, Ok, sym, ap, subst, ◌∙◌, true≢false, false≢true}
+use Words.{length, is_some, begins_epoch, ObservationHead, Some, has_satellite, ObservationEpoch, OpenEpoch}
+use Words.{row_of, Written, is_row, made_at, CompletedEpoch, IsSameReader, MovesReader, TakesRinexLine, Made}
+use Words.{is_open_stage, RinexReader, RinexStep, Stage, Row as ObservationRow}
+use Rattle.crx_compact.specs.{Encoding.{EncoderState, forgotten}, EncodingRooms.{EncodingRoom, HasTakenRow}}
+use Rattle.crx_compact.specs.EncodingRooms.{KeepsEncodingRoom, all_free}
+use Rattle.crx_filter.proofs.steps.{RoomsOfEpochs.{none-held, room-freed, row-held}, RowSteps.taken-from}
 use Rattle.crx_filter.specs.CompactionParts.{BelongTogether, HasRefusedRow, HasWrittenRow, HoldsRows}
-use Rattle.crx_filter.specs.CompactionParts.{is_full_where_due}
+use Rattle.crx_filter.specs.{CompactionParts.is_full_where_due, RinexReaders.{BeginsEpoch, RefusesRinexLine}}
+use Rattle.crx_filter.specs.{RinexStages.rows_open, declared.rinex_reader.RinexStep.TheVariants.{Row, Epoch}}
 use Rattle.std.{proofs.lemmas.Bool.not-false, specs.Prelude.IfSome}
-use Rattle.crx_compact.specs.Encoding.{EncoderState, forgotten}
-use Rattle.crx_compact.specs.EncodingRooms.{EncodingRoom, HasTakenRow, KeepsEncodingRoom, all_free}
-use Rattle.crx_filter.proofs.steps.RoomsOfEpochs.{none-held, room-freed, row-held}
 
 -- ---- by the stage
 

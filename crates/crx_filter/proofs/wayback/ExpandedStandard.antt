@@ -4,19 +4,18 @@ use Rattle.crx_filter.proofs
 use proofs.Words.{common_steps, [], ℕ, ◌≡◌, ◌+◌, Bool, true, List, ◌∷◌, ◌++◌, map, length, drop, Option, None}
 use proofs.Words.{refl, ap, ◌∙◌, subst, arith, ⊤, AllByRecursion, list_all, and_parts, not-true, HasNoFeed}
 use proofs.Words.{Piece, InputLine, line_of, lines_text, ReadLine, At, Count, types_of, IsWholeEpoch, Epoch}
-use proofs.Words.{FileUnit, HeaderLine, EventRecord, Observation, printed_unit, ReadEpoch}
-use proofs.Words.{Choices, compact_place, raws_kept, first_lines, whole_compact, expanded_unit}
-use proofs.Words.{expanded, Item, Accepted, Warned, is_at_start, header_has_ended, records_left}
-use proofs.Words.{records_count_types, declaring_lines, types_in_force, WholeReading, reading_from}
-use proofs.Words.{ended_reading, printed_items, OfCopiedLine, OfCopiedLines, HaveNoReturns, written_lines}
-use proofs.Words.{IsResult, Device, ItemsAreRead, IsInPlace, AreInPlace, compact_reading}
-use proofs.reading.{WhatStands.{OfHere, of-unit, of-compact}, KeptThroughout.within-kept, Resuming.by_place}
-use proofs.reading.{Each.{all-append, all-parts, all-drop}, WhatWasRead.{items-read, allowed, of-ended}}
-use proofs.reading.{Stopping.reading-stopped, ForwardCompact.{compact-forward, compact_beginning}}
-use proofs.wayback.{Converse.{epoch-printable, lines-plain, printed-plain, all-plain}, WayBack.IsSettled}
-use proofs.wayback.{WayBack.closes, Cut.{CanStand, OfContent, input-stands, first-cut}, Standard.NoReturn}
-use proofs.wayback.{Standard.not-ended, ExpandedWhole.{AreGoodEpochs, epochs-good}}
-use proofs.wayback.{ReturnsLost.printable-lines, NormalForm.settled-standard}
+use proofs.Words.{FileUnit, HeaderLine, EventRecord, Observation, printed_unit, ReadEpoch, Choices}
+use proofs.Words.{compact_place, raws_kept, first_lines, whole_compact, expanded_unit, expanded, Item}
+use proofs.Words.{Accepted, Warned, is_at_start, header_has_ended, records_left, records_count_types}
+use proofs.Words.{declaring_lines, types_in_force, WholeReading, reading_from, ended_reading, printed_items}
+use proofs.Words.{OfCopiedLine, OfCopiedLines, HaveNoReturns, written_lines, IsResult, Device, ItemsAreRead}
+use proofs.{Words.{IsInPlace, AreInPlace, compact_reading}, reading.Each.{all-append, all-parts, all-drop}}
+use proofs.reading.{ForwardCompact.{compact-forward, compact_beginning}, KeptThroughout.within-kept}
+use proofs.reading.{Resuming.by_place, Stopping.reading-stopped, WhatStands.{OfHere, of-unit, of-compact}}
+use proofs.{reading.WhatWasRead.{items-read, allowed, of-ended}, wayback.Converse.epoch-printable}
+use proofs.wayback.{Converse.{lines-plain, printed-plain, all-plain}, Cut.{CanStand, OfContent, input-stands}}
+use proofs.wayback.{Cut.first-cut, ExpandedWhole.{AreGoodEpochs, epochs-good}, NormalForm.settled-standard}
+use proofs.wayback.{ReturnsLost.printable-lines, Standard.{NoReturn, not-ended}, WayBack.{IsSettled, closes}}
 use Rattle.crx_filter.specs.meaning.{Expanded.rinex_unit, WrittenStandard.{has_plain_lines, rinex_items}}
 use Rattle.crx_filter.specs.meaning.WrittenStandard.{WhatIsExpandedIsStandard, WroteStandard}
 

@@ -1,8 +1,7 @@
 use Rattle.crx_filter.proofs.Words
 use Words.{◌≡◌, true, false, not, List, ap, ◌∙◌, Count, subst, sym, has_satellite, Row, row_of}
 use Rattle.crx_filter.proofs.steps.{CheckerSteps.{named-next, named-still}, RowSteps.taken-from}
-use Rattle.crx_filter.specs.CheckingParts.{AreNamed}
-use Rattle.crx_header.specs.Identifiers.{has_identifier}
+use Rattle.{crx_filter.specs.CheckingParts.AreNamed, crx_header.specs.Identifiers.has_identifier}
 use Rattle.std.proofs.lemmas.Bool.{not-false, not-true}
 use Rattle.crx_filter.proofs.checking.take_row.Goals as goal
 

@@ -1,8 +1,7 @@
-use Rattle.crx_filter.proofs.{Kept.{kept, judges-standard}, Words.{check_filter, checked, Device}}
-use Rattle.crx_filter.proofs.Words.{At, Option, ap, is_some, refl, subst, sym, ◌∙◌, true≢false}
-use Rattle.crx_filter.proofs.following.CheckLawful.{check-lawful, run-judged}
-use Rattle.crx_filter.{proofs.standard.Lossless.says-so, specs.meaning.Standard.report_status}
-use Rattle.crx_runs.specs.meaning.Runs.{Runs, RunsAs}
+use Rattle.crx_filter.proofs.Words.{check_filter, checked, Device, At, Option, ap, is_some, refl, subst, sym}
+use Rattle.crx_filter.proofs.{Words.{◌∙◌, true≢false}, Kept.{kept, judges-standard}}
+use Rattle.crx_filter.proofs.{following.CheckLawful.{check-lawful, run-judged}, standard.Lossless.says-so}
+use Rattle.{crx_filter.specs.meaning.Standard.report_status, crx_runs.specs.meaning.Runs.{Runs, RunsAs}}
 use Rattle.crx_runs.specs.meaning.Spans.{Input, reader_span, span}
 use Rattle.crx_filter.proofs.checks.check.Goals as goal
 

@@ -1,9 +1,8 @@
-use Rattle.std.proofs.Common.{◌≡◌, None, if◌then◌else◌}
-use Rattle.crx_header.specs.meaning.Header.{first_header_fault}
-use Rattle.crx_filter.proofs.TypesLines.{Bad, RefusedFirst, refused-types, refused-first, if-err-both, if-none}
-use Rattle.crx_filter.proofs.Words.{OutOfMemory, []}
+use Rattle.crx_filter.proofs.{Words.{OutOfMemory, []}, TypesLines.{Bad, RefusedFirst, refused-types}}
+use Rattle.crx_filter.proofs.TypesLines.{refused-first, if-err-both, if-none}
 use Rattle.crx_filter.proofs.types_lines.accept_header_line.Goals.{then-is_first+in_ok-header_first}
 use Rattle.crx_filter.proofs.types_lines.accept_header_line.Goals.{else-is_first}
+use Rattle.{crx_header.specs.meaning.Header.first_header_fault, std.proofs.Common.{◌≡◌, None, if◌then◌else◌}}
 use Rattle.crx_filter.proofs.types_lines.accept_header_line.Goals as goal
 
 pub returns-clause-refused : goal.returns-clause-refused

@@ -1,9 +1,7 @@
 use Rattle.crx_filter.proofs.{Words.subst, steps.CheckerSteps.{IsTaken, given-after, noted-next}}
-use Rattle.crx_filter.proofs.steps.CheckerSteps.{nothing_kept}
-use Rattle.crx_filter.proofs.steps.CheckerSteps.{open-runs, row-counting, rejected-reads, still-drained}
-use Rattle.crx_filter.proofs.steps.{CheckerSteps.taken-reads, EngineAnswers.short-line}
-use Rattle.std.proofs.lemmas.Result.{err_from_is_err_and}
-use Rattle.crx_lines.specs.Reading.{line_number, line_shown}
+use Rattle.crx_filter.proofs.steps.CheckerSteps.{nothing_kept, open-runs, row-counting, rejected-reads}
+use Rattle.crx_filter.proofs.steps.{CheckerSteps.{still-drained, taken-reads}, EngineAnswers.short-line}
+use Rattle.{crx_lines.specs.Reading.{line_number, line_shown}, std.proofs.lemmas.Result.err_from_is_err_and}
 use Rattle.crx_filter.proofs.checking.CheckingDirection.go_on.Goals as goal
 
 pub returns-in_err-step-clause-reads : goal.returns-in_err-step-clause-reads

@@ -1,5 +1,4 @@
-use Rattle.crx_filter.proofs.following.CheckGoes.{check-goes}
-use Rattle.crx_filter.proofs.steps.CheckerSteps.{passes-nothing}
+use Rattle.crx_filter.proofs.{following.CheckGoes.check-goes, steps.CheckerSteps.passes-nothing}
 use Rattle.crx_filter.proofs.checking.CheckingDirection.stage.Goals as goal
 
 pub returns-clause-lawful : goal.returns-clause-lawful

@@ -1,10 +1,9 @@
-use Rattle.crx_filter.proofs.Words.{common_steps, arith, ap, ◌∙◌, is_at_every}
-use Rattle.crx_compact.specs.Encoding.{EncoderState}
-use Rattle.crx_filter.proofs.steps.CompactionSteps.{ended-read, moved-read, refused-read}
-use Rattle.crx_filter.proofs.steps.Together.{closed-together, due-there, row-asked, row-closed, row-ends}
-use Rattle.crx_filter.proofs.steps.Together.{row-moves, row-together, served-closed}
-use Rattle.crx_filter.proofs.steps.CompactionKnows.{compaction_of, knows-epoch, knows-moved}
-use Rattle.crx_filter.proofs.{Words.◌+◌, steps.EngineAnswers.as-read-within}
+use Rattle.crx_filter.proofs.Words.{common_steps, arith, ap, ◌∙◌, is_at_every, ◌+◌}
+use Rattle.{crx_compact.specs.Encoding.EncoderState, crx_filter.proofs.steps.CompactionKnows.compaction_of}
+use Rattle.crx_filter.proofs.steps.{CompactionKnows.{knows-epoch, knows-moved}, CompactionSteps.ended-read}
+use Rattle.crx_filter.proofs.steps.{CompactionSteps.{moved-read, refused-read}, Together.closed-together}
+use Rattle.crx_filter.proofs.steps.Together.{due-there, row-asked, row-closed, row-ends, row-moves}
+use Rattle.crx_filter.proofs.steps.Together.{row-together, served-closed}
 use Rattle.crx_lines.specs.Reading.{line_shown}
 use Rattle.crx_filter.proofs.compaction.CompactionDirection.go_on.Goals as goal
 
@@ -56,10 +55,9 @@ pub returns-then-not-is_last-clause-knows : goal.returns-then-not-is_last-clause
 returns-then-not-is_last-clause-knows c =
     let inside = c.self.inside in
     let row = c.in_ok-is_last.ensures.written in
-    let line = line_shown c.args.line in
-    let read = as-read-within line c.bytes.result.now c.args.line.short c.bytes.ensures.content in
     rw (← c.self.view_is) (λ choices lines given knew counted. knows-moved inside.index inside.reader
-    inside.encoder c.bytes.result.now line read choices lines given knew
+    inside.encoder c.bytes.result.now (line_shown c.args.line) c.args.line.short c.bytes.ensures.content
+    choices lines given knew
     (compaction_of inside.index c.take_row.new.reader c.take_row.new.encoder) c.take_row.new.reader
     (row-moves row _ c.if-not-is_last.true).0 row.kept)
 
@@ -67,10 +65,9 @@ pub returns-clause-knows : goal.returns-clause-knows
 returns-clause-knows c =
     let inside = c.self.inside in
     let row = c.in_ok-is_last.ensures.written in
-    let line = line_shown c.args.line in
-    let read = as-read-within line c.bytes.result.now c.args.line.short c.bytes.ensures.content in
     rw (← c.self.view_is) (λ choices lines given knew counted. knows-epoch inside.index inside.reader
-    inside.encoder c.bytes.result.now line read choices lines given knew
+    inside.encoder c.bytes.result.now (line_shown c.args.line) c.args.line.short c.bytes.ensures.content
+    choices lines given knew
     (compaction_of (inside.index + 1) c.take_row.new.reader c.end_epoch.new.encoder) c.take_row.new.reader
     c.take_row.new.encoder (row-ends row _ c.if-not-is_last.false)
     (ap (λ (e : EncoderState). e.rows) row.written) row.held row.kept c.end_epoch.ensures.memory)

@@ -1,14 +1,12 @@
-use Rattle.crx_filter.proofs.Words.{common_steps, None, arith, ap, sym, refl, ◌∙◌, is_open_stage}
-use Rattle.crx_filter.proofs.{Words.{Choices, is_at_every}, steps.CompactionSteps.{ended-read, event-closed}}
-use Rattle.crx_filter.proofs.steps.CompactionSteps.{event-read, header-read, moved-read, of-event}
-use Rattle.crx_filter.proofs.steps.{CompactionSteps.refused-read, Together.{begun-asked, begun-open}}
-use Rattle.crx_filter.proofs.steps.Together.{begun-rows, begun-together, begun-whole, closed-together}
-use Rattle.crx_filter.proofs.steps.Together.{none-there, same-together, served-closed, served-open}
-use Rattle.crx_compact.specs.Encoding.{EncoderState}
+use Rattle.crx_filter.proofs.Words.{common_steps, None, arith, ap, sym, refl, ◌∙◌, is_open_stage, Choices}
+use Rattle.{crx_filter.proofs.Words.{is_at_every, ◌+◌}, crx_compact.specs.Encoding.EncoderState}
 use Rattle.crx_filter.proofs.steps.CompactionKnows.{compaction_of, knows-epoch, knows-event, knows-header}
-use Rattle.crx_filter.proofs.steps.{CompactionKnows.knows-moved, EngineAnswers.as-read-within}
-use Rattle.crx_filter.proofs.{Words.◌+◌, steps.RoomsOfEpochs.{room-freed, room-stays}}
-use Rattle.crx_filter.proofs.steps.Together.{begun-holds, begun-kept}
+use Rattle.crx_filter.proofs.steps.{CompactionKnows.knows-moved, CompactionSteps.{ended-read, event-closed}}
+use Rattle.crx_filter.proofs.steps.CompactionSteps.{event-read, header-read, moved-read, of-event}
+use Rattle.crx_filter.proofs.steps.{CompactionSteps.refused-read, RoomsOfEpochs.{room-freed, room-stays}}
+use Rattle.crx_filter.proofs.steps.Together.{begun-asked, begun-open, begun-rows, begun-together, begun-whole}
+use Rattle.crx_filter.proofs.steps.Together.{closed-together, none-there, same-together, served-closed}
+use Rattle.crx_filter.proofs.steps.Together.{served-open, begun-holds, begun-kept}
 use Rattle.crx_lines.specs.Reading.{line_shown}
 use Rattle.crx_filter.proofs.compaction.CompactionDirection.take.Goals as goal
 
@@ -145,24 +143,22 @@ returns-in_default-clause-serves c =
 pub returns-in-Nothing-clause-knows : goal.returns-in-Nothing-clause-knows
 returns-in-Nothing-clause-knows c =
     let inside = c.self.inside in
-    let line = line_shown c.args.line in
-    let read = as-read-within line c.bytes.result.now c.args.line.short c.bytes.ensures.content in
     let takes = rw c.in-Nothing.is at (c.in_ok-take.ensures.takes
     (record { index = inside.index; tail = inside.encoder.before })) in
     rw (← c.self.view_is) (λ choices lines given knew counted. knows-moved inside.index inside.reader
-    inside.encoder c.bytes.result.now line read choices lines given knew
+    inside.encoder c.bytes.result.now (line_shown c.args.line) c.args.line.short c.bytes.ensures.content
+    choices lines given knew
     (compaction_of inside.index c.take.new.self inside.encoder) c.take.new.self takes.0
     (room-stays inside.encoder.room))
 
 pub returns-then-is_in_epoch-clause-knows : goal.returns-then-is_in_epoch-clause-knows
 returns-then-is_in_epoch-clause-knows c =
     let inside = c.self.inside in
-    let line = line_shown c.args.line in
-    let read = as-read-within line c.bytes.result.now c.args.line.short c.bytes.ensures.content in
     let takes = rw c.in-Begun.is at (c.in_ok-take.ensures.takes
     (record { index = inside.index; tail = inside.encoder.before })) in
     rw (← c.self.view_is) (λ choices lines given knew counted. knows-moved inside.index inside.reader
-    inside.encoder c.bytes.result.now line read choices lines given knew
+    inside.encoder c.bytes.result.now (line_shown c.args.line) c.args.line.short c.bytes.ensures.content
+    choices lines given knew
     (compaction_of inside.index c.take.new.self c.begin.new.self) c.take.new.self
     (begun-open _ _ _ _ takes (sym c.is_in_epoch.ensures.value ∙ c.if-is_in_epoch.true))
     (begun-kept inside.encoder takes c.begin.ensures.begun))
@@ -170,12 +166,11 @@ returns-then-is_in_epoch-clause-knows c =
 pub returns-else-is_in_epoch-clause-knows : goal.returns-else-is_in_epoch-clause-knows
 returns-else-is_in_epoch-clause-knows c =
     let inside = c.self.inside in
-    let line = line_shown c.args.line in
-    let read = as-read-within line c.bytes.result.now c.args.line.short c.bytes.ensures.content in
     let takes = rw c.in-Begun.is at (c.in_ok-take.ensures.takes
     (record { index = inside.index; tail = inside.encoder.before })) in
     rw (← c.self.view_is) (λ choices lines given knew counted. knows-epoch inside.index inside.reader
-    inside.encoder c.bytes.result.now line read choices lines given knew
+    inside.encoder c.bytes.result.now (line_shown c.args.line) c.args.line.short c.bytes.ensures.content
+    choices lines given knew
     (compaction_of (inside.index + 1) c.take.new.self c.end_epoch.new.encoder) c.take.new.self c.begin.new.self
     (begun-whole _ _ _ _ takes (sym c.is_in_epoch.ensures.value ∙ c.if-is_in_epoch.false))
     (begun-rows inside.encoder takes c.begin.ensures.begun) (begun-holds inside.encoder takes c.begin.ensures.begun)
@@ -184,36 +179,33 @@ returns-else-is_in_epoch-clause-knows c =
 pub returns-then-is_first-clause-knows : goal.returns-then-is_first-clause-knows
 returns-then-is_first-clause-knows c =
     let inside = c.self.inside in
-    let line = line_shown c.args.line in
-    let read = as-read-within line c.bytes.result.now c.args.line.short c.bytes.ensures.content in
     let takes = rw c.in-Header.is at (c.in_ok-take.ensures.takes
     (record { index = inside.index; tail = inside.encoder.before })) in
     rw (← c.self.view_is) (λ choices lines given knew counted. knows-header inside.index inside.reader
-    inside.encoder c.bytes.result.now line read choices lines given knew
+    inside.encoder c.bytes.result.now (line_shown c.args.line) c.args.line.short c.bytes.ensures.content
+    choices lines given knew
     (compaction_of inside.index c.take.new.self c.put_first_lines.new.self) c.take.new.self takes.0
     (rw (c.put_first_lines.ensures.put) (room-freed inside.encoder.room)))
 
 pub returns-else-is_first-clause-knows : goal.returns-else-is_first-clause-knows
 returns-else-is_first-clause-knows c =
     let inside = c.self.inside in
-    let line = line_shown c.args.line in
-    let read = as-read-within line c.bytes.result.now c.args.line.short c.bytes.ensures.content in
     let takes = rw c.in-Header.is at (c.in_ok-take.ensures.takes
     (record { index = inside.index; tail = inside.encoder.before })) in
     rw (← c.self.view_is) (λ choices lines given knew counted. knows-header inside.index inside.reader
-    inside.encoder c.bytes.result.now line read choices lines given knew
+    inside.encoder c.bytes.result.now (line_shown c.args.line) c.args.line.short c.bytes.ensures.content
+    choices lines given knew
     (compaction_of inside.index c.take.new.self c.reset.new.self) c.take.new.self takes.0
     (rw (c.reset.ensures.emptied) (room-freed inside.encoder.room)))
 
 pub returns-in_default-clause-knows : goal.returns-in_default-clause-knows
 returns-in_default-clause-knows c =
     let inside = c.self.inside in
-    let line = line_shown c.args.line in
-    let read = as-read-within line c.bytes.result.now c.args.line.short c.bytes.ensures.content in
     let done = of-event _ c.in_ok-take.ensures.steps c.in_default.not-Nothing c.in_default.not-Begun
     c.in_default.not-Header (c.in_ok-take.ensures.takes
     (record { index = inside.index; tail = inside.encoder.before })) in
     rw (← c.self.view_is) (λ choices lines given knew counted. knows-event inside.index inside.reader
-    inside.encoder c.bytes.result.now line read choices lines given knew
+    inside.encoder c.bytes.result.now (line_shown c.args.line) c.args.line.short c.bytes.ensures.content
+    choices lines given knew
     (compaction_of inside.index c.take.new.self c.reset-in_default.new.self) c.take.new.self done
     (rw (c.reset-in_default.ensures.emptied) (room-freed inside.encoder.room)))

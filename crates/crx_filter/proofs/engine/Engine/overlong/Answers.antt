@@ -1,11 +1,10 @@
 use Rattle.crx_filter.proofs.Words.{ap, ◌∙◌, sym, ◌+◌, ◌≡◌, true, inl, List, ℕ, Overlong, step_made}
-use Rattle.crx_filter.proofs.Words.{InputLine, is_long, Steps}
-use Rattle.crx_filter.proofs.steps.EngineAnswers.{answers-seen, engine-answers, as-read-long}
-use Rattle.crx_filter.proofs.steps.EngineFaults.{after-error, long-failed, not-settled, notes-refused}
+use Rattle.crx_filter.proofs.{Words.{InputLine, is_long, Steps}, steps.EngineAnswers.answers-seen}
+use Rattle.crx_filter.proofs.steps.{EngineAnswers.{engine-answers, as-read-long}, EngineFaults.after-error}
+use Rattle.crx_filter.proofs.steps.EngineFaults.{long-failed, not-settled, notes-refused}
 use Rattle.crx_filter.proofs.steps.{EngineLemmas.repeats, RoomSteps.not-lost}
-use Rattle.crx_filter.specs.DirectionParts.{EngineParts, state_by}
-use Rattle.crx_filter.specs.EngineState.{EngineGoes, EngineNotes, EngineSkips, RanOutBefore, engine_ready}
-use Rattle.crx_filter.specs.EngineState.{engine_state}
+use Rattle.crx_filter.specs.{DirectionParts.{EngineParts, state_by}, EngineState.{EngineGoes, EngineNotes}}
+use Rattle.crx_filter.specs.EngineState.{EngineSkips, RanOutBefore, engine_ready, engine_state}
 use Rattle.crx_filter.proofs.engine.Engine.overlong.Goals as goal
 
 pub returns-in_default : goal.returns-in_default

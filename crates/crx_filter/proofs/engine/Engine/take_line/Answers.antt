@@ -1,8 +1,7 @@
+use Rattle.crx_filter.proofs.{Words.begins_epoch, steps.EngineAnswers.as-read-within}
+use Rattle.crx_filter.proofs.steps.EngineFaults.{notes-refused, refused-line}
+use Rattle.{crx_filter.specs.declared.stage.Stage.TheVariants.Open, crx_lines.specs.Reading.line_shown}
 use Rattle.std.proofs.Common.{refl, sym, ap, ◌∙◌}
-use Rattle.crx_filter.specs.declared.stage.Stage.TheVariants.{Open}
-use Rattle.crx_filter.proofs.{Words.begins_epoch, steps.EngineFaults.{notes-refused, refused-line}}
-use Rattle.crx_filter.proofs.steps.EngineAnswers.{as-read-within}
-use Rattle.crx_lines.specs.Reading.{line_shown}
 use Rattle.crx_filter.proofs.engine.Engine.take_line.Goals as goal
 
 pub returns-in-Err-clause-reads : goal.returns-in-Err-clause-reads

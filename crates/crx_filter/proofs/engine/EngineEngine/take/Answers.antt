@@ -1,7 +1,6 @@
-use Rattle.crx_lines.specs.Reading.{line_shown}
 use Rattle.crx_filter.proofs.{Words.{Content, ap, refl}, steps.EngineAnswers.{engine-answers, as-read-within}}
 use Rattle.crx_filter.proofs.steps.StepCounts.{answers-counted, steps-counted, steps-drained}
-use Rattle.crx_filter.specs.EngineState.{engine_ready, engine_took}
+use Rattle.{crx_filter.specs.EngineState.{engine_ready, engine_took}, crx_lines.specs.Reading.line_shown}
 use Rattle.crx_runs.specs.Engines.{lines_handed_out}
 use Rattle.crx_filter.proofs.engine.EngineEngine.take.Goals as goal
 

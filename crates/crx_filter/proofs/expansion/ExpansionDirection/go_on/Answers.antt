@@ -1,6 +1,5 @@
-use Rattle.crx_filter.proofs.Words.{common_steps, arith, refl, length}
-use Rattle.crx_filter.proofs.steps.{EngineAnswers.as-read-within}
-use Rattle.crx_filter.proofs.steps.{RoomsOfLines.{known-if_taken, on-err, open-held}}
+use Rattle.crx_filter.proofs.{Words.{common_steps, arith, refl, length}, steps.EngineAnswers.as-read-within}
+use Rattle.crx_filter.proofs.steps.RoomsOfLines.{known-if_taken, on-err, open-held}
 use Rattle.crx_filter.specs.{CompactReaders.compact_reader_parts, ExpansionRooms.epochs_read}
 use Rattle.crx_lines.specs.Reading.{line_shown}
 use Rattle.crx_filter.proofs.expansion.ExpansionDirection.go_on.Goals as goal

@@ -1,17 +1,15 @@
 use Rattle.crx_filter.proofs.Words.{Option, OpenRawEpoch, Tail, ◌≡◌, ap, subst, sym, refl, length, inl, ℕ}
-use Rattle.crx_filter.proofs.Words.{List, ObservationEpoch}
-use Rattle.crx_filter.proofs.steps.{EngineAnswers.as-read-within, RoomsOfBlocks.block-taken}
-use Rattle.crx_filter.proofs.steps.RoomsOfLines.{beside-held, never-begins, next-known, on-err}
-use Rattle.crx_filter.specs.{CompactReaders.compact_reader_parts, ExpansionRooms.{AreHeldAmong, epochs_read}}
-use Rattle.crx_lines.specs.Reading.{line_shown}
-use Rattle.crx_filter.proofs.expansion.ExpansionDirection.take.Goals.{After-read_between}
-use Rattle.crx_filter.proofs.steps.RoomSteps.{begins-nowhere-else, idle-between, room-taken}
-use Rattle.std.proofs.lemmas.Result.{err_from_is_err_and}
-use Rattle.crx_compact.specs.OpenEpochs.{ColumnsState}
-use Rattle.crx_filter.specs.{CompactStages.open_in, DirectionParts.DirectionParts}
+use Rattle.{crx_filter.proofs.Words.{List, ObservationEpoch}, crx_compact.specs.OpenEpochs.ColumnsState}
 use Rattle.crx_compact.specs.{OpenEpochs.tail_held, ReadingRooms.HeldColumns}
-use Rattle.crx_filter.specs.Rooms.{HasRoomToBegin}
-use Rattle.crx_filter.proofs.expansion.ExpansionDirection.take.Goals.{in-Between, in_default}
+use Rattle.crx_filter.proofs.expansion.ExpansionDirection.take.Goals.{After-read_between, in-Between}
+use Rattle.crx_filter.proofs.expansion.ExpansionDirection.take.Goals.{in_default}
+use Rattle.crx_filter.proofs.steps.{EngineAnswers.as-read-within, RoomSteps.begins-nowhere-else}
+use Rattle.crx_filter.proofs.steps.{RoomSteps.{idle-between, room-taken}, RoomsOfBlocks.block-taken}
+use Rattle.crx_filter.proofs.steps.RoomsOfLines.{beside-held, never-begins, next-known, on-err}
+use Rattle.crx_filter.specs.{CompactReaders.compact_reader_parts, CompactStages.open_in}
+use Rattle.crx_filter.specs.{DirectionParts.DirectionParts, ExpansionRooms.{AreHeldAmong, epochs_read}}
+use Rattle.{crx_filter.specs.Rooms.HasRoomToBegin, crx_lines.specs.Reading.line_shown}
+use Rattle.std.proofs.lemmas.Result.{err_from_is_err_and}
 use Rattle.crx_filter.proofs.expansion.ExpansionDirection.take.Goals as goal
 
 pub returns-in_err-read_between-clause-known : goal.returns-in_err-read_between-clause-known

@@ -1,17 +1,12 @@
 use Rattle.crx_filter.proofs.Words.{Result, refl, sym, ap, ◌∙◌, ◌≡◌, List, ℕ, At, Content, Steps}
-use Rattle.crx_filter.proofs.steps.EngineAnswers.{answers-kept, engine-answers, as-read-within}
+use Rattle.{crx_base.specs.meaning.Lines.InputLine, crx_filter.proofs.lender.Lender.feed.Given.Over}
+use Rattle.crx_filter.proofs.{lender.Lender.feed.Goals.After-answer_given, steps.EngineAnswers.answers-kept}
+use Rattle.crx_filter.proofs.steps.EngineAnswers.{engine-answers, as-read-within}
 use Rattle.crx_filter.specs.{DirectionParts.EngineParts, EngineState.{EngineGoes, EngineNotes, EngineReads}}
-use Rattle.crx_filter.specs.EngineState.{RanOutBefore}
-use Rattle.crx_filter.specs.EngineState.{engine_ready, engine_state}
-use Rattle.crx_filter.specs.LenderState.{LenderParts, lender_ready}
-use Rattle.crx_filter.specs.declared.direction.Direction.{Ghosts}
-use Rattle.crx_runs.specs.{Engines.{answer_given, lines_handed_out}, declared.engine.HandedOut.HandedOut}
-use Rattle.crx_runs.specs.declared.engine.Step.{Step}
-use Rattle.crx_base.specs.meaning.Lines.{InputLine}
-use Rattle.crx_lines.specs.Reading.{line_shown}
-use Rattle.std.proofs.Common.{Option}
-use Rattle.crx_filter.proofs.lender.Lender.feed.Given.{Over}
-use Rattle.crx_filter.proofs.lender.Lender.feed.Goals.{After-answer_given}
+use Rattle.crx_filter.specs.{EngineState.{RanOutBefore, engine_ready, engine_state}, LenderState.LenderParts}
+use Rattle.crx_filter.specs.{LenderState.lender_ready, declared.direction.Direction.Ghosts}
+use Rattle.{crx_lines.specs.Reading.line_shown, crx_runs.specs.Engines.{answer_given, lines_handed_out}}
+use Rattle.{crx_runs.specs.declared.engine.{HandedOut.HandedOut, Step.Step}, std.proofs.Common.Option}
 use Rattle.crx_filter.proofs.lender.Lender.feed.Goals as goal
 
 -- What its engine read, what it answers, and what is pending then.

@@ -1,9 +1,8 @@
 use Rattle.crx_filter.proofs.Words.{common_steps, ◌≡◌, ◌+◌, ◌≤◌, ◌++◌, ◌∷◌, [], List, length, refl, arith}
 use Rattle.crx_filter.proofs.Words.{sym, ap, ◌∙◌, ObservationHead, Row, RinexReader}
-use Rattle.std.proofs.lemmas.List.{length_push}
 use Rattle.crx_base.specs.declared.limits.TheConstants.{SATELLITES_LIMIT}
-use Rattle.crx_rinex.specs.meaning.EpochLines.{IsObservationHead}
 use Rattle.crx_filter.proofs.RinexSteps.{IsInEpoch, in-its-epoch, last-row-taken, row-taken, stays-open}
+use Rattle.{crx_rinex.specs.meaning.EpochLines.IsObservationHead, std.proofs.lemmas.List.length_push}
 use Rattle.crx_filter.proofs.rinex_reader.RinexReader.take_row.Goals as goal
 
 few : (r : RinexReader) (head : ObservationHead) (row : Row) (rows : List Row) → IsInEpoch r head

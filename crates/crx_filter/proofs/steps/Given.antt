@@ -1,0 +1,50 @@
+-- A line that is given to a direction comes for the first time, or a second time after a warning: what is seen
+-- then.
+use Rattle.crx_filter.proofs
+use proofs.Words.{◌≡◌, ◌⊎◌, inl, inr, ap, sym, subst, ◌∙◌, true, List, [], ◌∷◌, map, length, Option, InputLine}
+use proofs.Words.{ReadLine, as_read, Choices, Item, Reading, types_in_force, RunState, Direction, phase_of}
+use proofs.Words.{phase_of_stage, refl}
+use Rattle.crx_filter.specs.{DirectionParts.{DirectionParts, ComesAfter, state_by}, EngineLines.HasTaken}
+use Rattle.crx_filter.specs.{Rooms.do_types_count, meaning.Memory.are_types_awaited}
+use Rattle.crx_runs.specs.Engines.{Awaited, IsAwaited}
+use proofs.steps.{EngineAnswers.{ComesAgain, comes-again}, Enough.{never-counted, types-awaited}}
+
+module _ {U O K : Type 0} (direction : Direction U O K) {chosen : Choices → Choices}
+    (state_after : Choices → List ReadLine → RunState O K) (choices : Choices) (lines : List InputLine)
+    (line : InputLine) (parts : DirectionParts O K)
+    (given : ComesAfter direction chosen state_after choices lines line parts) where
+  abbrev seen : RunState O K
+  seen = state_by choices (length lines) parts
+
+  abbrev before : RunState O K
+  before = state_after choices (map as_read lines)
+
+  pub given-either : (seen ≡ before) ⊎ ComesAgain direction before seen (as_read line)
+  given-either = by_notices given.notices given.has_taken given.awaited
+    where
+      by_notices : (notices : List Awaited) → HasTaken direction (state_after choices) seen lines notices
+          → IsAwaited notices line → (seen ≡ before) ⊎ ComesAgain direction before seen (as_read line)
+      by_notices [] taken awaited = inl taken
+      by_notices (a ∷ []) taken awaited = inr (subst (λ (l : InputLine). ComesAgain direction before seen
+          (as_read l)) awaited (comes-again direction before seen (as_read a.line) a.notice [] taken))
+      by_notices (a ∷ b ∷ others) taken awaited = absurd taken
+
+  -- the types in force are the same
+  pub types-there : parts.types ≡ before.types
+  types-there = elim given-either as (λ _. parts.types ≡ before.types) [
+    | inl same ↦ ap (λ (s : RunState O K). s.types) same
+    | inr again ↦ again.types
+  ]
+
+  -- where types lines count and there are none, the first one is awaited
+  pub counts-there : {E : Type 0} (open_with : List (Item E) → List ReadLine → Option O) (r : Reading E)
+      → before.types ≡ types_in_force r.items → (do_types_count parts.stage ≡ true
+      → phase_of_stage parts.begun parts.stage ≡ before.phase
+      → phase_of_stage parts.begun parts.stage ≡ phase_of open_with r)
+      → do_types_count parts.stage ≡ true → parts.types ≡ [] → are_types_awaited r.items ≡ true
+  counts-there open_with r types phase counts none =
+      elim given-either as (λ _. are_types_awaited r.items ≡ true) [
+        | inl same ↦ types-awaited open_with r parts.begun parts.stage (phase counts
+            (ap (λ (s : RunState O K). s.phase) same)) counts (sym types ∙ sym types-there ∙ none)
+        | inr again ↦ absurd (never-counted parts.begun parts.stage _ again.phase (inl refl) counts)
+      ]
