@@ -176,7 +176,7 @@ impl Lines {
             → bytes ≤ self.old.free_bytes + self.old.spare_bytes
             → self.old.claimed_bytes + bytes ≤ self.old.all_bytes + self.old.spare_bytes → IsOk result }
     {
-        // Mostly there is room: with a row, these tests take some 12 instructions.
+        // Mostly there is room. What is done else is apart: in one piece with it a row of four types took 15 instructions more.
         if bytes <= self.bytes.len() - self.filled
             && bytes <= self.bytes.capacity() - self.claimed
             && lines <= self.lengths.len() - self.count

@@ -1,7 +1,7 @@
 -- For how much there is room in an expansion, by the epochs that it has read: the memory of one serves the
 -- next.
 use Rattle.std.specs.Prelude.{◌≡◌, ◌≤◌, ◌<◌, ◌+◌, ◌*◌, ◌⊎◌, ⊤, true, List, All, length, map, Some, None}
-use Rattle.crx_base.specs.declared.limits.TheConstants.{CELL_WIDTH, HEAD_WIDTH, LINE_LIMIT, NAME_WIDTH}
+use Rattle.crx_base.specs.declared.limits.TheConstants.{HEAD_WIDTH, LINE_LIMIT, NAME_WIDTH}
 use Rattle.crx_base.specs.meaning.AsRead.{as_read}
 use Rattle.crx_base.specs.meaning.Choices.{Choices}
 use Rattle.crx_base.specs.meaning.Lines.{InputLine}
@@ -59,10 +59,10 @@ abbrev pub AreHeldAmong : List Epoch → HeldColumns → BlockRoom → Type 0
 AreHeldAmong epochs columns lines = AreHeldInColumns epochs columns lines ⊎ AreHeldInLines epochs columns lines
 
 -- the epochs of some lines
-abbrev pub epochs_read : Choices → List InputLine → List Epoch
-epochs_read choices lines = map (λ (read : ReadEpoch). read.epoch)
+abbrev pub epochs_of_lines : Choices → List InputLine → List Epoch
+epochs_of_lines choices lines = map (λ (read : ReadEpoch). read.epoch)
     (accepted_epochs (compact_reading choices.skip (map as_read lines)).items)
 
 -- there is room for each epoch of these lines
 abbrev pub HasRoomForLines : Expansion → Choices → List InputLine → Type 0
-HasRoomForLines e choices lines = AreHeldAmong (epochs_read choices lines) e.reader.columns e.lines.room
+HasRoomForLines e choices lines = AreHeldAmong (epochs_of_lines choices lines) e.reader.columns e.lines.room

@@ -20,7 +20,7 @@ use Rattle.{crx_compact.specs.ReadingRooms.ReadingRoom, crx_filter.specs.Compact
 use Rattle.crx_filter.specs.DirectionParts.{DirectionParts, ComesAfter, answer_for, brings_nothing, state_by}
 use Rattle.crx_filter.specs.{ExpansionParts.expansion_parts, ExpansionRooms.{AreHeldAmong, HasRoomAgain}}
 use Rattle.crx_filter.specs.ExpansionRooms.{HasRoomForEpochs, HasRoomForNewest, HasRoomForLines}
-use Rattle.crx_filter.specs.ExpansionRooms.{HasRoomForSatellites, epochs_read, AreHeldInColumns}
+use Rattle.crx_filter.specs.ExpansionRooms.{HasRoomForSatellites, epochs_of_lines, AreHeldInColumns}
 use Rattle.crx_filter.specs.{ExpansionRooms.AreHeldInLines, Rooms.{HasRoomInColumns, HasRoomInExpansion}}
 use Rattle.crx_filter.specs.Rooms.{HasRoomToBegin, may_begin, do_types_count}
 use Rattle.crx_filter.specs.declared.{expansion.Expansion.Expansion, stage.Stage.{Stage, TheVariants.Between}}
@@ -93,13 +93,13 @@ module _ (e : Expansion) (choices : Choices) (lines : List InputLine) (line : In
   abbrev found : List InputLine → List (List Satellite)
   found ls = satellites_expanded choices (map as_read ls)
 
-  found-read : (ls : List InputLine) → map satellites_had (epochs_read choices ls) ≡ found ls
+  found-read : (ls : List InputLine) → map satellites_had (epochs_of_lines choices ls) ≡ found ls
   found-read ls = map-map satellites_had (λ (read : ReadEpoch). read.epoch)
       (accepted_epochs (compact_reading choices.skip (map as_read ls)).items)
 
   pub knows-past : brings_nothing (state_next expansion now (as_read line)).answer (as_read line) ≡ true
       → HasRoomForLines e choices lines → HasRoomForLines e choices (with_next lines line)
-  knows-past passed held = held-again (epochs_read choices lines) (epochs_read choices (with_next lines line))
+  knows-past passed held = held-again (epochs_of_lines choices lines) (epochs_of_lines choices (with_next lines line))
       (found lines) e.reader.columns e.lines.room (found-read (with_next lines line) ∙ given-past expansion of_held
       expansion_state choices (satellites_expanded choices) (expansion-collects choices) lines line
       (expansion_parts e) given (λ types kept. refl) (λ so_far. refl) passed)
@@ -151,16 +151,16 @@ module _ (e : Expansion) (choices : Choices) (lines : List InputLine) (line : In
       let is = as-read-short line short in
       let tail = tail_held e.reader.columns.state in
       let types = types-there expansion expansion_state choices lines line (expansion_parts e) given in
-      let both = needed (are_types_awaited reading.items) (epochs_read choices lines)
+      let both = needed (are_types_awaited reading.items) (epochs_of_lines choices lines)
       (brought_after reading.items (Content line.content)) (rw is at none) in
       record {
         types = λ counts none. false-true (sym both.0 ∙ counts-there expansion expansion_state choices lines line
             (expansion_parts e) given compact_open reading refl (counted-here (map as_read lines) e.reader.stage _
             (first_lines (map as_read lines)) (phase_of compact_open reading)) counts none);
         epoch = λ may.
-            let begins = λ (room : ReadingRoom) (each : All (HasRoomAgain room) (epochs_read choices lines)).
+            let begins = λ (room : ReadingRoom) (each : All (HasRoomAgain room) (epochs_of_lines choices lines)).
             subst (λ (counts : List Count). HasRoomToBegin counts tail line.content room) (sym types)
-            (begins-within (types_in_force reading.items) _ tail line.content (epochs_read choices lines) room
+            (begins-within (types_in_force reading.items) _ tail line.content (epochs_of_lines choices lines) room
             (past-there is may) each both.1) in
             elim held as (λ _. HasRoomInColumns e.reader.types e.reader.columns line.content
             e.reader.columns.room.block ⊎ (HasNoMoreRoom e.reader.columns.room.block e.lines.room
@@ -181,14 +181,14 @@ module _ (e : Expansion) (choices : Choices) (lines : List InputLine) (line : In
         handed_out = ready;
         next = state_by choices (length lines + 1) after;
       } ≡ state_next expansion (state_by choices (length lines) parts) (Content text)
-      → after.kept ≡ tail_held columns.state → AreHeldAmong (epochs_read choices lines) columns block
-      → AreHeldAmong (epochs_read choices (with_next lines line)) columns block
+      → after.kept ≡ tail_held columns.state → AreHeldAmong (epochs_of_lines choices lines) columns block
+      → AreHeldAmong (epochs_of_lines choices (with_next lines line)) columns block
   next-known parts after text b ready columns block same is step kept held =
       let taken = step ∙ ap (λ (p : DirectionParts OpenRawEpoch (Option Tail)). state_next expansion
       (state_by choices (length lines) p) (Content text)) same ∙ ap (state_next expansion now) (sym is) in
       let once = sym (ap (λ (s : LineStep OpenRawEpoch (Option Tail)). is_again s.answer) taken)
       ∙ answered-once b in
-      held-again (epochs_read choices lines) (epochs_read choices (with_next lines line)) (add_made of_held
+      held-again (epochs_of_lines choices lines) (epochs_of_lines choices (with_next lines line)) (add_made of_held
       (found lines) (made_in expansion now.phase now.types now.kept (as_read line))) columns block
       (found-read (with_next lines line) ∙ given-epochs expansion of_held expansion_state choices
       (satellites_expanded choices) (expansion-collects choices) lines line (expansion_parts e) given once)
@@ -204,8 +204,8 @@ module _ (e : Expansion) (choices : Choices) (lines : List InputLine) (line : In
         handed_out = ready;
         next = state_by choices (length lines + 1) after;
       } ≡ state_next expansion now (Content text)) → after.kept ≡ tail_held columns.state
-      → AreHeldAmong (epochs_read choices lines) columns block
-      → IfOk result (λ b. AreHeldAmong (epochs_read choices (with_next lines line)) columns block)
+      → AreHeldAmong (epochs_of_lines choices lines) columns block
+      → IfOk result (λ b. AreHeldAmong (epochs_of_lines choices (with_next lines line)) columns block)
   known-if_taken after text (Ok b) ready columns block is step kept held =
       next-known (expansion_parts e) after text b ready columns block refl is step kept held
   known-if_taken after text (Err fault) ready columns block is step kept held = tt

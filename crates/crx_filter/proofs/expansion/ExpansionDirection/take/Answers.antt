@@ -7,7 +7,7 @@ use Rattle.crx_filter.proofs.steps.{EngineAnswers.as-read-within, RoomSteps.begi
 use Rattle.crx_filter.proofs.steps.{RoomSteps.{idle-between, room-taken}, RoomsOfBlocks.block-taken}
 use Rattle.crx_filter.proofs.steps.RoomsOfLines.{beside-held, never-begins, next-known, on-err}
 use Rattle.crx_filter.specs.{CompactReaders.compact_reader_parts, CompactStages.open_in}
-use Rattle.crx_filter.specs.{DirectionParts.DirectionParts, ExpansionRooms.{AreHeldAmong, epochs_read}}
+use Rattle.crx_filter.specs.{DirectionParts.DirectionParts, ExpansionRooms.{AreHeldAmong, epochs_of_lines}}
 use Rattle.{crx_filter.specs.Rooms.HasRoomToBegin, crx_lines.specs.Reading.line_shown}
 use Rattle.std.proofs.lemmas.Result.{err_from_is_err_and}
 use Rattle.crx_filter.proofs.expansion.ExpansionDirection.take.Goals as goal
@@ -72,7 +72,7 @@ parts-same c =
 
 pub returns-in_err-read_between-clause-stays : goal.returns-in_err-read_between-clause-stays
 returns-in_err-read_between-clause-stays c choices lines known = on-err c.from_residual.result (held-after
-    (goal.at.returns-in_err-read_between-clause-stays c).After-read_between (epochs_read choices lines) known)
+    (goal.at.returns-in_err-read_between-clause-stays c).After-read_between (epochs_of_lines choices lines) known)
 
 pub returns-then-branch-clause-knows : goal.returns-then-branch-clause-knows
 returns-then-branch-clause-knows c choices lines given known counted =
@@ -84,7 +84,7 @@ returns-then-branch-clause-knows c choices lines given known counted =
     (parts-same read)
     (as-read-within (line_shown c.args.line) c.bytes.result.now c.args.line.short c.bytes.ensures.content)
     (c.in_ok-read_between.ensures.reads.takes choices (length lines) tt) refl
-    (held-after read (epochs_read choices lines) known)
+    (held-after read (epochs_of_lines choices lines) known)
 
 pub returns-else-branch-clause-knows : goal.returns-else-branch-clause-knows
 returns-else-branch-clause-knows c choices lines given known counted =
@@ -96,4 +96,4 @@ returns-else-branch-clause-knows c choices lines given known counted =
     (parts-same read)
     (as-read-within (line_shown c.args.line) c.bytes.result.now c.args.line.short c.bytes.ensures.content)
     (c.in_ok-read_between.ensures.reads.takes choices (length lines) tt) refl
-    (held-after read (epochs_read choices lines) known)
+    (held-after read (epochs_of_lines choices lines) known)
