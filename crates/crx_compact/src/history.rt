@@ -153,7 +153,7 @@ impl History {
             .reserve_exact(length.saturating_sub(self.text.len()))?;
         let room = prepare_rows(&mut self.satellites, epoch)?;
         lines.reserve_front(FIRST_LINES)?;
-        lines.make_room(epoch.count(), room)?;
+        lines.make_room(epoch.count(), room, room)?;
         self.begin_rows(in_full);
         let mut index = 0;
         while let Some(row) = epoch.row(index) {
@@ -216,7 +216,8 @@ impl History {
         if !self.satellites.place_or_add(name, count)? {
             return Ok(false);
         }
-        lines.make_room(1, CELL_ROOM * count + 2 * TYPES_LIMIT + 1)?;
+        let room = CELL_ROOM * count + 2 * TYPES_LIMIT + 1;
+        lines.make_room(1, room, room)?;
         let last = self.satellites.placed() - 1;
         lines.put_row(&mut self.satellites, last, values, flags, scratch);
         Ok(true)
@@ -469,11 +470,8 @@ fn make_long(text: &mut Vec<u8>, count: usize, room: usize) -> Result<(), AllocE
     ensures capacity { vec_capacity text.old ≤ vec_capacity text.new }
     ensures held { vec_capacity text.new ≤ max (vec_capacity text.old) room }
 {
-    if text.capacity() < room {
-        lengthen(text, room, room, b' ')?;
-    }
-    if text.len() < count {
-        lengthen(text, count, count, b' ')?;
+    if text.len() < count || text.capacity() < room {
+        lengthen(text, count, room, room, b' ')?;
     }
     Ok(())
 }

@@ -136,7 +136,7 @@ impl Lines {
         self.reserved = 0;
         self.clear();
         let bytes = lines * (LINE_LIMIT + 1);
-        self.make_room(lines, bytes)?;
+        self.make_room(lines, bytes, bytes)?;
         self.filled = bytes;
         self.claimed = bytes;
         self.count = lines;
@@ -160,13 +160,19 @@ impl Lines {
     }
 
     /// Asks for room for so many lines more, and for so many bytes, in which each line has one more than its length. The lines stay. Memory is
-    /// held for these bytes beside those that rows claim.
+    /// held for so many bytes more than rows claim: for none, where no row will claim any.
     #[inline(always)]
-    pub(crate) fn make_room(&mut self, lines: usize, bytes: usize) -> Result<(), AllocError>
+    pub(crate) fn make_room(
+        &mut self,
+        lines: usize,
+        bytes: usize,
+        claims: usize,
+    ) -> Result<(), AllocError>
+        requires among { claims ≤ bytes }
         ensures grown { HasMoreRoom self.old self.new }
         ensures free_lines { OnOk result (lines ≤ self.new.free_lines) }
         ensures free_bytes { OnOk result (bytes ≤ self.new.free_bytes) }
-        ensures claimed { OnOk result (self.new.claimed_bytes + bytes ≤ self.new.all_bytes + self.new.spare_bytes) }
+        ensures claimed { OnOk result (self.new.claimed_bytes + claims ≤ self.new.all_bytes + self.new.spare_bytes) }
         ensures held { AreHeldFor lines bytes self.old self.new }
         // No more memory comes into use than that, and where there is room, none.
         ensures only_lines { self.new.free_lines ≤ max self.old.free_lines lines }
@@ -174,45 +180,40 @@ impl Lines {
         // It is refused only where less memory is held.
         ensures known { lines ≤ self.old.free_lines + self.old.spare_lines
             → bytes ≤ self.old.free_bytes + self.old.spare_bytes
-            → self.old.claimed_bytes + bytes ≤ self.old.all_bytes + self.old.spare_bytes → IsOk result }
+            → self.old.claimed_bytes + claims ≤ self.old.all_bytes + self.old.spare_bytes → IsOk result }
     {
         // Mostly there is room. What is done else is apart: in one piece with it a row of four types took 15 instructions more.
         if bytes <= self.bytes.len() - self.filled
-            && bytes <= self.bytes.capacity() - self.claimed
+            && claims <= self.bytes.capacity() - self.claimed
             && lines <= self.lengths.len() - self.count
         {
             return Ok(());
         }
-        self.enlarge(lines, bytes)
+        self.enlarge(lines, bytes, claims)
     }
 
     /// Asks for that room where there isn't enough.
     #[cold]
     #[inline(never)]
-    fn enlarge(&mut self, lines: usize, bytes: usize) -> Result<(), AllocError>
+    fn enlarge(&mut self, lines: usize, bytes: usize, claims: usize) -> Result<(), AllocError>
+        requires among { claims ≤ bytes }
         ensures grown { HasMoreRoom self.old self.new }
         ensures free_lines { OnOk result (lines ≤ self.new.free_lines) }
         ensures free_bytes { OnOk result (bytes ≤ self.new.free_bytes) }
-        ensures claimed { OnOk result (self.new.claimed_bytes + bytes ≤ self.new.all_bytes + self.new.spare_bytes) }
+        ensures claimed { OnOk result (self.new.claimed_bytes + claims ≤ self.new.all_bytes + self.new.spare_bytes) }
         ensures held { AreHeldFor lines bytes self.old self.new }
         ensures only_lines { self.new.free_lines ≤ max self.old.free_lines lines }
         ensures only_bytes { self.new.free_bytes ≤ max self.old.free_bytes bytes }
         ensures known { lines ≤ self.old.free_lines + self.old.spare_lines
             → bytes ≤ self.old.free_bytes + self.old.spare_bytes
-            → self.old.claimed_bytes + bytes ≤ self.old.all_bytes + self.old.spare_bytes → IsOk result }
+            → self.old.claimed_bytes + claims ≤ self.old.all_bytes + self.old.spare_bytes → IsOk result }
     {
         let filled = self.filled.saturating_add(bytes);
-        let claimed = self.claimed.saturating_add(bytes);
+        let held = filled.max(self.claimed.saturating_add(claims));
         let count = self.count.saturating_add(lines);
         let front = self.reserved * (LINE_LIMIT + 1);
-        hold(&mut self.bytes, claimed, front)?;
-        if filled > self.bytes.len() {
-            lengthen(&mut self.bytes, filled, front, b'\n')?;
-        }
-        if count > self.lengths.len() {
-            lengthen(&mut self.lengths, count, self.reserved, 0)?;
-        }
-        Ok(())
+        lengthen(&mut self.bytes, filled, held, front, b'\n')?;
+        lengthen(&mut self.lengths, count, count, self.reserved, 0)
     }
 
     /// Puts a line in front of the others.
@@ -343,45 +344,36 @@ impl Lines {
     }
 }
 
-/// Has a list hold memory for so many items. Where it holds less, the memory is doubled, but that of so many items in front, or made as large
-/// as these items need, where that is more.
-fn hold<T: Copy>(items: &mut Vec<T>, count: usize, front: usize) -> Result<(), AllocError>
-    requires front { front ≤ count }
-    ensures kept { items.new.items ≡ items.old.items }
-    ensures enough { OnOk result (count ≤ vec_capacity items.new) }
-    ensures asked { count ≤ vec_capacity items.old → IsOk result }
-    ensures capacity { vec_capacity items.old ≤ vec_capacity items.new }
-    ensures held { vec_capacity items.new ≤ max (vec_capacity items.old) (2 * count - front) }
-{
-    let capacity = items.capacity();
-    if capacity < count {
-        let most = capacity.saturating_add(capacity.saturating_sub(front));
-        items.reserve_exact(most.max(count) - items.len())?;
-    }
-    Ok(())
-}
-
-/// Makes a list longer by items that are all the same, for which it comes to hold memory as [`hold`] says.
+/// Has a list hold memory for so many items, and makes it at least so long, by items that are all the same. Where it holds less, the memory is
+/// doubled, but that of so many items in front, or made as large as these items need, where that is more.
 #[cold]
 #[inline(never)]
 pub(crate) fn lengthen<T: Copy>(
     items: &mut Vec<T>,
     count: usize,
+    held: usize,
     front: usize,
     item: T,
 ) -> Result<(), AllocError>
-    requires longer { length items.old.items ≤ count }
-    requires front { front ≤ count }
-    ensures counted { OnOk result (length items.new.items ≡ count) }
+    requires fits { count ≤ held }
+    requires front { front ≤ held }
+    ensures counted { OnOk result (length items.new.items ≡ max (length items.old.items) count) }
     ensures kept { (n : ℕ) → n ≤ length items.old.items → take n items.new.items ≡ take n items.old.items }
     ensures err { OnErr result (items.new.items ≡ items.old.items) }
-    ensures asked { count ≤ vec_capacity items.old → IsOk result }
+    ensures enough { OnOk result (held ≤ vec_capacity items.new) }
+    ensures asked { held ≤ vec_capacity items.old → IsOk result }
     ensures capacity { vec_capacity items.old ≤ vec_capacity items.new }
-    ensures held { vec_capacity items.new ≤ max (vec_capacity items.old) (2 * count - front) }
+    ensures held { vec_capacity items.new ≤ max (vec_capacity items.old) (2 * held - front) }
 {
-    hold(items, count, front)?;
-    let alloc = *items.allocator();
-    *items = filled(mem::replace(items, Vec::new(alloc)), count, item);
+    let capacity = items.capacity();
+    if capacity < held {
+        let most = capacity.saturating_add(capacity.saturating_sub(front));
+        items.reserve_exact(most.max(held) - items.len())?;
+    }
+    if items.len() < count {
+        let alloc = *items.allocator();
+        *items = filled(mem::replace(items, Vec::new(alloc)), count, item);
+    }
     Ok(())
 }
 

@@ -58,8 +58,7 @@ impl PrintedBlock {
         self.lines.clear();
         self.has_head = false;
         self.rows = 0;
-        self.lines
-            .make_room(history.count() + 1, history.satellites().printed_room())
+        self.lines.make_room(history.count() + 1, history.satellites().printed_room(), 0)
     }
 
     /// Prints the first line, and those of the first so many rows, where they aren't there yet.
