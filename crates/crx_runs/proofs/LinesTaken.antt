@@ -54,9 +54,6 @@ either-out : (filter : Filter) (lines : List InputLine) (line : InputLine) (noti
     line ≡ Some notices)) ⊎ EndsWith (filter.so_far lines) (filter.so_far (with_next lines line)) notices at
 either-out = grind arith
 
-on-ok : {A E : Type 0} {X : Type 0} (result : Result A E) → X → OnOk result X
-on-ok = grind arith
-
 -- lines that were ready were written in part
 pub ready-cut : (writer messages : Device) (ready : List (List ℕ)) → TookPart writer (lines_text ready)
     → TookAll messages [] → IsSettled writer messages (made_by ready Ready) (Err Unwritten)

@@ -1,13 +1,12 @@
 -- What a reader of lines answers, by the lines that were read before.
-use Rattle.std.proofs.lemmas.Grind.{common_steps}
-use Rattle.std.proofs.Common.{◌≡◌, ◌⊎◌, ⊎_elim, ℕ, ◌+◌, ◌<◌, ◌≤◌, Bool, true, List, ◌++◌, length}
-use Rattle.std.proofs.Common.{Option, Some, None, Result, Ok, Err, arith, length-append}
+use Rattle.std.proofs.Common.{◌≡◌, ◌⊎◌, ⊎_elim, ℕ, ◌+◌, true, List, ◌++◌, length, Option, Some, None}
+use Rattle.std.proofs.Common.{Result, Ok, Err, arith}
 use Rattle.crx_lines.{proofs.ProgressLemmas.HasRead-next, specs.Progress.{AtAnswer, HasRead}}
-use Rattle.crx_lines.specs.Reading.{ReaderState, ReaderAnswers, AnswersFault, TakesPiece, line_shown}
+use Rattle.crx_lines.specs.Reading.{ReaderState, ReaderAnswers, AnswersFault, line_shown}
 use Rattle.crx_lines.specs.{Reading.line_number, declared.line.Line.Line, declared.phase.Phase.Phase}
 use Rattle.crx_lines.specs.{declared.phase.Phase.TheVariants.{Open, Ended, Stopped}, meaning.Devices.Tally}
 use Rattle.crx_base.specs.declared.fault.{At.At, Fault.TheVariants.LineTooLong}
-use Rattle.crx_base.specs.{declared.limits.TheConstants.INPUT_LIMIT, meaning.Lines.{InputLine, is_long}}
+use Rattle.crx_base.specs.meaning.Lines.{InputLine, is_long}
 use Rattle.crx_runs.specs.meaning.Filters.{with_next}
 
 -- a line was read: these lines and it
@@ -26,11 +25,6 @@ err-not-none at e = cc
 pub ended-not-open : ◌≡◌ {A = Phase} Ended Open → ⊥
 ended-not-open e = cc
 
-passed-more : (old new : ReaderState) (given : List ℕ) (at_end : Type 0) (bytes : List ℕ) (is_ended : Bool)
-    → TakesPiece old given at_end (record { bytes = bytes; is_ended = is_ended }) new
-    → old.passed < new.passed
-passed-more = grind (arith, common_steps, length-append)
-
 -- what a reader that isn't stopped answers
 pub record HasAsked (step : List ℕ → Type 0) (at_end : Type 0) (counted counted' : Tally)
     (old new : ReaderState) (r : Result (Option Line) At) : Type 0 where
@@ -45,19 +39,6 @@ module _ {step : List ℕ → Type 0} {at_end' : Type 0} {counted counted' : Tal
   answers : (x : Result (Option Line) At) → r ≡ x → (x ≡ Ok None → ⊥) → (old.phase ≡ Open) × ((more : List ℕ)
       × step more × ReaderAnswers old more at_end' counted counted' x new)
   answers = grind arith
-
-  overlong : (at : At) → r ≡ Err at → at.fault ≡ LineTooLong
-      → (more : List ℕ) × AnswersFault old more at_end' counted counted' at LineTooLong new
-  overlong = grind arith
-
-  -- a line takes some bytes of the input
-  pub line-passed : (line : Line) → r ≡ Ok (Some line) → (old.passed < new.passed)
-      × (new.passed ≤ INPUT_LIMIT)
-  line-passed = grind (arith, common_steps, answers, some-not-none, passed-more)
-
-  pub overlong-passed : (at : At) → r ≡ Err at → at.fault ≡ LineTooLong → (old.passed < new.passed)
-      × (new.passed ≤ INPUT_LIMIT)
-  overlong-passed = grind (arith, common_steps, overlong, passed-more)
 
   module _ {gave gives : List ℕ → Type 0} {at_end : Type 0} {start : Tally} {lines : List InputLine}
       (goes : (given more : List ℕ) → gave given → step more → gives (given ++ more))

@@ -5,12 +5,12 @@ ghost use Rattle.crx_lines.specs.meaning.Devices.{one_more};
 ghost use Rattle.crx_runs.specs.Endings.{Finishes, IsReported};
 ghost use Rattle.crx_runs.specs.meaning.Spans.{span};
 
-use crate::message::{Severity, write_message};
+use crate::message::{Severity, message};
 use crate::one_line::Halt;
 use crate::outcome::Outcome;
 use crate::work::Work;
 use crx_base::{At, Fault};
-use crx_lines::Sink;
+use crx_lines::{Sink, write_all_counted};
 
 /// Reports a fault; a failure ends the message where it comes. Only a writer that failed isn't flushed before: it is there for the contract
 /// alone, so that no message comes before the flush.
@@ -26,7 +26,7 @@ fn report<W: Sink, M: Sink>(_writer: &W, messages: &mut M, at: At) -> Outcome
         status: 1,
         fault: Some(at),
     };
-    match write_message(messages, Severity::Error, at) {
+    match write_all_counted(messages, message(Severity::Error, at).bytes()) {
         Ok(()) => outcome,
         Err(_) => outcome,
     }

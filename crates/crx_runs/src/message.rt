@@ -1,18 +1,16 @@
 //! Messages about faults.
 
-ghost use Rattle.std.specs.Prelude.{◌≡◌, ◌<◌, ◌≤◌, ◌+◌, ◌++◌, drop, length, take, IfErr, OnErr, OnOk};
-ghost use Rattle.crx_lines.specs.meaning.Devices.{one_more};
+ghost use Rattle.std.specs.Prelude.{◌≡◌, ◌≤◌, ◌+◌, ◌++◌, drop, length};
 ghost use Rattle.crx_runs.specs.meaning.Messages.{message_text};
 ghost use Rattle.crx_runs.specs.Severities.{word_of};
 ghost use Rattle.crx_runs.specs.declared.message.TheConstants.{MESSAGE_LIMIT};
 
 use crx_base::At;
-use crx_lines::{Sink, WriteFailed, write_all_counted};
 use itoa::write_digits;
 use std::marker::Model;
 
 /// How many bytes a message has at most.
-const MESSAGE_LIMIT: usize = 80;
+pub(crate) const MESSAGE_LIMIT: usize = 80;
 
 /// How grave a fault is.
 #[derive(Clone, Copy, Debug, PartialEq, Eq)]
@@ -65,7 +63,7 @@ fn put_before(text: &[u8], bytes: &mut [u8; MESSAGE_LIMIT], end: usize) -> usize
 /// Writes the line of a fault into a place, so that it ends where the place ends, and returns where it starts. It is written from its end
 /// to its front: so a number's digits are written where they stay.
 #[inline(always)]
-fn put_message(severity: Severity, at: At, bytes: &mut [u8; MESSAGE_LIMIT]) -> usize
+pub(crate) fn put_message(severity: Severity, at: At, bytes: &mut [u8; MESSAGE_LIMIT]) -> usize
     ensures within { result ≤ MESSAGE_LIMIT }
     ensures written { drop result bytes.new ≡ message_text (word_of severity) at }
 {
@@ -90,23 +88,4 @@ pub fn message(severity: Severity, at: At) -> MessageLine
     let mut bytes = [0; MESSAGE_LIMIT];
     let start = put_message(severity, at, &mut bytes);
     MessageLine { bytes, start }
-}
-
-/// Writes the line of a fault, as [`write_all_counted`] does, out of the place where it was made.
-#[inline(always)]
-pub(crate) fn write_message<M: Sink>(
-    messages: &mut M,
-    severity: Severity,
-    at: At,
-) -> Result<(), (usize, WriteFailed)>
-    ensures all { OnOk result (M.took messages.old (message_text (word_of severity) at) messages.new) }
-    ensures good { OnOk result (M.failures messages.new ≡ M.failures messages.old) }
-    ensures short { IfErr result (λ e. e.0 < length (message_text (word_of severity) at)) }
-    ensures part { IfErr result (λ e. M.took messages.old (take e.0 (message_text (word_of severity) at)) messages.new) }
-    ensures counted { OnErr result (M.failures messages.new ≡ one_more (M.failures messages.old)) }
-    ensures unasked { M.flushes messages.new ≡ M.flushes messages.old }
-{
-    let mut bytes = [0; MESSAGE_LIMIT];
-    let start = put_message(severity, at, &mut bytes);
-    write_all_counted(messages, &bytes[start..])
 }

@@ -12,10 +12,10 @@ ghost use Rattle.crx_runs.specs.Taking.{AnswerIsDone, HasAnswered, HoldsAnswer, 
 ghost use Rattle.crx_runs.specs.meaning.Spans.{span};
 
 use crate::engine::{Engine, HandedOut, Step};
-use crate::message::{Severity, write_message};
+use crate::message::{MESSAGE_LIMIT, Severity, put_message};
 use crate::ready_lines::{write_handed_out, write_ready};
 use crx_base::At;
-use crx_lines::{Line, Sink};
+use crx_lines::{Line, Sink, write_all_counted};
 
 /// What ended a run.
 #[derive(Clone, Copy, Debug, PartialEq, Eq)]
@@ -51,7 +51,9 @@ fn warn<W: Sink, M: Sink>(_writer: &W, messages: &mut M, notice: At) -> Result<b
     ensures { IsSettled (span W.Sink _writer.now _writer.now) (span M.Sink messages.old messages.new)
         (record { output = []; warnings = notice ∷ []; fault = None }) result }
 {
-    match write_message(messages, Severity::Warning, notice) {
+    let mut bytes = [0; MESSAGE_LIMIT];
+    let start = put_message(Severity::Warning, notice, &mut bytes);
+    match write_all_counted(messages, &bytes[start..]) {
         Ok(()) => Ok(true),
         Err(_) => Err(Halt::Unreported),
     }

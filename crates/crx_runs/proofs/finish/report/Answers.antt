@@ -1,4 +1,4 @@
-use Rattle.std.proofs.Common.{arith, inr, ◌∙◌}
+use Rattle.std.proofs.Common.{arith, inr}
 use Rattle.crx_runs.proofs.finish.report.Goals as goal
 
 pub returns-in-Err-clause-reported : goal.returns-in-Err-clause-reported
