@@ -2,16 +2,16 @@
 use Rattle.std.proofs.Common.{rules, eqb, ltb, ◌||◌, ◌≡◌, ◌≢◌, ℕ, ◌+◌, ◌-◌, ◌<◌, ◌≤◌, Bool, true, false, not}
 use Rattle.std.proofs.Common.{◌&&◌, cond, List, [], ◌∷◌, ◌++◌, ◌⊎◌, length, take, drop, slice_index, IsTrue}
 use Rattle.std.proofs.Common.{MatchBool, sym, ap, ◌∙◌, subst, arith, ⊎_elim, append-nil, append_assoc}
-use Rattle.std.proofs.Common.{length-append, length-take, length-drop, take-append-drop, Option, Some, Ok}
-use Rattle.std.proofs.lemmas.{Bool.{true≢false, lt-ltb, Decides.nat_tests}, Grind.common_steps}
-use Rattle.std.proofs.lemmas.List.{drop_more, get_or-take, take_all, drop_all, take_at, nil_from_length}
+use Rattle.std.proofs.Common.{length-append, length-take, length-drop}
+use Rattle.std.proofs.lemmas.{Bool.{lt-ltb, Decides.nat_tests}, Grind.common_steps}
+use Rattle.std.proofs.lemmas.List.{get_or-take, take_at, nil_from_length}
 use Rattle.std.proofs.lemmas.List.Elements.{All-from_get_or}
 use mir.Val.{bool_byte}
-use Rattle.crx_lines.specs.{Readers.part_shown, Reading.{HasNoFeed, ReaderState, BeginsWith, TakesPiece}}
-use Rattle.crx_lines.specs.Reading.{Stops, AnswersFault, AnswersAs, ReaderAnswers, line_shown, line_number}
+use Rattle.crx_lines.specs.{Reading.{HasNoFeed, ReaderState, BeginsWith, TakesPiece}}
+use Rattle.crx_lines.specs.Reading.{Stops, AnswersFault}
 use Rattle.crx_lines.{specs.Seeking.Seeking, proofs.SeekLemmas.{Seeking-sum, Seeking-none}}
 use Rattle.crx_lines.{proofs.ReturnLemmas.length-without_return, specs.meaning.Devices.{Tally, with_failure}}
-use Rattle.crx_lines.specs.declared.{line.{Line.Line, Part.Part}, phase.Phase.TheVariants.{Open, Ended}}
+use Rattle.crx_lines.specs.declared.{phase.Phase.TheVariants.{Open, Ended}}
 use Rattle.crx_base.specs.declared.fault.{At.At, Fault.{Fault, TheVariants.{InputTooLong, ReadFailed}}}
 use Rattle.crx_base.specs.{declared.limits.TheConstants.{LINE_LIMIT, INPUT_LIMIT}, meaning.Lines.Piece}
 use Rattle.crx_base.specs.meaning.Lines.{InputLine, line_of, is_long, without_return, ends_with_return}
@@ -38,10 +38,7 @@ module _ (gave : List ℕ → Type 0) (old held : List ℕ)
   pub begins : (is_ended : Bool) → EndIs held len is_ended at_end → (0 < passed + len) ⊎ (is_ended ≡ true)
       → BeginsWith (old ++ s.given) at_end (piece_at s.front held len is_ended)
       (drop (len + cond is_ended 1 0) held)
-  begins true end some =
-      grind (arith, common_steps, take-append-drop, drop_more, append_assoc, searched-no_feed)
-  begins false end some =
-      grind (arith, common_steps, take_all, ⊎_elim, true≢false, drop_all, length-append, searched-no_feed)
+  begins is_ended end some = grind (arith, common_steps, searched-no_feed)
 
   -- how many of the bytes that are held are the line's, with its LF
   ends-within : (is_ended : Bool) → EndIs held len is_ended at_end → len + cond is_ended 1 0 ≤ length held
@@ -142,15 +139,6 @@ pub shown-line : (front part content : List ℕ) (is_ended has_return is_plain :
     (is_ended && not has_return) → ◌≡◌ {A = InputLine} (record { content = content; is_plain = is_plain })
     (line_of (record { bytes = front ++ part; is_ended = is_ended }))
 shown-line front part content is_ended has_return is_plain same is returns plain = cc
-
--- a line that is borrowed is answered as its place in the window was
-pub answers-line : (gave : List ℕ → Type 0) (at_end : Type 0) (bytes : List ℕ) (o : Option Part) (p : Part)
-    (l : Line) (old new : ReaderState) (before after : Tally)
-    → o ≡ Some p → line_shown l ≡ part_shown bytes p → line_number l ≡ new.number
-    → (given : List ℕ) × gave given × AnswersAs (part_shown bytes) (λ _. new.number) old given at_end before
-    after (Ok o) new
-    → (given : List ℕ) × gave given × ReaderAnswers old given at_end before after (Ok (Some l)) new
-answers-line gave at_end bytes o p l old new before after is shown number found = grind arith
 
 -- ---- what the tests of a line that was read say
 

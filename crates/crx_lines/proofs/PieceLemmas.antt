@@ -1,4 +1,5 @@
 -- The pieces of an input, from its front.
+use Rattle.std.proofs.lemmas.Grind.{common_steps}
 use Rattle.std.proofs.Common.{◌≡◌, ◌≢◌, ℕ, ◌<◌, Bool, true, false, cond, eqb, ◌⊎◌, inl, inr, List, [], ◌∷◌}
 use Rattle.std.proofs.{Common.{◌++◌, length, refl, sym, ap, subst, arith}, lemmas.Bool.ne_eqb}
 use Rattle.std.proofs.lemmas.{Bool.Decides.eqb_tells, List.Elements.{All-head, All-tail, All-cons}}
@@ -19,16 +20,14 @@ pieces-first (b ∷ bs) rest none =
 -- an input that no LF ends is one piece
 pub pieces-last : (piece : List ℕ) → HasNoFeed piece → 0 < length piece
     → pieces_of piece ≡ record { bytes = piece; is_ended = false } ∷ []
-pieces-last [] none some = absurd (omega (arith, some))
-pieces-last (b ∷ []) none some = rw (ne_eqb b 10 (All-head NoFeed b [] none)) refl
 pieces-last (b ∷ c ∷ cs) none some =
     let test = ne_eqb b 10 (All-head NoFeed b (c ∷ cs) none) in
     rw test (ap (onto_first b) (pieces-last _ (All-tail NoFeed b (c ∷ cs) none) (omega arith)))
+pieces-last piece none some = grind (arith, common_steps, All-head)
 
 -- without an LF no piece is ended
 pub ended-none : (bytes : List ℕ) → HasNoFeed bytes → ended_pieces (pieces_of bytes) ≡ []
-ended-none [] none = refl
-ended-none (b ∷ bs) none = rw (pieces-last (b ∷ bs) none (omega arith)) refl
+ended-none bytes none = grind (arith, common_steps, pieces-last)
 
 -- each piece is ended
 abbrev pub EachEnded : List Piece → Type 0

@@ -4,7 +4,7 @@ use Rattle.std.proofs.{lemmas.List.take_all, Common.{rules, ◌≡◌, ◌⊎◌
 use Rattle.std.proofs.Common.{false, Option, Some, None, Result, Ok, Err, List, [], ◌∷◌, ◌++◌, length, take}
 use Rattle.std.proofs.Common.{map, refl, sym, ap, ◌∙◌, subst, arith, append-nil, append_assoc, length-append}
 use Rattle.crx_lines.specs.{Devices.{with_end, tally_after_line}, Reading.{HasNoFeed, ReaderState}}
-use Rattle.crx_lines.specs.Reading.{TakesPiece, ReaderAnswers, AnswersFault, line_shown, line_number}
+use Rattle.crx_lines.specs.Reading.{TakesPiece, ReaderAnswers, AnswersFault}
 use Rattle.crx_lines.specs.Progress.{IsOpen, IsOver, IsStopped, StandsAt, HasRead, IsOneMore, AtFault}
 use Rattle.crx_lines.{specs.Progress.AtAnswer, proofs.PieceLemmas.{pieces-first, pieces-last, pieces-split}}
 use Rattle.crx_lines.{proofs.PieceLemmas.ended-none, specs.meaning.Devices.{one_more, Tally, with_failure}}
@@ -143,11 +143,7 @@ module _ (gave gives step : List ℕ → Type 0)
       → AnswersFault old more at_end' counted counted' at f new
       → (then : List InputLine) × AtFault f at old new lines then × HasRead gives at_end' start counted' new
       then
-  at-fault LineTooLong at is e more lead a = (
-    lines ++ line_of a.0 ∷ [],
-    (line_of a.0, a.2, one-more more a.0 (line_of a.0) at.line a.1 refl a.3),
-    read-line e more lead a.0 a.1 a.4,
-  )
+  at-fault LineTooLong at is e more lead a = grind (arith, common_steps, one-more, read-line)
   at-fault InputTooLong at is e more lead a =
       let stopped = over-stops at_end' start counted counted' h.given more old new lines
       (is-open e) a.0 a.1 a.3 in (
@@ -171,8 +167,7 @@ module _ (gave gives step : List ℕ → Type 0)
       → step more → (r : Result (Option Line) At) → ReaderAnswers old more at_end' counted counted' r new
       → (then : List InputLine) × AtAnswer r old new lines then
       × HasRead gives at_end' start counted' new then
-  HasRead-next e more lead (Ok (Some line)) a =
-      grind (arith, common_steps, line_of, one-more, line_shown, line, line_number, read-line)
+  HasRead-next e more lead (Ok (Some line)) a = grind (arith, common_steps, one-more, read-line)
   HasRead-next e more lead (Ok None) a =
       let phase = ap (λ (r : ReaderState). r.phase) a.2 in (
         lines,

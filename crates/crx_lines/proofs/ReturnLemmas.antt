@@ -1,33 +1,28 @@
 -- A CR at the end of a text.
 use Rattle.std.proofs.Common.{rules, ◌≡◌, ◌≢◌, ◌==◌, ℕ, ◌+◌, ◌-◌, ◌≤◌, ◌<◌, true, false, List, [], ◌∷◌, ◌++◌}
-use Rattle.std.proofs.Common.{length, take, drop, get_or, slice_range, refl, sym, ap, ◌∙◌, arith, eq-eqb}
-use Rattle.std.proofs.{Common.{length-take, length-drop}, lemmas.{Bool.ne_eqb, Grind.common_steps}}
+use Rattle.std.proofs.Common.{length, take, drop, get_or, slice_range, sym, ap, ◌∙◌, arith, eq-eqb}
+use Rattle.std.proofs.{Common.{length-take, length-drop}, lemmas.{Grind.common_steps}}
 use Rattle.std.proofs.lemmas.List.{take-take, take_more, get_or-take, get_or-drop}
 use Rattle.crx_base.specs.meaning.Lines.{without_return, ends_with_return}
 
 pub without_return-cr : (xs : List ℕ) (x : ℕ) → (x == 13) ≡ true → without_return (xs ++ x ∷ []) ≡ xs
-without_return-cr [] x e = rw e refl
-without_return-cr (y ∷ []) x e = rw e refl
 without_return-cr (y ∷ z ∷ zs) x e = ap (λ l. y ∷ l) (without_return-cr _ x e)
+without_return-cr xs x e = grind (arith, common_steps)
 
 pub without_return-other : (xs : List ℕ) (x : ℕ) → (x == 13) ≡ false
     → without_return (xs ++ x ∷ []) ≡ xs ++ x ∷ []
-without_return-other [] x e = rw e refl
-without_return-other (y ∷ []) x e = rw e refl
 without_return-other (y ∷ z ∷ zs) x e = ap (λ l. y ∷ l) (without_return-other (z ∷ zs) x e)
+without_return-other xs x e = grind (arith, common_steps)
 
 pub ends_with_return-push : (xs : List ℕ) (x : ℕ) → ends_with_return (xs ++ x ∷ []) ≡ (x == 13)
-ends_with_return-push [] x = refl
-ends_with_return-push (y ∷ []) x = refl
 ends_with_return-push (y ∷ z ∷ zs) x = ends_with_return-push (z ∷ zs) x
+ends_with_return-push xs x = grind (arith, common_steps)
 
 -- at most one byte is taken off
 pub length-without_return : (xs : List ℕ)
     → (length (without_return xs) ≤ length xs) × (length xs ≤ length (without_return xs) + 1)
-length-without_return [] = (omega arith, omega arith)
-length-without_return (x ∷ []) = grind arith
-length-without_return (x ∷ y ∷ ys) =
-    let rest = length-without_return (y ∷ ys) in (omega (arith, rest.0), omega (arith, rest.1))
+length-without_return (x ∷ y ∷ ys) = grind (arith, common_steps, length-without_return (y ∷ ys))
+length-without_return xs = grind (arith, common_steps)
 
 -- the first bytes of a part
 pub part-front : (xs : List ℕ) (start end n : ℕ)
@@ -66,7 +61,7 @@ pub content-other : (xs : List ℕ) (start end n : ℕ)
     → (slice_range xs start (start + n) ≡ without_return (take n (slice_range xs start end)))
     × (false ≡ ends_with_return (take n (slice_range xs start end)))
 content-other xs start end n some inside within other =
-    search (rules, slice_range, ne_eqb, part-front, part-last, without_return-other, ends_with_return-push)
+    grind (arith, common_steps, part-last, without_return-other, ends_with_return-push)
 
 -- no byte at all
 pub content-none : (xs : List ℕ) (start end n : ℕ) → n ≡ 0

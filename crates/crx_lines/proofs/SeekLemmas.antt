@@ -17,12 +17,6 @@ pub Seeking-searched : (gave : List ℕ → Type 0) (old held : List ℕ) (room 
     → ((k : ℕ) → searched ≤ k → k < n → slice_index held k ≢ 10) → Seeking gave old held room taken passed n
 Seeking-searched gave old held room taken passed searched n s within none = grind (arith, common_steps)
 
--- the search in the bytes that are shown came as far as n
-pub Seeking-found : (gave : List ℕ → Type 0) (old held shown : List ℕ) (room taken passed searched n : ℕ)
-    → Seeking gave old held room taken passed searched → shown ≡ held → n < length shown
-    → ((k : ℕ) → searched ≤ k → k < n → slice_index shown k ≢ 10) → Seeking gave old held room taken passed n
-Seeking-found gave old held shown room taken passed searched n s same within none = grind arith
-
 -- where all that is held was searched, no LF is in what was discarded and held
 pub Seeking-none : (gave : List ℕ → Type 0) (old held : List ℕ) (room taken passed : ℕ)
     → (s : Seeking gave old held room taken passed (length held)) → HasNoFeed (s.front ++ held)

@@ -1,4 +1,4 @@
-use Rattle.std.proofs.Common.{ℕ, ◌+◌, ◌≤◌, List, [], ◌∷◌, ◌++◌, ⊎_elim, length, subst, sym, ap, ◌∙◌, refl}
+use Rattle.std.proofs.Common.{ℕ, ◌+◌, List, [], ◌∷◌, ◌++◌, length, subst, sym, ap, ◌∙◌, refl}
 use Rattle.std.proofs.Common.{arith, rules, append-nil}
 use Rattle.crx_lines.proofs.{DeviceLemmas.ends-some, SeekLemmas.{Seeking-start, Seeking-step}}
 use Rattle.crx_lines.proofs.SeekLemmas.{Seeking-filled, Seeking-same, Seeking-sum, Seeking-not_old}
@@ -6,25 +6,13 @@ use Rattle.crx_lines.{proofs.WindowLemmas.length-kept, specs.{Seeking.Seeking, W
 use Rattle.crx_lines.proofs.seek.seek.Goals as goal
 
 pub seeking-init : goal.seeking-init
-seeking-init g c = (
-  Seeking-start (λ given. g.R.Source.gave c.args.reader.now given c.args.reader.now)
-      (kept c.args.window.now) c.args.room (g.met.R.Source.gave_none c.args.reader.now),
-  refl,
-  refl,
-  λ _. refl,
-)
+seeking-init g c = search (rules, Seeking-start)
 
 pub returns-in-Some-clause-ok : goal.returns-in-Some-clause-ok
 returns-in-Some-clause-ok = grind arith
 
 pub overflow_add-passed : goal.overflow_add-passed
-overflow_add-passed g c =
-    let old = c.args.window.now in
-    let sum = Seeking-sum (λ given. g.R.Source.gave _ given _) (kept old) _ c.args.room c.seeking.taken _
-    c.seeking.searched c.seeking.invariant.0 in
-    let most : c.discarded.result ≤ length (kept c.seeking.window) =
-    ⊎_elim (λ e. omega (arith, e.0)) (λ e. omega (arith, e.0)) c.discarded.ensures.count in
-    omega (arith, sum, most, length-kept old.bytes.items old.start old.end, c.seeking.invariant.0.within)
+overflow_add-passed g c = search (rules, Seeking-sum, length-kept)
 
 pub returns-in-Ok-clause-over : goal.returns-in-Ok-clause-over
 returns-in-Ok-clause-over g c =

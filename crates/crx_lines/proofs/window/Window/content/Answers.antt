@@ -17,19 +17,7 @@ returns-then-bytes-to-eq13-clause-has_return c =
     get_or xs (w.start + c.args.len - 1) 0) (sym c.as_slice-bytes.ensures.value) ∙ c.if-bytes-to-eq13.true)).1
 
 pub returns-clause-value : goal.returns-clause-value
-returns-clause-value c =
-    grind (
-      arith,
-      common_steps,
-      length-take,
-      length-drop,
-      else-len-gt0-via-then-len-gt0+else-bytes-to-eq13,
-      content-other,
-      get_or,
-      c.as_slice-bytes.ensures.value,
-      else-len-gt0-via-else-len-gt0,
-      content-none,
-    )
+returns-clause-value c = grind (arith, common_steps, content-other)
 
 pub returns-clause-has_return : goal.returns-clause-has_return
 returns-clause-has_return c =
