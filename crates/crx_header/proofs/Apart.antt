@@ -1,7 +1,7 @@
 -- Things of different identifiers, and one put in the place of another of the same identifier.
-use Rattle.std.proofs.lemmas.{Grind.common_steps, List.Folds.list_any-append, Slice.Eq.bytes_eq-Decides}
+use Rattle.std.proofs.lemmas.{Grind.common_steps, Slice.Eq.bytes_eq-Decides}
 use Rattle.std.{specs.{Prelude.Bool, Str.bytes_eq}, proofs.lemmas.Bool.{or_parts, and_parts, not-true}}
-use Rattle.std.proofs.{lemmas.Bool.false_from_ne_true, Common.{◌≡◌, ℕ, zero, suc, ◌<◌, true, false, not}}
+use Rattle.std.proofs.{lemmas.Bool.false_from_ne_true, Common.{◌≡◌, ℕ, suc, ◌<◌, true, false, not}}
 use Rattle.std.proofs.Common.{◌||◌, List, [], ◌∷◌, ◌++◌, length, get_or, map, take, refl, ap, sym, ◌∙◌, arith}
 use Rattle.crx_header.specs.meaning.Satellites.{is_among, are_apart}
 
@@ -13,13 +13,7 @@ other_way xs ys h = grind (arith, common_steps, false_from_ne_true, bytes_eq, by
 pub apart-push : {X : Type 0} (f : X → List ℕ) (xs : List X) (x : X)
     → are_apart f xs ≡ true → is_among f (f x) xs ≡ false → are_apart f (xs ++ x ∷ []) ≡ true
 apart-push f [] x h new = refl
-apart-push f (y ∷ xs) x h new =
-    let apart = and_parts (not (is_among f (f y) xs)) (are_apart f xs) h in
-    let differs = or_parts (bytes_eq (f y) (f x)) (is_among f (f x) xs) new in
-    let old : is_among f (f y) xs ≡ false = not-true (is_among f (f y) xs) apart.0 in
-    let other : bytes_eq (f x) (f y) ≡ false = other_way (f y) (f x) differs.0 in
-    rw (list_any-append (λ k. bytes_eq (f k) (f y)) xs (x ∷ []), old, other)
-    (apart-push f xs x apart.1 differs.1)
+apart-push f (y ∷ xs) x h new = grind (arith, common_steps, other_way, apart-push f xs x)
 
 not-at : {X : Type 0} (f : X → List ℕ) (name : List ℕ) (n : ℕ) (xs : List X) (k : ℕ) (d : X)
     → is_among f name (take n xs) ≡ false → k < n → k < length xs → bytes_eq (f (get_or xs k d)) name ≡ false
@@ -28,15 +22,13 @@ not-at = grind (arith, common_steps, or_parts)
 pub new_at : {X : Type 0} (f : X → List ℕ) (n : ℕ) (xs : List X) (k : ℕ) (d : X)
     → are_apart f (take n xs) ≡ true → k < n → k < length xs
     → is_among f (f (get_or xs k d)) (take k xs) ≡ false
-new_at f zero xs k d h a b = absurd (omega (arith, a))
-new_at f (suc n) [] k d h a b = absurd (omega (arith, b))
-new_at f (suc n) (x ∷ xs) zero d h a b = refl
 new_at f (suc n) (x ∷ xs) (suc k) d h a b =
     let apart = and_parts (not (is_among f (f x) (take n xs))) (are_apart f (take n xs)) h in
     let differs = not-at f (f x) n xs k d
     (not-true (is_among f (f x) (take n xs)) apart.0) (omega (arith, a)) (omega (arith, b)) in
     rw (other_way (f (get_or xs k d)) (f x) differs)
     (new_at f n xs k d apart.1 (omega (arith, a)) (omega (arith, b)))
+new_at f n xs k d h a b = grind (arith, common_steps)
 
 pub among-map : {X Y : Type 0} (f : Y → List ℕ) (g : X → Y) (name : List ℕ) (xs : List X)
     → is_among f name (map g xs) ≡ is_among (λ x. f (g x)) name xs
