@@ -1,6 +1,6 @@
 -- Reading the number in a cell, up to the first blank of a line.
-use Rattle.std.proofs.Common.{true, false, ℕ, ℤ, ◌≡◌, ◌<◌, Bool, List, [], ◌∷◌, length, Some, None, ◌&&◌, inl}
-use Rattle.std.proofs.Common.{inr, arith, refl, ap, get_or, eqb}
+use Rattle.std.proofs.Common.{true, false, ℕ, ℤ, ◌≡◌, ◌<◌, Bool, List, [], ◌∷◌, length, Some, None, ◌&&◌}
+use Rattle.std.proofs.Common.{arith, refl, get_or, eqb}
 use Rattle.std.proofs.lemmas.{Bool.{cases_eq, ne_eqb, Decides.nat_tests}, Grind.common_steps}
 use Rattle.std.specs.{Char.is_ascii_digit, List.list_any, Option.option_map, Str.all_ascii_digits}
 use Rattle.std.specs.Str.Parse.{starts_with_minus}
@@ -44,25 +44,11 @@ code_of-number = grind (arith, common_steps, no_text, option_map, cases_eq, afte
 
 pub one_cell : (text : List ℕ) → list_any (λ c. eqb c 32) text ≡ false → first_cell text ≡ text
 one_cell [] none = refl
-one_cell (c ∷ cs) none =
-    elim (cases_eq c 32) [
-      | inl blank ↦
-          let e = blank in
-          let some = rw e at none in absurd (cc)
-      | inr other ↦
-          let test = ne_eqb c 32 other in
-          rw test (ap (λ t. c ∷ t) (one_cell cs (rw test at none)))
-    ]
+one_cell (c ∷ cs) none = grind (arith, common_steps, one_cell cs)
 
 blank_is_no_digit : (ds : List ℕ) → list_any (λ c. eqb c 32) ds ≡ true → all_ascii_digits ds ≡ false
 blank_is_no_digit [] some = absurd (cc)
-blank_is_no_digit (c ∷ cs) some =
-    elim (cases_eq c 32) [
-      | inl blank ↦ let e = blank in rw e refl
-      | inr other ↦
-          let test = ne_eqb c 32 other in
-          rw (blank_is_no_digit cs (rw test at some)) (stopped _)
-    ]
+blank_is_no_digit (c ∷ cs) some = grind (arith, common_steps, blank_is_no_digit cs)
 
 no_number_with_blank : (text : List ℕ) → list_any (λ c. eqb c 32) text ≡ true → coded_number text ≡ None
 no_number_with_blank = grind (arith, common_steps, cases_eq, no_digits, blank_is_no_digit)

@@ -1,8 +1,8 @@
 -- Texts by their characters, blanks being after them: what is read by columns doesn't ask for the blanks at a
 -- text's end.
-use Rattle.std.proofs.{Common.{rules, ◌∙◌, ap, arith, not-suc-le-zero}, lemmas.Grind.common_steps}
+use Rattle.std.proofs.{Common.{rules, ◌∙◌, ap, arith}, lemmas.Grind.common_steps}
 use Rattle.std.{proofs.lemmas.List.{length-append, length-take, length-replicate}, specs.List.list_all}
-use Rattle.std.specs.Prelude.{◌≡◌, refl, ℕ, zero, suc, ◌+◌, ◌-◌, ◌<◌, ◌≤◌, Bool, true, ◌&&◌, List, [], ◌∷◌}
+use Rattle.std.specs.Prelude.{◌≡◌, refl, ℕ, suc, ◌+◌, ◌-◌, ◌<◌, ◌≤◌, Bool, true, ◌&&◌, List, [], ◌∷◌}
 use Rattle.std.specs.Prelude.{◌++◌, length, take, drop, replicate, slice_index_or}
 use Rattle.crx_text.specs.meaning.Columns.{before_end_blanks, without_end_blanks, columns}
 
@@ -14,17 +14,15 @@ pub at-before_end_blanks : (c : ℕ) (text : List ℕ) (p : ℕ) → at (before_
 at-before_end_blanks = grind (arith, common_steps)
 
 pub at-without_end_blanks : (text : List ℕ) (p : ℕ) → at (without_end_blanks text) p ≡ at text p
-at-without_end_blanks [] p = refl
-at-without_end_blanks (c ∷ cs) zero = grind arith
 at-without_end_blanks (c ∷ cs) (suc p) = at-before_end_blanks c _ (suc p) ∙ at-without_end_blanks cs p
+at-without_end_blanks text p = grind (arith, common_steps)
 
 pub at-drop : (k : ℕ) (text : List ℕ) (p : ℕ) → at (drop k text) p ≡ at text (k + p)
 at-drop = grind (arith, common_steps)
 
 pub at-append : (xs ys : List ℕ) (p : ℕ) → p < length xs → at (xs ++ ys) p ≡ at xs p
-at-append [] ys p h = absurd (not-suc-le-zero h)
-at-append (x ∷ xs) ys zero h = refl
 at-append (x ∷ xs) ys (suc p) h = at-append xs ys p (omega (arith, h))
+at-append xs ys p h = grind (arith, common_steps)
 
 pub at-append_past : (xs ys : List ℕ) (n p : ℕ) → length xs ≡ n → at (xs ++ ys) (n + p) ≡ at ys p
 at-append_past [] ys n p e = ap (at ys) (omega (arith, e))
@@ -36,10 +34,6 @@ at-append_past (x ∷ xs) ys n p e =
 take-padded : (n k : ℕ) (text want : List ℕ)
     → n ≤ k → length want ≡ n → ((p : ℕ) → p < n → at text p ≡ at want p) → take n (text ++ replicate k 32)
     ≡ want
-take-padded zero k text [] le e h = refl
-take-padded zero k text (w ∷ ws) le e h = absurd (omega (arith, e))
-take-padded (suc n) k text [] le e h = absurd (omega (arith, e))
-take-padded (suc n) zero text (w ∷ ws) le e h = absurd (not-suc-le-zero le)
 take-padded (suc n) (suc k) [] (w ∷ ws) le e h =
     let same = h 0 (omega arith) in
     ap (λ c. c ∷ take n (replicate k 32)) same ∙ ap (λ r. w ∷ r) (take-padded n k [] ws (omega (arith, le))
@@ -48,6 +42,7 @@ take-padded (suc n) (suc k) (c ∷ cs) (w ∷ ws) le e h =
     let same : c ≡ w = h 0 (omega arith) in
     ap (λ d. d ∷ take n (cs ++ replicate (suc k) 32)) same ∙ ap (λ r. w ∷ r) (take-padded n (suc k) cs ws
     (omega (arith, le)) (omega (arith, e)) (λ p less. h (suc p) (omega (arith, less))))
+take-padded n k text want le e h = grind (arith, common_steps)
 
 -- ---- columns
 

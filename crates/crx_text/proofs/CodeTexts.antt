@@ -4,13 +4,13 @@ use Rattle.std.proofs.Common.{List, ◌∷◌, ◌++◌, length, get_or, take, s
 use Rattle.std.proofs.{Common.{arith, ap, sym, ◌∙◌, refl}, lemmas.Bool.{cases_lt, Decides.nat_tests}}
 use Rattle.std.proofs.lemmas.{Fmt.{decimal_digit, decimal_nonempty, length-decimal-le}, Grind.common_steps}
 use Rattle.std.proofs.lemmas.{List.{append_assoc, get_or_past}, Str.Parse.not_in_digits}
-use Rattle.std.specs.{Fmt.signed_decimal, Option.option_map, Str.{all_ascii_digits, Parse.starts_with_minus}}
+use Rattle.std.specs.{Fmt.signed_decimal, Str.{all_ascii_digits, Parse.starts_with_minus}}
 use Rattle.crx_text.proofs.{CodeReads.coded_number_fitting, DigitPairs.two_written, ReadBack.decimal_first}
 use Rattle.crx_text.{proofs.ReadBack.{decimal_is_digits, decimal_weighs, digits_own}, specs.Codes.IsPrintable}
-use Rattle.crx_text.specs.{Codes.IsShort, declared.code.Code.{Code, TheVariants.{Missing, Start, Step}}}
-use Rattle.crx_text.specs.meaning.Codes.{code_of, code_text, coded_number, is_order, step_of}
+use Rattle.crx_text.specs.{Codes.IsShort, declared.code.Code.{Code, TheVariants.{Start}}}
+use Rattle.crx_text.specs.meaning.Codes.{code_of, code_text, coded_number, step_of}
 use Rattle.crx_text.specs.meaning.Numbers.{without_minus}
-use Rattle.crx_base.specs.declared.limits.TheConstants.{DIGITS_LIMIT, ORDER_LIMIT}
+use Rattle.crx_base.specs.declared.limits.TheConstants.{DIGITS_LIMIT}
 
 -- an order is one digit
 pub code_text_start : (order : ℕ) (value : ℤ)
@@ -66,13 +66,7 @@ code_of_step = grind (arith, common_steps)
 pub code_of-signed_decimal : (z : ℤ) → IsShort z → code_of (signed_decimal z) ≡ step_of (signed_decimal z)
 code_of-signed_decimal = search (rules, code_of_step, decimal_nonempty, no_mark_in_digits, decimal_is_digits)
 
-pub code_of_start : (order : ℕ) (value : ℤ) → order ≤ ORDER_LIMIT
-    → IsShort value → code_of ((48 + order) ∷ 38 ∷ signed_decimal value) ≡ Some (Start order value)
-code_of_start order value small short = grind (arith, common_steps, is_order, coded_number-signed_decimal)
-
 -- what is printed of a code is read back
 pub code_of-code_text : (code : Code) → IsPrintable code → code_of (code_text code) ≡ Some code
-code_of-code_text Missing printable = refl
-code_of-code_text (Start order value) printable = search (rules, code_of, code_text_start, code_of_start)
-code_of-code_text (Step z) printable = code_of-signed_decimal z printable
-    ∙ ap (option_map Step) (coded_number-signed_decimal z printable)
+code_of-code_text code printable =
+    grind (arith, common_steps, code_text_start, code_of-signed_decimal, coded_number-signed_decimal)

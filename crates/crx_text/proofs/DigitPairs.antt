@@ -40,9 +40,6 @@ signed_decimal_some = grind (arith, common_steps, decimal_nonempty)
 abbrev pub four : ℕ → List ℕ
 four n = (48 + n / 100 / 10) ∷ (48 + n / 100 % 10) ∷ (48 + n % 100 / 10) ∷ (48 + n % 100 % 10) ∷ []
 
-pub four_small : (n i : ℕ) → n < 10000 → get_or (four n) i 0 < 256
-four_small = grind (arith, common_steps)
-
 -- how many zeros are before a number's digits in four columns
 abbrev pub zeros_of : ℕ → ℕ
 zeros_of n = bool_byte (ltb n 10) + bool_byte (ltb n 100) + bool_byte (ltb n 1000)

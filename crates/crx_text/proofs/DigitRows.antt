@@ -1,8 +1,8 @@
 -- Rows of digits, and the number that the first of them write.
 use Rattle.std.proofs.Common.{◌≡◌, ℕ, zero, suc, ◌+◌, ◌-◌, ◌*◌, ◌/◌, ◌%◌, ◌^◌, ◌<◌, ◌≤◌, Bool, true, false}
-use Rattle.std.proofs.Common.{not, cond, ◌&&◌, T, ltb, leb, eqb, List, [], ◌∷◌, ◌++◌, map, length, replicate}
+use Rattle.std.proofs.Common.{not, cond, ◌&&◌, T, leb, eqb, List, [], ◌∷◌, ◌++◌, map, length, replicate}
 use Rattle.std.proofs.Common.{take, drop, get_or, subst, Fits, w8, refl, sym, ap, ◌∙◌, arith}
-use Rattle.std.proofs.{Math.Nat.mul-le-mul_right, lemmas.Bool.{agree_below_at, and_parts, lt-ltb, ltb-true}}
+use Rattle.std.proofs.{Math.Nat.mul-le-mul_right, lemmas.Bool.{agree_below_at, and_parts}}
 use Rattle.std.proofs.lemmas.{Bool.{le-leb, Decides.nat_tests}, Grind.common_steps, List.length-append}
 use Rattle.std.proofs.lemmas.List.{length-take-le, take-append-drop, take-take, get_or-take, take-append-le}
 use Rattle.std.proofs.lemmas.{List.{take-map, Sums.{prefix_len-le-length, prefix_len_stops}}, Simd.mask_l-mod}
@@ -10,7 +10,7 @@ use Rattle.std.{proofs.lemmas.Simd.trailing_mask_l, specs.{Char.is_ascii_digit, 
 use Rattle.std.specs.{List.prefix_len, Str.{all_ascii_digits, Parse.{digits_value, digits_value_after}}}
 use lib.{Count.count_trailing_zeros, Lanes.{Each1, chunk, pick_l, mask_l, top, zip2, dots, all_below}}
 use lib.Lanes.{pair_sums, products}
-use Rattle.crx_text.proofs.PowersOfTen.{digit_range, digits_before, digit_value_is, digits_value_after-append}
+use Rattle.crx_text.proofs.PowersOfTen.{digits_before, digits_value_after-append}
 use Rattle.crx_text.proofs.{PowersOfTen.value_small, LaneBits.{sixteen, no_bit, top_lane}}
 use Rattle.crx_text.specs.{Digits.{above_zero, written}, FirstDigits.{HasFirstDigits, is_below_ten}}
 use Rattle.crx_text.specs.{declared.code_digits.TheConstants.{WEIGHTS, SCALES}, meaning.Codes.after_cell}
@@ -50,15 +50,8 @@ digits_agree (c ∷ cs) small = rw (below_ten c (small 0))
 -- where fewer of the first ones pass than they are, no more pass in all
 prefix_in_front : (p : ℕ → Bool) (n : ℕ) (xs : List ℕ)
     → prefix_len p (take n xs) < n → prefix_len p xs ≡ prefix_len p (take n xs)
-prefix_in_front p zero xs few = absurd (omega (arith, few))
-prefix_in_front p (suc n) [] few = refl
-prefix_in_front p (suc n) (x ∷ xs) few = go (p x) few (prefix_in_front p n xs)
-  where
-    go : (b : Bool) → cond b (1 + prefix_len p (take n xs)) 0 < suc n
-        → (prefix_len p (take n xs) < n → prefix_len p xs ≡ prefix_len p (take n xs))
-        → cond b (1 + prefix_len p xs) 0 ≡ cond b (1 + prefix_len p (take n xs)) 0
-    go true less next = ap (λ (m : ℕ). 1 + m) (next (omega (arith, less)))
-    go false less next = refl
+prefix_in_front p (suc n) (x ∷ xs) few = grind (arith, common_steps, prefix_in_front p n xs)
+prefix_in_front p n xs few = grind (arith, common_steps)
 
 -- the lanes before one that ends the digits in any case
 ends : (ds : List ℕ) (bits : List Bool)
@@ -114,24 +107,9 @@ total_of digits count = get_or (pairs_of digits count) 0 0 * scale_of count % 2 
 -- two products of bytes and weights that are small together
 pub pairs_small : (xs ys : List ℕ) → Each1 (Fits w8) xs → T (all_below 128 (pair_sums ys))
     → T (all_below 32768 (pair_sums (products xs ys)))
-pairs_small [] ys fits small = tt
-pairs_small (x ∷ xs) [] fits small = tt
-pairs_small (x ∷ []) (y ∷ ys) fits small = tt
-pairs_small (x ∷ x′ ∷ xs) (y ∷ []) fits small = tt
 pairs_small (x ∷ x′ ∷ xs) (y ∷ y′ ∷ ys) fits small =
-    go (ltb (y + y′) 128) refl small
-    (λ (rest : T (all_below 128 (pair_sums ys))). pairs_small xs ys fits.1.1 rest)
-  where
-    go : (b : Bool) → ltb (y + y′) 128 ≡ b → T (b && all_below 128 (pair_sums ys))
-        → (T (all_below 128 (pair_sums ys)) → T (all_below 32768 (pair_sums (products xs ys))))
-        → T (ltb (x * y + x′ * y′) 32768 && all_below 32768 (pair_sums (products xs ys)))
-    go true e rest next =
-        let few : y + y′ < 128 = ltb-true (y + y′) 128 e in
-        let one : x * y ≤ 255 * y = mul-le-mul_right y (omega (arith, fits.0.fits)) in
-        let two : x′ * y′ ≤ 255 * y′ = mul-le-mul_right y′ (omega (arith, fits.1.0.fits)) in
-        let less = lt-ltb (x * y + x′ * y′) 32768 (omega (arith, few, one, two)) in
-        rw less (next rest)
-    go false e rest next = absurd rest
+    grind (arith, common_steps, mul-le-mul_right, pairs_small xs ys)
+pairs_small xs ys fits small = grind (arith, common_steps)
 
 abbrev are_small : ℕ → Bool
 are_small count = all_below 128 (pair_sums (weights_of count)) && all_below 128 (weights_of count)
@@ -179,14 +157,9 @@ total_is v count long fits few =
 -- the digits less 48 write what the digits write
 written_digits : (size count : ℕ) (row : List ℕ) → all_ascii_digits (take count row) ≡ true
     → written size (take count (map above_zero row)) ≡ digits_value_after 10 size (take count row)
-written_digits size zero row digits = refl
-written_digits size (suc count) [] digits = refl
 written_digits size (suc count) (c ∷ cs) digits =
-    let parts = and_parts _ _ digits in
-    let value : above_zero c ≡ c - 48 = omega (arith, digit_range c parts.0) in
-    ap (λ (d : ℕ). written (size * 10 + d) (take count (map above_zero cs))) value
-    ∙ (written_digits (size * 10 + (c - 48)) count cs parts.1
-    ∙ ap (λ d. digits_value_after 10 (size * 10 + d) (take count cs)) (sym (digit_value_is c parts.0)))
+    grind (arith, common_steps, written_digits (size * 10 + (c - 48)) count cs)
+written_digits size count row digits = grind (arith, common_steps)
 
 -- ---- a cell that begins with digits
 
@@ -228,16 +201,12 @@ no_blank c digit = grind arith
 first_cell-digits : (ds rest : List ℕ) → all_ascii_digits ds ≡ true
     → first_cell (ds ++ rest) ≡ ds ++ first_cell rest
 first_cell-digits [] rest digits = refl
-first_cell-digits (c ∷ cs) rest digits =
-    let parts = and_parts _ _ digits in
-    rw (no_blank c parts.0) (ap (λ t. c ∷ t) (first_cell-digits cs rest parts.1))
+first_cell-digits (c ∷ cs) rest digits = grind (arith, common_steps, first_cell-digits cs rest)
 
 after_cell-digits : (ds rest : List ℕ) → all_ascii_digits ds ≡ true
     → after_cell (ds ++ rest) ≡ after_cell rest
 after_cell-digits [] rest digits = refl
-after_cell-digits (c ∷ cs) rest digits =
-    let parts = and_parts _ _ digits in
-    rw (no_blank c parts.0) (after_cell-digits cs rest parts.1)
+after_cell-digits (c ∷ cs) rest digits = grind (arith, common_steps, after_cell-digits cs rest)
 
 -- so many digits, which a text begins with, and no digit after them
 digits_found : (text : List ℕ) (size count : ℕ) → count < 8 → count ≤ length text

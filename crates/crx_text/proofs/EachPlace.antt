@@ -11,9 +11,8 @@ length-each_place (suc n) f = ap suc (length-each_place n (λ i. f (suc i)))
 -- what is at a place of a list of so many
 pub index-each_place : {X : Type 0} (n j : ℕ) (f : ℕ → X) (d : X)
     → (n ≤ j → f j ≡ d) → slice_index_or (each_place n f) j d ≡ f j
-index-each_place zero j f d h = sym (h (omega arith))
-index-each_place (suc n) zero f d h = refl
 index-each_place (suc n) (suc j) f d h = index-each_place n j (λ i. f (suc i)) d (λ le. h (omega (arith, le)))
+index-each_place n j f d h = grind (arith, common_steps)
 
 pub each_place-same : {X : Type 0} (n : ℕ) (f g : ℕ → X) → ((k : ℕ) → f k ≡ g k) → each_place n f
     ≡ each_place n g
@@ -35,11 +34,10 @@ each_place-more zero f = refl
 each_place-more (suc n) f = grind (arith, common_steps, each_place, each_place-more n (λ i. f (suc i)))
 
 pub take-each_place : {X : Type 0} (k m : ℕ) (f : ℕ → X) → take k (each_place m f) ≡ each_place (min k m) f
-take-each_place zero m f = grind arith
-take-each_place (suc k) zero f = grind arith
 take-each_place (suc k) (suc m) f =
     let more : min (suc k) (suc m) ≡ suc _ = omega arith in
     ap (λ r. f zero ∷ r) (take-each_place k m (λ i. f (suc i))) ∙ sym (ap (λ n. each_place n f) more)
+take-each_place k m f = grind (arith, common_steps)
 
 -- what is from a place on
 pub drop-each_place : {X : Type 0} (n k : ℕ) (f : ℕ → X)

@@ -1,5 +1,5 @@
 -- The blanks at the end of a text, 16 characters at a time.
-use Rattle.std.proofs.Common.{Bool, true, false, not, cond, if◌then◌else◌, eqb, ℕ, suc, ◌≡◌, ◌+◌, ◌-◌, ◌*◌}
+use Rattle.std.proofs.Common.{not, cond, eqb, ℕ, ◌≡◌, ◌+◌, ◌-◌, ◌*◌}
 use Rattle.std.proofs.Common.{◌%◌, ◌^◌, ◌<◌, ◌≤◌, List, [], ◌∷◌, ◌++◌, length, drop, take, map, replicate, w8}
 use Rattle.std.proofs.{Common.{arith, refl, ap, sym, ◌∙◌, ◌≢◌, get_or}, Math.{Nat.pow-suc, Seq.take-add}}
 use Rattle.std.proofs.lemmas.{Bool.ne_eqb, Grind.common_steps, List.{drop_all, drop_more, length-take-le}}
@@ -7,7 +7,7 @@ use Rattle.std.proofs.lemmas.{List.{nil_from_length, take-append-drop, take_more
 use Rattle.std.{proofs.lemmas.Simd.{chunk-drop, length-chunk}, specs.Int.Count.count_leading_zeros}
 use Rattle.std.specs.Int.Count.{leading_unique}
 use lib.Lanes.{chunk, mask_l, top, zip2}
-use Rattle.crx_text.specs.meaning.Columns.{is_blank, before_end_blanks, without_end_blanks}
+use Rattle.crx_text.specs.meaning.Columns.{before_end_blanks, without_end_blanks}
 
 before_some : (x : ℕ) (zs : List ℕ) → 0 < length zs → before_end_blanks x zs ≡ x ∷ zs
 before_some = grind (arith, common_steps)
@@ -25,22 +25,11 @@ none_append (x ∷ xs) ys none = ap (before_end_blanks x) (none_append xs ys non
 
 pub take_kept : (xs : List ℕ) → take (length (without_end_blanks xs)) xs ≡ without_end_blanks xs
 take_kept [] = refl
-take_kept (x ∷ xs) = go (without_end_blanks xs) (take_kept xs)
-  where
-    go : (kept : List ℕ) → take (length kept) xs ≡ kept
-        → take (length (before_end_blanks x kept)) (x ∷ xs) ≡ before_end_blanks x kept
-    go [] same = elim (is_blank x) as (λ b. take (length {A = ℕ} (if b then [] else (x ∷ []))) (x ∷ xs)
-        ≡ (if b then [] else (x ∷ []))) [ true ↦ refl | false ↦ refl ]
-    go (d ∷ ds) same = ap (λ (t : List ℕ). x ∷ t) same
+take_kept (x ∷ xs) = grind (arith, common_steps, take_kept xs)
 
 pub few_kept : (xs : List ℕ) → length (without_end_blanks xs) ≤ length xs
 few_kept [] = omega arith
-few_kept (x ∷ xs) = go (without_end_blanks xs) (few_kept xs)
-  where
-    go : (kept : List ℕ) → length kept ≤ length xs → length (before_end_blanks x kept) ≤ suc (length xs)
-    go [] few = elim (is_blank x) as (λ b. length {A = ℕ} (if b then [] else (x ∷ [])) ≤ suc (length xs))
-        [ true ↦ omega arith | false ↦ omega arith ]
-    go (d ∷ ds) few = omega (arith, few)
+few_kept (x ∷ xs) = grind (arith, common_steps, few_kept xs)
 
 -- ---- from the end on
 
@@ -78,20 +67,7 @@ others xs = mask_l (map (λ c. not (eqb c 32)) xs)
 highest_bit : (xs : List ℕ) → (others xs < 2 ^ length (without_end_blanks xs))
     × (2 ^ length (without_end_blanks xs) ≤ 2 * others xs + 1)
 highest_bit [] = (omega arith, omega arith)
-highest_bit (x ∷ xs) = go (without_end_blanks xs) (eqb x 32) refl (highest_bit xs)
-  where
-    go : (kept : List ℕ) (b : Bool) → eqb x 32 ≡ b
-        → (others xs < 2 ^ length kept) × (2 ^ length kept ≤ 2 * others xs + 1)
-        → (others (x ∷ xs) < 2 ^ length (before_end_blanks x kept))
-        × (2 ^ length (before_end_blanks x kept) ≤ 2 * others (x ∷ xs) + 1)
-    go [] true e rest = rw e (omega (arith, rest.0), omega (arith, rest.0))
-    go [] false e rest = rw e (omega (arith, rest.0), omega (arith, rest.0))
-    go (d ∷ ds) b e rest =
-        let bit : cond (not (eqb x 32)) 1 0 ≤ 1 =
-        elim (eqb x 32) as (λ b. cond (not b) 1 0 ≤ 1) [ true ↦ omega arith | false ↦ omega arith ] in
-        let power : 2 ^ suc (length ds) ≡ 2 ^ length ds * 2 = pow-suc 2 (length ds) in
-        let next : 2 ^ suc (suc (length ds)) ≡ 2 ^ suc (length ds) * 2 = pow-suc 2 (suc (length ds)) in
-        (omega (arith, rest.0, bit, next), omega (arith, rest.1, bit, power, next))
+highest_bit (x ∷ xs) = grind (arith, common_steps, pow-suc, highest_bit xs)
 
 -- as many bits up to the highest as characters up to the last one that isn't a blank
 bits_kept : (k : ℕ) (xs : List ℕ)

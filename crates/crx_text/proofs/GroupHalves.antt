@@ -1,6 +1,6 @@
 -- A size's groups of three digits, two halves at a time.
-use Rattle.std.proofs.Common.{rules, ◌≡◌, ℕ, zero, suc, ◌+◌, ◌*◌, ◌/◌, ◌%◌, ◌^◌, ◌<◌, List, [], ◌∷◌, length}
-use Rattle.std.proofs.{Common.{map, arith}, Math.Nat.pow-suc}
+use Rattle.std.proofs.Common.{◌≡◌, ℕ, ◌+◌, ◌*◌, ◌/◌, ◌%◌, ◌^◌, ◌<◌, List, [], ◌∷◌, length}
+use Rattle.std.proofs.{Common.{map, arith}}
 use lib.Lanes.{Each1, zip2, digits_l, number_l}
 
 -- ---- the halves
@@ -21,10 +21,6 @@ halves_are (x ∷ y ∷ []) long small = grind arith
 halves_are (x ∷ y ∷ z ∷ v) long small = absurd (omega arith)
 
 -- ---- the groups in them
-
-bytes_back : (n x : ℕ) → x < 256 ^ n → number_l 256 (digits_l 256 n x) ≡ x
-bytes_back zero x h = omega (arith, h)
-bytes_back (suc n) x h = search (rules, pow-suc, bytes_back n (x / 256) (omega (arith, h, pow-suc 256 n)))
 
 -- the lanes of two halves
 abbrev pub lanes_of : List ℕ → List ℕ

@@ -1,8 +1,8 @@
 -- Rows of lanes: from a list of known length to its elements, and from a mask to each lane.
-use Rattle.std.proofs.Common.{take, zero, ◌<◌, ◌≡◌, ℕ, suc, ◌+◌, ◌-◌, ◌*◌, ◌%◌, ◌^◌, ◌≤◌, Bool, true, false}
-use Rattle.std.proofs.Common.{not, cond, ◌&&◌, ◌||◌, nat_eq, eqb, bit_and, List, [], ◌∷◌, map, length}
+use Rattle.std.proofs.Common.{take, ◌<◌, ◌≡◌, ℕ, suc, ◌+◌, ◌-◌, ◌*◌, ◌%◌, ◌^◌, ◌≤◌, Bool}
+use Rattle.std.proofs.Common.{not, cond, ◌&&◌, nat_eq, eqb, bit_and, List, [], ◌∷◌, map, length}
 use Rattle.std.proofs.{Common.{replicate, w8, refl, sym, ap, ◌∙◌, arith}, Math.Nat.{pow-suc, one-le-pow}}
-use Rattle.std.proofs.{Math.Nat.{mod-one, zero-mod}, lemmas.{Grind.common_steps, List.take-map}}
+use Rattle.std.proofs.{lemmas.{Grind.common_steps, List.take-map}}
 use Rattle.std.proofs.lemmas.{List.length-take-le, Nat.and_mask, Simd.{pick_l_whole, bitmask_splat}}
 use Rattle.std.specs.List.{range_with_len, list_all, list_any}
 use lib.Lanes.{pick_l, mask_l, top, zip2}
@@ -16,17 +16,9 @@ sixteen xs long = sym (pick_l_whole 0 xs 16 long)
 
 -- ---- a mask's bits
 
-no_bit_next : (b : Bool) (m : ℕ) → nat_eq (cond b 1 0 + 2 * m) 0 ≡ (not b && nat_eq m 0)
-no_bit_next = grind (arith, common_steps)
-
 pub no_bit : {X : Type 0} (p : X → Bool) (xs : List X) → nat_eq (mask_l (map p xs)) 0 ≡ not (list_any p xs)
 no_bit p [] = refl
-no_bit p (x ∷ xs) = no_bit_next (p x) (mask_l (map p xs))
-    ∙ negated (p x) (nat_eq (mask_l (map p xs)) 0) (list_any p xs) (no_bit p xs)
-  where
-    negated : (b t r : Bool) → t ≡ not r → (not b && t) ≡ not (b || r)
-    negated true t r e = refl
-    negated false t r e = e
+no_bit p (x ∷ xs) = grind (arith, common_steps, no_bit p xs)
 
 all_bits_next : (b : Bool) (m power : ℕ)
     → 1 ≤ power → nat_eq (cond b 1 0 + 2 * m) (2 * power - 1) ≡ (b && nat_eq m (power - 1))
@@ -52,14 +44,9 @@ each_is_byte byte xs long =
 mod_step : (b x p : ℕ) → b < 2 → 0 < p → (b + 2 * x) % (2 * p) ≡ b + 2 * (x % p)
 mod_step b x p bit some = grind arith
 
-bit_below : (m : Bool) → cond m 1 0 < 2
-bit_below = grind (arith, common_steps)
-
 first_bits : (n : ℕ) (ms : List Bool) → mask_l ms % 2 ^ n ≡ mask_l (take n ms)
-first_bits zero ms = mod-one _
-first_bits (suc n) [] = zero-mod _
-first_bits (suc n) (m ∷ ms) =
-    grind (arith, common_steps, pow-suc, one-le-pow, mask_l, mod_step, bit_below, cond, first_bits n ms)
+first_bits (suc n) (m ∷ ms) = grind (arith, common_steps, mod_step, first_bits n ms)
+first_bits n ms = grind (arith, common_steps)
 
 -- a comparison of 16 lanes with one byte, of which the first 14 count
 fourteen_bits : (byte : ℕ) (xs : List ℕ) → length xs ≡ 16

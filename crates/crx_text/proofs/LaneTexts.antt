@@ -1,5 +1,5 @@
 -- Texts in pieces of 16 characters and a rest.
-use Rattle.std.proofs.Common.{rules, true, false, ℕ, zero, suc, ◌≡◌, ◌+◌, ◌-◌, ◌≤◌, ◌&&◌, Bool, List, [], ◌∷◌}
+use Rattle.std.proofs.Common.{rules, ℕ, zero, suc, ◌≡◌, ◌+◌, ◌-◌, ◌≤◌, ◌&&◌, Bool, List, [], ◌∷◌}
 use Rattle.std.proofs.{Common.{◌++◌, length, drop, take, arith, refl, ap, sym, ◌∙◌}, Math.Seq.take-add}
 use Rattle.std.proofs.{Math.Seq.take-take, lemmas.{Grind.common_steps, List.{length-drop, take_all}}}
 use Rattle.std.{proofs.lemmas.List.Folds.list_all-append, specs.{List.list_all, Simd.Lanes.{zip2, chunk}}}
@@ -14,22 +14,9 @@ list_all-piece p i n xs = sym (ap (list_all p) (take-add i n xs) ∙ list_all-ap
 -- a beginning and an end that overlap or meet
 list_all-overlap : (p : ℕ → Bool) (m i : ℕ) (xs : List ℕ)
     → m ≤ i → (list_all p (take i xs) && list_all p (drop m xs)) ≡ list_all p xs
-list_all-overlap p zero zero xs le = refl
-list_all-overlap p (suc m) zero xs le = absurd (omega (arith, le))
-list_all-overlap p zero (suc i) [] le = refl
-list_all-overlap p (suc m) (suc i) [] le = refl
-list_all-overlap p zero (suc i) (x ∷ xs) le = go (p x) (list_all-overlap p zero i xs (omega arith))
-  where
-    go : (b : Bool) → (list_all p (take i xs) && list_all p xs) ≡ list_all p xs
-        → ((b && list_all p (take i xs)) && (b && list_all p xs)) ≡ (b && list_all p xs)
-    go true same = same
-    go false same = refl
-list_all-overlap p (suc m) (suc i) (x ∷ xs) le = go (p x) (list_all-overlap p m i xs (omega (arith, le)))
-  where
-    go : (b : Bool) → (list_all p (take i xs) && list_all p (drop m xs)) ≡ list_all p xs
-        → ((b && list_all p (take i xs)) && list_all p (drop m xs)) ≡ (b && list_all p xs)
-    go true same = same
-    go false same = refl
+list_all-overlap p zero (suc i) (x ∷ xs) le = grind (arith, common_steps, list_all-overlap p zero i xs)
+list_all-overlap p (suc m) (suc i) (x ∷ xs) le = grind (arith, common_steps, list_all-overlap p m i xs)
+list_all-overlap p m i xs le = grind (arith, common_steps)
 
 pub list_all_ends : (p : ℕ → Bool) (n : ℕ) (xs : List ℕ) → length xs ≤ n + n
     → list_all p (take n xs ++ drop (length xs - n) xs) ≡ list_all p xs
@@ -44,28 +31,23 @@ list_all-last_piece p n i xs some passed = search (rules, take_all, length-drop,
 
 pub zip2-append : (f : ℕ → ℕ → ℕ) (as' bs cs ds : List ℕ)
     → length as' ≡ length cs → zip2 f (as' ++ bs) (cs ++ ds) ≡ zip2 f as' cs ++ zip2 f bs ds
-zip2-append f [] bs [] ds same = refl
-zip2-append f [] bs (c ∷ cs) ds same = absurd (omega arith)
-zip2-append f (a ∷ as') bs [] ds same = absurd (omega arith)
 zip2-append f (a ∷ as') bs (c ∷ cs) ds same = ap (λ t. f a c ∷ t) (zip2-append f as' bs cs ds (omega arith))
+zip2-append f as' bs cs ds same = grind (arith, common_steps)
 
 pub zip2-take : (f : ℕ → ℕ → ℕ) (n : ℕ) (xs ys : List ℕ)
     → zip2 f (take n xs) (take n ys) ≡ take n (zip2 f xs ys)
-zip2-take f zero xs ys = refl
-zip2-take f (suc n) [] ys = refl
-zip2-take f (suc n) (x ∷ xs) [] = refl
 zip2-take f (suc n) (x ∷ xs) (y ∷ ys) = ap (λ t. f x y ∷ t) (zip2-take f n xs ys)
+zip2-take f n xs ys = grind (arith, common_steps)
 
 pub zip2-drop : (f : ℕ → ℕ → ℕ) (n : ℕ) (xs ys : List ℕ)
     → zip2 f (drop n xs) (drop n ys) ≡ drop n (zip2 f xs ys)
-zip2-drop f zero xs ys = refl
-zip2-drop f (suc n) [] ys = refl
 zip2-drop f (suc n) (x ∷ xs) [] = no_more (drop n xs)
   where
     no_more : (zs : List ℕ) → zip2 f zs [] ≡ []
     no_more [] = refl
     no_more (z ∷ zs) = refl
 zip2-drop f (suc n) (x ∷ xs) (y ∷ ys) = zip2-drop f n xs ys
+zip2-drop f n xs ys = grind (arith, common_steps)
 
 pub zip2-chunk : (f : ℕ → ℕ → ℕ) (i n : ℕ) (xs ys : List ℕ)
     → zip2 f (chunk i n xs) (chunk i n ys) ≡ chunk i n (zip2 f xs ys)

@@ -1,5 +1,5 @@
 -- What operations on vectors of characters say of each character.
-use Rattle.std.proofs.Common.{rules, true, false, ℕ, suc, zero, ◌≡◌, ◌+◌, ◌-◌, ◌%◌, ◌^◌, ◌&&◌, cond, eqb, ltb}
+use Rattle.std.proofs.Common.{rules, true, ℕ, suc, ◌≡◌, ◌+◌, ◌-◌, ◌%◌, ◌^◌, ◌&&◌, cond, eqb, ltb}
 use Rattle.std.proofs.Common.{bit_or, Bool, List, [], ◌∷◌, length, map, replicate, Fits, w8, arith, refl, ap}
 use Rattle.std.proofs.{Common.{sym, ◌∙◌}, lemmas.Bool.{agree_below, agree_below_at, ne_eqb}}
 use Rattle.std.proofs.lemmas.{Grind.common_steps, Nat.le_or_l, Simd.{map-map, splat_is_map, tops_compared}}
@@ -13,24 +13,15 @@ use Rattle.crx_base.specs.meaning.Lines.{is_printable}
 
 lanes-mark_of : (n : ℕ) (olds news : List ℕ) → length olds ≡ n → length news ≡ n → sel_l (zip2 eqb olds news)
     (replicate n 32) (sel_l (zip2 eqb news (replicate n 32)) (replicate n 38) news) ≡ zip2 mark_of olds news
-lanes-mark_of zero [] [] first second = refl
-lanes-mark_of zero (a ∷ as') bs first second = absurd (omega arith)
-lanes-mark_of zero [] (b ∷ bs) first second = absurd (omega arith)
-lanes-mark_of (suc n) [] bs first second = absurd (omega arith)
-lanes-mark_of (suc n) (a ∷ as') [] first second = absurd (omega arith)
-lanes-mark_of (suc n) (a ∷ as') (b ∷ bs) first second =
-    ap (λ t. mark_of a b ∷ t) (lanes-mark_of n as' bs (omega arith) (omega arith))
+lanes-mark_of (suc n) (a ∷ as') (b ∷ bs) first second = grind (arith, common_steps, lanes-mark_of n as' bs)
+lanes-mark_of n olds bs first second = grind (arith, common_steps)
 
 lanes-character_of : (n : ℕ) (olds marks : List ℕ) → length olds ≡ n → length marks ≡ n → sel_l
     (zip2 eqb marks (replicate n 32)) olds (sel_l (zip2 eqb marks (replicate n 38)) (replicate n 32) marks)
     ≡ zip2 character_of olds marks
-lanes-character_of zero [] [] first second = refl
-lanes-character_of zero (a ∷ as') bs first second = absurd (omega arith)
-lanes-character_of zero [] (b ∷ bs) first second = absurd (omega arith)
-lanes-character_of (suc n) [] bs first second = absurd (omega arith)
-lanes-character_of (suc n) (a ∷ as') [] first second = absurd (omega arith)
 lanes-character_of (suc n) (a ∷ as') (b ∷ bs) first second =
-    ap (λ t. character_of a b ∷ t) (lanes-character_of n as' bs (omega arith) (omega arith))
+    grind (arith, common_steps, lanes-character_of n as' bs)
+lanes-character_of n olds bs first second = grind (arith, common_steps)
 
 -- which lanes of two vectors are equal
 abbrev equals : List ℕ → List ℕ → List Bool
@@ -63,13 +54,7 @@ unset lane = eqb lane 0
 
 pub none_in_fold : (v : List ℕ) (a : ℕ) → eqb (fold_l bit_or a v) 0 ≡ (eqb a 0 && list_all unset v)
 none_in_fold [] a = grind (arith, common_steps, eqb)
-none_in_fold (x ∷ xs) a =
-    none_in_fold xs (bit_or a x) ∙ (ap (λ b. b && list_all unset xs) (or_none a x)
-    ∙ regroup (eqb a 0) (eqb x 0) (list_all unset xs))
-  where
-    regroup : (a b c : Bool) → ((a && b) && c) ≡ (a && (b && c))
-    regroup true b c = refl
-    regroup false b c = refl
+none_in_fold (x ∷ xs) a = grind (arith, common_steps, or_none, none_in_fold xs (bit_or a x))
 
 crossed : (a b c d : Bool) → ((a && b) && (c && d)) ≡ ((a && c) && (b && d))
 crossed = grind (arith, common_steps)
@@ -79,13 +64,11 @@ none_more : (q : ℕ → Bool) (f : ℕ → ℕ)
     → agree_below (λ x. unset (f x)) q 256 ≡ true → (others v : List ℕ) → length others ≡ length v
     → Each1 (Fits w8) v
     → list_all unset (zip2 bit_or others (map f v)) ≡ (list_all unset others && list_all q v)
-none_more q f agree [] [] same fits = refl
-none_more q f agree [] (x ∷ xs) same fits = absurd (omega (arith, same))
-none_more q f agree (o ∷ os) [] same fits = absurd (omega (arith, same))
 none_more q f agree (o ∷ os) (x ∷ xs) same fits =
     let here = agree_below_at (λ y. unset (f y)) q 256 x agree fits.0.fits in
     let both = or_none o (f x) ∙ ap (λ b. unset o && b) here in
     (λ i. both i && none_more q f agree os xs (omega (arith, same)) fits.1 i) ∙ crossed _ (q x) _ _
+none_more q f agree _ _ same fits = grind (arith, common_steps)
 
 chosen : (p : ℕ → Bool) (f g : ℕ → ℕ) (v : List ℕ)
     → sel_l (map p v) (map f v) (map g v) ≡ map (λ x. cond (p x) (f x) (g x)) v

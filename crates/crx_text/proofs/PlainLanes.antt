@@ -1,5 +1,6 @@
 -- The test of a field's columns by lanes: what each lane's bit says, and all of them together.
-use Rattle.std.proofs.Common.{◌≡◌, ℕ, zero, suc, ◌+◌, ◌-◌, ◌%◌, ◌<◌, Bool, true, false, cond, ◌&&◌, ◌||◌, ltb}
+use Rattle.std.proofs.lemmas.Grind.{common_steps}
+use Rattle.std.proofs.Common.{◌≡◌, ℕ, suc, ◌+◌, ◌-◌, ◌%◌, ◌<◌, Bool, true, cond, ◌&&◌, ◌||◌, ltb}
 use Rattle.std.proofs.Common.{eqb, bit_and, bit_or, List, [], ◌∷◌, ◌++◌, map, length, replicate, get_or}
 use Rattle.std.proofs.{Common.{subst, Fits, w8, refl, sym, ◌∙◌, eqb-true, arith}, lemmas.Bool.and_from}
 use Rattle.std.specs.{Char.is_ascii_digit, List.{list_all, range_with_len}}
@@ -7,9 +8,8 @@ use lib.Lanes.{Each1, pick_l, fold_l, sel_l, top, zip2}
 use Rattle.crx_text.{proofs.{LaneBits.sixteen, LaneWords.none_in_fold}, specs.Fields.IsPlain}
 
 pub lane_fits : (v : List ℕ) (i : ℕ) → Each1 (Fits w8) v → get_or v i 0 < 256
-lane_fits [] i h = omega arith
-lane_fits (x ∷ xs) zero h = h.0.fits
 lane_fits (x ∷ xs) (suc i) h = lane_fits xs i h.1
+lane_fits v i h = grind (arith, common_steps)
 
 -- how far a byte is above so many from a first one on
 abbrev far : ℕ → ℕ → ℕ → ℕ
@@ -43,10 +43,8 @@ fraction_lane : (c : ℕ) → c < 256 → lane 48 9 0 c ≡ is_ascii_digit c
 fraction_lane c small = grind arith
 
 pub all_at : (bits : List Bool) (i : ℕ) → list_all (λ b. b) bits ≡ true → get_or bits i true ≡ true
-all_at [] i all = refl
-all_at (true ∷ bits) zero all = refl
 all_at (true ∷ bits) (suc i) all = all_at bits i all
-all_at (false ∷ bits) i all = absurd (cc)
+all_at bits i all = grind (arith, common_steps)
 
 -- the bits of the lanes of a field
 abbrev pub lanes : (ℕ → ℕ) → List Bool

@@ -2,12 +2,12 @@
 use Rattle.std.proofs.Common.{◌≡◌, ℕ, suc, ◌+◌, ◌-◌, ◌*◌, ◌%◌, ◌^◌, ◌<◌, ◌≤◌, Bool, true, cond, ◌&&◌, ltb}
 use Rattle.std.proofs.Common.{bit_and, ◌/◌, leb, List, [], ◌∷◌, ◌++◌, map, length, replicate, get_or, subst}
 use Rattle.std.proofs.{Common.{Fits, w8, refl, sym, ◌∙◌, ltb-true, ltb-false, arith}, Math.Nat.pow-suc}
-use Rattle.std.proofs.{Math.Nat.mul-le-mul_right, lemmas.Bool.{and_parts, or_cases, leb-true, le-leb}}
+use Rattle.std.proofs.{Math.Nat.mul-le-mul_right, lemmas.Bool.{and_parts, leb-true}}
 use Rattle.std.proofs.lemmas.{Grind.common_steps, List.Folds.list_all-append, Nat.and_mask}
 use Rattle.std.specs.{List.{range_with_len, list_all}, Str.all_ascii_digits}
 use lib.Lanes.{Each1, pick_l, top, zip2, sel_l, dots}
 use Rattle.crx_text.proofs.{GroupHalves.{wide_of, wide_are_four}, LaneBits.sixteen, PlainLanes.lane_fits}
-use Rattle.crx_text.proofs.{PowersOfTen.digit_range, Sizes.{pos_is_within, neg_is_within}}
+use Rattle.crx_text.proofs.{Sizes.{pos_is_within, neg_is_within}}
 use Rattle.crx_text.specs.{Fields.{IsPlain, is_plain_after, weighed, plain_digits}, meaning.Numbers.IsWithin}
 use Rattle.crx_text.specs.meaning.Numbers.{signed_number}
 
@@ -84,17 +84,12 @@ weighed_is_small n (c ∷ cs) small =
 
 digits_are_small : (cs : List ℕ) → all_ascii_digits cs ≡ true → list_all (λ c. leb c 57) cs ≡ true
 digits_are_small [] digits = refl
-digits_are_small (c ∷ cs) digits =
-    let parts = and_parts _ _ digits in
-    rw (le-leb c 57 (omega (arith, digit_range c parts.0))) (digits_are_small cs parts.1)
+digits_are_small (c ∷ cs) digits = grind (arith, common_steps, digits_are_small cs)
 
 plain_is_small : (before : ℕ) (cs : List ℕ) → is_plain_after before cs ≡ true → list_all (λ c. leb c 57) cs
     ≡ true
 plain_is_small before [] plain = refl
-plain_is_small before (c ∷ cs) plain =
-    let parts = and_parts _ _ plain in
-    let small = le-leb c 57 (grind (arith, common_steps, or_cases)) in
-    rw small (plain_is_small c cs parts.1)
+plain_is_small before (c ∷ cs) plain = grind (arith, common_steps, plain_is_small c cs)
 
 small_explicit : (c : ℕ → ℕ) → IsPlain (map c (range_with_len 0 16))
     → weighed 0 (plain_digits (map c (range_with_len 0 16))) < 10 ^ 12

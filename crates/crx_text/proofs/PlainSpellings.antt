@@ -1,11 +1,11 @@
 -- What plain columns spell.
-use Rattle.std.proofs.Common.{rules, ◌≡◌, ◌≢◌, ℕ, ℤ, pos, ◌+◌, ◌-◌, ◌*◌, true, false, ◌||◌, eqb, Option, Some}
+use Rattle.std.proofs.Common.{rules, ◌≡◌, ◌≢◌, ℕ, ℤ, pos, ◌+◌, ◌-◌, ◌*◌, true, false, ◌||◌, eqb, Some}
 use Rattle.std.proofs.Common.{None, List, [], ◌∷◌, ◌++◌, map, take, length, get_or, subst, refl, sym, ap, ◌∙◌}
-use Rattle.std.proofs.{Common.{inl, inr, eqb-true, arith}, lemmas.Bool.{and_parts, or_cases, cases_eq}}
+use Rattle.std.proofs.{Common.{eqb-true, arith}, lemmas.Bool.{and_parts, or_cases}}
 use Rattle.std.{proofs.lemmas.{Bool.ne_eqb, Grind.common_steps}, specs.{Char.is_ascii_digit, List.list_all}}
 use Rattle.std.specs.{List.{list_any, range_with_len}, Option.option_map, Str.all_ascii_digits}
 use Rattle.std.specs.Str.Parse.{digits_value_after}
-use Rattle.crx_text.proofs.PowersOfTen.{digit_range, digit_value_is, digits_before, digits_value_after-append}
+use Rattle.crx_text.proofs.PowersOfTen.{digits_before, digits_value_after-append}
 use Rattle.crx_text.specs.{Fields.{IsPlain, is_plain_after, weighed, plain_digits}, meaning.Numbers.number_of}
 use Rattle.crx_text.specs.meaning.Numbers.{missing_or_number, signed_number, size_of}
 use Rattle.crx_text.proofs.ReadBack.{digits_behind, size_of_pieces, without_first_blanks-text}
@@ -16,9 +16,7 @@ use Rattle.crx_text.{proofs.LaneBits.fourteen, specs.meaning.Columns.without_fir
 
 all_blank : (xs ys : List ℕ) → list_all (λ c. eqb c 32) (xs ++ ys) ≡ true → without_first_blanks xs ≡ []
 all_blank [] ys all = refl
-all_blank (x ∷ xs) ys all =
-    let parts = and_parts _ (list_all (λ c. eqb c 32) (xs ++ ys)) all in
-    rw parts.0 (all_blank xs ys parts.1)
+all_blank (x ∷ xs) ys all = grind (arith, common_steps, all_blank xs ys)
 
 pub blank_number : (width decimals : ℕ) (field ys : List ℕ)
     → length field ≡ width → list_all (λ c. eqb c 32) (field ++ ys) ≡ true
@@ -30,26 +28,16 @@ blank_number width decimals field ys long all = search (rules, number_of_width, 
 digits_after : (before : ℕ) (cs : List ℕ) → before ≢ 32 → is_plain_after before cs ≡ true
     → all_ascii_digits cs ≡ true
 digits_after before [] other plain = refl
-digits_after before (c ∷ cs) other plain =
-    let test = ne_eqb before 32 other in
-    let parts = and_parts _ _ plain in
-    let is_digit : is_ascii_digit c ≡ true = elim (or_cases _ _ parts.0)
-    [ inl digit ↦ digit | inr other ↦ absurd (cc) ] in
-    rw is_digit (digits_after c cs (λ e. omega (arith, digit_range c is_digit)) parts.1)
+digits_after before (c ∷ cs) other plain = grind (arith, common_steps, digits_after c cs)
 
 pub weighed_digits : (n : ℕ) (ds : List ℕ) → all_ascii_digits ds ≡ true
     → weighed n ds ≡ digits_value_after 10 n ds
 weighed_digits n [] digits = refl
-weighed_digits n (c ∷ cs) digits =
-    let parts = and_parts _ _ digits in
-    weighed_digits (n * 10 + (c - 48)) cs parts.1
-    ∙ ap (λ d. digits_value_after 10 (n * 10 + d) cs) (sym (digit_value_is c parts.0))
+weighed_digits n (c ∷ cs) digits = grind (arith, common_steps, weighed_digits (n * 10 + (c - 48)) cs)
 
 no_minus : (ds : List ℕ) → all_ascii_digits ds ≡ true → list_any (λ c. eqb c 45) ds ≡ false
 no_minus [] digits = refl
-no_minus (c ∷ cs) digits =
-    let parts = and_parts _ _ digits in
-    rw (ne_eqb c 45 (λ e. omega (arith, digit_range c parts.0))) (no_minus cs parts.1)
+no_minus (c ∷ cs) digits = grind (arith, common_steps, no_minus cs)
 
 digits_decimal : (decimals : ℕ) (whole fraction : List ℕ)
     → all_ascii_digits whole ≡ true → all_ascii_digits fraction ≡ true → length fraction ≡ decimals
@@ -81,26 +69,8 @@ pub decimal_whole : (decimals : ℕ) (fraction whole : List ℕ) → all_ascii_d
 decimal_whole decimals fraction [] then three plain =
     ap (λ o. option_map Some (option_map (signed_number false) o))
     (digits_decimal decimals [] fraction refl then three)
-decimal_whole decimals fraction (c ∷ cs) then three plain =
-    elim (cases_eq c 32) [
-      | inl blank ↦ subst (λ b. is_plain_after 32 (b ∷ cs) ≡ true → Spells decimals fraction (b ∷ cs))
-          (sym blank) (λ p. decimal_whole decimals fraction cs then three p) plain
-      | inr no_blank ↦ elim (cases_eq c 45) [
-        | inl minus ↦ subst (λ b. is_plain_after 32 (b ∷ cs) ≡ true
-            → Spells decimals fraction (b ∷ cs)) (sym minus)
-            (λ p. ap (λ (o : Option ℕ). option_map Some (option_map (signed_number true) o))
-            (digits_decimal decimals cs fraction (digits_after 45 cs (omega arith) p) then three)) plain
-        | inr no_sign ↦
-            let parts = and_parts _ _ plain in
-            let blank_test : eqb c 32 ≡ false = ne_eqb c 32 no_blank in
-            let sign_test : eqb c 45 ≡ false = ne_eqb c 45 no_sign in
-            let is_digit : is_ascii_digit c ≡ true =
-            elim (or_cases _ _ parts.0) [ inl digit ↦ digit | inr other ↦ absurd (cc) ] in
-            let digits : all_ascii_digits (c ∷ cs) ≡ true =
-            rw is_digit (digits_after c cs no_blank parts.1) in
-            decimal_after decimals c cs fraction no_blank no_sign digits then three
-      ]
-    ]
+decimal_whole n fraction (c ∷ cs) then three plain =
+    grind (arith, common_steps, digits_decimal, digits_after, decimal_after, decimal_whole n fraction cs)
 
 not_minus : (c : ℕ) → is_ascii_digit c ≡ true → eqb c 45 ≡ false
 not_minus c is_digit = grind arith

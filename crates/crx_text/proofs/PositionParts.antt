@@ -41,4 +41,4 @@ module _ (f : ℕ → ℕ → ℕ) (old other front rest more others : List ℕ)
       → rest ≡ zip2 f (take (length other - k) (drop k BLANKS)) (take (length other - k) (drop k other)) →
       take (length other) (take k (front ++ more) ++ (rest ++ others)) ≡ by_position f old other
   other_is_longer ends within rest_is =
-      grind (arith, common_steps, replicate, some_blanks, by_position-other, length-zip2, two_parts, by_parts)
+      grind (arith, common_steps, some_blanks, by_position-other, length-zip2, by_parts)

@@ -1,16 +1,15 @@
 -- Two texts by position: as far as both go, and the rest of one.
-use Rattle.std.proofs.Common.{ℕ, suc, zero, ◌≡◌, ◌≤◌, List, [], ◌∷◌, ◌++◌, length, drop, take, replicate}
+use Rattle.std.proofs.lemmas.Grind.{common_steps}
+use Rattle.std.proofs.Common.{ℕ, suc, ◌≡◌, ◌≤◌, List, [], ◌∷◌, ◌++◌, length, drop, take, replicate}
 use Rattle.std.{proofs.Common.{arith, refl, ap}, specs.Simd.Lanes.zip2}
 use Rattle.crx_text.specs.meaning.Texts.{by_position}
 
 pub by_position-split : (f : ℕ → ℕ → ℕ) (n : ℕ) (xs ys : List ℕ) → n ≤ length xs
     → n ≤ length ys → by_position f xs ys
     ≡ zip2 f (take n xs) (take n ys) ++ by_position f (drop n xs) (drop n ys)
-by_position-split f zero xs ys first second = refl
-by_position-split f (suc n) [] ys first second = absurd (omega arith)
-by_position-split f (suc n) (x ∷ xs) [] first second = absurd (omega arith)
 by_position-split f (suc n) (x ∷ xs) (y ∷ ys) first second =
-    ap (λ t. f x y ∷ t) (by_position-split f n xs ys (omega arith) (omega arith))
+    grind (arith, common_steps, by_position-split f n xs ys)
+by_position-split f n xs ys first second = grind (arith, common_steps)
 
 pub by_position-old : (f : ℕ → ℕ → ℕ) (xs : List ℕ)
     → by_position f xs [] ≡ zip2 f xs (replicate (length xs) 32)

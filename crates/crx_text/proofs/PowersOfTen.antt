@@ -48,9 +48,7 @@ digits_value_after-append n (x ∷ xs) ys = digits_value_after-append (n * 10 + 
 pub digits_before : (ds rest : List ℕ) → all_ascii_digits ds ≡ true
     → all_ascii_digits (ds ++ rest) ≡ all_ascii_digits rest
 digits_before [] rest digits = refl
-digits_before (c ∷ cs) rest digits =
-    let parts = and_parts _ (all_ascii_digits cs) digits in
-    rw parts.0 (digits_before cs rest parts.1)
+digits_before (c ∷ cs) rest digits = grind (arith, common_steps, digits_before cs rest)
 
 -- the number that digits write is less than the next one before them, with as many zeros
 pub value_small : (size : ℕ) (ds : List ℕ)

@@ -1,8 +1,8 @@
 -- Digits in a row, as the decimal text of the number that they write.
 use Rattle.std.proofs.lemmas.Grind.{common_steps}
-use Rattle.std.proofs.Common.{◌≡◌, ℕ, zero, suc, ◌+◌, ◌-◌, ◌*◌, ◌/◌, ◌%◌, ◌^◌, ◌<◌, ◌≤◌, Bool, true, ltb, eqb}
+use Rattle.std.proofs.Common.{◌≡◌, ℕ, zero, suc, ◌+◌, ◌-◌, ◌*◌, ◌^◌, ◌<◌, ◌≤◌, Bool, true, ltb, eqb}
 use Rattle.std.proofs.Common.{if◌then◌else◌, List, [], ◌∷◌, ◌++◌, map, length, replicate, drop, decimal, refl}
-use Rattle.std.proofs.{Common.{sym, ap, ◌∙◌, append_assoc, ltb-true, arith}, lemmas.Bool.{and_parts, ne_eqb}}
+use Rattle.std.proofs.{Common.{sym, ap, ◌∙◌, arith}}
 use Rattle.std.proofs.lemmas.{Fmt.{decimal_digit, decimal_step}, List.{length-map, length-drop, append-nil}}
 use Rattle.std.specs.List.{list_all}
 use Rattle.crx_text.specs.meaning.Numbers.{zero_padded}
@@ -30,39 +30,22 @@ decimal_more : (size : ℕ) (ds : List ℕ)
     ≡ decimal size ++ glyphs ds
 decimal_more size [] some digits fits = sym (append-nil (decimal size))
 decimal_more size (d ∷ ds) some digits fits =
-    let parts = and_parts (ltb d 10) (are_digits ds) digits in
-    let small : d < 10 = ltb-true _ _ parts.0 in
-    let grows = written_grows (size * 10 + d) ds in
-    let step = decimal_step (size * 10 + d) (omega arith) (omega (arith, grows)) in
-    let tens : (size * 10 + d) / 10 ≡ size = omega arith in
-    let ones : (size * 10 + d) % 10 ≡ d = omega arith in
-    decimal_more (size * 10 + d) ds (omega arith) parts.1 fits
-    ∙ (rw (step, tens, ones) (append_assoc (decimal size) ((48 + d) ∷ []) (glyphs ds)))
+    grind (arith, common_steps, written_grows, decimal_step, decimal_more (size * 10 + d) ds)
 
 -- the decimal text is the digits without the zeros before them
 pub decimal_of_digits : (d : ℕ) (ds : List ℕ) → are_digits (d ∷ ds) ≡ true
     → written 0 (d ∷ ds) < 2 ^ 64 → decimal (written 0 (d ∷ ds))
     ≡ glyphs (drop (leading_zeros (d ∷ ds)) (d ∷ ds))
-decimal_of_digits d [] digits fits = grind (arith, common_steps, and_parts, ltb-true, decimal_digit)
 decimal_of_digits zero (e ∷ ds) digits fits = decimal_of_digits e ds digits fits
-decimal_of_digits (suc d) (e ∷ ds) digits fits =
-    let parts = and_parts _ _ digits in
-    let test = ne_eqb (suc d) 0 (λ z. omega arith) in
-    let same : 0 * 10 + suc d ≡ suc d = omega arith in
-    let more = decimal_more (suc d) (e ∷ ds) (omega arith) parts.1 (rw same at fits) in
-    rw (same, test) (more ∙ ap (λ t. t ++ glyphs (e ∷ ds)) (decimal_digit (suc d) (ltb-true _ _ parts.0)))
+decimal_of_digits d ds digits fits = grind (arith, common_steps, decimal_digit, decimal_more)
 
 pub zeros_few : (ds : List ℕ) → leading_zeros ds ≤ length ds - 1
-zeros_few [] = omega arith
-zeros_few (d ∷ []) = omega arith
 zeros_few (zero ∷ e ∷ ds) = let few = zeros_few (e ∷ ds) in omega (arith, few)
-zeros_few (suc d ∷ e ∷ ds) = grind (arith, common_steps, ne_eqb)
+zeros_few ds = grind (arith, common_steps)
 
 pub zeros_first : (ds : List ℕ) → ds ≡ replicate (leading_zeros ds) 0 ++ drop (leading_zeros ds) ds
-zeros_first [] = refl
-zeros_first (d ∷ []) = refl
 zeros_first (zero ∷ e ∷ ds) = ap (λ r. 0 ∷ r) (zeros_first _)
-zeros_first (suc d ∷ e ∷ ds) = grind arith
+zeros_first ds = grind (arith, common_steps)
 
 glyphs_of_zeros : (k : ℕ) (ds : List ℕ) → glyphs (replicate k 0 ++ ds) ≡ replicate k 48 ++ glyphs ds
 glyphs_of_zeros zero ds = refl

@@ -1,8 +1,8 @@
 -- The lanes of a printed observation: three digits of each group, and where the number begins.
-use Rattle.std.proofs.Common.{rules, ◌≡◌, ℕ, zero, suc, ◌+◌, ◌-◌, ◌*◌, ◌/◌, ◌%◌, ◌^◌, ◌<◌, ◌≤◌, Bool, true}
-use Rattle.std.proofs.Common.{false, not, cond, bit_and, leb, eqb, List, [], ◌∷◌, ◌++◌, map, length}
+use Rattle.std.proofs.Common.{◌≡◌, ℕ, zero, suc, ◌+◌, ◌-◌, ◌*◌, ◌/◌, ◌%◌, ◌^◌, ◌<◌, ◌≤◌, Bool, true}
+use Rattle.std.proofs.Common.{not, cond, bit_and, leb, eqb, List, [], ◌∷◌, ◌++◌, map, length}
 use Rattle.std.proofs.Common.{replicate, take, drop, get_or, subst, refl, sym, ap, ◌∙◌, eqb-true, arith}
-use Rattle.std.proofs.lemmas.{Bool.{agree_below_at, le-leb, ne_eqb, Decides.nat_tests}, Grind.common_steps}
+use Rattle.std.proofs.lemmas.{Bool.{agree_below_at, le-leb, Decides.nat_tests}, Grind.common_steps}
 use Rattle.std.proofs.lemmas.{Nat.and_mask, Simd.{trailing_mask_l, mask_l-mod, pick_l_whole}}
 use Rattle.std.specs.List.{range_with_len, prefix_len}
 use lib.{Count.count_trailing_zeros, Lanes.{Each1, chunk, mask_l, pick_l, top, zip2, digits_l, number_l}}
@@ -60,27 +60,14 @@ digits_of_words groups long small =
 
 -- ---- where the number begins
 
-begins_here : (y : ℕ) → leb 1 (suc y) ≡ true
-begins_here y = le-leb 1 (suc y) (omega arith)
-
-begins_now : (y : ℕ) → eqb (suc y) 0 ≡ false
-begins_now y = ne_eqb (suc y) 0 (λ e. omega arith)
-
 one_more : (n : ℕ) → 1 + n ≡ suc n
 one_more n = omega arith
 
 -- the lanes before a lane that passes in any case
 begins : (before : List ℕ) (d : ℕ) (bits : List Bool)
     → prefix_len (λ b. not b) (map (leb 1) before ++ true ∷ bits) ≡ leading_zeros (before ++ d ∷ [])
-begins [] d bits = refl
-begins (x ∷ []) d bits = search (rules, prefix_len, leb, leading_zeros, one_more, begins_here, begins_now)
-begins (x ∷ y ∷ ys) d bits = go x (begins (y ∷ ys) d bits)
-  where
-    go : (z : ℕ) → prefix_len (λ b. not b) (map (leb 1) (y ∷ ys) ++ true ∷ bits) ≡ leading_zeros
-        (y ∷ ys ++ d ∷ []) → prefix_len (λ b. not b) (leb 1 z ∷ map (leb 1) (y ∷ ys) ++ true ∷ bits)
-        ≡ leading_zeros (z ∷ y ∷ ys ++ d ∷ [])
-    go zero e = ap (λ (n : ℕ). 1 + n) e ∙ one_more (leading_zeros (y ∷ ys ++ d ∷ []))
-    go (suc z) e = rw (begins_here z, begins_now z) refl
+begins (x ∷ y ∷ ys) d bits = grind (arith, common_steps, begins (y ∷ ys) d bits)
+begins before d bits = grind (arith, common_steps)
 
 abbrev pub begin_lanes : List ℕ → List Bool
 begin_lanes v = map (top 7) (zip2

@@ -1,7 +1,7 @@
 -- From the row of text to the text of a size.
 use Rattle.std.proofs.Common.{rules, ◌≡◌, ℕ, zero, suc, ◌+◌, ◌-◌, ◌/◌, ◌%◌, ◌^◌, ◌<◌, true, List, [], ◌∷◌}
 use Rattle.std.proofs.Common.{◌++◌, length, replicate, take, drop, refl, sym, ap, ◌∙◌, append_assoc}
-use Rattle.std.proofs.{Common.{length-append, ltb-true, arith}, lemmas.Bool.{and_parts, ne_eqb}}
+use Rattle.std.proofs.{Common.{length-append, arith}, lemmas.Bool.{ne_eqb}}
 use Rattle.std.proofs.lemmas.{Grind.common_steps, List.{length-map, length-drop, length-replicate, take_at}}
 use Rattle.std.proofs.lemmas.List.{drop_at, replicate-append-replicate}
 use lib.Lanes.{zip2}
@@ -17,11 +17,7 @@ plus = zip2 (λ a b. (a + b) % 256)
 plus_digits : (ds xs ys : List ℕ)
     → are_digits ds ≡ true → plus (ds ++ xs) (replicate (length ds) 48 ++ ys) ≡ glyphs ds ++ plus xs ys
 plus_digits [] xs ys digits = refl
-plus_digits (d ∷ ds) xs ys digits =
-    let parts = and_parts _ _ digits in
-    let small : d < 10 = ltb-true _ _ parts.0 in
-    let glyph : (d + 48) % 256 ≡ 48 + d = omega arith in
-    rw glyph (ap (λ (r : List ℕ). (48 + d) ∷ r) (plus_digits ds xs ys parts.1))
+plus_digits (d ∷ ds) xs ys digits = grind (arith, common_steps, plus_digits ds xs ys)
 
 abbrev pub row_of : List ℕ → List ℕ → List ℕ
 row_of nine three = 0 ∷ (nine ++ (254 ∷ (three ++ (0 ∷ 0 ∷ []))))

@@ -1,14 +1,14 @@
 -- What is printed is read back.
-use Rattle.std.proofs.Common.{rules, true, ℕ, ℤ, pos, negsuc, neg_ℤ, suc, zero, ◌≡◌, ◌≢◌, ◌+◌, ◌-◌, ◌*◌, ◌<◌}
+use Rattle.std.proofs.Common.{true, ℕ, ℤ, pos, negsuc, neg_ℤ, suc, zero, ◌≡◌, ◌≢◌, ◌+◌, ◌-◌, ◌*◌, ◌<◌}
 use Rattle.std.proofs.Common.{◌≤◌, ◌^◌, List, [], ◌∷◌, ◌++◌, length, get_or, replicate, decimal, Option, Some}
 use Rattle.std.proofs.{Common.{None, arith, refl, ap, ◌∙◌}, Math.Nat.{pow-suc, div-le_self}}
 use Rattle.std.proofs.lemmas.Fmt.{decimal_is_IsNumeral, digits_decimal, first_decimal, decimal_nonempty}
 use Rattle.std.proofs.lemmas.{Fmt.decimal_digit, Grind.common_steps, Int.ints, List.get_or_at}
-use Rattle.std.proofs.lemmas.{Nat.div-add-mod', Str.Parse.{IsNumeralModel, numerals_by_value}}
+use Rattle.std.proofs.lemmas.{Str.Parse.{IsNumeralModel, numerals_by_value}}
 use Rattle.std.{proofs.lemmas.Str.Parse.tells_all_ascii_digits, specs.{Char.digit_value, Option.option_map}}
 use Rattle.std.specs.{Option.ForSome, Str.{all_ascii_digits, Parse.{digits_value, digits_value_after}}}
 use Rattle.crx_text.proofs.Sizes.{size_of_parts, decimal_number_plain, decimal_number_minus, number_of_width}
-use Rattle.crx_text.proofs.Spellings.{fraction_short, length-zero_padded, length-size_text, size_text_fits}
+use Rattle.crx_text.proofs.Spellings.{fraction_short, length-size_text, size_text_fits}
 use Rattle.crx_text.proofs.Spellings.{ten_pow_small, abs_within, abs_within_below}
 use Rattle.crx_text.specs.meaning.{Columns.without_first_blanks, Numbers.{IsWithin, number_of, number_text}}
 use Rattle.crx_text.specs.meaning.Numbers.{size_of, size_text, right_justified, decimal_number}
@@ -52,16 +52,13 @@ size_of_pieces = grind (arith, common_steps, get_or_at, digits_behind, size_of_p
 pub size_of-size_text : (decimals size : ℕ)
     → 0 < decimals → decimals < 19 → size < 2 ^ 64 → size_of decimals (size_text decimals size) ≡ Some size
 size_of-size_text decimals size some few small =
-    search (
-      rules,
-      div-le_self,
+    grind (
+      arith,
+      common_steps,
       fraction_short,
-      div-add-mod',
       size_of_pieces,
-      length-zero_padded,
       decimal_is_digits,
       zeros_are_digits,
-      decimal,
       decimal_weighs,
       zeros_weigh_nothing,
     )

@@ -1,6 +1,6 @@
 -- The spellings of a number without its sign: what reading them asks for.
 use Rattle.std.proofs.Common.{ℤ, pos, neg_ℤ, ◌≡◌, ℕ, ◌+◌, ◌-◌, ◌<◌, ◌≤◌, ◌^◌, Bool, true, false, ◌&&◌, ◌≢◌}
-use Rattle.std.proofs.Common.{if◌then◌else◌, nat_lt, Option, Some, None, List, length, drop, take, get_or}
+use Rattle.std.proofs.Common.{if◌then◌else◌, Option, Some, None, List, length, drop, take, get_or}
 use Rattle.std.proofs.{Common.{arith, sym}, Math.Nat.pow-le-pow_right, lemmas.Grind.common_steps}
 use Rattle.std.specs.{Option.option_map, Str.{all_ascii_digits, Parse.{digits_value, digits_value_after}}}
 use Rattle.crx_text.proofs.PowersOfTen.{ten_pow_pos, digits_value_after-append}
@@ -21,8 +21,7 @@ pub size_of_parts : (decimals point : ℕ) (text : List ℕ)
     size_of decimals text ≡ (if all_ascii_digits (take point text) && all_ascii_digits (drop (point + 1) text)
     then Some (digits_value_after 10 (digits_value 10 (take point text)) (drop (point + 1) text)) else None)
 unfolding size_of
-size_of_parts decimals point text at long dot =
-    grind (arith, common_steps, nat_lt, get_or, digits_value, digits_value_after, digits_value_after-append)
+size_of_parts decimals point text at long dot = grind (arith, common_steps, digits_value_after-append)
 
 -- a choice of two tests after the first one
 pub neither : (a b : Bool) (x y : ℕ) → ◌≡◌ {A = Option ℕ} None (if a then Some x else None)

@@ -47,8 +47,7 @@ pub printed_plain : (width decimals size start : ℕ) (field : List ℕ)
     → take start field ≡ take start (replicate width 32)
     → field ≡ number_text width decimals (Some (pos size))
 unfolding number_text
-printed_plain width decimals size start field end written before =
-    grind (arith, common_steps, take-replicate, size_text, take-append-drop, replicate)
+printed_plain width decimals size start field end written before = grind (arith, common_steps, take-replicate)
 
 pub printed_minus : (width decimals less start : ℕ) (field : List ℕ)
     → 1 ≤ start → start + length (size_text decimals (less + 1)) ≡ width

@@ -29,11 +29,9 @@ stored_ends f n old other out some few same room made made_is =
       arith,
       common_steps,
       length-zip2,
-      length-take-le,
       zip2-append,
       zip2-take,
       zip2-drop,
-      pick_l,
       pick_l-range_with_len,
       copied_ends,
     )

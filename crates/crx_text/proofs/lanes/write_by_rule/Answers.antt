@@ -1,5 +1,5 @@
-use Rattle.std.proofs.{Common.{get_or, sym, ◌∙◌, arith}, lemmas.{Grind.common_steps, List.take_all}}
-use Rattle.std.proofs.lemmas.{List.{take_more, take_more_set, length-set}, Simd.{get_or-zip2, length-zip2}}
+use Rattle.std.proofs.{Common.{sym, ◌∙◌, arith}, lemmas.{Grind.common_steps, List.take_all}}
+use Rattle.std.proofs.lemmas.{Simd.{length-zip2}}
 use Rattle.std.specs.Simd.Lanes.{zip2}
 use Rattle.crx_text.proofs.{LaneTexts.{piece_written, last_written}, TextEnds.stored_ends}
 use Rattle.crx_text.proofs.lanes.write_by_rule.Goals as goal
@@ -23,8 +23,7 @@ returns-then-count-ge8 g c =
     ∙ (grind (arith, common_steps, c.ends_of_eight.ensures, c.ends_of_eight-then-count-ge8.ensures)))
 
 pub loop-column-preserved : goal.loop-column-preserved
-loop-column-preserved g c =
-    grind (arith, common_steps, zip2, length-zip2, get_or, get_or-zip2, length-set, take_more_set, take_more)
+loop-column-preserved g c = grind (arith, common_steps)
 
 pub returns : goal.returns
 returns g c = grind (arith, common_steps, zip2, length-zip2, take_all)

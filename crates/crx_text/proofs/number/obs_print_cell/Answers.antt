@@ -1,6 +1,6 @@
 use Rattle.std.proofs.Common.{◌≡◌, ◌≤◌, ℕ, ◌+◌, List, [], ◌∷◌, ◌++◌, length, take, set, get_or, arith}
-use Rattle.std.proofs.lemmas.{Grind.common_steps, List.{length-take-le, length-drop, take-take, drop-set-lt}}
-use Rattle.std.proofs.lemmas.Slice.{take-put_mid, drop-put_mid}
+use Rattle.std.proofs.lemmas.{Grind.common_steps, List.{length-take-le, length-drop}}
+use Rattle.std.proofs.lemmas.Slice.{drop-put_mid}
 use lib.Seq.{take-append-add}
 use borrow.Rule.Slice.PartMut.{put_mid}
 use Rattle.crx_text.proofs.number.obs_print_cell.Goals as goal
@@ -8,8 +8,7 @@ use Rattle.crx_text.proofs.number.obs_print_cell.Goals as goal
 -- the first 14 bytes of a part of some bytes
 field_written : (bytes part : List ℕ) (at k : ℕ) → length part ≡ 16 → k ≡ 16 → at + 16 ≤ length bytes
     → take (at + 14) (put_mid at k bytes part) ≡ take at bytes ++ take 14 part
-field_written bytes part at k long sixteen room =
-    grind (arith, common_steps, put_mid, take-put_mid, length-take-le, take-take, take-append-add)
+field_written bytes part at k long sixteen room = grind (arith, common_steps, take-append-add)
 
 -- that field, and the two bytes after it
 cell_written : (bytes part : List ℕ) (at k one two : ℕ) → length part ≡ 16 → k ≡ 16 → at + 16 ≤ length bytes
@@ -21,5 +20,4 @@ pub returns-clause-written : goal.returns-clause-written
 returns-clause-written c = grind (arith, common_steps, length-take-le, length-drop, get_or, set, cell_written)
 
 pub returns-clause-rest : goal.returns-clause-rest
-returns-clause-rest c =
-    grind (arith, common_steps, drop-set-lt, drop-put_mid, length-drop, length-take-le, get_or, set, put_mid)
+returns-clause-rest c = grind (arith, common_steps, drop-put_mid)

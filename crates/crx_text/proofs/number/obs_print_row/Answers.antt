@@ -1,5 +1,6 @@
-use Rattle.std.proofs.Common.{◌≡◌, ◌≤◌, ℕ, zero, suc, List, [], ◌∷◌, length, take, set, Some, w64, arith}
-use Rattle.std.proofs.{Common.{rules, refl, sym, ap, ◌∙◌}, lemmas.{Int.to_z-of_z, List.take-replicate}}
+use Rattle.std.proofs.lemmas.Grind.{common_steps}
+use Rattle.std.proofs.Common.{◌≡◌, ◌≤◌, ℕ, suc, List, ◌∷◌, length, take, set, Some, w64, arith}
+use Rattle.std.proofs.{Common.{rules, sym, ap, ◌∙◌}, lemmas.{Int.to_z-of_z, List.take-replicate}}
 use Rattle.std.proofs.lemmas.List.{length-take-le, take-append-le, take_all}
 use lib.IntN.{nat_abs}
 use Rattle.crx_text.proofs.Spellings.{printed_number, printed_number_below, printed_blank, abs_within}
@@ -7,10 +8,8 @@ use Rattle.crx_text.specs.meaning.Numbers.{number_text}
 use Rattle.crx_text.proofs.number.obs_print_row.Goals as goal
 
 put_in_front : (n : ℕ) (xs : List ℕ) (i x : ℕ) → take n (set xs i x) ≡ set (take n xs) i x
-put_in_front zero xs i x = refl
-put_in_front (suc n) [] i x = refl
-put_in_front (suc n) (y ∷ ys) zero x = refl
 put_in_front (suc n) (y ∷ ys) (suc i) x = ap (λ t. y ∷ t) (put_in_front n ys i x)
+put_in_front n xs i x = grind (arith, common_steps)
 
 pub overflow_cast-size : goal.overflow_cast-size
 overflow_cast-size c =
