@@ -1,17 +1,17 @@
 -- The cells of a satellite line, taken one by one.
-use Rattle.std.proofs.Common.{rules, ◌≡◌, ℕ, ℤ, ◌+◌, ◌-◌, ◌*◌, ◌<◌, ◌≤◌, All, List, [], ◌∷◌, ◌++◌, Option}
+use Rattle.std.proofs.Common.{◌≡◌, ℕ, ℤ, ◌+◌, ◌-◌, ◌*◌, ◌<◌, ◌≤◌, All, List, [], ◌∷◌, ◌++◌, Option}
 use Rattle.std.proofs.Common.{Some, None, length, take, drop, replicate, get_or, refl, ap, sym, ◌∙◌, arith}
 use Rattle.std.proofs.{Common.{suc, zero, Bool, true, Err, MatchBool}, lemmas.Bool.and_from}
 use Rattle.std.proofs.lemmas.{Grind.common_steps, List.{take_more_set, length-set, take_at, take-append-le}}
-use Rattle.std.proofs.lemmas.List.{drop_all, length-drop, get_or_default, get_or_past, take-set, take-take}
-use Rattle.std.proofs.lemmas.List.{length-replicate, take-replicate, Elements.All-set, Folds.concat-append}
-use Rattle.std.{proofs.lemmas.Option.{option_and_then_some, same_Some, none-some}, specs.List.concat}
+use Rattle.std.proofs.lemmas.List.{drop_all, length-drop, get_or_default, get_or_past, take-take}
+use Rattle.std.proofs.lemmas.List.{length-replicate, take-replicate, Folds.concat-append}
+use Rattle.std.{specs.List.concat}
 use Rattle.std.specs.{List.list_all, Prelude.slice_set}
 use Rattle.crx_text.proofs.EachPlace.{each_place-more, index-each_place, length-each_place}
-use Rattle.crx_text.specs.{Numbers.IsObservation, meaning.Columns.{character_at, is_blank}}
+use Rattle.crx_text.specs.{meaning.Columns.{character_at, is_blank}}
 use Rattle.crx_text.specs.meaning.{EachPlace.each_place, Numbers.{observation_of, number_of, IsValue}}
 use Rattle.crx_text.specs.meaning.Texts.{is_kept}
-use Rattle.crx_rinex.specs.SatelliteLines.{blank_row, row_by_cells, with_flags, with_value, AreAllRead}
+use Rattle.crx_rinex.specs.SatelliteLines.{blank_row, row_by_cells, with_flags, AreAllRead}
 use Rattle.crx_rinex.specs.{SatelliteLines.AreCellsRead, meaning.{Observations.Row, SatelliteLines.all_some}}
 use Rattle.crx_rinex.specs.meaning.SatelliteLines.{values_in, flags_at, flags_in, field, row_with, IsSoundRow}
 use Rattle.crx_header.specs.meaning.{ObservationTypes.IsAllowedCount, Satellites.is_identifier}
@@ -20,20 +20,14 @@ use Rattle.crx_base.specs.declared.fault.Fault.TheVariants.{BadField}
 -- one value more
 pub all_some-push : (xs : List (Option (Option ℤ))) (vs : List (Option ℤ)) (v : Option ℤ)
     → all_some xs ≡ Some vs → all_some (xs ++ Some v ∷ []) ≡ Some (vs ++ v ∷ [])
-all_some-push [] vs v h = grind arith
-all_some-push (None ∷ xs) vs v h = absurd (none-some vs h)
-all_some-push (Some x ∷ xs) vs v h =
-    option_and_then_some {P = all_some (Some x ∷ (xs ++ Some v ∷ [])) ≡ Some (vs ++ v ∷ [])}
-    (λ values. Some (x ∷ values)) (all_some xs) vs h (λ ws e g. rw (all_some-push xs ws v e)
-    (ap (λ (us : List (Option ℤ)). Some (us ++ v ∷ [])) (same_Some (x ∷ ws) vs g)))
+all_some-push (Some x ∷ xs) vs v h = grind (arith, common_steps, all_some-push xs)
+all_some-push xs vs v h = grind (arith, common_steps)
 
 -- one that is missing a spelling
 pub all_some_at : (xs : List (Option (Option ℤ))) (k : ℕ) → k < length xs → get_or xs k None ≡ None
     → all_some xs ≡ None
-all_some_at [] k h e = absurd (omega arith)
-all_some_at (None ∷ xs) k h e = refl
-all_some_at (Some x ∷ xs) zero h e = absurd (none-some x (sym e))
 all_some_at (Some x ∷ xs) (suc k) h e = rw (all_some_at xs k (omega arith) e) refl
+all_some_at xs k h e = grind (arith, common_steps)
 
 pub values_in_more : (line : List ℕ) (k : ℕ) (vs : List (Option ℤ)) (v : Option ℤ)
     → values_in k line ≡ Some vs → observation_of (field line k) ≡ Some v
@@ -96,11 +90,6 @@ pub cells_more : (line : List ℕ) (values : List (Option ℤ)) (flags : List �
     b)
 cells_more = grind (arith, common_steps, take_more_set, length-set, values_in_more, pair_pushed)
 
--- another value after them is no loss
-pub cells_kept : (line : List ℕ) (values : List (Option ℤ)) (flags : List ℕ) (k : ℕ) (value : Option ℤ)
-    → AreCellsRead k line values flags → AreCellsRead k line (slice_set values k value) flags
-cells_kept line values flags k value h = grind (arith, common_steps, take-set, length-set)
-
 -- once the last is read
 pub cells_whole : (line : List ℕ) (values : List (Option ℤ)) (flags : List ℕ) (k m : ℕ)
     → AreCellsRead k line values flags → k ≡ m → length values ≡ m
@@ -158,15 +147,6 @@ sound-cleared name m n named small within =
       take-replicate {X = Option ℤ} m n None within,
       take-replicate {X = ℕ} (2 * m) (2 * n) 32 (omega (arith, within)),
     ) (sound-blank name m named small)
-
--- a value of which every number that it has fits its columns
-pub is-value : (value : Option ℤ)
-    → ((number : ℤ) → value ≡ Some number → IsObservation number) → IsValue value
-is-value = grind (arith, common_steps)
-
-pub sound-with_value : (row : Row) (k : ℕ) (value : Option ℤ)
-    → IsSoundRow row → IsValue value → IsSoundRow (with_value row k value)
-sound-with_value row k value h sound = search (rules, length-set, All-set)
 
 pub sound-with_flags : (row : Row) (flags : List ℕ) → IsSoundRow row
     → length flags ≤ 2 * length row.values → list_all is_kept flags ≡ true → IsSoundRow (with_flags row flags)

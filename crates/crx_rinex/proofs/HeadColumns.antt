@@ -1,32 +1,21 @@
 -- The columns of an epoch line before the clock have its first character and its flag.
 use Rattle.std.proofs.lemmas.Grind.{common_steps}
-use Rattle.std.proofs.Common.{◌≡◌, ◌⊎◌, inl, inr, ◌<◌, ◌≤◌, ◌-◌, ◌++◌, ℕ, List, length, take, get_or}
-use Rattle.std.proofs.Common.{replicate, arith, refl, ◌∙◌, sym, true, false, None, if◌then◌else◌}
-use Rattle.std.proofs.lemmas.List.{get_or-take, get_or_append_left, get_or-append_right, get_or-replicate}
-use Rattle.std.proofs.lemmas.List.{get_or_past}
+use Rattle.std.proofs.Common.{◌≡◌, ◌<◌, ◌++◌, ℕ, List, take, get_or}
+use Rattle.std.proofs.Common.{replicate, arith, refl, true, false, None, if◌then◌else◌}
 use Rattle.std.specs.List.{list_all}
 use Rattle.crx_text.specs.meaning.{Columns.{character_at, columns}, Texts.is_kept}
 use Rattle.crx_header.specs.meaning.EpochColumns.{begins_epoch, epoch_count, is_observation_flag}
 use Rattle.crx_header.specs.meaning.EpochColumns.{satellites_in}
 
--- A number is below another or not.
-either_way : (m n : ℕ) → (m < n) ⊎ (n ≤ m)
-either_way m n = grind arith
-
-character_by : (line : List ℕ) (width n : ℕ) → n < width → (n < length line) ⊎ (length line ≤ n)
+character_by : (line : List ℕ) (width n : ℕ) → n < width
     → get_or (take width (line ++ replicate width 32)) n 32 ≡ get_or line n 32
-character_by line width n less (inl inside) = get_or-take width _ n 32 less
-    ∙ get_or_append_left line (replicate width 32) 32 n inside
-character_by line width n less (inr past) = get_or-take width _ n 32 less
-    ∙ get_or-append_right line (replicate width 32) (length line) n 32 refl past
-    ∙ get_or-replicate width (n - length line) 32 32 (omega (arith, less, past))
-    ∙ sym (get_or_past line n 32 past)
+character_by line width n less = grind (arith, common_steps)
 
 first_in : (line : List ℕ) → character_at (columns line 1 41) 1 ≡ character_at line 1
-first_in line = character_by line 41 0 (omega arith) (either_way _ _)
+first_in line = character_by line 41 0 (omega arith)
 
 flag_in : (line : List ℕ) → character_at (columns line 1 41) 32 ≡ character_at line 32
-flag_in line = character_by line 41 31 (omega arith) (either_way _ _)
+flag_in line = character_by line 41 31 (omega arith)
 
 -- What they announce is told by their characters and their count.
 pub announced : (line : List ℕ) → begins_epoch line ≡ true → is_observation_flag (character_at line 32) ≡ true

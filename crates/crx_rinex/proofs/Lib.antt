@@ -6,5 +6,4 @@ pub mod Ranges
 pub mod ReadingBack
 pub mod Rows
 pub mod SoundEpochs
-pub mod Copied
 pub mod HeadColumns

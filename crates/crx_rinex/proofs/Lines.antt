@@ -1,16 +1,15 @@
 -- Lines that are borrowed one by one, from the first of a list on.
 use Rattle.std.proofs.Common.{◌≡◌, ◌≢◌, ◌↔◌, ◌<◌, ℕ, ◌-◌, List, [], ◌∷◌, Option, None, is_none, is_some, not}
-use Rattle.std.proofs.Common.{Bool, Bor, option_copied, IsTrue, drop, map, slice_get, refl, true≢false, arith}
-use Rattle.std.proofs.{Common.{suc, zero}, lemmas.{Grind.common_steps, Option.none-some}}
+use Rattle.std.proofs.Common.{Bool, Bor, option_copied, IsTrue, drop, map, slice_get, true≢false, arith}
+use Rattle.std.proofs.{Common.{suc}, lemmas.{Grind.common_steps, Option.none-some}}
 
 pub after_first : {X : Type 0} (x : X) (xs : List X) (n : ℕ) → n ≢ 0
     → slice_get (x ∷ xs) n ≡ slice_get xs (n - 1)
 after_first = grind (arith, common_steps)
 
 pub first_of_rest : {X : Type 0} (xs : List X) (n : ℕ) → slice_get (drop n xs) 0 ≡ slice_get xs n
-first_of_rest xs zero = refl
-first_of_rest [] (suc n) = refl
 first_of_rest (x ∷ xs) (suc n) = first_of_rest xs n
+first_of_rest xs n = grind (arith, common_steps)
 
 pub no_next : {X : Type 0} (xs : List X) → slice_get xs 0 ≡ None → xs ≡ drop 1 xs
 no_next = grind (arith, common_steps, none-some)
@@ -18,10 +17,8 @@ no_next = grind (arith, common_steps, none-some)
 -- no element is at a place exactly where nothing is left from there on
 none-left : {A B : Type 0} (f : A → B) (xs : List A) (k : ℕ)
     → IsTrue (is_none (slice_get xs k)) ↔ (drop k (map f xs) ≡ [])
-none-left f [] zero = ((λ t. refl), (λ e. refl))
-none-left f [] (suc k) = ((λ t. refl), (λ e. refl))
-none-left f (x ∷ xs) zero = grind arith
 none-left f (x ∷ xs) (suc k) = none-left f xs k
+none-left f xs k = grind (arith, common_steps)
 
 -- whether something is at a place, as `is_some` says it of a reference
 none-copied : {A : Type 0} (b : Bool) (o : Option (Bor A))

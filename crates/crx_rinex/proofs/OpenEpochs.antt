@@ -8,7 +8,7 @@ use Rattle.crx_rinex.specs.EpochPlaces.{EpochStep, Going, Whole, Faulty, when_wa
 use Rattle.crx_rinex.specs.EpochPlaces.{after_row, epoch_step, still_open, opened_by, opened_at, open_after}
 use Rattle.crx_rinex.specs.{EpochPlaces.{open_with, place_after}, Laws.{IsWantedWhereOpen, IsDecidedByOpen}}
 use Rattle.crx_rinex.specs.{Steady.IsSteady, meaning.EpochPlaces.{OpenEpoch, Beginning, EventBegins}}
-use Rattle.crx_rinex.specs.meaning.EpochPlaces.{EpochBegins, rows_wanted, with_next_row, row_at, rows_at}
+use Rattle.crx_rinex.specs.meaning.EpochPlaces.{EpochBegins, rows_wanted, with_next_row, rows_at}
 use Rattle.crx_rinex.specs.meaning.EpochPlaces.{rest_at, beginning_of, unit_begun, epoch_place}
 use Rattle.crx_rinex.specs.meaning.{Observations.{Row, Epoch}, Places.{Place, Done, Fails, NeedsMore}}
 use Rattle.crx_rinex.specs.meaning.{Places.{after_lines, then_place, one_line}, Units.Unit}
@@ -19,9 +19,7 @@ use Rattle.crx_header.specs.meaning.ObservationTypes.{Count}
 
 pub steady-rows : (count : ℕ) (so_far : OpenEpoch) → IsSteady (rows_at so_far count)
 steady-rows zero so_far = steady-here _
-steady-rows (suc count) so_far =
-    steady-then (row_at so_far) (λ row rest. rows_at (with_next_row so_far row) count rest)
-    (steady-first_line _) (λ row. steady-rows count _)
+steady-rows (suc count) so_far = grind (arith, common_steps, steady-rows count)
 
 pub steady-rest : (so_far : OpenEpoch) → IsSteady (rest_at so_far)
 steady-rest so_far = steady-rows _ so_far
@@ -132,8 +130,7 @@ open_where_wanted : (lines : List ReadLine) (so_far : OpenEpoch)
     → 0 < rows_wanted so_far → rest_at so_far lines ≡ NeedsMore → IsOpen (Some so_far) lines
 open_where_wanted [] so_far wants h = (so_far, refl)
 open_where_wanted (line ∷ lines) so_far wants h =
-    open_by so_far line lines _ (λ next. open_where_wanted lines next) (step_wants so_far line)
-    (sym (step_at so_far line lines wants) ∙ h)
+    grind (arith, common_steps, open_by, step_at, open_where_wanted lines)
 
 -- one line more
 pub open_none : (begun : Option OpenEpoch) → open_after begun [] ≡ begun
@@ -141,9 +138,8 @@ open_none = grind (arith, common_steps)
 
 open_push : (lines : List ReadLine) (begun : Option OpenEpoch) (line : ReadLine)
     → open_after begun (lines ++ line ∷ []) ≡ open_after (open_after begun lines) (line ∷ [])
-open_push lines None line = refl
-open_push [] (Some so_far) line = refl
 open_push (l ∷ lines) (Some so_far) line = open_push lines _ line
+open_push lines begun line = grind (arith, common_steps)
 
 open_next : (lines : List ReadLine) (begun : Option OpenEpoch) (line : ReadLine) (so_far : OpenEpoch)
     → open_after begun lines ≡ Some so_far

@@ -15,9 +15,7 @@ use Rattle.crx_rinex.specs.meaning.EpochLines.{IsClockOffset}
 digits-append : (xs ys : List ℕ)
     → all_ascii_digits xs ≡ true → all_ascii_digits ys ≡ true → all_ascii_digits (xs ++ ys) ≡ true
 digits-append [] ys h k = k
-digits-append (x ∷ xs) ys h k =
-    let parts = and_parts _ (all_ascii_digits xs) h in
-    rw parts.0 (digits-append xs ys parts.1 k)
+digits-append (x ∷ xs) ys h k = grind (arith, common_steps, digits-append xs ys)
 
 -- the digits of a text with a point are one fewer than its characters
 size_small : (decimals : ℕ) (text : List ℕ) (n : ℕ) → size_of decimals text ≡ Some n
@@ -72,8 +70,7 @@ missing_within decimals (c ∷ cs) o h = found_within _ (c ∷ cs) _ o refl h
 
 within_more : (columns width : ℕ) (o : Option ℤ)
     → columns ≤ width → IsMissingOrWithin columns o → IsMissingOrWithin width o
-within_more columns width None fewer h = tt
-within_more columns width (Some v) fewer h = IsWithin_more columns width v fewer h
+within_more columns width o fewer h = grind (arith, common_steps, IsWithin_more)
 
 pub tested : {A : Type 0} (b : Bool) (o : Option A) (y : A) → cond b o None ≡ Some y
     → (b ≡ true) × (o ≡ Some y)

@@ -2,9 +2,9 @@
 use Rattle.std.proofs.{lemmas.Grind.common_steps, Common.{◌≡◌, ℕ, ℤ, ◌+◌, ◌-◌, ◌*◌, ◌<◌, suc, Bool, true}}
 use Rattle.std.proofs.Common.{false, cond, ◌&&◌, List, [], ◌∷◌, ◌++◌, length, drop, map, Option, Some, None}
 use Rattle.std.proofs.Common.{IfSome, Ok, refl, ap, sym, ◌∙◌, arith, append-nil, append_assoc, length-append}
-use Rattle.std.proofs.lemmas.{Bool.{and_parts, or_parts, not-true}, List.Elements.{All-head, All-tail}}
-use Rattle.std.{proofs.lemmas.{List.Folds.list_any-append, Option.none-some}, specs.List.{concat, list_all}}
-use Rattle.std.specs.{Option.{option_and_then, ForSome}, Prelude.{All, ◌==◌}, Str.bytes_eq}
+use Rattle.std.proofs.lemmas.{Bool.{and_parts}, List.Elements.{All-head, All-tail}}
+use Rattle.std.{proofs.lemmas.{Option.none-some}, specs.List.{concat, list_all}}
+use Rattle.std.specs.{Option.{option_and_then, ForSome}, Prelude.{All, ◌==◌}}
 use Rattle.crx_text.proofs.Characters.{at, at-without_end_blanks, at-drop, at-append, at-append_past}
 use Rattle.crx_text.proofs.{Characters.{columns-are, list_all-from_at}, ReadBack.number_of-number_text}
 use Rattle.crx_text.specs.meaning.{Columns.{character_at, columns, is_blank}, EachPlace.each_place}
@@ -89,10 +89,6 @@ from-none n f = grind arith
 cells-read : (line : List ℕ) (k : ℕ) (values : List (Option ℤ)) (flags : List ℕ)
     → ((p : ℕ) → at line (16 * k + 3 + p) ≡ at (printed_cells values flags) p)
     → length flags ≡ 2 * length values → All IsValue values → AreCells line k values flags
-cells-read line k [] [] same pairs fit = grind arith
-cells-read line k [] (a ∷ flags) same pairs fit = absurd (omega (arith, pairs))
-cells-read line k (value ∷ values) [] same pairs fit = absurd (omega (arith, pairs))
-cells-read line k (value ∷ values) (a ∷ []) same pairs fit = absurd (omega (arith, pairs))
 cells-read line k (value ∷ values) (a ∷ b ∷ flags) same pairs fit =
     let fits : IsValue value = All-head IsValue value values fit in
     let width : length _ ≡ 14 = value-width value fits in
@@ -114,16 +110,15 @@ cells-read line k (value ∷ values) (a ∷ b ∷ flags) same pairs fit =
           (λ c. a ∷ c ∷ concat (each_place (length values) (λ j. flags_at line (k + 1 + j)))) first.2
           ∙ ap (λ fs. a ∷ b ∷ fs) rest.flags_read;
     }
+cells-read line k values flags same pairs fit = grind (arith, common_steps)
 
 length-cells : (values : List (Option ℤ)) (flags : List ℕ)
     → length flags ≡ 2 * length values → All IsValue values
     → length (printed_cells values flags) ≡ 16 * length values
-length-cells [] flags pairs fit = refl
-length-cells (value ∷ values) [] pairs fit = absurd (omega (arith, pairs))
-length-cells (value ∷ values) (a ∷ []) pairs fit = absurd (omega (arith, pairs))
 length-cells (value ∷ values) (a ∷ b ∷ flags) pairs fit =
     let rest = length-cells values flags (omega (arith, pairs)) (All-tail IsValue value values fit) in
     grind (arith, common_steps, value-width, All-head, cells-are, length-append)
+length-cells values flags pairs fit = grind (arith, common_steps)
 
 -- ---- a row
 
@@ -226,13 +221,7 @@ row-begins row h = grind (arith, common_steps)
 row-new : (rows : List Row) (row : Row) (rest : List Row)
     → are_different (rows ++ row ∷ rest) ≡ true → has_satellite row.name rows ≡ false
 row-new [] row rest h = refl
-row-new (r ∷ rows) row rest h =
-    let parts = and_parts _ _ h in
-    let none = not-true _ parts.0 in
-    let apart = or_parts _ _ (sym (list_any-append (λ k. bytes_eq k.name r.name) rows _) ∙ none) in
-    let differs = (or_parts _ _ apart.1).0 in
-    let other : bytes_eq r.name _ ≡ false = other_way row.name r.name differs in
-    rw other (row-new rows row rest parts.1)
+row-new (r ∷ rows) row rest h = grind (arith, common_steps, other_way, row-new rows row rest)
 
 next-read : (so_far : OpenEpoch) (row : Row) → IsSoundRow row → HasItsTypes so_far.types row
     → has_satellite row.name so_far.rows ≡ false → next_row so_far (printed_row row) ≡ Ok row

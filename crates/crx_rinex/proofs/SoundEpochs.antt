@@ -2,8 +2,8 @@
 use Rattle.std.proofs.Common.{rules, ◌≡◌, ℕ, ℤ, ◌+◌, ◌*◌, ◌≤◌, zero, suc, Bool, true, false, not, cond, List}
 use Rattle.std.proofs.Common.{[], ◌∷◌, length, drop, Option, Some, None, IfSome, OnSome, unwrap_or, Result}
 use Rattle.std.proofs.{Common.{Ok, Err, refl, ap, subst, ◌∙◌, arith}, lemmas.Bool.and_from}
-use Rattle.std.proofs.lemmas.{Grind.common_steps, List.{length_push, length-append, Elements.All-cons}}
-use Rattle.std.proofs.lemmas.{List.Elements.{All-push}, Option.{option_and_then_some, same_Some}}
+use Rattle.std.proofs.lemmas.{Grind.common_steps, List.{length_push, length-append}}
+use Rattle.std.proofs.lemmas.{List.Elements.{All-push}}
 use Rattle.std.{proofs.lemmas.Option.none-some, specs.{List.{list_all, AllByRecursion}, Prelude.{⊤, All}}}
 use Rattle.crx_text.proofs.{Characters.length-columns, EachPlace.{each_place-all, length-each_place}}
 use Rattle.crx_text.specs.meaning.{Columns.{character_at, columns, is_blank}, EachPlace.each_place}
@@ -51,11 +51,7 @@ values_sound : (xs : List (Option (Option ℤ))) (values : List (Option ℤ)) �
     → AreValues (length xs) values
 values_sound [] values h e = grind arith
 values_sound (None ∷ xs) values h e = absurd (none-some values e)
-values_sound (Some x ∷ xs) values h e =
-    option_and_then_some {P = AreValues _ values} (λ vs. Some _) _ values e
-    (λ vs some same. let ih = values_sound xs vs h.1 some in
-    subst (AreValues _) (same_Some _ values same)
-    (record { long = ap suc ih.long; ranged = All-cons IsValue x vs h.0 ih.ranged }))
+values_sound (Some x ∷ xs) values h e = grind (arith, common_steps, values_sound xs)
 
 flags_long : (line : List ℕ) (m : ℕ) → length (flags_in m line) ≡ 2 * m
 flags_long line zero = refl
@@ -117,8 +113,7 @@ types_case : (types : List Count) (line : List ℕ)
     → AreCounts types → (o : Option ℕ) → types_of_satellite types line ≡ o
     → IsSoundRead types (row_of_types line o)
 types_case types line counts None e = tt
-types_case types line counts (Some m) e =
-    values_case types line m e (typed types line m counts e) (values_in m line) refl
+types_case types line counts (Some m) e = search (rules, values_case, typed)
 
 pub sound-row_of : (types : List Count) (line : List ℕ) → AreCounts types
     → IsSoundRead types (row_of types line)

@@ -1,6 +1,6 @@
 use Rattle.std.proofs.Common.{◌≡◌, ℕ, ◌+◌, ◌*◌, ◌≤◌, List, length, drop, ap, sym, ◌∙◌}
-use Rattle.std.proofs.{Common.{arith, Bool, true}, lemmas.{Grind.common_steps}}
-use Rattle.std.{proofs.lemmas.List.{length-set, drop_all}, specs.{Bool.OnTrue, List.list_all}}
+use Rattle.std.proofs.{Common.{arith, true}}
+use Rattle.std.{proofs.lemmas.List.{length-set, drop_all}, specs.{List.list_all}}
 use Rattle.crx_text.specs.meaning.{Columns.is_blank, Numbers.observation_of}
 use Rattle.crx_rinex.proofs.Cells.{cells_more, cells_whole, past, read_inside}
 use Rattle.crx_rinex.proofs.satellite_row.take_last_cell.Goals as goal
@@ -24,10 +24,3 @@ returns-clause-read c =
     (past line (16 * first + 18) (omega (arith, long))) (past line (16 * first + 19) (omega (arith, long))) in
     cells_whole line _ _ (first + 1) (length values) more last (length-set values first value)
     (nothing-after line (16 * length values + 3) (omega (arith, last, long)))
-
--- ---- where all cells have been read
-
-on-true : (b : Bool) (X : Type 0) → (b ≡ true → X) → OnTrue b X
-on-true = grind (arith, common_steps)
-
--- ---- where the last one isn't taken

@@ -1,7 +1,5 @@
 use Rattle.std.proofs.lemmas.Grind.{common_steps}
-use Rattle.std.proofs.Common.{◌≡◌, Some, true, arith, rules}
-use Rattle.crx_header.specs.meaning.EpochColumns.{begins_epoch, epoch_count, is_observation_flag}
-use Rattle.crx_text.specs.meaning.Columns.{character_at}
+use Rattle.std.proofs.Common.{arith, rules}
 use Rattle.crx_rinex.proofs.HeadColumns.{announced, unannounced}
 use Rattle.crx_rinex.proofs.epoch_line.Head.read.Goals as goal
 
@@ -9,13 +7,7 @@ pub returns-then-not-is_observation_flag-clause-value : goal.returns-then-not-is
 returns-then-not-is_observation_flag-clause-value = grind (arith, common_steps, unannounced)
 
 pub invariant_of-result : goal.invariant_of-result
-invariant_of-result c =
-    let line = c.args.line.now in
-    let begins : begins_epoch line ≡ true = grind arith in
-    let flag : is_observation_flag (character_at line 32) ≡ true = grind arith in
-    let columns = announced line begins flag in
-    let told : epoch_count c.padded-head.result ≡ Some c.in-Some-satellites_by_count.count = cc (columns) in
-    search (rules, told)
+invariant_of-result c = search (rules, announced)
 
 pub returns-in-Ok-clause-value : goal.returns-in-Ok-clause-value
 returns-in-Ok-clause-value = grind (arith, common_steps, announced)
