@@ -1,10 +1,9 @@
 -- After an epoch line: the rows are of the satellites that the text announces.
-use Rattle.crx_compact.proofs.Words.{◌≡◌, [], ◌∷◌, ℕ, List, true, All, Result, Ok, map, refl, ap, sym, ◌∙◌}
-use Rattle.crx_compact.proofs.Words.{subst, list_all, is_printable, patched, length-each_place, Fault, Count}
+use Rattle.crx_compact.proofs.Words.{◌≡◌, [], ◌∷◌, ℕ, List, true, All, Result, Ok, map, refl}
+use Rattle.crx_compact.proofs.Words.{list_all, is_printable, patched, length-each_place, Fault, Count}
 use Rattle.crx_compact.proofs.Words.{IsAwaitedSatellite, past_of_tail, satellites_of_line, satellites_of_text}
-use Rattle.crx_compact.proofs.Words.{Satellite, IsAnnounced, OpenHistory, padded_among, satellite_of}
-use Rattle.crx_compact.proofs.Words.{AreAnnounced, RowTail, Tail, arith}
-use Rattle.crx_compact.specs.RowsSoFar.{NamesSatellites}
+use Rattle.crx_compact.proofs.Words.{Satellite, IsAnnounced, OpenHistory, padded_among, satellite_of, rules}
+use Rattle.crx_compact.proofs.Words.{RowTail, Tail, arith}
 use Rattle.crx_compact.proofs.EpochLines.{announced, named-by_line}
 
 satellites-again : (before : List RowTail) (satellites : List Satellite)
@@ -18,17 +17,12 @@ pub announced-rows : (types : List Count) (before : Tail) (line : List ℕ) (sat
     → history.satellites.rows ≡ map (padded_among before.rows) satellites
     → All IsAwaitedSatellite satellites → IsAnnounced history
 announced-rows types before line satellites history read text rows sound =
-    let again : map satellite_of history.satellites.rows ≡ satellites =
-    ap (map satellite_of) rows ∙ satellites-again before.rows satellites in
+    let again : map satellite_of history.satellites.rows ≡ satellites = search (rules, satellites-again) in
     let new : Tail = record before { text = patched before.text line } in
     record {
-      announced = subst (λ (ss : List Satellite). AreAnnounced history.text ss) (sym again)
-          (subst (λ (t : List ℕ). AreAnnounced t satellites) (sym text)
-          (announced types before before new line satellites read refl));
-      named = subst (λ (ss : List Satellite). NamesSatellites history.text ss) (sym again)
-          (subst (λ (t : List ℕ). NamesSatellites t satellites) (sym text)
-          (named-by_line types before line satellites read));
-      satellites = subst (All IsAwaitedSatellite) (sym again) sound;
+      announced = rw (again, text) (announced types before before new line satellites read refl);
+      named = rw (again, text) (named-by_line types before line satellites read);
+      satellites = rw again sound;
     }
 
 -- a line of printable characters has the satellites of the text that it makes

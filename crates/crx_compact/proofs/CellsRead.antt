@@ -2,14 +2,14 @@
 use Rattle.crx_compact.proofs.Words.{◌≡◌, ◌≤◌, ◌<◌, refl, ℕ, suc, ◌+◌, ◌-◌, ℤ, List, [], ◌∷◌, ◌++◌, length}
 use Rattle.crx_compact.proofs.Words.{map, take, drop, slice_index_or, Option, None, Result, Ok, Err, ◌∙◌, ap}
 use Rattle.crx_compact.proofs.Words.{arith, rules, append-nil, length-map, map-append, length-each_place}
-use Rattle.crx_compact.proofs.Words.{code_of, Code, Fault, BadField, and_then, before_all, ReadCell}
+use Rattle.crx_compact.proofs.Words.{code_of, Code, Fault, BadField, ReadCell}
 use Rattle.crx_compact.proofs.Words.{cell_read, cells_read, cells_of, after_cells, ArcTail, arc_of_code}
 use Rattle.crx_compact.proofs.Words.{value_of_code, shown_value, OBSERVATION_WIDTH, value_at_place}
 use Rattle.crx_compact.proofs.{PlaceByPlace.from-place, Results.{onto, onto-err, onto-more, onto-ok}}
 use Rattle.std.proofs.{lemmas.Grind.common_steps, Math.Seq.{get_or-append_seam, set-append_seam, take-set-lt}}
 use Rattle.std.proofs.Common.{length-append, append_assoc}
 use Rattle.std.proofs.lemmas.List.{drop-drop, get_or-take, length-drop}
-use Rattle.crx_text.specs.meaning.Codes.{first_cell, after_cell}
+use Rattle.crx_text.specs.meaning.Codes.{first_cell}
 use Rattle.crx_compact.specs.Cells.{arcs_of_codes, CellsAreRead, IsCellRead}
 
 -- ---- the same values at each place read the same
@@ -17,19 +17,14 @@ use Rattle.crx_compact.specs.Cells.{arcs_of_codes, CellsAreRead, IsCellRead}
 abbrev Values : Type 0
 Values = ℕ → Code → Result (Option ℤ) Fault
 
-cell-same : (f g : Code → Result (Option ℤ) Fault)
-    → ((c : Code) → f c ≡ g c) → (code : Option Code) → cell_read BadField f code ≡ cell_read BadField g code
-cell-same f g h c = grind arith
-
 -- the same values at each place of some texts
 pub cells-within : (f g : Values) (texts : List (List ℕ)) → ((place : ℕ) (c : Code)
     → place < length texts → f place c ≡ g place c) → cells_read f texts ≡ cells_read g texts
 cells-within f g [] h = refl
-cells-within f g (text ∷ texts) h = ap {B = Result (List ReadCell) Fault} (λ r. and_then r (λ cell. before_all
-    cell (cells_read (λ place. f (suc place)) texts))) (cell-same (f 0) (g 0) (λ c. h 0 c (omega arith))
-    (code_of text)) ∙ ap {B = Result (List ReadCell) Fault} (λ r. and_then (cell_read BadField
-    (g 0) (code_of text)) (λ cell. before_all cell r)) (cells-within (λ place. f (suc place))
-    (λ place. g (suc place)) texts (λ place c less. h (suc place) c (omega (arith, less))))
+cells-within f g (text ∷ texts) h =
+    let rest = cells-within (λ place. f (suc place)) (λ place. g (suc place)) texts
+    (λ place c less. h (suc place) c (omega (arith, less))) in
+    grind (arith, h 0)
 
 pub cells-same : (f g : Values) → ((place : ℕ) (c : Code) → f place c ≡ g place c)
     → (texts : List (List ℕ)) → cells_read f texts ≡ cells_read g texts
@@ -76,11 +71,7 @@ made-count first cells k e = search (rules, length-each_place, length-map)
 arc-there : (first : List (Option ArcTail)) (line rest : List ℕ) (k : ℕ) (arcs : List (Option ArcTail))
     → ReadUpTo first line rest k arcs → k < length first
     → slice_index_or arcs k None ≡ slice_index_or first k None
-arc-there first line rest k arcs s h =
-    let so_far = arcs_of_codes first (codes_in s.cells) in
-    let next = from-place None k first h in
-    let many = made-count first s.cells k s.counted in
-    cc (get_or-append_seam so_far (slice_index_or first k None) (drop (k + 1) first) None)
+arc-there first line rest k arcs s h = grind (arith, common_steps, from-place, made-count, get_or-append_seam)
 
 -- the next cell, and the arcs with its own in its place
 pub read-next : (first : List (Option ArcTail)) (line rest rest' : List ℕ) (k : ℕ) (arcs arcs' made : List
@@ -95,25 +86,13 @@ read-next first line rest rest' k arcs arcs' made taken s h read made_is rest_is
     let next : drop k first ≡ old ∷ later = from-place None k first h in
     let there = arc-there first line rest k arcs s h in
     let given : value_of_code OBSERVATION_WIDTH read.code old ≡ Ok read.value = cc (there, read.given) in
-    let after = cells_read (value_at_place later) (cells_of (length later) (after_cell rest)) in
     let both = map-append shown_value so_far (arc ∷ []) in
-    let shown = shown-code OBSERVATION_WIDTH read.code old read.value given in
+    let values = map-append (λ (q : ReadCell). q.value) s.cells (c ∷ []) in
     let many = made-count first s.cells k s.counted in
     let coded : length (codes_in s.cells) ≡ k = length-map s.cells (λ (q : ReadCell). q.code) ∙ s.counted in
     let more : arcs_of_codes first (codes_in (s.cells ++ c ∷ [])) ≡ so_far ++ arc ∷ [] =
-    let last = arcs-more first (codes_in s.cells) read.code in
-    cc (map-append (λ (q : ReadCell). q.code) s.cells (c ∷ [])) in
-    record {
-      cells = s.cells ++ c ∷ [];
-      counted = omega (arith, length-append s.cells (c ∷ []), s.counted);
-      so_far = let step = rw next at s.so_far in cc (onto-more s.cells c after);
-      marks = cc (rw next at s.marks);
-      at = s.at + taken;
-      left = rest_is ∙ ap (drop taken) s.left ∙ drop-drop taken s.at line;
-      within = omega (arith, read.within, s.within, ap length s.left, length-drop s.at line);
-      made = cc (set-append_seam so_far old later arc, append_assoc so_far (arc ∷ []) later);
-      shown = cc (map-append (λ (q : ReadCell). q.value) s.cells (c ∷ []));
-    }
+    search (rules, arcs-more, map-append) in
+    search (rules, length-append, onto-more, drop-drop, length-drop, set-append_seam, append_assoc)
 
 -- a fault of the next cell is that of them all
 pub next-refused : (first : List (Option ArcTail)) (line rest : List ℕ) (k : ℕ) (arcs : List (Option ArcTail))
@@ -136,9 +115,7 @@ first-read count arcs made k rest taken less read = search (rules, get_or-take, 
 pub first-refused : (count : ℕ) (arcs : List (Option ArcTail)) (k : ℕ) (rest : List ℕ) (fault : Fault)
     → k < count → cell_read BadField (value_at_place arcs k) (code_of (first_cell rest)) ≡ Err fault
     → cell_read BadField (value_at_place (take count arcs) k) (code_of (first_cell rest)) ≡ Err fault
-first-refused count arcs k rest fault less refused =
-    ap (λ (arc : Option ArcTail). cell_read BadField (λ code. value_of_code OBSERVATION_WIDTH code arc)
-    (code_of (first_cell rest))) (get_or-take count arcs k None less) ∙ refused
+first-refused count arcs k rest fault less refused = search (rules, get_or-take)
 
 pub read-none : (first : List (Option ArcTail)) (line : List ℕ) → ReadUpTo first line line 0 first
 read-none first line =

@@ -40,8 +40,6 @@ pub come-name : (name : List ℕ) (rest : List RowTail) → (row_or_blank name r
 come-name name [] = refl
 come-name name (row ∷ rest) = found-name name rest row (bytes_eq row.name name) refl (come-name name rest)
 
--- ---- one comes after room was asked for
-
 -- ---- one that hasn't come yet comes
 
 pub comes : {E : Type 0} (r : Result Bool E) (b : Bool) (H : Type 0) → IsOk r

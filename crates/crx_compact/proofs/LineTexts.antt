@@ -1,7 +1,7 @@
 -- Lines that a text is cut into, each followed by LF.
 use Rattle.crx_compact.proofs.Words.{◌≡◌, ◌≤◌, ◌<◌, ℕ, zero, suc, ◌+◌, ◌-◌, List, [], ◌∷◌, ◌++◌, length, set}
-use Rattle.crx_compact.proofs.Words.{take, drop, get_or, slice_get, Some, ap, arith, drop-append_seam}
-use Rattle.crx_compact.proofs.Words.{length-set, take-take, length-append, length-take-le, take_more_set, cut}
+use Rattle.crx_compact.proofs.Words.{take, drop, get_or, slice_get, Some, ap, arith, drop-append_seam, rules}
+use Rattle.crx_compact.proofs.Words.{take-take, length-append, length-take-le, take_more_set, cut}
 use Rattle.crx_compact.proofs.Words.{AreCut, HasFront, common_steps}
 use Rattle.std.proofs.lemmas.List.{drop-append-le, drop-drop, drop-set, drop-take, drop_more}
 use Rattle.std.proofs.{Common.append_assoc, lemmas.List.{take-append-drop, take-append-le, length-drop}}
@@ -82,25 +82,14 @@ next-line lengths bytes filled past past_bytes count c kept past_within here =
     let after : drop (past_bytes + count + 1) text ≡ drop (suc count) rest =
     cc (drop-drop (suc count) past_bytes text) in
     let state = drop-taken filled past_bytes bytes (omega (arith, within)) in
-    record {
-      is = cc (take-take count (filled - past_bytes) (drop past_bytes bytes) (omega (arith, within)));
-      within = within;
-      left = cc;
-      still = record {
-        past_within = omega (arith, past_within);
-        bytes_within = omega (arith, long, within);
-        whole = cc (first.rest);
-      };
-    }
+    search (rules, take-take)
 
 -- ---- all lines that are left
 
 pub all-lines : (lengths bytes : List ℕ) (filled past past_bytes : ℕ)
     → AreCut lengths (take filled bytes) past past_bytes → filled ≤ length bytes → take (filled - past_bytes)
     (drop past_bytes bytes) ≡ lines_text (cut (drop past lengths) (drop past_bytes (take filled bytes)))
-all-lines lengths bytes filled past past_bytes c kept =
-    let within : past_bytes ≤ filled = omega (arith, c.bytes_within, length-take-le filled bytes kept) in
-    cc (c.whole, drop-taken filled past_bytes bytes within)
+all-lines lengths bytes filled past past_bytes c kept = search (rules, length-take-le, drop-taken)
 
 pub none-left : (lengths bytes : List ℕ) (filled past : ℕ)
     → length lengths ≤ past → cut (drop past lengths) (drop filled (take filled bytes)) ≡ []
@@ -148,8 +137,7 @@ front-written bytes new line filled start past_bytes at within room written same
     let more : filled - start ≡ length ended + left = omega (arith, length-append line (10 ∷ [])) in
     let whole = append_assoc (take start bytes) ended (drop past_bytes bytes) in
     let parts = take-append-drop past_bytes new in
-    let from : drop start new ≡ ended ++ drop past_bytes bytes =
-    cc (drop-append_seam (take start bytes) (ended ++ drop past_bytes bytes)) in
+    let from : drop start new ≡ ended ++ drop past_bytes bytes = search (rules, drop-append_seam) in
     let all = drop-taken filled start new (omega arith) in
     cc (take-append-add ended (drop past_bytes bytes) left, drop-taken filled past_bytes bytes within)
 
@@ -173,21 +161,14 @@ put-front lengths bytes new line many filled past next past_bytes start c some r
     let long : length (take filled bytes) ≡ filled = length-take-le filled bytes room in
     let within : next < many = omega (arith, c.past_within, all, one) in
     let taken = take-set-lt many lengths next (length line) within in
-    let longer : drop next lengths' ≡ length line ∷ counts =
-    cc (drop-set (take many lengths) next (length line) (omega (arith, within, all))) in
+    let longer : drop next lengths' ≡ length line ∷ counts = search (rules, drop-set) in
     let text =
     front-written bytes new line filled start past_bytes at (omega (arith, c.bytes_within, long)) room written
     same in
     let is : cut (drop next lengths') (drop start (take filled new)) ≡ line ∷ cut counts rest =
     cc (longer, text, cut-first counts line rest) in
-    let sized = length-set lengths next (length line) in
-    let after = ap length text in
     let before = length-drop start (take filled new) in
     record {
       is = is;
-      still = record {
-        past_within = omega (arith, length-take-le many (set lengths next (length line)));
-        bytes_within = omega (arith, length-append (line ++ 10 ∷ []) rest, length-append line (10 ∷ []));
-        whole = cc (is, c.whole, text);
-      };
+      still = search (rules, length-take-le, length-append);
     }

@@ -1,8 +1,8 @@
 -- Items one by one, and the text that is made of them.
-use Rattle.std.proofs.lemmas.List.{take_more, flat_map_more}
-use Rattle.std.proofs.lemmas.Option.{get_or_from_slice_get, slice_get_within}
-use Rattle.crx_compact.proofs.Words.{◌≡◌, refl, ℕ, zero, suc, ◌+◌, List, [], ◌∷◌, ◌++◌, take, slice_get, Some}
-use Rattle.crx_compact.proofs.Words.{None, Result, ap, arith}
+use Rattle.std.proofs.lemmas.List.{take_all, take_more, flat_map_more}
+use Rattle.std.proofs.lemmas.Option.{get_or_from_slice_get, slice_get_cases, slice_get_within}
+use Rattle.crx_compact.proofs.Words.{◌≡◌, ℕ, ◌+◌, List, [], ◌∷◌, ◌++◌, take, slice_get, Some}
+use Rattle.crx_compact.proofs.Words.{None, Result, arith}
 use Rattle.std.specs.Prelude.{flat_map, IsOk, IsErr}
 
 -- a result that is no Err is an Ok
@@ -18,10 +18,7 @@ taken_more xs i x h = cc (take_more xs i x (slice_get_within xs i x h), get_or_f
 
 -- nothing is past a place where nothing is
 pub taken_all : {X : Type 0} (xs : List X) (i : ℕ) → slice_get xs i ≡ None → take i xs ≡ xs
-taken_all [] zero h = refl
-taken_all [] (suc i) h = refl
-taken_all (y ∷ ys) zero h = absurd (cc)
-taken_all (y ∷ ys) (suc i) h = ap (λ zs. y ∷ zs) (taken_all ys i h)
+taken_all xs i h = grind (arith, slice_get_cases, take_all)
 
 -- the text of one item more
 pub texts_more : {X : Type 0} (f : X → List ℕ) (before : List ℕ) (xs : List X) (i : ℕ) (x : X)

@@ -13,7 +13,7 @@ use Rattle.crx_compact.proofs.Words.{columns-are, list_all-from_at, length-colum
 use Rattle.crx_compact.proofs.{CellsRead.cells-same, Results.{ok-same, and_then-ok, before-ok}}
 use Rattle.crx_compact.proofs.{SoundTexts.{held-columns, patched-trimmed}, PlaceByPlace.{at-padded, at-take}}
 use Rattle.crx_compact.proofs.Characters.{list_all-at, at-by_position}
-use Rattle.std.specs.Prelude.{IfErr, OnOk}
+use Rattle.std.specs.Prelude.{OnOk}
 use Rattle.std.proofs.Math.Path.{fun_ext}
 use Rattle.crx_compact.specs.{HeldRows.{row_after, row_held_from}, Cells.CellsAreRead}
 use Rattle.crx_text.specs.meaning.Codes.{after_cell}
@@ -87,11 +87,6 @@ texts-count (suc count) line = ap suc (texts-count count (after_cell line))
 
 -- ---- a satellite's line
 
-cells-many : (arcs : List (Option ArcTail)) (count : ℕ) (line : List ℕ) (left : List (Option ArcTail))
-    (at : ℕ) → (read : CellsAreRead arcs count line left at) → length read.cells ≡ count
-cells-many arcs count line left at read =
-    cells-count (value_at_place arcs) (cells_of count line) read.cells read.good ∙ texts-count count line
-
 -- a line that was read leaves arcs and indicators that show its row
 pub line-held : (arcs : List (Option ArcTail)) (flags : List ℕ) (satellite : Satellite)
     (line : List ℕ) (left : List (Option ArcTail)) (at : ℕ) (name held : List ℕ) → begins_epoch line ≡ false
@@ -106,18 +101,16 @@ line-held arcs flags satellite line left at name held h read e same columned =
     let t : text ≡ flags_held satellite.count (patched flags (drop at line)) =
     ap without_end_blanks columned ∙ held-columns satellite.count (patched flags (drop at line)) in
     let marked : List ℕ = patched flags (drop at line) in
-    let codes : List Code = map (λ (c : ReadCell). c.code) read.cells in
-    let count : length read.cells ≡ satellite.count = cells-many arcs satellite.count line left at read in
+    let count : length read.cells ≡ satellite.count =
+    search (rules, cells-count, value_at_place, cells_of, texts-count, read.good) in
     let many : length left ≡ satellite.count = sym (length-map left shown_value)
     ∙ ap length read.shown ∙ length-map read.cells (λ (c : ReadCell). c.value) ∙ count in
-    let kept : text ≡ flags_held (length codes) marked =
-    t ∙ ap (λ n. flags_held n marked) (sym (length-map read.cells (λ (c : ReadCell). c.code) ∙ count)) in
+    let kept : text ≡ flags_held (length (map (λ (c : ReadCell). c.code) read.cells)) marked = t ∙ ap (λ n.
+    flags_held n marked) (sym (length-map read.cells (λ (c : ReadCell). c.code) ∙ count)) in
     let shown : columns text 1 (2 * length left) ≡ columns marked 1 (2 * length read.cells) =
     ap (λ n. columns text 1 (2 * n)) many ∙ ap (λ (q : List ℕ). columns q 1 (2 * satellite.count)) t
     ∙ columns-held satellite.count marked ∙ ap (λ n. columns marked 1 (2 * n)) (sym count) in
     cc (line-marks arcs flags satellite line at read.cells true h read.good read.marks e)
-
--- ---- faults as they are reported
 
 -- ---- by what was kept of the whole epoch before
 
@@ -140,10 +133,6 @@ pub row-by_tail : (tail : Tail) (satellite : Satellite) (line : List ℕ)
 row-by_tail tail satellite line = grind (arith, cells-same, cell-by_kept, row-decided)
 
 -- ---- what is reported, by a result
-
-pub if-err : {X E : Type 0} (r : Result X E) (P Q : E → Type 0) → ((e : E) → P e → Q e) → IfErr r P
-    → IfErr r Q
-if-err r P Q f h = grind arith
 
 pub on-both : {X E : Type 0} (r : Result X E) {P Q R : Type 0} → (P → Q → R) → OnOk r P → OnOk r Q → OnOk r R
 on-both r f p q = grind arith

@@ -7,7 +7,7 @@ use Rattle.crx_compact.proofs.Words.{columns-are, length-columns, Count, types_o
 use Rattle.crx_compact.proofs.Words.{IsAwaitedSatellite, Satellite, names_in, satellites_named, HasRoom}
 use Rattle.crx_compact.proofs.Words.{PlacedRows, padded_among, satellite_of, RowTail, All-head, All-tail}
 use Rattle.crx_compact.proofs.{Words.each_place-same, EpochLines.named-again, wayback.Overlays.at_past}
-use Rattle.crx_compact.proofs.{PlaceByPlace.{at-padded, at-take}, Characters.at-by_position, RowByRow.all-of}
+use Rattle.crx_compact.proofs.{PlaceByPlace.{at-padded, at-take}, Characters.at-by_position}
 use Rattle.crx_text.proofs.Characters.{at-drop}
 use Rattle.std.proofs.lemmas.List.Elements.{All-map}
 use Rattle.crx_compact.specs.EpochLinesRead.{AreSatellitesRead, HaveComeAgain, IsAgain}
@@ -28,11 +28,7 @@ name-kept text line k short =
 
 pub named-kept : (text line : List ℕ) (satellites : List Satellite) → length line ≤ HEAD_WIDTH
     → NamesSatellites text satellites → NamesSatellites (patched text line) satellites
-named-kept text line satellites short named =
-    record {
-      earlier = named.earlier;
-      named = search (rules, each_place-same, name-kept);
-    }
+named-kept text line satellites short named = search (rules, each_place-same, name-kept)
 
 own-rows : (types : List Count) (before : PlacedRows) (rows : List RowTail) → All (IsAgain types before) rows
     → map (padded_among before.rest) (map satellite_of rows) ≡ rows
@@ -46,19 +42,16 @@ pub read-again : (types : List Count) (text : List ℕ) (count : ℕ) (old new :
     → All IsAwaitedSatellite (map satellite_of old.rest)
     → AreSatellitesRead (satellites_named types [] (names_in text count)) old new
 read-again types text count old new come counted named awaited =
-    let many : length (map satellite_of old.rest) ≡ count = length-map old.rest satellite_of ∙ sym counted in
     let typed =
     All-map (λ (s : Satellite). types_of_satellite types s.name ≡ Some s.count) satellite_of old.rest
-    (all-of (IsAgain types old) (λ row. types_of_satellite types row.name ≡ Some (length row.cells)) old.rest
-    (λ row is. is.typed) come.again) in
+    (λ i d within. (come.again i d within).typed) in
     record {
       satellites = map satellite_of old.rest;
-      read = ap (λ n. satellites_named types [] (names_in text n)) (sym many)
-          ∙ named-again named.earlier types [] (names_in text (length (map satellite_of old.rest)))
-          (map satellite_of old.rest) named.named typed;
+      read = ap (λ n. satellites_named types [] (names_in text n)) (sym (length-map old.rest satellite_of ∙
+          sym counted)) ∙ named-again named.earlier types [] (names_in text (length (map satellite_of
+          old.rest))) (map satellite_of old.rest) named.named typed;
       rows = come.rows ∙ sym (own-rows types old old.rest come.again);
       awaited = awaited;
       room = All-map (λ (s : Satellite). HasRoom s.name s.count new.rooms) satellite_of old.rest
-          (all-of (IsAgain types old) (λ row. HasRoom row.name (length row.cells) new.rooms) old.rest
-          (λ row is. subst (HasRoom row.name (length row.cells)) (sym come.rooms) is.room) come.again);
+          (λ i d within. subst (HasRoom _ _) (sym come.rooms) (come.again i d within).room);
     }

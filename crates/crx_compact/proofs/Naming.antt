@@ -1,13 +1,13 @@
 -- The identifiers of an epoch text, read from left to right.
 use Rattle.crx_compact.proofs.Words.{◌≡◌, ◌<◌, refl, ℕ, zero, suc, ◌+◌, ◌*◌, Bool, true, false, ◌||◌, List}
 use Rattle.crx_compact.proofs.Words.{[], ◌∷◌, ◌++◌, drop, Option, Some, None, Ok, Err, All, slice_get}
-use Rattle.crx_compact.proofs.Words.{bytes_eq, sym, ◌∙◌, ap, arith, subst, rules, same_Some, All-head}
+use Rattle.crx_compact.proofs.Words.{bytes_eq, sym, ◌∙◌, ap, arith, subst, same_Some, All-head}
 use Rattle.crx_compact.proofs.Words.{All-tail, each_place, types_of_satellite, columns, BadSatellite}
 use Rattle.crx_compact.proofs.Words.{RepeatedSatellite, Count, before_all, Satellite, names_in}
 use Rattle.crx_compact.proofs.Words.{satellites_named, HasRoom, HaveTypesRoom, KeepsRooms}
-use Rattle.crx_compact.proofs.Characters.{bytes_eq-same, bytes_eq-is}
 use Rattle.crx_compact.proofs.Results.{before-ok, if-err, no-err, ok-same, onto, onto-err, onto-more, onto-ok}
 use Rattle.std.specs.List.{list_any}
+use Rattle.crx_header.proofs.Apart.{other_way}
 use borrow.Author.Count.{below_more}
 use Rattle.std.proofs.{lemmas.List.Folds.list_any-append, lemmas.Grind.common_steps}
 use Rattle.crx_text.proofs.EachPlace.{drop-each_place, each_place-more}
@@ -25,13 +25,8 @@ names-more (q ∷ qs) s earlier = names-more qs s (q.name ∷ earlier)
 
 -- ---- whether an identifier is there already
 
-same-way : (b c : Bool) (xs ys : List ℕ) → bytes_eq xs ys ≡ b → bytes_eq ys xs ≡ c → b ≡ c
-same-way true false xs ys e f = search (rules, bytes_eq-is, bytes_eq-same)
-same-way false true xs ys e f = search (rules, bytes_eq-is, bytes_eq-same)
-same-way b c xs ys e f = refl
-
 either-way : (xs ys : List ℕ) → bytes_eq xs ys ≡ bytes_eq ys xs
-either-way xs ys = same-way (bytes_eq xs ys) (bytes_eq ys xs) xs ys refl refl
+either-way xs ys = grind (arith, common_steps, other_way)
 
 regroup : (a b c : Bool) → ((a || b) || c) ≡ (b || (a || c))
 regroup a b c = grind arith

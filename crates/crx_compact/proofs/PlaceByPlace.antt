@@ -1,21 +1,16 @@
 -- Cells that are written or printed place by place.
-use Rattle.crx_compact.proofs.Words.{◌≡◌, ◌≤◌, ◌<◌, ℕ, zero, suc, ◌+◌, ℤ, List, [], ◌∷◌, ◌++◌, length}
+use Rattle.crx_compact.proofs.Words.{◌≡◌, ◌≤◌, ◌<◌, ℕ, suc, ◌+◌, ℤ, List, [], ◌∷◌, ◌++◌, length}
 use Rattle.crx_compact.proofs.Words.{slice_get, slice_index_or, Option, Some, None, refl, ◌*◌, map, drop}
-use Rattle.crx_compact.proofs.Words.{replicate, take, ◌∙◌, ap, arith, not-suc-le-zero, le_of_suc-le-suc}
-use Rattle.crx_compact.proofs.Words.{rules, length-map, Code, each_place, same_Some, slice_get_within}
+use Rattle.crx_compact.proofs.Words.{replicate, take, ◌∙◌, ap, arith}
+use Rattle.crx_compact.proofs.Words.{rules, length-map, Code, each_place, slice_get_within}
 use Rattle.crx_compact.proofs.Words.{ArcTail, cell_text, arc_of_value, code_of_value, shown_value, columns}
 use Rattle.crx_compact.proofs.Words.{at, length-columns}
 use Rattle.std.specs.Prelude.{flat_map}
-use Rattle.std.proofs.{Common.append_assoc, lemmas.List.flat_map_more}
+use Rattle.std.proofs.{Common.{add-one, append_assoc, drop-cons}, lemmas.List.{flat_map_more, get_or-map}}
+use Rattle.std.proofs.{lemmas.List.get_or-take, lemmas.Option.get_or_from_slice_get}
 use Rattle.crx_compact.specs.Cells.{arc_at_place, code_at_place}
 use Rattle.crx_text.proofs.EachPlace.{each_place-more}
 use Rattle.crx_text.specs.{meaning.Numbers.observation_text, meaning.PrintedCells.printed_cells}
-
-pub value-there : {X : Type 0} (xs : List X) (k : ℕ) (x d : X) → slice_get xs k ≡ Some x
-    → slice_index_or xs k d ≡ x
-value-there [] k x d h = absurd (cc)
-value-there (y ∷ ys) zero x d h = same_Some y x h
-value-there (y ∷ ys) (suc k) x d h = value-there ys k x d h
 
 -- the cells of some values up to a place
 pub record CellsMade (before : List (Option ArcTail))
@@ -31,24 +26,14 @@ pub cells-more : (before : List (Option ArcTail)) (values : List (Option ℤ)) (
     → arc ≡ arc_of_value value (slice_index_or before place None) → newer ≡ line' ++ cell_text code
     → more ≡ arcs ++ arc ∷ [] → CellsMade before values (place + 1) line newer more
 cells-more before values place line line' arcs value code arc newer more m here c a n r =
-    search (rules, value-there, slice_get_within, each_place-more, flat_map_more)
+    search (rules, get_or_from_slice_get, slice_get_within, each_place-more, flat_map_more)
 
 pub from-place : {X : Type 0} (d : X) (k : ℕ) (xs : List X)
     → k < length xs → drop k xs ≡ slice_index_or xs k d ∷ drop (k + 1) xs
-from-place d k [] h = absurd (omega (arith, h))
-from-place d zero (x ∷ xs) h = refl
-from-place d (suc k) (x ∷ xs) h = grind (arith, from-place d k xs (omega (arith, h)))
-
-pub at-map : {X Y : Type 0} (f : X → Y) (d : X) (e : Y) (k : ℕ) (xs : List X)
-    → k < length xs → slice_index_or (map f xs) k e ≡ f (slice_index_or xs k d)
-at-map f d e k [] h = absurd (omega (arith, h))
-at-map f d e zero (x ∷ xs) h = refl
-at-map f d e (suc k) (x ∷ xs) h = at-map f d e k xs (omega (arith, h))
+from-place d k xs h = rw add-one (drop-cons xs k d h)
 
 pub at-take : (n : ℕ) (text : List ℕ) (p : ℕ) → p < n → at (take n text) p ≡ at text p
-at-take zero text p h = absurd (not-suc-le-zero h)
-at-take (suc n) (c ∷ cs) (suc p) h = at-take n cs p (le_of_suc-le-suc h)
-at-take (suc n) text p h = refl
+at-take n text p h = get_or-take n text p 32 h
 
 pub at-padded : (k : ℕ) (text : List ℕ) (p : ℕ) → at (text ++ replicate k 32) p ≡ at text p
 at-padded (suc k) [] (suc p) = at-padded k [] p
@@ -82,4 +67,4 @@ pub print-on : (arcs : List (Option ArcTail)) (flags before text whole : List �
     (drop (2 * k) (columns flags 1 (2 * length arcs))) ≡ whole → text ++ printed_cells
     (drop (k + 1) (map shown_value arcs)) (drop (2 * (k + 1)) (columns flags 1 (2 * length arcs))) ≡ whole
 print-on arcs flags before text whole k arc h is made left =
-    grind (arith, at-map, append_assoc, print-next, length-map)
+    grind (arith, get_or-map, append_assoc, print-next, length-map)

@@ -56,9 +56,6 @@ block-row true count pending old new place line read within h =
 block-row false count pending old new place line read within h =
     let rows = old.satellites.rows in
     let same = ap sum (rooms-set rows 0 place read.row read.left read.there read.sized) in
-    let rooms : HasRoomForAll pending (slice_set rows place read.left) = record {
-      none = h.0.none;
-      free_lines = omega (arith, h.0.free_lines, length-set rows place read.left);
-      free_bytes = omega (arith, h.0.free_bytes, same);
-    } in
+    let rooms : HasRoomForAll pending (slice_set rows place read.left) =
+    search (rules, h.0.none, h.0.free_lines, length-set, h.0.free_bytes) in
     (subst (HasRoomForAll pending) (sym read.rows) rooms, h.1)

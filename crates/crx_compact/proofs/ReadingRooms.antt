@@ -95,8 +95,7 @@ pub text-known : (types : List Count) (line : List ℕ) (before : Tail) (begun :
     (held : ℕ) (opened : IsOpened types line before begun) → HasRoomFor begun room → room.text ≡ held
     → HEAD_WIDTH + NAME_WIDTH * length opened.satellites ≤ held
 text-known types line before begun room held opened has same =
-    let many = ap length opened.rows ∙ length-map opened.satellites (row_before before) in
-    omega (arith, has.text, many, same)
+    omega (arith, has.text, ap length opened.rows ∙ length-map opened.satellites (row_before before), same)
 
 -- what was read for has room
 pub room-for : (types : List Count) (line : List ℕ) (before : Tail) (begun : OpenRawEpoch)

@@ -1,5 +1,5 @@
 -- A satellite's indicators and cells by another count of types.
-use Rattle.crx_compact.proofs.Words.{◌≡◌, ◌≤◌, ◌<◌, ◌⊎◌, refl, ℕ, zero, suc, ◌+◌, ◌-◌, List, [], ◌∷◌, ◌++◌}
+use Rattle.crx_compact.proofs.Words.{◌≡◌, ◌≤◌, ◌<◌, ◌⊎◌, refl, ℕ, zero, suc, ◌-◌, List, [], ◌∷◌, ◌++◌}
 use Rattle.crx_compact.proofs.Words.{length, take, replicate, Option, None, ◌*◌, list_all, sym, ◌∙◌, ap}
 use Rattle.crx_compact.proofs.Words.{arith, inl, inr, length-take-le, take-take, take_all, LINE_LIMIT}
 use Rattle.crx_compact.proofs.Words.{without_end_blanks, is_kept, at, at-without_end_blanks, list_all-from_at}
@@ -27,11 +27,6 @@ shorter-flags flags m n h =
         ∙ sym (at-take_past n (without_end_blanks (take m flags)) p k)
 
 -- ---- cells
-
--- one of many that are alike, put after the others
-pub one-more-alike : {X : Type 0} (n : ℕ) (x : X) → replicate n x ++ x ∷ [] ≡ replicate (n + 1) x
-one-more-alike zero x = refl
-one-more-alike (suc n) x = grind (arith, one-more-alike n x)
 
 no-cells : (n : ℕ) → cells_for n [] ≡ replicate n None
 no-cells zero = refl

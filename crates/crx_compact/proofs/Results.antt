@@ -1,5 +1,5 @@
 -- Good results come from good results.
-use Rattle.crx_compact.proofs.Words.{◌≡◌, refl, Bool, true, not, List, [], ◌∷◌, ◌++◌, Result, Ok, Err, IfOk}
+use Rattle.crx_compact.proofs.Words.{◌≡◌, refl, Bool, true, not, List, [], ◌∷◌, ◌++◌, Result, Ok, Err}
 use Rattle.crx_compact.proofs.Words.{Option, None, Some, IfSome, if◌then◌else◌, is_ok, sym, ap, subst}
 use Rattle.crx_compact.proofs.Words.{true≢false, Fault, and_then, before_all, arith}
 use Rattle.std.specs.{Prelude.{OnOk, OnErr, is_some}, Result.is_err}
@@ -61,9 +61,6 @@ by_ok r good x = grind arith
 -- one that is bad isn't good
 pub by_err : {T E : Type 0} (r : Result T E) → is_err r ≡ true → is_ok r ≡ true → ⊥
 by_err r bad good = grind arith
-
-pub from_ok : {T E : Type 0} (P : T → Type 0) (r : Result T E) (x : T) → r ≡ Ok x → IfOk r P → P x
-from_ok P r x is h = subst (λ q. IfOk q P) is h
 
 -- ---- the same of options
 

@@ -1,23 +1,17 @@
 -- Rows one by one: what holds of each, the sum of what each needs, and what is made of those up to an index.
 use Rattle.crx_compact.proofs.Words.{◌≡◌, ◌≤◌, ◌<◌, ◌+◌, ◌++◌, ◌∷◌, [], ℕ, zero, suc, List, Some, All, length}
 use Rattle.crx_compact.proofs.Words.{take, drop, map, sum, slice_get, refl, ap, sym, ◌∙◌, subst, arith}
-use Rattle.crx_compact.proofs.Words.{get_or, add-one, map-append, All-append, same_Some, slice_get_within}
+use Rattle.crx_compact.proofs.Words.{add-one, map-append, same_Some, slice_get_within}
 use Rattle.crx_compact.proofs.{Words.{printed_row, shown_row, RowTail}, Making.taken_more}
-use Rattle.std.proofs.{Common.append_assoc, lemmas.Option.get_or_from_slice_get}
-use Rattle.std.proofs.{lemmas.List.Sums.{sum-map, sum_by-append, sum_by-cons}, lemmas.Grind.common_steps}
+use Rattle.std.proofs.{Common.append_assoc, lemmas.Grind.common_steps, lemmas.Option.get_or_from_slice_get}
+use Rattle.std.proofs.lemmas.List.{Elements.All-push, Sums.{sum-map, sum_by-append, sum_by-cons}}
 
 -- ---- what holds of each
-
-pub only : {X : Type 0} (P : X → Type 0) (x : X) → P x → All P (x ∷ [])
-only P x p h d within = grind arith
 
 pub all-next : {X : Type 0} (P : X → Type 0) (xs : List X) (k : ℕ) (x : X)
     → All P (take k xs) → slice_get xs k ≡ Some x → P x → All P (take (k + 1) xs)
 all-next P xs k x so_far here p =
-    subst (All P) (sym (taken_more xs k x here)) (All-append P (take k xs) (x ∷ []) so_far (only P x p))
-
-pub all-of : {X : Type 0} (P Q : X → Type 0) (xs : List X) → ((x : X) → P x → Q x) → All P xs → All Q xs
-all-of P Q xs next h = λ i d within. next (get_or xs i d) (h i d within)
+    subst (All P) (sym (taken_more xs k x here)) (All-push P (take k xs) x so_far p)
 
 pub all-at : {X : Type 0} (P : X → Type 0) (xs : List X) (k : ℕ) (x : X) → All P xs
     → slice_get xs k ≡ Some x → P x
@@ -41,9 +35,7 @@ pub sum-next : {X : Type 0} (f : X → ℕ) (xs : List X) (k : ℕ) (x : X)
 sum-next f xs k x here =
     let more = ap (λ ys. sum (map f ys)) (taken_more xs k x here) ∙ sum-map f (take k xs ++ x ∷ [])
     ∙ sum_by-append f (take k xs) (x ∷ []) in
-    let one = sum_by-cons f x [] in
-    let so_far = sum-map f (take k xs) in
-    omega (arith, more, one, so_far)
+    omega (arith, more, sum_by-cons f x [], sum-map f (take k xs))
 
 sum-first : {X : Type 0} (f : X → ℕ) (x : X) (xs : List X) → sum (map f (x ∷ xs)) ≡ f x + sum (map f xs)
 sum-first f x xs = grind (arith, common_steps, sum-map, sum_by-cons)

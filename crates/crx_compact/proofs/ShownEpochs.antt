@@ -1,13 +1,14 @@
 -- The epoch that a history shows, row by row: its rows are of the satellites that its text announces.
 use Rattle.crx_compact.proofs.Words.{◌≡◌, slice_get, length-map, map-append, take-take, Satellite, option_map}
 use Rattle.crx_compact.proofs.Words.{refl, ℕ, List, take, Some, None, true, ◌==◌, Result, arith, Fault, Epoch}
-use Rattle.crx_compact.proofs.Words.{◌<◌, [], Ok, ℤ, ◌≤◌, suc, zero, ◌+◌, ◌∷◌, map, sym, ◌∙◌, ap, Tail, Row}
+use Rattle.crx_compact.proofs.Words.{◌<◌, [], Ok, ℤ, ◌≤◌, ◌+◌, ◌∷◌, map, sym, ◌∙◌, ap, Tail, Row}
 use Rattle.crx_compact.proofs.Words.{length, Option, is_ok, take_all, take-map, BadEpoch, with_row, shown_row}
 use Rattle.crx_compact.proofs.Words.{false, slice_index_or, slice_get_within, length-take-le, tail_of_history}
 use Rattle.crx_compact.proofs.Words.{slice_get-map, satellites_of, has_satellite, AreRowsSoFar, satellite_of}
 use Rattle.crx_compact.proofs.Words.{epoch_count, RowTail, shown_epoch, shown_value, IsAnnounced, OpenHistory}
 use Rattle.crx_compact.proofs.{Words.{is_some, begun, is_full_epoch, among-names, new_at}, Making.taken_more}
-use Rattle.crx_compact.proofs.{PlaceByPlace.value-there, ShownRows.get-there}
+use Rattle.crx_compact.proofs.placing.SteppedRows.{get-take}
+use Rattle.std.proofs.lemmas.Option.{get_or_from_slice_get, slice_get_read}
 use Rattle.std.specs.Prelude.{MatchResult}
 use Rattle.crx_rinex.specs.meaning.EpochLines.{ObservationHead}
 
@@ -33,12 +34,11 @@ pub next-new : (next : Tail) (count : ℕ) (satellites : List Satellite) (epoch 
     → has_satellite s.name epoch.rows ≡ false
 next-new next count satellites epoch s h e =
     let inside = slice_get_within satellites count s e in
-    let all = take_all (length satellites) satellites (omega arith) in
-    let there = value-there satellites count s s e in
+    let there = get_or_from_slice_get satellites count s s e in
     let among = among-names (λ (r : Row). r.name) (λ (q : Satellite). q.name) s.name epoch.rows
     (take count satellites) h.named in
-    cc (new_at (λ (q : Satellite). q.name) (length satellites) satellites count s
-    (rw all h.announced.apart) inside inside)
+    cc (new_at (λ (q : Satellite). q.name) (length satellites) satellites count s (rw (take_all (length
+    satellites) satellites (omega arith)) h.announced.apart) inside inside)
 
 -- an epoch whose satellites haven't all come isn't full
 pub not-full : (next : Tail) (count : ℕ) (satellites : List Satellite) (epoch : Epoch) (s : Satellite)
@@ -62,18 +62,13 @@ first-same f g rows satellites m n few e =
     let shown = take-map f m (map shown_row (take n rows)) in
     cc (take-map shown_row m (take n rows), take-map g m (take n satellites))
 
-get-taken : {X : Type 0} (xs : List X) (k n : ℕ) → k < n → slice_get (take n xs) k ≡ slice_get xs k
-get-taken xs k zero h = absurd (omega (arith, h))
-get-taken (x ∷ xs) (suc k) (suc n) h = get-taken xs k n (omega (arith, h))
-get-taken xs k (suc n) h = refl
-
 same-there : {Z : Type 0} (f : Row → Z) (g : Satellite → Z) (rows : List RowTail)
     (satellites : List Satellite) (n k : ℕ) (row : RowTail) (satellite : Satellite)
     → map f (map shown_row (take n rows)) ≡ map g (take n satellites) → k < n
     → slice_get rows k ≡ Some row → slice_get satellites k ≡ Some satellite → f (shown_row row) ≡ g satellite
 same-there f g rows satellites n k row satellite e h here there =
-    let tails = get-taken rows k n h in
-    let places = get-taken satellites k n h in
+    let tails = get-take n k rows h in
+    let places = get-take n k satellites h in
     let shown = slice_get-map f (map shown_row (take n rows)) k in
     cc (slice_get-map shown_row (take n rows) k, slice_get-map g (take n satellites) k)
 
@@ -109,8 +104,8 @@ pub row-at : (next : Tail) (satellites : List Satellite) (n place : ℕ) (tail :
     → tail ≡ slice_index_or next.rows place tail → satellite ≡ slice_index_or satellites place satellite
     → IsRowShown next place tail satellite
 row-at next satellites n place tail satellite h less here there =
-    let rows = get-there next.rows place tail (omega (arith, h.left)) here in
-    let sats = get-there satellites place satellite (omega (arith, h.within)) there in
+    let rows = slice_get_read next.rows _ place tail refl (omega (arith, h.left)) here in
+    let sats = slice_get_read satellites _ place satellite refl (omega (arith, h.within)) there in
     let before = first-rows next satellites place n h (omega arith) in
     let taken = taken_more next.rows place tail rows in
     let named = same-there (λ (r : Row). r.name) (λ (s : Satellite). s.name) next.rows satellites n place
@@ -143,8 +138,7 @@ pub row-shown : (history : OpenHistory) (index : ℕ) (row : RowTail) → IsAnno
     → IsRowShown (tail_of_history history) index row (satellite_of row)
 row-shown history index row h there =
     let rows = history.satellites.rows in
-    let satellite = slice_get-map satellite_of rows index ∙ ap (option_map satellite_of) there in
-    row-at (tail_of_history history) (map satellite_of rows) (length rows) index row (satellite_of row)
-    (grind (arith, take-map, length-map, length-take-le, names, sizes)) (slice_get_within rows index row
-    there) (sym (value-there rows index row row there))
-    (sym (value-there (map satellite_of rows) index (satellite_of row) (satellite_of row) satellite))
+    row-at (tail_of_history history) (map satellite_of rows) (length rows) index row (satellite_of row) (grind
+    (arith, take-map, length-map, length-take-le, names, sizes)) (slice_get_within rows index row there) (sym
+    (get_or_from_slice_get rows index row row there)) (sym (get_or_from_slice_get (map satellite_of rows)
+    index (satellite_of row) _ (slice_get-map satellite_of rows index ∙ ap (option_map satellite_of) there)))

@@ -1,12 +1,12 @@
 -- The row that a history shows, filled value by value.
-use Rattle.crx_compact.proofs.Words.{◌≡◌, ◌<◌, refl, ℕ, suc, ◌+◌, ◌-◌, ◌*◌, ℤ, List, [], ◌∷◌, ◌++◌, length}
-use Rattle.crx_compact.proofs.Words.{map, take, replicate, slice_index_or, slice_set, Option, None, slice_get}
+use Rattle.crx_compact.proofs.Words.{◌≡◌, ◌<◌, ℕ, suc, ◌+◌, ◌-◌, ◌*◌, ℤ, List, [], ◌∷◌, ◌++◌, length}
+use Rattle.crx_compact.proofs.Words.{map, take, replicate, slice_set, Option, None, slice_get}
 use Rattle.crx_compact.proofs.Words.{Some, ◌∙◌, arith, append-nil, length-map, length-take-le, map-append}
 use Rattle.crx_compact.proofs.Words.{take_all, slice_get_within, Row, shown_row, shown_value, ArcTail}
 use Rattle.crx_compact.proofs.Making.{taken_more}
 use Rattle.crx_text.proofs.Blanks.{columns_are}
 use Rattle.crx_rinex.specs.SatelliteLines.{with_flags, with_value}
-use Rattle.std.proofs.{lemmas.Option.slice_get_read, Math.Seq.set-append_seam, Common.append_assoc}
+use Rattle.std.proofs.{Math.Seq.set-append_seam, Common.append_assoc}
 
 -- ---- places
 
@@ -14,10 +14,6 @@ use Rattle.std.proofs.{lemmas.Option.slice_get_read, Math.Seq.set-append_seam, C
 pub set-next : {X : Type 0} (xs ys : List X) (d v : X)
     → slice_set (xs ++ d ∷ ys) (length xs) v ≡ (xs ++ v ∷ []) ++ ys
 set-next xs ys d v = cc (set-append_seam xs d ys v, append_assoc xs (v ∷ []) ys)
-
-pub get-there : {X : Type 0} (xs : List X) (k : ℕ) (x : X)
-    → k < length xs → x ≡ slice_index_or xs k x → slice_get xs k ≡ Some x
-get-there xs k x h e = slice_get_read xs (length xs) k x refl h e
 
 -- ---- the row
 

@@ -1,7 +1,7 @@
 -- Blanks at the end of texts, and what is held of indicators.
 use Rattle.crx_compact.proofs.Words.{◌≡◌, patched, columns, is_blank, few_kept, and_parts, and_from, list_all}
-use Rattle.crx_compact.proofs.Words.{◌≤◌, ℕ, suc, ◌*◌, ◌∷◌, ap, inl, inr, ◌∙◌, sym, ◌<◌, ◌+◌, ◌-◌, ◌⊎◌, at}
-use Rattle.crx_compact.proofs.Words.{refl, true, List, length, take, arith, ◌++◌, is_kept, Bool, drop, zero}
+use Rattle.crx_compact.proofs.Words.{◌≤◌, ℕ, suc, ◌*◌, ◌∷◌, ap, inl, inr, ◌∙◌, ◌<◌, ◌+◌, ◌-◌, ◌⊎◌, at}
+use Rattle.crx_compact.proofs.Words.{refl, true, List, length, take, arith, is_kept, Bool, drop, zero}
 use Rattle.crx_compact.proofs.Words.{if◌then◌else◌, [], replicate, IsAllowedCount, length-columns, flags_held}
 use Rattle.crx_compact.proofs.Words.{at-without_end_blanks, columns-are, without_end_blanks, text_difference}
 use Rattle.crx_compact.proofs.Characters.{all-take, list_all-append, at-take_past, at-by_position}
@@ -35,8 +35,7 @@ first-columns n text given long h = columns-are text 1 n given long
 
 pub same-columns : (n : ℕ) (xs ys : List ℕ) → ((p : ℕ) → p < n → at xs p ≡ at ys p)
     → columns xs 1 n ≡ columns ys 1 n
-same-columns n xs ys h = first-columns n xs (columns ys 1 n) (length-columns ys 1 n)
-    (λ p less. h p less ∙ sym (at-take n (ys ++ replicate n 32) p less ∙ at-padded n ys p))
+same-columns n xs ys h = search (rules, first-columns, columns, length-columns, at-take, at-padded)
 
 -- a test that a blank meets, of all characters of columns
 all-drop : (p : ℕ → Bool) (n : ℕ) (xs : List ℕ) → list_all p xs ≡ true → list_all p (drop n xs) ≡ true
@@ -67,23 +66,17 @@ length-held count flags = omega (arith, few_kept (take (2 * count) flags), lengt
 -- so many columns of indicators, and what is held of them
 pub held-columns : (count : ℕ) (flags : List ℕ) → without_end_blanks (columns flags 1 (2 * count))
     ≡ flags_held count flags
-held-columns count flags =
-    same-cut (2 * count) (flags ++ replicate (2 * count) 32) flags (λ p less. at-padded (2 * count) flags p)
+held-columns count flags = search (rules, same-cut, at-padded)
 
 pub columns-held : (count : ℕ) (flags : List ℕ) → IsAllowedCount count → AreHeldFlags flags
     → AreHeldFlags (columns flags 1 (2 * count))
-columns-held count flags few h =
-    record {
-      within = omega (arith, length-columns flags 1 (2 * count), few.1);
-      kept = all-columns is_kept flags 1 (2 * count) refl h.kept;
-    }
+columns-held count flags few h = search (rules, length-columns, all-columns, is_kept)
 
 -- blanks at the end of indicators don't count
 
 pub columns-trimmed : (width : ℕ) (flags : List ℕ)
     → columns (without_end_blanks flags) 1 width ≡ columns flags 1 width
-columns-trimmed width flags =
-    same-columns width (without_end_blanks flags) flags (λ p less. at-without_end_blanks flags p)
+columns-trimmed width flags = search (rules, same-columns, without_end_blanks, at-without_end_blanks)
 
 pub patched-trimmed : (flags marks : List ℕ) → patched (without_end_blanks flags) marks ≡ patched flags marks
 patched-trimmed flags marks = search (rules, same_characters, at-by_position, at-without_end_blanks)

@@ -1,11 +1,12 @@
 -- An epoch whose rows are written one by one: one row more.
 use Rattle.crx_compact.proofs.Words.{◌≡◌, ◌-◌, ◌++◌, ◌∷◌, [], ℕ, List, Bool, Some, true, false, not, length}
-use Rattle.crx_compact.proofs.Words.{slice_get, slice_set, ap, sym, ◌∙◌, not-true, map-append, All-append}
+use Rattle.crx_compact.proofs.Words.{slice_get, slice_set, ap, sym, ◌∙◌, not-true, map-append}
 use Rattle.crx_compact.proofs.Words.{is_among, has_satellite, Row, IsSoundRow, OpenHistory, PlacedRows}
 use Rattle.crx_compact.proofs.Words.{row_or_blank, row_line_after, row_line_in, row_tail_after, row_tail_in}
 use Rattle.crx_compact.proofs.Words.{RowTail, Tail, AreRowsWritten, arith, among-map, apart-push, HasCome}
-use Rattle.crx_compact.proofs.{ComeRows.{awaited-after, come-line, come-name, come-tail}, RowByRow.only}
+use Rattle.crx_compact.proofs.{ComeRows.{awaited-after, come-line, come-name, come-tail}}
 use Rattle.crx_compact.proofs.placing.SteppedRows.{last-is}
+use Rattle.std.proofs.lemmas.List.Elements.{All-push}
 use Rattle.crx_compact.specs.Placing.{row_tail_named}
 
 -- a satellite has come where it has a row
@@ -35,10 +36,9 @@ pub come-last : (name : List ℕ) (before after : PlacedRows) (rows : List RowTa
     → IsLast name before.rows rows index (row_or_blank name before.rest)
 come-last name before after rows index come same last =
     let kept = row_or_blank name before.rest in
-    let is = same ∙ come.rows in
     record {
-      there = (last-is rows before.rows kept kept index is last).0;
-      put = λ left. (last-is rows before.rows left kept index is last).1;
+      there = (last-is rows before.rows kept kept index (same ∙ come.rows) last).0;
+      put = λ left. (last-is rows before.rows left kept index (same ∙ come.rows) last).1;
       named = come-name name before.rest;
     }
 
@@ -62,6 +62,6 @@ written-next after rows row old new come lines more placed same written sound fr
       rows_after = cc (left, written.rows_after, tail, map-append (row_tail_in after.rows) rows (row ∷ []));
       others = λ name absent. ap (row_tail_named name) rest ∙ next name absent;
       lines_made = cc (line, written.lines_made, made, map-append (row_line_in after.rows) rows (row ∷ []));
-      sound = All-append IsSoundRow rows (row ∷ []) written.sound (only IsSoundRow row sound);
+      sound = All-push IsSoundRow rows row written.sound sound;
       apart = apart-push (λ (r : Row). r.name) rows row written.apart fresh;
     }

@@ -3,7 +3,7 @@ use Rattle.crx_compact.proofs.Words.{◌≡◌, ℕ, ℤ, [], ◌∷◌, zero, s
 use Rattle.crx_compact.proofs.Words.{refl, List, Option, length, stretch, value_of, Missing, Start, code_at}
 use Rattle.crx_compact.proofs.Words.{arith, since_start, value_since, arc_of_value, arc_of_code, common_steps}
 use Rattle.crx_compact.proofs.Words.{not-suc-le-zero, WRITTEN_ORDER, value_of_code, code_of_value, option_map}
-use Rattle.crx_compact.proofs.Words.{⊤, in_range, arc_tail, started_tail, value_at}
+use Rattle.crx_compact.proofs.Words.{⊤, in_range, arc_tail, started_tail, value_at, rules}
 use Rattle.crx_compact.specs.meaning.ArcValues.{Started, onto_started}
 use Rattle.crx_compact.specs.ArcLaws.{arc_of_values, CodesOfValues, accepted, arc_of_codes, ValuesOfCodes}
 use Rattle.crx_compact.proofs.arcs.Inversion.{value-first}
@@ -14,12 +14,9 @@ abbrev HasNumbers : Option Started → Type 0
 HasNumbers None = ⊤
 HasNumbers (Some arc) = 0 < length arc.numbers
 
-numbers-onto : (d : ℤ) (o : Option Started) → HasNumbers o → HasNumbers (option_map (onto_started d) o)
-numbers-onto d o h = grind arith
-
 has-numbers : (cs : List Code) → HasNumbers (since_start cs)
 has-numbers (Start n v ∷ cs) = omega arith
-has-numbers (Step d ∷ cs) = numbers-onto d (since_start cs) (has-numbers cs)
+has-numbers (Step d ∷ cs) = grind arith
 has-numbers cs = tt
 
 value-start : (n : ℕ) (v : ℤ) → value_at n (v ∷ []) ≡ v
@@ -35,9 +32,7 @@ record Steps (d : ℤ) (o : Option Started) : Type 0 where
 step-numbers : (d : ℤ) (n : ℕ) (numbers : List ℤ)
     → 0 < length numbers → Steps d (Some (record { order = n; numbers = numbers }))
 step-numbers d n [] h = absurd (not-suc-le-zero h)
-step-numbers d n (b ∷ bs) h =
-    let by_tail = values-by_tail n d b bs in
-    record { value = λ width. cc (by_tail.value); arc = cc (by_tail.tail) }
+step-numbers d n (b ∷ bs) h = search (rules, values-by_tail)
 
 steps : (d : ℤ) (o : Option Started) → HasNumbers o → Steps d o
 steps d None h = record { value = λ width. refl; arc = refl }
@@ -74,16 +69,10 @@ values-left (o ∷ os) = ap (arc_of_value o) (values-left os) ∙ sym (arc-next 
 pub codes-of_values : (value : Option ℤ) (older : List (Option ℤ)) → CodesOfValues value older
 codes-of_values value older = grind (arith, common_steps, values-left, code-next)
 
-code-left : (width : ℕ) (c : Code) (cs : List Code)
-    → arc_of_codes width cs ≡ started_tail (since_start (accepted width cs))
-    → arc_of_codes width (c ∷ cs) ≡ started_tail (since_start (accepted width (c ∷ cs)))
-code-left width c cs h =
-    grind (arith, value-next width c (accepted width cs), number-next c (accepted width cs))
-
 codes-left : (width : ℕ) (codes : List Code)
     → arc_of_codes width codes ≡ started_tail (since_start (accepted width codes))
 codes-left width [] = refl
-codes-left width (c ∷ cs) = code-left width c cs (codes-left width cs)
+codes-left width (c ∷ cs) = grind (arith, common_steps, value-next, number-next, codes-left width cs)
 
 pub values-of_codes : (width : ℕ) (code : Code) (older : List Code) → ValuesOfCodes width code older
 values-of_codes width code older = grind (arith, common_steps, codes-left, value_of_code, value-next)

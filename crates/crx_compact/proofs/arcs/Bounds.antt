@@ -1,7 +1,7 @@
 -- Differences of values within their columns are numbers that a code can hold.
 use Rattle.crx_compact.proofs.Words.{◌≡◌, ℕ, zero, suc, ◌+◌, ◌-◌, ◌^◌, ◌<◌, ◌≤◌, min, true, ℤ, pos, neg_ℤ}
 use Rattle.crx_compact.proofs.Words.{List, [], ◌∷◌, length, AllByRecursion, arith, ints, WRITTEN_ORDER}
-use Rattle.crx_compact.proofs.Words.{DIGITS_LIMIT, IsWithin, IsShort, IsPrintable, code_at, common_steps}
+use Rattle.crx_compact.proofs.Words.{DIGITS_LIMIT, IsWithin, IsShort, IsPrintable, code_at}
 use Rattle.crx_compact.proofs.Words.{◌-ℤ◌, difference, is_within}
 use Rattle.std.specs.Prelude.{◌↔◌, ◌≤ℤ◌}
 use Rattle.std.proofs.Math.Nat.{pow-le-pow_right}
@@ -23,14 +23,11 @@ near-sub b x y h k = omega (arith, ints)
 pub near-more : (b c : ℕ) (z : ℤ) → b ≤ c → IsNear b z → IsNear c z
 near-more b c z le h = omega (arith, ints)
 
-near-zero : (b : ℕ) → IsNear b (pos 0)
-near-zero b = omega (arith, ints)
-
 pub difference-near : (k b : ℕ) (xs : List ℤ) → AllByRecursion (IsNear b) xs
     → IsNear (doubled k b) (difference k xs)
-difference-near zero b [] h = near-zero b
+difference-near zero b [] h = omega (arith, ints)
 difference-near zero b (x ∷ xs) h = rw (difference-zero x xs) h.0
-difference-near (suc k) b [] h = near-zero (doubled k b + doubled k b)
+difference-near (suc k) b [] h = omega (arith, ints)
 difference-near (suc k) b (x ∷ xs) h =
     rw (difference-suc k x xs) (near-sub (doubled k b) (difference k (x ∷ xs)) (difference k xs)
     (difference-near k b (x ∷ xs) h) (difference-near k b xs h.1))
@@ -60,10 +57,6 @@ code-printable b (x ∷ y ∷ ys) h k = short _ _ h (difference-within b x (y �
 
 pub ten-more : (a b : ℕ) → a ≤ b → 10 ^ a ≤ 10 ^ b
 ten-more a b h = pow-le-pow_right (omega arith) h
-
--- a value within its columns
-pub near-within : (width : ℕ) (z : ℤ) → IsWithin width z → IsNear (10 ^ (width - 1)) z
-near-within width z h = grind (arith, common_steps, ten-more)
 
 -- the test of a value's columns and the fact
 pub within-is : (width : ℕ) (z : ℤ) → (is_within width z ≡ true) ↔ IsWithin width z

@@ -62,14 +62,11 @@ numbers-steps n xs = refl
 
 -- ---- the recurrence of the values
 
-take-nil : (n : ℕ) → take {A = ℤ} n [] ≡ []
-take-nil n = grind arith
-
 -- a last number whose weight is 0 does not count
 last-without_weight : (w : ℕ → ℤ) (n : ℕ) (r : List ℤ) (x : ℤ)
     → w (length r) ≡ pos 0 → weighted w (take n (r ++ x ∷ [])) ≡ weighted w (take n r)
 last-without_weight w zero r x h = refl
-last-without_weight w (suc n) [] x h = grind (arith, common_steps, take-nil)
+last-without_weight w (suc n) [] x h = grind (arith, common_steps)
 last-without_weight w (suc n) (y ∷ r) x h = cc (last-without_weight (λ i. w (suc i)) n r x h)
 
 pub binomial-past : (n i : ℕ) → n < i → binomial n i ≡ 0

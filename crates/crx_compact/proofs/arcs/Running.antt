@@ -1,15 +1,16 @@
 -- Running differences: their step, and their size.
 use Rattle.crx_compact.proofs.Words.{◌≡◌, ◌≤◌, ◌<◌, refl, ℕ, zero, suc, ◌+◌, ◌-◌, ◌^◌, ℤ, pos, List, [], ◌∷◌}
-use Rattle.crx_compact.proofs.Words.{◌++◌, length, take, drop, min, slice_index_or, slice_set, Bool, true}
-use Rattle.crx_compact.proofs.Words.{false, Some, Ok, Err, if◌then◌else◌, ◌*◌, sym, ◌∙◌, ap, arith, rules}
+use Rattle.crx_compact.proofs.Words.{◌++◌, length, take, drop, min, slice_index_or, slice_set}
+use Rattle.crx_compact.proofs.Words.{Some, ◌*◌, ap, arith, rules}
 use Rattle.crx_compact.proofs.Words.{ints, common_steps, IsWithin, IsShort, Step, code_of_value, arc_of_value}
-use Rattle.crx_compact.proofs.Words.{value_of_code, arc_of_code, WRITTEN_ORDER, ◌+ℤ◌, ◌-ℤ◌, w64, to_z-of_z}
+use Rattle.crx_compact.proofs.Words.{value_of_code, arc_of_code, ◌+ℤ◌, ◌-ℤ◌, w64, to_z-of_z}
 use Rattle.crx_compact.proofs.Words.{drop-set-lt, differences_after, onto_sum, differences_by, highest}
-use Rattle.crx_compact.proofs.{Words.{in_range, is_within, OutOfRange}, arcs.Bounds.ten-more}
-use Rattle.std.proofs.Common.{FitsSigned, to_z, of_z, lit≤, lit<}
+use Rattle.crx_compact.proofs.{Words.{in_range}, arcs.Bounds.ten-more}
+use Rattle.std.proofs.Common.{FitsSigned, to_z, of_z}
 use Rattle.std.proofs.{lemmas.List.{drop_all, length-take, take_all}, Math.Nat.pow-le-pow_right}
 use Rattle.crx_compact.specs.Arcs.{IsBelow, AreBelow, value_bound, kept_tail, IsArcInRange, IsNewestWithin}
 use Rattle.crx_compact.specs.meaning.Differences.{newest}
+use Rattle.crx_compact.proofs.PlaceByPlace.{from-place}
 
 -- ---- size
 
@@ -24,9 +25,7 @@ order-bound-is (suc k) = omega (arith, order-bound-is k)
 
 -- the largest of all, of order 9
 pub order-bound-within : (k : ℕ) → k ≤ 9 → order_bound k ≤ 51200000000000000
-order-bound-within k h =
-    let power : 2 ^ k ≤ 2 ^ 9 = pow-le-pow_right (lit< tt) {i = k} {j = 9} h in
-    omega (arith, order-bound-is k)
+order-bound-within k h = search (rules, pow-le-pow_right, order-bound-is)
 
 -- the differences at a next value below the bound are as small as those before
 pub after-below : (bound : ℕ) (value : ℤ) (ds : List ℤ)
@@ -73,16 +72,12 @@ take-after (suc n) value (d ∷ ds) = ap (λ r. value ∷ r) (take-after n (valu
 
 -- ---- the same place by place, as a loop goes
 
-pub drop-index : (ds : List ℤ) (k : ℕ) → k < length ds
-    → drop k ds ≡ slice_index_or ds k (pos 0) ∷ drop (k + 1) ds
-drop-index ds k h = grind (arith, common_steps)
-
 record NextBelow (k : ℕ) (ds : List ℤ) : Type 0 where
   first : IsBelow (order_bound k) (slice_index_or ds k (pos 0))
   rest : AreBelow (order_bound (k + 1)) (drop (k + 1) ds)
 
 next-below : (k : ℕ) (ds : List ℤ) → k < length ds → AreBelow (order_bound k) (drop k ds) → NextBelow k ds
-next-below k ds h hs = search (rules, drop-index)
+next-below k ds h hs = search (rules, from-place (pos 0) k ds h)
 
 -- a number that fits is what its bits stand for
 pub same-bits : (value : ℤ) → FitsSigned w64 value → to_z w64 (of_z w64 value) ≡ value
@@ -104,12 +99,7 @@ pub record Advanced (k : ℕ) (target ds : List ℤ) (next : ℤ) : Type 0 where
 
 pub advance-step : (k : ℕ) (target ds : List ℤ) (next : ℤ) → k < length ds → Advanced k target ds next
     → Advanced (k + 1) target (slice_set ds k next) (next -ℤ slice_index_or ds k (pos 0))
-advance-step k target ds next h a =
-    let b = next-below k ds h a.rest_below in
-    let more : k + 1 ≡ suc k = omega arith in
-    let later = drop-set-lt (k + 1) ds k next (omega arith) in
-    let small : IsBelow (order_bound (suc k)) (next -ℤ slice_index_or ds k (pos 0)) = omega (arith, ints) in
-    record { done = grind (arith, common_steps); next_below = rw more small; rest_below = rw later b.rest }
+advance-step k target ds next h a = grind (arith, common_steps, next-below, drop-set-lt)
 
 -- all of them
 pub advanced-all : (k : ℕ) (target ds : List ℤ) (next : ℤ) → length ds ≤ k
@@ -160,15 +150,7 @@ pub record OntoThird (number : ℤ) (ds : List ℤ) : Type 0 where
 
 pub onto-third : (number : ℤ) (ds : List ℤ)
     → 3 < length ds → IsBelow (10 ^ 18) number → AreBelow value_bound (take 3 ds) → OntoThird number ds
-onto-third number (a ∷ b ∷ c ∷ ds) h f hs = record {
-  zeroth_before = omega (arith, ints, hs.0);
-  first_before = omega (arith, ints, hs.1.0);
-  second_before = omega (arith, ints, hs.1.1.0);
-  second = omega (arith, ints, f, hs.1.1.0);
-  first = omega (arith, ints, f, hs.1.0, hs.1.1.0);
-  value = omega (arith, ints, f, hs.0, hs.1.0, hs.1.1.0);
-  sums = refl;
-}
+onto-third number (a ∷ b ∷ c ∷ ds) h f hs = grind (arith, common_steps)
 onto-third number ds h f hs = absurd (omega (arith, h))
 
 -- one place more of the value by a number
@@ -188,11 +170,7 @@ sum-step k target value ds h s =
     let more : k + 1 ≡ suc k = omega arith in
     let small : IsBelow (10 ^ 18 + order_bound (suc k)) (value +ℤ slice_index_or ds k (pos 0)) =
     omega (arith, ints) in
-    record {
-      done = omega (arith, ints, s.done, ap total (drop-index ds k h));
-      value_below = rw more small;
-      rest_below = b.rest;
-    }
+    search (rules, from-place (pos 0) k ds h)
 
 -- the last one of some differences is the highest
 pub highest-last : (ds : List ℤ) (d : ℤ) → highest (ds ++ d ∷ []) ≡ d
@@ -284,11 +262,6 @@ pub begun-list : (ds : List ℤ) (value : ℤ) → 0 < length ds → take 1 (sli
 begun-list [] value h = absurd (omega arith)
 begun-list (d ∷ ds) value h = refl
 
-pub begun-tail : (order count : ℕ) (ds ds' : List ℤ) (value : ℤ) → 0 < length ds → count ≡ 0
-    → kept_tail WRITTEN_ORDER (take 1 (slice_set ds 0 value))
-    ≡ arc_of_value (Some value) (kept_tail order (take count ds'))
-begun-tail order count ds ds' value l e = cc (begun-list ds value l, e)
-
 pub begun-kept : (width order : ℕ) (ds : List ℤ) (value : ℤ) → 0 < length ds → width ≤ 15
     → order ≤ 9 → IsWithin width value → IsArcInRange width order 1 (take 1 (slice_set ds 0 value))
 begun-kept width order ds value l few o h = grind (arith, common_steps, begun-list, within-below, newest)
@@ -304,10 +277,7 @@ pub steps-on : (width order count last : ℕ) (number value : ℤ) (ds : List �
     → value ≡ newest (differences_by number (take last ds)) → StepsOn width order count last number value ds
 steps-on width order (suc count) last number value (d ∷ ds) e h l v =
     let lower = lower-taken order (suc count) last (d ∷ ds) e in
-    record {
-      value_is = cc;
-      tail = cc (some-kept order value (take last (d ∷ ds)), by-after number (take last (d ∷ ds)));
-    }
+    search (rules, some-kept, by-after)
 steps-on width order count last number value ds e h l v = absurd (omega arith)
 
 -- what the number of a next code leads to
@@ -316,21 +286,6 @@ pub stepped : (width order count last : ℕ) (number value : ℤ) (ds : List ℤ
     → FitsSigned w64 number → StepsOn width order count last number value ds
 stepped width order count last number value ds e h l v f = steps-on width order count last number value ds
     (record { least = e }) h (omega arith) (cc (v, same-bits number f))
-
--- what a value that is tested gives
-pub in-range-by : (width : ℕ) (value : ℤ) (b : Bool) → b ≡ is_within width value
-    → (if b then Ok (Some value) else Err OutOfRange) ≡ in_range width value
-in-range-by width value b e = cc
-
--- a value that the code's test lets through
-pub accepted : (width : ℕ) (value : ℤ) (b : Bool) → b ≡ is_within width (to_z w64 (of_z w64 value))
-    → b ≡ true → FitsSigned w64 value → is_within width value ≡ true
-accepted width value b e h f = ap (is_within width) (sym (same-bits value f)) ∙ sym e ∙ h
-
--- a value that the code's test refuses
-pub refused : (width : ℕ) (value : ℤ) (b : Bool) → b ≡ is_within width (to_z w64 (of_z w64 value))
-    → b ≡ false → FitsSigned w64 value → Err OutOfRange ≡ in_range width value
-refused width value b e h f = in-range-by width value false (cc (h, e, same-bits value f))
 
 -- the highest difference at a next value in range is a number that a code may have
 highest-below : (k : ℕ) (ds : List ℤ) → length ds + k ≤ 10 → AreBelow (order_bound k) ds
@@ -346,6 +301,3 @@ highest-short width order count last value ds e k h = highest-below 0 (differenc
     (omega (arith, length-after value (take last ds), length-take last ds, k.order_within))
     (after-below value_bound value
     (take last ds) (within-below width value k.few_columns h) (lower-below order count last ds e k.below))
-
-pub within-short : (width : ℕ) (value : ℤ) → width ≤ 15 → IsWithin width value → IsShort value
-within-short width value few h = below-short value_bound value (lit≤ tt) (within-below width value few h)

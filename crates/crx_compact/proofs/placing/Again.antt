@@ -1,10 +1,9 @@
 -- The satellites of the epoch before come again.
-use Rattle.crx_compact.proofs.Words.{◌≡◌, ℕ, ◌+◌, ◌<◌, ◌≤◌, List, [], Some, length, take, option_map, ap, sym}
+use Rattle.crx_compact.proofs.Words.{◌≡◌, ℕ, ◌<◌, ◌≤◌, List, [], Some, length, take, option_map, ap, sym}
 use Rattle.crx_compact.proofs.Words.{◌∙◌, arith, refl, subst, bytes_eq, Count, padded, satellite_of, RowTail}
 use Rattle.crx_compact.proofs.{Characters.length-is, RowByRow.all-at}
 use Rattle.crx_compact.proofs.{placing.EntryChanges.room-here, placing.Ranges.{found-in_range, named-map}}
 use Rattle.crx_compact.proofs.placing.SteppedRows.{among-placed, row-at, rows-counted, rows_of}
-use borrow.Author.Count.{below_more}
 use Rattle.std.proofs.{lemmas.Option.{get_or_from_slice_get, slice_get-map}, lemmas.Grind.common_steps}
 use Rattle.std.proofs.Common.{All, get_or, map, slice_get, true}
 use Rattle.indexmap.specs.IndexMap.{IndexMap, IsUnique}
@@ -13,12 +12,6 @@ use Rattle.crx_compact.specs.EpochLinesRead.{HaveComeAgain, IsAgain}
 use Rattle.crx_compact.specs.Placing.{SatelliteTail, row_of_entry, row_tail_named}
 use Rattle.crx_header.specs.meaning.ObservationTypes.{count_of}
 use Rattle.crx_header.specs.meaning.Satellites.{is_identifier, types_of_satellite}
-
--- one more
-pub kept-more : (types : List Count) (count : ℕ) (es : List Entry)
-    → ((index : ℕ) → index < count → KeepsTypes types index es) → KeepsTypes types count es
-    → (index : ℕ) → index < count + 1 → KeepsTypes types index es
-kept-more types count es kept last = below_more (λ index. KeepsTypes types index es) count kept last
 
 -- where no row has come, no satellite has
 pub none-placed : (placed live : ℕ) (es : List Entry) → (placed ≤ live) × (live ≤ length es)
@@ -63,9 +56,7 @@ module _ {S : Type 0} (m : IndexMap (List ℕ) SatelliteTail S) (unique : IsUniq
     rooms = refl;
     again = λ i d less.
         let below = among-placed live i m.entries less in
-        let k = kept i below in
-        let at = row-at live less k.there in
-        subst (IsAgain types (placed_rows 0 live m.entries))
-        (sym (get_or_from_slice_get (rows_of live m.entries) i (row_of_entry k.entry) d at.there))
-        (one-again i below k);
+        let at = row-at live less (kept i below).there in
+        subst (IsAgain types (placed_rows 0 live m.entries)) (sym (get_or_from_slice_get (rows_of live
+        m.entries) i (row_of_entry (kept i below).entry) d at.there)) (one-again i below (kept i below));
   }

@@ -65,12 +65,11 @@ module _ {S : Type 0} (m : IndexMap (List ℕ) SatelliteTail S) (i : ℕ) (name 
       let updates = updates-with_value_at m i after bytes_eq-equiv unique name before there in
       rooms-kept _ _ (λ other satellite known. elim (cases_Bool (bytes_eq name other)) [
         | inl t ↦
-            let same : name ≡ other = (bytes_eq-Decides name other).0 t in
             let is = same_Some satellite after (sym known
             ∙ updates.0 other ∙ cond-true (bytes_eq name other) (Some after) (get bytes_eq m other) t) in (
               before,
-              ap (λ n. get bytes_eq m n) (sym same)
-                  ∙ hash_map_get_place bytes_eq-equiv m i name before unique there,
+              ap (λ n. get bytes_eq m n) (sym ((bytes_eq-Decides name other).0 t)) ∙ hash_map_get_place
+                  bytes_eq-equiv m i name before unique there,
               rw is less,
             )
         | inr f ↦ (
@@ -92,12 +91,7 @@ module _ {S : Type 0} (m : IndexMap (List ℕ) SatelliteTail S) (i : ℕ) (name 
             let same : name ≡ other = (bytes_eq-Decides name other).0 t in
             let is = same_Some known.0 after (sym known.1
             ∙ updates.0 other ∙ cond-true (bytes_eq name other) (Some after) (get bytes_eq m other) t) in
-            let few : count ≤ after.room = rw (← is) known.2 in
-            elim (cases_lt before.room count) [
-              | inl more ↦ inr (sym same, omega (arith, within, few, more))
-              | inr less ↦ inl (subst (λ (n : List ℕ). HasRoom n count (rooms_of m.entries)) same
-                  (room-here count less))
-            ]
+            grind (arith, common_steps, cases_lt, rooms_of, room-here)
         | inr f ↦ inl (room-from_look_up other count _ known.0
             (sym (cond-false (bytes_eq name other) (Some after) (get bytes_eq m other) f)
             ∙ sym (updates.0 other) ∙ known.1)
@@ -117,8 +111,7 @@ module _ {S : Type 0} (m : IndexMap (List ℕ) SatelliteTail S) (found : ℕ) (n
     (answer : (entry : Entry) → slice_get m.entries found ≡ Some entry → IsTrue has ↔ (count ≤ entry.1.room))
   where
     pub enough-room : has ≡ true → HasRoom name count (rooms_of m.entries)
-    enough-room roomy =
-        room-here m found name is.satellite is.satellite unique is.there count ((answer _ is.there).0 roomy)
+    enough-room roomy = search (rules, room-here)
 
     pub little-room : has ≡ false → HasRoom name count (rooms_of m.entries) → ⊥
     little-room full room = false≢true (sym full ∙ (answer _ is.there).1

@@ -1,6 +1,6 @@
 -- A satellite is found by its identifier, or added behind the others.
-use Rattle.std.proofs.Common.{◌≡◌, ℕ, ◌<◌, List, [], ◌∷◌, ◌++◌, length, take, slice_get, get_or, position}
-use Rattle.std.proofs.Common.{Option, Some, None, IfSome, is_some, refl, ap, sym, ◌∙◌, inl, inr, ◌⊎◌, arith}
+use Rattle.std.proofs.Common.{◌≡◌, ℕ, List, [], ◌∷◌, ◌++◌, length, take, slice_get, get_or, position}
+use Rattle.std.proofs.Common.{Option, Some, None, IfSome, is_some, refl, ap, sym, ◌∙◌, ◌⊎◌, arith}
 use Rattle.std.proofs.{Common.{Bool, false, true}, lemmas.Bool.cases_Bool, lemmas.Slice.Eq.bytes_eq-Decides}
 use Rattle.std.proofs.lemmas.Grind.{common_steps}
 use Rattle.std.proofs.{lemmas.List.{take-append-le, length-map}, lemmas.List.Quantifiers.position-Some}
@@ -13,14 +13,7 @@ use Rattle.crx_compact.proofs.{RowByRow.is-there, placing.Rooms.{known-room, roo
 
 pub found-there : (name : List ℕ) (i : ℕ) (es : List Entry) (satellite : SatelliteTail)
     → slice_get es i ≡ Some (name, satellite) → IsFound name i es es
-found-there name i es satellite there = record {
-  satellite = satellite;
-  there = there;
-  front = λ count within. refl;
-  known = λ within. refl;
-  rooms = λ other count has. has;
-  only = λ other count has. inl has;
-}
+found-there name i es satellite there = grind (arith, common_steps)
 
 -- where another identifier is there, which is the same
 pub found-same : (name other : List ℕ) (i : ℕ) (es : List Entry) → (satellite : SatelliteTail)
@@ -31,8 +24,7 @@ found-by_look_up : (name : List ℕ) (i : ℕ) (es : List Entry)
     → position (bytes_eq name) (keys_of es) ≡ Some i → IsFound name i es es
 found-by_look_up name i es is =
     let at = position-Some (bytes_eq name) (keys_of es) i [] is in
-    let within : i < length es = omega (arith, at.0, length-map es key_of) in
-    let entry = is-there es i within in
+    let entry = is-there es i (omega (arith, at.0, length-map es key_of)) in
     let same : name ≡ key_of entry.item = (bytes_eq-Decides name (get_or (keys_of es) i [])).0 at.1
     ∙ get_or_from_slice_get (keys_of es) i (key_of entry.item) []
     (cc (slice_get-map key_of es i, entry.there)) in
@@ -56,10 +48,7 @@ look_up-more test (e ∷ es) more satellite h = grind (arith, common_steps, look
 look_up-added : (test : List ℕ → Bool) (es : List Entry) (name : List ℕ) (satellite found : SatelliteTail)
     → lookup test (es ++ (name, satellite) ∷ []) ≡ Some found
     → (lookup test es ≡ Some found) ⊎ ((test name ≡ true) × (satellite ≡ found))
-look_up-added test [] name satellite found h = elim (cases_Bool (test name)) [
-  | inl t ↦ inr (t, same_Some satellite found (rw t at h))
-  | inr f ↦ absurd (none-some found (rw f at h))
-]
+look_up-added test [] name satellite found h = grind (arith, common_steps, cases_Bool, same_Some, none-some)
 look_up-added test (e ∷ es) name satellite found h =
     grind (arith, common_steps, look_up-added test es name satellite found)
 
@@ -78,13 +67,7 @@ found-added name satellite es new is none = record {
   ));
   only = λ other count has.
       let known = known-room other count new has in
-      elim (look_up-added (bytes_eq other) es name satellite known.0
-      (ap (lookup (bytes_eq other)) (sym is) ∙ known.1)) [
-        | inl there ↦ inl (room-from_look_up other count es known.0 there known.2)
-        | inr added ↦
-            let room = ap (λ (s : SatelliteTail). s.room) added.1 in
-            inr ((bytes_eq-Decides other name).0 added.0, omega (arith, none, room, known.2))
-      ];
+      grind (arith, common_steps, look_up-added, bytes_eq, lookup, room-from_look_up, bytes_eq-Decides);
 }
 
 pub none-there : {X : Type 0} (r : Option X) → is_some r ≡ false → r ≡ None

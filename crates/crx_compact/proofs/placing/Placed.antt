@@ -46,15 +46,7 @@ module _ {S : Type 0} (m : IndexMap (List ℕ) SatelliteTail S) {name : List ℕ
     -- it has too little room
     pub placed-not : has ≡ false → AnswersPlacing name count
         (placed_rows placed live m.entries) (placed_rows placed live m.entries) None
-    placed-not full = record {
-      placed = tt;
-      unplaced = λ out. record {
-        absent = new-here;
-        unchanged = refl;
-        known = little-room m found name is unique count has answer full;
-      };
-      rooms = same-rooms _;
-    }
+    placed-not full = search (rules, new-here, little-room, same-rooms)
 
     -- one of the epoch before comes
     pub placed-next : has ≡ true
@@ -84,10 +76,7 @@ module _ {S : Type 0} (m : IndexMap (List ℕ) SatelliteTail S) {name : List ℕ
             (anew.rooms name count (enough-room m found name is unique count has answer roomy));
       };
       unplaced = λ none. absurd (cc none);
-      rooms = record {
-        forth = λ other n has. put.rooms other n (anew.rooms other n has);
-        back = λ other n has. anew.back other n (put.back other n has);
-      };
+      rooms = search rules;
     }
 
 -- one that had no room comes after room was asked for

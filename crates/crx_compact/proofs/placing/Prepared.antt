@@ -1,5 +1,5 @@
 -- A satellite gets more room, and no row changes.
-use Rattle.std.proofs.Common.{rules, ◌≡◌, ℕ, ◌≤◌, List, length, map, take, drop, slice_get, Some, ap, sym}
+use Rattle.std.proofs.Common.{rules, ◌≡◌, ℕ, ◌≤◌, List, length, map, take, drop, slice_get, Some, ap}
 use Rattle.std.proofs.{Common.{◌∙◌, arith}, Math.Seq.map-set_same, lemmas.Grind.common_steps}
 use Rattle.std.proofs.{lemmas.List.{drop-map, length-take, take-map}, lemmas.Option.get_or_from_slice_get}
 use Rattle.indexmap.specs.IndexMap.{set_value_at}
@@ -30,5 +30,4 @@ module _ (name : List ℕ) (found : ℕ) (old known new : List Entry) (is : IsFo
 
   pub range-same : (placed live : ℕ) → live ≤ length old
       → map row_of_entry (drop placed (take live new)) ≡ map row_of_entry (drop placed (take live old))
-  range-same placed live within = sym (drop-map _ placed _)
-      ∙ ap (drop placed) (front-same live within) ∙ drop-map _ placed _
+  range-same placed live within = cc (drop-map _ placed _, front-same live within, drop-map _ placed _)

@@ -46,8 +46,7 @@ same-rooms old new is = λ name count has. subst (λ (es : List Entry). HasRoom 
 pub unknown : (name : List ℕ) (count : ℕ) (es : List Entry)
     → is_among key_of name es ≡ false → HasRoom name count (rooms_of es) → ⊥
 unknown name count es new has =
-    let known = known-room name count es has in
-    none-some known.0 (sym (none es new) ∙ known.1)
+    none-some (known-room name count es has).0 (sym (none es new) ∙ (known-room name count es has).1)
   where
     none : (es : List Entry) → is_among key_of name es ≡ false → lookup (bytes_eq name) es ≡ None
     none [] h = refl

@@ -1,7 +1,7 @@
 -- What is stored of one satellite among those that have come changes: its row, and no other one.
 use Rattle.crx_compact.proofs.Words.{◌≡◌, ℕ, zero, suc, ◌-◌, ◌<◌, ◌≤◌, List, [], ◌∷◌, ◌++◌, length, map, take}
 use Rattle.crx_compact.proofs.Words.{slice_get, drop, Option, Some, None, refl, ap, ◌∙◌, arith, slice_set}
-use Rattle.crx_compact.proofs.Words.{slice_index_or, bytes_eq, length-map, length-take-le, same_Some}
+use Rattle.crx_compact.proofs.Words.{slice_index_or, bytes_eq, length-map, length-take-le}
 use Rattle.crx_compact.proofs.Words.{slice_get-map, index-each_place, without_end_blanks, each_place}
 use Rattle.crx_compact.proofs.Words.{text_difference, Row, ArcTail, cell_text, padded, flags_held}
 use Rattle.crx_compact.proofs.{Words.{row_line_after, row_tail_after, RowTail}, placing.Found.at-seam}
@@ -13,7 +13,7 @@ use Rattle.crx_compact.specs.{Cells.{arcs_of_cells, codes_of_cells}, Entries.{En
 use Rattle.crx_compact.specs.Placing.{KeepsRest, SatelliteTail, cells_for, row_tail_of, row_of_entry}
 use Rattle.indexmap.specs.{IndexMap.{IndexMap, IsUnique, set_value_at}, Layout.length-set_value_at}
 
-get-take : {X : Type 0} (n i : ℕ) (xs : List X) → i < n → slice_get (take n xs) i ≡ slice_get xs i
+pub get-take : {X : Type 0} (n i : ℕ) (xs : List X) → i < n → slice_get (take n xs) i ≡ slice_get xs i
 get-take zero i xs within = absurd (omega (arith, within))
 get-take (suc n) i [] within = refl
 get-take (suc n) zero (x ∷ xs) within = refl
@@ -84,9 +84,6 @@ pub padded-is : (name : List ℕ) (count : ℕ) (satellite after : SatelliteTail
 } → row_tail_of name after
     ≡ padded (record { name = name; count = count }) (Some (row_tail_of name satellite))
 padded-is name count satellite after is = ap (row_tail_of name) is
-
-pub ends-same : {X : Type 0} (xs ys : List X) (x y : X) → xs ++ x ∷ [] ≡ ys ++ y ∷ [] → x ≡ y
-ends-same xs ys x y e = grind (arith, common_steps, same_Some, last-is)
 
 pub has-last : {X : Type 0} (xs : List X) → 0 < length xs
     → (before : List X) × (x : X) × (xs ≡ before ++ x ∷ [])

@@ -1,10 +1,10 @@
 -- The satellites of an open epoch stay those that its text announces, each with its count of types.
 use Rattle.crx_compact.proofs.Words.{◌≡◌, ◌≤◌, zero, suc, List, [], ◌∷◌, length, map, Some, All, arith, rules}
-use Rattle.crx_compact.proofs.Words.{refl, SATELLITES_LIMIT, satellites_few, IsAwaitedSatellite, satellite_of}
-use Rattle.crx_compact.proofs.Words.{ℕ, unwrap_or, All-head, All-tail, same_Some, columns, IsRowRead, RowTail}
+use Rattle.crx_compact.proofs.Words.{refl, SATELLITES_LIMIT, satellites_few, satellite_of}
+use Rattle.crx_compact.proofs.Words.{ℕ, unwrap_or, same_Some, columns, IsRowRead, RowTail}
 use Rattle.crx_compact.proofs.Words.{slice_get, slice_set, length-map, IsAnnounced, OpenHistory, common_steps}
-use Rattle.std.proofs.lemmas.List.Elements.{All-cons}
 use Rattle.crx_compact.specs.Placing.{HasAllowedCount}
+use Rattle.std.proofs.Math.ListN.{get_or-map}
 
 -- ---- they stay
 
@@ -26,12 +26,10 @@ row-announced old new place line read h = search (rules, satellite_of, satellite
 
 -- each row has as many cells as a system may have types
 pub rows-allowed : (history : OpenHistory) → IsAnnounced history → All HasAllowedCount history.satellites.rows
-rows-allowed history h = each history.satellites.rows h.satellites
-  where
-    each : (rows : List RowTail) → All IsAwaitedSatellite (map satellite_of rows) → All HasAllowedCount rows
-    each [] k = λ i d less. absurd (omega (arith, less))
-    each (row ∷ rows) k = All-cons HasAllowedCount row rows (All-head IsAwaitedSatellite _ _ k).counted
-        (each rows (All-tail IsAwaitedSatellite _ _ k))
+rows-allowed history h = λ i d less.
+    let rows = history.satellites.rows in
+    let k = h.satellites i (satellite_of d) (omega (arith, less, length-map rows satellite_of)) in
+    (rw (get_or-map satellite_of rows i d) at k).counted
 
 -- they are as few as an epoch may have
 pub rows-few : (history : OpenHistory) → IsAnnounced history

@@ -17,6 +17,7 @@ use Rattle.std.specs.Option.{is_some}
 use Rattle.crx_compact.specs.OpenEpochs.{OpenRawEpoch, rows_before, raw_step_with_clock, place_of_steps}
 use Rattle.crx_compact.specs.{OpenEpochs.open_raw_after, OpenEpochs.RawStep.Going}
 use Rattle.crx_compact.specs.ReadingLaws.{is_wanted, StepsAgree, WantedWhereOpen, StepsFromOpen}
+use Rattle.std.proofs.lemmas.Option.{slice_get_past}
 
 -- ---- the satellite lines
 
@@ -50,16 +51,12 @@ get-next : {X : Type 0} (xs ys : List X) (x : X) → slice_get (xs ++ x ∷ ys) 
 get-next [] ys x = refl
 get-next (z ∷ zs) ys x = get-next zs ys x
 
-none-left : {X : Type 0} (xs : List X) → slice_get (xs ++ []) (length xs) ≡ None
-none-left [] = refl
-none-left (x ∷ xs) = none-left xs
-
 -- the awaited satellites' lines, one step each
 rows-steps : (before : Tail) (text : List ℕ) (arc : Option ArcTail) (rows : List RowTail)
     (awaited : List Satellite) (count : ℕ) (lines : List ReadLine) → place_of_steps count
     (step_with_rows (tail_with text arc (rows ++ rows_before before awaited)) (length rows)) lines ≡
     after_lines (suc count) (rows_placed before text arc rows (rows_read (past_of_tail before) awaited lines))
-rows-steps before text arc rows [] count lines = grind (arith, tail_with, none-left)
+rows-steps before text arc rows [] count lines = grind (arith, common_steps, tail_with, slice_get_past)
 rows-steps before text arc rows (s ∷ ss) count (Content line ∷ lines) =
     let row : RowTail = padded s (tail_named s.name before) in
     let tail : Tail = tail_with text arc (rows ++ rows_before before (s ∷ ss)) in
@@ -123,9 +120,7 @@ read_rows-held : (before : Tail) (line : List ℕ) (satellites : List Satellite)
     (then_place p lines (λ rows rest. Done (epoch_of_rows (read_begun before line satellites) cell rows) 0))))
     ≡ after_lines 2 (rows_placed before (patched before.text line) (arc_of_code cell.code before.clock) [] p)
 read_rows-held before line satellites cell tail lines (Done rows n) h clock e =
-    let facts = rows-facts (past_of_tail before) satellites lines rows n e in
-    let shown = rows-shown before satellites rows facts.each in
-    grind (arith, map-map, take_all)
+    search (rules, rows-facts, rows-shown, map-map, take_all)
 read_rows-held before line satellites cell tail lines (Fails n q) h clock e = grind arith
 read_rows-held before line satellites cell tail lines NeedsMore h clock e = refl
 
@@ -187,8 +182,7 @@ step-more : (count : ℕ) (s : RawStep) (lines : List ReadLine) (line : ReadLine
     ≡ place_of_step (suc (count + length lines)) (next_step begun line)
 step-more count (Going so_far) [] line begun h = grind arith
 step-more count (Going so_far) (l ∷ ls) line begun h =
-    let many : suc count + length ls ≡ count + suc (length ls) = omega arith in
-    cc (step-more (suc count) (next_step so_far l) ls line begun h)
+    search (rules, step-more (suc count) (next_step so_far l) ls line begun h)
 step-more count s lines line begun h = absurd (true≢false (sym (ap is_some h)))
 
 open-more : (s : RawStep) (lines : List ReadLine) (line : ReadLine) (begun : OpenRawEpoch) → open_raw_after

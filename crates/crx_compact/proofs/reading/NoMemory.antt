@@ -1,12 +1,11 @@
 -- That memory ran out is no fault of a clock line or a satellite's line.
-use Rattle.crx_compact.proofs.Words.{◌≡◌, BadField, BadFlags, and_then, ReadCell, cells_of, HeldRow, row_held}
-use Rattle.crx_compact.proofs.Words.{ℕ, suc, ℤ, [], ◌∷◌, Ok, Err, not, ◌∙◌, ap, Code}
+use Rattle.crx_compact.proofs.Words.{◌≡◌, BadField, and_then, ReadCell, cells_of, row_held, rules}
+use Rattle.crx_compact.proofs.Words.{ℕ, suc, ℤ, [], ◌∷◌, Ok, Err, Code}
 use Rattle.crx_compact.proofs.Words.{List, Bool, true, Option, None, Result, Fault, ArcTail, RowTail, arith}
-use Rattle.crx_compact.proofs.Words.{false, Truncated, Satellite, cell_read, cells_read, are_marks, held_from}
-use Rattle.crx_compact.proofs.Words.{if◌then◌else◌, begins_epoch, row_of_cells, flags_of_tail, value_of_code}
-use Rattle.crx_compact.proofs.Words.{slice_index_or, OBSERVATION_WIDTH, satellite_line_read, value_at_place}
-use Rattle.crx_compact.proofs.Words.{code_of, OutOfMemory, before_all, after_cells, arcs_of_tail, past_of_row}
-use Rattle.crx_compact.proofs.Marks.{row_of_line, row_with_marks}
+use Rattle.crx_compact.proofs.Words.{false, Truncated, Satellite, cell_read, cells_read}
+use Rattle.crx_compact.proofs.Words.{if◌then◌else◌, value_of_code}
+use Rattle.crx_compact.proofs.Words.{slice_index_or, OBSERVATION_WIDTH, value_at_place}
+use Rattle.crx_compact.proofs.Words.{code_of, OutOfMemory, before_all, arcs_of_tail}
 
 abbrev fault_in : {X : Type 0} → Result X Fault → Fault
 fault_in (Ok x) = Truncated
@@ -47,15 +46,7 @@ pub no-memory-at-row : (kept : Option RowTail) (s : Satellite) (line : List ℕ)
     → row_held kept s line ≡ Err fault → fault ≡ OutOfMemory → ⊥
 no-memory-at-row kept s line fault e out =
     let arcs = arcs_of_tail kept in
-    let flags = flags_of_tail kept in
-    let past = past_of_row arcs flags in
-    let marks = after_cells s.count line in
     let value =
     λ (place : ℕ) (code : Code). value-none OBSERVATION_WIDTH code (slice_index_or arcs place None) in
     let read = cells-none (value_at_place arcs) value (cells_of s.count line) in
-    let row = and-then-none (cells_read (value_at_place arcs) (cells_of s.count line))
-    (λ cells. row_with_marks past s marks cells) read (λ cells. test-none (not (are_marks s.count marks))
-    BadFlags (Ok (row_of_cells past s.name marks cells)) (λ h. cc) (λ h. cc)) in
-    and-then-none {Y = HeldRow} (satellite_line_read past s line) (λ read. Ok (held_from arcs flags read))
-    (test-none (begins_epoch line) Truncated (row_of_line past s line) (λ h. cc) row) (λ read h. cc)
-    (ap fault_in e ∙ out)
+    search (rules, and-then-none, test-none)

@@ -92,9 +92,7 @@ cells-show : (arcs : ℕ → Option ArcTail) (cells : List ReadCell)
     (each_place (length (map (λ (c : ReadCell). c.code) cells)) (λ j. arc_of_code (slice_index_or
     (map (λ (c : ReadCell). c.code) cells) j Missing) (arcs j))) ≡ map (λ (c : ReadCell). c.value) cells
 cells-show arcs [] h = refl
-cells-show arcs (c ∷ cs) h =
-    let first = shown-code OBSERVATION_WIDTH c.code (arcs 0) c.value h.0.meant in
-    cc (cells-show (λ j. arcs (suc j)) cs h.1)
+cells-show arcs (c ∷ cs) h = search (rules, shown-code, cells-show (λ j. arcs (suc j)) cs h.1)
 
 -- what a line leaves of its satellite shows the line's row
 pub row-shows : (before : Tail) (s : Satellite) (read : ReadRow)

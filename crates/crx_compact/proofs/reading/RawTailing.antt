@@ -21,10 +21,6 @@ cell-found : (rest : List (Option RawRow)) (found : Option RawRow) (j : ℕ)
 cell-found rest None j = refl
 cell-found rest (Some r) j = grind (arith, index-each_place, get_or_past)
 
-flags-found : (rest : List (Option RawRow)) (found : Option RawRow) → flags_of_tail
-    (option_map (raw_row_tail (stretch (found ∷ rest))) found) ≡ overlaid (marks_of (stretch (found ∷ rest)))
-flags-found rest found = grind arith
-
 cell-left : (name : List ℕ) (block : List RawEpoch) (j : ℕ) → cell_of_tail j (tail_named name
     (tail_of_block block)) ≡ started_tail (since_start (map (code_in j) (raw_run_of name block)))
 cell-left name [] j = refl
@@ -34,9 +30,8 @@ cell-left name (e ∷ es) j = ap (cell_of_tail j) (named-made (λ (r : RawRow). 
 flags-left : (name : List ℕ) (block : List RawEpoch)
     → flags_of_tail (tail_named name (tail_of_block block)) ≡ overlaid (marks_of (raw_run_of name block))
 flags-left name [] = refl
-flags-left name (e ∷ es) = ap flags_of_tail (named-made (λ (r : RawRow). r.name)
-    (λ (t : RowTail). t.name) (λ n r. raw_row_tail (raw_run_of n (e ∷ es)) r) (λ n r. refl) name e.rows)
-    ∙ flags-found (map (λ (q : RawEpoch). raw_row_named name q.rows) es) (raw_row_named name e.rows)
+flags-left name (e ∷ es) = ap flags_of_tail (named-made (λ (r : RawRow). r.name) (λ (t : RowTail). t.name)
+    (λ n r. raw_row_tail (raw_run_of n (e ∷ es)) r) (λ n r. refl) name e.rows) ∙ grind arith
 
 -- ---- one line more
 

@@ -25,7 +25,7 @@ pub row-faulty : (tail : Tail) (count : ℕ) (line : List ℕ) (fault : Fault) �
     ≡ Err fault) → next_step (with_rows tail count) (Content line) ≡ Faulty fault
 row-faulty tail count line fault h e =
     let awaited = row-awaited _ count h in
-    (search rules)
+    search rules
 
 -- ---- more rows, or a whole epoch
 

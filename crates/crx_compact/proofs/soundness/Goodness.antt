@@ -1,10 +1,10 @@
 -- An epoch that was read is whole, and its marks can be before others.
 use Rattle.crx_compact.proofs.Words.{◌≡◌, IsAllowedCount, satellites_few, length-each_place, list_all-from_at}
 use Rattle.crx_compact.proofs.Words.{refl, unwrap_or, is_system, IsSoundRow, apart-map, Satellite, raw_run_of}
-use Rattle.crx_compact.proofs.Words.{ℕ, ◌+◌, ◌*◌, ℤ, ◌∷◌, map, None, sym, ◌∙◌, ap, Row, Code, Past, suc, true}
+use Rattle.crx_compact.proofs.Words.{ℕ, ◌+◌, ◌*◌, ℤ, ◌∷◌, map, sym, ◌∙◌, ap, Row, Code, suc, true, None}
 use Rattle.crx_compact.proofs.Words.{List, take, Some, Result, IfSome, arith, Count, Fault, RawRow, []}
 use Rattle.crx_compact.proofs.Words.{list_all, RawEpoch, block_of, overlaid, marks_of, value_of, ReadCell}
-use Rattle.crx_compact.proofs.Words.{length, Option, Ok, columns, IsValue, is_kept, stretch, code_in, ReadRow}
+use Rattle.crx_compact.proofs.Words.{length, Option, Ok, columns, IsValue, is_kept, code_in, ReadRow, stretch}
 use Rattle.crx_compact.proofs.Words.{AllByRecursion, IsMissingOrWithin, types_of_satellite, OBSERVATION_WIDTH}
 use Rattle.crx_compact.proofs.Words.{subst, character_at, HasItsTypes, CLOCK_WIDTH, is_printable, latest_mark}
 use Rattle.crx_compact.proofs.Words.{length-map, raw_row_named, past_of_block, each_place-all, length-columns}
@@ -16,6 +16,7 @@ use Rattle.std.specs.Prelude.{OnSome}
 use Rattle.crx_header.specs.{ObservationTypes.AreCounts, meaning.Satellites.has_number}
 use Rattle.crx_header.proofs.Counts.{allowed_of, system_of}
 use Rattle.crx_compact.specs.ReadingLaws.{HasPrintableMarks, IsGood, ReadsWholeEpochs}
+use Rattle.crx_compact.proofs.soundness.Soundness.{row-names}
 
 -- ---- marks
 
@@ -36,10 +37,6 @@ block-printable : (older : List RawEpoch)
     → AllByRecursion HasPrintableMarks older → AllByRecursion HasPrintableMarks (block_of older)
 block-printable [] h = tt
 block-printable (e ∷ older) h = grind (arith, block-printable older h.1)
-
-block_for-printable : (line : List ℕ) (older : List RawEpoch)
-    → AllByRecursion HasPrintableMarks older → AllByRecursion HasPrintableMarks (block_for line older)
-block_for-printable line older h = grind (arith, block-printable older h)
 
 found-printable : (name : List ℕ) (rows : List RawRow)
     → AllByRecursion (λ (r : RawRow). list_all is_printable r.marks ≡ true) rows
@@ -129,28 +126,17 @@ known-all types [] h k = tt
 known-all types (s ∷ ss) h k = (record { typed = h.0; short = k.0 }, known-all types ss h.1 k.1)
 
 rows-sound : (types : List Count) (block : List RawEpoch) (satellites : List Satellite) (rows : List ReadRow)
-    → AreCounts types → AllByRecursion HasPrintableMarks block
-    → AreKnown types satellites → Paired (RowFacts (past_of_block block)) satellites rows
+    → AreCounts types → AllByRecursion HasPrintableMarks block → AreKnown types satellites
+    → Paired (RowFacts (past_of_block block)) satellites rows
     → AllByRecursion (λ (r : Row). IsSoundRow r × HasItsTypes types r) (map (λ (r : ReadRow). r.row) rows)
-rows-sound types block [] [] counts printable known h = tt
-rows-sound types block (s ∷ ss) (r ∷ rs) counts printable known h = (
-  row-sound types block s r counts printable known.0 h.0,
-  rows-sound types block ss rs counts printable known.1 h.1,
-)
+    × AllByRecursion (λ (r : RawRow). list_all is_printable r.marks ≡ true) (map
+    (λ (r : ReadRow). r.raw) rows)
+rows-sound types block [] [] counts printable known h = (tt, tt)
+rows-sound types block (s ∷ ss) (r ∷ rs) counts printable known h =
+    let rest = rows-sound types block ss rs counts printable known.1 h.1 in
+    let marks : list_all is_printable r.raw.marks ≡ true = grind (arith, h.0.marks_ok) in
+    ((row-sound types block s r counts printable known.0 h.0, rest.0), (marks, rest.1))
 rows-sound types block satellites rows counts printable known h = absurd h
-
-rows-marks : (past : Past) (satellites : List Satellite) (rows : List ReadRow)
-    → Paired (RowFacts past) satellites rows → AllByRecursion
-    (λ (r : RawRow). list_all is_printable r.marks ≡ true) (map (λ (r : ReadRow). r.raw) rows)
-rows-marks past [] [] h = tt
-rows-marks past (s ∷ ss) (r ∷ rs) h = grind (arith, rows-marks past ss rs h.1)
-rows-marks past satellites rows h = absurd h
-
-row-names : (past : Past) (satellites : List Satellite) (rows : List ReadRow) → Paired (RowFacts past)
-    satellites rows → map (λ (r : Row). r.name) (map (λ (r : ReadRow). r.row) rows) ≡ names_of satellites
-row-names past [] [] h = refl
-row-names past (s ∷ ss) (r ∷ rs) h = cc (h.0.is_read, row-names past ss rs h.1)
-row-names past satellites rows h = absurd h
 
 -- ---- the epoch
 
@@ -162,13 +148,14 @@ reads-whole types older lines read count counts printable e =
     let head = columns text 1 41 in
     let rows = map (λ (r : ReadRow). r.row) facts.rows in
     let n = facts.line_ok.count in
-    let sound_block = block_for-printable read.raw.line older printable in
+    let sound_block : AllByRecursion HasPrintableMarks block =
+    grind (arith, block-printable older printable) in
     let three = each_place-all (λ (m : List ℕ). length m ≡ 3) n (λ k. columns text (42 + 3 * k) 3)
     (λ k. length-columns text (42 + 3 * k) 3) in
     let known =
     known-all types facts.satellites facts.line_ok.named.known (rw facts.line_ok.named.same three) in
     let all = rows-sound types block facts.satellites facts.rows counts sound_block known facts.rows_ok in
-    let names = row-names (past_of_block block) facts.satellites facts.rows facts.rows_ok in
+    let names = (row-names (past_of_block block) facts.satellites facts.rows facts.rows_ok).1 in
     let places = length-each_place n (λ k. columns text (42 + 3 * k) 3) in
     let many : length rows ≡ n = cc (length-map rows (λ (r : Row). r.name), facts.line_ok.named.same) in
     let different = apart-map (λ (n : List ℕ). n) (λ (r : Row). r.name) rows in
@@ -184,13 +171,13 @@ reads-whole types older lines read count counts printable e =
             within = satellites_few head;
             ranged = clock;
           };
-          rows_sound = All-from_recursion IsSoundRow rows (all-from IsSoundRow (λ r both. both.0) rows all);
+          rows_sound = All-from_recursion IsSoundRow rows (all-from IsSoundRow (λ r both. both.0) rows all.0);
           apart = cc (different, facts.line_ok.named.same, facts.line_ok.named.apart);
           within = omega (arith, many, announced);
         };
         full = many ∙ sym announced;
         typed = All-from_recursion (HasItsTypes types) rows
-            (all-from (HasItsTypes types) (λ r both. both.1) rows all);
+            (all-from (HasItsTypes types) (λ r both. both.1) rows all.0);
       };
-      marks = rows-marks (past_of_block block) facts.satellites facts.rows facts.rows_ok;
+      marks = all.1;
     })

@@ -1,19 +1,19 @@
 -- What follows of an epoch from its having been read.
-use Rattle.crx_compact.proofs.Words.{◌≡◌, suc, List, drop, Some, None, Done, Code, Past, refl, ◌+◌, ◌*◌, Bool}
+use Rattle.crx_compact.proofs.Words.{◌≡◌, suc, List, drop, Some, None, Done, Code, Past, refl, ◌+◌, ◌*◌}
 use Rattle.crx_compact.proofs.Words.{true, length, Option, Result, Count, Place, NeedsMore, RawRow, subst}
-use Rattle.crx_compact.proofs.Words.{rules, Fails, BegunEpoch, begins_epoch, past_of_line, row_of_cells}
+use Rattle.crx_compact.proofs.Words.{rules, Fails, BegunEpoch, begins_epoch, past_of_line, row_of_cells, Row}
 use Rattle.crx_compact.proofs.Words.{epoch_begun, Fault, apart-map, Truncated, Satellite, are_marks}
 use Rattle.crx_compact.proofs.Words.{rows_read, raw_run_of, cells_read, length-map, then_place, first_line}
 use Rattle.crx_compact.proofs.Words.{NotAnEpoch, each_place, ℕ, ℤ, ◌∷◌, map, Ok, not, sym, ◌∙◌, ap, []}
-use Rattle.crx_compact.proofs.Words.{code_of, slice_index_or, AllByRecursion, past_of_epochs, clock_line_read}
+use Rattle.crx_compact.proofs.Words.{code_of, slice_index_or, AllByRecursion, clock_line_read, common_steps}
 use Rattle.crx_compact.proofs.Words.{Missing, arith, ReadRow, columns, ReadLine, BadField, BadFlags, RawEpoch}
 use Rattle.crx_compact.proofs.Words.{block_of, marks_of, epoch_at, ReadCell, cells_of, ReadEpoch, cell_read}
 use Rattle.crx_compact.proofs.Words.{if◌then◌else◌, satellites_of_line, satellite_line_read, epoch_after_line}
-use Rattle.crx_compact.proofs.Words.{after_cells, raw_row_named, past_of_block, epoch_of_rows, HasSingleLines}
+use Rattle.crx_compact.proofs.Words.{after_cells, raw_row_named, past_of_block, epoch_of_rows}
 use Rattle.crx_compact.proofs.{Words.⊤, Results.{no-err, ok-same, and_then-ok, if-err, if-true, before-ok}}
 use Rattle.crx_compact.proofs.{wayback.Overlays.columns-cut, Marks.{row_with_marks, cells-count, texts-count}}
 use Rattle.crx_compact.proofs.{Identifiers.each-own, EpochLines.{differ, names_of, LineFacts, line-facts_of}}
-use Rattle.crx_compact.specs.Expansion.{all_ok, text_of, row_from, rows_from, epoch_of_block, epoch_from}
+use Rattle.crx_compact.specs.Expansion.{all_ok, text_of, row_from, rows_from, epoch_of_block}
 use Rattle.crx_compact.specs.ReadingLaws.{ReadsSoundly}
 
 -- ---- good answers come from good answers
@@ -73,7 +73,6 @@ read-cells : (value : ℕ → Code → Result (Option ℤ) Fault) (texts : List 
     → cells_read value texts ≡ Ok cells → AreReadCells value cells
 read-cells value [] cells e = subst (AreReadCells value) (ok-same [] cells e) tt
 read-cells value (text ∷ texts) cells e =
-    let rest = cells_read (λ j. value (suc j)) texts in
     let one = and_then-ok _ _ cells e in
     let two = before-ok one.from _ cells one.next in
     rw (← ok-same (one.from ∷ two.from) cells two.next) (
@@ -110,8 +109,7 @@ line-facts past satellite line read e =
     (record {
       cells = step.from;
       are_read = read-cells (past.value satellite.name) texts step.from step.first;
-      counted = cells-count (past.value satellite.name) texts step.from step.first
-          ∙ texts-count satellite.count line;
+      counted = search (rules, cells-count, texts-count);
       marks_ok = if-true (are_marks satellite.count marks) BadFlags (Ok row) read step.next;
       is_read = refl;
     })
@@ -152,16 +150,18 @@ rows-facts past (s ∷ ss) lines rows count e =
     let two = then-comes (rows_read past ss others) others (λ more rest. Done (one.from ∷ more) 0) rows
     one.more one.later in
     let rest = rows-facts past ss others two.from two.count two.first in
-    let same = ap (thing_here (one.from ∷ two.from)) two.later in
     grind (arith, count_here, line-facts)
 
 -- ---- identifiers
 
-pub raw-names : (past : Past) (satellites : List Satellite) (rows : List ReadRow) → Paired (RowFacts past)
-    satellites rows → map (λ (r : RawRow). r.name) (map (λ (r : ReadRow). r.raw) rows) ≡ names_of satellites
-raw-names past [] [] h = refl
-raw-names past (s ∷ ss) (r ∷ rs) h = cc (h.0.is_read, raw-names past ss rs h.1)
-raw-names past satellites rows h = absurd h
+-- the raw rows, and the rows, have the satellites' identifiers
+pub row-names : (past : Past)
+    (satellites : List Satellite) (rows : List ReadRow) → Paired (RowFacts past) satellites rows
+    → (map (λ (r : RawRow). r.name) (map (λ (r : ReadRow). r.raw) rows) ≡ names_of satellites)
+    × (map (λ (r : Row). r.name) (map (λ (r : ReadRow). r.row) rows) ≡ names_of satellites)
+row-names past [] [] h = (refl, refl)
+row-names past (s ∷ ss) (r ∷ rs) h = grind (arith, common_steps, row-names past ss rs h.1)
+row-names past satellites rows h = absurd h
 
 -- ---- the epoch
 
@@ -190,12 +190,6 @@ record Begun (types : List Count) (older : List RawEpoch) (begun : BegunEpoch) :
       ≡ Ok begun.satellites
   past_is : past_of_block (block_for begun.line older) ≡ begun.past
 
--- a past, if there is one, is that of a block
-past-found_if : (b : Bool) (os : List RawEpoch) (past : Past)
-    → (if b then Some (past_of_block []) else past_of_epochs os) ≡ Some past
-    → past_of_block (if b then [] else block_of os) ≡ past
-past-found_if b os past e = grind arith
-
 begun-facts : (types : List Count) (older : List RawEpoch) (line : List ℕ) (begun : BegunEpoch)
     → epoch_begun types line (past_of_line older line) ≡ Ok begun → Begun types older begun
 begun-facts types older line begun e = by_past (past_of_line older line) refl e
@@ -206,7 +200,7 @@ begun-facts types older line begun e = by_past (past_of_line older line) refl e
     by_past (Some past) h e =
         let step = and_then-ok (satellites_of_line types past line)
         (λ ss. Ok (record { line = line; past = past; satellites = ss })) begun e in
-        let found = past-found_if (begins_epoch line) older past h in
+        let found : past_of_block (block_for line older) ≡ past = grind arith in
         search rules
 
 -- what an epoch's clock line and satellite lines make
@@ -245,14 +239,6 @@ epoch-facts types older lines read count e =
 
 -- ---- the law
 
-rows-single : (types : List Count) (older : List RawEpoch) (read : ReadEpoch) (count : ℕ)
-    → EpochFacts types older read count → HasSingleLines read.raw
-rows-single types older read count h =
-    let raws = map _ h.rows in
-    let apart = sym (apart-map (λ (n : List ℕ). n) _ raws) ∙ ap differ (raw-names (past_of_block (block_for
-    read.raw.line older)) h.satellites h.rows h.rows_ok ∙ h.line_ok.named.same) ∙ h.line_ok.named.apart in
-    rw (← h.is_read) (each-own (λ (r : RawRow). r.name) raws apart)
-
 rows-meant : (block : List RawEpoch) (raw : RawEpoch) (satellites : List Satellite) (rows : List ReadRow)
     → Paired (RowFacts (past_of_block block)) satellites rows → AllByRecursion
     (λ (r : RawRow). raw_row_named r.name raw.rows ≡ Some r) (map (λ (r : ReadRow). r.raw) rows)
@@ -261,30 +247,23 @@ rows-meant block raw [] [] h own = refl
 rows-meant block raw (s ∷ ss) (r ∷ rs) h own = grind (arith, row-meant, rows-meant block raw ss rs h.1 own.1)
 rows-meant block raw satellites rows h own = absurd h
 
-epoch-meant : (types : List Count) (older : List RawEpoch) (read : ReadEpoch) (count : ℕ)
-    → EpochFacts types older read count → epoch_from read.raw older ≡ Ok read.epoch
-epoch-meant types older read count h =
+pub reads-soundly : ReadsSoundly
+reads-soundly types older lines read count e =
+    let h = epoch-facts types older lines read count e in
     let block = block_for read.raw.line older in
     let raws = map (λ (r : ReadRow). r.raw) h.rows in
+    let names = (row-names (past_of_block block) h.satellites h.rows h.rows_ok).0 ∙ h.line_ok.named.same in
+    let apart = sym (apart-map (λ (n : List ℕ). n) _ raws) ∙ ap differ names ∙ h.line_ok.named.apart in
+    let own = each-own (λ (r : RawRow). r.name) raws apart in
     let raw : RawEpoch = record { line = read.raw.line; clock = h.clock.code; rows = raws } in
     let same : raw ≡ read.raw = ap (λ (r : ReadEpoch). r.raw) h.is_read in
-    let own : HasSingleLines raw = subst (λ (x : RawEpoch). HasSingleLines x) (sym same)
-    (rows-single types older read count h) in
     let meant : epoch_of_block (raw ∷ block) raw ≡ Ok (record {
       head = columns (text_of (raw ∷ block)) 1 41;
       clock = h.clock.value;
       rows = map (λ (r : ReadRow). r.row) h.rows;
     }) = rw (h.clock_ok, rows-meant block raw h.satellites h.rows h.rows_ok own) in
-    search rules
-
-pub reads-soundly : ReadsSoundly
-reads-soundly types older lines read count e =
-    let facts = epoch-facts types older lines read count e in
     record {
-      single = rows-single types older read count facts;
-      meant = epoch-meant types older read count facts;
-      counted =
-          let first = sym (ap (λ (r : ReadEpoch). length r.epoch.rows) facts.is_read)
-          ∙ length-map facts.rows (λ (r : ReadRow). r.row) in
-          omega (arith, facts.counted);
+      single = rw (← h.is_read) own;
+      meant = search rules;
+      counted = search (rules, length-map);
     }

@@ -1,10 +1,10 @@
 -- The texts of codes hold no blank and no >, so the cells of a satellite line are read back from it.
-use Rattle.crx_compact.proofs.Words.{◌≡◌, [], ◌∷◌, map, ◌+◌, ◌^◌, ◌<◌, ◌≤◌, Bool, not, ◌&&◌, ◌==◌, pos, Step}
-use Rattle.crx_compact.proofs.Words.{refl, after_cells, IsPrintable, DIGITS_LIMIT, append_assoc, common_steps}
+use Rattle.crx_compact.proofs.Words.{◌≡◌, [], ◌∷◌, map, ◌+◌, Bool, not, ◌&&◌, ◌==◌, pos, Step}
+use Rattle.crx_compact.proofs.Words.{refl, after_cells, IsPrintable, append_assoc, common_steps}
 use Rattle.crx_compact.proofs.Words.{ℕ, list_all, code_text, cell_text, cells_of, decimal, is_blank, flat_map}
-use Rattle.crx_compact.proofs.Words.{true, List, ◌++◌, arith, Code, ℤ, negsuc, Missing, Start, IsShort, rules}
+use Rattle.crx_compact.proofs.Words.{true, List, ◌++◌, arith, Code, ℤ, negsuc, Missing, Start, IsShort}
 use Rattle.crx_compact.proofs.Words.{length, AllByRecursion, without_end_blanks, signed_decimal, is_printable}
-use Rattle.crx_compact.proofs.Words.{first_cell, after_cell, all_ascii_digits, ORDER_LIMIT}
+use Rattle.crx_compact.proofs.Words.{first_cell, after_cell, all_ascii_digits}
 use Rattle.std.proofs.lemmas.Fmt.{decimal_digit}
 use Rattle.crx_text.proofs.ReadBack.{decimal_is_digits}
 
@@ -17,23 +17,16 @@ digits-characters : (text : List ℕ) → all_ascii_digits text ≡ true → lis
 digits-characters [] h = refl
 digits-characters (c ∷ cs) h = grind (arith, digits-characters cs (grind (arith, h)))
 
--- a bound that both the digits of a code and those of an order meet
-small : (n : ℕ) → n < 10 ^ DIGITS_LIMIT → n < 2 ^ 64
-small n h = omega (arith, h)
-
 -- ---- codes
 
 pub signed-characters : (z : ℤ) → IsShort z → list_all is_code_character (signed_decimal z) ≡ true
-signed-characters (pos n) h = digits-characters (decimal n) (decimal_is_digits n (small n h))
-signed-characters (negsuc n) h = search (rules, digits-characters, decimal, decimal_is_digits, small)
-
-pub order-text : (n : ℕ) → n ≤ ORDER_LIMIT → decimal n ≡ (48 + n) ∷ []
-order-text n h = decimal_digit n (omega (arith, h))
+signed-characters (pos n) h = digits-characters (decimal n) (decimal_is_digits n (omega (arith, h)))
+signed-characters (negsuc n) h = grind (arith, common_steps, digits-characters, decimal_is_digits)
 
 pub code-characters : (c : Code) → IsPrintable c → list_all is_code_character (code_text c) ≡ true
 code-characters Missing h = refl
 code-characters (Step z) h = signed-characters z h
-code-characters (Start n z) h = grind (arith, common_steps, order-text, signed-characters)
+code-characters (Start n z) h = grind (arith, common_steps, decimal_digit, signed-characters)
 
 -- ---- blanks at a line's end do not change its cells
 

@@ -1,14 +1,14 @@
 -- What follows of an epoch and its rows from their being ones that can be written.
-use Rattle.crx_compact.proofs.Words.{◌≡◌, refl, suc, true, ◌&&◌, List, Some, at, nat_eq, length, arith, rules}
+use Rattle.crx_compact.proofs.Words.{◌≡◌, refl, suc, true, List, Some, at, nat_eq, length, arith, rules}
 use Rattle.crx_compact.proofs.Words.{◌+◌, ◌-◌, ◌*◌, ◌<◌, ℕ, not, ◌∷◌, map, ◌∙◌, Row, All, sym, [], Epoch}
-use Rattle.crx_compact.proofs.Words.{epoch_count, begins_epoch, columns-are, name-length, common_steps, Count}
+use Rattle.crx_compact.proofs.Words.{epoch_count, columns-are, name-length, common_steps, Count}
 use Rattle.crx_compact.proofs.Words.{columns, mark_of, is_kept, All-head, All-tail, list_all, flat_map}
 use Rattle.crx_compact.proofs.Words.{and_parts, Satellite, epoch_text, IsSoundRow, ap, HasItsTypes, at-append}
 use Rattle.crx_compact.proofs.Words.{each_place, AllByRecursion, has_satellite, are_different, at-append_past}
 use Rattle.crx_compact.proofs.Words.{Ok, text_difference, satellites_named, each_place-same, list_all-from_at}
-use Rattle.crx_compact.proofs.Words.{not-true, without_end_blanks, is_observation_flag, at-without_end_blanks}
-use Rattle.crx_compact.proofs.Characters.{at-by_position, same_characters, list_all-at, list_all-append}
-use Rattle.crx_compact.proofs.Words.{character_at, is_printable, IsWholeEpoch, length-append, satellites_in}
+use Rattle.crx_compact.proofs.Words.{not-true, at-without_end_blanks}
+use Rattle.crx_compact.proofs.Characters.{at-by_position, list_all-at, list_all-append}
+use Rattle.crx_compact.proofs.Words.{is_printable, IsWholeEpoch, length-append}
 use Rattle.crx_compact.proofs.{Identifiers.{AreNew, new-after}, Characters.{if_some, name-kept}}
 use Rattle.crx_compact.proofs.wayback.Runs.{IsUnmarked}
 
@@ -67,8 +67,7 @@ length-names types (r ∷ rs) h = search (rules, length-append, flat_map, length
 
 module _ (types : List Count) (e : Epoch) (h : IsWholeEpoch types e) where
   pub head-kept : list_all is_kept e.head ≡ true
-  head-kept = (and_parts (begins_epoch e.head && is_observation_flag (character_at e.head 32))
-      _ (if_some _ (satellites_in e.head) (length e.rows) (head-counted types e h))).1
+  head-kept = grind (arith, common_steps, and_parts, if_some, head-counted)
 
   pub text-kept : list_all is_kept (epoch_text e) ≡ true
   text-kept = list_all-append is_kept e.head _ head-kept (names-kept types e.rows (typed-rows types e h))
@@ -86,9 +85,6 @@ module _ (types : List Count) (e : Epoch) (h : IsWholeEpoch types e) where
 
   pub text-names : (p : ℕ) → at (epoch_text e) (41 + p) ≡ at (flat_map (λ (r : Row). r.name) e.rows) p
   text-names p = at-append_past e.head _ 41 p h.sound.head_sound.width
-
-pub trimmed-again : (text : List ℕ) → without_end_blanks (without_end_blanks text) ≡ without_end_blanks text
-trimmed-again text = same_characters (without_end_blanks text) text (λ p. at-without_end_blanks text p)
 
 -- ---- identifiers
 

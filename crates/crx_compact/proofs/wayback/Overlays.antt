@@ -1,11 +1,11 @@
 -- Texts by their characters: what a difference marks comes back, marks laid over one another are patches in
 -- turn, and texts and marks can be cut at a width.
-use Rattle.crx_compact.proofs.Words.{◌≡◌, is_blank, character_of, each_place, latest_mark, overlaid, take_all}
+use Rattle.crx_compact.proofs.Words.{◌≡◌, is_blank, character_of, each_place, latest_mark, overlaid}
 use Rattle.crx_compact.proofs.Words.{refl, ◌≢◌, zero, List, length, mark_of, patched, shown, longest, columns}
 use Rattle.crx_compact.proofs.Words.{ℕ, suc, ◌≤◌, [], ◌∷◌, All, ◌∙◌, ap, at, ◌<◌, ◌⊎◌, map, take, inl, inr}
 use Rattle.crx_compact.proofs.Words.{if◌then◌else◌, arith, not-suc-le-zero, text_difference, index-each_place}
 use Rattle.crx_compact.proofs.Words.{le_of_suc-le-suc, without_end_blanks, by_position, at-without_end_blanks}
-use Rattle.crx_compact.proofs.{Words.{cases_lt, rules, patched_in_turn}, SoundTexts.{same-cut, same-columns}}
+use Rattle.crx_compact.proofs.{Words.{cases_lt, rules, patched_in_turn}, SoundTexts.{same-columns}}
 use Rattle.crx_compact.proofs.Characters.{same_characters, at-by_position, at-take_past}
 use Rattle.crx_compact.proofs.PlaceByPlace.{at-take}
 
@@ -78,16 +78,9 @@ overlaid-take n marks = same_characters
     cut p (inl h) = cc (latest-take n marks p h, at-overlaid marks p, at-take n (overlaid marks) p h)
     cut p (inr h) = cc (latest-take_past n marks p h, at-take_past n (overlaid marks) p h)
 
--- a cut doesn't shorten what is no longer
-pub trimmed-within : (n : ℕ) (text : List ℕ)
-    → length text ≤ n → without_end_blanks (take n (without_end_blanks text)) ≡ without_end_blanks text
-trimmed-within n text few = same-cut n (without_end_blanks text) text (λ p less. at-without_end_blanks text p)
-    ∙ ap without_end_blanks (take_all n text few)
-
 -- ---- columns
 
 -- the first columns of marks don't ask for what is past them
 pub columns-cut : (n : ℕ) (marks : List (List ℕ))
     → columns (overlaid (map (take n) marks)) 1 n ≡ columns (overlaid marks) 1 n
-columns-cut n marks = same-columns n (overlaid (map (take n) marks)) (overlaid marks)
-    (λ p less. cc (at-overlaid (map (take n) marks) p, latest-take n marks p less, at-overlaid marks p))
+columns-cut n marks = search (rules, same-columns, at-overlaid, latest-take)

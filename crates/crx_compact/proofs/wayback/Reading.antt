@@ -6,7 +6,7 @@ use Rattle.crx_compact.proofs.Words.{rules, Epoch, Count, Marked, run_of, raw_of
 use Rattle.crx_compact.proofs.Words.{append_assoc, begins_epoch, past_of_line, IsWholeEpoch, length-append}
 use Rattle.crx_compact.proofs.Words.{code_at, ReadRow, map-map, columns, Content, back_to, ReadLine, RawEpoch}
 use Rattle.crx_compact.proofs.Words.{map, ◌∙◌, Row, [], Ok, ap, at, ◌*◌, raw_run_of, length-map, map-append}
-use Rattle.crx_compact.proofs.Words.{epoch_text, epoch_line, newest_text, block_of, satellites_of_text}
+use Rattle.crx_compact.proofs.Words.{epoch_text, epoch_line, block_of, satellites_of_text}
 use Rattle.crx_compact.proofs.Words.{satellite_line_read, at-without_end_blanks, overlaid, value_of, epoch_at}
 use Rattle.crx_compact.proofs.Words.{list_all, AreWhole, few_kept, ReadEpoch, CLOCK_WIDTH, compact_epoch}
 use Rattle.crx_compact.proofs.Words.{past_of_epochs, if◌then◌else◌, past_of_block, WRITTEN_ORDER}
@@ -38,17 +38,14 @@ epochs-unmarked types epochs h = search (rules, all-from, unmarked, text-kept)
 abbrev before : Bool → List Marked → List RawEpoch
 before full older = if full then [] else raw_block older
 
-not-empty : (raws : List RawEpoch) (raw : RawEpoch) (block : List RawEpoch)
-    → block_of raws ≡ raw ∷ block → past_of_epochs raws ≡ Some (past_of_block (block_of raws))
-not-empty raws raw block e = grind arith
-
 -- what the lines of an epoch are read against
 past-found : (full : Bool) (e : Epoch) (older : List Marked) (raws : List RawEpoch)
     → Begins (marked full e ∷ older) → (full ≡ false → block_of raws ≡ block_of (raws_of older))
     → past_of_line raws (epoch_line (marked full e) older) ≡ Some (past_of_block (before full older))
 past-found false e (m ∷ older) raws h k =
     let block = k refl ∙ block-raws (m ∷ older) h.1 in
-    rw (begins_later _ _ h.1.0 h.0, not-empty raws _ _ block, block)
+    let found : past_of_epochs raws ≡ Some (past_of_block (block_of raws)) = grind (arith, block) in
+    rw (begins_later _ _ h.1.0 h.0, found, block)
 past-found full e older raws h k = cc (begins_full (epoch_text e) h.0)
 
 block-found : (full : Bool) (e : Epoch) (older : List Marked) (raws : List RawEpoch)
@@ -61,8 +58,7 @@ block-found false e older raws h k = grind arith
 
 text-columns : (types : List Count) (e : Epoch)
     → IsWholeEpoch types e → columns (without_end_blanks (epoch_text e)) 1 41 ≡ e.head
-text-columns types e h = first-columns 41 (without_end_blanks (epoch_text e)) e.head h.sound.head_sound.width
-    (λ p less. at-without_end_blanks (epoch_text e) p ∙ text-head types e h p less)
+text-columns types e h = search (rules, first-columns, at-without_end_blanks, text-head)
 
 text-good : (types : List Count) (e : Epoch) → IsWholeEpoch types e
     → satellites_of_text types (without_end_blanks (epoch_text e)) ≡ Ok (satellites_of_rows e.rows)
@@ -123,10 +119,7 @@ module _ (types : List Count) (full : Bool) (e : Epoch) (older : List Marked)
 
   line-good : satellites_of_line types (past_of_block (before full older)) (epoch_line (marked full e) older)
       ≡ Ok (satellites_of_rows e.rows)
-  line-good =
-      let old = if full then [] else newest_text older in
-      let first = difference-printable old (epoch_text e) (text-kept types e h.0) in
-      cc (text-good_line, text-good types e h.0)
+  line-good = search (rules, difference-printable, text-kept, text-good_line, text-good)
 
   clock-good : clock_line_read (past_of_block (before full older))
       (code_text (code_at WRITTEN_ORDER (clock_arc (marked full e ∷ older))))

@@ -1,7 +1,7 @@
 -- A satellite's line reads as its row.
 use Rattle.crx_compact.proofs.Words.{◌≡◌, suc, ◌-◌, ◌*◌, ◌^◌, Bool, true, cond, List, ◌++◌, Some, None, Code}
 use Rattle.crx_compact.proofs.Words.{refl, nat_eq, length, Option, Result, stretch, code_at, code_in, raw_row}
-use Rattle.crx_compact.proofs.Words.{ℕ, ◌<◌, ◌≤◌, ℤ, ◌∷◌, map, All, sym, ◌∙◌, ap, Row, at, zero, false, subst}
+use Rattle.crx_compact.proofs.Words.{ℕ, ◌<◌, ℤ, ◌∷◌, map, All, sym, ◌∙◌, ap, Row, at, zero, false, subst}
 use Rattle.crx_compact.proofs.Words.{arith, Epoch, Fault, Marked, run_of, arc_of, Count, [], code_text}
 use Rattle.crx_compact.proofs.Words.{each_place, since_full, row_named, raw_run_of, cells_read}
 use Rattle.crx_compact.proofs.Words.{slice_index_or, AllByRecursion, IsValue, text_difference, satellite_line}
@@ -16,11 +16,13 @@ use Rattle.crx_compact.proofs.wayback.Facts.{IsTypedRow, typed-rows, unmarked, a
 use Rattle.crx_compact.proofs.wayback.Cells.{is_code_character, code-characters, AreWritten, cells-written}
 use Rattle.crx_compact.proofs.wayback.Runs.{raw_run, codes-read, marked, rows_before, value-back, HasFlags}
 use Rattle.crx_compact.proofs.Words.{flat_map, rules, common_steps, CodesFit, map-each_place, at-drop}
-use Rattle.crx_compact.proofs.{SoundTexts.first-columns, wayback.Facts.{difference-printable, trimmed-again}}
+use Rattle.crx_compact.proofs.{SoundTexts.first-columns, wayback.Facts.{difference-printable}}
 use Rattle.crx_compact.proofs.Lists.{all-from}
 use Rattle.crx_compact.proofs.{wayback.Cells.{marks-written, one_cell}, wayback.Runs.marks-new}
-use Rattle.crx_compact.proofs.{wayback.Overlays.at_past, arcs.Bounds.{IsNear, near-within, code-printable}}
+use Rattle.crx_compact.proofs.{wayback.Overlays.at_past, arcs.Bounds.{IsNear, code-printable}}
 use Rattle.crx_rinex.specs.meaning.EpochLines.{IsClockOffset}
+use Rattle.crx_compact.proofs.Characters.{same_characters}
+use Rattle.crx_compact.proofs.arcs.Bounds.{ten-more}
 
 -- ---- rows of a run
 
@@ -38,8 +40,7 @@ found-step types name q r rest false e h next found = next found
 found-row : (types : List Count) (name : List ℕ) (rows : List Row)
     → AllByRecursion (IsTypedRow types) rows → (r : Row) → row_named name rows ≡ Some r → IsRowOf types name r
 found-row types name [] h r found = cc
-found-row types name (q ∷ qs) h r found =
-    found-step types name q r _ _ refl h.0 (found-row types name qs h.1 r) found
+found-row types name (q ∷ qs) h r found = search (rules, found-step, found-row types name qs h.1 r)
 
 run-rows_step : (types : List Count) (name : List ℕ) (o : Option Row) (os : List (Option Row))
     → ((r : Row) → o ≡ Some r → IsRowOf types name r) → AllByRecursion (IsRowOf types name) (stretch os)
@@ -82,7 +83,7 @@ stretch-within width os h = tt
 
 pub near-all : (width : ℕ) (xs : List ℤ)
     → AllByRecursion (IsWithin width) xs → AllByRecursion (IsNear (10 ^ (width - 1))) xs
-near-all width xs h = all-from (IsNear (10 ^ (width - 1))) (near-within width) xs h
+near-all width xs h = grind (arith, common_steps, all-from, ten-more)
 
 value-fits : (values : List (Option ℤ)) (j : ℕ) → All IsValue values → IsValue (slice_index_or values j None)
 value-fits [] j h = tt
@@ -142,15 +143,11 @@ line-begins (c ∷ cs) marks less h = grind (arith, first_other, at-without_end_
 
 -- ---- the marks of a line
 
-before-short : (types : List Count) (name : List ℕ) (r : Row) (rs : List Row)
-    → AllByRecursion (IsRowOf types name) (r ∷ rs) → length (indicators_before (r ∷ rs)) ≤ 2 * length r.values
-before-short types name r rs h = grind arith
-
 marks-good : (types : List Count) (name : List ℕ) (r : Row) (rs : List Row)
     → AllByRecursion (IsRowOf types name) (r ∷ rs)
     → are_marks (length r.values) (text_difference (indicators_before (r ∷ rs)) r.flags) ≡ true
 marks-good types name r rs h =
-    grind (arith, difference-printable, list_all-from_at, at_past, at-drop, at-difference, before-short)
+    grind (arith, difference-printable, list_all-from_at, at_past, at-drop, at-difference)
 
 -- ---- a line and its row
 
@@ -160,12 +157,6 @@ codes_at run j = code_at WRITTEN_ORDER (arc_of j run)
 pub written-codes : (types : List Count) (name : List ℕ) (n : ℕ) (run : List Row)
     → AllByRecursion (IsRowOf types name) run → AreWritten (codes_of n run)
 written-codes types name n run h = search (rules, each_place-all, code-characters, run-printable)
-
--- the value at a place, by the codes of a run
-value-good : (types : List Count) (name : List ℕ) (r : Row) (rs : List Row)
-    → AllByRecursion (IsRowOf types name) (r ∷ rs)
-    → (j : ℕ) → value_of OBSERVATION_WIDTH (map (code_in j) (raw_run (r ∷ rs))) ≡ Ok (value_in j r)
-value-good types name r rs h j = search (rules, codes-read, value-back, value-fits)
 
 first-code : (r : Row) (rs : List Row) (i : ℕ) → code_in i (raw_row (r ∷ rs) r) ≡ codes_at (r ∷ rs) i
 first-code r rs i = grind (arith, common_steps, index-each_place, code_at, stretch, value_in, get_or_past)
@@ -210,15 +201,17 @@ row-read types block r rs h e =
     let line = satellite_line (r ∷ rs) r in
     let count = length-each_place (length r.values) (codes_at (r ∷ rs)) in
     let written = written-codes types r.name (length r.values) (r ∷ rs) h in
+    let good : (j : ℕ) → value_of OBSERVATION_WIDTH (map (code_in j) (raw_run (r ∷ rs))) ≡ Ok (value_in j r)
+    = λ j. search (rules, codes-read, value-back, value-fits) in
     rw (
       line-begins codes marks (omega (arith, count, h.0.is_row.0.counted.0)) written,
       ap (λ k. cells_of k line) (sym count) ∙ cells-written codes marks written,
       cells-good (past.value r.name) (length r.values) (codes_at (r ∷ rs)) (λ j. value_in j r)
           (run-printable types r.name (r ∷ rs) h) (λ i. ap (λ run. value_of OBSERVATION_WIDTH
           (codes_at (r ∷ rs) i ∷ map (code_in i) run)) e ∙ ap (λ c. value_of OBSERVATION_WIDTH
-          (c ∷ map (code_in i) (raw_run rs))) (sym (first-code r rs i)) ∙ value-good types r.name r rs h i),
+          (c ∷ map (code_in i) (raw_run rs))) (sym (first-code r rs i)) ∙ good i),
       ap (λ k. after_cells k line) (sym count) ∙ marks-written codes marks written
-          ∙ trimmed-again (by_position mark_of (indicators_before (r ∷ rs)) r.flags),
+          ∙ same_characters marks _ (λ p. at-without_end_blanks (by_position mark_of _ r.flags) p),
       marks-good types r.name r rs h,
       row-again types block r rs h e,
     )

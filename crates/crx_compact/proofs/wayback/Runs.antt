@@ -10,8 +10,10 @@ use Rattle.crx_compact.proofs.Words.{by_position, if◌then◌else◌, AllByRecu
 use Rattle.crx_compact.proofs.wayback.Overlays.{character-mark, overlaid-patched, overlaid-take}
 use Rattle.crx_compact.proofs.Words.{text_difference, index-each_place, length-each_place, IsMissingOrWithin}
 use Rattle.crx_compact.proofs.{arcs.Bounds.within-is, Characters.{at-by_position, same_characters}}
-use Rattle.crx_compact.proofs.{arcs.Inversion.{value-numbers, started-codes}, wayback.Overlays.trimmed-within}
+use Rattle.crx_compact.proofs.{arcs.Inversion.{value-numbers, started-codes}}
 use Rattle.crx_compact.specs.ArcLaws.{codes_of_arc}
+use Rattle.crx_compact.proofs.Words.{take_all}
+use Rattle.crx_compact.proofs.SoundTexts.{same-cut}
 
 -- ---- the block that a reader finds
 
@@ -88,16 +90,10 @@ abbrev pub codes_of_values : List (Option ℤ) → List Code
 codes_of_values [] = []
 codes_of_values (o ∷ os) = code_at WRITTEN_ORDER (stretch (o ∷ os)) ∷ codes_of_values os
 
-clock-step : (full : Bool) (e : Epoch) (older : List Marked) → map (λ (q : RawEpoch). q.clock)
-    (raw_block older) ≡ codes_of_values (map (λ (q : Epoch). q.clock) (since_full older))
-    → map (λ (q : RawEpoch). q.clock) (raw_block (marked full e ∷ older))
-    ≡ codes_of_values (map (λ (q : Epoch). q.clock) (since_full (marked full e ∷ older)))
-clock-step full e older next = grind arith
-
 pub clocks-read : (ms : List Marked) → map (λ (q : RawEpoch). q.clock) (raw_block ms)
     ≡ codes_of_values (map (λ (q : Epoch). q.clock) (since_full ms))
 clocks-read [] = refl
-clocks-read (m ∷ older) = clock-step m.in_full m.epoch older (clocks-read older)
+clocks-read (m ∷ older) = grind (arith, clocks-read older)
 
 pub codes-read : (j : ℕ) (run : List Row)
     → map (code_in j) (raw_run run) ≡ codes_of_values (map (value_in j) run)
@@ -139,10 +135,6 @@ pub patched-back : (old new : List ℕ)
 patched-back old new h =
     search (rules, same_characters, at-by_position, at-without_end_blanks, character-mark)
 
-first_overlay : (new : List ℕ) → IsUnmarked new
-    → overlaid (text_difference [] new ∷ []) ≡ without_end_blanks new
-first_overlay new h = overlaid-patched (text_difference [] new) [] ∙ patched-back [] new h
-
 next_overlay : (old new : List ℕ) (marks : List (List ℕ)) → IsUnmarked new → overlaid marks
     ≡ without_end_blanks old → overlaid (text_difference old new ∷ marks) ≡ without_end_blanks new
 next_overlay old new marks h e = search (rules, overlaid-patched, text_difference, patched-back)
@@ -157,7 +149,7 @@ text-step : (full : Bool) (e : Epoch) (older : List Marked) → (AreUnmarked old
     (raw_block older)) ≡ without_end_blanks (newest_text older)) → AreUnmarked (marked full e ∷ older)
     → overlaid (lines_of (raw_block (marked full e ∷ older))) ≡ without_end_blanks (epoch_text e)
 text-step false e (m ∷ older) next h = search (rules, next_overlay)
-text-step full e older next h = first_overlay (epoch_text e) h.0
+text-step full e older next h = search (rules, overlaid-patched, patched-back)
 
 -- a reader finds the newest epoch's text
 pub text-read : (ms : List Marked)
@@ -179,12 +171,13 @@ marks-cut r rs h e =
     let count = length-each_place (length r.values) (λ j. code_at WRITTEN_ORDER (arc_of j (r ∷ rs))) in
     let marks = text_difference (indicators_before (r ∷ rs)) r.flags in
     let cut = overlaid-take n (marks ∷ marks_of (raw_run rs)) in
-    cc (trimmed-within n r.flags (omega (arith, count, h.counted)))
+    let trimmed = same-cut n _ r.flags (λ p less. at-without_end_blanks r.flags p) in
+    cc (trimmed, take_all n r.flags (omega (arith, count, h.counted)))
 
 -- a reader finds the indicators of a run's newest row, by its marks over those before
 pub marks-new : (r : Row) (rs : List Row) → AllByRecursion HasFlags (r ∷ rs) → overlaid (text_difference
     (indicators_before (r ∷ rs)) r.flags ∷ marks_of (raw_run rs)) ≡ without_end_blanks r.flags
-marks-new r [] h = first_overlay r.flags h.0.unmarked
+marks-new r [] h = search (rules, overlaid-patched, patched-back)
 marks-new r (q ∷ qs) h = search (rules, next_overlay, marks-cut, marks-new q qs h.1)
 
 pub marks-read : (r : Row) (rs : List Row)

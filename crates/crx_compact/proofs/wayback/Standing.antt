@@ -9,17 +9,19 @@ use Rattle.crx_compact.proofs.Words.{and_parts, code_text, Marked, cell_text, Ar
 use Rattle.crx_compact.proofs.Words.{epoch_line, mark_of, newest_text, by_position, DIGITS_LIMIT, CLOCK_WIDTH}
 use Rattle.crx_compact.proofs.Words.{text_difference, length-each_place, OBSERVATION_WIDTH, indicators_before}
 use Rattle.crx_compact.proofs.Words.{negsuc, length, value_in, code_at, arc_of, codes_of, IsWithin, few_kept}
-use Rattle.crx_compact.proofs.Words.{flat_map, neg_ℤ, common_steps, rules, length-append, is_event_flag}
+use Rattle.crx_compact.proofs.Words.{flat_map, neg_ℤ, common_steps, rules, length-append, is_event_flag, ◌∙◌}
 use Rattle.crx_compact.proofs.wayback.Facts.{IsTypedRow, typed-rows, text-kept, text-head, text-begins}
 use Rattle.crx_compact.proofs.wayback.Rows.{IsRowOf, clock-printable, line-begins, lines-each, written-codes}
 use Rattle.crx_compact.proofs.Words.{is_event_line, has_no_epochs, LinesCanStand, TYPES_LIMIT}
 use Rattle.crx_compact.proofs.{Lists.all-from, arcs.Bounds.{IsNear, doubled, difference-within, ten-more}}
 use Rattle.crx_compact.proofs.wayback.Facts.{at-difference, difference-printable, length-text}
-use Rattle.crx_compact.proofs.wayback.Cells.{is_code_character, code-characters, order-text, AreWritten}
+use Rattle.crx_compact.proofs.wayback.Cells.{is_code_character, code-characters, AreWritten}
 use Rattle.crx_compact.proofs.{wayback.Runs.{marked, begins_full, begins_later}, wayback.Reading.text-other}
 use Rattle.crx_compact.proofs.Characters.{list_all-at, list_all-append}
 use Rattle.crx_compact.proofs.wayback.Rows.{clocks-fit, near-all, stretch-within, values-fit}
 use Rattle.std.proofs.{lemmas.Fmt.length-decimal-le, Math.Nat.pow-le-pow_right}
+use Rattle.std.proofs.lemmas.Fmt.{decimal_digit}
+use Rattle.std.proofs.Math.Bool.{and-false}
 
 -- ---- numbers and codes
 
@@ -40,7 +42,7 @@ pub code-length : (j : ℕ) (xs : List ℤ)
     → 0 < j → j + 2 ≤ DIGITS_LIMIT → doubled WRITTEN_ORDER (10 ^ (j + 1)) < 10 ^ (j + 2)
     → AllByRecursion (IsWithin (j + 2)) xs → length (code_text (code_at WRITTEN_ORDER xs)) ≤ j + 3
 code-length j [] some few h all = omega arith
-code-length j (x ∷ []) some few h all = grind (arith, common_steps, within-length, order-text)
+code-length j (x ∷ []) some few h all = grind (arith, common_steps, within-length, decimal_digit)
 code-length j (x ∷ y ∷ ys) some few h all =
     let b = 10 ^ (j + 1) in
     let same : j + 2 - 1 ≡ j + 1 = omega arith in
@@ -59,8 +61,7 @@ by_position-length f (x ∷ xs) (y ∷ ys) = omega (arith, by_position-length f 
 
 pub difference-length : (n : ℕ) (old new : List ℕ)
     → length old ≤ n → length new ≤ n → length (text_difference old new) ≤ n
-difference-length n old new h k =
-    omega (arith, few_kept (by_position mark_of old new), by_position-length mark_of old new)
+difference-length n old new h k = search (rules, few_kept, by_position-length)
 
 pub cells-length : (n : ℕ) (codes : List Code) → AllByRecursion (λ (c : Code). length (code_text c) ≤ n) codes
     → length (flat_map cell_text codes) ≤ (n + 1) * length codes
@@ -83,10 +84,6 @@ text-short types e h = grind (arith, length-text types e h, few-satellites types
 abbrev most : ℕ
 most = 18 * TYPES_LIMIT
 
-before-length : (types : List Count) (name : List ℕ) (run : List Row)
-    → AllByRecursion (IsRowOf types name) run → length (indicators_before run) ≤ 2 * TYPES_LIMIT
-before-length types name run h = grind arith
-
 row-short : (types : List Count) (name : List ℕ) (run : List Row) (r : Row)
     → AllByRecursion (IsRowOf types name) run → IsTypedRow types r → length (satellite_line run r) ≤ most
 row-short types name run r h k =
@@ -97,7 +94,7 @@ row-short types name run r h k =
     let count = length-each_place (length r.values) (λ j. code_at WRITTEN_ORDER (arc_of j run)) in
     let cells = cells-length 15 codes each in
     let tail = difference-length (2 * TYPES_LIMIT) (indicators_before run) r.flags
-    (before-length types name run h) (omega (arith, k.0.paired, k.0.counted.1)) in
+    (grind arith) (omega (arith, k.0.paired, k.0.counted.1)) in
     grind (arith, common_steps, length-append, flat_map, cell_text, few_kept)
 
 old-short : (types : List Count) (full : Bool) (e : Epoch) (older : List Marked) → AreWhole types (since_full
@@ -138,10 +135,6 @@ trimmed-printable text h = grind (arith, list_all-from_at, at-without_end_blanks
 
 -- ---- satellite lines
 
-row-begins : (types : List Count) (name : List ℕ) (run : List Row) (r : Row) → AllByRecursion
-    (IsRowOf types name) run → IsTypedRow types r → begins_epoch (satellite_line run r) ≡ false
-row-begins types name run r h k = grind (arith, length-each_place, line-begins, written-codes)
-
 -- ---- the epoch line
 
 line-begins_epoch : (types : List Count) (full : Bool) (e : Epoch) (older : List Marked)
@@ -160,10 +153,9 @@ full-no_event types e h =
     let line = text_difference [] (epoch_text e) in
     let flag : is_observation_flag (at e.head 31) ≡ true = grind (arith, common_steps) in
     let head = text-head types e h 31 (omega arith) in
-    no-flag (begins_epoch line) _ (cc (at-difference [] (epoch_text e) 31, flag-mark (at e.head 31) flag))
-  where
-    no-flag : (b c : Bool) → c ≡ false → (b && c) ≡ false
-    no-flag b c h = grind arith
+    let mark : is_event_flag (character_at line 32) ≡ false =
+    cc (at-difference [] (epoch_text e) 31, flag-mark (at e.head 31) flag) in
+    ap (λ b. begins_epoch line && b) mark ∙ and-false (begins_epoch line)
 
 line-no_event : (types : List Count) (full : Bool) (e : Epoch) (older : List Marked) → AreWhole types
     (since_full (marked full e ∷ older)) → is_event_line (epoch_line (marked full e) older) ≡ false
@@ -182,7 +174,8 @@ lines-stand types full e older h =
     let clock = code-characters _ (clock-printable types (since_full ms) h) in
     let others : AllByRecursion (λ (line : List ℕ). begins_epoch line ≡ false) (text ∷ lines) = (
       text-other text clock,
-      lines-each _ types ms (row-begins types) h e.rows rows,
+      lines-each _ types ms (λ name run r h k. grind (arith, length-each_place, line-begins, written-codes))
+          h e.rows rows,
     ) in
     let first = difference-printable (if full then [] else newest_text older) (epoch_text e)
     (text-kept types e h.0) in

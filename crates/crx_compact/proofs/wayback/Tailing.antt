@@ -3,7 +3,7 @@ use Rattle.crx_compact.proofs.Words.{◌≡◌, text_difference, satellite_line,
 use Rattle.crx_compact.proofs.Words.{refl, false, [], Option, Epoch, Marked, run_of, arc_of, tail_of, no_tail}
 use Rattle.crx_compact.proofs.Words.{ℕ, ℤ, Bool, true, List, ◌∷◌, map, Some, None, sym, ◌∙◌, ap, Row, Tail}
 use Rattle.crx_compact.proofs.Words.{if◌then◌else◌, without_end_blanks, indicators_before, tail_written_after}
-use Rattle.crx_compact.proofs.Words.{option_map, get_or_past, value_in, newest_text, row_line_in, row_tail_in}
+use Rattle.crx_compact.proofs.Words.{option_map, get_or_past, newest_text, row_line_in, row_tail_in}
 use Rattle.crx_compact.proofs.Words.{WRITTEN_ORDER, cell_of_tail, flags_of_tail, are_different, compact_epoch}
 use Rattle.crx_compact.proofs.Words.{back_to, stretch, epoch_text, row_named, RowTail, tail_named, tail_after}
 use Rattle.crx_compact.proofs.{Words.{arc_tail, rules, arith, IsSoundEpoch}, arcs.Arcs.{code-next, arc-next}}
@@ -25,8 +25,7 @@ cell-found : (name : List ℕ) (rest : List (Option Row)) (found : Option Row) (
     → cell_of_tail j (option_map (row_tail (stretch (found ∷ rest))) found)
     ≡ arc_tail WRITTEN_ORDER (arc_of j (stretch (found ∷ rest)))
 cell-found name rest None j = refl
-cell-found name rest (Some r) j = index-each_place _ j _ None (λ le. ap (λ (o : Option ℤ).
-    arc_tail WRITTEN_ORDER (stretch (o ∷ map (value_in j) (stretch rest)))) (get_or_past r.values j None le))
+cell-found name rest (Some r) j = search (rules, index-each_place, get_or_past)
 
 tail-found : (name : List ℕ) (m : Marked) (older : List Marked) → tail_named name (tail_of (m ∷ older))
     ≡ option_map (row_tail (run_of name (m ∷ older))) (row_named name m.epoch.rows)
@@ -65,10 +64,6 @@ abbrev clocks_before : Bool → List Marked → List (Option ℤ)
 clocks_before full older = map (λ (q : Epoch). q.clock)
     (map (λ (m : Marked). m.epoch) (if full then [] else back_to (λ (m : Marked). m.in_full) older))
 
-clock-left : (full : Bool) (older : List Marked)
-    → arc_tail WRITTEN_ORDER (stretch (clocks_before full older)) ≡ (start full older).clock
-clock-left full older = grind arith
-
 text-left : (full : Bool) (older : List Marked) (new : List ℕ) → text_difference
     (if full then [] else newest_text older) new ≡ text_difference (start full older).text new
 text-left true older new = refl
@@ -86,7 +81,8 @@ epoch-by full e older h =
     (λ r here. (row-by_tail full e older r here).line) e.rows own in
     let tails = mapped-same (λ (r : Row). row_tail (run_of r.name ms) r) (row_tail_in rows)
     (λ r here. (row-by_tail full e older r here).tail) e.rows own in
-    let clock = clock-left full older in
+    let clock : arc_tail WRITTEN_ORDER (stretch (clocks_before full older)) ≡ (start full older).clock =
+    grind arith in
     let text = text-left full older (epoch_text e) in
     record { lines = cc; tail = cc }
 

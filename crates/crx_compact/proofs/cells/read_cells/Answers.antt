@@ -12,20 +12,17 @@ loop-index-init c = read-none (take c.args.count c.args.arcs.now) c.args.line.no
 pub returns-in_err-length-in-None-clause-err : goal.returns-in_err-length-in-None-clause-err
 returns-in_err-length-in-None-clause-err c =
     let p = err_from_is_err_and c.from_residual.result c.from_residual.ensures.1 in
-    let first = take c.args.count c.args.arcs.now in
     let many = length-take-le c.args.count c.args.arcs.now c.requires.fitting in
-    rw (p.1, p.2) (subst (λ n. cells_read (value_at_place first) (cells_of n c.args.line.now)
-    ≡ Err c.in_err-length-in-None.field-0.0) many
-    (next-refused _ _ _ _ _ _ c.loop-index.invariant (omega (arith, many, c.loop-index-test.true))
-    (first-refused c.args.count c.loop-index.arcs c.loop-index.index c.loop-index.rest.now _
-    c.loop-index-test.true
-    (rw c.in-None.ensures.none at c.in_err-length-in-None.ensures.err))))
+    rw (p.1, p.2) (subst (λ n. cells_read (value_at_place (take c.args.count c.args.arcs.now)) (cells_of n
+    c.args.line.now) ≡ Err c.in_err-length-in-None.field-0.0) many (next-refused _ _ _ _ _ _
+    c.loop-index.invariant (omega (arith, many, c.loop-index-test.true)) (first-refused c.args.count
+    c.loop-index.arcs c.loop-index.index c.loop-index.rest.now _ c.loop-index-test.true (rw
+    c.in-None.ensures.none at c.in_err-length-in-None.ensures.err))))
 
 pub loop-index-preserved : goal.loop-index-preserved
 loop-index-preserved c =
-    let many = length-take-le c.args.count c.args.arcs.now c.requires.fitting in
     let within : c.loop-index.index < length (take c.args.count c.args.arcs.now) =
-    omega (arith, many, c.loop-index-test.true) in
+    omega (arith, length-take-le c.args.count c.args.arcs.now c.requires.fitting, c.loop-index-test.true) in
     elim c.match-read_cell_fast.branch [
       | in-Some w ↦
           read-next _ _ _ _ _ _ _ _ w.in-Some.length c.loop-index.invariant within

@@ -8,19 +8,16 @@ use Rattle.crx_compact.specs.OpenEpochs.{Faulty}
 use Rattle.crx_compact.proofs.columns.take_line.Goals as goal
 
 pub read_row-requires-clause-allowed : goal.read_row-requires-clause-allowed
-read_row-requires-clause-allowed c =
-    let sound = rw c.in-Rows.is at c.requires.sound in
-    rows-allowed c.args.history.now sound.0
+read_row-requires-clause-allowed c = rows-allowed c.args.history.now (rw c.in-Rows.is at c.requires.sound).0
 
 pub returns-in_err-read_row-in-Rows-clause-err : goal.returns-in_err-read_row-in-Rows-clause-err
 returns-in_err-read_row-in-Rows-clause-err c =
     let p = err_from_is_err_and c.from_residual-in_err-read_row-in-Rows.result
     c.from_residual-in_err-read_row-in-Rows.ensures.1 in
-    let sound = rw c.in-Rows.is at c.requires.sound in
-    rw (p.1, p.2) (subst (λ (s : Stage). step_at s c.args.count.now c.args.history.now
-    (Content c.args.line.now) ≡ Faulty c.in_err-read_row-in-Rows.field-0.0) (sym c.in-Rows.is)
-    (row-faulty (tail_of_history c.args.history.now) c.args.count.now c.args.line.now
-    c.in_err-read_row-in-Rows.field-0.0 sound.1 c.in_err-read_row-in-Rows.ensures.err))
+    rw (p.1, p.2) (subst (λ (s : Stage). step_at s c.args.count.now c.args.history.now (Content
+    c.args.line.now) ≡ Faulty c.in_err-read_row-in-Rows.field-0.0) (sym c.in-Rows.is) (row-faulty
+    (tail_of_history c.args.history.now) c.args.count.now c.args.line.now c.in_err-read_row-in-Rows.field-0.0
+    (rw c.in-Rows.is at c.requires.sound).1 c.in_err-read_row-in-Rows.ensures.err))
 
 pub returns-in_err-read_row-in-Rows-clause-memory :
     goal.returns-in_err-read_row-in-Rows-clause-memory

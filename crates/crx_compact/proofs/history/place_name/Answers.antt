@@ -34,9 +34,5 @@ unwrap-requires c = search (rules, some-otherwise, types_of_satellite)
 pub returns-clause-ok : goal.returns-clause-ok
 returns-clause-ok c = search (rules, placed-asked, from_some)
 
-pub returns-clause-rooms : goal.returns-clause-rooms
-returns-clause-rooms c = λ name count has.
-    search rules
-
 pub returns-clause-back : goal.returns-clause-back
 returns-clause-back c = inl c.in_ok-prepare_names.ensures.good

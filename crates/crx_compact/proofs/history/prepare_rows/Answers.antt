@@ -1,7 +1,6 @@
-use Rattle.crx_compact.proofs.Words.{◌≡◌, ◌≤◌, ℕ, List, ap, length, map, sum, sym, ◌∙◌, subst, arith, inl}
-use Rattle.crx_compact.proofs.Words.{inr, false≢true, Row, HasRoom, HaveRoom, row_room, slice_get_within}
+use Rattle.crx_compact.proofs.Words.{◌≡◌, ℕ, List, ap, length, sym, ◌∙◌, arith}
+use Rattle.crx_compact.proofs.Words.{false≢true, Row, HasRoom, row_room, slice_get_within}
 use Rattle.crx_compact.proofs.{Making.taken_all, RowByRow.{all-at, all-next, sum-next}}
-use Rattle.crx_base.specs.declared.limits.TheConstants.{TYPES_LIMIT}
 use borrow.Author.Count.{falls}
 use Rattle.crx_compact.proofs.history.prepare_rows.Goals as goal
 
@@ -15,7 +14,6 @@ loop-row-preserved c =
     rw (c.name.ensures.value, c.values-count.ensures.value) at c.in_ok-prepare.ensures.room in
     let many : length c.values-count.result.now ≡ length row.values = ap length c.values-count.ensures.value
     in
-    let few : length row.values ≤ TYPES_LIMIT = c.values-count.ensures.sound.counted.1 in
     let next = sum-next row_room rows index row (sym c.in-Some.ensures.value) in
     record {
       made = omega arith;
@@ -24,15 +22,7 @@ loop-row-preserved c =
       rest = c.prepare.ensures.asked.rest ∙ c.loop-row.invariant.rest;
       kept = λ name count has. c.prepare.ensures.asked.rooms name count
           (c.loop-row.invariant.kept name count has);
-      only = λ name count has. elim (c.prepare.ensures.only name count has) [
-        | inl before ↦ c.loop-row.invariant.only name count before
-        | inr asked ↦ inr (record {
-          index = index;
-          row = row;
-          there = sym c.in-Some.ensures.value;
-          asked = (asked.0 ∙ c.name.ensures.value, omega (arith, asked.1, many));
-        })
-      ];
+      only = grind (arith, c.prepare.ensures.only, c.loop-row.invariant.only, c.name.ensures.value);
       room = all-next (λ (r : Row). HasRoom r.name (length r.values) rooms) rows index row
           (λ i d within. c.prepare.ensures.asked.rooms _ _ (c.loop-row.invariant.room i d within))
           (sym c.in-Some.ensures.value) roomy;
@@ -40,15 +30,10 @@ loop-row-preserved c =
 
 pub returns-clause-bytes : goal.returns-clause-bytes
 returns-clause-bytes c =
-    c.loop-row.invariant.made
-    ∙ ap (λ (rows : List Row). sum (map row_room rows))
-    (taken_all c.args.epoch.now.rows c.loop-row.index (sym c.in_default.ensures.value))
+    grind (arith, c.loop-row.invariant.made, row_room, taken_all, c.in_default.ensures.value)
 
 pub returns-clause-room : goal.returns-clause-room
-returns-clause-room c =
-    subst (λ (rows : List Row). HaveRoom rows c.loop-row.satellites.rooms)
-    (taken_all c.args.epoch.now.rows c.loop-row.index (sym c.in_default.ensures.value))
-    c.loop-row.invariant.room
+returns-clause-room c = grind (arith, taken_all, c.in_default.ensures.value, c.loop-row.invariant.room)
 
 pub returns-in_err-prepare-clause-asked : goal.returns-in_err-prepare-clause-asked
 returns-in_err-prepare-clause-asked c = record {
@@ -60,21 +45,15 @@ returns-in_err-prepare-clause-asked c = record {
 
 pub overflow_add-bytes-in-Some-2 : goal.overflow_add-bytes-in-Some-2
 overflow_add-bytes-in-Some-2 c =
-    let within = slice_get_within c.args.epoch.now.rows c.loop-row.index c.in-Some.row.now
-    (sym c.in-Some.ensures.value) in
-    let many = ap length c.values-count.ensures.value in
-    omega arith
+    let within = slice_get_within c.args.epoch.now.rows c.loop-row.index _ (sym c.in-Some.ensures.value) in
+    omega (arith, within, ap length c.values-count.ensures.value)
 
 pub overflow_add-index : goal.overflow_add-index
 overflow_add-index c =
-    let within = slice_get_within c.args.epoch.now.rows c.loop-row.index c.in-Some.row.now
-    (sym c.in-Some.ensures.value) in
-    omega arith
+    omega (arith, slice_get_within c.args.epoch.now.rows c.loop-row.index _ (sym c.in-Some.ensures.value))
 
 pub loop-row-smaller : goal.loop-row-smaller
-loop-row-smaller c =
-    falls (length c.args.epoch.now.rows) c.loop-row.index
-    (slice_get_within c.args.epoch.now.rows c.loop-row.index c.in-Some.row.now (sym c.in-Some.ensures.value))
+loop-row-smaller c = falls _ _ (slice_get_within _ _ _ (sym c.in-Some.ensures.value))
 
 pub returns-in_err-prepare-clause-known : goal.returns-in_err-prepare-clause-known
 returns-in_err-prepare-clause-known c = λ have.

@@ -1,14 +1,8 @@
-use Rattle.crx_compact.proofs.Words.{◌≡◌, ◌+◌, ◌*◌, ◌++◌, ◌∷◌, [], ℕ, zero, suc, List, Some, slice_get, map}
+use Rattle.crx_compact.proofs.Words.{◌≡◌, ◌+◌, ◌*◌, ◌++◌, [], ℕ, List}
 use Rattle.crx_compact.proofs.{Words.{RowTail, ap, ◌∙◌, arith, length, length-map, take}, Making.texts_more}
 use Rattle.crx_compact.proofs.RowByRow.{IsThere, is-there}
-use Rattle.std.proofs.Common.{get_or}
+use Rattle.std.proofs.{Common.get_or, lemmas.Option.{get_or_from_slice_get, slice_get-map}}
 use Rattle.crx_compact.proofs.history.put_names.Goals as goal
-
-named-at : (rows : List RowTail) (index : ℕ) (row : RowTail) → slice_get rows index ≡ Some row
-    → get_or (map (λ (r : RowTail). r.name) rows) index [] ≡ row.name
-named-at [] index row there = grind arith
-named-at (r ∷ rows) zero row there = grind arith
-named-at (r ∷ rows) (suc index) row there = named-at rows index row there
 
 pub loop-index-preserved : goal.loop-index-preserved
 loop-index-preserved c =
@@ -21,5 +15,5 @@ loop-index-preserved c =
     texts_more (λ (r : RowTail). r.name) (take 41 c.args.text.now) rows index row.item so_far
     (take (41 + 3 * (index + 1)) c.put_identifier.new.bytes) c.loop-index.invariant row.there
     (ap (λ n. take n c.put_identifier.new.bytes) after ∙ c.put_identifier.ensures.put
-    ∙ ap (λ name. so_far ++ name) (ap (λ all. get_or all index []) names ∙ named-at rows index row.item
-    row.there))
+    ∙ ap (λ name. so_far ++ name) (ap (λ all. get_or all index []) names ∙ get_or_from_slice_get _ index
+    row.item.name [] (cc (slice_get-map (λ (r : RowTail). r.name) rows index, row.there))))

@@ -1,10 +1,11 @@
-use Rattle.crx_compact.proofs.Words.{rules, ◌≡◌, refl, ◌+◌, ◌*◌, ◌++◌, ◌∷◌, [], Bool, not, true, false, drop}
-use Rattle.crx_compact.proofs.Words.{ap, sym, ◌∙◌, inl, arith, subst, ◌⊎◌, inr, ℕ, List, Err, Result, map}
-use Rattle.crx_compact.proofs.Words.{false≢true, err_from_is_err_and, is_ok, All-append, columns, is_among}
+use Rattle.crx_compact.proofs.Words.{rules, ◌≡◌, refl, ◌+◌, ◌*◌, ◌++◌, ◌∷◌, [], Bool, not, true, false}
+use Rattle.crx_compact.proofs.Words.{sym, ◌∙◌, inl, arith, subst, ◌⊎◌, inr, ℕ, List, Err, Result, map}
+use Rattle.crx_compact.proofs.Words.{false≢true, err_from_is_err_and, is_ok, columns, is_among}
 use Rattle.crx_compact.proofs.Words.{IsAwaitedSatellite, BadSatellite, OutOfMemory, RepeatedSatellite, Fault}
 use Rattle.crx_compact.proofs.Words.{Satellite, names_in, satellites_named, HasRoom, KeepsRooms, PlacedRows}
-use Rattle.crx_compact.proofs.{Words.{padded_among, row_or_blank, RowTail}, placing.SteppedRows.ends-same}
-use Rattle.crx_compact.proofs.{ComeRows.come-name, RowByRow.{all-of, only}}
+use Rattle.crx_compact.proofs.{Words.{padded_among, RowTail}}
+use Rattle.crx_compact.proofs.ComeRows.{come-name}
+use Rattle.std.proofs.lemmas.List.{same_from_push, Elements.All-push}
 use Rattle.crx_compact.proofs.Naming.{named-bad, named-twice, named-more, named-all, next-name}
 use Rattle.crx_compact.proofs.{NamesCome.{HasNameCome, among-rows, awaited-one, name-comes}, Results.no-err}
 use Rattle.crx_text.proofs.EachPlace.{drop_all-each_place}
@@ -16,43 +17,29 @@ come-already : (before rows : List RowTail) (found : List Satellite) (name : Lis
     → rows ≡ map (padded_among before) found
     → is_new ≡ not (is_among (λ (row : RowTail). row.name) name rows) → is_new ≡ b
     → is_among (λ (s : Satellite). s.name) name found ≡ not b
-come-already before rows found name is_new b made answer is =
-    among-rows before rows found name is_new made answer ∙ ap not is
+come-already before rows found name is_new b made answer is = search (rules, among-rows)
 
 -- where there is a fault, no room was asked for
 unasked : {X Y : Type 0} (made : Result X Fault) (fault : Fault) → made ≡ Err fault
     → (is_ok made ≡ true) ⊎ Y → Y
-unasked made fault is asked = elim asked [
-  | inl good ↦ absurd (false≢true (sym (ap is_ok is) ∙ good))
-  | inr y ↦ y
-]
+unasked made fault is asked = search (rules, false≢true, is_ok)
 
 refused-by : (fault : Fault) (made : Result (List Satellite) Fault) (old new : PlacedRows)
     → (fault ≡ OutOfMemory → ⊥) → made ≡ Err fault → KeepsRooms new.rooms old.rooms
     → AreSatellitesRefused made old new fault
-refused-by fault made old new other is back = record {
-  answer = record { answered = inl is; memory = λ out. absurd (other out) };
-  unasked = λ _. back;
-  wanting = λ named good has. no-err fault named (sym is ∙ good);
-}
+refused-by fault made old new other is back = search (rules, unasked, no-err)
 
 bad : (c : goal.In_default)
     → satellites_named c.args.types.now [] (names_in c.args.text.now c.args.count) ≡ Err BadSatellite
 bad c =
-    let found = c.loop-index.invariant in
-    named-bad c.args.types.now (names_in c.args.text.now c.args.count)
-    c.loop-index.index found.0 c.identifier-name.result found.1
-    (next-name c.args.text.now c.args.count c.loop-index.index
-    c.identifier-name.result c.loop-index-test.true c.identifier-name.ensures.value)
-    (sym c.in_default.ensures.value)
+    named-bad c.args.types.now (names_in c.args.text.now c.args.count) c.loop-index.index
+    c.loop-index.invariant.0 c.identifier-name.result c.loop-index.invariant.1 (next-name c.args.text.now
+    c.args.count c.loop-index.index c.identifier-name.result c.loop-index-test.true
+    c.identifier-name.ensures.value) (sym c.in_default.ensures.value)
 
 pub returns-in_default : goal.returns-in_default
-returns-in_default c = record {
-  ok = search rules;
-  err = refused-by BadSatellite _ c.args.satellites.now c.loop-index.satellites (λ out. cc out) (bad c)
-      (unasked _ _ (bad c) c.loop-index.invariant.7);
-  rooms = c.loop-index.invariant.5;
-}
+returns-in_default c =
+    search (rules, refused-by, bad, unasked, c.loop-index.invariant.7, c.loop-index.invariant.5)
 
 pub returns-in_err-place_name : goal.returns-in_err-place_name
 returns-in_err-place_name c =
@@ -68,9 +55,7 @@ returns-in_err-place_name c =
           | inr out ↦ absurd (other out)
         ];
         wanting = λ named is has. refused.wanting named is
-            (all-of (λ (s : Satellite). HasRoom s.name s.count c.args.satellites.now.rooms)
-            (λ (s : Satellite). HasRoom s.name s.count c.loop-index.satellites.rooms) named
-            (λ s. found.5 s.name s.count) has);
+            (λ i d within. found.5 _ _ (has i d within));
       };
       rooms = λ name count has. c.place_name.ensures.rooms name count (found.5 name count has);
     })
@@ -91,82 +76,49 @@ twice c =
 pub returns-then-not-branch : goal.returns-then-not-branch
 returns-then-not-branch c = record {
   ok = search rules;
-  err = refused-by RepeatedSatellite _ c.args.satellites.now c.place_name.new.satellites (λ out. cc out)
-      (twice c)
-      (λ name count has. unasked _ _ (twice c) c.loop-index.invariant.7 name count
-      (unasked _ _ (twice c) c.in_ok-place_name.ensures.back name count has));
+  err = grind (arith, refused-by, twice, unasked, c.loop-index.invariant.7, c.in_ok-place_name.ensures.back);
   rooms = λ name count has. c.place_name.ensures.rooms name count (c.loop-index.invariant.5 name count has);
 }
 
 pub resize_last-requires-clause-room : goal.resize_last-requires-clause-room
 resize_last-requires-clause-room c before row is =
-    let name = c.identifier-name.result in
     let awaited = c.loop-index.satellites in
     let come = c.in_ok-place_name.ensures.ok.come c.if-not-branch.false in
-    let last = ends-same awaited.rows before (row_or_blank name awaited.rest) row (sym come.rows ∙ is) in
-    subst (λ (r : RowTail). HasRoom r.name c.in-Some.cells c.place_name.new.satellites.rooms) last
-    (subst (λ (n : List ℕ). HasRoom n c.in-Some.cells c.place_name.new.satellites.rooms)
-    (sym (come-name name awaited.rest)) (c.in_ok-place_name.ensures.ok.room c.if-not-branch.false))
+    let last = (same_from_push awaited.rows before _ row (sym come.rows ∙ is)).1 in
+    subst (λ (r : RowTail). HasRoom r.name c.in-Some.cells c.place_name.new.satellites.rooms) last (subst (λ
+    (n : List ℕ). HasRoom n c.in-Some.cells c.place_name.new.satellites.rooms) (sym (come-name
+    c.identifier-name.result awaited.rest)) (c.in_ok-place_name.ensures.ok.room c.if-not-branch.false))
 
 pub loop-index-preserved : goal.loop-index-preserved
 loop-index-preserved c =
     let found = c.loop-index.invariant in
-    let before = c.args.satellites.now.rest in
-    let text = c.args.text.now in
     let place = c.loop-index.index in
     let name = c.identifier-name.result in
     let satellite : Satellite = record { name = name; count = c.in-Some.cells } in
-    let fresh = come-already before c.loop-index.satellites.rows found.0 name c.in_ok-place_name.field-0 true
-    found.2 c.in_ok-place_name.ensures.ok.answer c.if-not-branch.false in
+    let fresh = come-already c.args.satellites.now.rest c.loop-index.satellites.rows found.0 name
+    c.in_ok-place_name.field-0 true found.2 c.in_ok-place_name.ensures.ok.answer c.if-not-branch.false in
     let after = c.resize_last.new.self in
     let kept : KeepsRooms c.loop-index.satellites.rooms after.rooms = λ other count has.
     c.resize_last.ensures.kept.rooms.forth other count (c.place_name.ensures.rooms other count has) in
-    let come : HasNameCome before (found.0 ++ satellite ∷ []) after =
-    name-comes before found.0 name c.in-Some.cells c.loop-index.satellites c.place_name.new.satellites after
-    found.2 found.3 fresh (c.in_ok-place_name.ensures.ok.come c.if-not-branch.false)
-    c.resize_last.ensures.rows c.resize_last.ensures.kept.rest in (
+    let come : HasNameCome c.args.satellites.now.rest (found.0 ++ satellite ∷ []) after = name-comes
+    c.args.satellites.now.rest found.0 name c.in-Some.cells c.loop-index.satellites
+    c.place_name.new.satellites after found.2 found.3 fresh (c.in_ok-place_name.ensures.ok.come
+    c.if-not-branch.false) c.resize_last.ensures.rows c.resize_last.ensures.kept.rest in (
       found.0 ++ satellite ∷ [],
-      named-more c.args.types.now (names_in text c.args.count) place found.0 (found.0 ++ satellite ∷ []) name
-          c.in-Some.cells found.1
-          (next-name text c.args.count place name c.loop-index-test.true c.identifier-name.ensures.value)
-          (sym c.in-Some.ensures.value) fresh refl,
+      named-more c.args.types.now (names_in c.args.text.now c.args.count) place found.0 (found.0 ++ satellite
+          ∷ []) name c.in-Some.cells found.1 (next-name c.args.text.now c.args.count place name
+          c.loop-index-test.true c.identifier-name.ensures.value) (sym c.in-Some.ensures.value) fresh refl,
       come.rows,
       come.awaited,
-      All-append IsAwaitedSatellite found.0 (satellite ∷ []) found.4 (only IsAwaitedSatellite satellite
-          (awaited-one name text (42 + 3 * place) c.in-Some.cells c.identifier-name.ensures.value
-          c.in-Some.ensures.named c.in-Some.ensures.allowed)),
+      All-push IsAwaitedSatellite found.0 satellite found.4 (awaited-one name c.args.text.now (42 + 3 * place)
+          c.in-Some.cells c.identifier-name.ensures.value c.in-Some.ensures.named c.in-Some.ensures.allowed),
       λ other count has. kept other count (found.5 other count has),
-      All-append (λ (s : Satellite). HasRoom s.name s.count after.rooms) found.0 (satellite ∷ [])
-          (all-of (λ (s : Satellite). HasRoom s.name s.count c.loop-index.satellites.rooms)
-          (λ (s : Satellite). HasRoom s.name s.count after.rooms) found.0
-          (λ s has. kept s.name s.count has) found.6)
-          (only (λ (s : Satellite). HasRoom s.name s.count after.rooms) satellite
+      All-push (λ (s : Satellite). HasRoom s.name s.count after.rooms) found.0 satellite
+          (λ i d within. kept _ _ (found.6 i d within))
           (c.resize_last.ensures.kept.rooms.forth name c.in-Some.cells
-          (c.in_ok-place_name.ensures.ok.room c.if-not-branch.false))),
-      elim found.7 [
-        | inl good ↦ inl good
-        | inr so_far ↦ elim c.in_ok-place_name.ensures.back [
-          | inl good ↦ inl good
-          | inr more ↦ inr (λ other count has. so_far other count (more other count
-              (c.resize_last.ensures.kept.rooms.back other count has)))
-        ]
-      ],
+          (c.in_ok-place_name.ensures.ok.room c.if-not-branch.false)),
+      search (rules, c.in_ok-place_name.ensures.back, c.resize_last.ensures.kept.rooms.back),
     )
 
 pub returns : goal.returns
-returns c =
-    let found = c.loop-index.invariant in
-    let end : c.loop-index.index ≡ c.args.count = omega arith in
-    record {
-      ok = record {
-        satellites = found.0;
-        read = named-all c.args.types.now (names_in c.args.text.now c.args.count) c.loop-index.index found.0
-            found.1 (ap (λ n. drop n (names_in c.args.text.now c.args.count)) end
-            ∙ drop_all-each_place c.args.count (λ k. columns c.args.text.now (42 + 3 * k) 3));
-        rows = found.2;
-        awaited = found.4;
-        room = found.6;
-      };
-      err = search rules;
-      rooms = found.5;
-    }
+returns c = grind (arith, c.loop-index.invariant, named-all, names_in, drop_all-each_place, columns)

@@ -29,9 +29,7 @@ stands : (text : List ℕ) (place : ℕ) (name : List ℕ) (found : List Satelli
     → names_in text place ≡ map (λ (s : Satellite). s.name) found
     → is_among (λ (n : List ℕ). n) name (names_in text place) ≡ b
     → list_any (λ (s : Satellite). bytes_eq s.name name) found ≡ b
-stands text place name found b same is =
-    sym (among-map (λ (n : List ℕ). n) (λ (s : Satellite). s.name) name found)
-    ∙ ap (is_among (λ (n : List ℕ). n) name) (sym same) ∙ is
+stands text place name found b same is = search (rules, among-map, is_among)
 
 pub returns-then-is_among_first-clause-fault : goal.returns-then-is_among_first-clause-fault
 returns-then-is_among_first-clause-fault c =
@@ -61,11 +59,7 @@ loop-index-preserved c =
           (sym c.types_of_satellite.ensures.value ∙ count.1)
           (stands text place name found.0 false found.2
           (sym c.is_among_first.ensures ∙ c.if-is_among_first.false)) refl,
-      each_place-more place (λ k. columns text (42 + 3 * k) 3)
-          ∙ ap (λ (ns : List (List ℕ)). ns ++ columns text (42 + 3 * place) 3 ∷ []) found.2
-          ∙ ap (λ (n : List ℕ). map (λ (s : Satellite). s.name) found.0 ++ n ∷ [])
-          (sym c.identifier-name.ensures.value)
-          ∙ sym (map-append (λ (s : Satellite). s.name) found.0 (satellite ∷ [])),
+      search (rules, each_place-more, columns, c.identifier-name.ensures.value, map-append),
       rw (c.place_of_mark.ensures.value)
           (subst (λ (names : List (List ℕ)).
           AreMarked names (slice_set c.loop-index.marks (mark_place name) true))

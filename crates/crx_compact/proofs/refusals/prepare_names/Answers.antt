@@ -11,8 +11,6 @@ returns-then-is_err-clause-known c named good has = search (rules, false≢true)
 pub loop-index-preserved : goal.loop-index-preserved
 loop-index-preserved c =
     let types = c.args.types.now in
-    let text = c.args.text.now in
-    let place = c.loop-index.index in
     let is = c.identifier-name.ensures.value in
     let before = c.loop-index.satellites in
     let so_far = c.loop-index.invariant in
@@ -23,8 +21,8 @@ loop-index-preserved c =
             rows = prepared.asked.rows ∙ so_far.rows;
             rest = prepared.asked.rest ∙ so_far.rest;
             kept = λ name count has. prepared.asked.rooms name count (so_far.kept name count has);
-            room = names-room-more types text place before.rooms w.prepare.new.self.rooms so_far.room
-                prepared.asked.rooms (λ cells some.
+            room = names-room-more types c.args.text.now c.loop-index.index before.rooms
+                w.prepare.new.self.rooms so_far.room prepared.asked.rooms (λ cells some.
                 let same = same_Some w.in-Some-types_of_satellite.cells cells
                 (w.in-Some-types_of_satellite.ensures.value
                 ∙ ap (types_of_satellite types) is ∙ some) in
@@ -38,9 +36,8 @@ loop-index-preserved c =
             rows = so_far.rows;
             rest = so_far.rest;
             kept = so_far.kept;
-            room = names-room-more types text place before.rooms before.rooms so_far.room
-                (λ name count has. has) (λ cells some.
-                absurd (none-some cells (w.in_default-types_of_satellite.ensures.value
-                ∙ ap (types_of_satellite types) is ∙ some)));
+            room = names-room-more types c.args.text.now c.loop-index.index before.rooms before.rooms
+                so_far.room (λ name count has. has) (λ cells some. absurd (none-some cells
+                (w.in_default-types_of_satellite.ensures.value ∙ ap (types_of_satellite types) is ∙ some)));
           })
     ]

@@ -10,9 +10,7 @@ put-columns : (all : ℕ) (old held text : List ℕ) (first : ℕ) → length ol
     text) → held ≡ take first text ++ replicate (length old - length (take first text)) 32 → held ≡ columns
     text 1 all
 put-columns all old held text first many is put =
-    put ∙ ap (λ n. take n text ++ replicate (length old - length (take n text)) 32) is
-    ∙ ap (λ (t : List ℕ). t ++ replicate (length old - length t) 32) (take_min all text)
-    ∙ ap (λ n. take all text ++ replicate (n - length (take all text)) 32) many ∙ sym (columns_are text 1 all)
+    cc (put, is, take_min all text, many, columns_are text 1 all)
 
 pub returns-clause-kept : goal.returns-clause-kept
 returns-clause-kept c =

@@ -1,7 +1,8 @@
 use Rattle.std.proofs.Common.{ap, sym, subst, ◌∙◌, ◌≤◌, ℕ, Option, Some, option_map}
 use Rattle.std.specs.Map.Iter.{deref_pair}
-use Rattle.crx_compact.specs.Placing.{padded, row_tail_of}
-use Rattle.crx_compact.proofs.{placing.Again.{kept-more, typed-named}, placing.SteppedRows.padded-is}
+use borrow.Author.Count.{below_more}
+use Rattle.crx_compact.specs.{Entries.KeepsTypes, Placing.{padded, row_tail_of}}
+use Rattle.crx_compact.proofs.{placing.Again.typed-named, placing.SteppedRows.padded-is}
 use Rattle.crx_compact.proofs.satellites.keep_types.Goals as goal
 
 pub loop-index-preserved : goal.loop-index-preserved
@@ -11,7 +12,8 @@ loop-index-preserved c =
     let count = c.if-found-count.false in
     let counted = c.count-in-loop-index in
     let there = sym c.get_index.ensures.entry ∙ ap (option_map deref_pair) c.unwrap.ensures in
-    kept-more c.args.types.now c.loop-index.index c.args.map.now.entries c.loop-index.invariant (record {
+    below_more (λ index. KeepsTypes c.args.types.now index c.args.map.now.entries) c.loop-index.index
+    c.loop-index.invariant (record {
       entry = (name, satellite);
       there = there;
       typed = typed-named c.args.types.now name

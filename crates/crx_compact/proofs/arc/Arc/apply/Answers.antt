@@ -1,12 +1,12 @@
-use Rattle.crx_compact.proofs.Words.{rules, ◌≡◌, ◌<◌, ◌+◌, ◌∷◌, ℕ, ℤ, List, true, length, take, ap, ◌∙◌, Some}
+use Rattle.crx_compact.proofs.Words.{rules, ◌≡◌, ◌<◌, ◌+◌, ◌∷◌, ℕ, ℤ, List, true, length, take, ◌∙◌, Some}
 use Rattle.crx_compact.proofs.Words.{Result, Ok, Option, is_ok, Code, ArcTail, value_of, if◌then◌else◌, Fault}
-use Rattle.crx_compact.proofs.arcs.Running.{StepsOn, in-range-by, accepted as is-accepted, refused, stepped}
+use Rattle.crx_compact.proofs.arcs.Running.{StepsOn, stepped}
 use Rattle.crx_compact.proofs.arcs.Running.{same-bits, begun-list, begun-kept, lower-below, within-below}
 use Rattle.crx_compact.proofs.{Words.{arc_of_code, value_of_code}, arcs.Arcs.values-of_codes}
 use Rattle.crx_compact.proofs.{arcs.Bounds.within-is, arcs.Running.goes-on-kept}
 use Rattle.std.proofs.Common.{FitsSigned, w64, to_z, of_z}
 use Rattle.crx_compact.specs.{ArcLaws.{accepted, arc_of_codes}, meaning.ArcValues.{is_within, in_range}}
-use Rattle.crx_compact.specs.{ArcSteps.differences_after, Arcs.kept_tail}
+use Rattle.crx_compact.specs.{ArcSteps.differences_after}
 use Rattle.crx_compact.proofs.arc.Arc.apply.Goals as goal
 
 pub invariant_of-self-in-Start : goal.invariant_of-self-in-Start
@@ -29,14 +29,10 @@ value_after-value-requires-clause-below g c = search (rules, lower-below)
 pub returns-then-not-is_within-2-clause-value : goal.returns-then-not-is_within-2-clause-value
 returns-then-not-is_within-2-clause-value g c =
     let fits : FitsSigned w64 c.in-Step.number = search rules in
-    let fits' : FitsSigned w64 c.value_after-value.result = search rules in
     let on : StepsOn g.row.WIDTH c.self.inside.order c.self.inside.count
     c.min-last.result c.in-Step.number c.value_after-value.result c.self.inside.differences =
     stepped _ _ _ _ _ _ _ c.min-last.ensures (search rules) c.self.told c.value_after-value.ensures fits in
-    rw (c.in-Step.is, ← c.self.view_is)
-    (refused g.row.WIDTH c.value_after-value.result _ c.is_within-in-Step.ensures c.if-not-is_within-2.true
-    fits'
-    ∙ on.value_is)
+    search rules
 
 pub go_on-requires-clause-below : goal.go_on-requires-clause-below
 go_on-requires-clause-below g c = search (rules, lower-below)
@@ -45,7 +41,7 @@ pub go_on-requires-clause-next : goal.go_on-requires-clause-next
 go_on-requires-clause-next g c =
     let fits' : FitsSigned w64 c.value_after-value.result = search rules in
     let is : is_within g.row.WIDTH c.value_after-value.result ≡ true =
-    is-accepted g.row.WIDTH _ _ c.is_within-in-Step.ensures c.if-not-is_within-2.false fits' in
+    search (rules, same-bits, c.is_within-in-Step.ensures, c.if-not-is_within-2.false) in
     rw (same-bits _ fits')
     (within-below g.row.WIDTH c.value_after-value.result c.self.invariant.few_columns ((within-is _ _).0 is))
 
@@ -53,7 +49,7 @@ pub invariant_of-self-in-Step : goal.invariant_of-self-in-Step
 invariant_of-self-in-Step g c =
     let fits' : FitsSigned w64 c.value_after-value.result = search rules in
     let is : is_within g.row.WIDTH c.value_after-value.result ≡ true =
-    is-accepted g.row.WIDTH _ _ c.is_within-in-Step.ensures c.if-not-is_within-2.false fits' in
+    search (rules, same-bits, c.is_within-in-Step.ensures, c.if-not-is_within-2.false) in
     let after : take (c.min-last.result + 1) c.go_on.new.differences
     ≡ differences_after c.value_after-value.result (take c.min-last.result c.self.inside.differences) =
     rw (same-bits _ fits') at c.go_on.ensures.after in
@@ -68,7 +64,7 @@ returns-else-not-is_within-2-clause-value g c =
     c.min-last.result c.in-Step.number c.value_after-value.result c.self.inside.differences =
     stepped _ _ _ _ _ _ _ c.min-last.ensures (search rules) c.self.told c.value_after-value.ensures fits in
     let given : Ok (Some c.value_after-value.result) ≡ in_range g.row.WIDTH c.value_after-value.result =
-    search (rules, in-range-by, is-accepted, c.is_within-in-Step.ensures, c.if-not-is_within-2.false) in
+    search (rules, same-bits, c.is_within-in-Step.ensures, c.if-not-is_within-2.false) in
     rw (c.in-Step.is, ← c.self.view_is, same-bits _ fits') (given ∙ on.value_is)
 
 pub returns-else-not-is_within-2-clause-ok : goal.returns-else-not-is_within-2-clause-ok
@@ -77,8 +73,7 @@ returns-else-not-is_within-2-clause-ok g c =
     let on : StepsOn g.row.WIDTH c.self.inside.order c.self.inside.count
     c.min-last.result c.in-Step.number c.value_after-value.result c.self.inside.differences =
     stepped _ _ _ _ _ _ _ c.min-last.ensures (search rules) c.self.told c.value_after-value.ensures fits in
-    rw (c.in-Step.is, ← c.self.view_is)
-    (ap (kept_tail c.self.inside.order) (search (rules, same-bits, c.go_on.ensures.after)) ∙ on.tail)
+    search (rules, same-bits)
 
 -- what is said of any codes so far, by what is said of the arc
 every : (width : ℕ) (code : Code) (codes : List Code) (old new : Option ArcTail) (result : Result
@@ -86,11 +81,7 @@ every : (width : ℕ) (code : Code) (codes : List Code) (old new : Option ArcTai
     → result ≡ value_of_code width code old → new ≡ (if is_ok result then arc_of_code code old else old)
     → old ≡ arc_of_codes width codes
     → (result ≡ value_of width (code ∷ accepted width codes)) × (new ≡ arc_of_codes width (code ∷ codes))
-every width code codes old new result value left h = (
-  value ∙ ap (value_of_code width code) h ∙ (values-of_codes width code codes).value,
-  left ∙ ap {B = Option ArcTail} (λ r. if is_ok r then arc_of_code code old else old) value
-      ∙ ap {B = Option ArcTail} (λ a. if is_ok (value_of_code width code a) then arc_of_code code a else a) h,
-)
+every width code codes old new result value left h = search (rules, values-of_codes)
 
 pub returns-then-self-eq0-clause-every : goal.returns-then-self-eq0-clause-every
 returns-then-self-eq0-clause-every g c = λ codes h.

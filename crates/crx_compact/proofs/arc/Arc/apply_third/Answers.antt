@@ -1,9 +1,9 @@
 use Rattle.std.proofs.{lemmas.Grind.common_steps, Common.{rules, take, sym, ap, subst, ◌∙◌, arith, ℕ}}
-use Rattle.crx_compact.specs.{meaning.Differences.newest, Arcs.{kept_tail, IsArcInRange}}
+use Rattle.crx_compact.specs.{meaning.Differences.newest, Arcs.{IsArcInRange}}
 use Rattle.crx_compact.specs.ArcSteps.{differences_after}
-use Rattle.crx_compact.proofs.arcs.Running.{IsLast, OntoThird, by-after, goes-on-kept, in-range-by}
+use Rattle.crx_compact.proofs.arcs.Running.{IsLast, OntoThird, by-after, goes-on-kept}
 use Rattle.crx_compact.proofs.arcs.Bounds.{within-is}
-use Rattle.crx_compact.proofs.arcs.Running.{onto-third-kept, same-bits, steps-on, third-last}
+use Rattle.crx_compact.proofs.arcs.Running.{onto-third-kept, same-bits, third-last}
 use Rattle.crx_compact.proofs.{arc.Arc.apply_third.Given.Over, arc.Arc.apply_third.Goals.Else-not-is_third}
 use Rattle.crx_compact.proofs.arc.Arc.apply_third.Goals as goal
 
@@ -45,37 +45,10 @@ pub returns-then-not-is_within-clause-other : goal.returns-then-not-is_within-cl
 returns-then-not-is_within-clause-other g c = λ has.
     let at = (goal.at.returns-then-not-is_within-clause-other g c).Else-not-is_third in
     let o = onto g at in
-    let fits = c.ranges.number in
-    let is =
-    simp (same-bits, fits, o.zeroth_before, o.first_before, o.second_before, o.second, o.first, o.value)
-    at c.is_within.ensures in
-    let on = steps-on g.row.WIDTH c.self.inside.order c.self.inside.count 3 c.args.number _
-    c.self.inside.differences (last g at) (omega arith) (search rules) (ap newest o.sums) in
-    rw (← c.self.view_is)
-    (sym (in-range-by g.row.WIDTH _ _ (sym c.if-not-is_within.true ∙ is) ∙ on.value_is))
+    search rules
 
 pub returns : goal.returns
 returns g c =
     let at = (goal.at.returns g c).Else-not-is_third in
-    let third = c.is_third.ensures.third c.if-not-is_third.false in
-    let ds = c.self.inside.differences in
     let o = onto g at in
-    let fits = c.ranges.number in
-    let put =
-    simp (same-bits, fits, o.zeroth_before, o.first_before, o.second_before, o.second, o.first, o.value)
-    at c.put_four.ensures in
-    let is =
-    simp (same-bits, fits, o.zeroth_before, o.first_before, o.second_before, o.second, o.first, o.value)
-    at c.is_within.ensures in
-    let on = steps-on g.row.WIDTH c.self.inside.order c.self.inside.count 3 c.args.number _ ds (last g at)
-    (omega (arith, third.1)) (search rules) (ap newest o.sums) in
-    rw (← c.self.view_is) (simp
-    (same-bits, fits, o.zeroth_before, o.first_before, o.second_before, o.second, o.first, o.value) (record {
-      value = sym (in-range-by g.row.WIDTH _ _ (sym c.if-not-is_within.false ∙ is) ∙ on.value_is);
-      arc = ap (λ n. kept_tail c.self.inside.order (take n c.put_four.new.differences)) third.1
-          ∙ ap (kept_tail c.self.inside.order) (put ∙ o.sums ∙ by-after c.args.number (take 3 ds)
-          ∙ ap (λ v. differences_after v (take 3 ds)) (sym (ap newest o.sums)))
-          ∙ on.tail;
-      none = tt;
-      other = tt;
-    }))
+    search (rules, same-bits, by-after)

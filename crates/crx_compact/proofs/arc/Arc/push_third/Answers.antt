@@ -2,7 +2,7 @@ use Rattle.crx_compact.proofs.arcs.Running.{IsLast, ToThird, after-three, goes-o
 use Rattle.crx_compact.proofs.Words.{rules, take, sym, ap, subst, ◌∙◌, arith, ℕ, Step}
 use Rattle.crx_compact.proofs.arcs.Running.{highest-short, same-bits, third-last, to-third-kept}
 use Rattle.crx_compact.proofs.{arc.Arc.push_third.Given.Over, arc.Arc.push_third.Goals.Else-not-is_third}
-use Rattle.crx_compact.specs.{ArcSteps.highest, Arcs.{kept_tail, IsArcInRange}}
+use Rattle.crx_compact.specs.{ArcSteps.highest, Arcs.{IsArcInRange}}
 use Rattle.crx_compact.proofs.arc.Arc.push_third.Goals as goal
 
 to : (g : Over) (c : Else-not-is_third g) → ToThird c.args.value c.self.inside.differences
@@ -24,8 +24,7 @@ overflow_sub-second g c =
 pub overflow_sub-third : goal.overflow_sub-third
 overflow_sub-third g c =
     let t = to g (goal.at.overflow_sub-third g c).Else-not-is_third in
-    simp (same-bits, c.ranges.value, t.zeroth_before, t.first_before, t.second_before, t.first, t.second)
-    t.third
+    search (rules, same-bits)
 
 pub invariant_of-self : goal.invariant_of-self
 invariant_of-self g c =
@@ -52,16 +51,12 @@ returns g c =
     let three = after-three ds c.args.value (search rules) in
     let on = goes-on order c.self.inside.count 3 c.args.value ds (last g at) (omega (arith, third.1))
     (search rules) in
-    let put =
-    simp (same-bits, fits, t.zeroth_before, t.first_before, t.second_before, t.first, t.second, t.third)
-    at c.put_four.ensures in
     rw (← c.self.view_is) (simp
     (same-bits, fits, t.zeroth_before, t.first_before, t.second_before, t.first, t.second, t.third) (record {
       code = sym (ap Step (sym (ap highest three)) ∙ on.code);
       short = rw (← (ap highest three)) (highest-short _ order c.self.inside.count 3 _ _ (last g at)
           c.self.invariant c.requires);
-      arc = ap (λ n. kept_tail order (take n c.put_four.new.differences)) third.1
-          ∙ ap (kept_tail order) (put ∙ sym three) ∙ on.tail;
+      arc = search rules;
       none = tt;
       other = tt;
     }))

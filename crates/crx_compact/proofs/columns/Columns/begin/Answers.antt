@@ -1,10 +1,9 @@
-use Rattle.crx_compact.proofs.Words.{rules, ◌≡◌, ◌⊎◌, Err, Some, ◌≤◌, ℕ, arith, Content, OutOfMemory}
+use Rattle.crx_compact.proofs.Words.{rules, ◌≡◌, Err, Some, ◌≤◌, ℕ, arith}
 use Rattle.crx_compact.proofs.Words.{before_clock, first_step, tail_for_line, tail_held, OpenHistory}
 use Rattle.crx_compact.proofs.{Words.tail_of_history, columns.Columns.begin.Goals.After-read_epoch_line}
 use Rattle.crx_compact.proofs.{Results.ok-same, reading.Blocks.{begun-block, begun-refused}}
 use Rattle.crx_compact.proofs.ReadingRooms.{opened-from, room-for, rows-opened, satellites-known, text-known}
 use Rattle.crx_compact.proofs.reading.Stages.{line-good, tail-idle}
-use Rattle.crx_compact.specs.OpenEpochs.{Faulty}
 use Rattle.crx_compact.proofs.columns.Columns.begin.Goals as goal
 
 same-below : {m n : ℕ} → m ≡ n → m ≤ n
@@ -16,17 +15,13 @@ before-line : (c : After-read_epoch_line) → tail_for_line (tail_held c.args.se
 before-line c = search (rules, tail_for_line, tail-idle, tail_of_history)
 
 pub returns-in-Err-clause-memory : goal.returns-in-Err-clause-memory
-returns-in-Err-clause-memory c = λ out.
-    let before = before-line (goal.at.returns-in-Err-clause-memory c).After-read_epoch_line in
-    line-good c.args.types.now c.args.line.now (tail_held c.args.self.now.state)
-    (tail_of_history c.has_history.new.history) before
-    (c.in-Err.ensures.err.answer.memory out)
+returns-in-Err-clause-memory c = λ out. line-good c.args.types.now c.args.line.now (tail_held
+    c.args.self.now.state) (tail_of_history c.has_history.new.history) (before-line
+    (goal.at.returns-in-Err-clause-memory c).After-read_epoch_line) (c.in-Err.ensures.err.answer.memory out)
 
 pub returns-in-Err-clause-unasked : goal.returns-in-Err-clause-unasked
-returns-in-Err-clause-unasked c = λ other.
-    let left = c.in-Err.ensures.err in
-    let told = c.has_history.ensures in
-    search (rules, left.unasked, c.self.view_is, same-below, told.held_room, told.rooms)
+returns-in-Err-clause-unasked c =
+    search (rules, c.in-Err.ensures.err, c.has_history.ensures, c.self.view_is, same-below)
 
 pub returns-in-Ok-begin-clause-room : goal.returns-in-Ok-begin-clause-room
 returns-in-Ok-begin-clause-room c begun step =
@@ -50,16 +45,14 @@ returns-in-Ok-begin-clause-room c begun step =
 pub returns-in-Err-clause-room : goal.returns-in-Err-clause-room
 returns-in-Err-clause-room c begun step = record {
   known = λ has.
-      let history : OpenHistory = c.has_history.new.history in
       let before = before-line (goal.at.returns-in-Err-clause-room c).After-read_epoch_line in
       let opened = opened-from c.args.types.now c.args.line.now (tail_held c.args.self.now.state)
-      (tail_of_history history) begun before step in
-      absurd (c.in-Err.ensures.err.wanting opened.satellites opened.read
-      (satellites-known c.args.types.now c.args.line.now (tail_of_history history) begun
-      c.args.self.now.room _
-      opened has (search (rules, c.self.view_is, c.has_history.ensures.rooms)))
-      (text-known c.args.types.now c.args.line.now (tail_of_history history) begun c.args.self.now.room _
-      opened has (search (rules, c.self.view_is, c.has_history.ensures.held_room))));
+      (tail_of_history c.has_history.new.history) begun before step in
+      absurd (c.in-Err.ensures.err.wanting opened.satellites opened.read (satellites-known c.args.types.now
+      c.args.line.now (tail_of_history c.has_history.new.history) begun c.args.self.now.room _ opened has
+      (search (rules, c.self.view_is, c.has_history.ensures.rooms))) (text-known c.args.types.now
+      c.args.line.now (tail_of_history c.has_history.new.history) begun c.args.self.now.room _ opened has
+      (search (rules, c.self.view_is, c.has_history.ensures.held_room))));
   room = search rules;
   held = search rules;
 }
@@ -69,13 +62,8 @@ returns-in-Ok-begin-clause-block c = λ older e.
     search (rules, first_step, tail_held, before_clock, tail_of_history, begun-block)
 
 pub returns-in-Err-clause-block_fault : goal.returns-in-Err-clause-block_fault
-returns-in-Err-clause-block_fault c = λ older e.
-    let refused : (first_step c.args.types.now (tail_held c.args.self.now.state) (Content c.args.line.now)
-    ≡ Faulty c.in-Err.fault) ⊎ (c.in-Err.fault ≡ OutOfMemory) = search rules in
-    begun-refused (Err c.in-Err.fault) c.args.types.now older
-    (tail_held c.args.self.now.state) c.args.line.now e
-    refused
+returns-in-Err-clause-block_fault c = λ older e. begun-refused (Err c.in-Err.fault) c.args.types.now older
+    (tail_held c.args.self.now.state) c.args.line.now e (search rules)
 
 pub returns-then-not-has_history-clause-block_fault : goal.returns-then-not-has_history-clause-block_fault
-returns-then-not-has_history-clause-block_fault c = λ older e.
-    search (rules, first_step, tail_held, begun-refused)
+returns-then-not-has_history-clause-block_fault c = search (rules, first_step, tail_held, begun-refused)

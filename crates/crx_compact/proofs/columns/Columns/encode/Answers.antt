@@ -1,6 +1,6 @@
-use Rattle.crx_compact.proofs.Words.{rules, arith, ◌≡◌, ℕ, Bool, true, not, Some, None, if◌then◌else◌, subst}
-use Rattle.crx_compact.proofs.Words.{sym, ap, ◌∙◌, false≢true, ColumnsState, is_idle, tail_held}
-use Rattle.crx_compact.proofs.Words.{columns_state, OpenHistory, tail_of_history, lines_after_tail, no_tail}
+use Rattle.crx_compact.proofs.Words.{rules, arith, ◌≡◌, Bool, true, not, Some, None, if◌then◌else◌, subst}
+use Rattle.crx_compact.proofs.Words.{ap, ◌∙◌, false≢true, tail_held}
+use Rattle.crx_compact.proofs.Words.{columns_state, tail_of_history, lines_after_tail, no_tail}
 use Rattle.crx_compact.proofs.Words.{tail_after, tail_written_after, Tail, Stage, HeldColumns}
 use Rattle.crx_compact.proofs.{EncodingRooms.all-free-room, wayback.Tailing.{lines-coded, tail-coded}}
 use Rattle.crx_compact.proofs.reading.Stages.{stage-idle, tail-idle}
@@ -15,16 +15,6 @@ in-full : (full is_kept : Bool) (tail : Tail)
     ≡ tail_written_after full (if is_kept then Some tail else None)
 in-full full is_kept tail = grind arith
 
--- the tail that an epoch is written after, by what idle columns store
-written-after : (full is_kept in_full : Bool) (stage : Stage) (count : ℕ) (history : OpenHistory)
-    (state : ColumnsState)
-    → columns_state is_kept stage count history ≡ state → is_idle state ≡ true
-    → in_full ≡ (if full then true else not is_kept)
-    → (if in_full then no_tail else tail_of_history history) ≡ tail_written_after full (tail_held state)
-written-after full is_kept in_full stage count history state is idle means =
-    ap (λ b. if b then no_tail else tail_of_history history) means ∙ in-full full is_kept (tail_of_history
-    history) ∙ ap (tail_written_after full) (sym (tail-idle is_kept stage count history state is idle))
-
 means : (c : goal.After-replace-lines)
     → c.if-full.in_full ≡ (if c.args.full then true else not c.self.inside.is_kept)
 means c = elim (c.if-full.branch) [
@@ -32,17 +22,15 @@ means c = elim (c.if-full.branch) [
   | else-full w ↦ cc (w.in_full-is, w.if-full.false)
 ]
 
+-- the tail that an epoch is written after, by what idle columns store
 after : (c : goal.After-replace-lines)
     → (if c.if-full.in_full then no_tail else tail_of_history c.self.inside.history)
     ≡ tail_written_after c.args.full (tail_held c.args.self.now.state)
 after c =
-    written-after c.args.full c.self.inside.is_kept c.if-full.in_full c.self.inside.stage c.self.inside.count
-    c.self.inside.history c.args.self.now.state (search (rules, c.self.view_is)) c.requires.idle (means c)
+    search (rules, no_tail, tail_of_history, means, in-full, tail_written_after, tail-idle, c.self.view_is)
 
 pub returns-in-Ok-clause-coded : goal.returns-in-Ok-clause-coded
-returns-in-Ok-clause-coded c =
-    ap (λ lines. record { epoch = c.args.epoch; lines = lines; room = room_of_lines c.replace-lines.result })
-    (search (rules, lines_after_tail, after))
+returns-in-Ok-clause-coded c = search (rules, room_of_lines, lines_after_tail, after)
 
 pub returns-in-Ok-clause-kept : goal.returns-in-Ok-clause-kept
 returns-in-Ok-clause-kept c =

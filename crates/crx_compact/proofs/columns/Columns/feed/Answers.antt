@@ -1,5 +1,5 @@
 use Rattle.crx_compact.proofs.Words.{rules, ◌≡◌, ◌∙◌, ◌<◌, ◌⊎◌, sym, ap, subst, arith, length, Ok, Err, Some}
-use Rattle.crx_compact.proofs.Words.{None, eqb-true, OutOfMemory, Content, ColumnsState, HasMade, step_in}
+use Rattle.crx_compact.proofs.Words.{None, eqb-true, OutOfMemory, Content, HasMade, step_in}
 use Rattle.crx_compact.proofs.reading.Stages.{row-was_awaited, rows-left, state-rows, step-by-stage}
 use Rattle.crx_compact.proofs.Words.{step_with_rows, tail_of_history, Tail, HeldColumns}
 use Rattle.crx_compact.proofs.reading.Blocks.{more-block, more-refused}
@@ -26,33 +26,26 @@ returns-in-Err-epoch-clause-memory c = λ out.
     let inside = c.self.inside in
     let new = c.take_line.new in
     let rows = c.in-Ok-true.ensures.ok in
-    let tail : Tail = tail_of_history new.history in
     let come : new.count ≡ length new.history.satellites.rows =
     eqb-true new.count (length new.history.satellites.rows) (sym rows.whole ∙ c.in-Ok-true.field-0-test) in
-    let step : step_in c.args.self.now.state (Content c.args.line.now) ≡ step_with_rows tail new.count =
-    search (rules, step-by-stage, c.self.view_is, c.in-Ok-true.ensures.ok) in
     let some : 0 < length new.history.satellites.rows = c.in-Err-epoch.ensures.memory in (
       rows.start,
       row-was_awaited inside.is_kept inside.stage inside.count inside.history c.args.self.now.state
           (ap (λ (held : HeldColumns). held.state) c.self.view_is) (rows.awaited (omega (arith, come, some))),
-      step-whole _ tail new.count step (omega (arith, come)),
+      step-whole _ (tail_of_history new.history) new.count
+          (search (rules, step-by-stage, c.self.view_is, c.in-Ok-true.ensures.ok)) (omega (arith, come)),
     )
 
 pub returns-in-Ok-false-clause-made : goal.returns-in-Ok-false-clause-made
 returns-in-Ok-false-clause-made c =
-    let inside = c.self.inside in
     let new = c.take_line.new in
     let rows = c.in-Ok-false.ensures.ok in
-    let tail : Tail = tail_of_history new.history in
     let left : new.count < length new.history.satellites.rows =
     rows-left new.count (length new.history.satellites.rows) (sym rows.whole ∙ c.in-Ok-false.field-0-test)
     rows.within in
-    let step : step_in c.args.self.now.state (Content c.args.line.now) ≡ step_with_rows tail new.count =
-    search (rules, step-by-stage, c.self.view_is, c.in-Ok-false.ensures.ok) in
-    let P : ColumnsState → Type 0 = λ s. HasMade (step_in c.args.self.now.state
-    (Content c.args.line.now)) s None in
-    subst P (sym (state-rows inside.is_kept new.stage new.count new.history rows.rows))
-    (made-more _ tail new.count step left)
+    subst (λ s. HasMade (step_in c.args.self.now.state (Content c.args.line.now)) s None) (sym (state-rows
+    c.self.inside.is_kept new.stage new.count new.history rows.rows)) (made-more _ (tail_of_history
+    new.history) new.count (search (rules, step-by-stage, c.self.view_is, c.in-Ok-false.ensures.ok)) left)
 
 pub returns-in-Ok-false-clause-block : goal.returns-in-Ok-false-clause-block
 returns-in-Ok-false-clause-block c = λ types older lines r. record {

@@ -1,9 +1,9 @@
-use Rattle.std.proofs.{Common.rules, lemmas.Grind.common_steps}
+use Rattle.std.proofs.{Common.rules, lemmas.Grind.common_steps, lemmas.Result.IfOk-at_ok}
 use Rattle.crx_compact.proofs.Words.{◌≡◌, ◌++◌, ◌∷◌, [], ℕ, ℤ, List, Option, true, not, length, take, sym, ap}
 use Rattle.crx_compact.proofs.Words.{◌∙◌, subst, arith, inl, inr, if◌then◌else◌, is_ok, eqb-true, length-map}
-use Rattle.crx_compact.proofs.Words.{satellites_of, has_satellite, Row, HasRoom, HaveRoom, OpenHistory}
+use Rattle.crx_compact.proofs.Words.{satellites_of, has_satellite, Row, HasRoom, OpenHistory}
 use Rattle.crx_compact.proofs.Words.{row_of_parts, row_room, tail_of_history, no_tail, row_tail_in, Tail}
-use Rattle.crx_compact.proofs.{Words.{AreRowsWritten, slice_get_within}, Results.{by_ok, from_ok}}
+use Rattle.crx_compact.proofs.{Words.{AreRowsWritten, slice_get_within}, Results.by_ok}
 use Rattle.crx_compact.proofs.ComeRows.{row-new}
 use Rattle.crx_compact.proofs.{Making.{taken_all, taken_more}, RowByRow.{all-at, sum-left, sum-next, sum-to}}
 use Rattle.crx_compact.proofs.{EncodingRooms.room-kept, history.History.encode.Goals.In_default}
@@ -25,7 +25,6 @@ loop-row-init c =
       rows = (c.prepare_rows.ensures.asked.rows ∙ ap (λ (h : OpenHistory). h.satellites.rows) c.self.view_is)
           j;
     }) in
-    let wide = c.in_ok-reserve_exact.ensures in
     let long = c.in_ok-make_long.ensures in
     let held = c.make_long.new.text.ok in
     let sized = c.in_ok-room.ensures in
@@ -41,13 +40,7 @@ loop-row-init c =
           (sym (c.make_room.ensures.grown.lines ∙ c.reserve_front.ensures.emptied))
           (subst (λ (t : Tail). AreRowsWritten (if c.args.in_full then no_tail else t) []
           c.begin_rows.new.self []) same c.begin_rows.ensures.begun);
-      room = record {
-        text = omega (arith, held.0, held.1);
-        rows = subst (HaveRoom c.args.epoch.now.rows) (sym rooms)
-            c.in_ok-room.ensures.room;
-        lines = omega arith;
-        bytes = omega arith;
-      };
+      room = search (rules, c.in_ok-room.ensures.room);
       free_lines = omega arith;
       free_bytes = omega arith;
       claimed = omega arith;
@@ -70,21 +63,17 @@ loop-row-init c =
 
 pub unwrap-requires : goal.unwrap-requires
 unwrap-requires c =
-    let rows = c.args.epoch.now.rows in
-    let index = c.loop-row.index in
     let row : Row = c.in-Some.row.now in
     let here = sym c.in-Some.ensures.value in
     let rooms = c.loop-row.self.satellites.rooms in
-    let within = slice_get_within rows index row here in
-    let next = sum-left row_room rows index row here in
+    let within = slice_get_within c.args.epoch.now.rows c.loop-row.index row here in
+    let next = sum-left row_room c.args.epoch.now.rows c.loop-row.index row here in
     let many : length c.values.result.now ≡ length row.values = ap length c.values.ensures.value in
     c.write_row.ensures.known (record {
-      satellite = subst (λ (name : List ℕ). HasRoom name (length c.values.result.now) rooms)
-          (sym c.name.ensures.value)
-          (subst (λ (values : List (Option ℤ)). HasRoom row.name (length values) rooms)
-          (sym c.values.ensures.value)
-          (all-at (λ (r : Row). HasRoom r.name (length r.values) rooms) rows index row
-          c.loop-row.invariant.room.rows here));
+      satellite = subst (λ (name : List ℕ). HasRoom name (length c.values.result.now) rooms) (sym
+          c.name.ensures.value) (subst (λ (values : List (Option ℤ)). HasRoom row.name (length values) rooms)
+          (sym c.values.ensures.value) (all-at (λ (r : Row). HasRoom r.name (length r.values) rooms)
+          c.args.epoch.now.rows c.loop-row.index row c.loop-row.invariant.room.rows here));
       line = omega arith;
       bytes = omega arith;
       claim = omega arith;
@@ -92,14 +81,10 @@ unwrap-requires c =
 
 pub overflow_add-index : goal.overflow_add-index
 overflow_add-index c =
-    let within = slice_get_within c.args.epoch.now.rows c.loop-row.index c.in-Some.row.now
-    (sym c.in-Some.ensures.value) in
-    omega arith
+    omega (arith, slice_get_within c.args.epoch.now.rows c.loop-row.index _ (sym c.in-Some.ensures.value))
 
 pub loop-row-smaller : goal.loop-row-smaller
-loop-row-smaller c =
-    falls (length c.args.epoch.now.rows) c.loop-row.index
-    (slice_get_within c.args.epoch.now.rows c.loop-row.index c.in-Some.row.now (sym c.in-Some.ensures.value))
+loop-row-smaller c = falls _ _ (slice_get_within _ _ _ (sym c.in-Some.ensures.value))
 
 pub loop-row-preserved : goal.loop-row-preserved
 loop-row-preserved c =
@@ -114,14 +99,13 @@ loop-row-preserved c =
     let after : Tail = if c.args.in_full then no_tail else tail_of_history c.args.self.now in
     let old = encoding_room c.loop-row.self c.loop-row.lines in
     let new = encoding_room c.write_row.new.self c.write_row.new.lines in
-    let written = from_ok (IsRowWritten after so_far put c.write_row.new.self c.write_row.new.lines.lines)
-    c.write_row.result c.unwrap.result c.unwrap.ensures
-    (c.write_row.ensures.written after so_far c.loop-row.invariant.written) in
+    let written = IfOk-at_ok (IsRowWritten after so_far put c.write_row.new.self c.write_row.new.lines.lines)
+    c.unwrap.ensures (c.write_row.ensures.written after so_far c.loop-row.invariant.written) in
     let is_new : c.unwrap.result ≡ true = written.answer
     ∙ ap not (ap (λ (r : Row). has_satellite r.name so_far) parts ∙ row-new rows index row
     c.requires.sound.apart here) in
-    let taken = from_ok (λ is_new. is_new ≡ true → HasTakenRow put old new) c.write_row.result c.unwrap.result
-    c.unwrap.ensures c.write_row.ensures.taken is_new in
+    let taken = IfOk-at_ok (λ is_new. is_new ≡ true → HasTakenRow put old new) c.unwrap.ensures
+    c.write_row.ensures.taken is_new in
     let same = ap length c.write_row.ensures.texts.next_text in
     let next = sum-left row_room rows index row here in
     let many : length c.values.result.now ≡ length row.values = ap length c.values.ensures.value in
@@ -176,15 +160,7 @@ returns-clause-rooms_kept c = λ name count has.
     c.end_rows.ensures.memory.rooms.forth name count (c.loop-row.invariant.rooms_kept name count has)
 
 pub returns-clause-only : goal.returns-clause-only
-returns-clause-only c =
-    let memory = c.end_rows.ensures.memory in
-    record {
-      rooms = λ name count has. c.loop-row.invariant.only name count (memory.rooms.back name count has);
-      lines = record {
-        lines = omega arith;
-        bytes = omega arith;
-      };
-    }
+returns-clause-only c = search (rules, c.loop-row.invariant.only, c.end_rows.ensures.memory.rooms.back)
 
 pub returns-clause-written : goal.returns-clause-written
 returns-clause-written c = search (rules, no_tail, tail_of_history, by_ok, is_ok, written)

@@ -1,6 +1,6 @@
-use Rattle.crx_compact.proofs.Words.{rules, List, ap, inl, inr, sym, ◌∙◌, arith, slice_get, false≢true}
-use Rattle.crx_compact.proofs.Words.{option_map, slice_get-map, with_row, has_satellite, Epoch, Row}
-use Rattle.crx_compact.proofs.Words.{IsAwaitedSatellite, OpenHistory, satellite_of, shown_row, RowTail}
+use Rattle.crx_compact.proofs.Words.{rules, List, ap, sym, ◌∙◌, arith, slice_get, false≢true}
+use Rattle.crx_compact.proofs.Words.{option_map, slice_get-map}
+use Rattle.crx_compact.proofs.Words.{IsAwaitedSatellite, OpenHistory, satellite_of, RowTail}
 use Rattle.crx_compact.proofs.{RowByRow.{IsThere, all-at, is-there}, ShownEpochs.row-shown}
 use Rattle.crx_compact.proofs.history.History.epoch.Goals as goal
 
@@ -19,13 +19,7 @@ returns-in-Err-clause-err c =
     let row : IsThere rows index = is-there rows index (omega arith) in
     let at = row-shown c.args.self.now index row.item c.requires.announced
     (ap (λ (h : OpenHistory). slice_get h.satellites.rows index) (sym c.self.view_is) ∙ row.there) in
-    let new = ap (λ (r : Row). has_satellite r.name c.loop-index.epoch.rows)
-    (c.in_ok-row.ensures.ok row.item row.there)
-    ∙ ap (λ (e : Epoch). has_satellite row.item.name e.rows) c.loop-index.invariant ∙ at.new in
-    elim c.in-Err.ensures.refused [
-      | inl twice ↦ absurd (false≢true (sym new ∙ twice.1))
-      | inr out ↦ out.0
-    ]
+    search (rules, c.in-Err.ensures.refused, false≢true)
 
 pub loop-index-preserved : goal.loop-index-preserved
 loop-index-preserved c =
@@ -34,6 +28,4 @@ loop-index-preserved c =
     let row : IsThere rows index = is-there rows index (omega arith) in
     let at = row-shown c.args.self.now index row.item c.requires.announced
     (ap (λ (h : OpenHistory). slice_get h.satellites.rows index) (sym c.self.view_is) ∙ row.there) in
-    c.in-Ok.ensures.ok
-    ∙ ap (λ (r : Row). with_row c.loop-index.epoch r) (c.in_ok-row.ensures.ok row.item row.there)
-    ∙ ap (λ (e : Epoch). with_row e (shown_row row.item)) c.loop-index.invariant ∙ at.with
+    cc (c.in-Ok.ensures.ok, c.in_ok-row.ensures.ok row.item row.there, c.loop-index.invariant, at.with)

@@ -20,27 +20,13 @@ put-requires c =
 pub returns-in_default-clause-lines : goal.returns-in_default-clause-lines
 unfolding numbers.number_text
 returns-in_default-clause-lines c =
-    let text : c.deref.result.now ≡ c.args.self.now.text =
-    c.deref.ensures.value ∙ ap (λ (h : OpenHistory). h.text) c.self.view_is in
     let clock = ap (λ (h : OpenHistory). shown_value h.clock) (sym c.self.view_is)
     ∙ sym c.in_default.ensures.value in
-    c.put.ensures.lines ∙ ap (λ t. c.args.lines.now.lines ++ t ∷ []) (c.end_trimmed.ensures.value
-    ∙ ap (λ t. without_end_blanks (columns t 1 HEAD_WIDTH)) text
-    ∙ sym (end_blanks-more (columns c.args.self.now.text 1 HEAD_WIDTH) 15)
-    ∙ ap (printed_head (columns c.args.self.now.text 1 HEAD_WIDTH)) (sym clock))
+    c.put.ensures.lines ∙ ap (λ t. c.args.lines.now.lines ++ t ∷ []) (c.end_trimmed.ensures.value ∙ ap (λ t.
+    without_end_blanks (columns t 1 HEAD_WIDTH)) (c.deref.ensures.value ∙ ap (λ (h : OpenHistory). h.text)
+    c.self.view_is) ∙ sym (end_blanks-more (columns c.args.self.now.text 1 HEAD_WIDTH) 15) ∙ ap (printed_head
+    (columns c.args.self.now.text 1 HEAD_WIDTH)) (sym clock))
 
 pub returns-in_default-clause-taken : goal.returns-in_default-clause-taken
 returns-in_default-clause-taken c =
-    let few = few c.deref.result.now c.end_trimmed.result.now c.end_trimmed.ensures.value in
-    let put = c.put.ensures.taken in
-    record {
-      free_lines = put.free_lines;
-      free_bytes = omega (arith, few, put.free_bytes);
-      all_lines = put.all_lines;
-      all_bytes = put.all_bytes;
-      spare_lines = put.spare_lines;
-      spare_bytes = put.spare_bytes;
-      claimed_bytes = omega (arith, few, put.claimed_bytes);
-      reserved = put.reserved;
-      front = put.front;
-    }
+    grind (arith, few c.deref.result.now c.end_trimmed.result.now c.end_trimmed.ensures.value)

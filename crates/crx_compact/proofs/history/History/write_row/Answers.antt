@@ -53,8 +53,7 @@ returns-in_err-make_room-clause-memory c = λ after rows written.
     written)
 
 pub returns-in_err-make_room-clause-known : goal.returns-in_err-make_room-clause-known
-returns-in_err-make_room-clause-known c = λ known.
-    absurd (false≢true (c.in_err-make_room.ensures.known (omega arith) (omega arith) (omega arith)))
+returns-in_err-make_room-clause-known c = search (rules, false≢true, c.in_err-make_room.ensures.known)
 
 -- what is asked for is what the row needs
 only : (c : After-place_or_add)
@@ -92,11 +91,10 @@ put_row-requires-clause-sound c = λ old there.
     let name = c.args.name.now in
     let values = c.args.values.now in
     let flags = c.args.flags.now in
-    let placed = c.self.inside.satellites in
     let come = c.in_ok-place_or_add.ensures.ok.come c.if-not-branch.false in
-    let last = come-last name placed c.place_or_add.new.self c.place_or_add.new.self.rows _ come refl
-    (ap (λ n. n - 1) c.placed-last.ensures.value) in
-    let is = same_Some old (row_or_blank name placed.rest) (sym there ∙ last.there) in
+    let last = come-last name c.self.inside.satellites c.place_or_add.new.self c.place_or_add.new.self.rows _
+    come refl (ap (λ n. n - 1) c.placed-last.ensures.value) in
+    let is = same_Some old (row_or_blank name c.self.inside.satellites.rest) (sym there ∙ last.there) in
     let named : old.name ≡ name = ap (λ (t : RowTail). t.name) is ∙ last.named in (
       subst (λ (n : List ℕ). IsSoundRow (row_of_parts n values flags)) (sym named) c.requires.sound,
       subst (λ (n : List ℕ). HasRoom n (length values) c.place_or_add.new.self.rooms) (sym named)
@@ -125,16 +123,10 @@ returns-clause-written c = λ after rows written.
           c.put_row.new.self.lines placed same written c.requires.sound
           (no-row after rows c.args.self.now c.args.lines.now.lines placed name c.in_ok-place_or_add.field-0
           same c.in_ok-place_or_add.ensures.ok.answer c.if-not-branch.false written) come
-          (c.put_row.ensures.after kept last.there
-          ∙ last.put (row_tail_after (Some kept) (row_of_parts kept.name values flags))
-          ∙ ap (λ (r : Row). placed.rows ++ row_tail_after (Some kept) r ∷ []) parts)
+          (search (rules, c.put_row.ensures.after, row_tail_after, row_of_parts))
           c.put_row.ensures.kept.rest
           (c.put_row.ensures.lines kept last.there
           ∙ (λ j. c.make_room.ensures.grown.lines j ++ row_line_after (Some kept) (parts j) ∷ []))
           (ap (λ (h : OpenHistory). h.text) c.self.view_is) (ap (λ (h : OpenHistory). h.clock)
           c.self.view_is);
     }
-
-pub returns-clause-taken : goal.returns-clause-taken
-returns-clause-taken c = λ is.
-    search rules

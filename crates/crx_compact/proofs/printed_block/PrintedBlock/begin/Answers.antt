@@ -6,6 +6,4 @@ pub overflow_add-count : goal.overflow_add-count
 overflow_add-count c = omega (arith, c.count.ensures.value, rows-few, c.requires.announced)
 
 pub printed_room-requires : goal.printed_room-requires
-printed_room-requires c = record {
-  few = rw c.satellites.ensures.value (rows-few c.args.history.now c.requires.announced);
-}
+printed_room-requires c = grind (arith, c.satellites.ensures.value, rows-few, c.requires.announced)

@@ -28,13 +28,10 @@ invariant_of-self-2 c =
     let inside = c.self.inside in
     let indicators = c.blank_types.new.indicators in
     let arcs = c.blank_types.new.arcs in
-    let long = ap length c.deref_mut.ensures.value in
-    let many = ap length c.deref_mut-2.ensures.value in
     let held = ap (λ (t : SatelliteTail). t.room) c.self.view_is in
     let first = take_at indicators (drop (length indicators) inside.indicators.items) inside.indicators.len
     (omega arith) in
-    let second = take_at arcs (drop (length arcs) inside.arcs.items) inside.arcs.len (omega arith) in
-    rw (first, second) (
+    rw (first, take_at arcs (drop (length arcs) inside.arcs.items) inside.arcs.len (omega arith)) (
       more-held (take (2 * inside.count) inside.indicators.items) (take (2 * c.args.count) indicators)
           (2 * c.args.count - 2 * inside.count)
           (c.blank_types.ensures.indicators

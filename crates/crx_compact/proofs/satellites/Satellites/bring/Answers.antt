@@ -15,8 +15,7 @@ returns-then-found-self c =
     c.if-found-self.true)
 
 pub has_room_at-requires : goal.has_room_at-requires
-has_room_at-requires c =
-    record { within = slice_get_within _ c.in-Some.found _ c.in-Some.ensures.found.there }
+has_room_at-requires c = grind (arith, slice_get_within, c.in-Some.ensures.found.there)
 
 pub returns-then-not-has_room_at : goal.returns-then-not-has_room_at
 returns-then-not-has_room_at c =
@@ -49,15 +48,4 @@ put_next-requires-2-clause-within c =
 
 pub invariant_of-self-2 : goal.invariant_of-self-2
 invariant_of-self-2 c =
-    let near = slice_get_within c.self.inside.known.entries c.in-Some.found _
-    c.in-Some.ensures.found.there in
-    let few = c.self.invariant.0 in (
-      omega (arith, few),
-      omega (
-        arith,
-        near,
-        c.if-found-self-2.false,
-        c.revive.ensures.revived.counted,
-        c.put_next-2.ensures.put.counted,
-      ),
-    )
+    grind (arith, slice_get_within, c.revive.ensures.revived.counted, c.put_next-2.ensures.put.counted)

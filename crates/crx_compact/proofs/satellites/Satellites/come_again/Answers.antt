@@ -9,16 +9,13 @@ pub returns-clause-again : goal.returns-clause-again
 returns-clause-again c =
     let self = c.self.inside in
     let es = self.known.entries in
-    let types = c.args.types.now in
-    let same = c.if-count-self.false in
     let none = none-placed self.placed self.live es c.self.invariant
     (rw (← c.self.view_is) at c.requires.none) in
-    let come = come-again self.known c.len-count.ensures.unique types self.live
-    (λ index less. c.if-not-keep_types.ensures.kept index (omega (arith, less, same))) in
-    rw (← c.self.view_is) (subst (λ n. HaveComeAgain types (placed_rows n self.live es)
-    (placed_rows c.args.count self.live es)) (sym none)
-    (subst (λ n. HaveComeAgain types (placed_rows 0 self.live es) (placed_rows n self.live es)) (sym same)
-    come))
+    let come = come-again self.known c.len-count.ensures.unique c.args.types.now self.live (λ index less.
+    c.if-not-keep_types.ensures.kept index (omega (arith, less, c.if-count-self.false))) in
+    rw (← c.self.view_is) (subst (λ n. HaveComeAgain c.args.types.now (placed_rows n self.live es)
+    (placed_rows c.args.count self.live es)) (sym none) (subst (λ n. HaveComeAgain c.args.types.now
+    (placed_rows 0 self.live es) (placed_rows n self.live es)) (sym c.if-count-self.false) come))
 
 pub returns-clause-counted : goal.returns-clause-counted
 returns-clause-counted c =

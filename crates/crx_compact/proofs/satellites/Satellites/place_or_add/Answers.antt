@@ -1,15 +1,6 @@
-use Rattle.std.proofs.Common.{rules, ℕ, List, ◌⊎◌, inl, inr, refl}
-use Rattle.crx_compact.specs.Placing.{HasRoom, HasSameRooms}
+use Rattle.std.proofs.Common.{rules, refl}
 use Rattle.crx_compact.proofs.{Results.{from_some, on_err, some-otherwise}, placing.Placed.placed-asked}
 use Rattle.crx_compact.proofs.satellites.Satellites.place_or_add.Goals as goal
-
--- what a satellite has once it wasn't placed, it had before
-asked-before : {asked : Type 0} {old new : List (List ℕ × ℕ)} {name : List ℕ} {count : ℕ}
-    → HasSameRooms old new → HasRoom name count new ⊎ asked → HasRoom name count old ⊎ asked
-asked-before {name = name} {count = count} same has = elim has [
-  | inl there ↦ inl (same.back name count there)
-  | inr asked ↦ inr asked
-]
 
 pub returns-in_err-prepare-clause-err : goal.returns-in_err-prepare-clause-err
 returns-in_err-prepare-clause-err c = on_err c.from_residual.result (c.in_default.ensures.unplaced
@@ -24,12 +15,10 @@ returns-in_err-prepare-clause-rooms c = λ name count has.
 
 pub returns-in_err-prepare-clause-only : goal.returns-in_err-prepare-clause-only
 returns-in_err-prepare-clause-only c = λ name count has.
-    asked-before c.place.ensures.rooms (c.prepare.ensures.only name count has)
+    search (rules, c.place.ensures.rooms.back, c.prepare.ensures.only)
 
 pub unwrap-requires : goal.unwrap-requires
-unwrap-requires c =
-    some-otherwise c.place-2.result
-    (λ none. (c.place-2.ensures.unplaced none).known c.in_ok-prepare.ensures.room)
+unwrap-requires c = search (rules, some-otherwise, c.place-2.ensures.unplaced, c.in_ok-prepare.ensures.room)
 
 -- no row has changed before it comes
 pub returns-clause-ok : goal.returns-clause-ok
@@ -37,7 +26,7 @@ returns-clause-ok c = search (rules, placed-asked, from_some)
 
 pub returns-clause-only : goal.returns-clause-only
 returns-clause-only c = λ name count has.
-    search (rules, asked-before, c.place.ensures.rooms, c.prepare.ensures.only, c.place-2.ensures.rooms.back)
+    search (rules, c.place.ensures.rooms.back, c.prepare.ensures.only, c.place-2.ensures.rooms.back)
 
 pub returns-clause-rooms : goal.returns-clause-rooms
 returns-clause-rooms c = λ name count has.

@@ -21,24 +21,23 @@ returns c =
     let there = c.pair_mut-satellite.ensures.value in
     let at = row-at self.placed within there in
     let name = c.pair_mut-satellite.result.0.now in
-    let line = c.args.line.now in
     let left : RowTail = row_tail_of name c.read.new.self in
     rw (← c.self.view_is) (record {
-      ok = on_ok_weaker c.read.result (λ held old also.
-          let is = at.is old also in (
-            left,
-            subst (λ (row : RowTail). row_held (Some row) (satellite_of row) line
-                ≡ Ok (record { row = shown_row left; tail = left })) is (held name),
-            ap (λ (row : RowTail). row.name) is,
-            c.read.ensures.sized ∙ ap (λ (row : RowTail). length row.cells) is,
-            rows-changed self.known self.placed self.live within there c.read.new.self,
-          )) c.read.ensures.ok;
-      err = IfErr-weaker c.read.result (λ (fault : Fault). (name : List ℕ)
-          → row_held (Some (row_tail_of name c.pair_mut-satellite.result.1.now))
-          (satellite_of (row_tail_of name c.pair_mut-satellite.result.1.now)) line ≡ Err fault) _
-          (λ fault held old also.
-          subst (λ (row : RowTail). row_held (Some row) (satellite_of row) line ≡ Err fault) (at.is old also)
-          (held name)) c.read.ensures.err;
+      ok = on_ok_weaker c.read.result (λ held old also. (
+        left,
+        subst (λ (row : RowTail). row_held (Some row) (satellite_of row) c.args.line.now ≡ Ok (record {
+          row = shown_row left;
+          tail = left;
+        })) (at.is old also) (held name),
+        ap (λ (row : RowTail). row.name) (at.is old also),
+        c.read.ensures.sized ∙ ap (λ (row : RowTail). length row.cells) (at.is old also),
+        rows-changed self.known self.placed self.live within there c.read.new.self,
+      )) c.read.ensures.ok;
+      err = IfErr-weaker c.read.result (λ (fault : Fault). (name : List ℕ) → row_held (Some (row_tail_of name
+          c.pair_mut-satellite.result.1.now)) (satellite_of (row_tail_of name
+          c.pair_mut-satellite.result.1.now)) c.args.line.now ≡ Err fault) _ (λ fault held old also. subst (λ
+          (row : RowTail). row_held (Some row) (satellite_of row) c.args.line.now ≡ Err fault) (at.is old
+          also) (held name)) c.read.ensures.err;
       kept = rest-kept self.known self.placed self.live within there c.read.new.self c.self.invariant
           c.pair_mut-satellite.ensures.unique (omega (arith, c.read.ensures.room));
     })

@@ -1,4 +1,4 @@
-use Rattle.crx_compact.proofs.Words.{rules, ap, ◌∙◌, ◌++◌, take, arith, length, slice_set, Some}
+use Rattle.crx_compact.proofs.Words.{rules, ap, ◌∙◌, ◌++◌, take, arith, slice_set, Some}
 use Rattle.crx_compact.proofs.Words.{length-each_place, row_of_parts, row_line_after, row_tail_after, RowTail}
 use Rattle.crx_compact.proofs.placing.SteppedRows.{order-kept, rest-kept, row-at, rows-changed, written-line}
 use Rattle.crx_compact.proofs.{Words.Row, placing.EntryChanges.room-there, placing.SteppedRows.written-row}
@@ -10,15 +10,7 @@ mark-marks-requires c =
     let there = c.pair_mut-satellite.ensures.value in
     let at = row-at c.self.inside.placed (rw (← c.self.view_is) at c.requires.within) there in
     let sound = (rw (← c.self.view_is) at c.requires.sound) _ at.there in
-    let paired = sound.0.paired in
-    record {
-      fits = record {
-        room = room-there c.self.inside.known c.args.index _ _ c.pair_mut-satellite.result.1.now
-            c.pair_mut-satellite.ensures.unique there _ sound.1;
-        paired = paired;
-        held = record { within = omega arith; kept = sound.0.kept };
-      };
-    }
+    search (rules, room-there, c.self.inside.known, c.pair_mut-satellite.ensures.unique, sound.0.kept)
 
 pub write_line-requires-clause-values : goal.write_line-requires-clause-values
 write_line-requires-clause-values c =
@@ -27,9 +19,7 @@ write_line-requires-clause-values c =
     ((rw (← c.self.view_is) at c.requires.sound) _ at.there).0.ranged
 
 pub write_line-requires-clause-counted : goal.write_line-requires-clause-counted
-write_line-requires-clause-counted c =
-    ap (λ (s : SatelliteTail). length s.cells) c.mark-marks.ensures.marked
-    ∙ length-each_place (length c.args.values.now) _
+write_line-requires-clause-counted c = search (rules, c.mark-marks.ensures.marked, length-each_place)
 
 pub invariant_of-self : goal.invariant_of-self
 invariant_of-self c = order-kept c.args.index c.self.inside.known.entries c.write_line.new.self
