@@ -1,6 +1,6 @@
 -- What a reader of compact text holds after a line.
-use Rattle.crx_filter.proofs.Words.{common_steps, arith, ◌≡◌, Bool, true, List, ℕ, Option, Some, None, Result}
-use Rattle.crx_filter.proofs.Words.{Ok, refl, Content, Fault, Count, Satellite, Tail, and_then, RawStep}
+use Rattle.crx_filter.proofs.Words.{common_steps, arith, ◌≡◌, Bool, true, List, ℕ, Option, None, Result}
+use Rattle.crx_filter.proofs.Words.{Ok, Content, Fault, Count, Satellite, Tail, and_then, RawStep}
 use Rattle.crx_filter.{proofs.Words.first_step, specs.CompactStages.{wants_line, wants_lines}}
 use Rattle.crx_compact.specs.OpenEpochs.{ColumnsState, Going, Whole, Faulty, HasMade, opened_raw, awaited_row}
 use Rattle.crx_compact.specs.OpenEpochs.{before_clock, opening, tail_for_line, tail_opened}
@@ -18,8 +18,7 @@ satellites-wanted line before read = grind (arith, common_steps)
 
 opened-wants : (types : List Count) (line : List ℕ) (tail : Option Tail)
     → wants_more (opening (opened_raw types line tail)) ≡ true
-opened-wants types line None = refl
-opened-wants types line (Some before) = search (satellites-wanted)
+opened-wants types line tail = grind (arith, common_steps, satellites-wanted)
 
 -- an epoch that was begun wants lines
 pub begun-wants : (types : List Count) (tail : Option Tail) (line : List ℕ) (after : ColumnsState)

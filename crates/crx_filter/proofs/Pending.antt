@@ -18,15 +18,12 @@ failed-lines lines = grind (arith, common_steps)
 pub again-lines : (lines : List (List ℕ)) → is_again (answer_of_lines lines) ≡ false
 again-lines lines = grind (arith, common_steps)
 
-quiet-lines : (lines : List (List ℕ)) → is_ready (answer_of_lines lines) ≡ false → lines ≡ []
-quiet-lines lines e = grind (arith, common_steps)
-
 -- only a step that is ready hands out lines
 module _ {U O K : Type 0} (direction : Direction U O K) (before : RunState O K) where
   quiet-made : (line : ReadLine) (made : Made U O)
       → is_ready (step_of_made direction before line made).answer ≡ false
       → (step_of_made direction before line made).handed_out ≡ []
-  quiet-made line made quiet = grind (arith, common_steps, quiet-lines)
+  quiet-made line made quiet = grind (arith, common_steps)
 
   pub quiet-next : (line : ReadLine) (step : LineStep O K) → step ≡ state_next direction before line
       → is_ready step.answer ≡ false → step.handed_out ≡ []

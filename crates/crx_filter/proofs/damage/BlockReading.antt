@@ -7,7 +7,8 @@ use proofs.Words.{length-drop, character_at, ReadLine, Content, Overlong, At, Fa
 use proofs.Words.{is_event_flag, is_event_line, Place, Done, Fails, NeedsMore, FileUnit, Observation}
 use proofs.Words.{ReadEpoch, epoch_at, Item, Accepted, Warned, types_in_force, Reading, AtLines, Looking}
 use proofs.Words.{is_skipped, looked_for, reading_within, reading_from, is_skippable, raws_kept}
-use proofs.Words.{as_observation, compact_epoch_place, compact_place, IsBetweenUnits}
+use proofs.Words.{as_observation, compact_epoch_place, compact_place, IsBetweenUnits, announces_records}
+use proofs.Words.{BadEpoch, Option, None, is_some, by_bool}
 use proofs.{damage.CutOff.epoch-cut, following.Expansion.observation-wanted}
 use proofs.reading.{Each.all-drop, EpochFaults.{IsSkippableAt, epoch-skippable, place-observation}}
 use proofs.reading.{ForwardCompact.compact-forward, Resuming.{by_place, here-within, wrong-stays}}
@@ -28,6 +29,19 @@ IsBlockText (Content line ∷ lines) = (is_event_line line ≡ false) × AllByRe
 
 pub inside-text : (lines : List ReadLine) → AllByRecursion IsInside lines → IsBlockText lines
 inside-text lines h = grind (arith, common_steps, is_event_flag, character_at)
+
+-- a line that announces no event's records
+abbrev pub IsNoEvent : ReadLine → Type 0
+IsNoEvent (Content line) = announces_records line ≡ false
+IsNoEvent Overlong = ⊤
+
+inside-quiet : (lines : List ReadLine) → AllByRecursion IsInside lines → AllByRecursion IsNoEvent lines
+inside-quiet [] h = tt
+inside-quiet (Overlong ∷ lines) h = absurd h.0
+inside-quiet (Content line ∷ lines) h = grind (arith, inside-quiet lines h.1)
+
+block-quiet : (lines : List ReadLine) → IsBlockText lines → AllByRecursion IsNoEvent lines
+block-quiet lines h = grind (arith, inside-quiet)
 
 block-drop : (count : ℕ) (lines : List ReadLine)
     → 0 < count → IsBlockText lines → AllByRecursion IsInside (drop count lines)
@@ -51,24 +65,36 @@ pub observation-here : (p : Place ReadEpoch) (unit : FileUnit ReadEpoch) (count 
     → as_observation p ≡ Done unit count → (read : ReadEpoch) × (unit ≡ Observation read)
 observation-here v1 unit count e = grind (arith)
 
-epoch-here : (items : List (Item ReadEpoch)) (lines : List ReadLine) (unit : FileUnit ReadEpoch) (count : ℕ)
-    → IsBetweenUnits items → IsBlockText lines → compact_place items lines ≡ Done unit count
-    → (read : ReadEpoch) × (unit ≡ Observation read)
-epoch-here items [] unit count h text e = let never = sym (place-between items [] h) ∙ e in absurd (cc)
-epoch-here items (Overlong ∷ lines) unit count h text e = absurd text
-epoch-here items (Content line ∷ lines) unit count h text e =
-    observation-here (epoch_at (types_in_force items) (raws_kept items) (Content line ∷ lines)) unit count
-    (sym (place-inside items line lines h text.0) ∙ e)
+no-records : (count : Option ℕ) → is_some count ≡ false → count ≡ None
+no-records v1 e = grind (arith)
 
-fault-here : (items : List (Item ReadEpoch)) (lines : List ReadLine) (offset : ℕ) (fault : Fault)
-    → IsBetweenUnits items
-    → IsBlockText lines → compact_place items lines ≡ Fails offset fault → is_skippable fault ≡ true
+-- an event's line without a count is a bad epoch line
+pub bad-event : (items : List (Item ReadEpoch)) (line : List ℕ) (lines : List ReadLine) → IsBetweenUnits items
+    → announces_records line ≡ false → is_event_line line ≡ true
+    → compact_place items (Content line ∷ lines) ≡ Fails 0 BadEpoch
+bad-event items line lines h text event = grind (arith, place-between, no-records)
+
+-- where no line announces an event's records, an epoch is read, or a fault that can be skipped
+pub epoch-here : (items : List (Item ReadEpoch)) (lines : List ReadLine)
+    (unit : FileUnit ReadEpoch) (count : ℕ) → IsBetweenUnits items → AllByRecursion IsNoEvent lines
+    → compact_place items lines ≡ Done unit count → (read : ReadEpoch) × (unit ≡ Observation read)
+epoch-here items [] unit count h text e = let never = sym (place-between items [] h) ∙ e in absurd (cc)
+epoch-here items (Overlong ∷ lines) unit count h text e = grind arith
+epoch-here items (Content line ∷ lines) unit count h text e = by_bool (is_event_line line)
+    (λ event. let never = sym (bad-event items line lines h text.0 event) ∙ e in absurd (cc))
+    (λ other. observation-here (epoch_at (types_in_force items) (raws_kept items) (Content line ∷ lines))
+    unit count (sym (place-inside items line lines h other) ∙ e))
+
+pub fault-here : (items : List (Item ReadEpoch)) (lines : List ReadLine) (offset : ℕ) (fault : Fault)
+    → IsBetweenUnits items → AllByRecursion IsNoEvent lines → compact_place items lines ≡ Fails offset fault
+    → is_skippable fault ≡ true
 fault-here items [] offset fault h text e = let never = sym (place-between items [] h) ∙ e in absurd (cc)
-fault-here items (Overlong ∷ lines) offset fault h text e = absurd text
-fault-here items (Content line ∷ lines) offset fault h text e =
-    subst (λ p. IsSkippableAt p) (sym (place-inside items line lines h text.0) ∙ e)
+fault-here items (Overlong ∷ lines) offset fault h text e = grind arith
+fault-here items (Content line ∷ lines) offset fault h text e = by_bool (is_event_line line)
+    (λ event. subst (λ p. IsSkippableAt p) (sym (bad-event items line lines h text.0 event) ∙ e) refl)
+    (λ other. subst (λ p. IsSkippableAt p) (sym (place-inside items line lines h other) ∙ e)
     (place-observation is_skippable (epoch_at (types_in_force items) (raws_kept items) (Content line ∷ lines))
-    (epoch-skippable (types_in_force items) (raws_kept items) (Content line ∷ lines)))
+    (epoch-skippable (types_in_force items) (raws_kept items) (Content line ∷ lines))))
 
 pub skipped-here : (items : List (Item ReadEpoch)) (fault : Fault)
     → IsBetweenUnits items → is_skippable fault ≡ true → is_skipped true items fault ≡ true
@@ -126,7 +152,7 @@ pub within-block : (units : ℕ) (items : List (Item ReadEpoch)) (number : ℕ) 
     → IsBlockRead items (reading_within compact_place true units items number lines)
 within-block zero items number lines few h text = absurd (omega (arith, few))
 within-block (suc units) items number lines few h text = by_place (compact_place items lines) (λ unit count e.
-    let epoch = epoch-here items lines unit count h text e in
+    let epoch = epoch-here items lines unit count h (block-quiet lines text) e in
     let read = epoch.0 in
     let within = here-within compact_place compact-forward items lines unit count e in
     let some = within.0 in
@@ -151,7 +177,8 @@ within-block (suc units) items number lines few h text = by_place (compact_place
         none.0,
         within-wrong compact_place true units items number lines offset fault e
             ∙ fault-skipped true (reading_within compact_place true units) items number lines offset fault
-            (skipped-here items fault h (fault-here items lines offset fault h text e)) ∙ none.1,
+            (skipped-here items fault h (fault-here items lines offset fault h (block-quiet lines text) e))
+            ∙ none.1,
       );
     }) (λ e. record {
       reads = [];

@@ -1,10 +1,10 @@
 -- Damaged compact text, cut into lines: those that the compaction wrote before the block and after it, and
 -- the lines in place of the block's.
 use Rattle.crx_filter.proofs.Words
-use Words.{common_steps, arith, ℕ, ◌≡◌, ◌⊎◌, inl, inr, true, not, cond, List, [], ◌∷◌, ◌++◌, map}
+use Words.{common_steps, arith, ℕ, ◌≡◌, ◌⊎◌, inl, inr, true, cond, List, [], ◌∷◌, ◌++◌, map}
 use Words.{refl, ap, sym, ◌∙◌, append_assoc, append-nil, AllByRecursion, list_all, eqb_tells}
-use Words.{map-append, flat_map-append, and_parts, Piece, InputLine, pieces_of, onto_first, lines_of, is_long}
-use Words.{Content, as_read, begins_epoch, lines_text, not-true}
+use Words.{map-append, flat_map-append, and_parts, Piece, InputLine, pieces_of, onto_first, lines_of}
+use Words.{Content, as_read, lines_text, not-true}
 use Rattle.crx_filter.proofs.{damage.BlockReading.IsInside, reading.Each.contents, wayback.Cut.IsClean}
 use Rattle.crx_filter.{proofs.wayback.Cut.as-read-clean, specs.meaning.Damage.may_replace}
 use Rattle.crx_lines.proofs.PieceLemmas.{EachEnded, pieces-first}
@@ -13,10 +13,7 @@ use Rattle.crx_lines.proofs.PieceLemmas.{EachEnded, pieces-first}
 
 pub each-ended : (ps : List Piece) → list_all (λ (piece : Piece). piece.is_ended) ps ≡ true → EachEnded ps
 each-ended [] e = tt
-each-ended (p ∷ ps) e = (
-  (and_parts _ _ e).0,
-  each-ended ps (and_parts p.is_ended (list_all (λ (piece : Piece). piece.is_ended) ps) e).1,
-)
+each-ended (p ∷ ps) e = grind (arith, and_parts, each-ended ps (and_parts p.is_ended _ e).1)
 
 pieces-append : (one two : List ℕ) → EachEnded (pieces_of one) → pieces_of (one ++ two)
     ≡ pieces_of one ++ pieces_of two
@@ -56,12 +53,13 @@ pub instead-inside : (lines : List InputLine) → list_all may_replace lines ≡
     lines))
 instead-inside [] e = (refl, tt)
 instead-inside (line ∷ lines) e =
-    let one = (and_parts (may_replace line) (list_all may_replace lines) e).0 in
-    let rest = instead-inside lines (and_parts (may_replace line) (list_all may_replace lines) e).1 in
-    let short = not-true (is_long line) (and_parts (not (is_long line)) (not (begins_epoch line.content))
-    one).0 in
-    let inside = not-true (begins_epoch line.content) (and_parts (not (is_long line))
-    (not (begins_epoch line.content)) one).1 in (cc, (inside, rest.1))
+    grind (
+      arith,
+      common_steps,
+      and_parts,
+      instead-inside lines (and_parts (may_replace line) _ e).1,
+      not-true,
+    )
 
 -- ---- texts of lines
 

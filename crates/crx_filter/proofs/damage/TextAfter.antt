@@ -1,12 +1,12 @@
 -- The compact text that a compaction writes after a block: it is read, whatever the line numbers are, as its
 -- units; and all starts anew at its first line.
 use Rattle.crx_filter.proofs.Words
-use Words.{common_steps, ℕ, zero, suc, ◌≡◌, ◌+◌, ◌-◌, ◌<◌, Bool, true, false, cond, List, [], ◌∷◌, ◌++◌, map}
-use Words.{length, Option, refl, ap, sym, ◌∙◌, arith, length-append, append-nil, append_assoc, ◌||◌}
+use Words.{common_steps, ℕ, zero, suc, ◌≡◌, ◌+◌, ◌-◌, ◌<◌, Bool, true, false, List, [], ◌∷◌, ◌++◌, map}
+use Words.{drop, length, Option, refl, ap, sym, ◌∙◌, arith, length-append, append-nil, append_assoc, ◌||◌}
 use Words.{map-append, length-map, and_parts, ReadLine, Content, Epoch, begins_epoch, is_event_line, Done}
 use Words.{HeaderLine, EventLine, EventRecord, Observation, compact_epoch, epoch_line, Choices, Item}
 use Words.{Accepted, Warned, header_has_ended, records_announced, records_left, AtLines, reading_from}
-use Words.{continued_reading, AreInPlace, written_lines, is_in_full, marked_epochs, compact_place}
+use Words.{AreInPlace, written_lines, is_in_full, marked_epochs, compact_place}
 use Words.{starts_anew, BeginsAnew}
 use Rattle.crx_filter.proofs.reading.{Each.header-append, ForwardCompact.compact-forward, Resuming.resumed}
 use Rattle.crx_filter.proofs.wayback.{Carried.{one-unit, at-line}, Items.{marked_now, body_unit, unit_back}}
@@ -44,11 +44,9 @@ module _ (every : Option ℕ) where
       let all = length-append first more in
       let here = unit-here every _ unit h ∙ ap (λ n. Done (unit_back every (later ++ before)
       unit) n) (sym same) in
-      ap (λ ls. reading_from compact_place skip (read_back every before) number ls) (map-append Content first
-      more) ∙ resumed compact_place compact-forward skip (read_back every before) number (map Content first)
-      (map Content more) ∙ ap (λ r. continued_reading compact_place skip r (map Content more))
-      (reads-on skip number later before h.1) ∙ one-unit compact_place compact-forward skip
-      _ (number + length first) (map Content more) _ here ∙ at-line _ _ _ (omega (arith, same, all))
+      rw (map-append Content first more, resumed compact_place compact-forward)
+      (rw (reads-on skip number later before h.1) (one-unit compact_place compact-forward skip _
+      (number + length first) (map Content more) _ here ∙ at-line _ _ _ (omega (arith, same, all))))
 
 -- ---- all starts anew
 
@@ -86,64 +84,46 @@ anew-record : (n : ℕ) (line : List ℕ) (more : List ReadLine)
 anew-record zero line more some = absurd (omega (arith, some))
 anew-record (suc n) line more some = ap (λ k. starts_anew k more) (omega arith)
 
--- what comes after the lines of some items has to start anew where no epoch is among them
+-- all starts anew at the lines of some items, if it does after them where no epoch is among them
 abbrev GoesAnew : Choices → List (Item Epoch) → List (Item Epoch) → Type 0
-GoesAnew choices block items =
-    (more : List ReadLine) → starts_anew 0 (map Content (lines_on choices.every items block) ++ more)
-    ≡ cond (has_observation items) true (starts_anew (records_left (items ++ block)) more)
+GoesAnew choices block items = (more : List ReadLine)
+    → (has_observation items ≡ false → starts_anew (records_left (items ++ block)) more ≡ true)
+    → starts_anew 0 (map Content (lines_on choices.every items block) ++ more) ≡ true
 
 goes-anew : (choices : Choices) (block items : List (Item Epoch)) → header_has_ended block ≡ true
     → records_left block
     ≡ 0 → AreInPlace (items ++ block) → BeginsAnew choices block items → GoesAnew choices block items
-goes-anew choices block [] header none h k more = cc
-goes-anew choices block (Accepted (HeaderLine line) ∷ items) header none h k more = let never = sym (h.0).0
+goes-anew choices block [] header none h k more f = rw none at (f refl)
+goes-anew choices block (Accepted (HeaderLine line) ∷ items) header none h k more f = let never = sym (h.0).0
     ∙ header-append items block header in absurd (cc)
-goes-anew choices block (Accepted (EventLine line) ∷ items) header none h k more = ap (starts_anew 0)
-    (one-more (lines_on choices.every items block) line more) ∙ goes-anew choices block items header none h.1
+goes-anew choices block (Accepted (EventLine line) ∷ items) header none h k more f =
+    rw (one-more (lines_on choices.every items block) line more) (goes-anew choices block items header none
+    h.1
     (begins-rest choices block (Accepted (EventLine line)) items k) (Content line ∷ more)
-    ∙ ap (λ n. cond (has_observation items) true (starts_anew n (Content line ∷ more))) (h.0).1
-    ∙ ap (λ b. cond (has_observation items) true b) (anew-event line more (h.0).2)
-goes-anew choices block (Accepted (EventRecord line) ∷ items) header none h k more = ap (starts_anew 0)
-    (one-more (lines_on choices.every items block) line more) ∙ goes-anew choices block items header none h.1
-    (begins-rest choices block (Accepted (EventRecord line)) items k) (Content line ∷ more) ∙ ap
-    (λ b. cond (has_observation items) true b) (anew-record (records_left (items ++ block)) line more (h.0).1)
-goes-anew choices block (Accepted (Observation epoch) ∷ items) header none h k more =
+    (λ no. rw (h.0).1 (anew-event line more (h.0).2 ∙ f no)))
+goes-anew choices block (Accepted (EventRecord line) ∷ items) header none h k more f =
+    rw (one-more (lines_on choices.every items block) line more) (goes-anew choices block items header none
+    h.1
+    (begins-rest choices block (Accepted (EventRecord line)) items k) (Content line ∷ more)
+    (λ no. anew-record (records_left (items ++ block)) line more (h.0).1 ∙ f no))
+goes-anew choices block (Accepted (Observation epoch) ∷ items) header none h k more f =
     let before = items ++ block in
-    let m = marked_now choices.every before epoch in
     let older = marked_epochs choices.every before in
-    let lines = compact_epoch (m ∷ older) in
+    let lines = compact_epoch (marked_now choices.every before epoch ∷ older) in
     let stands = epoch-stands choices.every before epoch h in
     let first = lines_on choices.every items block in
-    ap (λ ls. starts_anew 0 (ls ++ more)) (map-append Content first lines) ∙ ap (starts_anew 0)
-    (append_assoc (map Content first) (map Content lines) more) ∙ goes-anew choices block items header
+    rw (map-append Content first lines, append_assoc (map Content first)) (goes-anew choices block items
+    header
     none h.1 (begins-rest choices block (Accepted (Observation epoch)) items k) (map Content lines ++ more)
-    ∙ by_observation _ refl _ (λ no_epoch. ap (λ n. starts_anew n (map Content lines ++ more)) (h.0).1
-    ∙ anew-epoch (epoch_line m older) (map Content (tail_of lines) ++ more) (stands.first ∙
-    ap (λ b. b || has_no_epochs older) (first-full choices block epoch items k no_epoch)) (stands.no_event).0)
-  where
-    tail_of : List (List ℕ) → List (List ℕ)
-    tail_of [] = []
-    tail_of (line ∷ lines) = lines
-
-    by_observation : (b : Bool) → has_observation items ≡ b
-        → (c : Bool) → (has_observation items ≡ false → c ≡ true) → cond b true c ≡ true
-    by_observation true e c h = refl
-    by_observation false e c h = h e
-goes-anew choices block (Warned at ∷ items) header none h k more = goes-anew choices block items header none
-    h.1 (begins-rest choices block (Warned at) items k) more ∙ ap (λ n. cond (has_observation items) true
-    (starts_anew n more)) (h.0).1
-
-no-more : (n : ℕ) → starts_anew n [] ≡ true
-no-more n = grind (arith, common_steps)
+    (λ no. rw (h.0).1 (anew-epoch (epoch_line (marked_now choices.every before epoch) older)
+    (map Content (drop 1 lines) ++ more) (stands.first ∙ ap (λ b. b || has_no_epochs older)
+    (first-full choices block epoch items k no)) (stands.no_event).0)))
+goes-anew choices block (Warned at ∷ items) header none h k more f = goes-anew choices block items header none
+    h.1 (begins-rest choices block (Warned at) items k) more (λ no. rw (h.0).1 (f no))
 
 -- all starts anew at the lines after a block
 pub text-anew : (choices : Choices) (block items : List (Item Epoch)) → header_has_ended block ≡ true
     → records_left block ≡ 0 → AreInPlace (items ++ block) → BeginsAnew choices block items
     → starts_anew 0 (map Content (lines_on choices.every items block)) ≡ true
-text-anew choices block items header none h k = ap (starts_anew 0) (sym (append-nil
-    (map Content (lines_on choices.every items block)))) ∙ goes-anew choices block items header none h k []
-    ∙ ap (λ b. cond (has_observation items) true b) (no-more (records_left (items ++ block))) ∙ either _
-  where
-    either : (b : Bool) → cond b true true ≡ true
-    either true = refl
-    either false = refl
+text-anew choices block items header none h k = rw (← append-nil (map Content (lines_on choices.every items
+    block))) (goes-anew choices block items header none h k [] (λ no. grind (arith, common_steps)))

@@ -1,6 +1,6 @@
 -- A check line by line reads as the whole reading does, and keeps its totals.
 use Rattle.crx_filter.proofs.Words
-use Words.{common_steps, ℕ, ◌+◌, false, List, [], length, refl, arith, ReadLine, Epoch, FileUnit}
+use Words.{common_steps, ℕ, ◌+◌, false, List, [], length, arith, ReadLine, Epoch, FileUnit}
 use Words.{printed_unit, epoch_place, Item, types_in_force, warnings_in, IsEndedBy, rinex_place, whole_rinex}
 use Words.{rinex_reading, rinex_open, state_of, state_end, printed_items, checking, totals_of, no_choices}
 use Rattle.crx_filter.proofs.following.{Following.IsCarriedOut, Rinex.{AreSame, either-same, agree-begins}}
@@ -16,23 +16,8 @@ check-same = grind (arith, common_steps, either-same)
 
 pub check-carried_out : IsCarriedOut (λ (before : List (Item Epoch)). epoch_place (types_in_force before))
     checking rinex_open totals_of printed_after no_choices
-check-carried_out = record {
-  forward = rinex-forward;
-  wants = λ items. refl;
-  none_open = λ items. refl;
-  wanted_open = λ items. no-lines (types_in_force items);
-  begins = agree-begins check-same;
-  continues = agree-continues check-same;
-  header_kept = λ items number types line. refl;
-  header_lines = λ items number types line. refl;
-  event_kept = λ items number phase types line. refl;
-  event_lines = λ items number phase types kept line. refl;
-  record_kept = λ items number left types line. refl;
-  record_lines = λ items number phase types kept line. refl;
-  warned = λ items at. refl;
-  emptied_open = λ kept. refl;
-  open_open = λ kept. refl;
-}
+check-carried_out =
+    search (rinex-forward, no-lines, agree-begins check-same, agree-continues check-same)
 
 -- the end of the input
 pub check-end : (lines : List ReadLine) → IsEndedBy (printed_items (rinex_reading false lines).items)

@@ -5,8 +5,8 @@ use proofs.Words.{common_steps, ℕ, ◌≡◌, ◌⊎◌, inl, inr, true, false
 use proofs.Words.{◌∙◌, arith, subst, length, map-append, InputLine, ReadLine, as_read, Option, FileUnit}
 use proofs.Words.{Observation, Place, Choices, Item, Count, types_in_force, RunState, Phase, Made, Completes}
 use proofs.Words.{Moves, Rejects, Direction, Notice, LineStep, made_in, kept_in, state_next, step_of_made}
-use proofs.Words.{is_skipped_in, is_again, fed, Fed, by_bool, with_next, Answer, Content, Overlong}
-use proofs.Words.{LineTooLong, not-true, false-true, At, state_of, phase_of, Reading, Some}
+use proofs.Words.{is_again, fed, with_next, Content, Overlong}
+use proofs.Words.{LineTooLong, not-true, false-true, At, state_of, Reading, Some}
 use proofs.{Pending.again-lines, following.Following.{AgreeOn, IsCarriedOut, IsSameEpoch, fed-once}}
 use proofs.following.Following.{fed-twice, failed-skipped, failed-ends}
 use Rattle.crx_filter.specs.DirectionParts.{DirectionParts, ComesAfter, brings_nothing, state_by}
@@ -88,19 +88,13 @@ module _ {U O K V : Type 0} (direction : Direction U O K) (epoch_of : U → V) w
       ≡ step_with (step_of_made direction s line made) (add_made epoch_of epochs made)
   step-alike s epochs line (Completes unit) = refl
   step-alike s epochs line (Moves phase) = grind (arith, common_steps, same-kept)
-  step-alike s epochs line (Rejects fault) = by_bool (is_skipped_in s fault)
-      (λ on. failed-skipped collecting (with_epochs s epochs) line fault on
-      ∙ sym (ap (λ (t : LineStep O K). step_with t epochs) (failed-skipped direction s line fault on)))
-      (λ off. failed-ends collecting (with_epochs s epochs) line fault off
-      ∙ sym (ap (λ (t : LineStep O K). step_with t epochs) (failed-ends direction s line fault off)))
+  step-alike s epochs line (Rejects fault) = grind (arith, common_steps, failed-skipped, failed-ends)
   step-alike s epochs line (Repeats at) = refl
 
   pub next-alike : (s : RunState O K) (epochs : List V) (line : ReadLine)
       → state_next collecting (with_epochs s epochs) line ≡ step_with (state_next direction s line)
       (add_made epoch_of epochs (made_in direction s.phase s.types s.kept line))
-  next-alike s epochs line = ap (step_of_made collecting (with_epochs s epochs) line)
-      (same-made s.phase s.types s.kept epochs line)
-      ∙ step-alike s epochs line (made_in direction s.phase s.types s.kept line)
+  next-alike s epochs line = grind (arith, common_steps, same-made, step-alike)
 
   -- ---- one line more
 
@@ -115,28 +109,13 @@ module _ {U O K V : Type 0} (direction : Direction U O K) (epoch_of : U → V) w
     -- a line that doesn't come again
     epochs-once : is_again (state_next direction s line).answer ≡ false
         → epochs_fed ≡ add_made epoch_of epochs (made_in direction s.phase s.types s.kept line)
-    epochs-once once =
-        let alike = next-alike s epochs line in
-        ap (λ (f : Fed O (Collected K V)). f.next.kept.epochs) (fed-once collecting (with_epochs s epochs) line
-        (ap (λ (t : LineStep O (Collected K V)). is_again t.answer) alike ∙ once))
-        ∙ ap (λ (t : LineStep O (Collected K V)). t.next.kept.epochs) alike
+    epochs-once once = grind (arith, common_steps, next-alike, fed-once)
 
     -- a line that comes again, by its second step
     epochs-twice : (next : RunState O K) (notice : At)
         → record { answer = Notice notice true; handed_out = []; next = next } ≡ state_next direction s line
         → epochs_fed ≡ add_made epoch_of epochs (made_in direction next.phase next.types next.kept line)
-    epochs-twice next notice e =
-        let alike = next-alike s epochs line in
-        let again : is_again (state_next direction s line).answer ≡ true =
-        ap (λ (t : LineStep O K). is_again t.answer) (sym e) in
-        let then : (state_next collecting (with_epochs s epochs) line).next ≡ with_epochs next epochs =
-        ap (λ (t : LineStep O (Collected K V)). t.next) alike ∙ ap (with_epochs (state_next direction s line).next)
-        (again-adds s epochs line (made_in direction s.phase s.types s.kept line) again)
-        ∙ ap (λ (t : LineStep O K). with_epochs t.next epochs) (sym e) in
-        ap (λ (f : Fed O (Collected K V)). f.next.kept.epochs) (fed-twice collecting (with_epochs s epochs) line
-        (ap (λ (t : LineStep O (Collected K V)). is_again t.answer) alike ∙ again))
-        ∙ ap (λ (t : RunState O (Collected K V)). (state_next collecting t line).next.kept.epochs) then
-        ∙ ap (λ (t : LineStep O (Collected K V)). t.next.kept.epochs) (next-alike next epochs line)
+    epochs-twice next notice e = grind (arith, common_steps, next-alike, again-adds, fed-twice, sym e)
 
   -- a line that brings nothing adds none
   module _ (long_first : (types : List Count) (kept : K)
@@ -163,10 +142,6 @@ module _ {U O K V : Type 0} (direction : Direction U O K) (epoch_of : U → V) w
     past-adds s Overlong passed = long-adds s.phase s.types s.kept
     past-adds s (Content content) passed =
         passed-adds s content (made_in direction s.phase s.types s.kept (Content content)) passed
-
-  passed-once : (answer : Answer) (line : ReadLine) → brings_nothing answer line ≡ true
-      → is_again answer ≡ false
-  passed-once answer line passed = grind (arith, common_steps, not-true, false-true)
 
   -- the epochs of some lines, where one line more adds to them what it is fed as
   abbrev pub Collects : (List ReadLine → RunState O K) → (List ReadLine → List V) → Type 0
@@ -210,7 +185,7 @@ module _ {U O K V : Type 0} (direction : Direction U O K) (epoch_of : U → V) w
         → brings_nothing (state_next direction seen (as_read line)).answer (as_read line) ≡ true
         → epochs_after (map as_read (with_next lines line)) ≡ epochs_after (map as_read lines)
     given-past long_first long_next passed =
-        given-epochs (passed-once (state_next direction seen (as_read line)).answer (as_read line) passed)
+        given-epochs (grind (arith, common_steps, not-true, false-true))
         ∙ past-adds long_first long_next (epochs_after (map as_read lines)) seen (as_read line) passed
 
 -- ---- it is carried out as the direction is
@@ -253,9 +228,6 @@ module _ {E U O K V : Type 0} {beginning : List (Item E) → List ReadLine → P
   abbrev AgreesOn : List (Item E) → List ReadLine → Made U O → Type 0
   AgreesOn = AgreeOn beginning (collecting direction epoch_of) open_with collected_of unit_lines choices
 
-  abbrev with_own : K → List (Item E) → Collected K V
-  with_own kept items = record { own = kept; epochs = epochs_of items }
-
   pub collecting-carried_out : ((items : List (Item E)) (line : ReadLine)
       → AgreesOn items (line ∷ []) (direction.begins (types_in_force items) (kept_of items) line))
       → ((items : List (Item E)) (lines : List ReadLine) (line : ReadLine) (so_far : O)
@@ -269,28 +241,19 @@ module _ {E U O K V : Type 0} {beginning : List (Item E) → List ReadLine → P
     wanted_open = h.wanted_open;
     begins = begins;
     continues = continues;
-    header_kept = λ items number types line.
-        ap (λ (k : K). with_own k items) (h.header_kept items number types line);
+    header_kept = λ items number types line. cc (h.header_kept items number types line);
     header_lines = h.header_lines;
-    event_kept = λ items number phase types line.
-        ap (λ (k : K). with_own k items) (h.event_kept items number phase types line);
+    event_kept = λ items number phase types line. cc (h.event_kept items number phase types line);
     event_lines = λ items number phase types kept line. h.event_lines items number phase types kept.own line;
-    record_kept = λ items number left types line.
-        ap (λ (k : K). with_own k items) (h.record_kept items number left types line);
+    record_kept = λ items number left types line. cc (h.record_kept items number left types line);
     record_lines = λ items number phase types kept line. h.record_lines items number phase types kept.own line;
-    warned = λ items at. ap (λ (k : K). with_own k items) (h.warned items at);
-    emptied_open = λ kept. ap (λ (k : K). record { own = k; epochs = kept.epochs }) (h.emptied_open kept.own);
-    open_open = λ kept. ap (λ (k : K). record { own = k; epochs = kept.epochs }) (h.open_open kept.own);
+    warned = λ items at. cc (h.warned items at);
+    emptied_open = λ kept. cc (h.emptied_open kept.own);
+    open_open = λ kept. cc (h.open_open kept.own);
   }
 
   -- what is seen after a reading
   pub state-with : (count : ℕ) (r : Reading E)
       → state_of (collecting direction epoch_of) open_with collected_of choices count r
       ≡ with_epochs (state_of direction open_with kept_of choices count r) (epochs_of r.items)
-  state-with count r = ap (λ (k : Collected K V). record {
-    choices = choices;
-    number = count;
-    phase = phase_of open_with r;
-    types = types_in_force r.items;
-    kept = k;
-  }) (same-kept direction epoch_of (phase_of open_with r) (kept_of r.items) (epochs_of r.items))
+  state-with count r = grind (arith, common_steps, same-kept)

@@ -1,10 +1,10 @@
 -- Compaction line by line reads, keeps and writes as the compaction of all lines does.
-use Rattle.crx_filter.proofs.Words.{common_steps, arith, ◌≡◌, ◌+◌, List, Some, refl, ap, sym, ◌∙◌, Epoch}
-use Rattle.crx_filter.proofs.Words.{Observation, epoch_place, Marked, Tail, lines_after_tail, Choices, Item}
+use Rattle.crx_filter.proofs.Words.{common_steps, arith, ◌≡◌, ◌+◌, List, Some, ap, sym, ◌∙◌, Epoch}
+use Rattle.crx_filter.proofs.Words.{epoch_place, Marked, Tail, lines_after_tail, Choices, Item}
 use Rattle.crx_filter.proofs.Words.{types_in_force, epochs_accepted, is_at_every, is_in_full, marked_epochs}
-use Rattle.crx_filter.proofs.Words.{compact_unit, Written, compaction, written_of, rinex_open}
+use Rattle.crx_filter.proofs.Words.{compact_unit, compaction, written_of, rinex_open}
 use Rattle.crx_compact.{proofs.wayback.Tailing.epoch-by_tail, specs.Laws.tail_before}
-use Rattle.{crx_compact.specs.Steps.tail_written_after, crx_filter.proofs.following.Following.state_in}
+use Rattle.{crx_compact.specs.Steps.tail_written_after}
 use Rattle.crx_filter.proofs.following.{Following.IsCarriedOut, Rinex.{AreSame, either-same, agree-begins}}
 use Rattle.crx_filter.proofs.{following.Rinex.{agree-continues, no-lines}, reading.Forward.rinex-forward}
 use Rattle.{crx_filter.proofs.reading.Types.counts-in_force, crx_rinex.proofs.SoundEpochs.sound-epoch_place}
@@ -29,32 +29,16 @@ same-epochs choices = record {
       (sound-epoch_place (types_in_force items) lines epoch count (counts-in_force items) here).0.sound.apart
       in
       record {
-        kept = λ number phase types kept either. ap (λ (k : Written). compaction.kept_after
-            (state_in choices number phase types k) (Observation epoch)) (either-same either)
-            ∙ ap (λ (t : Tail). record { index = epochs_accepted items + 1; tail = Some t })
-            (cc (same-tail choices items epoch, by_tail.tail));
-        lines = λ number phase types kept either. ap (λ (k : Written). compaction.written
-            (state_in choices number phase types k) (Observation epoch)) (either-same either)
-            ∙ ap (λ t. lines_after_tail t epoch) (sym (same-tail choices items epoch)) ∙ sym by_tail.lines;
+        kept = λ number phase types kept either. rw (either-same either) (ap (λ (t : Tail). record
+            { index = epochs_accepted items + 1; tail = Some t }) (cc (
+              same-tail choices items epoch,
+              by_tail.tail,
+            )));
+        lines = λ number phase types kept either. rw (either-same either) (ap (λ t. lines_after_tail t epoch)
+            (sym (same-tail choices items epoch)) ∙ sym by_tail.lines);
       };
 }
 
 pub compaction-carried_out : (choices : Choices) → IsCarriedOut (λ (before : List (Item Epoch)). epoch_place
     (types_in_force before)) compaction rinex_open (written_of choices.every) (compact_unit choices) choices
-compaction-carried_out choices = record {
-  forward = rinex-forward;
-  wants = λ items. refl;
-  none_open = λ items. refl;
-  wanted_open = λ items. no-lines (types_in_force items);
-  begins = agree-begins (same-epochs choices);
-  continues = agree-continues (same-epochs choices);
-  header_kept = λ items number types line. refl;
-  header_lines = λ items number types line. refl;
-  event_kept = λ items number phase types line. refl;
-  event_lines = λ items number phase types kept line. refl;
-  record_kept = λ items number left types line. refl;
-  record_lines = λ items number phase types kept line. refl;
-  warned = λ items at. refl;
-  emptied_open = λ kept. refl;
-  open_open = λ kept. refl;
-}
+compaction-carried_out choices = search (rinex-forward, no-lines, agree-begins, same-epochs, agree-continues)

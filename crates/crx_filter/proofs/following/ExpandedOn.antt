@@ -2,16 +2,16 @@
 use Rattle.crx_filter.proofs.Words
 use Words.{common_steps, ℕ, ◌≡◌, ◌+◌, Bool, List, [], ◌∷◌, ◌++◌, length, drop, Option, Some, Result, Ok, Err}
 use Words.{refl, sym, subst, arith, length-append, drop-append-le, length-drop, ReadLine, Content, Overlong}
-use Words.{Fault, LineTooLong, Place, Done, Fails, NeedsMore, ReadEpoch, OpenRawEpoch, Tail, Choices, Reading}
+use Words.{Fault, Place, Done, Fails, NeedsMore, ReadEpoch, OpenRawEpoch, Tail, Choices, Reading}
 use Words.{AtFault, AtLines, reading_from, IsFollowed, Fed, fed, fed_once, fault_of_stop, warnings_in, Phase}
 use Words.{InFirstLines, Ended, RunState, Rejects, made_in, step_of_made, state_next, state_of, compact_place}
-use Words.{crinex_version, crinex_program, first_lines, expanded_lines, expansion, compact_open}
+use Words.{rules, crinex_version, crinex_program, first_lines, expanded_lines, expansion, compact_open}
 use Words.{tail_of_items, Direction, Item, expanded_unit, compact_reading, expansion_state, map, ap, ◌∙◌, inl}
 use Words.{length-map, BetweenUnits, Count, Past, RawEpoch, Satellite, block_of, epoch_at, raws_kept}
 use Words.{types_in_force}
 use Rattle.crx_compact.proofs.soundness.Soundness.{Paired, RowFacts, epoch-facts}
 use Rattle.crx_compact.specs.{OpenEpochs.HeldEpoch, Placing.satellite_of as satellite_of_tail}
-use Rattle.crx_compact.specs.{Tails.{raw_row_tail, tail_left, tail_of_block}, meaning.Cells.ReadCell}
+use Rattle.crx_compact.specs.{Tails.{raw_row_tail, tail_left, tail_of_block}}
 use Rattle.crx_compact.specs.meaning.{CompactPlaces.ReadRow, Expansion.{RawRow, raw_run_of}}
 use Rattle.crx_filter.proofs.following.Collecting.{Collected, Collects, both-same, collected_of, with_epochs}
 use Rattle.crx_filter.proofs.following.Collecting.{collecting, collecting-carried_out, state-with}
@@ -48,30 +48,13 @@ state_after {K = K} direction kept_of choices lines p =
 abbrev pub state_by : Choices → List ReadLine → Place (List (List ℕ)) → RunState OpenRawEpoch (Option Tail)
 state_by = state_after expansion tail_of_items
 
--- where one of the two lines is wanted, there is none, or a good first line alone
-data IsBeforeHeader (lines : List ReadLine) : Type 0 where
-  NoLine : lines ≡ [] → IsBeforeHeader lines
-  OneLine : (first version : List ℕ)
-      → lines ≡ Content first ∷ [] → crinex_version first ≡ Ok version → IsBeforeHeader lines
-
+-- two lines are enough
 two-lines : (first : List ℕ) (line : ReadLine) (lines : List ReadLine) (r : Result (List ℕ) Fault)
     → crinex_version first ≡ r → first_lines (Content first ∷ line ∷ lines) ≡ NeedsMore → ⊥
 two-lines first line lines (Err fault) e wanted = grind (arith, common_steps, first_lines)
 two-lines first Overlong lines (Ok version) e wanted = grind (arith, common_steps, first_lines)
 two-lines first (Content second) lines (Ok version) e wanted =
     grind (arith, common_steps, crinex_program, first_lines)
-
-before-header : (lines : List ReadLine) → first_lines lines ≡ NeedsMore → IsBeforeHeader lines
-before-header [] wanted = NoLine refl
-before-header (Overlong ∷ lines) wanted = absurd (cc)
-before-header (Content first ∷ []) wanted = by_result (crinex_version first) refl
-  where
-    by_result : (r : Result (List ℕ) Fault) → crinex_version first ≡ r → IsBeforeHeader (Content first ∷ [])
-    by_result (Ok version) e = OneLine first version refl e
-    by_result (Err fault) e = let at : first_lines (Content first ∷ []) ≡ Fails 0 fault = rw e refl in
-        absurd (cc)
-before-header (Content first ∷ line ∷ lines) wanted =
-    absurd (two-lines first line lines (crinex_version first) refl wanted)
 
 module _ {K : Type 0} {direction : Direction HeldEpoch OpenRawEpoch K} {kept_of : List (Item ReadEpoch) → K}
     {choices : Choices}
@@ -115,36 +98,24 @@ module _ {K : Type 0} {direction : Direction HeldEpoch OpenRawEpoch K} {kept_of 
 
   -- the first line
   first-line : (line : ReadLine) → FollowsBy [] line (first_lines []) (first_lines (line ∷ []))
-  first-line line = by-once [] line (by_line line)
+  first-line Overlong = grind (arith, common_steps, by-once, ends)
+  first-line (Content content) = by-once [] (Content content) (by_result (crinex_version content) refl)
     where
-      by_result : (content : List ℕ) (r : Result (List ℕ) Fault)
-          → crinex_version content ≡ r → FollowsOnce [] (Content content)
-      by_result content (Ok version) e =
-          rw e (record { next = refl; handed_out = refl; warned = refl; failed = refl })
-      by_result content (Err fault) e = rw (e, ends 0 (Content content) fault)
-          (record { next = refl; handed_out = refl; warned = refl; failed = refl })
-
-      by_line : (l : ReadLine) → FollowsOnce [] l
-      by_line Overlong = rw (ends 0 Overlong LineTooLong)
-          (record { next = refl; handed_out = refl; warned = refl; failed = refl })
-      by_line (Content content) = by_result content (crinex_version content) refl
+      by_result : (r : Result (List ℕ) Fault) → crinex_version content ≡ r → FollowsOnce [] (Content content)
+      by_result (Ok version) e = rw e (search rules)
+      by_result (Err fault) e = rw (e, ends 0 (Content content) fault) (search rules)
 
   -- the second line, the first being good
   second-line : (first : List ℕ) (line : ReadLine) (version : List ℕ) → crinex_version first ≡ Ok version
       → FollowsBy (Content first ∷ []) line NeedsMore (first_lines (Content first ∷ line ∷ []))
-  second-line first line version good = by-once (Content first ∷ []) line (by_line line)
+  second-line first Overlong version good = grind (arith, common_steps, by-once, ends)
+  second-line first (Content content) version good =
+      by-once (Content first ∷ []) (Content content) (by_result (crinex_program content) refl)
     where
-      by_result : (content : List ℕ) (r : Result (List ℕ) Fault)
-          → crinex_program content ≡ r → FollowsOnce (Content first ∷ []) (Content content)
-      by_result content (Ok program) e =
-          rw good (rw e (record { next = refl; handed_out = refl; warned = refl; failed = refl }))
-      by_result content (Err fault) e = rw good (rw (e, ends 1 (Content content) fault)
-          (record { next = refl; handed_out = refl; warned = refl; failed = refl }))
-
-      by_line : (l : ReadLine) → FollowsOnce (Content first ∷ []) l
-      by_line Overlong = rw good (rw (ends 1 Overlong LineTooLong)
-          (record { next = refl; handed_out = refl; warned = refl; failed = refl }))
-      by_line (Content content) = by_result content (crinex_program content) refl
+      by_result : (r : Result (List ℕ) Fault) → crinex_program content ≡ r
+          → FollowsOnce (Content first ∷ []) (Content content)
+      by_result (Ok program) e = rw good (rw e (search rules))
+      by_result (Err fault) e = rw good (rw (e, ends 1 (Content content) fault) (search rules))
 
   -- a direction that reads compact text is given one line more
   pub compact-on : (lines : List ReadLine) (line : ReadLine) (p : Place (List (List ℕ)))
@@ -156,25 +127,19 @@ module _ {K : Type 0} {direction : Direction HeldEpoch OpenRawEpoch K} {kept_of 
       (omega (arith, length-drop count lines, r.0)) (length-append lines (line ∷ []))
       (drop-append-le count lines (line ∷ []) r.0))
   compact-on lines line (Fails offset fault) e =
-      rw (e, (remains lines (line ∷ []) (Fails offset fault) e).1) (record {
-        next = cc (length-append lines (line ∷ []));
-        handed_out = refl;
-        warned = refl;
-        failed = refl;
-      })
-  compact-on lines line NeedsMore e = by_lines (before-header lines e)
+      grind (arith, common_steps, remains lines (line ∷ []) (Fails offset fault) e, length-append)
+  compact-on [] line NeedsMore e = first-line line
+  compact-on (Overlong ∷ lines) line NeedsMore e = absurd (cc)
+  compact-on (Content first ∷ []) line NeedsMore e = subst (λ p. FollowsBy (Content first ∷ []) line p
+      (first_lines (Content first ∷ line ∷ []))) (sym e) (by_result (crinex_version first) refl)
     where
-      by_lines : IsBeforeHeader lines
-          → FollowsBy lines line (first_lines lines) (first_lines (lines ++ line ∷ []))
-      by_lines (NoLine none) = subst (λ ls. FollowsBy ls line (first_lines ls) (first_lines
-          (ls ++ line ∷ []))) (sym none) (first-line line)
-      by_lines (OneLine first version one good) = subst (λ ls. FollowsBy ls line (first_lines ls)
-          (first_lines (ls ++ line ∷ []))) (sym one) (subst (λ p. FollowsBy (Content first ∷ []) line p
-          (first_lines (Content first ∷ line ∷ []))) (sym (wanted good)) (second-line first line version
-          good))
-        where
-          wanted : crinex_version first ≡ Ok version → first_lines (Content first ∷ []) ≡ NeedsMore
-          wanted e = rw e refl
+      by_result : (r : Result (List ℕ) Fault) → crinex_version first ≡ r
+          → FollowsBy (Content first ∷ []) line NeedsMore (first_lines (Content first ∷ line ∷ []))
+      by_result (Ok version) good = second-line first line version good
+      by_result (Err fault) bad = let at : first_lines (Content first ∷ []) ≡ Fails 0 fault = rw bad refl in
+          absurd (cc)
+  compact-on (Content first ∷ next ∷ lines) line NeedsMore e =
+      absurd (two-lines first next lines (crinex_version first) refl e)
 
 pub expanded-on : (choices : Choices) (lines : List ReadLine) (line : ReadLine)
     → IsExpandedOn choices lines line
@@ -204,11 +169,7 @@ rows-left block (row ∷ rows) = grind (arith, common_steps, rows-left block row
 
 row-read : (past : Past) (satellite : Satellite) (read : ReadRow) → RowFacts past satellite read
     → satellite_of_raw read.raw ≡ satellite_of_row read.row
-row-read past satellite read facts =
-    let values = length-map facts.cells (λ (c : ReadCell). c.value) in
-    let codes = length-map facts.cells (λ (c : ReadCell). c.code) in
-    subst (λ (r : ReadRow). satellite_of_raw r.raw ≡ satellite_of_row r.row) facts.is_read
-    (ap (λ (n : ℕ). record { name = satellite.name; count = n }) (codes ∙ sym values))
+row-read past satellite read facts = grind (arith, common_steps, length-map, facts.cells)
 
 rows-read : (past : Past) (satellites : List Satellite) (rows : List ReadRow)
     → Paired (RowFacts past) satellites rows → map satellite_of_raw (map (λ (r : ReadRow). r.raw) rows)

@@ -68,10 +68,6 @@ at-observation : (items : List (Item ReadEpoch)) (line : ReadLine) (lines : List
     ≡ as_observation (epoch_at (types_in_force items) (raws_kept items) (line ∷ lines))
 at-observation items line lines e = grind (arith, common_steps)
 
-same-beginning : (line : ReadLine) (lines more : List ReadLine)
-    → begins_event (line ∷ lines) ≡ false → begins_event (line ∷ more) ≡ false
-same-beginning line lines more e = grind (arith, common_steps)
-
 module _ {K : Type 0} {direction : Direction HeldEpoch OpenRawEpoch K} {kept_of : List (Item ReadEpoch) → K}
     {unit_lines : List (Item ReadEpoch) → FileUnit ReadEpoch → List (List ℕ)} {choices : Choices}
     (s : AreSame direction kept_of unit_lines choices) where
@@ -129,7 +125,7 @@ module _ {K : Type 0} {direction : Direction HeldEpoch OpenRawEpoch K} {kept_of 
   agree-continues items [] line so_far opens = absurd (none-some so_far opens)
   agree-continues items (first ∷ rest) line so_far opens =
       let none = no-event items (first ∷ rest) so_far (begins_event (first ∷ rest)) refl opens in
-      let more = same-beginning first rest (rest ++ line ∷ []) none in
+      let more : begins_event (first ∷ (rest ++ line ∷ [])) ≡ false = grind (arith, common_steps, none) in
       let step = steps-from_open (types_in_force items) (tail_of_items items) (first ∷ rest) line so_far
       (sym (by-steps items (first ∷ rest) none) ∙ opens) in
       agree-step items (first ∷ (rest ++ line ∷ [])) (length (first ∷ rest)) (next_step so_far line)
@@ -141,16 +137,11 @@ module _ {K : Type 0} {direction : Direction HeldEpoch OpenRawEpoch K} {kept_of 
 pub observation-wanted : (p : Place ReadEpoch) → as_observation p ≡ NeedsMore → p ≡ NeedsMore
 observation-wanted p e = grind (arith, common_steps)
 
-event-not_wanted : (items : List (Item ReadEpoch)) (line : ReadLine) (lines : List ReadLine)
-    → begins_event (line ∷ lines) ≡ true → compact_beginning items (line ∷ lines) ≡ NeedsMore → ⊥
-event-not_wanted items line lines e wanted =
-    grind (arith, common_steps, one_line-decided, compact_beginning)
-
 no-lines : (items : List (Item ReadEpoch)) (lines : List ReadLine)
     → compact_beginning items lines ≡ NeedsMore → compact_open items lines ≡ None → lines ≡ []
 no-lines items [] wanted none = refl
 no-lines items (line ∷ lines) wanted none = by_bool (begins_event (line ∷ lines))
-    (λ on. absurd (event-not_wanted items line lines on wanted)) (λ off.
+    (λ on. absurd (grind (arith, common_steps, one_line-decided, compact_beginning))) (λ off.
     let after = sym (place-by_tail (types_in_force items) (raws_kept items) (line ∷ lines))
     ∙ observation-wanted _ (sym (at-observation items line lines off) ∙ wanted) in
     absurd (true≢false (sym (ap is_wanted after) ∙ wanted-where_open (types_in_force items)
@@ -172,20 +163,5 @@ kept-record b raws = grind (arith, common_steps)
 
 pub expansion-carried_out : (choices : Choices)
     → IsCarriedOut compact_beginning expansion compact_open tail_of_items expanded_unit choices
-expansion-carried_out choices = record {
-  forward = compact-forward;
-  wants = λ items. refl;
-  none_open = λ items. refl;
-  wanted_open = no-lines;
-  begins = agree-begins (same-epochs choices);
-  continues = agree-continues (same-epochs choices);
-  header_kept = λ items number types line. refl;
-  header_lines = λ items number types line. refl;
-  event_kept = λ items number phase types line. refl;
-  event_lines = λ items number phase types kept line. refl;
-  record_kept = λ items number left types line. kept-record _ _;
-  record_lines = λ items number phase types kept line. refl;
-  warned = λ items at. refl;
-  emptied_open = λ kept. refl;
-  open_open = λ kept. refl;
-}
+expansion-carried_out choices =
+    search (compact-forward, no-lines, agree-begins, same-epochs, agree-continues, kept-record)

@@ -4,8 +4,8 @@ use proofs.Words.{common_steps, ℕ, suc, ◌≡◌, ◌⊎◌, ◌+◌, max, �
 use proofs.Words.{◌++◌, length, drop, Option, Some, None, refl, ap, sym, ◌∙◌, arith, length-append}
 use proofs.Words.{append-nil, ◌&&◌, drop-append_seam, ReadLine, Fault, At, Count, Place, Done, Fails}
 use proofs.Words.{NeedsMore, FileUnit, HeaderLine, EventLine, EventRecord, Observation, Choices, Item}
-use proofs.Words.{Accepted, Warned, is_at_start, header_has_ended, records_announced, records_left}
-use proofs.Words.{counts_types, records_count_types, types_in_force, unit_place, Reading, AtFault, AtLines}
+use proofs.Words.{Accepted, Warned, is_at_start, header_has_ended, records_left}
+use proofs.Words.{records_count_types, types_in_force, unit_place, Reading, AtFault, AtLines}
 use proofs.Words.{Looking, is_skipped, can_go_on, looked_for, reading_within, written_lines, warnings_in}
 use proofs.Words.{Phase, InHeader, InEvent, InEpoch, Ended, RunState, Made, Completes, Moves, Rejects}
 use proofs.Words.{Direction, Notice, Failed, Step, with_records_left, phase_after, types_after, may_skip}
@@ -290,23 +290,13 @@ module _ {E U O K : Type 0} {beginning : List (Item E) → List ReadLine → Pla
       (Completes (EventLine l)) ended none wanted agree may keeps inside counted quiet =
       let wanted_here = body-place beginning items rest ended none ∙ wanted in
       let here = body-place beginning items (rest ++ line ∷ []) ended none ∙ agree.1 in
-      let all : length (rest ++ line ∷ []) ≡ length rest + 1 = length-append rest (line ∷ []) in
-      let one : length (rest ++ line ∷ []) ≡ 1 = agree.2 in
-      let same : kept ≡ kept_of items = first_kept rest inside (omega (arith, all, one)) in
+      let same : kept ≡ kept_of items = grind (arith, length-append rest (line ∷ []), agree.2, inside) in
       rw (last-here h.forward choices.skip units items number rest line (EventLine l) agree.0 wanted_here
       here) (followed-unit count (number + agree.0) items phase kept (EventLine l) (EventLine l)
-      (h.none_open (Accepted (EventLine l) ∷ items)) event-phase refl (ap (λ k. direction.kept_after
+      (h.none_open (Accepted (EventLine l) ∷ items)) (rw ended (records-phase _ _)) refl
+      (ap (λ k. direction.kept_after
       (state_at count phase items k) (EventLine l)) same ∙ h.event_kept items count phase
       (types_in_force items) l) (h.event_lines items count phase (types_in_force items) kept l))
-    where
-      first_kept : (rest : List ReadLine) → IsInside items phase kept rest → length rest ≡ 0 → kept
-          ≡ kept_of items
-      first_kept [] inside none = inside
-      first_kept (first ∷ rest) inside none = absurd (omega (arith, none))
-
-      event-phase : phase_after_items {O = O} (Accepted (EventLine l) ∷ items) None
-          ≡ with_records_left (records_announced l) (counts_types l)
-      event-phase = rw ended (records-phase (records_announced l) (counts_types l))
   body-once units items number count rest line phase kept
       (Completes (Observation held)) ended none wanted agree may keeps inside counted quiet =
       let wanted_here = body-place beginning items rest ended none ∙ wanted in

@@ -11,7 +11,7 @@ use proofs.Words.{unit_place, Reading, Stop, AtFault, AtLines, Looking, is_skipp
 use proofs.Words.{reading_from, is_skippable, continued_reading, IsReadForward, fed, fed_once, fed_twice}
 use proofs.Words.{is_again, written_lines, warnings_in, Phase, InHeader, BetweenUnits, InEvent, InEpoch}
 use proofs.Words.{LookingOn, RunState, Made, Rejects, Direction, Notice, Step, made_of_unit, made_in}
-use proofs.Words.{phase_after, types_after, may_skip, is_in_epoch, is_skipped_in, kept_in, after_warning}
+use proofs.Words.{phase_after, types_after, may_skip, is_in_epoch, is_skipped_in, kept_in}
 use proofs.Words.{failed_step, step_of_made, state_next, phase_in_body, phase_after_items, state_of}
 use proofs.{Words.{and_parts, by_bool, false-true, Completes}, Pending.again-lines}
 use proofs.following.Following.{IsCarriedOut, AreKept, IsInside, Follows, Agrees, place, reads, state_at}
@@ -44,11 +44,6 @@ record-types : (counted : Bool) (lines : List (List ℕ)) (line : List ℕ) → 
     (lines ++ line ∷ []) lines) ≡ cond counted (with_line (types_of lines) line) (types_of lines)
 record-types true lines line = types_of-push lines line
 record-types false lines line = refl
-
-record-phase : {E O : Type 0} (items : List (Item E)) (left : ℕ) (line : List ℕ) → header_has_ended items
-    ≡ true → records_left items ≡ suc left → phase_after_items {O = O} (Accepted (EventRecord line) ∷ items)
-    None ≡ phase_after {U = E} (InEvent (suc left) (records_count_types items)) (EventRecord line)
-record-phase items left line ended some = rw (ended, some) (records-phase _ _)
 
 pub header-place : {E : Type 0} (beginning : List (Item E) → List ReadLine → Place (FileUnit E))
     (items : List (Item E)) (lines : List ReadLine) → header_has_ended items ≡ false
@@ -117,12 +112,10 @@ module _ {E U O K : Type 0} {beginning : List (Item E) → List ReadLine → Pla
       → made_in direction phase (types_in_force items) kept line ≡ made → Follows h (count + 1) items (reads h
       (suc units) items number (rest ++ line ∷ [])) (fed direction (state_at h count phase items kept) line)
   body-line units items number count rest line phase kept made ended none wanted agree may keeps inside
-      within counted enough e = by_bool (is_again (step made).answer) (λ on. rw (fed-twice direction state
-      line
-      (ap (λ m. is_again (step m).answer) e ∙ on) ∙ ap (λ m. fed_twice (step m) (state_next direction
-      (step m).next line)) e) (again made agree on)) (λ off. rw (fed-once direction state line
-      (ap (λ m. is_again (step m).answer) e ∙ off) ∙ ap (λ m. fed_once (step m)) e) (body-once h units
-      items number count rest line phase kept made ended none wanted agree may keeps inside counted off))
+      within counted enough e = by_bool (is_again (step made).answer)
+      (λ on. rw (fed-twice direction state line (rw e on), e) (again made agree on))
+      (λ off. rw (fed-once direction state line (rw e off), e) (body-once h units items number count rest line
+      phase kept made ended none wanted agree may keeps inside counted off))
     where
       state : RunState O K
       state = state_at h count phase items kept
@@ -143,12 +136,7 @@ module _ {E U O K : Type 0} {beginning : List (Item E) → List ReadLine → Pla
           let each = and_parts (is_in_epoch phase) (can_go_on line) both in
           let looking : RunState O K = state_at h count LookingOn items (direction.emptied kept) in
           let is_one : failed_step direction state line fault
-          ≡ record { answer = Notice at true; handed_out = []; next = looking } =
-          failed-skipped direction state line fault skipped ∙ ap (λ (b : Bool). record {
-            answer = Notice at b;
-            handed_out = [];
-            next = after_warning direction state b;
-          }) both in
+          ≡ record { answer = Notice at true; handed_out = []; next = looking } = rw (skipped, both) refl in
           let kept_then : direction.emptied kept ≡ kept_of (Warned at ∷ items) =
           emptied-same h items kept keeps ∙ h.warned items at in
           let made_then : Made U O = direction.begins (types_in_force items) (kept_of (Warned at ∷ items))
@@ -164,17 +152,11 @@ module _ {E U O K : Type 0} {beginning : List (Item E) → List ReadLine → Pla
           (types_in_force items) kept items fault ended none may ∙ skipped) counted ∙ skipped-again h units
           items number count rest line at some counted each.1 ∙ enough-units (place h) h.forward choices.skip
           units 2 (Warned at ∷ items) (count + 1) (line ∷ []) (omega (arith, enough, some)) (omega arith) in
-          rw same_reading (subst
-          (λ (s : Step O K). Follows h (count + 1) items anew (fed_twice s (state_next direction s.next
-          line))) (sym is_one) (subst (λ m. Follows h (count + 1) items anew (fed_twice (record {
-            answer = Notice at true;
-            handed_out = [];
-            next = looking;
-          }) (step_of_made direction looking line m))) (sym is_made) (followed-twice (count + 1) items
+          rw (same_reading, is_one, is_made) (followed-twice (count + 1) items
           at anew looking (step_of_made direction looking line made_then) (body-once h 1 (Warned at ∷ items)
           (count + 1) count [] line LookingOn (direction.emptied kept) made_then ended refl
           (h.wants (Warned at ∷ items)) (h.begins (Warned at ∷ items) line) refl (inl kept_then) kept_then
-          (omega arith) (quiet-elsewhere direction looking line made_then refl)))))) (λ off. false-true
+          (omega arith) (quiet-elsewhere direction looking line made_then refl)))) (λ off. false-true
           (sym (ap (λ (s : Step _ _). is_again s.answer) (failed-ends direction state line fault off)) ∙ on))
       again (Completes unit) a on = false-true (sym (again-lines
           (direction.written (state_at h count phase items kept) unit)) ∙ on)
@@ -196,9 +178,7 @@ module _ {E U O K : Type 0} {beginning : List (Item E) → List ReadLine → Pla
       (followed-unit h count (count + 1 + 1) items phase (kept_of items) unit same (h.none_open
       (Accepted unit ∷ items)) phases types keeps lines)
   simple-line units items count line phase (Some fault) unit same here never never_in phases types keeps
-      lines = rw (last-ends h.forward choices.skip units items (count + 1) count [] line 0 fault
-      (h.forward.wants items) here (never fault) (omega arith)) (followed-end h count items phase
-      (kept_of items) line fault refl (never_in fault))
+      lines = grind (arith, common_steps, last-ends, h.forward, followed-end)
 
   -- a line outside an epoch is fed once
   line-once : (count : ℕ) (items : List (Item E)) (line : ReadLine) (phase : Phase O) (r : Reading E)
@@ -250,8 +230,8 @@ module _ {E U O K : Type 0} {beginning : List (Item E) → List ReadLine → Pla
           h count phase items (kept_of items)) l (made_of_unit (unless_wrong (EventRecord content) fault))))
       simple content l fault here = simple-line units items count l phase fault (EventRecord content)
           (EventRecord content) here (λ f. rw (ended, some) (never-in-event choices.skip left
-          (is_skippable f))) (λ f. never-before choices.skip (is_skippable f)) (record-phase items
-          left content ended some) (record-types (records_count_types items) (declaring_lines items) content)
+          (is_skippable f))) (λ f. never-before choices.skip (is_skippable f)) (rw (ended, some)
+          (records-phase _ _)) (record-types (records_count_types items) (declaring_lines items) content)
           (h.record_kept items count (suc left) (types_in_force items) content)
           (h.record_lines items count phase (types_in_force items) (kept_of items) content)
 
@@ -327,12 +307,8 @@ module _ {E U O K : Type 0} {beginning : List (Item E) → List ReadLine → Pla
       (body-line (suc (length rest)) items number count rest line (InEpoch so_far) (direction.kept_open
       (kept_of items)) (direction.continues so_far line) e none (sym (body-place beginning items rest e none)
       ∙ wanted) (h.continues items rest line so_far opens) refl (inr refl)
-      (inside so_far rest opens) (λ in_epoch. some_lines items so_far rest opens) counted (omega arith) refl))
-    where
-      inside : (so_far : O) (ls : List ReadLine) → open_with items ls ≡ Some so_far
-          → IsInside h items (InEpoch so_far) (direction.kept_open (kept_of items)) ls
-      inside so_far [] e = absurd (none-some so_far (sym (h.none_open items) ∙ e))
-      inside so_far (l ∷ ls) e = refl
+      (grind (arith, none-some, h.none_open)) (λ in_epoch. some_lines items so_far rest opens) counted
+      (omega arith) refl))
 
   -- one line more, wherever a reading has stopped
   pub next-line : (items : List (Item E)) (stop : Stop) (count : ℕ) (line : ReadLine)
@@ -347,13 +323,5 @@ module _ {E U O K : Type 0} {beginning : List (Item E) → List ReadLine → Pla
       (fresh-line items number count line LookingOn stopped.1 stopped.2 refl refl stopped.0
       (made-looking direction (types_in_force items) (kept_of items) line on)))
       (λ off. rw (looked-on (reading_from (place h) choices.skip items) items number line [] off) (line-once
-      count items line LookingOn (record { items = items; stop = Looking (number + 1) }) refl (passed off)))
-    where
-      state : RunState O K
-      state = state_at h count LookingOn items (kept_of items)
-
-      passed : can_go_on line ≡ false → Follows h (count + 1) items (record {
-        items = items;
-        stop = Looking (number + 1);
-      }) (fed_once (state_next direction state line))
-      passed off = grind (arith, common_steps, append-nil, written_lines)
+      count items line LookingOn (record { items = items; stop = Looking (number + 1) }) refl
+      (grind (arith, common_steps, append-nil, written_lines))))

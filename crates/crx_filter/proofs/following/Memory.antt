@@ -5,16 +5,17 @@ use Words.{Some, None, refl, ap, sym, subst, ◌∙◌, arith, ◌&&◌, nat_lt,
 use Words.{Fault, At, begins_epoch, is_event_line, Count, count_in, is_types_line, Place, NeedsMore}
 use Words.{first_line, one_line, FileUnit, HeaderLine, Choices, Item, Warned, is_at_start, header_has_ended}
 use Words.{records_left, records_count_types, types_in_force, memory_allowed, place_takes, Stop, AtFault}
-use Words.{AtLines, Looking, is_skipped, can_go_on, event_record, header_line, header_line_fault, types_fault}
-use Words.{unless_wrong, is_again, Answer, BetweenUnits, Direction, Failed, Rejects, InEpoch, InEvent}
+use Words.{AtLines, Looking, can_go_on, event_record, header_line, header_line_fault, types_fault}
+use Words.{unless_wrong, is_again, BetweenUnits, Direction, Rejects, InEpoch, InEvent}
 use Words.{InHeader, Made, Notice, Phase, RunState, Step, after_warning, is_in_epoch, is_skipped_in, kept_in}
 use Words.{phase_after_items, state_next, state_of, step_of_made, may_take_memory, takes_memory, rules}
-use Words.{none-some, and_parts, by_bool, false-true}
+use Words.{none-some, noticed_by, and_parts, by_bool, false-true}
 use Rattle.crx_filter.proofs.{Pending.again-lines, following.Following.{AgreeOn, IsCarriedOut, body-place}}
 use Rattle.crx_filter.proofs.following.Following.{failed-ends, place, failed-skipped, state_in, skipped-same}
 use Rattle.crx_filter.proofs.following.{Following.wrong-last, Lines.{IsStopped, by_phase, header-place}}
+use Rattle.crx_filter.proofs.{following.MoreLines.{read_from, state_from}, reading.Stopping.reading-stopped}
 use Rattle.crx_filter.proofs.{following.Lines.record-place, steps.EngineAnswers.{ComesAgain, comes-again}}
-use Rattle.crx_filter.specs.{LineByLine.{Quiet, Ready}, meaning.Memory.{line_takes, takes_after_warning}}
+use Rattle.crx_filter.specs.{meaning.Memory.{line_takes}}
 use Rattle.{crx_header.specs.meaning.ObservationTypes.count_of_types_line, std.specs.Prelude.is_none}
 use Rattle.crx_filter.specs.meaning.Items.{are_lacking}
 
@@ -28,10 +29,7 @@ counts-well line = by_types (is_types_line line) refl (count_in line) refl
     by_types : (b : Bool) → is_types_line line ≡ b → (o : Option Count) → count_in line ≡ o
         → is_some (cond b o None) ≡ true → (b ≡ true) × (types_fault line ≡ None)
     by_types true is None e h = false-true h
-    by_types true is (Some count) e h = (refl, none is e)
-      where
-        none : is_types_line line ≡ true → count_in line ≡ Some count → types_fault line ≡ None
-        none is e = rw (is, e) refl
+    by_types true is (Some count) e h = (refl, rw (is, e) refl)
     by_types false is o e h = false-true h
 
 -- a header line, by its fault
@@ -55,11 +53,7 @@ record-takes : {E : Type 0} (takes : ℕ → Bool) (items : List (Item E)) (line
     → (are_lacking (types_in_force items) && (records_count_types items && is_some (count_of_types_line line)))
     ≡ true → place_takes takes items 0
     (first_line (Content line ∷ []) (event_record (records_count_types items))) ≡ true
-record-takes {E = E} takes items line h =
-    let lacking = and_parts (are_lacking (types_in_force items)) _ h in
-    let each = and_parts (records_count_types items) (is_some (count_of_types_line line)) lacking.1 in
-    let well = counts-well line each.1 in
-    cc (each.0, well.1, each.0, well.0, lacking.0)
+record-takes {E = E} takes items line h = grind (arith, common_steps, and_parts, counts-well)
 
 -- ---- a direction that takes memory by what is at its lines
 
@@ -116,11 +110,17 @@ module _ {E U O K : Type 0} {beginning : List (Item E) → List ReadLine → Pla
       e none) ∙ t.next items rest content so_far opens (and_parts (not (begins_epoch content)) _ taken).1))
 
   -- memory may run out at a line at once
-  pub allowed-first : (items : List (Item E)) (stop : Stop) (count : ℕ) (line : ReadLine) → IsStopped
-      (place h) items stop (count + 1) → takes_memory direction (state_of direction open_with kept_of choices
-      count (record { items = items; stop = stop })) line ≡ true → memory_allowed (place h) takes choices.skip
-      (record { items = items; stop = stop }) line ≡ Some []
-  allowed-first items stop count line stopped e = grind (arith, common_steps, lines-take, begins-takes)
+  pub allowed-first : (number count : ℕ) (lines : List ReadLine) (line : ReadLine)
+      → number + length lines ≡ count + 1
+      → takes_memory direction (state_from h number count lines) line ≡ true
+      → memory_allowed (place h) takes choices.skip (read_from h number lines) line ≡ Some []
+  allowed-first number count lines line counted e = grind (
+    arith,
+    common_steps,
+    lines-take,
+    begins-takes,
+    reading-stopped (place h) h.forward choices.skip [] number (count + 1) lines counted,
+  )
 
   -- a line that cuts an epoch off, and is read anew after the warning
   cut-takes : (items : List (Item E)) (number count : ℕ) (rest : List ReadLine) (line : ReadLine) (so_far : O)
@@ -135,20 +135,16 @@ module _ {E U O K : Type 0} {beginning : List (Item E) → List ReadLine → Pla
       (Rejects fault) a e taken = by_bool (is_skipped_in before fault) (λ on.
       let is = e ∙ failed-skipped direction before line fault on in
       let goes = sym (ap (λ (s : Step O K). is_again s.answer) is) in
-      let noted = ap (λ (s : Step O K). noticed_or at s.answer) is in
+      let noted = ap (λ (s : Step O K). noticed_by s.answer) is in
       let then = ap (λ (s : Step O K). s.next) is in
       let here = body-place beginning items (rest ++ line ∷ []) ended none ∙ a.1 in
       let last = wrong-last h.forward items rest line a.0 fault wanted here in
       let same : number + a.0 ≡ count + 1 = omega (arith, last, counted) in
       let skipped = skipped-same choices count (InEpoch so_far) (types_in_force items)
       (direction.kept_open (kept_of items)) items fault ended none refl ∙ on in
-      ap (λ (p : Place (FileUnit E)). cond (place_takes takes items (length rest) p)
-      (Some []) (takes_after_warning (place h) takes choices.skip items number line p)) here
-      ∙ ap (λ (n : ℕ). cond (is_skipped choices.skip items fault && ((nat_lt 0 a.0 && can_go_on line) &&
-      line_takes (place h) takes (Warned (record { line = n; fault = fault }) ∷ items) [] line)) (Some (record
-      { line = n; fault = fault } ∷ [])) None) same ∙ ap (λ b. cond b (Some (at ∷ [])) None) (all-true skipped
-      (ap (nat_lt 0) last ∙ not_none rest open_is) goes (anew line (subst (λ (s : RunState O K). takes_memory
-      direction s line ≡ true) then taken))) ∙ ap (λ (n : At). Some (n ∷ [])) (sym noted)) (λ off.
+      let again = anew line (subst (λ (s : RunState O K). takes_memory direction s line ≡ true) then taken) in
+      rw (here, same, skipped, last, not_none rest open_is, goes, again) (ap Some (sym noted)))
+      (λ off.
       let no = ap (λ (s : Step O K). is_again s.answer) (e ∙ failed-ends direction before line fault off) in
       absurd (cc))
     where
@@ -159,50 +155,41 @@ module _ {E U O K : Type 0} {beginning : List (Item E) → List ReadLine → Pla
       before = state_in choices count (InEpoch so_far) (types_in_force items) (direction.kept_open
           (kept_of items))
 
-      noticed_or : At → Answer → At
-      noticed_or other Quiet = other
-      noticed_or other Ready = other
-      noticed_or other (Notice found again) = found
-      noticed_or other (Failed found) = other
-
       not_none : (ls : List ReadLine) → open_with items ls ≡ Some so_far → nat_lt 0 (length ls) ≡ true
       not_none [] opens = absurd (none-some so_far (sym (h.none_open items) ∙ opens))
       not_none (l ∷ ls) opens = search rules
-
-      all-true : {a b c d : Bool} → a ≡ true → b ≡ true → c ≡ true → d ≡ true → (a && ((b && c) && d)) ≡ true
-      all-true p q r s = rw (p, q, r, s) refl
-
-      kept_then : direction.emptied (direction.kept_open (kept_of items)) ≡ kept_of (Warned at ∷ items)
-      kept_then = h.emptied_open (kept_of items) ∙ h.warned items at
 
       anew : (l : ReadLine) → takes_memory direction (after_warning direction before (can_go_on line))
           l ≡ true → line_takes (place h) takes (Warned at ∷ items) [] l ≡ true
       anew Overlong t = false-true t
       anew (Content content) t = begins-takes (Warned at ∷ items) content ended refl (subst
           (λ (k : K). (not (is_event_line content) && direction.memory_first (types_in_force items) k content)
-          ≡ true) kept_then (and_parts (begins_epoch content) _ t).1)
+          ≡ true) (h.emptied_open (kept_of items) ∙ h.warned items at) (and_parts (begins_epoch content) _
+          t).1)
   cut-takes items number count rest line so_far next notice wanted counted ended none open_is
       m a e taken = grind (arith, common_steps, again-lines)
 
   -- memory may run out at a line after its warning
-  pub allowed-again : (items : List (Item E)) (stop : Stop) (count : ℕ)
-      (line : ReadLine) (next : RunState O K) (notice : At) → IsStopped (place h) items stop (count + 1)
-      → record { answer = Notice notice true; handed_out = []; next = next } ≡ state_next direction
-      (state_of direction open_with kept_of choices count (record { items = items; stop = stop })) line
-      → takes_memory direction next line ≡ true → memory_allowed
-      (place h) takes choices.skip (record { items = items; stop = stop }) line ≡ Some (notice ∷ [])
-  allowed-again items stop count line next notice stopped e taken = by_stop stop stopped
+  pub allowed-again : (number count : ℕ) (lines : List ReadLine) (line : ReadLine) (next : RunState O K)
+      (notice : At) → number + length lines ≡ count + 1
+      → record { answer = Notice notice true; handed_out = []; next = next }
+      ≡ state_next direction (state_from h number count lines) line → takes_memory direction next line ≡ true
+      → memory_allowed (place h) takes choices.skip (read_from h number lines) line ≡ Some (notice ∷ [])
+  allowed-again number count lines line next notice counted e taken =
+      by_stop (read_from h number lines).items (read_from h number lines).stop
+      (reading-stopped (place h) h.forward choices.skip [] number (count + 1) lines counted)
       (comes-again direction _ next line notice [] e) e
     where
-      by_stop : (s : Stop) → IsStopped (place h) items s (count + 1) → ComesAgain direction
+      by_stop : (items : List (Item E)) (s : Stop) → IsStopped (place h) items s (count + 1)
+          → ComesAgain direction
           (state_of direction open_with kept_of choices count (record { items = items; stop = s })) next line
           → record { answer = Notice notice true; handed_out = []; next = next } ≡ state_next direction
           (state_of direction open_with kept_of choices count (record { items = items; stop = s })) line
           → memory_allowed (place h) takes choices.skip (record { items = items; stop = s }) line
           ≡ Some (notice ∷ [])
-      by_stop (AtFault at) stopped again e = false-true again.epoch
-      by_stop (Looking number) stopped again e = false-true again.epoch
-      by_stop (AtLines number rest) stopped again e = by_phase h (λ ls p. is_in_epoch p ≡ true → record
+      by_stop items (AtFault at) stopped again e = false-true again.epoch
+      by_stop items (Looking number) stopped again e = false-true again.epoch
+      by_stop items (AtLines number rest) stopped again e = by_phase h (λ ls p. is_in_epoch p ≡ true → record
           { answer = Notice notice true; handed_out = []; next = next } ≡ state_next direction (state_in
           choices count p (types_in_force items) (kept_in direction p (kept_of items))) line → memory_allowed
           (place h) takes choices.skip (record { items = items; stop = AtLines number rest }) line ≡ Some

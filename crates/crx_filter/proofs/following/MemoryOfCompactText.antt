@@ -5,11 +5,11 @@ use proofs.Words.{ReadLine, Content, Overlong, ReadEpoch, OpenRawEpoch, RawStep,
 use proofs.Words.{Item, types_in_force, place_takes, compact_open, expansion, made_of_raw_step, tail_of_items}
 use proofs.Words.{◌+◌, drop, arith, length-drop, At, Place, Done, Fails, NeedsMore, expansion_state, Notice}
 use proofs.Words.{RunState, state_next, takes_memory, compact_memory, compact_place, first_lines}
-use proofs.{Words.{memory_allowed, reading_from, not-true, false-true}, following.ExpandedOn.reading_by}
+use proofs.{Words.{memory_allowed, not-true, false-true}, following.ExpandedOn.reading_by}
 use proofs.following.{ExpandedOn.state_by, Expansion.{Agrees, agree-content, expansion-carried_out}}
-use proofs.following.{Expansion.same-epochs, Lines.IsStopped, Memory.{TakesAsItStands, allowed-again}}
+use proofs.following.{Expansion.same-epochs, Memory.{TakesAsItStands, allowed-again}}
 use proofs.{following.Memory.allowed-first, reading.CompactPrefixes.remains}
-use proofs.reading.{ForwardCompact.{compact_beginning, compact-forward}, Stopping.reading-stopped}
+use proofs.reading.{ForwardCompact.{compact_beginning}}
 use proofs.steps.EngineAnswers.{comes-again}
 use Rattle.{crx_compact.specs.OpenEpochs.is_faulty, crx_filter.specs.meaning.Memory.expansion_takes}
 
@@ -42,25 +42,15 @@ memory_by choices lines line p read = elim p [
   | NeedsMore ↦ None
 ]
 
-stopped-after : (choices : Choices) (lines : List ReadLine) (two : List (List ℕ)) (count : ℕ)
-    → first_lines lines ≡ Done two count → IsStopped compact_place
-    (reading_from compact_place choices.skip [] (count + 1) (drop count lines)).items
-    (reading_from compact_place choices.skip [] (count + 1) (drop count lines)).stop (length lines + 1)
-stopped-after choices lines two count e =
-    let h = remains lines [] (Done two count) e in
-    reading-stopped compact_place compact-forward choices.skip [] (count + 1) (length lines + 1)
-    (drop count lines) (omega (arith, length-drop count lines, h.0))
-
 pub expansion-allowed : (choices : Choices) (lines : List ReadLine) (line : ReadLine) → takes_memory expansion
     (expansion_state choices lines) line ≡ true → compact_memory choices.skip lines line ≡ Some []
 expansion-allowed choices lines line e = decided (first_lines lines) line refl e
   where
     decided : (p : Place (List (List ℕ))) (l : ReadLine) → first_lines lines ≡ p
         → takes_memory expansion (state_by choices lines p) l ≡ true → memory_by choices lines l p p ≡ Some []
-    decided (Done two count) l is t =
-        let r = reading_from compact_place choices.skip [] (count + 1) (drop count lines) in
-        allowed-first (expansion-carried_out choices) (expansion-takes choices) r.items r.stop (length lines)
-        l (stopped-after choices lines two count is) t
+    decided (Done two count) l is t = allowed-first (expansion-carried_out choices) (expansion-takes choices)
+        (count + 1) (length lines) (drop count lines) l
+        (omega (arith, length-drop count lines, (remains lines [] (Done two count) is).0)) t
     decided p Overlong is t = false-true t
     decided p (Content content) is t = false-true t
 
@@ -75,7 +65,7 @@ expansion-allowed-again choices lines line next notice step e = decided (first_l
         → record { answer = Notice notice true; handed_out = []; next = next } ≡ state_next expansion
         (state_by choices lines p) line → memory_by choices lines line p p ≡ Some (notice ∷ [])
     decided (Done two count) is s =
-        let r = reading_from compact_place choices.skip [] (count + 1) (drop count lines) in
-        allowed-again (expansion-carried_out choices) (expansion-takes choices) r.items r.stop (length lines)
-        line next notice (stopped-after choices lines two count is) s e
+        allowed-again (expansion-carried_out choices) (expansion-takes choices) (count + 1) (length lines)
+        (drop count lines) line next notice
+        (omega (arith, length-drop count lines, (remains lines [] (Done two count) is).0)) s e
     decided p is s = false-true (comes-again expansion (state_by choices lines p) next line notice [] s).epoch

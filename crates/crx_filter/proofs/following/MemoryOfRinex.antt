@@ -7,8 +7,7 @@ use proofs.Words.{memory_allowed, place_takes, rinex_reading, takes_memory, chec
 use proofs.Words.{compaction, made_of_epoch_step, Written, compaction_state, rinex_open, written_of}
 use proofs.Words.{Direction, Notice, RunState, state_next, state_of, compact_unit, rinex_place, false-true}
 use proofs.following.{Check.check-carried_out, Compaction.compaction-carried_out, Following.AgreeOn}
-use proofs.{following.Memory.{TakesAsItStands, allowed-again, allowed-first}, reading.Forward.rinex-forward}
-use proofs.reading.{Forward.rinex_beginning, Stopping.reading-stopped}
+use proofs.{following.Memory.{TakesAsItStands, allowed-again, allowed-first}, reading.Forward.rinex_beginning}
 use Rattle.{crx_filter.specs.meaning.Memory.check_takes, std.specs.Result.is_ok}
 
 -- ---- satellites' lines
@@ -49,37 +48,27 @@ compaction-takes choices = record {
 }
 
 pub check-takes : TakesAsItStands rinex_beginning checking rinex_open totals_of check_takes
-check-takes = record {
-  first = λ items line other good. false-true good;
-  next = λ items lines line so_far opens good. false-true good;
-}
+check-takes = grind (arith, common_steps, false-true)
 
 -- ---- where memory may run out
 
 pub compaction-allowed : (choices : Choices) (lines : List ReadLine) (line : ReadLine)
     → takes_memory compaction (compaction_state choices lines) line ≡ true → memory_allowed
     rinex_place compaction_takes choices.skip (rinex_reading choices.skip lines) line ≡ Some []
-compaction-allowed choices lines line e =
-    let r = rinex_reading choices.skip lines in
-    allowed-first (compaction-carried_out choices) (compaction-takes choices) r.items r.stop (length lines)
-    line
-    (reading-stopped rinex_place rinex-forward choices.skip [] 1 (length lines + 1) lines (omega arith)) e
+compaction-allowed choices lines line e = allowed-first (compaction-carried_out choices)
+    (compaction-takes choices) 1 (length lines) lines line (omega arith) e
 
 pub compaction-allowed-again : (choices : Choices)
     (lines : List ReadLine) (line : ReadLine) (next : RunState OpenEpoch Written) (notice : At)
     → record { answer = Notice notice true; handed_out = []; next = next } ≡ state_next compaction
     (compaction_state choices lines) line → takes_memory compaction next line ≡ true → memory_allowed
     rinex_place compaction_takes choices.skip (rinex_reading choices.skip lines) line ≡ Some (notice ∷ [])
-compaction-allowed-again choices lines line next notice step e =
-    let r = rinex_reading choices.skip lines in
-    allowed-again (compaction-carried_out choices) (compaction-takes choices) r.items r.stop (length lines)
-    line next notice (reading-stopped rinex_place rinex-forward choices.skip [] 1 (length lines + 1) lines
-    (omega arith)) step e
+compaction-allowed-again choices lines line next notice step e = allowed-again (compaction-carried_out
+    choices)
+    (compaction-takes choices) 1 (length lines) lines line next notice (omega arith) step e
 
 pub check-allowed : (lines : List ReadLine) (line : ReadLine) → takes_memory checking
     (state_of checking rinex_open totals_of no_choices (length lines) (rinex_reading false lines)) line ≡ true
     → memory_allowed rinex_place check_takes false (rinex_reading false lines) line ≡ Some []
 check-allowed lines line e =
-    let r = rinex_reading false lines in
-    allowed-first check-carried_out check-takes r.items r.stop (length lines) line
-    (reading-stopped rinex_place rinex-forward false [] 1 (length lines + 1) lines (omega arith)) e
+    allowed-first check-carried_out check-takes 1 (length lines) lines line (omega arith) e

@@ -40,11 +40,10 @@ alike-unit a b unit f h = grind (arith, common_steps, types_of-push)
 
 same-unit : (a b : List (Item ReadEpoch)) (unit : FileUnit ReadEpoch)
     → MayFollow a unit → AreSame a b → AreSame (Accepted unit ∷ a) (Accepted unit ∷ b)
-same-unit a b unit f h = record { alike = alike-unit a b unit f h.alike; block = block-same unit f }
-  where
-    block-same : (unit : FileUnit ReadEpoch) → MayFollow a unit
-        → block_of (raws_kept (Accepted unit ∷ a)) ≡ block_of (raws_kept (Accepted unit ∷ b))
-    block-same unit f = grind (arith, common_steps, by_bool, empties_state, records_count_types)
+same-unit a b unit f h = record {
+  alike = alike-unit a b unit f h.alike;
+  block = grind (arith, common_steps, by_bool, empties_state, records_count_types);
+}
 
 same-warned : (a b : List (Item ReadEpoch)) (at : At) → AreAlike a b → AreSame (Warned at ∷ a) (Warned at ∷ b)
 same-warned a b at h = grind arith
@@ -189,11 +188,8 @@ module _ (skip : Bool) (units : ℕ) (ih : IsAnew skip units)
   anew-step (Content line ∷ lines) zero e anew = grind (arith, and_parts, anew-line)
   anew-step lines (suc left) e anew = alike-step lines (first_line lines
       (event_record (records_count_types a))) (record-place compact_beginning a left lines h.one e) (sym
-      (event-same a b left lines h e) ∙ record-place compact_beginning a left lines h.one e) (next lines anew)
-    where
-      next : (lines : List ReadLine) → starts_anew (suc left) lines ≡ true
-          → Next lines (first_line lines (event_record (records_count_types a)))
-      next lines anew = grind (arith, common_steps, anew-record, left, cond, records_count_types, types_fault)
+      (event-same a b left lines h e) ∙ record-place compact_beginning a left lines h.one e)
+      (grind (arith, common_steps, anew-record, left, cond, records_count_types, types_fault))
 
 reads-anew : (skip : Bool) (units : ℕ) → IsAnew skip units
 reads-anew skip zero a b number lines left h e anew = stopped (AtLines number lines)

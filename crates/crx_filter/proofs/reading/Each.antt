@@ -19,6 +19,11 @@ all-drop P zero xs h = h
 all-drop P (suc n) [] h = tt
 all-drop P (suc n) (x ∷ xs) h = all-drop P n xs h.1
 
+pub all-from : {X : Type 0} (P Q : X → Type 0) → ((x : X) → P x → Q x) → (xs : List X) → AllByRecursion P xs
+    → AllByRecursion Q xs
+all-from P Q f [] h = tt
+all-from P Q f (x ∷ xs) h = (f x h.0, all-from P Q f xs h.1)
+
 pub header-append : {E : Type 0} (later before : List (Item E))
     → header_has_ended before ≡ true → header_has_ended (later ++ before) ≡ true
 header-append [] before h = h

@@ -5,7 +5,7 @@ use Words.{refl, sym, ◌∙◌, ◌&&◌, ◌==◌, nat_lt, ReadLine, Fault, Mi
 use Words.{FileUnit, Choices, Item, is_at_start, header_has_ended, records_left, records_count_types}
 use Words.{types_in_force, WholeReading, Stop, AtLines, is_skipped, fault_at_end, ended_with, ended_reading}
 use Words.{is_skippable, written_lines, warnings_in, Phase, InHeader, InEvent, InEpoch, Direction, Step}
-use Words.{is_skipped_in, kept_in, state_end, phase_after_items, state_of, IsEndedBy, by_bool, ◌<◌}
+use Words.{is_skipped_in, rules, kept_in, state_end, phase_after_items, state_of, IsEndedBy, by_bool, ◌<◌}
 use Rattle.crx_base.specs.declared.fault.Fault.TheVariants.{NoEndOfHeader}
 use Rattle.crx_filter.proofs.following.Following.{IsCarriedOut, place, state_at, skipped-same}
 use Rattle.crx_filter.proofs.following.Lines.{IsStopped, by_phase, never-before, never-in-event, some_lines}
@@ -42,13 +42,10 @@ module _ {E U O K : Type 0} {beginning : List (Item E) → List ReadLine → Pla
       → ((f : Fault) → is_skipped choices.skip items f ≡ is_skipped_in (state_at h count phase items kept) f)
       → EndsAs items (ended_with choices.skip items (count + 1) fault)
       (end_step direction [] (state_at h count phase items kept) fault)
-  ends-same items count phase kept None same =
-      record { once = refl; handed_out = refl; written = refl; warned = refl; failed = refl }
+  ends-same items count phase kept None same = search rules
   ends-same items count phase kept (Some fault) same = by_bool (is_skipped_in (state_at h count phase items
-      kept) fault) (λ on. rw (same fault ∙ on, on)
-      (record { once = refl; handed_out = refl; written = refl; warned = refl; failed = refl }))
-      (λ off. rw (same fault ∙ off, off)
-      (record { once = refl; handed_out = refl; written = refl; warned = refl; failed = refl }))
+      kept) fault) (λ on. rw (same fault ∙ on, on) (search rules))
+      (λ off. rw (same fault ∙ off, off) (search rules))
 
   -- the end where more lines are wanted
   lines-end : (items : List (Item E)) (number count : ℕ) (rest : List ReadLine) → place h items rest ≡
@@ -79,5 +76,4 @@ module _ {E U O K : Type 0} {beginning : List (Item E) → List ReadLine → Pla
       (state_of direction open_with kept_of choices count (record { items = items; stop = stop })))
   next-end items (AtLines number rest) count stopped =
       lines-end items number count rest stopped.0 stopped.1
-  next-end items stop count stopped =
-      record { once = refl; handed_out = refl; written = refl; warned = refl; failed = refl }
+  next-end items stop count stopped = search rules

@@ -1,6 +1,6 @@
 -- What is written for some lines is at the beginning of what is written for more lines.
 use Rattle.crx_filter.proofs.{reading.WhatWasRead.of-ended, Words.{ℕ, ◌≡◌, ◌+◌, Bool, List, [], ◌∷◌, ◌++◌}}
-use Rattle.crx_filter.proofs.Words.{length, refl, ap, sym, ◌∙◌, append_assoc, append-nil, flat_map-append}
+use Rattle.crx_filter.proofs.Words.{length, refl, ap, sym, append_assoc, append-nil, flat_map-append}
 use Rattle.crx_filter.proofs.Words.{ReadLine, Place, FileUnit, Item, Accepted, Warned, Stop, AtFault, AtLines}
 use Rattle.crx_filter.proofs.Words.{Looking, reading_within, reading_from, ended_reading, whole_reading}
 use Rattle.crx_filter.proofs.Words.{continued_reading, IsReadForward, lines_text, Begins, written_lines}
@@ -69,8 +69,7 @@ text-more unit_lines items all h =
     let m = written-more unit_lines h.news items in
     record {
       rest = lines_text m.0;
-      same = ap (λ l. lines_text (written_lines unit_lines l)) h.same ∙ ap lines_text m.1
-          ∙ flat_map-append (λ (line : List ℕ). line ++ 10 ∷ []) (written_lines unit_lines items) m.0;
+      same = rw (h.same, m.1) (flat_map-append (λ (line : List ℕ). line ++ 10 ∷ []) _ m.0);
     }
 
 -- the items of the reading of some lines and more

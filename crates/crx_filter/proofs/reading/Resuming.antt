@@ -94,11 +94,9 @@ enough-units place h skip (suc one) zero items number lines short_one short_two 
 enough-units place h skip (suc one) (suc two) items number lines short_one short_two =
     by_place (place items lines) (λ unit count e.
     let within = here-within place h items lines unit count e in
-    let some = within.0 in
-    let in_lines = within.1 in
     let left = length-drop count lines in
     let same = enough-units place h skip one two (Accepted unit ∷ items) (number + count) (drop count lines)
-    (omega (arith, some, in_lines, left)) (omega (arith, some, in_lines, left)) in
+    (omega (arith, within.0, within.1, left)) (omega (arith, within.0, within.1, left)) in
     rw (e, reading_within) same) (λ offset fault e. by_bool (is_skipped skip items fault) (λ on.
     let at : At = record { line = number + offset; fault = fault } in
     rw (e, reading_within, on, after_fault) (looked-same (Warned at ∷ items)
@@ -130,16 +128,15 @@ resumed-within place h skip (suc one) zero items number lines more short_one sho
 resumed-within place h skip (suc one) (suc two) items number lines more short_one short_two =
     by_place (place items lines) (λ unit count e.
     let within = here-within place h items lines unit count e in
-    let some = within.0 in
-    let in_lines = within.1 in
     let left = length-drop count lines in
     rw (
       within-here place skip one items number lines unit count e,
       within-here place skip two items number (lines ++ more) unit count (here-stays place h items lines more
           unit count e),
-      drop-append-le count lines more in_lines,
+      drop-append-le count lines more within.1,
     ) (resumed-within place h skip one two (Accepted unit ∷ items) (number + count) (drop count lines) more
-    (omega (arith, some, in_lines, left)) (omega (arith, some, in_lines, left)))) (λ offset fault e. rw (
+    (omega (arith, within.0, within.1, left)) (omega (arith, within.0, within.1, left)))) (λ offset fault e.
+    rw (
       within-wrong place skip one items number lines offset fault e,
       within-wrong place skip two items number (lines ++ more) offset fault (wrong-stays place h items lines
           more offset fault e),

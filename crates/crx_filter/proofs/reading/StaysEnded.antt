@@ -1,8 +1,8 @@
 -- Once a fault has ended the run, more lines change nothing.
 use Rattle.crx_filter.proofs.Words
-use Words.{common_steps, arith, ℕ, ◌≡◌, ◌+◌, Bool, List, [], ◌++◌, drop, Option, Some, refl, ap, sym, ◌∙◌}
-use Words.{drop-append-le, none-some, ReadLine, At, Place, Done, Fails, NeedsMore, FileUnit, ReadEpoch, Item}
-use Words.{Reading, Stop, AtFault, reading_from, ended_reading, whole_reading}
+use Words.{common_steps, arith, ℕ, ◌≡◌, ◌+◌, Bool, List, [], ◌++◌, drop, Some, refl}
+use Words.{drop-append-le, none-some, ReadLine, At, Place, Done, Fails, NeedsMore, FileUnit, Item}
+use Words.{Stop, reading_from, ended_reading, whole_reading}
 use Words.{IsReadForward, fault_of_stop, rinex_place, whole_rinex, rinex_reading, compact_place, first_lines}
 use Words.{whole_compact, compact_reading}
 use Rattle.crx_filter.proofs.reading.{ForwardCompact.compact-forward, Resuming.resumed, Forward.rinex-forward}
@@ -26,16 +26,6 @@ rinex-stays skip lines more at e = stays-from rinex_place rinex-forward skip 1 l
 
 -- ---- compact text
 
-wrong-reading : (skip : Bool) (lines : List ReadLine) (offset : ℕ) (fault : _) → first_lines lines
-    ≡ Fails offset fault → compact_reading skip lines
-    ≡ record { items = []; stop = AtFault (record { line = offset + 1; fault = fault }) }
-wrong-reading skip lines offset fault e = rw (e, compact_reading) refl
-
-wrong-whole : (skip : Bool) (lines : List ReadLine) (offset : ℕ) (fault : _) → first_lines lines
-    ≡ Fails offset fault → whole_compact skip lines
-    ≡ record { items = []; fault = Some (record { line = offset + 1; fault = fault }) }
-wrong-whole skip lines offset fault e = rw (e, whole_compact) refl
-
 by-first_lines : (skip : Bool) (lines more : List ReadLine) (at : At) (p : Place (List (List ℕ)))
     → first_lines lines ≡ p → fault_of_stop (compact_reading skip lines).stop
     ≡ Some at → StaysEnded (compact_reading skip) (whole_compact skip) lines more at
@@ -50,14 +40,7 @@ by-first_lines skip lines more at (Done two count) e f =
       ended = cc (whole-at skip (lines ++ more) two count h.1, split, s.ended, now);
     }
 by-first_lines skip lines more at (Fails offset fault) e f =
-    let h = remains lines more (Fails offset fault) e in
-    let now = wrong-reading skip lines offset fault e in
-    record {
-      same = cc (wrong-reading skip (lines ++ more) offset fault h.1, now);
-      ended = wrong-whole skip (lines ++ more) offset fault h.1 ∙ ap (λ (o : Option At). record
-          { items = []; fault = o }) (sym (ap (λ (r : Reading ReadEpoch). fault_of_stop r.stop) now) ∙ f)
-          ∙ ap (λ (r : Reading ReadEpoch). record { items = r.items; fault = Some at }) (sym now);
-    }
+    grind (arith, remains lines more (Fails offset fault) e, compact_reading, whole_compact, fault_of_stop)
 by-first_lines skip lines more at NeedsMore e f =
     grind (arith, common_steps, none-some, fault_of_stop, compact_reading)
 

@@ -27,11 +27,10 @@ within-stopped place h skip zero items number next lines short counted = absurd 
 within-stopped place h skip (suc units) items number next lines short counted = by_place (place items lines)
     (λ unit count e.
     let within = here-within place h items lines unit count e in
-    let in_lines = within.1 in
     let left = length-drop count lines in
     rw (within-here place skip units items number lines unit count e) (within-stopped place h skip units
-    (Accepted unit ∷ items) (number + count) next (drop count lines) (omega (arith, within.0, in_lines, left))
-    (omega (arith, in_lines, left, counted)))) (λ offset fault e. rw (within-wrong
+    (Accepted unit ∷ items) (number + count) next (drop count lines) (omega (arith, within.0, within.1, left))
+    (omega (arith, within.1, left, counted)))) (λ offset fault e. rw (within-wrong
     place skip units items number lines offset fault e) (by_bool (is_skipped skip items fault) (λ on.
     let at : At = record { line = number + offset; fault = fault } in
     let n = max offset 1 in

@@ -47,14 +47,8 @@ is-first (Accepted (HeaderLine line) ∷ []) h = record { version = refl; some =
 is-first (Accepted (HeaderLine line) ∷ item ∷ before) h =
     search (is-first (item ∷ before) h.1, first-kept, first-more)
 is-first (Accepted unit ∷ before) h =
-    let k = is-first before h.1 in
-    record {
-      version = first-kept _ _ k (started before (h.0).0);
-      some = λ e. first-more _ _ k (started before (h.0).0);
-    }
-is-first (Warned at ∷ before) h =
-    let k = is-first before h.1 in
-    record { version = k.version; some = λ e. k.some (started before (h.0).0) }
+    grind (arith, common_steps, is-first before h.1, first-kept, started, first-more)
+is-first (Warned at ∷ before) h = grind (arith, common_steps, is-first before h.1, started)
 
 pub version-same : (lines : List ReadLine) → version_accepted (rinex_reading false lines).items
     ≡ version_in (first_header_line (printed_items (rinex_reading false lines).items))

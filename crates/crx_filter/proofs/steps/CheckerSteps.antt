@@ -2,17 +2,17 @@
 use Rattle.crx_filter.proofs
 use proofs.Words.{common_steps, arith, ℕ, ◌≡◌, ◌+◌, true, false, List, [], Option, None, refl, ap, sym, subst}
 use proofs.Words.{◌∙◌, InputLine, is_long, ReadLine, Content, as_read, Fault, OpenEpoch, ObservationEpoch}
-use proofs.Words.{Count, last_line, compaction, with_next, Phase, RunState, Made, made_in, step_of_made}
+use proofs.Words.{Count, last_line, compaction, with_next, Phase, Made, made_in, step_of_made}
 use proofs.Words.{epoch_by_rows, reader_phase, made_at, TakesRinexLine, is_standard_line, Totals, checking}
 use proofs.Words.{printed_made, earliest, CheckState, no_choices, check_state, checker_state_with, Held}
 use proofs.Words.{RinexReader, RinexStep, false-true, first_not_standard, printed_so_far, Stage}
 use proofs.Words.{phase_of_stage, epoch_open, ◌≤◌, is_open_stage, is_row, drop, Row as ObservationRow, Ok}
 use proofs.Words.{Err, IsSameReader, Choices, length-drop, check_by_line, check_reading, map, length}
-use proofs.Words.{false≢true, Written, Overlong, state_next, Begun, Bool, Rejects, bytes_eq, has_satellite}
+use proofs.Words.{false≢true, Written, state_next, Begun, Bool, Rejects, bytes_eq, has_satellite}
 use proofs.{Words.{may_take_memory, inl, inr, ◌||◌, ◌++◌, ◌∷◌}, following.CheckGoes.{made-alike, made-quiet}}
 use proofs.following.{CheckedOn.{checked-on, same-state}, Following.state_in}
 use proofs.standard.{CheckEnded.kept-always, CheckLines.{IsReached, Grows, line-grows, phase-reached}}
-use proofs.steps.EngineAnswers.{as-read-short}
+use proofs.steps.{CompactionSteps.parts_with, EngineAnswers.as-read-short}
 use Rattle.crx_filter.{proofs.steps.Given.given-either, specs.CheckByLine.totals_made}
 use Rattle.crx_filter.specs.{CheckingParts.{AreNamed, is_reading}, CompactionByLine.is_before_header}
 use Rattle.crx_filter.specs.{CompactionByLine.is_next_row, DirectionParts.{DirectionParts, ComesAfter, Reads}}
@@ -115,45 +115,27 @@ in-no-epoch : (before : RinexReader) (content : List ℕ) → is_open_stage befo
     (Content content) ≡ true
 in-no-epoch before content closed takes = grind (arith, common_steps, false≢true)
 
-abbrev parts_with : RinexReader → Held → DirectionParts OpenEpoch Totals
-parts_with reader totals = record {
-  stage = reader.stage;
-  begun = epoch_open reader;
-  types = reader.types;
-  kept = totals_held totals;
-}
-
 module _ (serves : Choices → Type 0) (before after : RinexReader) (totals : Held) (content : List ℕ)
     (ready : List (List ℕ)) where
   pub rejected-reads : (fault : Fault) → IsSameReader before after
       → made_there before content ≡ Rejects fault → ready ≡ []
-      → Reads check_by_line serves (parts_with before totals) content (Err fault) ready (parts_with after
-      totals)
+      → Reads check_by_line serves (parts_with before (totals_held totals)) content (Err fault) ready
+      (parts_with after
+      (totals_held totals))
   rejected-reads fault same rejects none = grind (arith, common_steps, made-alike, made-same)
 
   pub refused-reads : (fault : Fault) → IsSameReader before after → is_open_stage before.stage ≡ false
       → RefusesRinexLine (made_there before content) before content fault → ready ≡ []
-      → Reads check_by_line serves (parts_with before totals) content (Err fault) ready (parts_with after
-      totals)
-  refused-reads fault same closed (inl rejects) none = rejected-reads fault same rejects none
-  refused-reads fault same closed (inr (is, takes)) none = record {
-    takes = λ choices number served. tt;
-    refuses = inr (is, in-no-epoch before content closed takes);
-    types = same.types;
-    kept = refl;
-    nothing = none;
-  }
+      → Reads check_by_line serves (parts_with before (totals_held totals)) content (Err fault) ready
+      (parts_with after
+      (totals_held totals))
+  refused-reads fault same closed refuses none = grind (arith, common_steps, rejected-reads, in-no-epoch)
 
   pub taken-reads : (then : Held) (step : RinexStep) → IsTaken before content step after
       → AreTotals before content totals then → ready ≡ []
-      → Reads check_by_line serves (parts_with before totals) content (Ok false) ready (parts_with after then)
-  taken-reads then step takes totals_then none = record {
-    takes = λ choices number served. grind (arith, common_steps, made-alike, made-same, steps-to);
-    refuses = tt;
-    types = tt;
-    kept = tt;
-    nothing = tt;
-  }
+      → Reads check_by_line serves (parts_with before (totals_held totals)) content (Ok false) ready
+      (parts_with after (totals_held then))
+  taken-reads then step takes totals_then none = grind (arith, common_steps, made-alike, made-same, steps-to)
 
 -- ---- what a check knows
 
@@ -166,9 +148,7 @@ made-never number phase types kept content made = grind (arith, common_steps)
 never-passed : (number : ℕ) (phase : Phase OpenEpoch) (types : List Count) (kept : Totals) (line : ReadLine)
     → IsReached phase → brings_nothing (state_next check_by_line (state_in no_choices number phase types kept)
     line).answer line ≡ false
-never-passed number phase types kept Overlong reached = grind (arith, common_steps)
-never-passed number phase types kept (Content content) reached =
-    made-never number phase types kept content (made_in check_by_line phase types kept (Content content))
+never-passed number phase types kept line reached = grind (arith, common_steps, reached, made-never)
 
 -- it reads on where no fault has ended it
 pub reads-on : (begun : Option OpenEpoch) (stage : Stage) → IsReached (phase_of_stage begun stage)
@@ -189,18 +169,13 @@ module _ (choices : Choices) (lines : List InputLine) (line : InputLine)
   -- and none is passed over
   pub passes-nothing : {X : Type 0} → brings_nothing (state_next check_by_line
       (state_by choices (length lines) parts) (as_read line)).answer (as_read line) ≡ true → X
-  passes-nothing passed =
-      let state = check_reading (map as_read lines) in
-      false-true (sym (never-passed state.number state.phase state.types state.kept (as_read line)
-      (phase-reached (map as_read lines))) ∙ subst (λ (s : RunState OpenEpoch Totals). brings_nothing
-      (state_next check_by_line s (as_read line)).answer (as_read line) ≡ true) given-after passed)
+  passes-nothing passed = grind (arith, common_steps, false-true, never-passed, phase-reached, given-after)
 
 module _ (choices : Choices) (before : RinexReader) (totals : Held) (lines : List InputLine)
     (taken : no_choices ≡ choices) (is : state_in choices (length lines) (reader_phase before) before.types
     (totals_held totals) ≡ check_reading (map as_read lines)) where
   pub has-reached : IsReached (reader_phase before)
-  has-reached = subst IsReached (sym (ap (λ (s : RunState OpenEpoch Totals). s.phase) is))
-      (phase-reached (map as_read lines))
+  has-reached = grind (arith, common_steps, phase-reached)
 
   module _ (named : Option ℕ) (named_is : named ≡ first_not_standard 1 lines (printed_so_far lines)) where
     pub state-there : checker_state_with before (length lines) totals named ≡ check_state lines
@@ -229,18 +204,15 @@ none-named names rows none empty = λ name named. empty name ∙ rw (none) refl
 -- whether a satellite is among some rows and one more
 among-more : (name : List ℕ) (rows : List ObservationRow) (row : ObservationRow)
     → has_satellite name (rows ++ row ∷ []) ≡ (bytes_eq row.name name || has_satellite name rows)
-among-more name [] row = refl
-among-more name (r ∷ rows) row = swapped (bytes_eq r.name name) (bytes_eq row.name name) _ _ (among-more name rows row)
-  where
-    swapped : (b c : Bool) (d e : Bool) → d ≡ (c || e) → (b || d) ≡ (c || (b || e))
-    swapped b c d e is = grind (arith, common_steps)
+among-more name rows row = grind (arith, common_steps)
 
 -- an identifier was put into a table
 abbrev pub IsPut : List Bool → List ℕ → List Bool → Type 0
 IsPut names name then = (other : List ℕ) → is_identifier other ≡ true
     → has_identifier then other ≡ (bytes_eq name other || has_identifier names other)
 
-module _ (names then : List Bool) (rows : List ObservationRow) (row : ObservationRow) (named : AreNamed names rows)
+module _ (names then : List Bool) (rows : List ObservationRow) (row : ObservationRow) (named : AreNamed names
+    rows)
     (put : IsPut names row.name then) (sound : is_identifier row.name ≡ true) where
   -- with the next row's identifier all rows are named
   pub named-next : AreNamed then (rows ++ row ∷ [])

@@ -1,16 +1,18 @@
--- What a compaction knows of the lines that it has taken: what it holds is enough for each epoch that was accepted.
+-- What a compaction knows of the lines that it has taken: what it holds is enough for each epoch that was
+-- accepted.
 use Rattle.crx_filter.proofs
-use proofs.Words.{common_steps, arith, ℕ, zero, suc, ◌≡◌, Bool, true, false, not, List, [], ◌∷◌, ◌++◌, map}
+use proofs.Words.{common_steps, arith, ℕ, ◌≡◌, Bool, true, false, not, List, [], ◌∷◌, ◌++◌, map}
 use proofs.Words.{All, length, drop, Option, Some, None, Result, Ok, Err, refl, ap, sym, subst, ◌∙◌}
 use proofs.Words.{append-nil, append_assoc, none-some, map-append, flat_map, flat_map-append, false-true}
-use proofs.Words.{true≢false, InputLine, ReadLine, Content, Overlong, as_read, Count, Epoch, Row, Observation}
-use proofs.Words.{OpenEpoch, next_row, row_of, with_next_row, rows_wanted, Choices, Item, types_in_force}
+use proofs.Words.{◌+◌, true≢false, InputLine, ReadLine, Content, Overlong, as_read, Count, Epoch, Row}
+use proofs.Words.{Observation}
+use proofs.Words.{OpenEpoch, row_of, Choices, Item, types_in_force}
 use proofs.Words.{rinex_reading, Reading, Stop, AtFault, AtLines, Looking, RunState, InEpoch, Made, Completes}
 use proofs.Words.{made_in, state_next, step_of_made, is_again, compaction, compaction_state, rinex_open}
 use proofs.Words.{Written, with_next, Stage, is_open_stage, phase_of, phase_of_stage, phase_in_body}
 use proofs.Words.{epoch_open, inl, inr, RinexReader, made_at, reader_phase, MovesReader, Completed}
 use proofs.Words.{CompletedEpoch, FileUnit, HeaderLine, EventLine, EventRecord, epoch_by_rows, Fault}
-use proofs.Words.{after_row, Beginning, EventBegins, EpochBegins, ObservationHead, beginning_of, Moves}
+use proofs.Words.{Beginning, ObservationHead, beginning_of, Moves}
 use proofs.Words.{is_in_epoch, is_long, Open, opened, InHeader, header_has_ended, is_at_start, records_left}
 use proofs.{Words.{records_count_types, cond, LINE_LIMIT, ◌≤◌}, Pending.again-lines}
 use proofs.following.{Collecting.{add_made, given-epochs, given-past}, CompactedOn.as_it_is}
@@ -19,16 +21,17 @@ use proofs.steps.{CompactionSteps.CompletesEvent, EngineAnswers.{as-read-within,
 use proofs.steps.{Given.{counts-there, given-either, types-there}, RoomsOfEpochs.{epochs-kept, held-kept}}
 use proofs.steps.{RoomsOfEpochs.{room-later, row-enough, whole-held}, Together.rows-there}
 use Rattle.crx_compact.specs.{Encoding.EncoderState, EncodingRooms.{HasSameMemory, HasRowRoom, EncodingRoom}}
-use Rattle.crx_compact.specs.{EncodingRooms.KeepsEncodingRoom, meaning.EpochText.Satellite}
+use Rattle.crx_compact.specs.{EncodingRooms.KeepsEncodingRoom}
 use Rattle.crx_filter.specs.CompactionParts.{BelongTogether, CompactionState, HasHeldFor, HoldsEpochs}
 use Rattle.crx_filter.specs.CompactionParts.{HoldsRows, compaction_line_outgrows, compaction_parts}
 use Rattle.crx_filter.specs.DirectionParts.{ComesAfter, brings_nothing, state_by}
 use Rattle.crx_filter.specs.{RinexStages.{is_rinex_stage, open_epoch}, Rooms.HasRoomForRow}
 use Rattle.crx_filter.specs.{Rooms.HasRoomInCompaction, meaning.Memory.{are_types_awaited, compact_line_room}}
-use Rattle.crx_filter.specs.meaning.Memory.{compaction_outgrows, accepted_epochs, are_enough_for}
-use Rattle.crx_filter.specs.meaning.Memory.{brought_by_line, brought_by_row, lines_open, satellite_of_row}
-use Rattle.crx_rinex.specs.EpochPlaces.{open_after, open_with, opened_by, still_open, when_wanted}
-use Rattle.std.proofs.lemmas.{Bool.{not-false, or_parts}, List.Elements.All-cons, Option.same_Some}
+use Rattle.crx_filter.specs.meaning.Memory.{accepted_epochs, are_enough_for}
+use Rattle.crx_filter.specs.meaning.Memory.{brought_by_line, lines_open, satellite_of_row}
+use Rattle.crx_rinex.specs.EpochPlaces.{epoch_step, open_after, open_with, opened_by, still_open}
+use Rattle.crx_filter.specs.declared.compaction.Compaction.TheInside.{Inside as Compaction}
+use Rattle.std.proofs.lemmas.{Bool.{not-false, or_parts}, List.Elements.All-cons}
 use Rattle.std.specs.Prelude.{IfOk, ⊤}
 
 -- ---- the epochs after one line more
@@ -65,84 +68,66 @@ module _ (choices : Choices) (lines : List InputLine) (line : InputLine) (before
 
 -- a line that brings nothing
 pub knows-past : (choices : Choices) (lines : List InputLine) (line : InputLine) (c : CompactionState)
-    → (given : ComesAfter compaction (λ choices. choices) compaction_state choices lines line (compaction_parts c))
+    → (given : ComesAfter compaction (λ choices. choices) compaction_state choices lines line
+    (compaction_parts c))
     → HoldsEpochs c choices lines → brings_nothing (state_next compaction
     (state_by choices (length lines) (compaction_parts c)) (as_read line)).answer (as_read line) ≡ true
     → HoldsEpochs c choices (with_next lines line)
 knows-past choices lines line c given knew passed = subst (All (HasHeldFor c.encoder.room)) (sym (given-past
-    compaction as_it_is compaction_state choices (epochs_collected choices) (compaction-collects choices) lines
+    compaction as_it_is compaction_state choices (epochs_collected choices) (compaction-collects choices)
+    lines
     line (compaction_parts c) given (λ types kept. refl) (λ so_far. refl) passed)) knew
 
 -- ---- the rows of an open epoch are those of its lines
-
-none-after : (lines : List ReadLine) → open_after None lines ≡ None
-none-after lines = refl
-
--- a good row is the row that its line is
-satellite-of-row : (s : OpenEpoch) (content : List ℕ) (row : Row) → next_row s content ≡ Ok row
-    → brought_by_line s.types (Content content) ≡ satellite_of_row row ∷ []
-satellite-of-row s content row is = grind (arith, common_steps)
 
 -- the satellites of some lines come after those before
 abbrev AreAfter : OpenEpoch → OpenEpoch → List ReadLine → Type 0
 AreAfter s so_far lines = (so_far.types ≡ s.types) × (map satellite_of_row s.rows
     ++ flat_map (brought_by_line s.types) lines ≡ map satellite_of_row so_far.rows)
 
-satellites-next : (s so_far : OpenEpoch) (content : List ℕ) (lines : List ReadLine) → ((t : OpenEpoch)
-    → open_after (Some t) lines ≡ Some so_far → AreAfter t so_far lines) → (r : Result Row Fault)
-    → next_row s content ≡ r → open_after (still_open (after_row s r)) lines ≡ Some so_far
-    → AreAfter s so_far (Content content ∷ lines)
-satellites-next s so_far content lines rest (Err fault) is opens =
-    absurd (none-some so_far (sym (none-after lines) ∙ opens))
-satellites-next s so_far content lines rest (Ok row) is opens =
-    by_count (rows_wanted (with_next_row s row)) opens
-  where
-    by_count : (n : ℕ) → open_after (still_open (when_wanted n (with_next_row s row))) lines ≡ Some so_far
-        → AreAfter s so_far (Content content ∷ lines)
-    by_count zero opens = absurd (none-some so_far (sym (none-after lines) ∙ opens))
-    by_count (suc n) opens =
-        let after = rest (with_next_row s row) opens in
-        let one = satellite-of-row s content row is in (
-          after.0,
-          ap (λ (found : List Satellite). map satellite_of_row s.rows
-              ++ (found ++ flat_map (brought_by_line s.types) lines)) one
-              ∙ sym (append_assoc (map satellite_of_row s.rows) (satellite_of_row row ∷ [])
-              (flat_map (brought_by_line s.types) lines))
-              ∙ ap (λ (found : List Satellite). found ++ flat_map (brought_by_line s.types) lines)
-              (sym (map-append satellite_of_row s.rows (row ∷ []))) ∙ after.1,
-        )
+-- a line that leaves the epoch open has brought its row
+row-brought : (s t : OpenEpoch) (line : ReadLine) → still_open (epoch_step s line) ≡ Some t → (t.types
+    ≡ s.types)
+    × (map satellite_of_row t.rows ≡ map satellite_of_row s.rows ++ brought_by_line s.types line)
+row-brought s t line e = grind (arith, common_steps, map-append)
 
 satellites-after : (s so_far : OpenEpoch) (lines : List ReadLine) → open_after (Some s) lines ≡ Some so_far
     → AreAfter s so_far lines
-satellites-after s so_far [] e =
-    let same = same_Some s so_far e in (
-      ap (λ (o : OpenEpoch). o.types) (sym same),
-      append-nil (map satellite_of_row s.rows)
-          ∙ ap (λ (o : OpenEpoch). map satellite_of_row o.rows) same,
-    )
-satellites-after s so_far (Overlong ∷ lines) e = absurd (none-some so_far (sym (none-after lines) ∙ e))
-satellites-after s so_far (Content content ∷ lines) e = satellites-next s so_far content lines
-    (λ t opens. satellites-after t so_far lines opens) (next_row s content) refl e
+satellites-after s so_far [] e = grind (arith, common_steps, append-nil)
+satellites-after s so_far (line ∷ lines) e =
+    by_step (λ t opens. satellites-after t so_far lines opens) (still_open (epoch_step s line)) refl e
+  where
+    by_step : ((t : OpenEpoch) → open_after (Some t) lines ≡ Some so_far → AreAfter t so_far lines)
+        → (o : Option OpenEpoch) → still_open (epoch_step s line) ≡ o → open_after o lines ≡ Some so_far
+        → AreAfter s so_far (line ∷ lines)
+    by_step rest None is opens = absurd (none-some so_far opens)
+    by_step rest (Some t) is opens =
+        let now = row-brought s t line is in
+        let after = rest t opens in
+        (after.0 ∙ now.0, rw (now.1, now.0, append_assoc) at after.1)
+
+-- a line that opens an epoch brings no row
+none-brought : (types : List Count) (b : Result Beginning Fault) (s : OpenEpoch) → opened_by types b ≡ Some s
+    → (s.types ≡ types) × (s.rows ≡ [])
+none-brought types b s e = grind (arith, common_steps)
 
 -- the lines after the epoch's line bring the rows that have come
 satellites-open : (types : List Count) (so_far : OpenEpoch) (lines : List ReadLine)
     → open_with types lines ≡ Some so_far → (so_far.types ≡ types)
     × (flat_map (brought_by_line types) (drop 1 lines) ≡ map satellite_of_row so_far.rows)
 satellites-open types so_far [] e = absurd (none-some so_far e)
-satellites-open types so_far (Overlong ∷ lines) e = absurd (none-some so_far (sym (none-after lines) ∙ e))
-satellites-open types so_far (Content content ∷ lines) e = by_beginning (beginning_of content) e
+satellites-open types so_far (Overlong ∷ lines) e = absurd (none-some so_far e)
+satellites-open types so_far (Content content ∷ lines) e =
+    by_opened (opened_by types (beginning_of content)) refl e
   where
-    by_count : (head : ObservationHead) (n : ℕ)
-        → open_after (still_open (when_wanted n (opened types head))) lines ≡ Some so_far
-        → (so_far.types ≡ types) × (flat_map (brought_by_line types) lines ≡ map satellite_of_row so_far.rows)
-    by_count head zero opens = absurd (none-some so_far (sym (none-after lines) ∙ opens))
-    by_count head (suc n) opens = satellites-after (opened types head) so_far lines opens
-
-    by_beginning : (b : Result Beginning Fault) → open_after (opened_by types b) lines ≡ Some so_far
-        → (so_far.types ≡ types) × (flat_map (brought_by_line types) lines ≡ map satellite_of_row so_far.rows)
-    by_beginning (Err fault) opens = absurd (none-some so_far (sym (none-after lines) ∙ opens))
-    by_beginning (Ok (EventBegins l)) opens = absurd (none-some so_far (sym (none-after lines) ∙ opens))
-    by_beginning (Ok (EpochBegins head)) opens = by_count head (rows_wanted (opened types head)) opens
+    by_opened : (o : Option OpenEpoch) → opened_by types (beginning_of content) ≡ o
+        → open_after o lines ≡ Some so_far → (so_far.types ≡ types)
+        × (flat_map (brought_by_line types) lines ≡ map satellite_of_row so_far.rows)
+    by_opened None is opens = absurd (none-some so_far opens)
+    by_opened (Some s) is opens =
+        let none = none-brought types (beginning_of content) s is in
+        let after = satellites-after s so_far lines opens in
+        (after.0 ∙ none.0, rw (none.0, none.1) at after.1)
 
 -- ---- what is enough
 
@@ -175,26 +160,19 @@ row-there : (line : List ℕ) (types : List Count) (rows : List Row) (epochs : L
     (before : List ReadLine) (room : EncodingRoom) → HoldsRows rows room → All (HasHeldFor room) epochs
     → flat_map (brought_by_line types) before ≡ map satellite_of_row rows
     → are_enough_for compact_line_room (brought_by_line types (Content line))
-    (flat_map (brought_by_line types) (before ++ Content line ∷ [])) epochs ≡ true → HasRoomForRow types line room
+    (flat_map (brought_by_line types) (before ++ Content line ∷ [])) epochs ≡ true
+    → HasRoomForRow types line room
 row-there line types rows epochs before room holds all come enough = by_row (row_of types line) refl
   where
-    all-come : flat_map (brought_by_line types) (before ++ Content line ∷ [])
-        ≡ map satellite_of_row rows ++ brought_by_line types (Content line)
-    all-come = flat_map-append (brought_by_line types) before (Content line ∷ [])
-        ∙ ap (λ (found : List Satellite). found ++ (brought_by_line types (Content line) ++ [])) come
-        ∙ ap (λ (found : List Satellite). map satellite_of_row rows ++ found)
-        (append-nil (brought_by_line types (Content line)))
-
     by_row : (r : Result Row Fault) → row_of types line ≡ r → IfOk r (λ row. HasRowRoom row room)
     by_row (Err fault) is = tt
     by_row (Ok row) is =
-        let one : brought_by_line types (Content line) ≡ satellite_of_row row ∷ [] = ap brought_by_row is in
-        row-enough rows row epochs room holds all (sym (ap (λ (new : List Satellite). are_enough_for compact_line_room new
-        (map satellite_of_row rows ++ new) epochs) one) ∙ sym (ap (λ (together : List Satellite).
-        are_enough_for compact_line_room (brought_by_line types (Content line)) together epochs) all-come) ∙ enough)
+        row-enough rows row epochs room holds all
+        (rw (flat_map-append (brought_by_line types) before (Content line ∷ []), come, is) at enough)
 
 module _ (choices : Choices) (lines : List InputLine) (line : InputLine) (c : CompactionState)
-    (given : ComesAfter compaction (λ choices. choices) compaction_state choices lines line (compaction_parts c))
+    (given : ComesAfter compaction (λ choices. choices) compaction_state choices lines line (compaction_parts
+    c))
   where
     abbrev read : Reading Epoch
     read = rinex_reading choices.skip (map as_read lines)
@@ -203,7 +181,7 @@ module _ (choices : Choices) (lines : List InputLine) (line : InputLine) (c : Co
     phase-there : (so_far : OpenEpoch) → phase_of_stage (epoch_open c.reader) c.reader.stage ≡ InEpoch so_far
         → InEpoch so_far ≡ phase_of rinex_open read
     phase-there so_far opens = elim (given-either compaction compaction_state choices lines line
-        (compaction_parts c) given) as (λ _. InEpoch so_far ≡ phase_of rinex_open read) [
+        (compaction_parts c) given) [
           | inl same ↦ sym opens ∙ ap (λ (s : RunState OpenEpoch Written). s.phase) same
           | inr again ↦ false-true (ap (is_in_epoch {O = OpenEpoch}) (sym again.phase ∙ opens))
         ]
@@ -211,20 +189,21 @@ module _ (choices : Choices) (lines : List InputLine) (line : InputLine) (c : Co
     pub has-enough : BelongTogether c.reader c.encoder → HoldsEpochs c choices lines → is_long line ≡ false
         → compaction_line_outgrows choices lines line ≡ false → HasRoomInCompaction c line.content
     has-enough together knew short needs =
-        let needs_here : compaction_outgrows read (Content line.content) ≡ false =
-        ap (compaction_outgrows read) (sym (as-read-short line short)) ∙ needs in
         let there = types-there compaction compaction_state choices lines line (compaction_parts c) given in
-        let both = or_parts (are_types_awaited read.items) _ needs_here in
+        let both = or_parts (are_types_awaited read.items) _ (rw (as-read-short line short) at needs) in
         record {
           types = λ counts none. true≢false (sym (counts-there compaction compaction_state
-              choices lines line (compaction_parts c) given rinex_open read refl (λ counted same. same) counts none)
+              choices lines line (compaction_parts c) given rinex_open read refl (λ counted same. same)
+              counts none)
               ∙ both.0);
           row = λ opened.
-              let held = open-held c.reader.stage c.reader.types c.reader.head c.reader.count c.reader.rows.rows
+              let held = open-held c.reader.stage c.reader.types c.reader.head c.reader.count
+              c.reader.rows.rows
               c.reader.consistent opened in
               let come = satellites-open (types_in_force read.items) held.0 (lines_open read.stop)
               (open-lines read.items read.stop held.0 (phase-there held.0 held.1)) in
-              let rows : c.encoder.rows ≡ c.reader.rows.rows = rows-there c.reader c.encoder together opened in
+              let rows : c.encoder.rows ≡ c.reader.rows.rows = rows-there c.reader c.encoder together opened
+              in
               subst (λ (t : List Count). HasRoomForRow t line.content c.encoder.room) (sym there) (row-there
               line.content (types_in_force read.items) c.encoder.rows (accepted_epochs read.items)
               (drop 1 (lines_open read.stop)) c.encoder.room (together.held (together.opened ∙ opened)) knew
@@ -237,56 +216,62 @@ module _ (choices : Choices) (lines : List InputLine) (line : InputLine) (c : Co
 abbrev pub compaction_of : ℕ → RinexReader → EncoderState → CompactionState
 compaction_of index reader encoder = record { index = index; reader = reader; encoder = encoder }
 
-module _ (index : ℕ) (reader : RinexReader) (encoder : EncoderState) (bytes : List ℕ) (line : InputLine)
-    (short : length line.content ≤ LINE_LIMIT) (content : bytes ≡ line.content) (choices : Choices) (lines : List InputLine)
-    (given : ComesAfter compaction (λ choices. choices) compaction_state choices lines line
-    (compaction_parts (compaction_of index reader encoder)))
-    (knew : HoldsEpochs (compaction_of index reader encoder) choices lines) where
-  abbrev kept_before : Written
-  kept_before = record { index = index; tail = encoder.before }
+-- what a compaction keeps of the epochs before
+abbrev pub kept_in : Compaction → Written
+kept_in inside = record { index = inside.index; tail = inside.encoder.before }
 
-  made-read : (made : Made Epoch OpenEpoch) → made_at reader bytes kept_before ≡ made
-      → made_in compaction (reader_phase reader) reader.types kept_before (as_read line) ≡ made
-  made-read made is = ap (made_in compaction (reader_phase reader) reader.types kept_before)
-      (as-read-within line bytes short content) ∙ is
+module _ (inside : Compaction) (bytes : List ℕ) (line : InputLine) (short : length line.content ≤ LINE_LIMIT)
+    (content : bytes ≡ line.content) (number : ℕ) (new : EncoderState) where
+  abbrev before : CompactionState
+  before = compaction_of inside.index inside.reader inside.encoder
+
+  abbrev made : Made Epoch OpenEpoch
+  made = made_at inside.reader bytes (kept_in inside)
+
+  -- what this encoder holds then is enough for the epochs of the lines with this one, too
+  abbrev KnowsThen : Type 0
+  KnowsThen = (choices : Choices) (lines : List InputLine) → ComesAfter compaction (λ choices. choices)
+      compaction_state choices lines line (compaction_parts before) → HoldsEpochs before choices lines
+      → number ≡ length lines + 1 → HoldsEpochs (compaction_of 0 inside.reader new) choices (with_next lines
+      line)
+
+  knows-made : (makes : Made Epoch OpenEpoch) → made ≡ makes → ((s : RunState OpenEpoch Written)
+      → is_again (step_of_made compaction s (as_read line) makes).answer ≡ false)
+      → KeepsEncodingRoom inside.encoder.room new.room → AddsHeld new.room makes → KnowsThen
+  knows-made makes is once kept adds = λ choices lines given knew counted.
+      knows-next choices lines line before given knew (compaction_of 0 inside.reader new) makes kept
+      (ap (made_in compaction (reader_phase inside.reader) inside.reader.types (kept_in inside))
+      (as-read-within line bytes short content) ∙ is)
+      (once (state_by choices (length lines) (compaction_parts before))) adds
 
   -- it completes no unit
-  pub knows-moved : (after : CompactionState) (next : RinexReader)
-      → MovesReader (made_at reader bytes kept_before) reader next
-      → KeepsEncodingRoom encoder.room after.encoder.room → HoldsEpochs after choices (with_next lines line)
-  knows-moved after next moves kept =
-      knows-next choices lines line (compaction_of index reader encoder) given knew after
-      (Moves (reader_phase next)) kept (made-read (Moves (reader_phase next)) moves.moved) refl tt
+  pub knows-moved : (next : RinexReader) → MovesReader made inside.reader next
+      → KeepsEncodingRoom inside.encoder.room new.room → KnowsThen
+  knows-moved next moves kept = knows-made (Moves (reader_phase next)) moves.moved (λ s. refl) kept tt
 
-  knows-unit : (after : CompactionState) (unit : FileUnit Epoch) → made_at reader bytes kept_before ≡ Completes unit
-      → KeepsEncodingRoom encoder.room after.encoder.room → AddsHeld after.encoder.room (Completes unit)
-      → HoldsEpochs after choices (with_next lines line)
-  knows-unit after unit is kept adds =
-      let before = compaction_of index reader encoder in
-      let state = state_by choices (length lines) (compaction_parts before) in
-      knows-next choices lines line before given knew after (Completes unit) kept (made-read (Completes unit) is)
-      (again-lines (compaction.written state unit)) adds
+  knows-unit : (unit : FileUnit Epoch) → made ≡ Completes unit
+      → KeepsEncodingRoom inside.encoder.room new.room → AddsHeld new.room (Completes unit) → KnowsThen
+  knows-unit unit is kept adds =
+      knows-made (Completes unit) is (λ s. again-lines (compaction.written s unit)) kept adds
 
   -- it is copied
-  pub knows-header : (after : CompactionState) (next : RinexReader)
-      → Completed (made_at reader bytes kept_before) (HeaderLine bytes) reader next
-      → KeepsEncodingRoom encoder.room after.encoder.room → HoldsEpochs after choices (with_next lines line)
-  knows-header after next done kept = knows-unit after (HeaderLine bytes) done.unit_made kept tt
+  pub knows-header : (next : RinexReader) → Completed made (HeaderLine bytes) inside.reader next
+      → KeepsEncodingRoom inside.encoder.room new.room → KnowsThen
+  knows-header next done kept = knows-unit (HeaderLine bytes) done.unit_made kept tt
 
-  pub knows-event : (after : CompactionState) (next : RinexReader)
-      → CompletesEvent (made_at reader bytes kept_before) bytes reader next
-      → KeepsEncodingRoom encoder.room after.encoder.room → HoldsEpochs after choices (with_next lines line)
-  knows-event after next (inl done) kept = knows-unit after (EventLine bytes) done.unit_made kept tt
-  knows-event after next (inr done) kept = knows-unit after (EventRecord bytes) done.unit_made kept tt
+  pub knows-event : (next : RinexReader) → CompletesEvent made bytes inside.reader next
+      → KeepsEncodingRoom inside.encoder.room new.room → KnowsThen
+  knows-event next (inl done) kept = knows-unit (EventLine bytes) done.unit_made kept tt
+  knows-event next (inr done) kept = knows-unit (EventRecord bytes) done.unit_made kept tt
 
   -- it completes an epoch, whose rows the encoder had
-  pub knows-epoch : (after : CompactionState) (next : RinexReader) (mid : EncoderState)
-      → CompletedEpoch (made_at reader bytes kept_before) bytes reader next → mid.rows ≡ next.rows.rows
-      → HoldsRows mid.rows mid.room → KeepsEncodingRoom encoder.room mid.room
-      → HasSameMemory mid.room after.encoder.room → HoldsEpochs after choices (with_next lines line)
-  knows-epoch after next mid done rows holds kept memory =
+  pub knows-epoch : (next : RinexReader) (mid : EncoderState)
+      → CompletedEpoch made bytes inside.reader next → mid.rows ≡ next.rows.rows
+      → HoldsRows mid.rows mid.room → KeepsEncodingRoom inside.encoder.room mid.room
+      → HasSameMemory mid.room new.room → KnowsThen
+  knows-epoch next mid done rows holds kept memory =
       let epoch : Epoch = epoch_by_rows done.head next.rows.rows in
-      knows-unit after (Observation epoch) done.is.unit_made
-      (room-later encoder.room mid.room after.encoder.room kept memory.kept)
-      (held-kept mid.room after.encoder.room epoch memory.kept (whole-held epoch mid.room
+      knows-unit (Observation epoch) done.is.unit_made
+      (room-later inside.encoder.room mid.room new.room kept memory.kept)
+      (held-kept mid.room new.room epoch memory.kept (whole-held epoch mid.room
       (subst (λ (rs : List Row). HoldsRows rs mid.room) rows holds)))

@@ -39,8 +39,8 @@ module _ {serves : Choices → Type 0} {before after : DirectionParts OpenEpoch 
 
 -- ---- a line's step, by the reader
 
--- what a compaction has between two lines, by its reader and what is kept of the epochs
-abbrev pub parts_with : RinexReader → Written → DirectionParts OpenEpoch Written
+-- what is there between two lines, by the reader and what is kept of the epochs
+abbrev pub parts_with : {K : Type 0} → RinexReader → K → DirectionParts OpenEpoch K
 parts_with reader kept =
     record { stage = reader.stage; begun = epoch_open reader; types = reader.types; kept = kept }
 
@@ -49,8 +49,7 @@ pub refused-read : {serves : Choices → Type 0} (before after : RinexReader) {k
     {line : List ℕ} {ready : List (List ℕ)} {fault : Fault} → RefusesRinexLine (made_at before line kept)
     before line fault → after.types ≡ before.types → now.index ≡ kept.index → ready ≡ [] → Reads compaction
     serves (parts_with before kept) line (Err fault) ready (parts_with after now)
-refused-read before after known typed counted none =
-    grind (arith, common_steps, refused-reads)
+refused-read before after known typed counted none = grind (arith, common_steps)
 
 module _ {serves : Choices → Type 0} {before after : RinexReader} {kept : Written} {line : List ℕ} where
   pub moved-read : {ready : List (List ℕ)} → MovesReader (made_at before line kept) before after → ready ≡ []

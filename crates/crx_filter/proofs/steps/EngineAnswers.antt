@@ -7,10 +7,10 @@ use proofs.Words.{◌&&◌, InputLine, is_long, ReadLine, Content, Overlong, as_
 use proofs.Words.{Choices, with_next, step_made, Steps, is_again, Fed, fed_once, fed_twice, fed, LookingOn}
 use proofs.Words.{RunState, Direction, Made, Rejects, Notice, LineStep, made_in, may_skip, is_in_epoch}
 use proofs.Words.{is_skipped_in, step_of_made, state_next, takes_memory, can_go_on, is_skippable, ◌++◌}
-use proofs.Words.{by_bool, Completes, false≢true, answer_of_step, noticed_by, reverse-append, false-true}
+use proofs.Words.{by_bool, Completes, false≢true, answer_of_step, noticed_by, false-true}
 use proofs.Words.{after_warning, failed_by, RunEnded, Bool}
 use Rattle.std.specs.Prelude.{IfErr}
-use Rattle.crx_filter.specs.DirectionParts.{EngineParts, IsAfterLines, ComesAfter, state_by}
+use Rattle.crx_filter.specs.DirectionParts.{EngineParts, IsAfterLines, ComesAfter}
 use Rattle.crx_filter.specs.{EngineLaws.{FollowsBy, GoesLineByLine}, EngineLines.HasTaken, EngineSteps.RanOut}
 use Rattle.crx_filter.specs.EngineState.{EngineGoes, EngineNotes, KnowsAfter, RanOutBefore, engine_state}
 use Rattle.crx_filter.specs.EngineState.{AnswersBySeen, ConcludesBySeen, engine_seen, engine_took}
@@ -112,16 +112,8 @@ module _ {U O K : Type 0} {direction : Direction U O K} {closing_after : List In
       -- the first time
       first-time : (result : Result Step At) → step_made result ready now ≡ state_next direction first
           (as_read line) → EngineAnswers filter shows ready lines [] line result
-      first-time result s = grind (
-        arith,
-        common_steps,
-        fed-answers,
-        fed-once first (as_read line) (step_made result ready now) s,
-        fed-again first (as_read line) (step_made result ready now) s,
-        quiet-next direction first (as_read line) (step_made result ready now) s,
-        follows-fed,
-        reverse-append,
-      )
+      first-time result s =
+          grind (arith, common_steps, fed-answers, fed-once, fed-again, quiet-next, follows-fed)
 
       -- the second time, after a warning
       second-time : (notice : At) (before : RunState O K) (result : Result Step At) → record
@@ -152,9 +144,7 @@ module _ {U O K : Type 0} {direction : Direction U O K} {closing_after : List In
       → HasTaken direction state_after_lines before lines (a ∷ []) → a.line ≡ line
       → record { answer = Notice a.notice true; handed_out = []; next = before }
       ≡ state_next direction (state_after_lines (map as_read lines)) (as_read line)
-  first-step before lines a line taken awaited =
-      subst (λ (l : InputLine). record { answer = Notice a.notice true; handed_out = []; next = before }
-      ≡ state_next direction (state_after_lines (map as_read lines)) (as_read l)) awaited taken
+  first-step before lines a line taken awaited = grind (arith, common_steps)
 
   -- an engine's own step is an answer
   answers-step : (shows : List InputLine → List Awaited → Type 0) (before now : RunState O K)
@@ -257,14 +247,7 @@ module _ {D : Type 0} (d : Ghosts D) (before : EngineParts D) (goes : EngineGoes
   given-line : (lines : List InputLine) (notices : List Awaited) (line : InputLine)
       → engine_took d before lines notices → IsAwaited notices line
       → ComesAfter d.by_line d.chosen d.state_after_lines before.options lines line (d.parts before.direction)
-  given-line lines notices line took awaited = record {
-    taken_as = goes.chosen;
-    notices = notices;
-    has_taken = subst (λ (n : ℕ). HasTaken d.by_line (d.state_after_lines before.options)
-        (state_by before.options n (d.parts before.direction)) lines notices)
-        (taken-lines goes.lawful (engine_state d before) lines notices took.0) took.0;
-    awaited = awaited;
-  }
+  given-line lines notices line took awaited = grind (arith, common_steps, taken-lines)
 
   -- an engine whose choices are as they were answers a line by what is seen of it
   module _ (after : EngineParts D) {ready : List (List ℕ)} (line : InputLine) (read : ReadLine)
@@ -281,8 +264,7 @@ module _ {D : Type 0} (d : Ghosts D) (before : EngineParts D) (goes : EngineGoes
     pub answers-kept : IfErr result (λ at. at.fault ≡ OutOfMemory → ⊥)
         → Steps d.by_line (engine_state d before) read result ready (engine_state d after)
         → AnswersBySeen d before line result ready after
-    answers-kept kept (inl made) = answers-seen made
-    answers-kept kept (inr out) = absurd ((rw (out.is) at kept) out.fault)
+    answers-kept kept steps = grind (arith, common_steps, answers-seen)
 
   -- and concludes by it where it hands out what is to be handed out
   pub concludes-seen : (now : RunState d.Open d.Kept) (ready : List (List ℕ)) (result : Result Step At)
@@ -301,19 +283,14 @@ module _ {D : Type 0} (d : Ghosts D) (before : EngineParts D) (goes : EngineGoes
     -- where there is room, memory doesn't run out
     never : d.has_room before.direction line.content
         → RanOut d.by_line (engine_state d before) (as_read line) result (engine_state d after) → ⊥
-    never room out = ended-takes d.by_line (engine_state d before) (as_read line) out.at
-        ((rw (out.is) at (known room)) out.fault) out.allowed
+    never room out = grind (arith, common_steps, ended-takes)
 
     -- so where it runs out, the line needs more
     needed : (notices : List Awaited) → engine_took d before lines notices → IsAwaited notices line
         → RanOut d.by_line (engine_state d before) (as_read line) result (engine_state d after)
         → d.outgrows before.options lines line ≡ true
-    needed notices took awaited out = by_bool (d.outgrows before.options lines line) (λ on. on)
-        (λ off. by_bool (is_long line)
-        (λ long. absurd (false≢true (ap (takes_memory d.by_line (engine_state d before))
-        (sym (as-read-long line long)) ∙ out.allowed)))
-        (λ short. absurd (never (goes.enough before.options lines line
-        (given-line lines notices line took awaited) took.1 short off) out)))
+    needed notices took awaited out =
+        grind (arith, common_steps, by_bool, false≢true, as-read-long, never, given-line)
 
     -- and shows what it took
     pub engine-answers : (notices : List Awaited) → after.options ≡ before.options → as_read line ≡ read

@@ -5,7 +5,7 @@ use Words.{common_steps, arith, ◌≡◌, ℕ, ◌+◌, Bool, true, false, ◌&
 use Words.{Ok, Err, inl, refl, Content, Overlong, At, Fault, LineTooLong, Count, Choices, RunState, Direction}
 use Words.{Rejects, made_in, RunEnded, is_skipped_in, may_skip, is_skippable, failed_step, state_next}
 use Words.{begins_epoch, step_made, is_held, phase_of_stage, Stage, false≢true, InputLine, with_next}
-use Words.{ReadLine, LineStep, Steps, as_read, length, ap, sym, inr}
+use Words.{ReadLine, Steps, as_read, length}
 use specs.DirectionParts.{DirectionParts, state_by, Reads, AnswersToFault, TakesLine, handed_out_by}
 use specs.{DirectionParts.{ComesAfter, KnowsStill, brings_nothing}, EngineState.{KnowsAfter, is_refusal}}
 use specs.{DirectionParts.hands_out, EngineSteps.answer_of_step, LineByLine.{end_step, answer_of_lines}}
@@ -13,7 +13,7 @@ use specs.{LineByLine.fault_at_end_in, LineByLine.state_end_with, Stages.{bare_p
 use specs.declared.stage.Stage.TheVariants.{Looking, Closed, Ended}
 use Rattle.crx_filter.proofs.{Pending.state_in, steps.EngineLemmas.{failed-at, fatal-counts, out-fatal}}
 use Rattle.crx_filter.proofs.steps.EngineLemmas.{no-skip, ran-out}
-use Rattle.crx_runs.specs.declared.engine.Step.{Step, TheVariants.{Quiet, Ready, Warned}}
+use Rattle.crx_runs.specs.declared.engine.Step.{Step, TheVariants.{Warned}}
 use Rattle.std.proofs.Common.{OnErr, IfErr, IfOk}
 use Rattle.crx_runs.specs.Engines.{answer_given, lines_handed_out}
 use Rattle.crx_runs.specs.declared.engine.HandedOut.{HandedOut, TheVariants.{Nothing, Lines, AsItIs}}
@@ -32,17 +32,13 @@ pub notes-handed : (knows : List InputLine → Type 0) (lines : List InputLine) 
     (out : HandedOut) (stored : Result Step At)
     → IfOk (hands_out (Ok out)) (λ is_ready. knows (with_next lines line))
     → KnowsAfter knows lines line (answer_given (Some out) stored)
-notes-handed knows lines line Nothing stored known = known
-notes-handed knows lines line Lines stored known = known
-notes-handed knows lines line AsItIs stored known = known
+notes-handed knows lines line out stored known = grind (arith, common_steps)
 
 -- a line with a warning that doesn't come again brings nothing
 warned-passed : {U O K : Type 0} (direction : Direction U O K) (before after : RunState O K) (line : ReadLine)
     (ready : List (List ℕ)) (notice : At) → Steps direction before line (Ok (Warned notice false)) ready after
     → brings_nothing (state_next direction before line).answer line ≡ true
-warned-passed {O = O} {K = K} direction before after line ready notice (inl e) =
-    ap (λ (s : LineStep O K). brings_nothing s.answer line) (sym e)
-warned-passed direction before after line ready notice (inr out) = absurd (cc (out.is))
+warned-passed direction before after line ready notice steps = grind (arith, common_steps)
 
 module _ {U O K : Type 0} (direction : Direction U O K) (chosen : Choices → Choices)
     (state_after_lines : Choices → List ReadLine → RunState O K) (choices : Choices) (number : ℕ)
@@ -56,16 +52,8 @@ module _ {U O K : Type 0} (direction : Direction U O K) (chosen : Choices → Ch
       → (lines : List InputLine) → number ≡ length lines
       → ComesAfter direction chosen state_after_lines choices lines line before → knew choices lines
       → KnowsAfter (knows choices) lines line result
-  notes-refused (Ok (Warned notice true)) read ready after refused is steps lines counted given known =
-      stays lines known
-  notes-refused (Ok (Warned notice false)) read ready after refused is steps lines counted given known =
-      stays (with_next lines line) (past choices lines line given known (rw (is, ← counted)
-      (warned-passed direction (state_by choices number before) after read ready notice steps)))
-  notes-refused (Ok Quiet) read ready after refused is steps lines counted given known =
-      absurd (false≢true refused)
-  notes-refused (Ok Ready) read ready after refused is steps lines counted given known =
-      absurd (false≢true refused)
-  notes-refused (Err at) read ready after refused is steps lines counted given known = tt
+  notes-refused result read ready after refused is steps lines counted given known =
+      grind (arith, common_steps, warned-passed, false≢true)
 
 module _ {U O K : Type 0} (direction : Direction U O K) where
   -- a line was taken that hands something out, or nothing
@@ -149,8 +137,7 @@ module _ {U O K : Type 0} (direction : Direction U O K) where
       (closing : List (List ℕ)) where
     ends : state_end_with direction closing (state_by choices number before)
         ≡ end_step direction closing (state_by choices number before) (fault_at_end_in (bare_phase stage))
-    ends =
-        grind (arith, common_steps, by-stage, stage, is_held, end_step, state_by, fault_at_end_in, bare_phase)
+    ends = grind (arith, common_steps, by-stage)
 
     skips : (fault : Fault) (a b c : Bool) → a ≡ choices.skip → b ≡ may_skip (bare_phase stage)
         → c ≡ is_skippable fault → is_skipped_in (state_by choices number before) fault ≡ ((a && b) && c)

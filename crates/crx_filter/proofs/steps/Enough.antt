@@ -1,16 +1,19 @@
--- Where the memory of epochs before is enough for a line, each satellite that it brings has room, and there are epochs as
+-- Where the memory of epochs before is enough for a line, each satellite that it brings has room, and there
+-- are epochs as
 -- large as the line's.
 use Rattle.crx_filter.proofs.Words.{common_steps, arith, ℕ, ◌≡◌, ◌≤◌, Bool, true, List, [], ◌∷◌, ◌&&◌, length}
-use Rattle.crx_filter.proofs.Words.{subst, All, All-nil, All-cons, All-head, All-tail, and_parts, by_bool}
-use Rattle.crx_filter.proofs.Words.{false-true, bytes_eq, list_all, Epoch, Satellite, ◌⊎◌, inl, inr, refl, ap}
-use Rattle.crx_filter.proofs.Words.{◌∙◌, not, Option, ReadLine, At, Item, Reading, AtFault, AtLines, Looking}
-use Rattle.crx_filter.proofs.Words.{Phase, InHeader, Ended, LookingOn, header_has_ended, is_at_start}
-use Rattle.crx_filter.proofs.Words.{phase_in_body, records_count_types, records_left, types_in_force}
-use Rattle.{crx_filter.proofs.Words.{phase_of, map, sym}, crx_compact.specs.Placing.{HasRoom, HaveTypesRoom}}
+use Rattle.crx_filter.proofs.Words.{All, All-nil, All-cons, All-head, All-tail, and_parts, by_bool}
+use Rattle.crx_filter.proofs.Words.{false-true, bytes_eq, list_all, Epoch, Satellite, ◌⊎◌}
+use Rattle.crx_filter.proofs.Words.{not, Option, ReadLine, At, Item, Reading}
+use Rattle.crx_filter.proofs.Words.{Phase, InHeader, Ended, LookingOn}
+use Rattle.crx_filter.proofs.Words.{phase_in_body, types_in_force}
+use Rattle.{crx_filter.proofs.Words.{phase_of, map}, crx_compact.specs.Placing.{HasRoom, HaveTypesRoom}}
 use Rattle.crx_filter.specs.{Rooms.do_types_count, Stages.phase_of_stage, declared.stage.Stage.Stage}
 use Rattle.crx_filter.specs.meaning.Memory.{are_types_awaited, are_enough_for, bytes_together}
-use Rattle.crx_filter.specs.meaning.{Memory.{has_satellite_for, satellites_had}, Reading.Stop}
-use Rattle.std.proofs.lemmas.{Bool.leb-true, List.{Elements.All-map, Sums.sum-map}, Simd.map-map}
+use Rattle.crx_filter.specs.meaning.{Memory.{has_satellite_for, satellites_had}}
+use Rattle.std.proofs.lemmas.{Bool.leb-true, List.{Elements.All-map, Sums.{AllPass-from_list_all, sum-map}}}
+use Rattle.std.proofs.lemmas.{Simd.map-map}
+use Rattle.std.proofs.Common.{get_or}
 use Rattle.std.{proofs.lemmas.Slice.Eq.bytes_eq-Decides, specs.{List.list_any, Prelude.{sum, nat_le, nat_lt}}}
 use Rattle.std.specs.Prelude.{◌||◌, if◌then◌else◌}
 
@@ -20,9 +23,7 @@ module _ {R : Type 0} (satellite_of : R → Satellite) (rows : List R) where
   -- as many bytes as the lines of some rows have, by their satellites
   pub bytes-of_rows : (line_room : ℕ → ℕ) → bytes_together line_room (map satellite_of rows)
       ≡ sum (map (λ (row : R). line_room (satellite_of row).count) rows)
-  bytes-of_rows line_room =
-      sym (sum-map (λ (s : Satellite). line_room s.count) (map satellite_of rows))
-      ∙ ap sum (map-map (λ (s : Satellite). line_room s.count) satellite_of rows)
+  bytes-of_rows line_room = grind (arith, common_steps, sum-map, map-map)
 
   -- their satellites have room where they have
   pub types-of_rows : (rooms : List (List ℕ × ℕ))
@@ -59,12 +60,7 @@ is_satellite_for satellite other = bytes_eq other.name satellite.name && nat_le 
 room-there : (satellite : Satellite) (rooms : List (List ℕ × ℕ))
     → IsFound (is_satellite_for satellite) (λ (s : Satellite). HasRoom s.name s.count rooms)
     → HasRoom satellite.name satellite.count rooms
-room-there satellite rooms there =
-    let other = there.thing in
-    let each = and_parts (bytes_eq other.name satellite.name) (nat_le satellite.count other.count) there.passes in
-    let few = leb-true satellite.count other.count each.1 in
-    subst (λ name. HasRoom name satellite.count rooms) ((bytes_eq-Decides other.name satellite.name).0 each.0)
-    (record { room = there.has.room; there = there.has.there; within = omega (arith, few, there.has.within) })
+room-there satellite rooms there = grind (arith, common_steps, and_parts, leb-true, bytes_eq-Decides)
 
 -- what is enough of some epochs that have something
 pub record HaveEnough (line_room : ℕ → ℕ) (rooms : List (List ℕ × ℕ)) (P : Epoch → Type 0)
@@ -83,15 +79,14 @@ module _ (line_room : ℕ → ℕ) (rooms : List (List ℕ × ℕ)) (P : Epoch �
   types-room : (brought : List Satellite)
       → list_all (λ (satellite : Satellite). list_any (has_satellite_for satellite) epochs) brought ≡ true
       → HaveTypesRoom brought rooms
-  types-room [] e = All-nil (λ (s : Satellite). HasRoom s.name s.count rooms)
-  types-room (s ∷ ss) e =
-      let both = and_parts (list_any (has_satellite_for s) epochs)
-      (list_all (λ (satellite : Satellite). list_any (has_satellite_for satellite) epochs) ss) e in
-      let there = found (has_satellite_for s) P epochs each both.0 in
-      All-cons (λ (t : Satellite). HasRoom t.name t.count rooms) s ss
-      (room-there s rooms (found (is_satellite_for s) (λ (t : Satellite). HasRoom t.name t.count rooms)
-      (satellites_had there.thing) (has_types there.thing there.has) there.passes))
-      (types-room ss both.1)
+  types-room brought e = λ k d within.
+      let s = get_or brought k d in
+      let passes = AllPass-from_list_all (λ (satellite : Satellite). list_any (has_satellite_for satellite)
+      epochs)
+      brought e k d within in
+      let there = found (has_satellite_for s) P epochs each passes in
+      room-there s rooms (found (is_satellite_for s) (λ (t : Satellite). HasRoom t.name t.count rooms)
+      (satellites_had there.thing) (has_types there.thing there.has) there.passes)
 
   pub enough : (brought all : List Satellite) → are_enough_for line_room brought all epochs ≡ true
       → HaveEnough line_room rooms P brought all
@@ -99,7 +94,8 @@ module _ (line_room : ℕ → ℕ) (rooms : List (List ℕ × ℕ)) (P : Epoch �
       let as_many : Epoch → Bool = λ (epoch : Epoch). nat_le (length all) (length (satellites_had epoch)) in
       let as_large : Epoch → Bool = λ (epoch : Epoch). nat_le (bytes_together line_room all)
       (bytes_together line_room (satellites_had epoch)) in
-      let both = and_parts (list_all (λ (satellite : Satellite). list_any (has_satellite_for satellite) epochs)
+      let both = and_parts (list_all (λ (satellite : Satellite). list_any (has_satellite_for satellite)
+      epochs)
       brought) (list_any as_many epochs && list_any as_large epochs) e in
       let sizes = and_parts (list_any as_many epochs) (list_any as_large epochs) both.1 in
       let many = found as_many P epochs each sizes.0 in
@@ -111,33 +107,27 @@ module _ (line_room : ℕ → ℕ) (rooms : List (List ℕ × ℕ)) (P : Epoch �
         lines = leb-true (length all) (length (satellites_had many.thing)) many.passes;
         large = large.thing;
         large_has = large.has;
-        bytes = leb-true (bytes_together line_room all) (bytes_together line_room (satellites_had large.thing))
+        bytes = leb-true (bytes_together line_room all) (bytes_together line_room (satellites_had
+            large.thing))
             large.passes;
       }
 
 -- ---- where types lines count
 
 -- where types lines count, one that came now would be the first one that counts
-awaited-there : {O : Type 0} (ended first : Bool) (left : ℕ) (counted : Bool) (found held : Option O) (stage : Stage)
+awaited-there : {O : Type 0} (ended first : Bool) (left : ℕ) (counted : Bool) (found held : Option O) (stage
+    : Stage)
     → phase_of_stage held stage ≡ (if not ended then InHeader first else phase_in_body left counted found)
     → do_types_count stage ≡ true → (not ended || (nat_lt 0 left && counted)) ≡ true
 awaited-there ended first left counted found held stage same counts = grind (arith, common_steps)
 
-pub never-counted : {O : Type 0} (held : Option O) (stage : Stage) (phase : Phase O) → phase_of_stage held stage ≡ phase
+pub never-counted : {O : Type 0} (held : Option O) (stage : Stage) (phase : Phase O)
+    → phase_of_stage held stage ≡ phase
     → (phase ≡ LookingOn) ⊎ ((at : At) × (phase ≡ Ended at)) → do_types_count stage ≡ true → ⊥
 never-counted held stage phase same either counts = grind (arith, common_steps)
 
 pub types-awaited : {E O : Type 0} (open_with : List (Item E) → List ReadLine → Option O) (r : Reading E)
     (held : Option O) (stage : Stage) → phase_of_stage held stage ≡ phase_of open_with r
     → do_types_count stage ≡ true → types_in_force r.items ≡ [] → are_types_awaited r.items ≡ true
-types-awaited open_with r held stage same counts none = rw none (by_stop r.stop refl)
-  where
-    by_stop : (stop : Stop) → r.stop ≡ stop
-        → (not (header_has_ended r.items) || (nat_lt 0 (records_left r.items) && records_count_types r.items)) ≡ true
-    by_stop (AtFault at) is = absurd (never-counted held stage _ (same ∙ ap (λ (s : Stop). phase_of open_with
-        (record { items = r.items; stop = s })) is) (inr (at, refl)) counts)
-    by_stop (AtLines number lines) is = awaited-there (header_has_ended r.items) (is_at_start r.items)
-        (records_left r.items) (records_count_types r.items) (open_with r.items lines) held stage
-        (same ∙ ap (λ (s : Stop). phase_of open_with (record { items = r.items; stop = s })) is) counts
-    by_stop (Looking number) is = absurd (never-counted held stage _ (same ∙ ap (λ (s : Stop). phase_of open_with
-        (record { items = r.items; stop = s })) is) (inl refl) counts)
+types-awaited open_with r held stage same counts none =
+    grind (arith, common_steps, never-counted, awaited-there)

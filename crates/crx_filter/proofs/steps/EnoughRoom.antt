@@ -1,5 +1,5 @@
 -- An epoch that needs no more than epochs before it has room.
-use Rattle.crx_filter.proofs.Words.{arith, ◌≡◌, true, refl, ap, ◌∙◌, subst, ℕ, List, Option, Some, None}
+use Rattle.crx_filter.proofs.Words.{arith, ◌≡◌, true, refl, ap, ◌∙◌, ℕ, List, Option, Some, None}
 use Rattle.crx_filter.proofs.Words.{Result, Ok, Err, All, Fault, Count, ObservationEpoch, Satellite, Tail}
 use Rattle.crx_filter.proofs.Words.{Past, epoch_begun, satellites_of_line}
 use Rattle.crx_compact.specs.{HeldRows.past_of_tail, OpenEpochs.{tail_for_line, opened_raw}}
@@ -34,7 +34,9 @@ satellites_by types line past = brought_by_epoch (epoch_begun types line past)
 pub begins-within : (types : List Count) (past : Option Past) (tail : Option Tail) (line : List ℕ)
     (epochs : List ObservationEpoch) (room : ReadingRoom)
     → past ≡ option_map past_of_tail (tail_for_line tail line) → All (HasRoomAgain room) epochs
-    → are_enough_for printed_line_room (satellites_by types line past) (satellites_by types line past) epochs ≡ true → HasRoomToBegin types tail line room
+    → are_enough_for printed_line_room (satellites_by types line past) (satellites_by types line past) epochs
+    ≡ true
+    → HasRoomToBegin types tail line room
 begins-within types past tail line epochs room same each enough = by_tail (tail_for_line tail line) refl
   where
     by_satellites : (before : Tail) (r : Result (List Satellite) Fault)
@@ -51,5 +53,4 @@ begins-within types past tail line epochs room same each enough = by_tail (tail_
     by_tail None is = rw is tt
     by_tail (Some before) is = rw is (by_satellites before
         (satellites_of_line types (past_of_tail before) line) refl
-        (subst (λ (p : Option Past). are_enough_for printed_line_room (satellites_by types line p) (satellites_by types line p) epochs ≡ true)
-        (same ∙ ap (option_map past_of_tail) is) enough))
+        (rw (same ∙ ap (option_map past_of_tail) is) at enough))

@@ -1,9 +1,11 @@
--- A line that is given to a direction comes for the first time, or a second time after a warning: what is seen
+-- A line that is given to a direction comes for the first time, or a second time after a warning: what is
+-- seen
 -- then.
 use Rattle.crx_filter.proofs
-use proofs.Words.{◌≡◌, ◌⊎◌, inl, inr, ap, sym, subst, ◌∙◌, true, List, [], ◌∷◌, map, length, Option, InputLine}
+use proofs.Words.{common_steps, arith, ◌≡◌, ◌⊎◌, inl, inr, subst, true, List, [], ◌∷◌, map, length, Option}
+use proofs.Words.{InputLine}
 use proofs.Words.{ReadLine, as_read, Choices, Item, Reading, types_in_force, RunState, Direction, phase_of}
-use proofs.Words.{phase_of_stage, refl}
+use proofs.Words.{phase_of_stage}
 use Rattle.crx_filter.specs.{DirectionParts.{DirectionParts, ComesAfter, state_by}, EngineLines.HasTaken}
 use Rattle.crx_filter.specs.{Rooms.do_types_count, meaning.Memory.are_types_awaited}
 use Rattle.crx_runs.specs.Engines.{Awaited, IsAwaited}
@@ -31,10 +33,7 @@ module _ {U O K : Type 0} (direction : Direction U O K) {chosen : Choices → Ch
 
   -- the types in force are the same
   pub types-there : parts.types ≡ before.types
-  types-there = elim given-either as (λ _. parts.types ≡ before.types) [
-    | inl same ↦ ap (λ (s : RunState O K). s.types) same
-    | inr again ↦ again.types
-  ]
+  types-there = grind (arith, common_steps, given-either)
 
   -- where types lines count and there are none, the first one is awaited
   pub counts-there : {E : Type 0} (open_with : List (Item E) → List ReadLine → Option O) (r : Reading E)
@@ -43,8 +42,4 @@ module _ {U O K : Type 0} (direction : Direction U O K) {chosen : Choices → Ch
       → phase_of_stage parts.begun parts.stage ≡ phase_of open_with r)
       → do_types_count parts.stage ≡ true → parts.types ≡ [] → are_types_awaited r.items ≡ true
   counts-there open_with r types phase counts none =
-      elim given-either as (λ _. are_types_awaited r.items ≡ true) [
-        | inl same ↦ types-awaited open_with r parts.begun parts.stage (phase counts
-            (ap (λ (s : RunState O K). s.phase) same)) counts (sym types ∙ sym types-there ∙ none)
-        | inr again ↦ absurd (never-counted parts.begun parts.stage _ again.phase (inl refl) counts)
-      ]
+      grind (arith, common_steps, given-either, types-awaited, types-there, never-counted)

@@ -2,7 +2,7 @@
 use Rattle.crx_filter.proofs.Words.{common_steps, arith, ◌≡◌, ◌⊎◌, inl, inr, true, false, refl, sym, ap, ◌∙◌}
 use Rattle.crx_filter.proofs.Words.{subst, ℕ, List, [], ◌∷◌, length, map, Option, Some, None, Result, Ok, Err}
 use Rattle.crx_filter.proofs.Words.{length-map, Fault, false-true, Content, ObservationEpoch, Satellite, Tail}
-use Rattle.crx_filter.proofs.Words.{OpenRawEpoch, next_step, RawStep, satellite_line_read}
+use Rattle.crx_filter.proofs.Words.{is_open_stage, OpenRawEpoch, next_step, RawStep, satellite_line_read}
 use Rattle.crx_compact.proofs.{Results.{and_then-ok, ok-same}, reading.Announced.satellites-set}
 use Rattle.crx_compact.{proofs.soundness.Soundness.line-facts, specs.HeldRows.{HeldRow, held_from}}
 use Rattle.crx_compact.specs.{HeldRows.{past_of_row, row_held}, LineLists.{BlockRoom, HasNoMoreRoom}}
@@ -17,7 +17,7 @@ use Rattle.{crx_compact.specs.meaning.CompactPlaces.clock_line_read, crx_filter.
 use Rattle.crx_filter.proofs.steps.Enough.{bytes-of_rows, types-of_rows}
 use Rattle.crx_filter.specs.{CompactStages.is_compact_stage, ExpansionRooms.{AreHeldAmong, AreHeldInColumns}}
 use Rattle.crx_filter.specs.ExpansionRooms.{HasRoomForEpochs, HasRoomForNewest, HasRoomForSatellites}
-use Rattle.crx_filter.specs.{declared.stage.Stage.{Stage, TheVariants.Open}, meaning.Memory.bytes_together}
+use Rattle.crx_filter.specs.{declared.stage.Stage.{Stage}, meaning.Memory.bytes_together}
 use Rattle.{crx_filter.specs.meaning.Memory.printed_line_room, crx_text.proofs.EachPlace.length-each_place}
 use Rattle.std.specs.Prelude.{⊤, slice_get}
 
@@ -25,54 +25,31 @@ use Rattle.std.specs.Prelude.{⊤, slice_get}
 
 pub satellites-kept : (satellites : List Satellite) (before after : ReadingRoom) → KeepsRoom before after
     → HasRoomForSatellites satellites before → HasRoomForSatellites satellites after
-satellites-kept satellites before after kept has = record {
-  text = omega (arith, has.text, kept.history.text);
-  types = λ k d within. kept.history.rooms _ _ (has.types k d within);
-  lines = omega (arith, has.lines, kept.block.held_lines);
-  bytes = omega (arith, has.bytes, kept.block.held_bytes);
-}
+satellites-kept satellites before after kept has = grind (arith, common_steps)
 
 newest-kept : (state : ColumnsState) (before after : ReadingRoom) → KeepsRoom before after
     → HasRoomForNewest state before → HasRoomForNewest state after
-newest-kept (Idle None) before after kept has = tt
-newest-kept (Idle (Some tail)) before after kept has =
-    satellites-kept (map satellite_of_tail tail.rows) before after kept has
-newest-kept (Reading begun) before after kept has =
-    satellites-kept (map satellite_of_tail begun.rows) before after kept has
+newest-kept state before after kept has = grind (arith, common_steps, satellites-kept)
 
 pub all-kept : (epochs : List ObservationEpoch) (state : ColumnsState) (before after : ReadingRoom)
     → KeepsRoom before after → HasRoomForEpochs epochs state before → HasRoomForEpochs epochs state after
-all-kept epochs state before after kept has = record {
-  each = λ k d within. satellites-kept _ before after kept (has.each k d within);
-  newest = newest-kept state before after kept has.newest;
-}
+all-kept epochs state before after kept has = grind (arith, common_steps, satellites-kept, newest-kept)
 
 pub same-block : (block : BlockRoom) → HasNoMoreRoom block block
-same-block block = record {
-  lines = omega arith;
-  bytes = omega arith;
-  held_lines = omega arith;
-  held_bytes = omega arith;
-}
+same-block block = grind (arith, common_steps)
 
 -- ---- an epoch's room, by its satellites and by its rows
 
 pub begun-room : (begun : OpenRawEpoch) (room : ReadingRoom) → HasRoomFor begun room
     → HasRoomForSatellites (map satellite_of_tail begun.rows) room
-begun-room begun room has =
-    let many = length-map begun.rows satellite_of_tail in
-    record {
-      text = omega (arith, has.text, many);
-      types = types-of_rows satellite_of_tail begun.rows room.rooms has.rows;
-      lines = omega (arith, has.lines, many);
-      bytes = omega (arith, has.bytes, bytes-of_rows satellite_of_tail begun.rows printed_line_room);
-    }
+begun-room begun room has = grind (arith, common_steps, length-map, types-of_rows, bytes-of_rows)
 
 -- the rows of an epoch's satellites before their lines
 satellites-before : (before : Tail) (satellites : List Satellite)
     → map satellite_of_tail (rows_before before satellites) ≡ satellites
 satellites-before before [] = refl
-satellites-before before (s ∷ ss) = grind (arith, common_steps, satellites-before before ss, length-each_place)
+satellites-before before (s ∷ ss) =
+    grind (arith, common_steps, satellites-before before ss, length-each_place)
 
 pub opened-room : (before : Tail) (line : List ℕ) (satellites : List Satellite) (room : ReadingRoom)
     → HasRoomForSatellites satellites room
@@ -92,10 +69,13 @@ opened-room before line satellites room has =
 
 -- ---- a line of an open epoch leaves its satellites as they are
 
+abbrev IfStep : RawStep → (List Satellite → Type 0) → Type 0
+IfStep (Going begun) P = P (map satellite_of_tail begun.rows)
+IfStep (Whole held) P = P (map satellite_of_tail held.tail.rows)
+IfStep (Faulty fault) P = ⊤
+
 abbrev StepHas : List Satellite → RawStep → Type 0
-StepHas satellites (Going begun) = map satellite_of_tail begun.rows ≡ satellites
-StepHas satellites (Whole held) = map satellite_of_tail held.tail.rows ≡ satellites
-StepHas satellites (Faulty fault) = ⊤
+StepHas satellites step = IfStep step (λ left. left ≡ satellites)
 
 -- what a satellite's line leaves has its name, and as many types
 left-row : (row : RowTail) (line : List ℕ) (held : HeldRow)
@@ -120,8 +100,7 @@ step-satellites begun line = by_clock begun.clock
     awaiting : (tail : Tail) (count : ℕ) (o : Option RowTail)
         → map satellite_of_tail tail.rows ≡ map satellite_of_tail begun.rows
         → StepHas (map satellite_of_tail begun.rows) (whole_or_awaiting tail count o)
-    awaiting tail count None same = same
-    awaiting tail count (Some row) same = same
+    awaiting tail count o same = grind (arith, common_steps)
 
     with_clock : (r : Result ReadCell Fault) → StepHas (map satellite_of_tail begun.rows)
         (raw_step_with_clock begun r)
@@ -145,21 +124,11 @@ step-satellites begun line = by_clock begun.clock
     by_clock (Before arc) = with_clock (clock_line_read (past_of_clock arc) line)
     by_clock (After arc) = by_row (awaited_row begun) refl
 
-abbrev IfStep : RawStep → (List Satellite → Type 0) → Type 0
-IfStep (Going begun) P = P (map satellite_of_tail begun.rows)
-IfStep (Whole held) P = P (map satellite_of_tail held.tail.rows)
-IfStep (Faulty fault) P = ⊤
-
 -- ---- columns after a line
 
 larger-still : (lines before after : BlockRoom) → HasNoMoreRoom lines before → HasNoMoreRoom before after
     → HasNoMoreRoom lines after
-larger-still lines before after one other = record {
-  lines = omega (arith, one.lines, other.lines);
-  bytes = omega (arith, one.bytes, other.bytes);
-  held_lines = omega (arith, one.held_lines, other.held_lines);
-  held_bytes = omega (arith, one.held_bytes, other.held_bytes);
-}
+larger-still lines before after one other = grind (arith, common_steps)
 
 -- an epoch was begun
 pub columns-begun : (epochs : List ObservationEpoch) (old new : HeldColumns) (lines : BlockRoom)
@@ -179,17 +148,16 @@ stepped : (state : ColumnsState) (line : List ℕ) (step : RawStep) (room : Read
     → step_in state (Content line) ≡ step → is_idle state ≡ false → HasRoomForNewest state room
     → IfStep step (λ satellites. HasRoomForSatellites satellites room)
 stepped (Idle tail) line step room e reading has = false-true (sym reading)
-stepped (Reading begun) line step room e reading has = by_step step
-    (subst (StepHas (map satellite_of_tail begun.rows)) e (step-satellites begun line))
+stepped (Reading begun) line step room e reading has =
+    by_step step (rw e at (step-satellites begun line))
   where
     by_step : (s : RawStep) → StepHas (map satellite_of_tail begun.rows) s
         → IfStep s (λ satellites. HasRoomForSatellites satellites room)
-    by_step (Going next) same = subst (λ ss. HasRoomForSatellites ss room) (sym same) has
-    by_step (Whole held) same = subst (λ ss. HasRoomForSatellites ss room) (sym same) has
-    by_step (Faulty fault) same = tt
+    by_step s same = grind (arith, common_steps)
 
 -- in the stage of an open epoch its lines are read
-pub reads-on : (stage : Stage) (state : ColumnsState) → stage ≡ Open → is_compact_stage stage state ≡ true
+pub reads-on : (stage : Stage) (state : ColumnsState) → is_open_stage stage ≡ true
+    → is_compact_stage stage state ≡ true
     → is_idle state ≡ false
 reads-on stage state here consistent = grind (arith, common_steps)
 
@@ -238,25 +206,5 @@ pub block-taken : (epochs : List ObservationEpoch) (old new : HeldColumns) (befo
     → (HasNoMoreRoom old.room.block before → new.room.block ≡ before)
     → ((new.room.block ≡ before) × (after ≡ old.room.block)) ⊎ ((new.room ≡ old.room) × (after ≡ before))
     → AreHeldAmong epochs old before → AreHeldInColumns epochs new after
-block-taken epochs old new before after state kept takes (inl places) (inl held) = record {
-  larger = subst (λ (b : BlockRoom). HasNoMoreRoom b new.room.block) (sym places.1) kept.block;
-  held = rw state (all-kept epochs old.state old.room new.room kept held.held);
-}
-block-taken epochs old new before after state kept takes (inr places) (inl held) = record {
-  larger = rw (places.0, places.1) held.larger;
-  held = rw (places.0, state) held.held;
-}
-block-taken epochs old new before after state kept takes places (inr held) =
-    let room : ReadingRoom = record old.room { block = before } in
-    let same : new.room.block ≡ before = takes held.larger in
-    let more : KeepsRoom room new.room = record {
-      history = record { text = kept.history.text; rooms = kept.history.rooms };
-      block = subst (λ (b : BlockRoom). HasNoMoreRoom before b) (sym same) (same-block before);
-    } in
-    record {
-      larger = elim places as (λ _. HasNoMoreRoom after new.room.block) [
-        | inl moved ↦ subst (λ (b : BlockRoom). HasNoMoreRoom b new.room.block) (sym moved.1) kept.block
-        | inr left ↦ rw (same, left.1) (same-block before)
-      ];
-      held = rw state (all-kept epochs old.state room new.room more held.held);
-    }
+block-taken epochs old new before after state kept takes places held =
+    grind (arith, common_steps, all-kept, same-block)

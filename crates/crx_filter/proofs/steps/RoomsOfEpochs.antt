@@ -1,5 +1,5 @@
 -- What epochs needed that were accepted before is enough for a row that needs no more.
-use Rattle.crx_filter.proofs.Words.{arith, ◌≡◌, true, List, [], ◌∷◌, ◌++◌, length, map, refl, All, All-nil}
+use Rattle.crx_filter.proofs.Words.{common_steps, arith, ◌≡◌, true, List, [], ◌∷◌, ◌++◌, length, map, All}
 use Rattle.crx_filter.proofs.Words.{All-head, Epoch, Row, length-append, length-map}
 use Rattle.crx_compact.specs.EncodingRooms.{EncodingRoom, HasRowRoom, HasTakenRow, KeepsEncodingRoom}
 use Rattle.crx_compact.specs.{EncodingRooms.all_free, Placing.{HasRoom, row_room}}
@@ -11,61 +11,23 @@ use Rattle.std.proofs.lemmas.List.{Elements.All-weaker, Sums.{sum-map, sum_by_pu
 
 -- ---- what stays
 
-pub room-stays : (room : EncodingRoom) → KeepsEncodingRoom room room
-room-stays room = record {
-  rooms = λ name count has. has;
-  text = omega arith;
-  lines = omega arith;
-  bytes = omega arith;
-  held_lines = omega arith;
-  held_bytes = omega arith;
-}
-
-pub room-later : (before mid after : EncodingRoom) → KeepsEncodingRoom before mid → KeepsEncodingRoom mid after
+pub room-later : (before mid after : EncodingRoom) → KeepsEncodingRoom before mid
+    → KeepsEncodingRoom mid after
     → KeepsEncodingRoom before after
-room-later before mid after one two = record {
-  rooms = λ name count has. two.rooms name count (one.rooms name count has);
-  text = omega (arith, one.text, two.text);
-  lines = omega (arith, one.lines, two.lines);
-  bytes = omega (arith, one.bytes, two.bytes);
-  held_lines = omega (arith, one.held_lines, two.held_lines);
-  held_bytes = omega (arith, one.held_bytes, two.held_bytes);
-}
+room-later before mid after one two = grind (arith, common_steps)
 
 pub room-freed : (room : EncodingRoom) → KeepsEncodingRoom room (all_free room)
-room-freed room = record {
-  rooms = λ name count has. has;
-  text = omega arith;
-  lines = omega arith;
-  bytes = omega arith;
-  held_lines = omega arith;
-  held_bytes = omega arith;
-}
+room-freed room = grind (arith, common_steps)
 
 pub held-kept : (before after : EncodingRoom) (epoch : Epoch) → KeepsEncodingRoom before after
     → HasHeldFor before epoch → HasHeldFor after epoch
-held-kept before after epoch kept held = record {
-  types = λ k d within. kept.rooms _ _ (held.types k d within);
-  lines = omega (arith, held.lines, kept.held_lines);
-  bytes = omega (arith, held.bytes, kept.held_bytes);
-}
+held-kept before after epoch kept held = grind (arith, common_steps)
 
 pub epochs-kept : (before after : EncodingRoom) (epochs : List Epoch) → KeepsEncodingRoom before after
     → All (HasHeldFor before) epochs → All (HasHeldFor after) epochs
-epochs-kept before after epochs kept held = All-weaker (HasHeldFor before) (HasHeldFor after)
-    (λ epoch. held-kept before after epoch kept) epochs held
+epochs-kept before after epochs kept held = grind (arith, common_steps, held-kept)
 
 -- ---- the rows of an open epoch
-
--- none yet
-pub none-held : (room : EncodingRoom) → HoldsRows [] (all_free room)
-none-held room = record {
-  rooms = All-nil (λ (r : Row). HasRoom r.name (length r.values) room.rooms);
-  lines = omega arith;
-  bytes = omega arith;
-  claimed = refl;
-  held = omega arith;
-}
 
 -- one row more
 pub row-held : (rows : List Row) (row : Row) (before after : EncodingRoom) → HoldsRows rows before
@@ -90,14 +52,11 @@ row-held rows row before after holds kept taken =
 
 -- once an epoch is whole, what is held is enough for it
 pub whole-held : (epoch : Epoch) (room : EncodingRoom) → HoldsRows epoch.rows room → HasHeldFor room epoch
-whole-held epoch room holds = record {
-  types = types-of_rows satellite_of_row epoch.rows room.rooms holds.rooms;
-  lines = omega (arith, holds.lines, length-map epoch.rows satellite_of_row);
-  bytes = omega (arith, holds.claimed, holds.held, bytes-of_rows satellite_of_row epoch.rows compact_line_room);
-}
+whole-held epoch room holds = grind (arith, common_steps, types-of_rows, length-map, bytes-of_rows)
 
 -- a row has room where the accepted epochs were enough for it with the open epoch's rows
-pub row-enough : (rows : List Row) (row : Row) (epochs : List Epoch) (room : EncodingRoom) → HoldsRows rows room
+pub row-enough : (rows : List Row) (row : Row) (epochs : List Epoch) (room : EncodingRoom)
+    → HoldsRows rows room
     → All (HasHeldFor room) epochs → are_enough_for compact_line_room (satellite_of_row row ∷ [])
     (map satellite_of_row rows ++ satellite_of_row row ∷ []) epochs ≡ true → HasRowRoom row room
 row-enough rows row epochs room holds all is =

@@ -1,17 +1,17 @@
 -- How the parts of a compaction belong together after a line, and what is said of a row that it takes.
 use Rattle.crx_filter.proofs.Words
-use Words.{common_steps, arith, inl, inr, ◌≡◌, ◌++◌, ◌∷◌, [], ℕ, Bool, true, false, not, List, not-true}
+use Words.{common_steps, arith, ◌≡◌, ◌++◌, ◌∷◌, [], ℕ, Bool, true, false, not, List}
 use Words.{if◌then◌else◌, Fault, OutOfMemory, None, Option, Ok, sym, ap, subst, ◌∙◌, true≢false, false≢true}
 use Words.{length, is_some, begins_epoch, ObservationHead, Some, has_satellite, ObservationEpoch, OpenEpoch}
 use Words.{row_of, Written, is_row, made_at, CompletedEpoch, IsSameReader, MovesReader, TakesRinexLine, Made}
 use Words.{is_open_stage, RinexReader, RinexStep, Stage, Row as ObservationRow}
 use Rattle.crx_compact.specs.{Encoding.{EncoderState, forgotten}, EncodingRooms.{EncodingRoom, HasTakenRow}}
 use Rattle.crx_compact.specs.EncodingRooms.{KeepsEncodingRoom, all_free}
-use Rattle.crx_filter.proofs.steps.{RoomsOfEpochs.{none-held, room-freed, row-held}, RowSteps.taken-from}
+use Rattle.crx_filter.proofs.steps.{RoomsOfEpochs.{room-freed, row-held}, RowSteps.taken-from}
 use Rattle.crx_filter.specs.CompactionParts.{BelongTogether, HasRefusedRow, HasWrittenRow, HoldsRows}
 use Rattle.crx_filter.specs.{CompactionParts.is_full_where_due, RinexReaders.{BeginsEpoch, RefusesRinexLine}}
 use Rattle.crx_filter.specs.{RinexStages.rows_open, declared.rinex_reader.RinexStep.TheVariants.{Row, Epoch}}
-use Rattle.std.{proofs.lemmas.Bool.not-false, specs.Prelude.IfSome}
+use Rattle.std.{specs.Prelude.IfSome}
 
 -- ---- by the stage
 
@@ -41,11 +41,7 @@ closed-together reader encoder closed ended none = grind (arith, common_steps, t
 open-together : (reader : RinexReader) (encoder : EncoderState) → is_open_stage reader.stage ≡ true
     → encoder.is_open ≡ true → encoder.rows ≡ reader.rows.rows → HoldsRows encoder.rows encoder.room
     → BelongTogether reader encoder
-open-together reader encoder opened begun rows holds = record {
-  opened = begun ∙ sym opened;
-  rows = rows ∙ sym (rows-opened reader.stage reader.rows.rows opened);
-  held = λ is. holds;
-}
+open-together reader encoder opened begun rows holds = grind (arith, common_steps, rows-opened)
 
 -- the encoder has the rows that the reader has
 pub rows-there : (reader : RinexReader) (encoder : EncoderState) → BelongTogether reader encoder
@@ -65,19 +61,10 @@ same-together before after encoder t same = grind (arith, common_steps)
 -- ---- a row
 
 -- whether its satellite is there, by the encoder's answer
-among : (answer : Bool) (row read : ObservationRow) (rows there : List ObservationRow) → answer ≡ not
-    (has_satellite row.name rows) → row ≡ read → rows ≡ there → answer ≡ not (has_satellite read.name there)
-among answer row read rows there said same where_ = rw (← same, ← where_) said
-
-pub row-new : (answer : Bool) (row read : ObservationRow) (rows there : List ObservationRow)
-    → answer ≡ not (has_satellite row.name rows) → row ≡ read → rows ≡ there → answer ≡ true
-    → has_satellite read.name there ≡ false
-row-new answer row read rows there said same where_ is = grind (arith, common_steps, not-true, among)
-
-pub row-repeated : (answer : Bool) (row read : ObservationRow) (rows there : List ObservationRow)
-    → answer ≡ not (has_satellite row.name rows) → row ≡ read → rows ≡ there → answer ≡ false
-    → has_satellite read.name there ≡ true
-row-repeated answer row read rows there said same where_ is = grind (arith, common_steps, not-false, among)
+pub row-known : (answer : Bool) (row read : ObservationRow) (rows there : List ObservationRow)
+    → answer ≡ not (has_satellite row.name rows) → row ≡ read → rows ≡ there
+    → has_satellite read.name there ≡ not answer
+row-known answer row read rows there said same where_ = grind (arith, common_steps)
 
 -- a row that isn't the last one leaves the epoch open, and the last one ends it
 pub row-or-epoch : (step : RinexStep) → is_row step ≡ true → (step ≡ Row → ⊥) → step ≡ Epoch
@@ -102,8 +89,8 @@ module _ (before mid : RinexReader) (encoder new : EncoderState) (line : List �
       record {
         takes = λ kept. subst (λ s. TakesRinexLine (made_at before line kept) before line s after) which
             (taken-from before mid after line kept step is same (takes line kept (ap (λ ts. row_of ts line)
-            same.types ∙ read) other (row-new answer row mid.row encoder.rows mid.rows.rows said same_row
-            (there ∙ sym same.rows) fresh)));
+            same.types ∙ read) other (row-known answer row mid.row encoder.rows mid.rows.rows said same_row
+            (there ∙ sym same.rows) ∙ ap not fresh)));
         written = written ∙ ap (λ (rs : List ObservationRow). record encoder { rows = rs; room = new.room })
             (rw (there, same_row, ← same.rows) (sym added));
         held = subst (λ (rs : List ObservationRow). HoldsRows rs new.room)
@@ -175,8 +162,7 @@ begun-open made line before after begins is = grind (arith, common_steps)
 pub begun-whole : (made : Made ObservationEpoch OpenEpoch) (line : List ℕ) (before after : RinexReader)
     → BeginsEpoch made line before after → is_open_stage after.stage ≡ false
     → CompletedEpoch made line before after
-begun-whole made line before after (none, inl opened) is = absurd (cc (opened.0, is))
-begun-whole made line before after (none, inr whole) is = whole.1
+begun-whole made line before after begins is = grind (arith, common_steps)
 
 module _ {made : Made ObservationEpoch OpenEpoch} {line : List ℕ} {before after : RinexReader}
     (encoder : EncoderState) {new : EncoderState} {full : Bool}
@@ -186,15 +172,13 @@ module _ {made : Made ObservationEpoch OpenEpoch} {line : List ℕ} {before afte
   begun-rows = ap (λ (e : EncoderState). e.rows) begun ∙ sym begins.0
 
   pub begun-holds : HoldsRows new.rows new.room
-  begun-holds = subst (λ (e : EncoderState). HoldsRows e.rows e.room) (sym begun) (none-held encoder.room)
+  begun-holds = rw begun (grind (arith, common_steps))
 
   pub begun-kept : KeepsEncodingRoom encoder.room new.room
-  begun-kept = subst (λ (e : EncoderState). KeepsEncodingRoom encoder.room e.room) (sym begun)
-      (room-freed encoder.room)
+  begun-kept = rw begun (room-freed encoder.room)
 
   pub begun-together : is_open_stage after.stage ≡ true → BelongTogether after new
-  begun-together opened =
-      open-together after new opened (ap (λ (e : EncoderState). e.is_open) begun) begun-rows begun-holds
+  begun-together opened = grind (arith, common_steps, open-together, begun-rows, begun-holds)
 
   pub begun-asked : is_open_stage after.stage ≡ false → (new.is_open ≡ true)
       × (IfSome after.head (λ h. length new.rows ≡ h.count) × (is_some after.head ≡ true))

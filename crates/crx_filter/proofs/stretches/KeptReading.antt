@@ -63,14 +63,10 @@ anew-between choices [] block h anew = inl refl
 anew-between choices (Warned at ∷ []) block h anew = absurd anew
 anew-between choices (Accepted (EventLine line) ∷ []) block h anew = inr (h.0).1
 anew-between choices (Accepted (Observation epoch) ∷ []) block h anew = inr (h.0).1
-anew-between choices (newest ∷ item ∷ items) block h anew = inr (some (anew-between choices
-    (item ∷ items) block (rest-in_place (newest ∷ []) ((item ∷ items) ++ block) h) (rest anew)))
-  where
-    rest : BeginsAnew choices block (newest ∷ item ∷ items) → BeginsAnew choices block (item ∷ items)
-    rest h = grind (arith, common_steps)
-
-    some : (item ∷ items ≡ []) ⊎ (records_left block ≡ 0) → records_left block ≡ 0
-    some e = grind (arith, common_steps)
+anew-between choices (newest ∷ item ∷ items) block h anew =
+    let before = anew-between choices (item ∷ items) block
+    (rest-in_place (newest ∷ []) ((item ∷ items) ++ block) h) (grind (arith, common_steps)) in
+    inr (grind (arith, common_steps, before))
 anew-between choices (Accepted unit ∷ []) block h anew = absurd anew
 
 -- ---- the reading
@@ -128,11 +124,9 @@ module _ (every : Option ℕ) (kept block : List (Item Epoch)) (items : List (It
         epochs = tt;
         alike = after-alike [] tt;
         stops = subst (λ (all : List (Item ReadEpoch)). IsOpen (all ++ items) (continued_reading compact_place
-            true r [])) (sym none) (still stops);
+            true r [])) (sym none)
+            (grind (arith, common_steps, append-nil, enough-units, compact-forward, within-wanted));
       }
-    where
-      still : IsOpen items r → IsOpen items (continued_reading compact_place true r [])
-      still e = grind (arith, common_steps, append-nil, enough-units, compact-forward, within-wanted)
 
   -- some are kept
   lines-kept : (r : Reading ReadEpoch) (line : List ℕ) (tail : List ReadLine) → IsOpen items r → map Content

@@ -3,23 +3,18 @@
 use Rattle.crx_filter.proofs.Words
 use Words.{common_steps, ℕ, zero, suc, ◌≡◌, ◌+◌, ◌<◌, max, ◌⊎◌, inl, inr, true, false, List, [], ◌∷◌, ◌++◌}
 use Words.{length, drop, refl, ap, sym, ◌∙◌, subst, arith, append_assoc, ⊤, AllByRecursion, length-drop}
-use Words.{is_skippable, ReadLine, Content, Overlong, At, Fault, begins_epoch, is_event_line, BadEpoch}
-use Words.{announces_records, Option, None, is_some, Done, Fails, NeedsMore, FileUnit, Observation, ReadEpoch}
-use Words.{epoch_at, Item, Accepted, Warned, types_in_force, Reading, AtLines, Looking, can_go_on, looked_for}
-use Words.{reading_within, reading_from, raws_kept, compact_place, IsBetweenUnits, continued_reading, by_bool}
-use Rattle.crx_filter.proofs.damage.BlockReading.{place-between, place-inside, observation-here, skipped-here}
+use Words.{ReadLine, Content, Overlong, At, begins_epoch, is_event_line}
+use Words.{announces_records, NeedsMore, Observation, ReadEpoch}
+use Words.{Item, Accepted, Warned, types_in_force, Reading, AtLines, Looking, can_go_on, looked_for}
+use Words.{reading_within, reading_from, compact_place, IsBetweenUnits, continued_reading, by_bool}
+use Rattle.crx_filter.proofs.damage.BlockReading.{IsNoEvent, bad-event, epoch-here, fault-here, skipped-here}
 use Rattle.crx_filter.proofs.{damage.GoingOn.{with_warnings, GoesOnAt, open-goes_on}, reading.Each.all-append}
-use Rattle.crx_filter.proofs.reading.{Each.all-drop, EpochFaults.{IsSkippableAt, epoch-skippable}}
-use Rattle.crx_filter.proofs.reading.{EpochFaults.place-observation, ForwardCompact.compact-forward}
+use Rattle.crx_filter.proofs.reading.{Each.all-drop}
+use Rattle.crx_filter.proofs.reading.{ForwardCompact.compact-forward}
 use Rattle.crx_filter.proofs.reading.Resuming.{by_place, here-within, wrong-within, within-here, within-wrong}
 use Rattle.crx_filter.proofs.reading.Resuming.{within-wanted, fault-skipped, looked-here, looked-on, resumed}
 
 -- ---- the lines of a stretch, and what is read of them
-
--- a line that announces no event's records
-abbrev pub IsNoEvent : ReadLine → Type 0
-IsNoEvent (Content line) = announces_records line ≡ false
-IsNoEvent Overlong = ⊤
 
 -- epochs and warnings alone
 abbrev pub AreEpochs : List (Item ReadEpoch) → Type 0
@@ -71,41 +66,11 @@ onto item items r one h = record {
 
 -- ---- what is at such lines
 
-no-records : (count : Option ℕ) → is_some count ≡ false → count ≡ None
-no-records v1 e = grind (arith)
-
--- an event's line without a count is a bad epoch line
-bad-event : (items : List (Item ReadEpoch)) (line : List ℕ) (lines : List ReadLine) → IsBetweenUnits items
-    → announces_records line ≡ false → is_event_line line ≡ true
-    → compact_place items (Content line ∷ lines) ≡ Fails 0 BadEpoch
-bad-event items line lines h text event = grind (arith, place-between, no-records)
-
 -- where more lines are wanted, the first one is no event's
 wanted-no_event : (items : List (Item ReadEpoch)) (line : List ℕ) (lines : List ReadLine)
     → IsBetweenUnits items → announces_records line ≡ false
     → compact_place items (Content line ∷ lines) ≡ NeedsMore → is_event_line line ≡ false
 wanted-no_event items line lines h text e = grind (arith, common_steps, by_bool, bad-event)
-
-stretch-epoch : (items : List (Item ReadEpoch)) (lines : List ReadLine)
-    (unit : FileUnit ReadEpoch) (count : ℕ) → IsBetweenUnits items → AllByRecursion IsNoEvent lines
-    → compact_place items lines ≡ Done unit count → (read : ReadEpoch) × (unit ≡ Observation read)
-stretch-epoch items [] unit count h text e = let never = sym (place-between items [] h) ∙ e in absurd (cc)
-stretch-epoch items (Overlong ∷ lines) unit count h text e = grind arith
-stretch-epoch items (Content line ∷ lines) unit count h text e = by_bool (is_event_line line)
-    (λ event. let never = sym (bad-event items line lines h text.0 event) ∙ e in absurd (cc))
-    (λ other. observation-here (epoch_at (types_in_force items) (raws_kept items) (Content line ∷ lines))
-    unit count (sym (place-inside items line lines h other) ∙ e))
-
-stretch-fault : (items : List (Item ReadEpoch)) (lines : List ReadLine) (offset : ℕ) (fault : Fault)
-    → IsBetweenUnits items → AllByRecursion IsNoEvent lines → compact_place items lines ≡ Fails offset fault
-    → is_skippable fault ≡ true
-stretch-fault items [] offset fault h text e = let never = sym (place-between items [] h) ∙ e in absurd (cc)
-stretch-fault items (Overlong ∷ lines) offset fault h text e = grind arith
-stretch-fault items (Content line ∷ lines) offset fault h text e = by_bool (is_event_line line)
-    (λ event. subst (λ p. IsSkippableAt p) (sym (bad-event items line lines h text.0 event) ∙ e) refl)
-    (λ other. subst (λ p. IsSkippableAt p) (sym (place-inside items line lines h other) ∙ e)
-    (place-observation is_skippable (epoch_at (types_in_force items) (raws_kept items) (Content line ∷ lines))
-    (epoch-skippable (types_in_force items) (raws_kept items) (Content line ∷ lines))))
 
 -- ---- the reading
 
@@ -126,7 +91,7 @@ within-stretch : (units : ℕ) (items : List (Item ReadEpoch)) (number : ℕ) (l
 within-stretch zero items number lines few h text = absurd (omega (arith, few))
 within-stretch (suc units) items number lines few h text = by_place (compact_place items lines)
     (λ unit count e.
-    let epoch = stretch-epoch items lines unit count h text e in
+    let epoch = epoch-here items lines unit count h text e in
     let read = epoch.0 in
     let within = here-within compact_place compact-forward items lines unit count e in
     let rest = within-stretch units (Accepted (Observation read) ∷ items) (number + count) (drop count lines)
@@ -139,7 +104,7 @@ within-stretch (suc units) items number lines few h text = by_place (compact_pla
     let n = max offset 1 in
     subst (IsStretchRead items) (sym (within-wrong compact_place true units items number lines offset fault e
     ∙ fault-skipped true (reading_within compact_place true units) items number lines offset fault
-    (skipped-here items fault h (stretch-fault items lines offset fault h text e))))
+    (skipped-here items fault h (fault-here items lines offset fault h text e))))
     (onto (Warned at) items _ tt (looked-stretch (reading_within compact_place true units (Warned at ∷ items))
     (Warned at ∷ items) units (number + n) (drop n lines) (λ m ls less none. within-stretch units
     (Warned at ∷ items) m ls less (record { header = h.header; none = refl }) none) (omega (

@@ -1,15 +1,15 @@
 -- A text that is damaged in stretches, cut into lines: those that the compaction wrote, and those that come
 -- in the stretches.
 use Rattle.crx_filter.proofs.Words
-use Words.{common_steps, arith, ℕ, ◌≡◌, ◌⊎◌, inl, inr, true, List, [], ◌∷◌, ◌++◌, map, refl, ap, sym, ◌∙◌}
+use Words.{common_steps, arith, ℕ, ◌≡◌, ◌⊎◌, inl, inr, true, List, [], ◌∷◌, ◌++◌, map, refl}
 use Words.{append_assoc, append-nil, AllByRecursion, list_all, drop-append_seam, and_parts, not-true, Piece}
 use Words.{InputLine, pieces_of, lines_of, lines_text, Content, as_read, Epoch, Choices, Item, Accepted}
 use Words.{Warned, header_has_ended, lines_after, OfCopiedLines, HaveNoReturns, AreInPlace, Stretch}
 use Words.{up_to_end, up_to_next, with_stretches, IsStretch, AreStretches, by_bool}
 use Rattle.crx_filter.proofs.damage.{BlockSaved.{rest-in_place, text-parts}, DamagedText.each-ended}
 use Rattle.crx_filter.proofs.damage.{DamagedText.{lines-append, front-cut}, TextAfter.{lines_on, written-on}}
-use Rattle.crx_filter.proofs.{reading.Each.{header-append, all-parts}, stretches.OpenReading.IsNoEvent}
-use Rattle.crx_filter.proofs.stretches.StretchesRead.{stretch_lines, lines_of_stretches, AllowLines}
+use Rattle.crx_filter.proofs.{reading.Each.{header-append, all-parts}, damage.BlockReading.IsNoEvent}
+use Rattle.crx_filter.proofs.stretches.StretchesRead.{lines_of_stretches, AllowLines}
 use Rattle.crx_filter.proofs.wayback.{Cut.{IsClean, CanStand}, Reading.lines_back, WayBack.lines-clean}
 use Rattle.crx_filter.specs.meaning.Stretches.{stretches_text, begins_no_event}
 
@@ -20,10 +20,7 @@ lines-allowed : (lines : List InputLine) → list_all begins_no_event lines ≡ 
 lines-allowed [] e = tt
 lines-allowed (line ∷ lines) e =
     let both = and_parts (begins_no_event line) (list_all begins_no_event lines) e in
-    (one line both.0, lines-allowed lines both.1)
-  where
-    one : (line : InputLine) → begins_no_event line ≡ true → IsNoEvent (as_read line)
-    one line e = grind (arith, by_bool, not-true)
+    grind (arith, by_bool, not-true, lines-allowed lines both.1)
 
 pub stretches-allowed : (choices : Choices) (before : List (Item Epoch)) (stretches : List Stretch)
     → AreStretches choices before stretches → AllowLines stretches
@@ -103,9 +100,7 @@ stretches-cut choices before (s ∷ later) h good header = either (IsStretch.end
         ≡ lines_of_stretches choices.every next later → map as_read (lines_of
         (stretches_text choices before (s ∷ later))) ≡ lines_of_stretches choices.every before (s ∷ later)
     either (inl nothing) rest = grind (arith, common_steps, append-nil, same)
-    either (inr ended) rest = ap (λ (ls : List (List ℕ)). map as_read
-        (lines_of (s.instead ++ (lines_text ls ++ stretches_text choices next later)))) same ∙ ended-cut
-        s.instead (lines_on choices.every s.kept block) (stretches_text choices next later) (kept-clean
-        choices s.kept block here) ended ∙ sym (append_assoc (map as_read (lines_of s.instead)) (map Content
-        (lines_on choices.every s.kept block)) (map as_read (lines_of (stretches_text choices next later))))
-        ∙ ap (λ ls. stretch_lines choices.every before s ++ ls) rest
+    either (inr ended) rest = rw same (rw (ended-cut s.instead (lines_on choices.every s.kept block)
+        (stretches_text choices next later) (kept-clean choices s.kept block here) ended)
+        (rw (rest, append_assoc)
+        refl))

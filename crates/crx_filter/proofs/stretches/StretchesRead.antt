@@ -4,12 +4,13 @@ use proofs.Words.{common_steps, arith, ℕ, ◌≡◌, true, List, [], ◌∷◌
 use proofs.Words.{subst, append_assoc, append-nil, ⊤, AllByRecursion, flat_map, flat_map-append, lines_of}
 use proofs.Words.{ReadLine, Content, as_read, Epoch, IsWholeEpoch, printed_epoch, Observation, IsGood}
 use proofs.Words.{ReadEpoch, Choices, Item, Accepted, Warned, header_has_ended, records_left, types_in_force}
-use proofs.Words.{reading_from, compact_place, BeginsAnew, printed_items, IsBetweenUnits, expanded_lines}
+use proofs.Words.{reading_from, compact_place, printed_items, IsBetweenUnits, expanded_lines}
 use proofs.Words.{AreInPlace, Stretch, up_to_end, up_to_next, with_stretches, IsStretch, AreStretches}
 use Rattle.crx_filter.specs.meaning.Stretches.{Saves}
 use proofs.damage.{BlockSaved.rest-in_place, SavedText.{lines-append, epochs_of}, TextAfter.lines_on}
 use proofs.{reading.Each.{all-append, header-append}, stretches.KeptReading.{back_on, back-printed}}
-use proofs.stretches.{KeptReading.{anew-between, CanBeKept, kept-more}, OpenReading.{IsNoEvent, AreEpochs}}
+use proofs.stretches.{KeptReading.{anew-between, CanBeKept, kept-more}, OpenReading.AreEpochs}
+use proofs.damage.BlockReading.{IsNoEvent}
 use proofs.stretches.OpenReading.{IsOpen, stretch-more, epochs-append, epochs-between, epochs-types}
 use proofs.wayback.{Carried.{left-same, types-same}, ExpandedWhole.AreGoodEpochs, Items.known_back}
 
@@ -51,10 +52,6 @@ pub record IsSound (before : List (Item Epoch)) (s : Stretch) : Type 0 where
   pub header : header_has_ended before ≡ true
   pub closed : records_left (up_to_next before s) ≡ 0
 
-end-left : (choices : Choices) (before : List (Item Epoch)) (s : Stretch) → IsSound before s
-    → BeginsAnew choices (up_to_end before s) s.kept → records_left (up_to_end before s) ≡ 0
-end-left choices before s sound anew = grind (arith, common_steps, anew-between, up_to_end, records_left)
-
 pub one-stretch : (choices : Choices) (before : List (Item Epoch)) (s : Stretch) (later : List Stretch)
     (so_far : List ReadLine) (items : List (Item ReadEpoch)) → IsStretch choices before s later → AllowsLines
     s → IsSound before s → WereReadAs so_far items before → IsStepRead choices before s so_far items
@@ -66,7 +63,7 @@ one-stretch choices before s later so_far items h allowed sound come =
     let can : CanBeKept choices.every s.kept block x = record {
       in_place = sound.in_place;
       header = header-append s.lost before sound.header;
-      left = end-left choices before s sound h.anew;
+      left = let anew = h.anew in grind (arith, common_steps, anew-between, up_to_end, records_left);
       between = epochs-between first.news items first.epochs come.between;
       types = epochs-types first.news items first.epochs ∙ come.types ∙ sym h.types;
     } in
@@ -178,17 +175,17 @@ stretches-read choices before (s ∷ later) so_far items h allowed sound come =
     let joined = ap (λ (l : List (Item ReadEpoch)). rest.more ++ l) (sym (append_assoc front one.news items))
     ∙ sym (append_assoc rest.more (front ++ one.news) items) in
     let printed : expanded_lines all ≡ flat_map printed_epoch (epochs_of one.news) ++ (printed_items s.kept
-    ++ expanded_lines rest.more) = lines-append rest.more (front ++ one.news) ∙ ap (λ ls. ls ++ expanded_lines
-    rest.more) (lines-append front one.news) ∙ append_assoc (expanded_lines one.news) (expanded_lines front)
-    (expanded_lines rest.more) ∙ ap (λ ls. ls ++ (expanded_lines front ++ expanded_lines rest.more))
-    (news-printed one.news one.epochs) ∙ ap (λ ls. flat_map printed_epoch
-    (epochs_of one.news) ++ (ls ++ expanded_lines rest.more)) (back-printed choices.every s.kept block) in
+    ++ expanded_lines rest.more) = rw (
+      lines-append rest.more (front ++ one.news),
+      lines-append front
+          one.news,
+    )
+    (rw (append_assoc, news-printed one.news one.epochs, back-printed choices.every s.kept block) refl) in
     record {
       more = all;
       come = subst (λ (l : List (Item ReadEpoch)). WereReadAs (so_far ++ lines_of_stretches choices.every
-          before (s ∷ later)) l (with_stretches before (s ∷ later))) joined (subst (λ ls. WereReadAs ls
-          (rest.more ++ x) (with_stretches next later))
-          (append_assoc so_far lines (lines_of_stretches choices.every next later)) rest.come);
+          before (s ∷ later)) l (with_stretches before (s ∷ later))) joined
+          (rw (append_assoc so_far lines (lines_of_stretches choices.every next later)) at rest.come);
       saves = λ good.
           let again = subst AreGoodEpochs (sym joined) good in (
             epochs_of one.news,

@@ -89,14 +89,12 @@ rest-kept file choices expanding damaged dated skips d =
     open-ends items reading (WereReadAs.between r.come) (WereReadAs.stops r.come) in
     let all : List (Item ReadEpoch) = with_warnings end.warnings items in
     let cut : map as_read (lines_of damaged) ≡ Content version_line ∷ Content (program_line choices.date)
-    ∷ (old ++ new) = ap (λ t. map as_read (lines_of t)) d.text ∙ front-state choices d.before _ dated front
-    (started d.before d.header) ∙ ap (λ ls. Content version_line ∷ Content (program_line choices.date)
-    ∷ (old ++ ls)) (stretches-cut choices d.before d.stretches d.each good d.header) in
+    ∷ (old ++ new) = rw d.text (rw (front-state choices d.before _ dated front (started d.before d.header))
+    (rw (stretches-cut choices d.before d.stretches d.each good d.header) refl)) in
     let whole : whole_compact expanding.skip (map as_read (lines_of damaged)) ≡ record {
       items = all;
       fault = None;
-    } = ap (λ skip. whole_compact skip (map as_read (lines_of damaged))) skips
-    ∙ ap (whole_compact true) cut ∙ whole-after true choices.date (old ++ new) ∙ end.same in
+    } = rw (skips, cut, whole-after true choices.date (old ++ new)) end.same in
     let read : AreGoodEpochs items = epochs-good items (subst (ItemsAreRead compact_place)
     (open-items items reading (WereReadAs.stops r.come)) (items-read compact_place true 3 (old ++ new))) in
     let text : expanded_lines all ≡ printed_items d.before ++ expanded_lines r.more =
@@ -116,10 +114,10 @@ rest-kept file choices expanding damaged dated skips d =
 
 whole-so_far : (expanding choices : Choices) (before : List (Item Epoch)) → AreInPlace before
     → expanded_so_far (map Content (front_lines choices before)) expanding ≡ lines_text (printed_items before)
-whole-so_far expanding choices before h = ap (λ (r : Reading ReadEpoch). lines_text (expanded_lines r.items))
-    (reading-at expanding.skip (map Content (front_lines choices before)) _ 2
-    (first-lines_read choices.date (map Content (lines_back choices.every before)))
-    ∙ front-read expanding.skip choices.every before h) ∙ ap lines_text (printed-same choices.every before)
+whole-so_far expanding choices before h = rw (reading-at expanding.skip (map Content (front_lines choices
+    before))
+    _ 2 (first-lines_read choices.date (map Content (lines_back choices.every before))))
+    (rw (front-read expanding.skip choices.every before h, printed-same choices.every before) refl)
 
 begun-first : (expanding choices : Choices) (before : List (Item Epoch)) (text more : List ℕ) → is_date
     choices.date ≡ true → AreGood before → is_at_start before ≡ false → text ≡ lines_text (compact_lines

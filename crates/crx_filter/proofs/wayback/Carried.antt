@@ -6,7 +6,7 @@ use Words.{refl, ap, sym, ◌∙◌, arith, length-append, map-append, length-ma
 use Words.{Done, FileUnit, HeaderLine, EventLine, EventRecord, Observation, types_of, Item, Accepted, Warned}
 use Words.{is_at_start, header_has_ended, records_left, records_count_types, declaring_lines, types_in_force}
 use Words.{types_fault, header_line_fault, unit_place, Reading, AtLines, reading_from, ended_reading}
-use Words.{whole_reading, continued_reading, IsReadForward, AreInPlace, written_lines}
+use Words.{whole_reading, IsReadForward, AreInPlace, written_lines}
 use Rattle.crx_filter.proofs.reading.{Ending.closes-well, Resuming.{within-here, within-wanted, enough-units}}
 use Rattle.{crx_filter.proofs.reading.Resuming.resumed, std.proofs.lemmas.List.drop_all}
 
@@ -110,11 +110,10 @@ module _ {E : Type 0} (place : List (Item E) → List ReadLine → Place (FileUn
       let first = written_lines lines_of_unit before in
       let more = lines_of_unit before unit in
       let same = length-map more _ in
-      ap (λ ls. reading_from place skip [] number ls) (map-append Content first more) ∙ resumed place forward
-      skip [] number (map Content first) (map Content more) ∙ ap (λ r. continued_reading place skip r (map
-      Content more)) (reads-again forward stands skip number before h.1) ∙ one-unit
-      place forward skip _ (number + length first) _ _ (stands before unit h ∙ ap (λ n. Done (carried_unit
-      known before unit) n) (sym same)) ∙ at-line _ _ _ (omega (arith, same, length-append first more))
+      rw (map-append Content first more, resumed place forward) (rw (reads-again forward stands skip number
+      before h.1) (one-unit place forward skip _ (number + length first) _ _ (stands before unit h
+      ∙ ap (λ n. Done (carried_unit known before unit) n) (sym same))
+      ∙ at-line _ _ _ (omega (arith, same, length-append first more))))
 
   -- ---- the end
 

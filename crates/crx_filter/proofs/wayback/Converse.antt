@@ -13,7 +13,7 @@ use Rattle.crx_text.proofs.{ReadBack.decimal_is_digits, Spellings.abs_within}
 use Rattle.crx_text.specs.meaning.Numbers.{IsMissingOrWithin, number_text, size_text, observation_text}
 use Rattle.{crx_text.specs.meaning.Numbers.IsValue, std.proofs.Common.{pos, negsuc, ◌^◌, decimal}}
 use Rattle.std.{proofs.Math.Nat.pow-le-pow_right, specs.{Char.is_ascii_digit, Str.all_ascii_digits}}
-use proofs.{reading.Each.{all-append, contents}, wayback.Cut.{CanStand, return-kept, first-cut}}
+use proofs.{reading.Each.{all-append, all-from, contents}, wayback.Cut.{CanStand, return-kept, first-cut}}
 use proofs.wayback.First.{append-printable, take-printable, printable-no_feed, printable-no_return}
 use proofs.wayback.{Standard.normal-comes_back, WayBack.whole-settled}
 
@@ -105,16 +105,14 @@ epoch-printable types epoch h = (
 
 -- ---- the lines of all units
 
-printable-plain : (lines : List (List ℕ)) → AllByRecursion
-    (λ (line : List ℕ). list_all is_printable line ≡ true) lines → AllByRecursion IsPlainLine lines
-printable-plain [] h = tt
-printable-plain (line ∷ lines) h = search (printable-plain lines h.1, printable-no_feed, printable-no_return)
+printable-plain : (line : List ℕ) → list_all is_printable line ≡ true → IsPlainLine line
+printable-plain line h = search (printable-no_feed, printable-no_return)
 
 pub printed-plain : (items : List (Item Epoch)) → AreInPlace items
     → OfCopiedLines CanStand items → HaveNoReturns items → AllByRecursion IsPlainLine (printed_items items)
 printed-plain [] h k e = tt
 printed-plain (Accepted (Observation epoch) ∷ before) h k e =
-    search (all-append, printable-plain, epoch-printable, printed-plain before h.1 k.1 e.1)
+    search (all-append, all-from _ _ printable-plain, epoch-printable, printed-plain before h.1 k.1 e.1)
 printed-plain (Accepted unit ∷ before) h k e = search (printed-plain before h.1 k.1 e.1, all-append)
 printed-plain (Warned at ∷ before) h k e = printed-plain before h.1 k e
 

@@ -64,14 +64,11 @@ no_feed-without_return (b ∷ []) h = grind (arith, All-nil)
 no_feed-without_return (b ∷ c ∷ bs) h = All-cons NoFeed b _
     (All-head NoFeed b (c ∷ bs) h) (no_feed-without_return (c ∷ bs) (All-tail NoFeed b (c ∷ bs) h))
 
-as-read-stands : (l : InputLine) → HasNoFeed l.content → OfContent CanStand (as_read l)
-as-read-stands l h = grind (arith, by_bool, ltb-false)
-
 pieces-stand : (ps : List Piece)
     → AllByRecursion FeedsNone ps → AllByRecursion (OfContent CanStand) (map as_read (map line_of ps))
 pieces-stand [] h = tt
 pieces-stand (p ∷ ps) h =
-    (as-read-stands (line_of p) (no_feed-without_return p.bytes h.0), pieces-stand ps h.1)
+    (grind (arith, by_bool, ltb-false, no_feed-without_return p.bytes h.0), pieces-stand ps h.1)
 
 pub input-stands : (input : List ℕ) → AllByRecursion (OfContent CanStand) (map as_read (lines_of input))
 input-stands input = pieces-stand (pieces_of input) (pieces-no_feed input)

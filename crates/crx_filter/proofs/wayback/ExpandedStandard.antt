@@ -15,7 +15,8 @@ use proofs.reading.{Resuming.by_place, Stopping.reading-stopped, WhatStands.{OfH
 use proofs.{reading.WhatWasRead.{items-read, allowed, of-ended}, wayback.Converse.epoch-printable}
 use proofs.wayback.{Converse.{lines-plain, printed-plain, all-plain}, Cut.{CanStand, OfContent, input-stands}}
 use proofs.wayback.{Cut.first-cut, ExpandedWhole.{AreGoodEpochs, epochs-good}, NormalForm.settled-standard}
-use proofs.wayback.{ReturnsLost.printable-lines, Standard.{NoReturn, not-ended}, WayBack.{IsSettled, closes}}
+use proofs.{reading.Each.all-from, wayback.First.printable-no_feed}
+use proofs.wayback.{Standard.{NoReturn, not-ended}, WayBack.{IsSettled, closes}}
 use Rattle.crx_filter.specs.meaning.{Expanded.rinex_unit, WrittenStandard.{has_plain_lines, rinex_items}}
 use Rattle.crx_filter.specs.meaning.WrittenStandard.{WhatIsExpandedIsStandard, WroteStandard}
 
@@ -161,7 +162,7 @@ printed-no_feed : (items : List (Item Epoch))
     → AreInPlace items → OfCopiedLines CanStand items → AllByRecursion HasNoFeed (printed_items items)
 printed-no_feed [] h k = tt
 printed-no_feed (Accepted (Observation epoch) ∷ before) h k =
-    search (all-append, printable-lines, epoch-printable, printed-no_feed before h.1 k.1)
+    search (all-append, all-from _ _ printable-no_feed, epoch-printable, printed-no_feed before h.1 k.1)
 printed-no_feed (Accepted unit ∷ before) h k = search (printed-no_feed before h.1 k.1, all-append)
 printed-no_feed (Warned at ∷ before) h k = printed-no_feed before h.1 k
 

@@ -7,15 +7,19 @@ use Words.{without_return, line_of, lines_of, is_long, HasNoFeed, ReadLine, Cont
 use Words.{is_printable, lines_text, by_bool}
 use Rattle.crx_filter.proofs.wayback.{Cut.first-cut, First.printable-other}
 
+-- what the elements of a list have together
+abbrev pub total : {X : Type 0} → (X → ℕ) → List X → ℕ
+total f [] = 0
+total f (x ∷ xs) = f x + total f xs
+
+pub total-append : {X : Type 0} (f : X → ℕ) (xs ys : List X) → total f (xs ++ ys) ≡ total f xs + total f ys
+total-append f [] ys = omega arith
+total-append f (x ∷ xs) ys = omega (arith, total-append f xs ys)
+
 -- ---- of a text
 
 abbrev pub returns : List ℕ → ℕ
-returns [] = 0
-returns (b ∷ bs) = cond (b == 13) 1 0 + returns bs
-
-returns-append : (xs ys : List ℕ) → returns (xs ++ ys) ≡ returns xs + returns ys
-returns-append [] ys = omega arith
-returns-append (x ∷ xs) ys = omega (arith, returns-append xs ys)
+returns = total (λ b. cond (b == 13) 1 0)
 
 -- one CR at the end is taken off
 pub returns-kept : (text : List ℕ) → returns (without_return text) ≤ returns text
@@ -38,16 +42,11 @@ printable-none (c ∷ cs) h =
 -- ---- of lines that are written
 
 abbrev pub returns_in : List (List ℕ) → ℕ
-returns_in [] = 0
-returns_in (line ∷ lines) = returns line + returns_in lines
-
-pub in-append : (xs ys : List (List ℕ)) → returns_in (xs ++ ys) ≡ returns_in xs + returns_in ys
-in-append [] ys = omega arith
-in-append (x ∷ xs) ys = omega (arith, in-append xs ys)
+returns_in = total returns
 
 pub in-text : (lines : List (List ℕ)) → returns (lines_text lines) ≡ returns_in lines
 in-text [] = refl
-in-text (line ∷ lines) = grind (arith, in-text lines, returns-append)
+in-text (line ∷ lines) = grind (arith, in-text lines, total-append)
 
 pub in-printable : (lines : List (List ℕ))
     → AllByRecursion (λ (line : List ℕ). list_all is_printable line ≡ true) lines → returns_in lines ≡ 0
@@ -70,8 +69,7 @@ read-cut (suc n) (Content line ∷ lines) = omega (arith, read-cut n lines)
 
 -- the bytes of pieces
 abbrev returns_of : List Piece → ℕ
-returns_of [] = 0
-returns_of (p ∷ ps) = returns p.bytes + returns_of ps
+returns_of = total (λ (p : Piece). returns p.bytes)
 
 read-pieces : (ps : List Piece) → returns_read (map as_read (map line_of ps)) ≤ returns_of ps
 read-pieces [] = omega arith
@@ -87,12 +85,7 @@ read-input input = omega (arith, read-pieces (pieces_of input), of-pieces input)
 
 -- lines without their last CR
 abbrev pub returns_left : List (List ℕ) → ℕ
-returns_left [] = 0
-returns_left (line ∷ lines) = returns (without_return line) + returns_left lines
-
-pub left-append : (xs ys : List (List ℕ)) → returns_left (xs ++ ys) ≡ returns_left xs + returns_left ys
-left-append [] ys = omega arith
-left-append (x ∷ xs) ys = omega (arith, left-append xs ys)
+returns_left = total (λ line. returns (without_return line))
 
 pub left-kept : (lines : List (List ℕ)) → returns_left lines ≤ returns_in lines
 left-kept [] = omega arith

@@ -9,12 +9,12 @@ use proofs.Words.{Choices, is_date, Item, Accepted, Warned, types_in_force, Whol
 use proofs.Words.{FilterResult, marked_epochs, compact_lines, version_line, program_line, compact_place}
 use proofs.Words.{first_lines, whole_compact, expanded, expanded_lines, AreInPlace, OfCopiedLines}
 use proofs.Words.{HaveNoReturns}
-use proofs.reading.{Each.all-append, Resuming.by_place, WhatWasRead.{items-read, of-ended}}
+use proofs.reading.{Each.{all-append, all-from}, Resuming.by_place, WhatWasRead.{items-read, of-ended}}
 use proofs.wayback.{Converse.{epoch-printable, standard-where_kept}, Items.{marked_now, epoch-stands}}
 use proofs.wayback.{Standard.same-reading, Reading.lines_back, ExpandedWhole.{AreGoodEpochs, epochs-good}}
 use proofs.wayback.{WayBack.{IsSettled, whole-settled, lines-same}, Cut.{IsClean, CanStand}, Carried.started}
-use proofs.wayback.Returns.{returns, returns-kept, returns-fewer, returns_in, in-append, in-text}
-use proofs.wayback.Returns.{in-printable, returns_read, returns_left, left-append, left-kept, read-written}
+use proofs.wayback.Returns.{returns, returns-kept, returns-fewer, returns_in, total-append, in-text}
+use proofs.wayback.Returns.{in-printable, returns_read, returns_left, left-kept, read-written}
 use proofs.wayback.{Returns.read-input, ReturnsRead.{returns_copied, rinex-within, compact-within}}
 use proofs.wayback.First.{program-printable, program-clean, version-clean, printable-no_feed}
 use Rattle.crx_filter.specs.WayBack.{IsStandardWhereSame}
@@ -27,9 +27,9 @@ written-returns [] h = refl
 written-returns (Accepted (Observation read) ∷ before) h =
     let first = in-printable
     (printed_epoch read.epoch) (epoch-printable (types_in_force before) read.epoch (IsGood.whole h.0)) in
-    let second = in-append (expanded_lines before) (printed_epoch read.epoch) in
+    let second = total-append returns (expanded_lines before) (printed_epoch read.epoch) in
     omega (arith, written-returns before h.1)
-written-returns (Accepted unit ∷ before) h = grind (arith, written-returns before h, in-append)
+written-returns (Accepted unit ∷ before) h = grind (arith, written-returns before h, total-append)
 written-returns (Warned at ∷ before) h = written-returns before h
 
 pub whole-good : (skip : Bool) (lines : List ReadLine) → AreGoodEpochs
@@ -75,11 +75,6 @@ keeps-or_loses [] = inl tt
 keeps-or_loses (Accepted unit ∷ before) = grind (arith, one-line, keeps-or_loses before)
 keeps-or_loses (Warned at ∷ before) = keeps-or_loses before
 
-pub printable-lines : (lines : List (List ℕ)) → AllByRecursion
-    (λ (line : List ℕ). list_all is_printable line ≡ true) lines → AllByRecursion HasNoFeed lines
-printable-lines [] h = tt
-printable-lines (line ∷ lines) h = (printable-no_feed line h.0, printable-lines lines h.1)
-
 -- the lines of compact text after its first two
 record AreBack (lines : List (List ℕ)) (n : ℕ) : Type 0 where
   no_feed : AllByRecursion HasNoFeed lines
@@ -87,11 +82,12 @@ record AreBack (lines : List (List ℕ)) (n : ℕ) : Type 0 where
 
 copied-back : (lines : List (List ℕ)) (line : List ℕ) (n : ℕ)
     → HasNoFeed line → AreBack lines n → AreBack (lines ++ line ∷ []) (returns (without_return line) + n)
-copied-back lines line n h b = grind (arith, all-append, left-append)
+copied-back lines line n h b = grind (arith, all-append, total-append)
 
 epoch-back : (lines more : List (List ℕ)) (n : ℕ) → AllByRecursion
     (λ (line : List ℕ). list_all is_printable line ≡ true) more → AreBack lines n → AreBack (lines ++ more) n
-epoch-back lines more n h b = grind (arith, all-append, printable-lines, left-append, left-kept, in-printable)
+epoch-back lines more n h b =
+    grind (arith, all-append, all-from _ _ printable-no_feed more, total-append, left-kept, in-printable)
 
 lines-back : (every : Option ℕ) (items : List (Item Epoch))
     → AreInPlace items → OfCopiedLines CanStand items → AreBack (lines_back every items) (left_copied items)

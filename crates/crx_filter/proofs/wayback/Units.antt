@@ -2,7 +2,7 @@
 use Rattle.crx_filter.proofs.Words
 use Words.{common_steps, arith, ℕ, ◌≡◌, List, [], ◌∷◌, map, Option, None, refl, ap, sym, ◌∙◌, lines_of}
 use Words.{lines_text, as_read, At, Epoch, FileUnit, Choices, compacted, Item, Accepted, Warned}
-use Words.{WholeReading, printed_items, whole_of, IsStandard, OfCopiedLine, OfCopiedLines, HaveNoReturns}
+use Words.{WholeReading, printed_items, whole_of, IsStandard, OfCopiedLines, HaveNoReturns}
 use Words.{written_well, warnings_in, expanded, IsResult, Device, AreInPlace}
 use Rattle.crx_filter.proofs.wayback.NormalForm.{printed-again, accepted-all, whole-none, settled-standard}
 use Rattle.crx_filter.proofs.wayback.Standard.{whole-copied, plain-no_return, plain-text, NoReturn}
@@ -17,14 +17,10 @@ in-place : (units : List (FileUnit Epoch)) → AreInOrder units → AreInPlace (
 in-place [] h = tt
 in-place (unit ∷ before) h = (h.0, in-place before h.2)
 
-of-line : (P Q : List ℕ → Type 0) → ((line : List ℕ) → P line → Q line) → (unit : FileUnit Epoch)
-    → OfCopiedLine P unit → OfCopiedLine Q unit
-of-line P Q f e h = grind (arith, common_steps)
-
 copied : (Q : List ℕ → Type 0) → ((line : List ℕ) → CanBeCopied line → Q line)
     → (units : List (FileUnit Epoch)) → AreInOrder units → OfCopiedLines Q (as_items units)
 copied Q f [] h = tt
-copied Q f (unit ∷ before) h = (of-line CanBeCopied Q f unit h.1, copied Q f before h.2)
+copied Q f (unit ∷ before) h = (grind (arith, common_steps), copied Q f before h.2)
 
 can-stand : (line : List ℕ) → CanBeCopied line → CanStand line
 can-stand line h = (h.one_line, h.short)
@@ -81,14 +77,10 @@ all-units [] e = refl
 all-units (Accepted unit ∷ before) e = ap (λ items. Accepted unit ∷ items) (all-units before e)
 all-units (Warned at ∷ before) e = absurd (cc)
 
-both : (unit : FileUnit Epoch)
-    → OfCopiedLine CanStand unit → OfCopiedLine NoReturn unit → OfCopiedLine CanBeCopied unit
-both v1 h k = grind (arith)
-
 in-order : (units : List (FileUnit Epoch)) → AreInPlace (as_items units)
     → OfCopiedLines CanStand (as_items units) → HaveNoReturns (as_items units) → AreInOrder units
 in-order [] h k e = tt
-in-order (unit ∷ before) h k e = (h.0, both unit k.0 e.0, in-order before h.1 k.1 e.1)
+in-order (unit ∷ before) h k e = (h.0, grind arith, in-order before h.1 k.1 e.1)
 
 make-file : (units : List (FileUnit Epoch)) → IsSettled (as_items units) → HaveNoReturns (as_items units)
     → MakeAFile units

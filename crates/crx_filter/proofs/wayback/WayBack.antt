@@ -9,9 +9,9 @@ use proofs.Words.{WholeReading, Stop, AtFault, AtLines, Looking, is_skipped, rea
 use proofs.Words.{ended_with, ended_reading, warnings_in, written_lines, result_of, rinex_place}
 use proofs.Words.{marked_epochs, whole_rinex, version_line, program_line, compact_lines, rinex_reading}
 use proofs.Words.{compact_place, whole_compact, expanded_unit, expanded, printed_items, AreInPlace}
-use proofs.Words.{OfCopiedLine, OfCopiedLines, HaveNoReturns, written_well, Place, ap, ◌∙◌, by_bool}
+use proofs.Words.{OfCopiedLine, OfCopiedLines, HaveNoReturns, written_well, Place, by_bool}
 use Rattle.crx_compact.proofs.wayback.Standing.{lines-short}
-use Rattle.crx_filter.specs.{WayBack.ComesBack, meaning.Expanded.expansion_result}
+use Rattle.crx_filter.specs.{WayBack.ComesBack}
 use proofs.{following.Lines.IsStopped, reading.{Each.all-append, Forward.rinex-forward}}
 use proofs.reading.{ForwardCompact.compact-forward, InPlace.items-in_place, Stopping.reading-stopped}
 use proofs.{reading.WhatWasRead.{items-read, allowed, of-ended}, wayback.Carried.{started, whole-again}}
@@ -149,12 +149,12 @@ items-back items compacting expanding dated h none =
       version-clean,
       (program-clean compacting.date dated, lines-clean compacting.every items h.in_place h.copied none),
     ) in
-    ap (λ ls. expanded (lines_text ls) expanding) (lines-same compacting items h.in_place (started
-    items h.header)) ∙ ap (expansion_result expanding) (lines-cut lines clean) ∙ ap (result_of expanded_unit)
-    (whole-after expanding.skip compacting.date (map Content (lines_back compacting.every items))
-    ∙ whole-again compact_place (known_back compacting.every) (body_unit compacting.every) compact-forward
-    (unit-here compacting.every) expanding.skip 3 items h.in_place h.header h.none) ∙ result-well (read_back
-    compacting.every items) _ (printed-same compacting.every items) (no-warnings compacting.every items)
+    rw (lines-same compacting items h.in_place (started items h.header), lines-cut lines clean)
+    (rw (whole-after expanding.skip compacting.date (map Content (lines_back compacting.every items)))
+    (rw (whole-again compact_place (known_back compacting.every) (body_unit compacting.every) compact-forward
+    (unit-here compacting.every) expanding.skip 3 items h.in_place h.header h.none) (result-well
+    (read_back compacting.every items) _ (printed-same compacting.every items)
+    (no-warnings compacting.every items))))
 
 pub comes-back : (input : List ℕ) (compacting expanding : Choices) → ComesBack input compacting expanding
 comes-back input compacting expanding dated f none = search (items-back, whole-settled)

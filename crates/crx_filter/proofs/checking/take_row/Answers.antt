@@ -22,7 +22,8 @@ returns-then-put-clause-takes c kept =
     let name = c.name.result.now in
     let put : not (has_identifier c.args.names.now name) ≡ true = sym c.put.ensures.new ∙ c.if-put.true in
     let new = sym (c.requires.named between.row.name c.name.ensures.sound.named)
-    ∙ ap (has_identifier c.args.names.now) (sym c.name.ensures.value) ∙ not-true (has_identifier c.args.names.now name) put in
+    ∙ ap (has_identifier c.args.names.now) (sym c.name.ensures.value)
+    ∙ not-true (has_identifier c.args.names.now name) put in
     taken-from before between c.take_row.new.self line kept c.take_row.result c.take_row.ensures.steps
     read.same
     (c.take_row.ensures.takes line kept (ap (λ (ts : List Count). row_of ts line) read.same.types ∙ read.ok)
@@ -36,7 +37,8 @@ returns-clause-named c opened =
     let put : not (has_identifier c.args.names.now name) ≡ false = sym c.put.ensures.new ∙ c.if-put.false in
     let there = ap (λ (rs : List Row). has_satellite between.row.name rs) same.rows
     ∙ sym (c.requires.named between.row.name c.name.ensures.sound.named)
-    ∙ ap (has_identifier c.args.names.now) (sym c.name.ensures.value) ∙ not-false (has_identifier c.args.names.now name) put in
+    ∙ ap (has_identifier c.args.names.now) (sym c.name.ensures.value)
+    ∙ not-false (has_identifier c.args.names.now name) put in
     named-still c.args.names.now c.put.new.self c.read_row.new.self.rows.rows c.read_row.new.self.row
     (subst (AreNamed c.args.names.now) (sym same.rows) c.requires.named)
     (rw (← c.name.ensures.value) c.put.ensures.put) c.name.ensures.sound.named there

@@ -1,4 +1,5 @@
-use Rattle.crx_filter.proofs.Words.{check_filter, checked, Device, At, Option, ap, is_some, refl, subst, sym}
+use Rattle.crx_filter.proofs.Words.{common_steps, arith, check_filter, checked, Device, At, Option, ap, subst}
+use Rattle.crx_filter.proofs.Words.{sym}
 use Rattle.crx_filter.proofs.{Words.{◌∙◌, true≢false}, Kept.{kept, judges-standard}}
 use Rattle.crx_filter.proofs.{following.CheckLawful.{check-lawful, run-judged}, standard.Lossless.says-so}
 use Rattle.{crx_filter.specs.meaning.Standard.report_status, crx_runs.specs.meaning.Runs.{Runs, RunsAs}}
@@ -34,20 +35,4 @@ returns-in-Ok g c =
 
 pub returns-in-Err : goal.returns-in-Err
 returns-in-Err g c =
-    let writer : Device = span g.W.Sink c.args.writer.now c.start.new.writer in
-    let messages : Device = span g.M.Sink c.args.messages.now c.start.new.messages in
-    let status = c.start.result.status in
-    let fault = c.start.result.fault in
-    let started = c.start.ensures.runs check_filter check-lawful tt in
-    let input : Input = reader_span g.R.Source c.args.reader.now c.start.new.reader in
-    let is : Runs checked check_filter input writer messages status fault = (
-      started.0,
-      started.1,
-      run-judged writer messages status status fault (λ at is. refl) input started.0
-          (λ none. absurd (true≢false (sym c.start.ensures.memory ∙ ap is_some none))) started.2,
-    ) in
-    record {
-      runs = is;
-      lossless = kept is (says-so writer messages status fault);
-      standard = kept is (judges-standard writer messages status fault);
-    }
+    grind (arith, common_steps, check-lawful, run-judged, true≢false, kept, says-so, judges-standard)

@@ -1,5 +1,6 @@
-use Rattle.crx_filter.proofs.{Words.{common_steps, arith, inl, inr, refl}, steps.Together.row-lost}
-use Rattle.crx_filter.proofs.steps.Together.{row-or-epoch, row-refused, row-repeated, row-written, rows-there}
+use Rattle.crx_filter.proofs.{Words.{common_steps, arith, inl, inr, refl, ap, not, ◌∙◌}}
+use Rattle.crx_filter.proofs.{steps.Together.row-lost}
+use Rattle.crx_filter.proofs.steps.Together.{row-known, row-or-epoch, row-refused, row-written, rows-there}
 use Rattle.crx_filter.proofs.compaction.take_row.Goals as goal
 
 pub returns-in_err-read_row-clause-refused : goal.returns-in_err-read_row-clause-refused
@@ -10,9 +11,9 @@ returns-in-Ok-false-clause-refused c =
     let read = c.in_ok-read_row.ensures in
     let encoded = c.in-Ok-false.ensures in
     row-refused _ _ _ _ _ c.requires.together read.same _ (encoded.repeated c.in-Ok-false.field-0-test)
-    c.requires.drained (λ kept. inl (read.repeated kept (row-repeated _ _ _ _ _ encoded.answer
+    c.requires.drained (λ kept. inl (read.repeated kept (row-known _ _ _ _ _ encoded.answer
     (refl {a = c.read_row.new.self.row}) (rows-there _ _ c.requires.together c.requires.open)
-    c.in-Ok-false.field-0-test)))
+    ∙ ap not c.in-Ok-false.field-0-test)))
 
 pub returns-in-Err-clause-refused : goal.returns-in-Err-clause-refused
 returns-in-Err-clause-refused c =

@@ -1,7 +1,7 @@
-use Rattle.crx_filter.proofs.{Words.subst, steps.CheckerSteps.{IsTaken, given-after, noted-next}}
+use Rattle.crx_filter.proofs.steps.CheckerSteps.{given-after, noted-next}
 use Rattle.crx_filter.proofs.steps.CheckerSteps.{nothing_kept, step-counting, step-named, refused-reads}
 use Rattle.crx_filter.proofs.steps.{CheckerSteps.{still-drained, taken-reads}, EngineAnswers.short-line}
-use Rattle.{crx_lines.specs.Reading.{line_number, line_shown}, std.proofs.lemmas.Result.err_from_is_err_and}
+use Rattle.{crx_lines.specs.Reading.{line_shown}, std.proofs.lemmas.Result.err_from_is_err_and}
 use Rattle.crx_filter.proofs.checking.CheckingDirection.take.Goals as goal
 
 pub returns-in_err-step-clause-reads : goal.returns-in_err-step-clause-reads
@@ -19,37 +19,30 @@ note-requires-clause-observed c = step-counting _ _ _ _ _ _ c.in_ok-step.ensures
 
 pub invariant_of-self-2 : goal.invariant_of-self-2
 invariant_of-self-2 c =
-    let before = c.self.inside.reader in
     let takes = c.in_ok-step.ensures.takes nothing_kept in
-    let shown = subst (λ t. IsTaken before t c.in_ok-step.step c.take.new.self)
-    c.bytes.ensures.content takes in
+    let shown = rw c.bytes.ensures.content at takes in
     record {
       named = λ is_open. step-named _ _ _ _ _ _ c.in_ok-step.ensures.steps takes
           c.clear_if_begun.ensures.empty is_open;
-      observed = c.note.ensures.observed before _ shown;
+      observed = c.note.ensures.observed _ _ shown;
       bounded = c.note.ensures.bounded;
     }
 
 pub returns-clause-reads : goal.returns-clause-reads
 returns-clause-reads c =
-    let before = c.self.inside.reader in
-    let takes = subst (λ t. IsTaken before t c.in_ok-step.step c.take.new.self)
-    c.bytes.ensures.content (c.in_ok-step.ensures.takes nothing_kept) in
+    let takes = rw c.bytes.ensures.content at (c.in_ok-step.ensures.takes nothing_kept) in
     let drained = rw (← c.self.view_is) at c.requires.asked.drained in
-    rw (← c.self.view_is) (taken-reads _ before c.take.new.self c.self.inside.noted.totals
+    rw (← c.self.view_is) (taken-reads _ c.self.inside.reader c.take.new.self c.self.inside.noted.totals
     (line_shown c.args.line).content _ c.note.new.self.totals c.in_ok-step.step takes
-    (c.note.ensures.totals before _ takes) (still-drained c.self.inside.handed_out _ _ drained))
+    (c.note.ensures.totals _ _ takes) (still-drained c.self.inside.handed_out _ _ drained))
 
 pub returns-clause-knows : goal.returns-clause-knows
 returns-clause-knows c =
-    let before = c.self.inside.reader in
-    let noted = c.self.inside.noted in
     let line = line_shown c.args.line in
-    let takes = subst (λ t. IsTaken before t c.in_ok-step.step c.take.new.self)
-    c.bytes.ensures.content (c.in_ok-step.ensures.takes nothing_kept) in
+    let takes = rw c.bytes.ensures.content at (c.in_ok-step.ensures.takes nothing_kept) in
     let running = rw (← c.self.view_is) at c.requires.running in
-    rw (← c.self.view_is) (λ choices lines given known counted. noted-next choices before noted.totals lines
-    given.taken_as (given-after choices lines line _ given) noted.not_standard known
-    c.take.new.self c.note.new.self.totals c.note.new.self.not_standard
-    line c.in_ok-step.step (line_number c.args.line) running (short-line line c.args.line.short) takes
-    (c.note.ensures.totals before _ takes) (λ some. c.note.ensures.standard before _ takes some) counted)
+    rw (← c.self.view_is) (λ choices lines given known counted. noted-next choices _
+    c.self.inside.noted.totals
+    lines given.taken_as (given-after choices lines line _ given) _ known _ c.note.new.self.totals _ line _ _
+    running (short-line line c.args.line.short) takes (c.note.ensures.totals _ _ takes)
+    (c.note.ensures.standard _ _ takes) counted)

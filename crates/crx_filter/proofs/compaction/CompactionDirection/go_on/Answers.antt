@@ -1,5 +1,5 @@
-use Rattle.crx_filter.proofs.Words.{common_steps, arith, ap, ◌∙◌, is_at_every, ◌+◌}
-use Rattle.{crx_compact.specs.Encoding.EncoderState, crx_filter.proofs.steps.CompactionKnows.compaction_of}
+use Rattle.crx_filter.proofs.Words.{common_steps, arith, ap, ◌∙◌}
+use Rattle.crx_compact.specs.Encoding.{EncoderState}
 use Rattle.crx_filter.proofs.steps.{CompactionKnows.{knows-epoch, knows-moved}, CompactionSteps.ended-read}
 use Rattle.crx_filter.proofs.steps.{CompactionSteps.{moved-read, refused-read}, Together.closed-together}
 use Rattle.crx_filter.proofs.steps.Together.{due-there, row-asked, row-closed, row-ends, row-moves}
@@ -11,8 +11,7 @@ pub returns-in_err-is_last-clause-reads : goal.returns-in_err-is_last-clause-rea
 returns-in_err-is_last-clause-reads c = grind (arith, common_steps, refused-read)
 
 pub returns-in_err-is_last-clause-serves : goal.returns-in_err-is_last-clause-serves
-returns-in_err-is_last-clause-serves c = rw (← c.self.view_is) (λ choices.
-    c.in_err-is_last.ensures.refused.full (is_at_every choices.every c.self.inside.index))
+returns-in_err-is_last-clause-serves c = grind (arith, common_steps)
 
 pub invariant_of-self-then-not-is_last : goal.invariant_of-self-then-not-is_last
 invariant_of-self-then-not-is_last c =
@@ -53,21 +52,15 @@ returns-clause-serves c = λ choices is. served-closed _ _ _
 
 pub returns-then-not-is_last-clause-knows : goal.returns-then-not-is_last-clause-knows
 returns-then-not-is_last-clause-knows c =
-    let inside = c.self.inside in
     let row = c.in_ok-is_last.ensures.written in
-    rw (← c.self.view_is) (λ choices lines given knew counted. knows-moved inside.index inside.reader
-    inside.encoder c.bytes.result.now (line_shown c.args.line) c.args.line.short c.bytes.ensures.content
-    choices lines given knew
-    (compaction_of inside.index c.take_row.new.reader c.take_row.new.encoder) c.take_row.new.reader
+    rw (← c.self.view_is) (knows-moved c.self.inside _ (line_shown c.args.line) c.args.line.short
+    c.bytes.ensures.content _ c.take_row.new.encoder c.take_row.new.reader
     (row-moves row _ c.if-not-is_last.true).0 row.kept)
 
 pub returns-clause-knows : goal.returns-clause-knows
 returns-clause-knows c =
-    let inside = c.self.inside in
     let row = c.in_ok-is_last.ensures.written in
-    rw (← c.self.view_is) (λ choices lines given knew counted. knows-epoch inside.index inside.reader
-    inside.encoder c.bytes.result.now (line_shown c.args.line) c.args.line.short c.bytes.ensures.content
-    choices lines given knew
-    (compaction_of (inside.index + 1) c.take_row.new.reader c.end_epoch.new.encoder) c.take_row.new.reader
+    rw (← c.self.view_is) (knows-epoch c.self.inside _ (line_shown c.args.line) c.args.line.short
+    c.bytes.ensures.content _ c.end_epoch.new.encoder c.take_row.new.reader
     c.take_row.new.encoder (row-ends row _ c.if-not-is_last.false)
     (ap (λ (e : EncoderState). e.rows) row.written) row.held row.kept c.end_epoch.ensures.memory)

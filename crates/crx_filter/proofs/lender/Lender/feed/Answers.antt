@@ -1,9 +1,9 @@
-use Rattle.crx_filter.proofs.Words.{Result, refl, sym, ap, ◌∙◌, ◌≡◌, List, ℕ, At, Content, Steps}
+use Rattle.crx_filter.proofs.Words.{common_steps, arith, refl, Result, ◌≡◌, List, ℕ, At, Content, Steps}
 use Rattle.{crx_base.specs.meaning.Lines.InputLine, crx_filter.proofs.lender.Lender.feed.Given.Over}
 use Rattle.crx_filter.proofs.{lender.Lender.feed.Goals.After-answer_given, steps.EngineAnswers.answers-kept}
 use Rattle.crx_filter.proofs.steps.EngineAnswers.{engine-answers, as-read-within}
 use Rattle.crx_filter.specs.{DirectionParts.EngineParts, EngineState.{EngineGoes, EngineNotes, EngineReads}}
-use Rattle.crx_filter.specs.{EngineState.{RanOutBefore, engine_ready, engine_state}, LenderState.LenderParts}
+use Rattle.crx_filter.specs.{EngineState.{RanOutBefore, engine_ready, engine_state}}
 use Rattle.crx_filter.specs.{LenderState.lender_ready, declared.direction.Direction.Ghosts}
 use Rattle.{crx_lines.specs.Reading.line_shown, crx_runs.specs.Engines.{answer_given, lines_handed_out}}
 use Rattle.{crx_runs.specs.declared.engine.{HandedOut.HandedOut, Step.Step}, std.proofs.Common.Option}
@@ -16,19 +16,12 @@ reads g c = rw (← c.self.view_is, c.keep.ensures.engine) c.take_line-handed_ou
 
 given : (g : Over) (c : After-answer_given g)
     → c.answer_given.result ≡ answer_given c.take_line-handed_out.result c.keep.new.self.engine.answer
-given g c = c.answer_given.ensures.value ∙ ap (answer_given c.take_line-handed_out.result)
-    (c.answer.ensures.value ∙ ap (λ (l : LenderParts _). l.engine.answer) c.self-2.view_is)
+given g c = grind (arith, common_steps)
 
 ready : (g : Over) (c : After-answer_given g) → lender_ready g.D.Direction c.keep.new.self
     ≡ lines_handed_out c.take_line-handed_out.result (line_shown c.args.line).content
     (engine_ready g.D.Direction c.keep.new.self.engine)
-ready g c =
-    let d = g.D.Direction in
-    let out = c.take_line-handed_out.result in
-    c.keep.ensures.ready
-    ∙ ap (λ (l : List ℕ). lines_handed_out out l (engine_ready d c.take_line-handed_out.new.self))
-    c.bytes.ensures.content ∙ ap (λ (e : EngineParts _). lines_handed_out out (line_shown c.args.line).content
-    (engine_ready d e)) (sym c.keep.ensures.engine)
+ready g c = grind (arith, common_steps)
 
 module _ {D : Type 0} (d : Ghosts D) {before after : EngineParts D} {line : InputLine}
     {out : Option HandedOut} {result : Result Step At} {pending : List (List ℕ)}
@@ -45,8 +38,7 @@ module _ {D : Type 0} (d : Ghosts D) {before after : EngineParts D} {line : Inpu
 known-so : (g : Over) (c : After-answer_given g)
     → g.D.Direction.has_room c.args.self.now.engine.direction (line_shown c.args.line).content
     → RanOutBefore g.D.Direction c.args.self.now.engine c.answer_given.result
-known-so g c =
-    rw (given g c, c.keep.ensures.engine) (rw (← c.self.view_is) c.take_line-handed_out.ensures.known)
+known-so g c = grind (arith, common_steps, given)
 
 pub returns-clause-steps : goal.returns-clause-steps
 returns-clause-steps g c = steps-so g.D.Direction (given g c) (ready g c) (reads g c)
@@ -65,10 +57,4 @@ returns-clause-answers g c = λ lines notices taken awaited.
     (as-read-within line line.content c.args.line.short refl) taken awaited
 
 pub returns-clause-by_seen : goal.returns-clause-by_seen
-returns-clause-by_seen g c = λ kept.
-    let d = g.D.Direction in
-    let took = reads g c in
-    let line = line_shown c.args.line in
-    answers-kept d c.args.self.now.engine (goes g c) c.keep.new.self.engine line (Content line.content)
-    c.answer_given.result took.takes.choices (as-read-within line line.content c.args.line.short refl) kept
-    (steps-so d (given g c) (ready g c) took)
+returns-clause-by_seen g c = grind (arith, common_steps, answers-kept, as-read-within, steps-so)
