@@ -1,25 +1,23 @@
 -- The kinds of error that a parse may have at some words come to one plan: help is never among others.
-use Rattle.std.proofs.Common.{rules}
+use Rattle.std.proofs.{Common.rules, Math.Bool.and-false}
 use Rattle.std.proofs.lemmas.Grind.{common_steps}
-use Rattle.std.proofs.Common.{arith, ◌≡◌, ◌&&◌, ℕ, Bool, zero, suc, true, false, not, cond, codes, refl}
-use Rattle.std.proofs.Common.{List, [], ◌∷◌, length, Option, Some, None, is_some}
-use Rattle.std.specs.{Option.option_map_or, Prelude.{slice_get}, Str.{bytes_eq, chars}}
+use Rattle.std.proofs.Common.{arith, ◌≡◌, ℕ, Bool, zero, suc, true, cond, refl}
+use Rattle.std.proofs.Common.{List, [], ◌∷◌, Option, Some, None, is_some}
+use Rattle.std.specs.{Option.option_map_or}
 use Rattle.clap.specs.{Faults.{action_fault, built_fault}}
 use Rattle.clap.specs.Faults.{bundle_step_fault, count_fault, default_fault, defaults_fault, entered_fault}
 use Rattle.clap.specs.Faults.{fault_of, flag_word_fault, flags_fault, level_fault, long_fault, option_fault}
 use Rattle.clap.specs.Faults.{other_fault, positional_fault, react_fault, set_fault}
 use Rattle.clap.specs.Faults.{settle_fault, short_fault, step_fault, stray_fault, turn_fault, use_fault}
-use Rattle.clap.specs.{Faults.{walk_fault, word_fault}, Kinds.{IsAmong, Kinds, check_kinds, or_else}}
-use Rattle.clap.specs.{Kinds.{range_kinds, request_kinds, value_kinds, values_kinds}}
-use Rattle.clap.specs.{Lexer.short_of, Simple.{App, Shape, argument_words, built}}
-use Rattle.clap.specs.{ValueTests.accepts, Walk.{Held, Names, Row, Rule, Step}}
-use Rattle.clap.specs.Walk.{Text, Waiting, Walk, arg_by_long, arg_by_short, attached_value, nothing_held}
-use Rattle.clap.specs.Walk.{reacted, subcommand_met, takes_values, walked, with_default, idle, option}
-use Rattle.clap.specs.Walk.{positional}
+use Rattle.clap.specs.{Faults.walk_fault, Kinds.{IsAmong, Kinds, check_kinds, or_else}}
+use Rattle.clap.specs.Kinds.{value_kinds, values_kinds}
+use Rattle.clap.specs.Simple.{App, Shape, argument_words, built}
+use Rattle.clap.specs.Walk.{Held, Names, Row, Rule, Step}
+use Rattle.clap.specs.Walk.{Text, Waiting, Walk, nothing_held}
+use Rattle.clap.specs.Walk.{subcommand_met, walked, with_default, idle, option, positional}
 use Rattle.clap.specs.{declared.builder.{ArgAction.ArgAction, ValueParser.ValueParser}}
 use Rattle.clap.specs.declared.error.ErrorKind.{ErrorKind}
 use Rattle.crx_command.specs.meaning.{Commands.program, Planning.{Plan, by_kind, by_kinds}}
-use Rattle.clap.specs.declared.error.ErrorKind.TheVariants as kind
 
 -- each of the kinds comes to the plan of the first
 pub record Alike (kinds : Kinds) : Type 0 where
@@ -44,18 +42,11 @@ alike_option = grind (arith, common_steps, alike_none)
 -- ---- one use of an argument
 
 alike_value : (i : Bool) (p : ValueParser) (text : Text) → Alike (value_kinds i p text)
-alike_value i p text = alike_if (accepts i p text) _ _ alike_none (alike_one _)
+alike_value i p text = grind (arith, common_steps, alike_if, alike_none, alike_one)
 
 alike_values : (i : Bool) (p : ValueParser) (texts : List Text) → Alike (values_kinds i p texts)
 alike_values i p [] = alike_none
-alike_values i p (text ∷ rest) = alike_or (value_kinds i p text) _ (alike_value i p text)
-    (alike_values i p rest)
-
-alike_range : (least most n : ℕ) → Alike (range_kinds least most n)
-alike_range least most n = grind arith
-
-alike_request : (x : ArgAction) → Alike (request_kinds x)
-alike_request = grind (arith, common_steps, alike_one, alike_none)
+alike_values i p (text ∷ rest) = grind (arith, common_steps, alike_or, alike_value, alike_values i p rest)
 
 alike_count : (a : Rule) (values : List Text) (rows : List Row) → Alike (count_fault a values rows)
 alike_count = grind (arith, common_steps, alike_value, alike_values)
@@ -70,7 +61,7 @@ alike_action = grind (arith, common_steps, alike_set, alike_values, alike_count,
 
 alike_use : (again : Bool) (a : Rule) (values : List Text) (rows : List Row)
     → Alike (use_fault again a values rows)
-alike_use = search (rules, alike_or, alike_range, alike_action)
+alike_use = search (rules, alike_or, alike_if, alike_one, alike_none, alike_action)
 
 -- ---- the words
 
@@ -89,23 +80,19 @@ alike_with_value c again a None h = alike_settle c again h
 alike_long : (c : List Rule) (again : Bool) (found : Option Rule) (v : Option Text) (h : Held)
     → Alike (long_fault c again found v h)
 alike_long c again None v h = alike_one _
-alike_long c again (Some a) v h =
-    alike_if (takes_values a) _ _ (alike_with_value c again a v h)
-    (alike_if (is_some v) _ _ (alike_one _) (alike_react c again a [] h))
+alike_long c again (Some a) v h = search (rules, alike_if, alike_one, alike_with_value, alike_react)
 
 alike_short : (c : List Rule) (again : Bool) (found : Option Rule) (rest : Text) (h : Held)
     (more : Held → Kinds) → ((g : Held) → Alike (more g)) → Alike (short_fault c again found rest h more)
 alike_short c again None rest h more each = alike_one _
 alike_short c again (Some a) rest h more each =
-    alike_if (takes_values a) _ _ (alike_with_value c again a (attached_value rest) h)
-    (alike_or (react_fault c again a [] h) _ (alike_react c again a [] h) (each (reacted c a [] h)))
+    search (rules, alike_if, alike_or, alike_with_value, alike_react)
 
 alike_bundle_step : (c : List Rule) (again : Bool) (x : Option ℕ) (flags : Text) (skip : ℕ) (h : Held)
     (more : Text → ℕ → Held → Kinds) → ((t : Text) (n : ℕ) (g : Held) → Alike (more t n g))
     → Alike (bundle_step_fault c again x flags skip h more)
 alike_bundle_step c again None flags skip h more each = alike_none
-alike_bundle_step c again (Some x) flags zero h more each =
-    alike_short c again (arg_by_short c x) _ h _ (λ g. each _ 0 g)
+alike_bundle_step c again (Some x) flags zero h more each = search (rules, alike_short)
 alike_bundle_step c again (Some x) flags (suc skip) h more each = each _ skip h
 
 alike_flags : (c : List Rule) (again : Bool) (k : ℕ) (flags : Text) (skip : ℕ) (h : Held)
@@ -113,15 +100,12 @@ alike_flags : (c : List Rule) (again : Bool) (k : ℕ) (flags : Text) (skip : �
 unfolding flags_fault
 alike_flags c again zero flags skip h = alike_none
 alike_flags c again (suc k) flags skip h =
-    alike_bundle_step c again (slice_get (chars flags) 0) flags skip h (flags_fault c again k)
-    (alike_flags c again k)
+    grind (arith, common_steps, alike_bundle_step, alike_flags c again k)
 
 alike_flag_word : (c : List Rule) (again : Bool) (long : Option (Text × Option Text)) (word : Text) (h : Held)
     → Alike (flag_word_fault c again long word h)
-alike_flag_word c again (Some p) word h = alike_long c again (arg_by_long c p.0) p.1 h
-alike_flag_word c again None word h =
-    alike_option _ (short_of word)
-    (λ flags. alike_flags c again (length flags) flags h.skip (record h { skip = 0 }))
+alike_flag_word c again (Some p) word h = search (rules, alike_long)
+alike_flag_word c again None word h = search (rules, alike_option, alike_flags)
 
 alike_plain_word : (s : Shape) (word : Text) (h : Held) → Alike (other_fault s None word h)
 alike_plain_word = grind (arith, common_steps, alike_if, alike_none, alike_flag_word)
@@ -139,15 +123,7 @@ no_names s positional word h = alike_plain_word s word h
 disabled : (s : Shape) (met : Option Text) (word : Text) (h : Held)
     → s.disable_help_subcommand ≡ true → Alike (other_fault s met word h)
 disabled s None word h off = alike_plain_word s word h
-disabled s (Some name) word h off = rw off (go (bytes_eq name (codes "help")))
-  where
-    go : (b : Bool) → Alike (cond (b && not true) (kind.DisplayHelp ∷ kind.InvalidSubcommand ∷ []) [])
-    go true = alike_none
-    go false = alike_none
-
-alike_word : (s : Shape) (names : Names) (is_trailing : Bool) (waiting : Waiting) (word : Text) (h : Held)
-    → NoHelp s names → Alike (word_fault s names is_trailing waiting word h)
-alike_word s names is_trailing waiting word h off = alike_if is_trailing _ _ alike_none (off waiting word h)
+disabled s (Some name) word h off = rw (off, and-false) alike_none
 
 alike_positional : (c : List Rule) (again : Bool) (a : Rule) (h : Held) → Alike (positional_fault c again a h)
 alike_positional c again a h = alike_if _ _ _ alike_none (alike_settle c again h)
@@ -164,26 +140,25 @@ alike_step = grind (arith, common_steps, alike_position, alike_none)
 
 alike_turn : (s : Shape) (names : Names) (w : Walk) (word : Text) → NoHelp s names
     → Alike (turn_fault s names w word)
-alike_turn = grind (arith, common_steps, alike_if, is_some, alike_none, alike_or, alike_word, alike_step)
+alike_turn = grind (arith, common_steps, alike_if, is_some, alike_none, alike_or, alike_step)
 
 alike_walk : (s : Shape) (names : Names) (w : Walk) (words : List Text)
     → NoHelp s names → Alike (walk_fault s names w words)
 unfolding walk_fault
 alike_walk s names w [] off = alike_none
 alike_walk s names w (word ∷ rest) off =
-    alike_or (turn_fault s names w word) _ (alike_turn s names w word off)
-    (alike_walk s names (walked s.rules names w word) rest off)
+    alike_or _ _ (alike_turn s names w word off) (alike_walk s names (walked s.rules names w word) rest off)
 
 -- ---- after the words
 
 alike_default : (rows : List Row) (a : Rule) → Alike (default_fault rows a)
-alike_default = grind (arith, common_steps, alike_if, alike_none, alike_or, alike_request, alike_values)
+alike_default = grind (arith, common_steps, alike_if, alike_none, alike_one, alike_or, alike_values)
 
 alike_defaults : (rows : List Row) (rules : List Rule) → Alike (defaults_fault rows rules)
 unfolding defaults_fault
 alike_defaults rows [] = alike_none
 alike_defaults rows (a ∷ rest) =
-    alike_or (default_fault rows a) _ (alike_default rows a) (alike_defaults (with_default rows a) rest)
+    alike_or _ _ (alike_default rows a) (alike_defaults (with_default rows a) rest)
 
 alike_checks : (a b d : Bool) → Alike (check_kinds a b d)
 alike_checks a b d = grind arith

@@ -5,10 +5,10 @@ use Rattle.std.proofs.Common.{arith, ◌≡◌, ◌∙◌, ◌≤◌, ◌<◌, �
 use Rattle.std.proofs.Common.{true, Bool, List, [], ◌∷◌, ◌++◌, length, length-append, nat_le}
 use Rattle.std.proofs.{Common.{le-leb, Option, None, Some}, lemmas.Bool.and_parts}
 use Rattle.std.{proofs.lemmas.List.Folds.list_all-append, specs.List.{list_all, slice_index_or}}
-use Rattle.std.specs.Prelude.{ℤ, if◌then◌else◌}
+use Rattle.std.specs.Prelude.{if◌then◌else◌}
 use Rattle.jiff.specs.{Types.DateTime, declared.timestamp.Timestamp.Timestamp}
 use Rattle.crx_base.specs.meaning.{Choices.is_date, Lines.is_printable}
-use Rattle.crx_command.specs.meaning.Dates.{IsDateOf, IsDateText, date_text_of, two_digits}
+use Rattle.crx_command.specs.meaning.Dates.{IsDateOf, date_text_of, two_digits}
 
 -- a text of so many bytes at most, each printable
 record Fits (most : ℕ) (text : List ℕ) : Type 0 where
@@ -45,10 +45,7 @@ month_ends = grind arith
 pub date_fits : (at : DateTime) → is_date (date_text_of at) ≡ true
 date_fits = search (rules, three, named, month_ends, digits, joined, nat_le, le-leb)
 
-pub moment_fits : (nanoseconds : ℤ) (text : List ℕ) → IsDateText nanoseconds text → is_date text ≡ true
-moment_fits nanoseconds text h = ap is_date h.2 ∙ date_fits h.0
-
 -- the date of a run that has none among its words
 pub default_fits : (moment : Option Timestamp) (text : List ℕ) → IsDateOf moment text → is_date text ≡ true
 default_fits None text none = ap is_date none
-default_fits (Some at) text h = moment_fits _ text h
+default_fits (Some at) text h = ap is_date h.2 ∙ date_fits h.0

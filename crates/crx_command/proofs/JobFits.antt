@@ -3,10 +3,9 @@ use Rattle.std.proofs.lemmas.Grind.{common_steps}
 use Rattle.std.proofs.Common.{arith, ◌≡◌, ◌∙◌, ap, true, Bool, ℕ, List, Option}
 use Rattle.std.specs.Option.{option_map_or}
 use Rattle.clap.specs.{Faults.fault_of, Kinds.Kinds, Simple.subcommand_of, Walk.Row}
-use Rattle.clap.specs.declared.error.ErrorKind.{ErrorKind}
 use Rattle.crx_base.specs.meaning.Choices.{is_date}
 use Rattle.crx_command.specs.{declared.job.{Job.Job, Tool.Tool}, meaning.{Commands.program, Planning.Given}}
-use Rattle.crx_command.specs.meaning.Planning.{Plan, Help, Run, Refused, by_kind, by_kinds, decide}
+use Rattle.crx_command.specs.meaning.Planning.{Plan, Help, Run, Refused, by_kinds, decide}
 use Rattle.crx_command.specs.meaning.Planning.{of_subcommand, plan_of}
 
 -- whether the date of a plan fits, where it has one
@@ -18,11 +17,8 @@ fits Help = true
 fits (Run job) = date_is job.date
 fits (Refused refusal) = true
 
-kind_fits : (k : ErrorKind) → fits (by_kind k) ≡ true
-kind_fits = grind arith
-
 kinds_fit : (kinds : Kinds) (plan : Plan) → fits plan ≡ true → fits (by_kinds kinds plan) ≡ true
-kinds_fit = grind (arith, common_steps, kind_fits)
+kinds_fit = grind (arith, common_steps)
 
 decide_fits : (tool : Tool) (given : Given) → fits (decide tool given) ≡ true
 decide_fits tool given = grind arith

@@ -1,10 +1,10 @@
 -- A number that `u32` reads from a text.
 use Rattle.std.proofs.Common.{arith}
 use Rattle.std.proofs.lemmas.Grind.{common_steps}
-use Rattle.std.proofs.Common.{◌≡◌, ◌^◌, ◌&&◌, ℕ, Bool, true, refl, List, [], ◌∷◌, nat_lt}
+use Rattle.std.proofs.Common.{◌≡◌, ℕ, true, refl, List, [], ◌∷◌, nat_lt}
 use Rattle.std.{proofs.Common.{Option, Result, lt-ltb, ltb-true}, specs.Char.digit_value}
-use Rattle.std.specs.{List.list_all, Str.Parse.{AllDigits, ParsesUnsigned, digits_value}}
-use Rattle.clap.{proofs.WalkLemmas.both, specs.{Matches.ReadsOne, ValueTests.is_numeral}}
+use Rattle.std.specs.{List.list_all, Str.Parse.{AllDigits, ParsesUnsigned}}
+use Rattle.clap.{proofs.WalkLemmas.both, specs.Matches.ReadsOne}
 use Rattle.crx_command.specs.meaning.Planning.{counted_argument}
 
 digits_pass : (ds : List ℕ) → AllDigits 10 ds → list_all (λ d. nat_lt (digit_value d) 10) ds ≡ true
@@ -16,9 +16,6 @@ digits_from [] e = tt
 digits_from (d ∷ ds) e =
     let parts = both _ _ e in
     (ltb-true _ _ parts.0, digits_from ds parts.1)
-
-abbrev fits : List ℕ → Bool
-fits ds = is_numeral ds && nat_lt (digits_value 10 ds) (2 ^ 32)
 
 module _ {E : Type 0} (G : List ℕ
     → Result ℕ E → Type 0)

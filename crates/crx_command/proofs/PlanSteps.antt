@@ -1,6 +1,6 @@
 -- From what the parser of command lines answers to a plan.
-use Rattle.std.proofs.Common.{arith, ◌≡◌, ◌≢◌, refl, sym, Option, Some, None, option_map, true}
-use Rattle.std.{proofs.lemmas.Option.none-some, specs.Option.IfSome}
+use Rattle.std.proofs.Common.{arith, ◌≡◌, ◌≢◌, refl, Option, Some, option_map, true}
+use Rattle.std.{proofs.lemmas.Option.none-some}
 use Rattle.clap.{proofs.OnLiterals.clap_on_literals, specs.{Faults.is_simple_and_free, Kinds.HasKind}}
 use Rattle.clap.specs.{Kinds.Kinds, Simple.is_simple, Values.kind_of, declared.error.Error.Error}
 use Rattle.clap.specs.declared.error.ErrorKind.TheVariants.{OutOfMemory}
@@ -23,13 +23,7 @@ module _ {X A B : Type 0} (f : X → A) (g : X → B) where
   pub both_halves : (o : Option X) (a : A) (b : B)
       → Some a ≡ option_map f o → Some b ≡ option_map (λ (p : A × B). p.1) (option_map pair o)
       → ◌≡◌ {A = Option (A × B)} (Some (a, b)) (option_map pair o)
-  both_halves None a b first second = absurd (none-some a (sym first))
-  both_halves (Some x) a b first second = grind arith
-
--- an answer's plan is another, where the two are one
-pub same_plan : (o : Option Plan) (p q : Plan) → p ≡ q → IfSome o (λ plan. plan ≡ p)
-    → IfSome o (λ plan. plan ≡ q)
-same_plan o p q same h = grind arith
+  both_halves = grind (arith, none-some)
 
 -- the plan of an error of the parser, whose kind is among those that it may have
 pub not_run_plan : (p : Plan) (e : Error) (kinds : Kinds) (rest : Plan) → Alike kinds → HasKind kinds e

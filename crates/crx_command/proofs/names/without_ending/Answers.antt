@@ -1,23 +1,20 @@
 use Rattle.std.proofs.lemmas.Grind.{common_steps}
-use Rattle.std.proofs.Common.{arith, ◌≡◌, ◌≢◌, ◌++◌, ◌∙◌, ◌+◌, ap, sym, refl, option_map, ℕ, ◌-◌, length}
-use Rattle.std.proofs.Common.{take, drop, Bool, true, false, List, Bor, Option, Some, None, MatchOption}
+use Rattle.std.proofs.Common.{arith, ◌≡◌, ◌≢◌, ◌++◌, ◌+◌, option_map, ℕ, ◌-◌, length}
+use Rattle.std.proofs.Common.{take, drop, List, Bor, Option, Some, None, MatchOption}
 use Rattle.std.proofs.{Common.take-append-drop, lemmas.{List.drop_at, Slice.Eq.bytes_eq-Decides}}
-use Rattle.std.specs.Str.{bytes_eq, Pattern.{FindsTextSuffix, StripsSuffix}}
+use Rattle.std.specs.Str.Pattern.{FindsTextSuffix, StripsSuffix}
 use Rattle.crx_command.specs.meaning.Names.{without_ending}
 use Rattle.crx_command.proofs.names.without_ending.Goals as goal
 
 no_ending : (name ending : List ℕ) → ((front : List ℕ) → name ≢ front ++ ending)
     → None ≡ without_ending ending name
-no_ending name ending never = go (bytes_eq (drop (length name - length ending) name) ending) refl
-  where
-    go : (b : Bool) → bytes_eq (drop (length name - length ending) name) ending ≡ b
-        → None ≡ without_ending ending name
-    go false e = rw e refl
-    go true e =
-        let same : drop (length name - length ending) name ≡ ending = (bytes_eq-Decides _ ending).0 e in
-        absurd (never (take (length name - length ending) name)
-        (sym (take-append-drop (length name - length ending) name)
-        ∙ ap (λ t. take (length name - length ending) name ++ t) same))
+no_ending name ending never = grind (
+  arith,
+  common_steps,
+  bytes_eq-Decides (drop (length name - length ending) name) ending,
+  take-append-drop (length name - length ending) name,
+  never (take (length name - length ending) name),
+)
 
 its_stem : (name ending x : List ℕ) (k : ℕ)
     → k ≡ length ending → name ≡ take (length name - k) name ++ ending → x ≡ take (length name - k) name

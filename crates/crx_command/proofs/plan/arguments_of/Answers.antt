@@ -46,15 +46,7 @@ returns c =
     let every = go (one_text (found_of c.args.found.now) (codes "every")) refl
     ∙ ap (option_and_then counted_argument) (one_text-rows (found_of c.args.found.now) (codes "every")) in
     let date = c.get_str.ensures ∙ first_value-rows (found_of _) (codes "date") in
-    grind (
-      arith,
-      common_steps,
-      dashes ∙ ap (count_by is_dash) names,
-      files ∙ ap (count_by is_file) names,
-      file,
-      every,
-      date,
-    )
+    grind (arith, common_steps)
   where
     go : (o : Option (List ℕ)) → one_text (found_of c.args.found.now) (codes "every") ≡ o
         → c.get_one.result ≡ option_and_then counted_argument o

@@ -6,7 +6,7 @@ use Rattle.clap.specs.Simple.{App, HasMatchesOf, subcommand_rows_of}
 use Rattle.clap.specs.declared.{error.Error.Error, parser.matches.ArgMatches.ArgMatches}
 use Rattle.clap.specs.declared.error.ErrorKind.TheVariants.{DisplayHelp, OutOfMemory}
 use Rattle.crx_command.proofs.{AlikeKinds.program_alike, PlanSteps.{program_is_free, program_is_simple}}
-use Rattle.crx_command.proofs.PlanSteps.{both_halves, same_plan, not_run_plan}
+use Rattle.crx_command.proofs.PlanSteps.{both_halves, not_run_plan}
 use Rattle.crx_command.specs.meaning.{Commands.program, Planning.{Plan, Help, Refused, Parse}}
 use Rattle.crx_command.specs.meaning.Planning.{by_kind, decide, of_subcommand, plan_of}
 use Rattle.crx_command.proofs.plan.plan.Goals as goal
@@ -54,7 +54,6 @@ returns c =
     let is = accepted _ _ _ c.in_ok-command.ensures (ap (map string_bytes) c.as_slice.ensures.value)
     c.in-Ok.matches c.in-Ok.ensures.kinds c.in-Ok.ensures.matches in
     record {
-      value = same_plan _ _ _
-          (ap₂ decide c.tool_named.ensures c.arguments_of.ensures ∙ (ap of_subcommand whole ∙ is))
-          c.decide_for.ensures;
+      value = rw (ap₂ decide c.tool_named.ensures c.arguments_of.ensures ∙ (ap of_subcommand whole ∙ is))
+          at c.decide_for.ensures;
     }
