@@ -1,11 +1,10 @@
 -- What the user reads of a refusal.
-use Rattle.std.proofs.lemmas.Grind.{common_steps}
-use Rattle.std.proofs.Common.{arith, ◌≡◌, ◌∙◌, List, [], ℕ, Err, Some, inr, ap, refl, Bool, true, false}
-use Rattle.std.{proofs.Common.true≢false, specs.Option.IfSome}
+use Rattle.std.proofs.Common.{◌≡◌, ◌∙◌, List, [], ℕ, Err, Some, inr, ap, refl}
+use Rattle.std.{specs.Option.IfSome}
 use Rattle.crx_runs.specs.meaning.Spans.{Device}
 use Rattle.crx_base.specs.declared.fault.Fault.TheVariants.{OutOfMemory}
-use Rattle.crx_command.specs.{Planning.plan_in, declared.job.{Job.Job, UsageFault.UsageFault}}
-use Rattle.crx_command.specs.meaning.{ErrorLines.IsLineOf, Planning.{Plan, Help, Run, Refused, Refusal}}
+use Rattle.crx_command.specs.{Planning.plan_in, declared.job.UsageFault.UsageFault}
+use Rattle.crx_command.specs.meaning.{ErrorLines.IsLineOf, Planning.{Plan, Refused, Refusal}}
 use Rattle.crx_command.specs.meaning.Planning.{Parse, DashTwice, TwoFiles, BadDate, NoName}
 use Rattle.crx_program.specs.meaning.Program.{IsRefused, IsShown, at_start}
 use Rattle.crx_command.specs.declared.job.UsageFault.TheVariants as usage_fault
@@ -31,19 +30,3 @@ module _ (p : Plan) (refusal : Refusal) (messages : Device) (status : ℕ) where
   refused_by (usage_fault.NoName name) e one memory by h = by (ap Some (h ∙ e))
   refused_by usage_fault.Memory e one memory by h =
       (one, ((some_line refusal).0, (some_line refusal).1, inr (memory refl)))
-
--- a refusal isn't a run
-abbrev is_refused : Plan → Bool
-is_refused Help = false
-is_refused (Run job) = false
-is_refused (Refused refusal) = true
-
-refused-run : (refusal : Refusal) (job : Job) → Refused refusal ≡ Run job → ⊥
-refused-run refusal job e = true≢false (ap is_refused e)
-
--- where words that ask for a run have a fault, memory ran out
-module _ (p : Plan) (job : Job) (messages : Device) where
-  pub not_run : (fault : UsageFault)
-      → p ≡ Run job → (fault ≡ usage_fault.Memory → IsShown messages (at_start OutOfMemory))
-      → IfSome (plan_in (Err fault)) (λ plan. plan ≡ p) → IsShown messages (at_start OutOfMemory)
-  not_run = grind (arith, common_steps, refused-run)

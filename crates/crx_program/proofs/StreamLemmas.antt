@@ -8,7 +8,7 @@ use Rattle.crx_runs.specs.meaning.Spans.{Input, Device, reader_span, span}
 use Rattle.jiff.specs.declared.timestamp.Timestamp.{Timestamp}
 use Rattle.crx_command.specs.declared.job.{Job.Job, Tool.Tool}
 use Rattle.crx_program.specs.{declared.log.{Logged.Logged, Opening.Opening}, meaning.Jobs.IsChosen}
-use Rattle.crx_program.specs.meaning.Jobs.{IsFiltered, IsFilteredFrom, IsFilteredInto, IsJobDone, IsMadeBy}
+use Rattle.crx_program.specs.meaning.Jobs.{IsFiltered, IsFilteredFrom, IsFilteredInto, IsJobDone}
 use Rattle.crx_program.specs.meaning.Streams.{ReadsGave, WritesTook, IsAllOf, IsEndTold, IsFlushedLast}
 use Rattle.crx_program.specs.meaning.Streams.{IsUnused, IsPrefixOf}
 
@@ -58,17 +58,6 @@ writer_of contents = logged_sink (std_sink contents)
 
 -- ---- what is known of the logs of a run
 
--- what was added to an empty log
-from_empty : (before after bytes : List ℕ) → before ≡ [] → after ≡ before ++ bytes → after ≡ bytes
-from_empty before after bytes empty is = grind arith
-
-pub same_log : {D : Type 0} (a b : Logged D) → b ≡ a → a.log.bytes ≡ [] → b.log.bytes ≡ []
-same_log {D = D} a b same empty = grind arith
-
-made_still : (name : List ℕ) (force : Bool) (a b c : Opening)
-    → c ≡ b → b ≡ a → IsMadeBy name force a → IsMadeBy name force c
-made_still name force a b c p q made = grind arith
-
 -- the run of a filter, where its writer is by the logs
 record Writing {G O : Type 0} (name : Option (List ℕ)) (force : Bool) (target : Option (Logged (Std G)))
     (output : Logged (Std O)) (tool : Tool) (choices : Choices) (input : Input) (messages : Device)
@@ -97,12 +86,8 @@ module _ {F G I O E : Type 0} (file : F → Option (List ℕ)) (made : G → Opt
       → IsFilteredInto (writer_of made) name force target tool choices input
       (span (writer_of stdout) before after) messages status
       → Writing name force target after tool choices input messages status
-  writing None force target before after empty same tool choices input messages status h = record {
-    writer = span (writer_of stdout) before after;
-    ran = h.1;
-    took = λ bytes took. (h.0, from_empty before.log.bytes after.log.bytes bytes empty took.0);
-    flushed = λ flushed. rw h.0 flushed;
-  }
+  writing None force target before after empty same tool choices input messages status h =
+      grind (arith, common_steps)
   writing (Some name) force target before after empty same tool choices input messages status h =
       let ran = h.2 in
       let last = ran.1 in record {
@@ -111,9 +96,9 @@ module _ {F G I O E : Type 0} (file : F → Option (List ℕ)) (made : G → Opt
         took = λ bytes took. (
           last,
           ran.2,
-          made_still name force h.0 ran.0.opening last.opening took.1 ran.3 h.1,
-          from_empty ran.0.log.bytes last.log.bytes bytes ran.4 took.0,
-          same_log before after (same refl) empty,
+          rw (took.1, ran.3) h.1,
+          rw ran.4 at took.0,
+          rw (same refl) empty,
         );
         flushed = λ flushed. rw ran.2 flushed;
       }
@@ -131,7 +116,7 @@ module _ {F G I O E : Type 0} (file : F → Option (List ℕ)) (made : G → Opt
         reader = reader_span (reader_of stdin) first last;
         writing = writing job.target job.force target before after empty same job.tool choices
             (reader_span (reader_of stdin) first last) messages status h.1;
-        gave = λ bytes gave. rw e (h.0, from_empty first.log.bytes last.log.bytes bytes none gave.0);
+        gave = λ bytes gave. rw e (h.0, rw none at gave.0);
         ended = λ ended. rw h.0 ended.1;
       }
   placed job (Some name) e source target first last before after none empty same_input same choices messages
@@ -144,8 +129,8 @@ module _ {F G I O E : Type 0} (file : F → Option (List ℕ)) (made : G → Opt
           last_read,
           h.2,
           ap (λ (opening : Opening). opening.name.bytes) gave.1 ∙ h.3.0,
-          from_empty h.0.log.bytes last_read.log.bytes bytes h.3.1 gave.0,
-          same_log first last (same_input refl) none,
+          rw h.3.1 at gave.0,
+          rw (same_input refl) none,
         );
         ended = λ ended. rw h.2 ended.1;
       }
@@ -200,15 +185,20 @@ module _ {F G I O E : Type 0} (file : F → Option (List ℕ)) (made : G → Opt
     place_of choices h = placed job _ refl source target first last before after none empty same_input same
         choices _ status h
 
-    pub exact_run : (P : Type 0) → IsJobDone (reader_of file) (writer_of made) moment job source target input
+    exact_run : (P : Type 0) → IsJobDone (reader_of file) (writer_of made) moment job source target input
         output messages status P → (status ≡ 1 → ⊥) → IsExact
     exact_run P (inl begun) well = exact_of begun.0 begun.1 (place_of begun.0 begun.2) well
     exact_run P (inr not_begun) well = absurd (well not_begun.status_is)
 
-    pub front_run : IsJobDone (reader_of file) (writer_of made) moment job source target input output messages
+    front_run : IsJobDone (reader_of file) (writer_of made) moment job source target input output messages
         status ((last ≡ first) × (after ≡ before) × (target ≡ None))
         → IsFront ⊎ ((last.log.bytes ≡ []) × (after.log.bytes ≡ []) × (target ≡ None))
     front_run = grind (arith, common_steps, front_of, place_of)
+
+    pub run_over : IsJobDone (reader_of file) (writer_of made) moment job source target input output messages
+        status ((last ≡ first) × (after ≡ before) × (target ≡ None)) → ((status ≡ 1 → ⊥) → IsExact)
+        × (IsFront ⊎ ((last.log.bytes ≡ []) × (after.log.bytes ≡ []) × (target ≡ None)))
+    run_over done = (exact_run _ done, front_run done)
 
 -- a new device over a new one of std is unused
 pub fresh : {D : Type 0} (stream : D) (inner : Std D) (device : Logged (Std D)) → device.inner ≡ inner
