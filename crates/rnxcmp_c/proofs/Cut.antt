@@ -1,13 +1,10 @@
 -- What ended a run at a line, by what is kept.
 use Rattle.std.proofs.{Common.rules, lemmas.{Grind.common_steps, List.append_cancel_left}}
 use Rattle.rnxcmp_c.proofs.{GoingLemmas.notices-both, Words.{◌≡◌, ℕ, Bool, true, List, [], ◌++◌, take, drop}}
-use Rattle.rnxcmp_c.proofs.Words.{Option, Some, None, sym, ap, ◌∙◌, append-nil, arith, length-append}
+use Rattle.rnxcmp_c.proofs.Words.{Option, None, sym, ap, ◌∙◌, append-nil, arith, length-append}
 use Rattle.rnxcmp_c.proofs.Words.{take-append-drop, At, notices_text, Begins, Course, Halt, AreNext, Device}
 use Rattle.rnxcmp_c.proofs.Words.{waiting, Pending, IsKept, StopsBy}
 use Rattle.crx_runs.specs.{Endings.EndsFrom, Taking.IsDone}
-
-none-not-some : {notices : List At} → ◌≡◌ {A = Option (List At)} None (Some notices) → ⊥
-none-not-some e = cc
 
 -- the first warnings by which a course goes on are first in its messages
 pub begins-next : (before after : Course) (here : List At) → AreNext before after here
@@ -55,4 +52,4 @@ module _ (before after : Course) (output then_output kept then_kept : Pending) w
   pub halted-stops : (number last : ℕ) (halt : Halt)
       → EndsFrom None last (kept-by output then_output) (kept-by kept then_kept) before after halt
       → StopsBy number None before after output then_output kept then_kept halt
-  halted-stops = grind (arith, common_steps, none-not-some, cut-stops)
+  halted-stops = grind (arith, common_steps, cut-stops)

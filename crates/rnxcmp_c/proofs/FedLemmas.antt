@@ -2,7 +2,7 @@
 use Rattle.std.proofs.{Common.rules, lemmas.List.take-take}
 use Rattle.rnxcmp_c.proofs.Words.{◌≡◌, ℕ, ◌-◌, ◌<◌, false, List, length, take, Option, None, is_some, arith}
 use Rattle.rnxcmp_c.proofs.Words.{length-take, INPUT_LIMIT, Outcome, FeedsBy, FeedsBytes, HasFed, ReaderRuns}
-use Rattle.rnxcmp_c.proofs.Words.{StandsBy, answer_now, HandlePast, fed_with, Task, StopsSoon, allowed_after}
+use Rattle.rnxcmp_c.proofs.Words.{StandsBy, answer_now, HandlePast, fed_with, Task, StopsSoon}
 use Rattle.rnxcmp_c.proofs.Words.{filter_for, Answer, Reader}
 use Rattle.rnxcmp_c.specs.Handles.{IsFed, ReaderHasPassed}
 
@@ -10,9 +10,6 @@ module _ (task : Task) (old new : Reader) (past : HandlePast) (bytes allowed : L
     (answer : Answer) (first : allowed ≡ take (INPUT_LIMIT - old.fed) bytes) (answers : answer ≡ answer_now
     new)
     (runs : ReaderRuns task old past) where
-  same : allowed ≡ allowed_after past bytes
-  same = grind arith
-
   -- an input may have some of them, or there are none
   pub fed-bytes : (0 < length bytes → 0 < length allowed)
       → HasFed past.fed task new (fed_with past (take used allowed)) → IsFed old new (length allowed) used

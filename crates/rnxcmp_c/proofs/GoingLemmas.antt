@@ -1,17 +1,17 @@
 -- A run goes on by the bytes that are fed.
 use Rattle.std.proofs.{Common.{rules, ◌≢◌, slice_index}, lemmas.{Grind.common_steps, List.get_or-take}}
 use Rattle.std.proofs.lemmas.List.Elements.{All-append, All-from_get_or}
-use Rattle.rnxcmp_c.proofs.{PieceLemmas.none-where_none, Words.{Some, ◌≡◌, inl, inr, ℕ, ◌+◌, ◌-◌, ◌<◌, ◌≤◌}}
+use Rattle.rnxcmp_c.proofs.Words.{Some, ◌≡◌, inl, inr, ℕ, ◌+◌, ◌-◌, ◌<◌, ◌≤◌}
 use Rattle.rnxcmp_c.proofs.Words.{true, false, List, [], ◌∷◌, ◌++◌, length, take, drop, None, refl, sym, ap}
 use Rattle.rnxcmp_c.proofs.Words.{◌∙◌, arith, append-nil, Option, append_assoc, is_some, length-append}
 use Rattle.rnxcmp_c.proofs.Words.{length-take, take-append-add, take-append-le, InputLine, lines_of}
 use Rattle.rnxcmp_c.proofs.Words.{ended_lines_of, HasNoFeed, At, IsLawful, Filter, with_next, notices_text}
 use Rattle.rnxcmp_c.proofs.Words.{Begins, Course, are_some, Held, waiting, IsText, IsGoing, MovesOn}
 use Rattle.rnxcmp_c.proofs.Words.{EndsThere, HandlePast, fed_with, StopsSoon, with_one_more, piece_line}
-use Rattle.rnxcmp_c.proofs.Words.{IsAll, IsCutBy, RanOutAt, StopsShort, IsPastLimit, MovesWithin, PassesLimit}
+use Rattle.rnxcmp_c.proofs.Words.{IsAll, IsCutBy, StopsShort, MovesWithin}
 use Rattle.rnxcmp_c.proofs.Words.{RunBreaks, RunFails, StepStops, IsMemoryLacking, ready_in, LINE_ROOM}
 use Rattle.rnxcmp_c.proofs.Words.{READY_LIMIT, Stop, Fault, Limit, line_reached, memory_next}
-use Rattle.rnxcmp_c.specs.{Counting.take-of_taken, Going.{RunsShort, IsBroken, AddsWithin}}
+use Rattle.rnxcmp_c.specs.{Counting.take-of_taken, Going.AddsWithin}
 use Rattle.rnxcmp_c.specs.{Going.IsKeptWithin, Holding.AreUnfailed, declared.piece.Piece.Piece}
 use Rattle.crx_lines.proofs.ProgressLemmas.{lines-first, lines-last, ended_lines-first, ended_lines-none}
 use Rattle.crx_runs.specs.Engines.{Awaited}
@@ -37,9 +37,8 @@ soon-by filter shows past bytes done some rest old all going none more low =
     let first : take (length (done ++ some) - 1) bytes ≡ done ++ most =
     grind (arith, common_steps, take-append-add, take-append-le) in
     let lines : ended_lines_of (past.fed ++ take (length (done ++ some) - 1) bytes) ≡ ended_lines_of
-    (past.fed ++ done) = ap (λ (l : List ℕ). ended_lines_of (past.fed ++ l)) first ∙ ap ended_lines_of
-    (sym (append_assoc past.fed done most)) ∙ ended-still filter shows old (fed_with past done) most going
-    none in
+    (past.fed ++ done) = rw (first, ← (append_assoc past.fed done most))
+    (ended-still filter shows old (fed_with past done) most going none) in
     grind (arith, common_steps, length-append)
 
 -- the bytes before the first LF have none
@@ -59,11 +58,6 @@ pub notices-both : (xs ys : List At) → notices_text (xs ++ ys) ≡ notices_tex
 notices-both [] ys = refl
 notices-both (x ∷ xs) ys = grind (arith, common_steps, notices-both xs ys)
 
--- texts grow at their ends
-more-text : (whole taken kept more then : List ℕ) (after : List ℕ) → after ≡ whole ++ more
-    → whole ≡ taken ++ kept → then ≡ kept ++ more → after ≡ taken ++ then
-more-text whole taken kept more then after grows is was = grind (arith, common_steps)
-
 -- both texts are as they were
 text-kept : {course : Course} {old new : Held} {past : HandlePast} → IsText course old past
     → waiting new.output ≡ waiting old.output → waiting new.messages ≡ waiting old.messages
@@ -77,7 +71,7 @@ text-fed text = grind arith
 
 text-grows : (before after : Course) (shown : Type 0) (old new : Held) (past : HandlePast)
     → IsText before old past → MovesOn before after shown old new → IsText after new past
-text-grows before after shown old new past text moved = grind (arith, common_steps, more-text, notices-both)
+text-grows = grind (arith, common_steps, append_assoc, notices-both)
 
 flag-grows : (before after : Course) (shown : Type 0) (old new : Held)
     → old.warned ≡ are_some before.warnings → MovesOn before after shown old new
@@ -86,7 +80,7 @@ flag-grows before after shown old new flag moved = grind arith
 
 text-ends : (before after : Course) (old new : Held) (past : HandlePast) (at : At) → IsText before old past
     → EndsThere before after old.output new.output old.messages new.messages at → IsText after new past
-text-ends before after old new past at text ends = grind (arith, common_steps, more-text, notices-both)
+text-ends before after old new past at text ends = grind (arith, common_steps, append_assoc, notices-both)
 
 -- both texts where memory ran out at a line, or at the end
 pub cut-by : (before after : Course) (memory : Option (List At)) (old new : Held) (past : HandlePast)
@@ -110,11 +104,6 @@ pub adds-kept : (course : Course) (old new : Held) (past : HandlePast)
     → IsKeptWithin new past
 adds-kept course old new past wrote left adds limited = grind (arith, common_steps)
 
--- what is kept of a line that goes on is what is kept of all of it
-kept-more : (old new bytes tail : List ℕ) → old ≡ take LINE_ROOM tail → new ≡ take LINE_ROOM (old ++ bytes)
-    → new ≡ take LINE_ROOM (tail ++ bytes)
-kept-more old new bytes tail before after = rw (after, before) (take-of_taken LINE_ROOM tail bytes)
-
 module _ {filter : Filter} {shows : List InputLine → List Awaited → Type 0} {held : Held} {past : HandlePast}
     (is : IsGoing filter shows held past) (piece : Piece) (bytes : List ℕ)
     (added : piece.bytes.items ≡ take LINE_ROOM (held.tail.bytes.items ++ bytes)) (none : HasNoFeed bytes)
@@ -133,7 +122,7 @@ module _ {filter : Filter} {shows : List InputLine → List Awaited → Type 0} 
     whole = All-append (λ b. b ≢ 10) is.tail bytes is.no_feed none
 
     pub mid-kept : piece.bytes.items ≡ take LINE_ROOM bytes_all
-    mid-kept = kept-more held.tail.bytes.items piece.bytes.items bytes is.tail is.kept added
+    mid-kept = rw (added, is.kept) (take-of_taken LINE_ROOM is.tail bytes)
 
     mid-text : IsText (filter.so_far lines) mid past
     mid-text = text-kept is.text refl refl
@@ -145,10 +134,6 @@ module _ {filter : Filter} {shows : List InputLine → List Awaited → Type 0} 
     pub keeps-going : IsGoing filter shows mid (fed_with past bytes)
     keeps-going =
         let still = ended-still filter shows held past bytes is none in
-        let over : (F : List ℕ → List InputLine) (more : List ℕ)
-        → ((y : List ℕ) → F (past.fed ++ y) ≡ ended_lines_of past.fed ++ F (is.tail ++ y))
-        → F ((past.fed ++ bytes) ++ more) ≡ ended_lines_of (past.fed ++ bytes) ++ F (bytes_all ++ more) =
-        grind (arith, common_steps) in
         record {
           shown = rw still is.shown;
           good = rw still is.good;
@@ -158,8 +143,10 @@ module _ {filter : Filter} {shows : List InputLine → List Awaited → Type 0} 
           tail = bytes_all;
           kept = mid-kept;
           no_feed = whole;
-          cut = λ more. over lines_of more is.cut;
-          cut_ended = λ more. over ended_lines_of more is.cut_ended;
+          cut = λ more. rw (append_assoc past.fed bytes more, append_assoc is.tail bytes more, still)
+              (is.cut (bytes ++ more));
+          cut_ended = λ more. rw (append_assoc past.fed bytes more, append_assoc is.tail bytes more, still)
+              (is.cut_ended (bytes ++ more));
           counted = omega (arith, is.counted, length-append is.tail bytes, length-append past.fed bytes);
           left = rw still is.left;
           unfailed = mid-good;
@@ -172,14 +159,11 @@ module _ {filter : Filter} {shows : List InputLine → List Awaited → Type 0} 
     abbrev fed : List ℕ
     fed = bytes ++ 10 ∷ []
 
-    joined : (more : List ℕ) → is.tail ++ (fed ++ more) ≡ bytes_all ++ 10 ∷ more
-    joined more = grind (arith, common_steps)
-
     first-by : (F : List ℕ → List InputLine) →
         ((more : List ℕ) → F (past.fed ++ more) ≡ lines ++ F (is.tail ++ more))
         → ((more : List ℕ) → F (bytes_all ++ 10 ∷ more) ≡ line ∷ F more)
         → (more : List ℕ) → F (past.fed ++ (fed ++ more)) ≡ with_next lines line ++ F more
-    first-by F so_far first more = grind (arith, common_steps, joined)
+    first-by F so_far first more = grind (arith, common_steps, append_assoc)
 
     line-first : (more : List ℕ)
         → lines_of (past.fed ++ (fed ++ more)) ≡ with_next lines line ++ lines_of more
@@ -220,36 +204,12 @@ module _ {filter : Filter} {shows : List InputLine → List Awaited → Type 0} 
 
     line-then : (rest more : List ℕ) → (others : List InputLine)
         × (lines_of ((then-fed rest).fed ++ more) ≡ with_next lines line ++ others)
-    line-then rest more = (
-      lines_of (rest ++ more),
-      ap lines_of (append_assoc past.fed (bytes ++ 10 ∷ rest) more ∙ ap (λ t. past.fed ++ t)
-          (append_assoc bytes (10 ∷ rest) more ∙ sym (append_assoc bytes (10 ∷ []) (rest ++ more))))
-          ∙ line-first (rest ++ more),
-    )
+    line-then rest more =
+        (lines_of (rest ++ more), grind (arith, common_steps, append_assoc, line-first (rest ++ more)))
 
     line-after : (rest more : List ℕ) → (others : List InputLine)
         × (lines_of ((then-fed rest).fed ++ more) ≡ lines ++ line ∷ others)
     line-after rest more = grind (arith, common_steps, line-then rest more)
-
-    -- the output would be longer than it may be
-    passes-there : (new : Held) (rest : List ℕ)
-        → PassesLimit (filter.so_far lines) (filter.so_far (with_next lines line)) mid new
-        → IsPastLimit filter new (then-fed rest)
-    passes-there new rest passes = grind (arith, common_steps, line-after, text-fed, text-kept, mid-text)
-
-    breaks-there : (new : Held) (rest : List ℕ) (at : At)
-        → EndsThere (filter.so_far lines) (filter.so_far (with_next lines line)) mid.output new.output
-        mid.messages new.messages at → IsBroken filter new (then-fed rest) at
-    breaks-there new rest at ends = grind (arith, common_steps, line-then, text-fed, text-ends, mid-text)
-
-    breaks-short : (new : Held) (rest : List ℕ) (at : At) → RanOutAt (length lines + 1) at
-        → StopsShort (filter.memory_after lines line) (filter.so_far lines)
-        (filter.so_far (with_next lines line)) mid new → RunsShort past.fed filter new (then-fed rest) at
-    breaks-short new rest at memory short =
-        let more : ended_lines_of (then-fed rest).fed ≡ with_next lines line ++ ended_lines_of rest =
-        ap (λ t. ended_lines_of (past.fed ++ t)) (sym (append_assoc bytes (10 ∷ []) rest))
-        ∙ ended-first rest in
-        grind (arith, common_steps, line-after, cut-by, text-fed, mid-text, lacking-by, mid-good)
 
     breaks-kept : (new : Held) → AddsWithin mid new → IsKeptWithin new past
     breaks-kept new adds = adds-kept (filter.so_far lines) mid new past mid-text.wrote is.left adds
@@ -258,19 +218,23 @@ module _ {filter : Filter} {shows : List InputLine → List Awaited → Type 0} 
         → StepStops (length lines + 1) (filter.memory_after lines line) (filter.so_far lines)
         (filter.so_far (with_next lines line)) mid new stop
         → RunBreaks past.fed filter new (then-fed rest) stop
-    breaks = grind (arith, common_steps, breaks-short, breaks-kept, breaks-there, passes-there)
+    breaks new rest (Fault at) (inl (memory, short), adds) =
+        let more : ended_lines_of (then-fed rest).fed ≡ with_next lines line ++ ended_lines_of rest =
+        ap (λ t. ended_lines_of (past.fed ++ t)) (sym (append_assoc bytes (10 ∷ []) rest))
+        ∙ ended-first rest in (
+          inl (grind (arith, common_steps, line-after, cut-by, text-fed, mid-text, lacking-by, mid-good)),
+          breaks-kept new adds,
+        )
+    breaks new rest (Fault at) (inr ends, adds) =
+        (inr (grind (arith, common_steps, line-then, text-fed, text-ends, mid-text)), breaks-kept new adds)
+    breaks new rest Limit passes =
+        grind (arith, common_steps, line-after, text-fed, text-kept, mid-text)
 
 -- what ended a run in bytes that came after some ended it in those that came after fewer
 pub breaks-after : (filter : Filter) (before then : List ℕ) (held : Held) (past : HandlePast) (stop : Stop)
     → length (ended_lines_of before) ≤ length (ended_lines_of then) → RunBreaks then filter held past stop
     → RunBreaks before filter held past stop
 breaks-after = grind arith
-
--- lines that were ended stay so
-pub ended-more : (filter : Filter) (shows : List InputLine → List Awaited → Type 0) (held : Held)
-    (past : HandlePast) (more : List ℕ) → IsGoing filter shows held past
-    → length (ended_lines_of past.fed) ≤ length (ended_lines_of (past.fed ++ more))
-ended-more filter shows held past more going = grind (arith, common_steps, length-append)
 
 -- ---- the end
 
@@ -320,7 +284,7 @@ module _ (filter : Filter) (shows : List InputLine → List Awaited → Type 0)
 
   -- nothing is after the last LF
   pub all-ended : held.tail.bytes.items ≡ [] → lines_of past.fed ≡ ended
-  all-ended none = grind (arith, common_steps, all-cut, none-where_none)
+  all-ended none = grind (arith, common_steps, all-cut)
 
   pub held-going : IsHeldAfter filter held past ended
   held-going = grind arith

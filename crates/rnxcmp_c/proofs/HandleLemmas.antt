@@ -1,11 +1,11 @@
 -- A handle stays sound from call to call.
-use Rattle.std.proofs.lemmas.Grind.{common_steps}
+use Rattle.std.proofs.{lemmas.Grind.common_steps}
 use Rattle.rnxcmp_c.proofs.{PieceLemmas.none-or, Words.{◌≡◌, inl, inr, ℕ, ◌<◌, ◌≤◌, List, [], length, Option}}
-use Rattle.rnxcmp_c.proofs.Words.{Some, None, take, arith, subst, append-nil, length-append, ⊎_elim, lines_of}
+use Rattle.rnxcmp_c.proofs.Words.{Some, None, take, arith, append-nil, length-append, ⊎_elim, lines_of}
 use Rattle.rnxcmp_c.proofs.Words.{ended_lines_of, ended_lines-come_first, Outcome, ReaderRuns, FeedsBy}
-use Rattle.rnxcmp_c.proofs.Words.{HasEndedBy, HasFedBy, HasPassedBy, ReaderIsOver, ReaderStands}
-use Rattle.rnxcmp_c.proofs.Words.{RunIsOverLimit, StandsBy, RunIsOutOfMemory, HandlePast, fed_with, limit_for}
-use Rattle.rnxcmp_c.proofs.Words.{nothing_fed, result_for, Task, IsLineEnded, Answer, AnyEngine, Held, Reader}
+use Rattle.rnxcmp_c.proofs.Words.{HasEndedBy, HasFedBy, ReaderStands}
+use Rattle.rnxcmp_c.proofs.Words.{StandsBy, RunIsOutOfMemory, HandlePast, fed_with, limit_for}
+use Rattle.rnxcmp_c.proofs.Words.{nothing_fed, Task, Answer, AnyEngine, Held, Reader}
 use Rattle.rnxcmp_c.{proofs.Words.{◌⊎◌, FeedsBytes, HasFed}, specs.Handles.{IsFresh, ReaderEndsBy}}
 use Rattle.rnxcmp_c.specs.{Handles.ReaderHasPassed, Holding.HoldsNothing}
 
@@ -30,14 +30,11 @@ fed-stands : (before : List ℕ) (task : Task) (reader : Reader) (past : HandleP
     → HasFedBy before task reader past outcome → StandsBy task reader past outcome
 fed-stands before task reader past None fed = fed
 fed-stands before task reader past (Some outcome) (inl memory) =
-    inl (line-weaker (λ n at. omega (arith, at.1, ended-within past.fed))
-    (subst (λ (bytes : List ℕ). RunIsOutOfMemory task (IsLineEnded before past.fed) bytes reader outcome past)
-    (append-nil past.fed) (memory [])))
+    inl (line-weaker (λ n at. omega (arith, at.1, ended-within past.fed)) (rw append-nil at (memory [])))
 fed-stands before task reader past (Some outcome) (inr (inl limit)) =
-    inr (inl (subst (λ bytes. RunIsOverLimit task bytes reader outcome past) (append-nil _) (limit [])))
+    inr (inl (rw append-nil at (limit [])))
 fed-stands before task reader past (Some outcome) (inr (inr over)) =
-    inr (inr (inr (subst (λ bytes. ReaderIsOver (limit_for task) (result_for task bytes) reader outcome
-    past) (append-nil _) (over.1 []))))
+    inr (inr (inr (rw append-nil at (over.1 []))))
 
 ended-stands : (task : Task) (reader : Reader) (past : HandlePast) (outcome : Option Outcome)
     → HasEndedBy task reader past outcome → StandsBy task reader past outcome
@@ -45,10 +42,6 @@ ended-stands task reader past None ended = absurd ended
 ended-stands task reader past (Some outcome) (inl memory) = grind (arith, common_steps, line-weaker)
 ended-stands task reader past (Some outcome) (inr (inl limit)) = inr (inl limit)
 ended-stands task reader past (Some outcome) (inr (inr over)) = inr (inr (inr over))
-
-passed-stands : (task : Task) (reader : Reader) (past : HandlePast) (outcome : Option Outcome)
-    → HasPassedBy task reader past outcome → StandsBy task reader past outcome
-passed-stands = grind arith
 
 -- where nothing was taken, nothing more was fed
 pub none-fed : (past : HandlePast) (bytes : List ℕ) (used : ℕ) → used ≡ 0
@@ -66,7 +59,7 @@ pub feeds-stands : (task : Task) (old new : Reader) (past : HandlePast) (bytes :
     (answer : Answer) (outcome : Option Outcome) → ReaderStands task old past
     → FeedsBy task old new past bytes used answer outcome
     → ReaderStands task new (fed_with past (take used bytes))
-feeds-stands = grind (arith, common_steps, ⊎_elim, fed-stands, none-fed, passed-stands, either-fed)
+feeds-stands = grind (arith, common_steps, ⊎_elim, fed-stands, none-fed, either-fed)
 
 pub ends-stands : (task : Task) (old new : Reader) (past : HandlePast) (answer : Answer)
     (outcome : Option Outcome) → ReaderStands task old past → ReaderEndsBy task old new past answer outcome

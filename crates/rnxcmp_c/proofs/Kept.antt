@@ -1,7 +1,7 @@
 -- What the answers of calls bring back, save and judge follows from what they are, by the laws.
-use Rattle.std.{proofs.{Common.arith, lemmas.Grind.common_steps}, specs.Prelude.◌↔◌}
-use Rattle.rnxcmp_c.proofs.Words.{ℕ, ◌≡◌, List, Option, None, true, Choices, expanded, FilterResult, checked}
-use Rattle.rnxcmp_c.proofs.Words.{report_status, CallBringsBackWhatWasCompacted, CallSavesAllElse}
+use Rattle.std.proofs.{Common.arith, lemmas.Grind.common_steps}
+use Rattle.rnxcmp_c.proofs.Words.{ℕ, ◌≡◌, List, true, Choices, expanded, FilterResult, checked}
+use Rattle.rnxcmp_c.proofs.Words.{CallBringsBackWhatWasCompacted, CallSavesAllElse}
 use Rattle.rnxcmp_c.specs.meaning.Promises.{CallJudgesStandard}
 use Rattle.crx_filter.proofs.{damage.DamageStays.saved-lines, standard.CheckStandard.named-where_not}
 use Rattle.crx_filter.proofs.wayback.{Standard.{normal-comes_back, standard-comes_back}, WayBack.comes-back}
@@ -22,12 +22,6 @@ saves-all_else holds expanding damaged skips answered file compacting dated dama
 
 -- ---- standard files
 
-both-ways : {P Q R : Type 0} → P ↔ Q → Q ↔ R → P ↔ R
-both-ways first second = grind arith
-
-none-where_0 : (named : Option ℕ) → (report_status named ≡ 0) ↔ (named ≡ None)
-none-where_0 = grind arith
-
 pub judges-status : (file : List ℕ) (status : ℕ) → status ≡ (checked file).status
     → CallJudgesStandard status file
-judges-status file status is good = grind (arith, common_steps, both-ways, none-where_0, named-where_not)
+judges-status file status is good = grind (arith, common_steps, named-where_not)

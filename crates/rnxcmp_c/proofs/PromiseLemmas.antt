@@ -6,19 +6,19 @@ use Rattle.rnxcmp_c.proofs.Words.{take, drop, append_assoc, Option, Some, None, 
 use Rattle.rnxcmp_c.proofs.Words.{refl, sym, ap, ◌∙◌, subst, append-nil, InputLine, lines_of, At, OutOfMemory}
 use Rattle.rnxcmp_c.proofs.Words.{Filter, with_next, notices_text, Begins, Course, FilterResult}
 use Rattle.rnxcmp_c.proofs.Words.{result_of_course, AreNext, Outcome, IsLineEnded, IsLastLine, IsLineReached}
-use Rattle.rnxcmp_c.proofs.Words.{ReaderIsOver, ReaderRuns, ReaderStands, RunIsOutOfMemory, RunIsOverLimit}
-use Rattle.rnxcmp_c.proofs.Words.{RunIsTooLong, StandsBy, answer_now, FeedsBy, FeedsBytes, HasEndedBy}
+use Rattle.rnxcmp_c.proofs.Words.{ReaderIsOver, ReaderStands, RunIsOutOfMemory, RunIsOverLimit}
+use Rattle.rnxcmp_c.proofs.Words.{StandsBy, answer_now, FeedsBy, HasEndedBy}
 use Rattle.rnxcmp_c.proofs.Words.{HasFedBy, HasPassedBy, ReaderHasEnded, texts_of_held, Holds, Handle}
-use Rattle.rnxcmp_c.proofs.Words.{HandlePast, allowed_after, fed_with, filter_for, limit_for, memory_next}
-use Rattle.rnxcmp_c.proofs.Words.{past_of, result_for, texts_made, waiting, Answer, OUTPUT_LIMIT, READY_LIMIT}
+use Rattle.rnxcmp_c.proofs.Words.{HandlePast, fed_with, filter_for, limit_for, memory_next}
+use Rattle.rnxcmp_c.proofs.Words.{past_of, result_for, texts_made, Answer, OUTPUT_LIMIT}
 use Rattle.rnxcmp_c.proofs.Words.{Reader, BothTexts, line_in, RunHasEnded, StopsAtLimit, StopsForMemory}
 use Rattle.rnxcmp_c.proofs.Words.{StopsWhenFull, Task, Compact, Expand, Check, handle_answer, run_for}
 use Rattle.rnxcmp_c.proofs.{Cut.begins-next, HandleLemmas.{either-fed, ends-stands, feeds-stands, none-fed}}
 use Rattle.rnxcmp_c.proofs.GoingLemmas.{begins-then, notices-both}
-use Rattle.rnxcmp_c.proofs.ReaderLemmas.{fault-at, faulty-status, lawful-for, output-for}
+use Rattle.rnxcmp_c.proofs.ReaderLemmas.{fault-at, lawful-for, output-for}
 use Rattle.rnxcmp_c.proofs.Words.{with_one_more, bare_answer, MISUSED}
 use Rattle.rnxcmp_c.specs.Opened.{EndsHandle, FeedsHandle, HandleStands, IsSoundHandle, has_ended, run_state}
-use Rattle.rnxcmp_c.specs.{Handles.{fault_now, status_now}, Opened.texts_kept, Past.AsksMemory}
+use Rattle.rnxcmp_c.specs.{Handles.{fault_now, status_now}, Opened.texts_kept}
 use Rattle.rnxcmp_c.specs.meaning.Handles.{HandlePromise, RunWasEnded, TakesBytes, joined_texts}
 use Rattle.crx_filter.proofs.{reading.CompactPrefixes.whole-more, reading.Prefixes.{AreMore, whole-items}}
 use Rattle.crx_filter.proofs.reading.Forward.{rinex-forward}
@@ -76,12 +76,11 @@ module _ (task : Task) (input : List ℕ) (lines : List InputLine) where
       (with_one_more (filter_for task) lines others) notices → Begins (result_for task input).messages
       (notices_text ((filter_for task).so_far lines).warnings ++ notices_text notices)
   messages-own others first notices own =
-      let before : List At = ((filter_for task).so_far lines).warnings in
-      ⊎_elim (λ none. subst (Begins (result_for task input).messages)
-      (sym (ap (λ ns. notices_text before ++ notices_text ns) none ∙ append-nil (notices_text before)))
-      (messages-first task input lines others first)) (λ next. begins-then _ _ _ (messages-next others first)
-      (begins-next ((filter_for task).so_far lines) (with_one_more (filter_for task) lines others) notices
-      next)) own
+      elim own [
+        | inl none ↦ rw (none, append-nil) (messages-first task input lines others first)
+        | inr next ↦ begins-then _ _ _ (messages-next others first) (begins-next
+            ((filter_for task).so_far lines) (with_one_more (filter_for task) lines others) notices next)
+      ]
 
 -- ---- answers
 
@@ -96,22 +95,11 @@ ended-as = grind arith
 
 -- ---- memory
 
--- the line that comes next takes memory, or it adds to one of both texts
-abbrev Asks : Filter → List InputLine → List InputLine → List At → Type 0
-Asks filter lines others notices = ((next : InputLine) × (more : List InputLine) × (others ≡ next ∷ more) ×
-    (filter.memory_after lines next ≡ Some notices)) ⊎ ((notices ≡ []) ×
-    ((length (filter.so_far lines).output < length (with_one_more filter lines others).output) ⊎
-    (length (notices_text (filter.so_far lines).warnings) < length
-    (notices_text (with_one_more filter lines others).warnings))))
-
-asks : (filter : Filter) (lines others : List InputLine) (notices : List At)
-    → AsksMemory (memory_next filter lines others) (filter.so_far lines) (with_one_more filter lines others)
-    notices → Asks filter lines others notices
-asks = grind arith
-
--- a fault that there is
-some-at : (fault : Option At) → is_some fault ≡ true → (at : At) × (fault ≡ Some at)
-some-at = grind arith
+-- the line that comes next takes memory
+asked-by : (filter : Filter) (lines others : List InputLine) (notices : List At)
+    → memory_next filter lines others ≡ Some notices → (next : InputLine) × (more : List InputLine)
+    × (others ≡ next ∷ more) × (filter.memory_after lines next ≡ Some notices)
+asked-by = grind arith
 
 -- ---- the cases
 
@@ -142,10 +130,6 @@ module _ (task : Task) (reader : Reader) (past : HandlePast) where
   abbrev Failed : List ℕ → FilterResult → Type 0
   Failed input result = Whole input result × (result.status ≡ 1)
 
-  runs-on : ReaderRuns task reader past
-      → HandlePromise None (run_for task) past.fed made kept (answer_by None reader)
-  runs-on runs = grind arith
-
   -- at a line, or at the end; or for the message of a fault
   short-of_memory : (is_line : ℕ → Type 0) (outcome : Outcome) (input : List ℕ)
       → RunIsOutOfMemory task is_line input reader outcome past
@@ -175,7 +159,8 @@ module _ (task : Task) (reader : Reader) (past : HandlePast) where
           there = out.at;
           notices = by.notices;
           own = by.own;
-          asked = asks (filter_for task) by.lines by.others by.notices by.asked;
+          asked = ⊎_elim (λ memory. inl (asked-by (filter_for task) by.lines by.others by.notices memory))
+              (λ adds. inr adds) by.asked;
           result_is = refl;
         });
         ends = ⊎_elim
@@ -189,16 +174,12 @@ module _ (task : Task) (reader : Reader) (past : HandlePast) where
             }))
             (λ said. inl (grind (arith, common_steps, notices-both))) by.last_is;
       }) (λ hidden.
-      let found = some-at (result_for task input).fault hidden.faulty in
+      let found : (at : At) × ((result_for task input).fault ≡ Some at) = grind (arith, hidden.faulty) in
       record {
         result = result_for task input;
-        is = inl (refl, faulty-status task input found.0 found.1);
+        is = inl (refl, grind (arith, found.1));
         ends = grind (arith, common_steps, answered-by, fault-at);
       }) ran.made
-
-  is-full : (outcome : Outcome) → RunIsTooLong task reader outcome past
-      → Ended (StopsWhenFull (run_for task) past.fed) (Some outcome)
-  is-full outcome long = grind arith
 
   over-limit : (outcome : Outcome) (input : List ℕ) → RunIsOverLimit task input reader outcome past
       → Ended (Limited input) (Some outcome)
@@ -215,11 +196,6 @@ module _ (task : Task) (reader : Reader) (past : HandlePast) where
         ends = grind (arith, common_steps, answered-by, append-nil);
       }
 
-  has-result : (outcome : Outcome) (input : List ℕ)
-      → ReaderIsOver (limit_for task) (result_for task input) reader outcome past
-      → Ended (Whole input) (Some outcome)
-  has-result = grind arith
-
   -- how a run stands that has ended
   abbrev Any : FilterResult → Type 0
   Any result = Whole past.fed result ⊎ (Limited past.fed result
@@ -232,7 +208,7 @@ module _ (task : Task) (reader : Reader) (past : HandlePast) where
 
   stands-by : (outcome : Option Outcome) → StandsBy task reader past outcome
       → HandlePromise outcome (run_for task) past.fed made kept (answer_by outcome reader)
-  stands-by None runs = runs-on runs
+  stands-by None runs = grind arith
   stands-by (Some outcome) (inl ran) = promise-by outcome (ended-as _ Any made kept _
       (λ result is. ⊎_elim (λ whole. inl whole.0) (λ short. inr (inr (inl short))) is)
       (short-of_memory (IsLineReached past.fed) outcome past.fed ran)) ran.within
@@ -240,12 +216,9 @@ module _ (task : Task) (reader : Reader) (past : HandlePast) where
       (ended-as _ Any made kept _ (λ result is. inr (inl is)) (over-limit outcome past.fed over))
       (λ limited. omega (arith, over.within, ap length over.made.output))
   stands-by (Some outcome) (inr (inr (inl long))) = promise-by outcome
-      (ended-as _ Any made kept _ (λ result is. inr (inr (inr is))) (is-full outcome long)) long.within
+      (ended-as (StopsWhenFull (run_for task) past.fed) Any made kept _ (λ result is. inr (inr (inr is)))
+      (grind (arith, long))) long.within
   stands-by (Some outcome) (inr (inr (inr over))) = grind arith
-
-  pub reader-promise : ReaderStands task reader past
-      → HandlePromise reader.outcome (run_for task) past.fed made kept (answer_now reader)
-  reader-promise stands = stands-by reader.outcome stands
 
   -- how a run stands whose end was reported
   abbrev Last : FilterResult → Type 0
@@ -264,39 +237,26 @@ module _ (task : Task) (reader : Reader) (past : HandlePast) where
       (refl, ended-as _ Last made kept _ (λ result is. inr (inl is)) (over-limit outcome past.fed over))
   ended-by (Some outcome) (inr (inr over)) = grind arith
 
-  pub reader-ended : ReaderHasEnded task reader past
-      → (is_some reader.outcome ≡ true) × RunHasEnded Last made kept (answer_now reader)
-  reader-ended ended = ended-by reader.outcome ended
-
-  -- how a run stands that bytes have ended, whatever follows
-  abbrev Broken : List ℕ → List ℕ → FilterResult → Type 0
-  Broken before more result = Failed (past.fed ++ more) result
-      ⊎ (Limited (past.fed ++ more) result ⊎ Short (IsLineEnded before past.fed) (past.fed ++ more) result)
-
   fed-ended : (before left : List ℕ) (outcome : Option Outcome) → is_some outcome ≡ true
       → HasFedBy before task reader past outcome
       → RunWasEnded (run_for task) before past.fed left made kept (answer_by outcome reader)
   fed-ended before left None ended fed = absurd (cc)
   fed-ended before left (Some outcome) ended (inl memory) =
-      inl (λ (more : List ℕ). ended-as _ (Broken before more) made kept _
+      inl (λ (more : List ℕ). ended-as _ _ made kept _
       (λ result is. ⊎_elim (λ failed. inl failed) (λ short. inr (inr short)) is)
       (short-of_memory (IsLineEnded before past.fed) outcome (past.fed ++ more) (memory more)))
   fed-ended before left (Some outcome) ended (inr (inl limit)) =
-      inl (λ (more : List ℕ). ended-as _ (Broken before more) made kept _ (λ result is. inr (inl is))
+      inl (λ (more : List ℕ). ended-as _ _ made kept _ (λ result is. inr (inl is))
       (over-limit outcome (past.fed ++ more) (limit more)))
   fed-ended before left (Some outcome) ended (inr (inr over)) =
-      inl (λ (more : List ℕ). ended-as _ (Broken before more) made kept _ (λ result is. inl (
-        is,
-        ap (λ (r : FilterResult). r.status) is ∙ sym (ReaderIsOver.status (over.1 more)) ∙ over.0,
-      )) (has-result outcome (past.fed ++ more) (over.1 more)))
+      inl (λ (more : List ℕ). ended-as (Whole (past.fed ++ more)) _ made kept _
+      (λ result is. inl (is, rw is (sym (ReaderIsOver.status (over.1 more)) ∙ over.0)))
+      (grind (arith, over.1 more)))
 
   passed-ended : (left : List ℕ) → 0 < length left → (outcome : Option Outcome)
       → HasPassedBy task reader past outcome
       → RunWasEnded (run_for task) past.fed past.fed left made kept (answer_by outcome reader)
   passed-ended = grind arith
-
-  passed-some : (outcome : Option Outcome) → HasPassedBy task reader past outcome → is_some outcome ≡ true
-  passed-some = grind arith
 
 -- what bytes have ended
 module _ (task : Task) (old new : Reader) (fed : List ℕ) (taken : BothTexts) (bytes : List ℕ) (used : ℕ)
@@ -317,21 +277,11 @@ module _ (task : Task) (old new : Reader) (fed : List ℕ) (taken : BothTexts) (
       (rw passed.1 (passed-ended task new past bytes passed.0 new.outcome passed.2))) (either-fed feeds)
   feeds-ended (Some outcome) runs ended feeds = absurd (cc)
 
-  -- all were taken, or much is ready
-  takes-all : (outcome : Option Outcome) → new.outcome ≡ outcome
-      → FeedsBytes task old new past bytes used answer → used < length (allowed_after past bytes)
-      → (is_some new.outcome ≡ false) ×
-      (READY_LIMIT ≤ length (waiting new.held.output ++ waiting new.held.messages))
-  takes-all = grind (arith, common_steps, is_some)
-
-  none-is : (outcome : Option Outcome) → is_some outcome ≡ false → outcome ≡ None
-  none-is = grind arith
-
   takes-bytes : (outcome : Option Outcome) → is_some outcome ≡ false
       → FeedsBy task old new past bytes used answer outcome
       → TakesBytes (run_for task) fed taken bytes used (texts_of_held old.held) (texts_of_held new.held)
       (is_some new.outcome)
-  takes-bytes = grind (arith, common_steps, takes-all, none-is, is_some, passed-some)
+  takes-bytes = grind (arith, common_steps, is_some)
 
 -- ---- a handle
 
@@ -345,12 +295,18 @@ pub stood : {task : Task} {handle : Handle} {fed : List ℕ} {taken : BothTexts}
     → Holds handle reader → HandleStands task handle fed taken → ReaderStands task reader (past_of fed taken)
 stood {task} {handle} {fed} {taken} {reader} holds stands = grind arith
 
+-- so it has a past by which its reader stands
+pub sound-stands : {handle : Handle} {reader : Reader} → IsSoundHandle handle → handle.is_open ≡ true
+    → Holds handle reader → (task : Task) × (past : HandlePast) × ReaderStands task reader past
+sound-stands sound is_open holds =
+    let is = sound is_open in (is.0, past_of is.1 is.2, stood holds is.3)
+
 pub handle-promise : {task : Task} {handle : Handle} {fed : List ℕ} {taken : BothTexts} {reader : Reader}
     {answer : Answer} → HandleStands task handle fed taken → Holds handle reader → answer ≡ answer_now reader
     → HandlePromise (run_state handle) (run_for task) fed (joined_texts taken (texts_kept handle))
     (texts_kept handle) answer
 handle-promise {task} {handle} {fed} {taken} {reader} {answer} stands holds answers =
-    rw (holds, answers) (reader-promise task reader (past_of fed taken) (stood holds stands))
+    rw (holds, answers) (stands-by task reader (past_of fed taken) reader.outcome (stood holds stands))
 
 -- what is promised of a handle that was fed
 module _ {task : Task} {old new : Handle} {fed : List ℕ} {taken : BothTexts} {bytes : List ℕ} {used : ℕ}
@@ -370,24 +326,18 @@ module _ {task : Task} {old new : Handle} {fed : List ℕ} {taken : BothTexts} {
   feeds-refused ended = grind arith
 
   module _ (runs : has_ended old ≡ false) where
-    went-on : is_some is.before.outcome ≡ false
-    went-on = rw is.held at runs
-
-    answered : answer ≡ answer_now is.after
-    answered = grind arith
-
     pub feeds-promise : HandlePromise (run_state new) (run_for task) (fed ++ take used bytes)
         (joined_texts taken (texts_kept new)) (texts_kept new) answer
-    feeds-promise = handle-promise feeds-on is.holds answered
+    feeds-promise = handle-promise feeds-on is.holds (grind arith)
 
     pub feeds-takes : TakesBytes (run_for task) fed taken bytes used (texts_kept old) (texts_kept new)
         (has_ended new)
-    feeds-takes = grind (arith, common_steps, takes-bytes, went-on)
+    feeds-takes = let went-on = rw is.held at runs in grind (arith, common_steps, takes-bytes, went-on)
 
     pub feeds-was_ended : has_ended new ≡ true
         → RunWasEnded (run_for task) fed (fed ++ take used bytes) (drop used bytes)
         (joined_texts taken (texts_kept new)) (texts_kept new) answer
-    feeds-was_ended ended = search (rules, feeds-ended, went-on)
+    feeds-was_ended ended = let went-on = rw is.held at runs in search (rules, feeds-ended, went-on)
 
 -- and of one whose input has ended
 module _ {task : Task} {old new : Handle} {fed : List ℕ} {taken : BothTexts} {answer : Answer}
@@ -406,14 +356,13 @@ module _ {task : Task} {old new : Handle} {fed : List ℕ} {taken : BothTexts} {
   ends-refused ended = grind arith
 
   module _ (runs : has_ended old ≡ false) where
-    came-to-end : ReaderHasEnded task is.after (past_of fed taken) × (answer ≡ answer_now is.after)
-    came-to-end = grind arith
-
     pub ends-promise : HandlePromise (run_state new) (run_for task) fed (joined_texts taken (texts_kept new))
         (texts_kept new) answer
-    ends-promise = handle-promise ends-on is.holds came-to-end.1
+    ends-promise = handle-promise ends-on is.holds (grind arith)
 
     pub ends-was_ended : (has_ended new ≡ true) × RunHasEnded (Last task is.after (past_of fed taken))
         (joined_texts taken (texts_kept new)) (texts_kept new) answer
-    ends-was_ended = rw (is.holds, came-to-end.1)
-        (reader-ended task is.after (past_of fed taken) came-to-end.0)
+    ends-was_ended =
+        let came : ReaderHasEnded task is.after (past_of fed taken) × (answer ≡ answer_now is.after) =
+        grind arith in
+        rw (is.holds, came.1) (ended-by task is.after (past_of fed taken) is.after.outcome came.0)

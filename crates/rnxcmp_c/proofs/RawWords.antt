@@ -10,7 +10,7 @@ pub use Rattle.core.proofs.cell.Inside.{Good}
 pub use Rattle.rnxcmp_c.specs.Places.{place_owns}
 pub use Rattle.rnxcmp_c.specs.declared.reader.Reader.{Reader}
 pub use base.Fml.{ftrue, flft, fsep}
-pub use base.Logic.{never, fst∗, SProp, ent, id⊢, emp}
+pub use base.Logic.{never, fst∗, SProp, id⊢, emp}
 pub use contract.Monad.{fact, fact_i}
 pub use contract.Running.{tables}
 pub use denote.Builtin.{RawPtr}
@@ -34,7 +34,7 @@ pub use seplogic.Ra.Ura.{Ura}
 pub use types.ByLocal.{alloc_all, pass_all, free_all, look_at, get, get_in, sets}
 pub use types.Kit.{Item, Goal, Step, step, ‵, ◌$◌, fjoin, fpack, feq_i, move, drop, fsplit, fpick, feq_l, raw}
 pub use types.Kit.{◌⊛◌, some, later, ◌∵◌, !, qed, by, keep, split, split3, join, pick, suffices, use1, await}
-pub use types.Kit.{rewrite, use0, done}
+pub use types.Kit.{rewrite, use0, done, regoal, prop}
 pub use types.Logic.{Logic, sem}
 pub use types.Part.{sub, whole, agg}
 pub use types.Run.{stop, fld, of_opd, no_more, and_then, returns, enter}

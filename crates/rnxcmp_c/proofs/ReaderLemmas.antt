@@ -1,40 +1,27 @@
 -- A reader's run has ended as the whole run of its input does.
 use Rattle.std.proofs.{Common.rules, lemmas.Grind.common_steps}
-use Rattle.rnxcmp_c.proofs.Words.{◌≡◌, ◌⊎◌, inl, inr, ⊎_elim, ℕ, List, [], ◌++◌, Option, Some, None, sym, ap}
-use Rattle.rnxcmp_c.proofs.Words.{◌∙◌, subst, ◌<◌, ◌≤◌, ◌+◌, ◌∷◌, is_some, arith, length, append-nil}
+use Rattle.rnxcmp_c.proofs.Words.{◌≡◌, ◌⊎◌, inl, inr, ⊎_elim, ℕ, List, [], ◌++◌, Option, Some, None, ap}
+use Rattle.rnxcmp_c.proofs.Words.{◌∙◌, ◌<◌, ◌≤◌, ◌+◌, ◌∷◌, is_some, arith, length, append-nil}
 use Rattle.rnxcmp_c.proofs.Words.{append_assoc, length-append, take, InputLine, lines_of, INPUT_LIMIT, At}
 use Rattle.rnxcmp_c.proofs.Words.{InputTooLong, OutOfMemory, IsLawful, Filter, with_next, error_text, Begins}
-use Rattle.rnxcmp_c.proofs.Words.{Course, result_of_course, check-lawful, compaction-lawful, expansion-lawful}
-use Rattle.rnxcmp_c.proofs.Words.{Outcome, FaultIs, IsMemoryLacking, waiting, IsAll, IsCutBy, IsGoing, IsText}
-use Rattle.rnxcmp_c.proofs.Words.{IsPastLimit, RunBreaks, RunFails, Stop, Fault, Limit, ReaderIsOver}
-use Rattle.rnxcmp_c.proofs.Words.{ReaderRuns, RunIsOutOfMemory, RunIsOverLimit, RunIsTooLong, shows_of}
-use Rattle.rnxcmp_c.proofs.Words.{too_long_after, HasFedBy, HasEndedBy, engine_filter, has_ended_of}
+use Rattle.rnxcmp_c.proofs.Words.{Course, check-lawful, compaction-lawful, expansion-lawful}
+use Rattle.rnxcmp_c.proofs.Words.{Outcome, FaultIs, IsMemoryLacking, waiting, IsAll, IsCutBy, IsText}
+use Rattle.rnxcmp_c.proofs.Words.{RunBreaks, RunFails, Stop, Fault, Limit, ReaderIsOver}
+use Rattle.rnxcmp_c.proofs.Words.{ReaderRuns, RunIsOutOfMemory, RunIsOverLimit, RunIsTooLong}
+use Rattle.rnxcmp_c.proofs.Words.{HasFedBy, HasEndedBy, engine_filter, has_ended_of}
 use Rattle.rnxcmp_c.proofs.Words.{KeepsToLimit, line_in, HandlePast, limit_for, result_for, Task, Compact}
 use Rattle.rnxcmp_c.proofs.Words.{Expand, Check, filter_for, memory_next, with_one_more, AnyEngine, Held}
 use Rattle.rnxcmp_c.proofs.Words.{Reader, line_reached}
-use Rattle.rnxcmp_c.specs.{Going.{LineFails, EndsPastLimit, Breaks}, Handles.{IsOf, IsPut, EndsRunBy}}
-use Rattle.rnxcmp_c.specs.Handles.{EngineGoesOn, status_at_end}
-use Rattle.rnxcmp_c.specs.{Holding.texts_of_held, Past.{IsShortOfMemory, texts_made}}
-use Rattle.crx_runs.specs.meaning.Results.{good_status}
+use Rattle.rnxcmp_c.specs.{Going.{LineFails, Breaks}, Handles.{IsOf, IsPut, EndsRunBy}}
+use Rattle.rnxcmp_c.specs.Handles.{status_at_end}
 
 pub filter-is : (task : Task) (engine : AnyEngine) → IsOf task engine → engine_filter engine ≡ filter_for task
 filter-is = grind arith
-
--- a run goes on by an engine, and by what it is
-pub going-as : {one other : AnyEngine} {held : Held} {past : HandlePast} → one ≡ other
-    → EngineGoesOn one held past → EngineGoesOn other held past
-going-as {one} {other} {held} {past} same = grind arith
 
 pub lawful-for : (task : Task) → IsLawful (filter_for task)
 lawful-for (Compact choices limit) = compaction-lawful choices
 lawful-for (Expand choices limit) = expansion-lawful choices
 lawful-for Check = check-lawful
-
--- ---- a fault
-
-pub faulty-status : (task : Task) (input : List ℕ) (at : At) → (result_for task input).fault ≡ Some at
-    → (result_for task input).status ≡ 1
-faulty-status = grind arith
 
 -- ---- memory
 
@@ -74,30 +61,7 @@ module _ (task : Task) (reader : Reader) (mid : Held) (outcome : Outcome) (past 
     said-or_not : (text : List ℕ) × Last text × (waiting reader.held.messages ≡ waiting mid.messages ++ text)
     said-or_not = search (rules, ⊎_elim, fault-at, no-memory, append-nil)
 
-    -- at a line that comes after these, by any filter
-    short-made : (filter : Filter) (input : List ℕ) (lines others : List InputLine)
-        → lines_of input ≡ lines ++ others → at.line ≡ line_reached lines others
-        → IsCutBy (filter.so_far lines) (with_one_more filter lines others) (memory_next filter lines others) mid past
-        → IsMemoryLacking (is_some (memory_next filter lines others)) mid
-        → (m : IsShortOfMemory filter input (line_in outcome.fault) (texts_made past (texts_of_held reader.held)))
-        × IsMemoryLacking (is_some (memory_next filter m.lines m.others)) reader.held
-    short-made filter input lines others first number cut lacking =
-        let said = said-or_not in (
-          record {
-            lines = lines;
-            others = others;
-            first = first;
-            line_is = line-is ∙ number ∙ reached-lines lines others;
-            notices = cut.notices;
-            asked = cut.asked;
-            own = grind (arith, cut.own);
-            last = said.0;
-            last_is = said.1;
-            made = grind (arith, common_steps, cut.made, said.2, put.output_good, put.messages_good);
-          },
-          grind (arith, lacking, put.output_good, put.messages_good),
-        )
-
+    -- at a line that comes after these
     short-at : (is_line : ℕ → Type 0) (input : List ℕ) → is_line at.line
         → (lines others : List InputLine) → lines_of input ≡ lines ++ others
         → at.line ≡ line_reached lines others
@@ -105,26 +69,36 @@ module _ (task : Task) (reader : Reader) (mid : Held) (outcome : Outcome) (past 
         (memory_next (filter_for task) lines others) mid past
         → IsMemoryLacking (is_some (memory_next (filter_for task) lines others)) mid
         → RunIsOutOfMemory task is_line input reader outcome past
-    short-at is_line input there lines others first number cut lacking =
-        let short = short-made (filter_for task) input lines others first number cut lacking in
-        record {
-          memory = no-memory;
-          status = put.status;
-          made = inl (record { at = subst is_line (sym line-is) there; made = short.0; lacking = short.1 });
-          within = kept;
-        }
+    short-at is_line input there lines others first number cut lacking = record {
+      memory = no-memory;
+      status = put.status;
+      made = inl (record {
+        at = rw line-is there;
+        made = record {
+          lines = lines;
+          others = others;
+          first = first;
+          line_is = line-is ∙ number ∙ reached-lines lines others;
+          notices = cut.notices;
+          asked = cut.asked;
+          own = cut.own;
+          last = said-or_not.0;
+          last_is = said-or_not.1;
+          made = grind (arith, common_steps, cut.made, said-or_not.2);
+        };
+        lacking = grind (arith, lacking);
+      });
+      within = kept;
+    }
 
   -- it is the fault of a result
   module _ (input : List ℕ) (course : Course) (whole : (filter_for task).whole (lines_of input) ≡ course)
       (fault : course.fault ≡ Some at) (text : IsText course mid past) where
-    same-result : result_of_course course ≡ result_for task input
-    same-result = grind arith
-
     -- whose message was kept, or couldn't be kept
     fault-said : outcome.fault ≡ Some at
         → waiting reader.held.messages ≡ waiting mid.messages ++ error_text (Some at)
         → ReaderIsOver (limit_for task) (result_for task input) reader outcome past
-    fault-said said messages = grind (arith, common_steps, same-result)
+    fault-said said messages = grind (arith, common_steps)
 
     fault-hidden : (is_line : ℕ → Type 0)
         → outcome.fault ≡ Some (record { line = at.line; fault = OutOfMemory })
@@ -175,40 +149,27 @@ module _ (task : Task) (reader : Reader) (mid : Held) (outcome : Outcome) (past 
       grind (arith, common_steps, output-for, one_more-first, lawful-for) in
       grind (arith, common_steps, length-begins, append-nil)
 
-  module _ (limit : mid.limit ≡ limit_for task) where
-    limited-by : 0 < mid.limit → 0 < limit_for task
-    limited-by = subst (λ (n : ℕ). 0 < n) limit
-
-    passes-over : (before : List ℕ) → IsPastLimit (filter_for task) mid past
-        → HasFedBy before task reader past (Some outcome)
-    passes-over before passes =
-        inr (inl (λ more. is-over_limit (past.fed ++ more) passes.lines (passes.line ∷ (passes.first more).0)
-        (passes.first more).1 (limited-by passes.limited) (omega (arith, passes.within, limit))
-        (omega (arith, passes.over, limit)) passes.good passes.text))
-
-    passes-at_end : EndsPastLimit (filter_for task) mid past → HasEndedBy task reader past (Some outcome)
-    passes-at_end passes = grind (arith, common_steps, is-over_limit, limited-by)
-
 -- what stopped a run is how it has ended
 module _ (task : Task) (engine : AnyEngine) (is : IsOf task engine) (reader : Reader) (mid : Held)
     (limit : mid.limit ≡ limit_for task) (outcome : Outcome) (past : HandlePast) where
   pub stops-over : (before : List ℕ) (stop : Stop) → RunBreaks before (engine_filter engine) mid past stop
       → EndsRunBy mid reader.held outcome stop → HasFedBy before task reader past (Some outcome)
   stops-over before (Fault at) breaks put =
-      breaks-over task reader mid outcome past at
-      (subst (λ n. KeepsToLimit n (past.output ++ waiting mid.output)) limit breaks.1) put before
-      (subst (λ (f : Filter). Breaks before f mid past at) (filter-is task engine is) breaks.0)
-  stops-over before Limit breaks stopped = passes-over task reader mid outcome past stopped limit before
-      (subst (λ (f : Filter). IsPastLimit f mid past) (filter-is task engine is) breaks)
+      breaks-over task reader mid outcome past at (rw limit at breaks.1) put before
+      (rw (filter-is task engine is) at breaks.0)
+  stops-over before Limit breaks stopped =
+      let passes = rw (filter-is task engine is) at breaks in
+      inr (inl (λ more. is-over_limit task reader mid outcome past stopped (past.fed ++ more) passes.lines
+      (passes.line ∷ (passes.first more).0) (passes.first more).1 (rw limit at passes.limited)
+      (omega (arith, passes.within, limit)) (omega (arith, passes.over, limit)) passes.good passes.text))
 
   pub stops-at_end : (stop : Stop) → RunFails (engine_filter engine) mid past stop
       → EndsRunBy mid reader.held outcome stop → HasEndedBy task reader past (Some outcome)
   stops-at_end (Fault at) fails put =
-      fails-over task reader mid outcome past at
-      (subst (λ n. KeepsToLimit n (past.output ++ waiting mid.output)) limit fails.1) put
-      (subst (λ (f : Filter). LineFails f mid past at) (filter-is task engine is) fails.0)
-  stops-at_end Limit fails stopped = passes-at_end task reader mid outcome past stopped limit
-      (subst (λ (f : Filter). EndsPastLimit f mid past) (filter-is task engine is) fails)
+      fails-over task reader mid outcome past at (rw limit at fails.1) put
+      (rw (filter-is task engine is) at fails.0)
+  stops-at_end Limit fails stopped =
+      let passes = rw (filter-is task engine is) at fails in grind (arith, common_steps, is-over_limit)
 
 -- ---- the limit of the input
 
@@ -217,39 +178,20 @@ pub passed-over : (task : Task) (before reader : Reader) (outcome : Outcome) (pa
     → IsPut before.held reader.held (record { line = before.held.number + 1; fault = InputTooLong }) outcome
     → RunIsTooLong task reader outcome past
 passed-over task before reader outcome past runs full put =
-    let mid = before.held in
-    let going = subst (λ (f : Filter). IsGoing f (shows_of before.engine) mid past)
-    (filter-is task before.engine runs.is_of) runs.going in
-    let at : At = record { line = mid.number + 1; fault = InputTooLong } in
-    let same : at ≡ too_long_after past.fed =
-    ap (λ (n : ℕ). let a : At = record { line = n + 1; fault = InputTooLong } in a) going.number in
+    let going = rw (filter-is task before.engine runs.is_of) at runs.going in
     record {
       full = full;
       status = put.status;
       good = going.good;
-      output = going.text.wrote ∙ ap (λ t. past.output ++ t) (sym put.output);
-      said = ⊎_elim
-          (λ down. inl (
-            down.0 ∙ ap (λ (a : At). Some a) same,
-            ap (λ t. t ++ error_text (Some (too_long_after past.fed))) going.text.reported
-                ∙ ap (λ (a : At). (past.messages ++ waiting mid.messages) ++ error_text (Some a)) (sym same)
-                ∙ append_assoc past.messages (waiting mid.messages) (error_text (Some at))
-                ∙ ap (λ t. past.messages ++ t) (sym down.1),
-          ))
-          (λ silently. inr (
-            silently.0 ∙ ap (λ (n : ℕ). let a : At = record { line = n + 1; fault = OutOfMemory } in Some a)
-                going.number,
-            going.text.reported ∙ ap (λ t. past.messages ++ t) (sym silently.1),
-          )) put.said;
+      output = rw put.output going.text.wrote;
+      said = elim (rw going.number at put.said) [
+        | inl down ↦ inl (down.0, rw (going.text.reported, down.1) (append_assoc past.messages _ _))
+        | inr silently ↦ inr (silently.0, rw silently.1 going.text.reported)
+      ];
       within = grind (arith, common_steps, going.left, runs.limit, going.text.wrote, put.output);
     }
 
 -- ---- the end
-
-course-well : (limit : ℕ) (course : Course) (reader : Reader) (outcome : Outcome) (past : HandlePast)
-    → reader.held.limit ≡ limit → outcome.fault ≡ None → outcome.status ≡ good_status reader.held.warned
-    → IsAll course reader.held past → ReaderIsOver limit (result_of_course course) reader outcome past
-course-well limit course reader outcome past limited none status all = search (rules, append-nil)
 
 module _ (engine : AnyEngine) (reader : Reader) (outcome : Outcome) (past : HandlePast)
     (none : outcome.fault ≡ None) where
@@ -258,4 +200,4 @@ module _ (engine : AnyEngine) (reader : Reader) (outcome : Outcome) (past : Hand
       → IsAll ((engine_filter engine).whole (lines_of past.fed)) reader.held past
       → has_ended_of then (lines_of past.fed)
       → ReaderIsOver (limit_for task) (result_for task past.fed) reader outcome past
-  all-over = grind (arith, common_steps, course-well, filter-is)
+  all-over = grind (arith, common_steps, filter-is, append-nil)

@@ -1,15 +1,10 @@
 -- What was taken from a handle was kept before, and its run's state doesn't change by that.
 use Rattle.std.proofs.{lemmas.Grind.common_steps, Common.arith}
-use Rattle.rnxcmp_c.proofs.Words.{◌≡◌, ⊎_elim, inl, inr, ℕ, List, ◌++◌, Option, Some, None, sym, ap, ◌∙◌}
-use Rattle.rnxcmp_c.proofs.Words.{append_assoc, Outcome, Course, IsLineReached, ReaderStands, StandsBy}
-use Rattle.rnxcmp_c.proofs.Words.{texts_of_held, HandlePast, HidesFault, Task, result_for, taken_with}
+use Rattle.rnxcmp_c.proofs.Words.{◌≡◌, ⊎_elim, inl, inr, ℕ, List, ◌++◌, Option, Some, None, sym, ◌∙◌}
+use Rattle.rnxcmp_c.proofs.Words.{append_assoc, Outcome, Course, IsLineReached, StandsBy}
+use Rattle.rnxcmp_c.proofs.Words.{texts_of_held, HandlePast, Task, taken_with}
 use Rattle.rnxcmp_c.proofs.Words.{texts_made, line_in, waiting, Pending, Reader}
 use Rattle.rnxcmp_c.specs.{Handles.RanOutBy, Past.IsMadeByLines}
-
--- what was taken, and then what is kept
-regrouped : (taken given kept before : List ℕ) → before ≡ given ++ kept
-    → (taken ++ given) ++ kept ≡ taken ++ before
-regrouped taken given kept before is = append_assoc taken given kept ∙ ap (λ t. taken ++ t) (sym is)
 
 module _ (task : Task) (old : Reader) (past : HandlePast) (output messages : Pending) (text told : List ℕ)
     (wrote : waiting old.held.output ≡ text ++ waiting output)
@@ -23,10 +18,10 @@ module _ (task : Task) (old : Reader) (past : HandlePast) (output messages : Pen
   then = taken_with past text told
 
   same-output : past.output ++ waiting old.held.output ≡ then.output ++ waiting output
-  same-output = sym (regrouped _ text _ _ wrote)
+  same-output = rw wrote (sym (append_assoc past.output text (waiting output)))
 
   same-messages : past.messages ++ waiting old.held.messages ≡ then.messages ++ waiting messages
-  same-messages = sym (regrouped _ told _ _ reported)
+  same-messages = rw reported (sym (append_assoc past.messages told (waiting messages)))
 
   same-made : (course : Course) (after : List ℕ)
       → IsMadeByLines course after (texts_made past (texts_of_held old.held))
@@ -42,14 +37,9 @@ module _ (task : Task) (old : Reader) (past : HandlePast) (output messages : Pen
     lacking = grind (arith, by.lacking);
   }
 
-  hidden : (outcome : Outcome) → HidesFault (result_for task past.fed) (line_in outcome.fault)
-      (texts_made past (texts_of_held old.held))
-      → HidesFault (result_for task past.fed) (line_in outcome.fault)
-      (texts_made then (texts_of_held new.held))
-  hidden outcome hides = grind (arith, common_steps, same-output, same-messages)
-
-  stands-by : (outcome : Option Outcome) → StandsBy task old past outcome → StandsBy task new then outcome
-  stands-by None runs = record {
+  pub taken-stands : (outcome : Option Outcome) → StandsBy task old past outcome
+      → StandsBy task new then outcome
+  taken-stands None runs = record {
     is_of = runs.is_of;
     drained = runs.drained;
     limit = runs.limit;
@@ -74,10 +64,5 @@ module _ (task : Task) (old : Reader) (past : HandlePast) (output messages : Pen
     counted = runs.counted;
     within = runs.within;
   }
-  stands-by (Some outcome) (inl ran) = grind (arith, common_steps, ⊎_elim, ran-out, same-output)
-  stands-by (Some outcome) (inr (inl over)) = grind (arith, common_steps, same-made)
-  stands-by (Some outcome) (inr (inr (inl long))) = grind (arith, common_steps, same-output, same-messages)
-  stands-by (Some outcome) (inr (inr (inr over))) = grind (arith, common_steps, same-output, same-messages)
-
-  pub taken-stands : ReaderStands task old past → ReaderStands task new then
-  taken-stands stands = stands-by _ stands
+  taken-stands (Some outcome) (inl ran) = grind (arith, common_steps, ⊎_elim, ran-out, same-output)
+  taken-stands (Some outcome) (inr over) = grind (arith, common_steps, same-output, same-messages)

@@ -35,21 +35,15 @@ module _ (before after : Course) (shown : Type 0) (old mid : Held) (warned : Boo
   stays-within new mark marked limit left flag same counted = grind (arith, common_steps, length-append)
 
 module _ (number : ℕ) (memory : Option (List At)) (before after : Course) (old mid : Held) where
-  abbrev Stops : Halt → Type 0
-  Stops halt = StopsBy number memory before after old.output mid.output old.messages mid.messages halt
-
   same-output : waiting mid.output ≡ waiting old.output → waiting mid.output ≡ waiting old.output ++ []
   same-output same = same ∙ sym (append-nil _)
 
-  lost-part : LosesText before after old.output mid.output old.messages mid.messages
+  pub part-of : (halt : Halt)
+      → StopsBy number memory before after old.output mid.output old.messages mid.messages halt
       → HasPart before after old mid
-  lost-part = grind arith
-
-  pub part-of : (halt : Halt) → Stops halt → HasPart before after old mid
-  part-of (Faulty at) (inl lacks) = grind (arith, common_steps, same-output)
-  part-of (Faulty at) (inr ends) = grind (arith, common_steps, same-output)
-  part-of Unwritten loses = lost-part loses
-  part-of Unreported loses = lost-part loses
+  part-of (Faulty at) stopped = grind (arith, common_steps, same-output)
+  part-of Unwritten loses = grind arith
+  part-of Unreported loses = grind arith
 
   lost-stops : (new counted : Held) (mark : Mark) → IsMark mark old → counted ≡ record mid
       { left = counted.left }
@@ -59,11 +53,8 @@ module _ (number : ℕ) (memory : Option (List At)) (before after : Course) (old
     notices = [];
     asked = inr (refl, ⊎_elim (λ output. inl output.longer) (λ messages. inr messages.longer) loses.lost);
     own = inl refl;
-    wrote = cut-to _ _ _ loses.text mark.output
-        (ap (λ (h : Held). waiting h.output) same ∙ loses.wrote) marked.output cut.output_is;
-    reported = cut-to _ _ _ loses.told mark.messages
-        (ap (λ (h : Held). waiting h.messages) same ∙ loses.reported) marked.messages cut.messages_are
-        ∙ sym (append-nil (waiting old.messages));
+    wrote = grind (arith, common_steps, cut-to);
+    reported = grind (arith, common_steps, cut-to, append-nil);
     lacking = grind (arith, common_steps);
   }
 
@@ -106,8 +97,7 @@ module _ (number : ℕ) (memory : Option (List At)) (before after : Course) (sho
     pub step-stops : (taken : Result Bool Halt) → Kept taken → Ended taken → (stop : Stop)
         → StopsCounted taken mark number mid new stop → StepStops number memory before after old new stop
     step-stops taken kept stopped Limit back = grind (arith, common_steps, stops-over, part-either)
-    step-stops (Ok warned) kept stopped (Fault at) (inl stays) = grind arith
-    step-stops (Ok warned) kept stopped (Fault at) (inr lost) = grind arith
+    step-stops (Ok warned) kept stopped (Fault at) lost = grind arith
     step-stops (Err halt) kept stopped (Fault at) (inl stays) = grind arith
     step-stops (Err halt) kept stopped (Fault at) (inr lost) =
         stops-lost number memory before after old mid new mark marked limit left at lost.1

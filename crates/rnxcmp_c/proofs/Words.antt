@@ -18,9 +18,8 @@ pub use Rattle.crx_filter.proofs.following.Lawful.{compaction-lawful, expansion-
 pub use Rattle.crx_filter.proofs.standard.Lossless.{what-passes}
 pub use Rattle.crx_filter.specs.CompactorState.{compacting_state}
 pub use Rattle.crx_filter.specs.meaning.Compacted.{compacted}
-pub use Rattle.crx_filter.specs.meaning.Directions.{compaction_filter}
 pub use Rattle.crx_filter.specs.meaning.Expanded.{expanded, whole_compact}
-pub use Rattle.crx_filter.specs.meaning.Standard.{checked, report_status}
+pub use Rattle.crx_filter.specs.meaning.Standard.{checked}
 pub use Rattle.crx_lines.proofs.ProgressLemmas.{ended_lines-come_first}
 pub use Rattle.crx_lines.specs.Reading.{HasNoFeed}
 pub use Rattle.crx_runs.specs.Lawful.{IsLawful}
@@ -33,17 +32,17 @@ pub use Rattle.crx_runs.specs.meaning.Results.{Begins, Course, FilterResult, are
 pub use Rattle.crx_runs.specs.meaning.Runs.{FaultIs}
 pub use Rattle.crx_runs.specs.meaning.Spans.{AreNext, Device}
 pub use Rattle.rnxcmp_c.specs.Going.{IsKept, StopsBy, IsText, IsGoing, MovesOn, EndsThere, piece_line, IsAll}
-pub use Rattle.rnxcmp_c.specs.Going.{IsCutBy, RanOutAt, StopsShort, IsPastLimit, MovesWithin, PassesLimit}
+pub use Rattle.rnxcmp_c.specs.Going.{IsCutBy, StopsShort, MovesWithin, PassesLimit}
 pub use Rattle.rnxcmp_c.specs.Going.{RunBreaks, RunFails, StepStops, line_reached, IsLineEnded}
 pub use Rattle.rnxcmp_c.specs.Handles.{FeedsBy, FeedsBytes, HasFed, ReaderRuns, StandsBy, answer_now}
 pub use Rattle.rnxcmp_c.specs.Handles.{HasEndedBy, HasFedBy, HasPassedBy, ReaderIsOver, ReaderStands}
 pub use Rattle.rnxcmp_c.specs.Handles.{RunIsOverLimit, ReaderHasEnded, RunIsOutOfMemory, IsLastLine}
-pub use Rattle.rnxcmp_c.specs.Handles.{IsLineReached, RunIsTooLong, shows_of, too_long_after, engine_filter}
+pub use Rattle.rnxcmp_c.specs.Handles.{IsLineReached, RunIsTooLong, engine_filter}
 pub use Rattle.rnxcmp_c.specs.Handles.{has_ended_of}
 pub use Rattle.rnxcmp_c.specs.Holding.{IsMemoryLacking, ready_in, texts_of_held, StopsCounted}
 pub use Rattle.rnxcmp_c.specs.Opened.{Holds}
-pub use Rattle.rnxcmp_c.specs.Past.{HandlePast, fed_with, StopsSoon, allowed_after, filter_for, memory_next}
-pub use Rattle.rnxcmp_c.specs.Past.{limit_for, nothing_fed, result_for, past_of, texts_made, HidesFault}
+pub use Rattle.rnxcmp_c.specs.Past.{HandlePast, fed_with, StopsSoon, filter_for, memory_next}
+pub use Rattle.rnxcmp_c.specs.Past.{limit_for, nothing_fed, result_for, past_of, texts_made}
 pub use Rattle.rnxcmp_c.specs.Past.{taken_with}
 pub use Rattle.rnxcmp_c.specs.Waiting.{waiting}
 pub use Rattle.rnxcmp_c.specs.declared.answer.Answer.{Answer}
@@ -57,9 +56,9 @@ pub use Rattle.rnxcmp_c.specs.declared.pending.Pending.{Pending}
 pub use Rattle.rnxcmp_c.specs.declared.reader.Reader.{Reader}
 pub use Rattle.rnxcmp_c.specs.declared.stop.Stop.{Stop}
 pub use Rattle.rnxcmp_c.specs.declared.stop.Stop.TheVariants.{Fault, Limit}
-pub use Rattle.rnxcmp_c.specs.meaning.Answers.{BothTexts, HasNoMemory, fault_code_in, bare_answer, IsAnswer}
+pub use Rattle.rnxcmp_c.specs.meaning.Answers.{BothTexts, HasNoMemory, fault_code_in, bare_answer}
 pub use Rattle.rnxcmp_c.specs.meaning.Answers.{status_in, line_in, KeepsToLimit, AnswersWithin, placed, rooms}
-pub use Rattle.rnxcmp_c.specs.meaning.Handles.{LacksLastMessage, RunHasEnded, RunHasResult, StopsAtLimit}
+pub use Rattle.rnxcmp_c.specs.meaning.Handles.{RunHasEnded, RunHasResult, StopsAtLimit}
 pub use Rattle.rnxcmp_c.specs.meaning.Handles.{StopsForMemory, StopsWhenFull, Task, run_for, with_one_more}
 pub use Rattle.rnxcmp_c.specs.meaning.Handles.{Compact, Expand, Check, handle_answer}
 pub use Rattle.rnxcmp_c.specs.meaning.Lossless.{CallBringsBackWhatPasses}

@@ -1,4 +1,4 @@
-use Rattle.rnxcmp_c.proofs.{RunLemmas.{answers-alone, answers-within}, Words.{refl, sym, ◌∙◌, subst, arith}}
+use Rattle.rnxcmp_c.proofs.{RunLemmas.{answers-alone, answers-within}, Words.{sym, ◌∙◌, subst}}
 use Rattle.rnxcmp_c.proofs.Words.{compacted, AnswersWithin, rooms, Compact}
 use Rattle.rnxcmp_c.proofs.exports.rnxcmp_c_compact.Goals as goal
 
@@ -7,12 +7,10 @@ returns-clause-memory c memory = answers-alone c.answer_of.ensures memory
 
 pub returns-clause-runs : goal.returns-clause-runs
 returns-clause-runs c dated within memory =
-    let run = c.compact-outcome in
+    let run = c.compact-outcome.ensures.runs in
     let before = rooms _ _ in
     let after = rooms _ _ in
     subst (λ o. AnswersWithin c.args.max_output (compacted c.args.input.now o) c.answer_of.result
     before after) c.in-Ok.ensures.value.0
-    (answers-within (Compact c.in-Ok.options 0) run.ensures.runs.2 (sym c.new-reader.ensures ∙
-    run.ensures.runs.1)
-    (λ ended. ended) within before after c.new-written.ensures c.new-reported.ensures (λ t took. took)
-    (λ t took. took) (refl, omega arith) (λ none. none) (λ none. none) c.answer_of.ensures memory)
+    (answers-within (Compact c.in-Ok.options 0) run.2 (sym c.new-reader.ensures ∙ run.1) within before after
+    c.new-written.ensures c.new-reported.ensures c.answer_of.ensures memory)

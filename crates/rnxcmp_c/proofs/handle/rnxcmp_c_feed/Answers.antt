@@ -1,24 +1,23 @@
 use Rattle.std.proofs.Common.{arith}
 use Rattle.rnxcmp_c.proofs.PromiseLemmas.{feeds-on, feeds-promise, feeds-refused, feeds-takes}
-use Rattle.rnxcmp_c.proofs.{PromiseLemmas.{feeds-was_ended, sound-holds, stood}, Words.{Holds, past_of}}
-use Rattle.rnxcmp_c.proofs.handle.rnxcmp_c_feed.Goals.{After-deref_mut}
+use Rattle.rnxcmp_c.proofs.PromiseLemmas.{feeds-was_ended, sound-holds, sound-stands, stood}
+use Rattle.rnxcmp_c.proofs.handle.rnxcmp_c_feed.Goals.{After-put_in}
+use Rattle.rnxcmp_c.proofs.Words.{ℕ, List, Task, BothTexts, Holds, past_of}
+use Rattle.rnxcmp_c.specs.Opened.{FeedsHandle, HandleStands}
 use Rattle.rnxcmp_c.proofs.handle.rnxcmp_c_feed.Goals as goal
 
 pub take_out-reader-requires : goal.take_out-reader-requires
 take_out-reader-requires c = sound-holds c.requires.sound c.if-not-handle.false
 
-held : (c : After-deref_mut) → Holds c.args.handle.now c.deref_mut.result.now
-held c = grind arith
-
 pub take_in-count-requires : goal.take_in-count-requires
-take_in-count-requires c =
-    let sound = c.requires.sound c.if-not-handle.false in
-    let holds = held (goal.at.take_in-count-requires c).After-deref_mut in
-    (sound.0, past_of sound.1 sound.2, stood holds sound.3)
+take_in-count-requires c = sound-stands c.requires.sound c.if-not-handle.false (grind arith)
 
-pub returns-clause-feeds : goal.returns-clause-feeds
-returns-clause-feeds c = λ task fed taken stands.
-    let holds = held (goal.at.returns-clause-feeds c).After-deref_mut in
+feeds : (c : After-put_in) (task : Task) (fed : List ℕ) (taken : BothTexts)
+    → HandleStands task c.args.handle.now fed taken
+    → FeedsHandle task c.args.handle.now c.put_in.new.handle fed taken c.args.bytes.now
+    c.take_in-count.result.0 c.take_in-count.result.1
+feeds c task fed taken stands =
+    let holds : Holds c.args.handle.now c.deref_mut.result.now = grind arith in
     record {
       before = c.deref_mut.result.now;
       after = c.take_in-count.new.self;
@@ -28,22 +27,17 @@ returns-clause-feeds c = λ task fed taken stands.
       feeds = c.take_in-count.ensures task (past_of fed taken) (stood holds stands);
     }
 
-pub returns-clause-stands : goal.returns-clause-stands
-returns-clause-stands c _ _ _ stands = feeds-on (returns-clause-feeds c _ _ _ stands) stands
-
-pub returns-clause-misused : goal.returns-clause-misused
-returns-clause-misused c _ _ _ stands = feeds-refused (returns-clause-feeds c _ _ _ stands) stands
-
-pub returns-clause-promise : goal.returns-clause-promise
-returns-clause-promise c _ _ _ stands = feeds-promise (returns-clause-feeds c _ _ _ stands) stands
-
-pub returns-clause-takes : goal.returns-clause-takes
-returns-clause-takes c _ _ _ stands = feeds-takes (returns-clause-feeds c _ _ _ stands) stands
-
-pub returns-clause-ended : goal.returns-clause-ended
-returns-clause-ended c _ _ _ stands = feeds-was_ended (returns-clause-feeds c _ _ _ stands) stands
-
-pub returns-clause-sound : goal.returns-clause-sound
-returns-clause-sound c = λ is_open.
-    let sound = c.requires.sound c.if-not-handle.false in
-    (sound.0, _, _, returns-clause-stands c sound.0 sound.1 sound.2 sound.3)
+pub returns : goal.returns
+returns c =
+    let feeds = feeds (goal.at.returns c).After-put_in in record {
+      closed = λ shut. absurd (cc);
+      feeds = feeds;
+      stands = λ _ _ _ stands. feeds-on (feeds _ _ _ stands) stands;
+      promise = λ _ _ _ stands. feeds-promise (feeds _ _ _ stands) stands;
+      takes = λ _ _ _ stands. feeds-takes (feeds _ _ _ stands) stands;
+      ended = λ _ _ _ stands. feeds-was_ended (feeds _ _ _ stands) stands;
+      misused = λ _ _ _ stands. feeds-refused (feeds _ _ _ stands) stands;
+      sound = λ is_open.
+          let sound = c.requires.sound c.if-not-handle.false in
+          (sound.0, _, _, feeds-on (feeds _ _ _ sound.3) sound.3);
+    }

@@ -1,28 +1,18 @@
 use Rattle.std.proofs.{Common.{rules, arith}, lemmas.Grind.common_steps}
 use Rattle.rnxcmp_c.proofs.EndedLemmas.{ended-where, result-where, run-check, run-expansion}
 use Rattle.rnxcmp_c.proofs.PromiseLemmas.{handle-promise, sound-holds, stood}
-use Rattle.rnxcmp_c.proofs.Words.{ℕ, List, Holds, past_of, BothTexts, rooms, Task, Expand, Check}
-use Rattle.rnxcmp_c.proofs.handle.rnxcmp_c_take.Goals.{After-deref_mut, After-put_in}
-use Rattle.rnxcmp_c.specs.Opened.{HandsOut}
+use Rattle.rnxcmp_c.proofs.Words.{ℕ, List, Holds, past_of, BothTexts, Task, Expand, Check}
 use Rattle.rnxcmp_c.proofs.handle.rnxcmp_c_take.Goals as goal
 
 pub take_out-reader-requires : goal.take_out-reader-requires
 take_out-reader-requires c = sound-holds c.requires.sound c.if-not-handle.false
-
-held : (c : After-deref_mut) → Holds c.args.handle.now c.deref_mut.result.now
-held c = grind arith
-
-given : (c : After-put_in) → HandsOut c.args.handle.now.place.held c.put_in.new.handle.place.held
-    (rooms c.args.output.now c.args.messages.now)
-    (rooms c.hand_out-answer.new.output c.hand_out-answer.new.messages) c.hand_out-answer.result
-given c = grind arith
 
 pub returns-clause-still : goal.returns-clause-still
 returns-clause-still c = grind arith
 
 pub returns-clause-stands : goal.returns-clause-stands
 returns-clause-stands c = λ (task : Task) (fed : List ℕ) (taken : BothTexts) stands.
-    let holds = held (goal.at.returns-clause-stands c).After-deref_mut in
+    let holds : Holds c.args.handle.now c.deref_mut.result.now = grind arith in
     record {
       reader = c.hand_out-answer.new.self;
       is_open = c.put_in.ensures.opened;

@@ -1,7 +1,7 @@
 use Rattle.std.proofs.{Common.arith, lemmas.{Bool.lt-ltb, Grind.common_steps}}
 use Rattle.rnxcmp_c.proofs.{Cut.{cut-stops, kept-where_done}, PieceLemmas.long-where_long}
-use Rattle.rnxcmp_c.proofs.{PieceLemmas.whole-where_not_long, Words.{◌≡◌, length, ap, refl, subst, ◌∙◌, ◌<◌}}
-use Rattle.rnxcmp_c.proofs.Words.{◌≤◌, rules, IfErr-weaker, IfOk-weaker, InputLine, LINE_LIMIT, piece_line}
+use Rattle.rnxcmp_c.proofs.{PieceLemmas.whole-where_not_long, Words.{◌≡◌, ap, refl, subst, ◌∙◌}}
+use Rattle.rnxcmp_c.proofs.Words.{rules, IfErr-weaker, IfOk-weaker, InputLine, LINE_LIMIT, piece_line}
 use Rattle.rnxcmp_c.{proofs.lines.offer_line.Goals.{then-is_ended, else-is_ended}, specs.Going.LineIsGiven}
 use Rattle.crx_lines.specs.Reading.{line_shown}
 use Rattle.rnxcmp_c.proofs.lines.offer_line.Goals as goal
@@ -12,8 +12,7 @@ returns-then-content-gt-LINE_LIMIT-clause-step g c = λ lines whole shown kept.
     let output = c.args.output.now in
     let messages = c.args.messages.now in
     let long = lt-ltb _ _ (long-where_long _ whole kept
-    (subst (λ bs. LINE_LIMIT < length bs) c.content_of-has_return.ensures.content
-    c.if-content-gt-LINE_LIMIT.true)) in (
+    (rw c.content_of-has_return.ensures.content at c.if-content-gt-LINE_LIMIT.true)) in (
       IfOk-weaker _ _ _ (λ warned done. kept-where_done _ _ output _ _ _ _ warned done)
           (taken.ensures.taken.done lines _ shown long),
       IfErr-weaker taken.result _ _
@@ -27,8 +26,7 @@ returns-clause-step g c = λ lines whole shown kept.
     let output = c.args.output.now in
     let messages = c.args.messages.now in
     let all = whole-where_not_long c.args.bytes.now whole kept
-    (subst (λ bs. length bs ≤ LINE_LIMIT) c.content_of-has_return.ensures.content
-    c.if-content-gt-LINE_LIMIT.false) in
+    (rw c.content_of-has_return.ensures.content at c.if-content-gt-LINE_LIMIT.false) in
     let same : line_shown c.of.result ≡ piece_line c.args.bytes.now c.args.is_ended =
     elim c.if-is_ended.branch [ then-is_ended w ↦ search rules | else-is_ended w ↦ search rules ] in
     subst (λ (line : InputLine). LineIsGiven taken.result (g.E.Engine.filter c.args.engine.now)

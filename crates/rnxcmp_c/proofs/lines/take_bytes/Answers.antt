@@ -1,8 +1,8 @@
 use Rattle.std.proofs.{Common.{rules, length-drop, length-take-le}, lemmas.Grind.common_steps}
-use Rattle.rnxcmp_c.proofs.{GoingLemmas.{breaks-after, ended-more, soon-by}, PieceLemmas.none-or, Words.rules}
+use Rattle.rnxcmp_c.proofs.{GoingLemmas.{breaks-after, soon-by}, PieceLemmas.none-or}
 use Rattle.rnxcmp_c.proofs.Words.{ℕ, ◌≡◌, ◌-◌, ◌≤◌, List, ◌++◌, length, take, drop, sym, ap, ◌∙◌, arith}
 use Rattle.rnxcmp_c.proofs.Words.{append_assoc, length-append, ⊎_elim, take-append-drop, err_from_is_err_and}
-use Rattle.rnxcmp_c.proofs.Words.{fed_with, take_all}
+use Rattle.rnxcmp_c.proofs.Words.{ended_lines_of, fed_with, take_all}
 use Rattle.rnxcmp_c.proofs.lines.take_bytes.Goals as goal
 
 -- all but the last of the first bytes
@@ -47,10 +47,11 @@ returns-in_err-count-clause-fed g c past is =
     let done = i.0.0 in
     let left = c.bytes.left.now in
     let p = err_from_is_err_and c.from_residual.result c.from_residual.ensures.1 in
+    let both = ap length (is.cut_ended done) ∙ length-append (ended_lines_of past.fed) _ in
     rw (p.1, p.2) (
       tt,
       rw i.0.1 (breaks-after _ past.fed (past.fed ++ done) _ (fed_with past (done ++ left)) _
-          (ended-more _ _ _ past done is) (rw (append_assoc past.fed done left, i.1) at
+          (omega arith) (rw (append_assoc past.fed done left, i.1) at
           (c.in_err-count.ensures.fed (fed_with past done) (rw i.1 (i.0.2 past is))).1)),
     )
 

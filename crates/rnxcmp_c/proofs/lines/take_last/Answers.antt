@@ -1,30 +1,19 @@
-use Rattle.std.proofs.{lemmas.Grind.common_steps, Common.◌==◌}
+use Rattle.std.proofs.{lemmas.Grind.common_steps}
 use Rattle.rnxcmp_c.proofs.GoingLemmas.{all-ended, all-but_last, ends-well, ends-stopped, held-going}
-use Rattle.rnxcmp_c.proofs.Words.{◌<◌, [], length, sym, subst, false, ◌≡◌, ℕ, List, Bool, true, ◌∙◌, arith}
-use Rattle.rnxcmp_c.proofs.Words.{on_ok_weaker, IfErr-weaker, err_from_is_err_and, ended_lines_of, with_next}
+use Rattle.rnxcmp_c.proofs.Words.{◌<◌, [], length, false, true, arith}
+use Rattle.rnxcmp_c.proofs.Words.{on_ok_weaker, IfErr-weaker, err_from_is_err_and, ended_lines_of}
 use Rattle.rnxcmp_c.proofs.{GoingLemmas.{held-last, last-stopped}, lines.take_last.Goals.Else-is_empty}
-use Rattle.rnxcmp_c.proofs.{Words.piece_line, lines.take_last.Given.Over}
-use Rattle.rnxcmp_c.specs.Going.{EndStaysWithin}
+use Rattle.rnxcmp_c.proofs.{lines.take_last.Given.Over}
 use Rattle.rnxcmp_c.proofs.lines.take_last.Goals as goal
 
--- there are no bytes, or some
-none-there : (bytes : List ℕ) (is_empty : Bool) → is_empty ≡ (length bytes == 0) → is_empty ≡ true
-    → bytes ≡ []
-none-there = grind (arith, common_steps)
-
-some-there : (bytes : List ℕ) (is_empty : Bool) → is_empty ≡ (length bytes == 0) → is_empty ≡ false
-    → 0 < length bytes
-some-there = grind (arith, common_steps)
-
 is-some : (g : Over) (c : Else-is_empty g) → 0 < length c.args.held.now.tail.bytes.items
-is-some g c = subst (λ (l : List ℕ). 0 < length l) c.as_slice.ensures
-    (some-there _ _ c.is_empty.ensures c.if-is_empty.false)
+is-some g c = grind (arith, common_steps, c.as_slice.ensures, c.is_empty.ensures, c.if-is_empty.false)
 
 pub returns-then-is_empty-clause-ends : goal.returns-then-is_empty-clause-ends
 returns-then-is_empty-clause-ends g c past is =
     let new = c.end_within.new.held in
     let whole = all-ended _ _ _ past is
-    (sym c.as_slice.ensures ∙ none-there _ _ c.is_empty.ensures c.if-is_empty.true) in
+    (grind (arith, common_steps, c.as_slice.ensures, c.is_empty.ensures, c.if-is_empty.true)) in
     let after = held-going _ _ c.args.held.now past is in
     let step = c.end_within.ensures.step _ is.shown in (
       on_ok_weaker c.end_within.result
@@ -39,13 +28,10 @@ returns-clause-ends g c past is =
     let within = (c.in_ok-take_within.ensures.step _ is.tail is.shown is.kept).0 in
     let whole = all-but_last _ _ c.args.held.now past is some in
     let after = held-last _ _ _ past is c.take_within.new.held _ within c.in_ok-take_within.ensures.next.0 in
-    let lines = with_next (ended_lines_of past.fed) (piece_line is.tail false) in
-    let then = g.E.Engine.has_ended _ lines in
-    let step = subst (λ f. EndStaysWithin c.end_within-2.result f then lines c.take_within.new.held new)
-    c.in_ok-take_within.ensures.keeps.0.0
-    (c.end_within-2.ensures.step lines within.moved.kept.is_shown) in (
+    let step = rw c.in_ok-take_within.ensures.keeps.0.0 at
+    (c.end_within-2.ensures.step _ within.moved.kept.is_shown) in (
       on_ok_weaker c.end_within-2.result
-          (λ e. (rw whole e.moved.kept.is_shown, ends-well after new whole then e)) step.0,
+          (λ e. (rw whole e.moved.kept.is_shown, ends-well after new whole _ e)) step.0,
       IfErr-weaker _ _ _ (λ stop e. ends-stopped after new whole stop e) step.1,
     )
 

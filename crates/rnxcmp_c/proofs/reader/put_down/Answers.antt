@@ -1,5 +1,5 @@
 use Rattle.std.proofs.lemmas.Grind.{common_steps}
-use Rattle.rnxcmp_c.proofs.Words.{inl, List, ◌++◌, ℕ, arith, refl, ap, ◌∙◌, waiting}
+use Rattle.rnxcmp_c.proofs.Words.{inl, arith, refl}
 use Rattle.rnxcmp_c.proofs.reader.put_down.Goals as goal
 
 pub returns-then-add : goal.returns-then-add
@@ -10,8 +10,7 @@ returns-then-add c = record {
   messages_good = c.add.ensures.counts.failures;
   said = inl (
     refl,
-    c.add.ensures.taken c.if-add.true ∙ ap (λ (t : List ℕ). waiting c.args.held.now.messages ++ t)
-        (c.bytes.ensures.value ∙ c.message.ensures.value),
+    rw (c.bytes.ensures.value, c.message.ensures.value) at (c.add.ensures.taken c.if-add.true),
   );
 }
 

@@ -1,9 +1,9 @@
 -- `into_box` makes the box again.
 use Rattle.rnxcmp_c.proofs.{LooseValues.{both, Loose, loose_good, loose_out}, RawWords.{◌≡◌, List, [], ◌∷◌}}
 use Rattle.rnxcmp_c.proofs.RawWords.{◌++◌, refl, sym, ap, subst, a_type, dcons, dnil, Val, vptr, inst_fn}
-use Rattle.rnxcmp_c.proofs.RawWords.{SProp, ent, id⊢, ftrue, flft, WpFn, ‵, raw, ◌⊛◌, some, later, ◌$◌, ◌∵◌}
+use Rattle.rnxcmp_c.proofs.RawWords.{SProp, id⊢, ftrue, flft, WpFn, ‵, raw, ◌⊛◌, some, later, ◌$◌, ◌∵◌}
 use Rattle.rnxcmp_c.proofs.RawWords.{ !, qed, by, move, keep, drop, split, split3, join, fsplit, fjoin, pick}
-use Rattle.rnxcmp_c.proofs.RawWords.{suffices, use1, await, rewrite, feq_i, stop, fld, of_opd, no_more}
+use Rattle.rnxcmp_c.proofs.RawWords.{regoal, prop, use1, await, rewrite, feq_i, stop, fld, of_opd, no_more}
 use Rattle.rnxcmp_c.proofs.RawWords.{and_then, returns, enter, alloc_all, pass_all, free_all, look_at, get}
 use Rattle.rnxcmp_c.proofs.RawWords.{get_in, sets, sub, whole, fact, tables, no, RattleType, owns, types_at}
 use Rattle.rnxcmp_c.proofs.RawWords.{plain, block_ptr, nothing, only, param, layout, bounded, param_laws}
@@ -28,14 +28,13 @@ into_box_spec 𝓤 𝓛 𝓜 𝓡 wired T A L LA g d dx dd allocator glue glued 
       row = T;
       laws = L;
       al = record { row = A; laws = LA; g = g; d = d; drops = dd };
-    } in let fn = inst_fn (bounded (a_type ∷ a_type ∷ []) (T, (A, tt))
-    (dcons d (dcons dx (dcons dd dnil)))) code.function in
+    } in let inst = bounded (a_type ∷ a_type ∷ []) (T, (A, tt))
+    (dcons d (dcons dx (dcons dd dnil))) in let fn = inst_fn inst code.function in
     let hs : Stays En.signature.params En.kept = (stay_dropped (plain (λ _. Loose R Z LZ g)) no, tt) in
     proved_at 𝓛 En hs c 𝓜 𝓡 (Goes-blank 𝓛 2 (plain (λ _. Loose R Z LZ g)) no (λ κs x f. tt), tt)
-    (#self (bounded (a_type ∷ a_type ∷ []) (T, (A, tt)) (dcons d (dcons dx (dcons dd dnil))))) fn
-    (code.unfolded 𝓤 H 𝓜 𝓡 wired (T, (A, tt)) d dx dd) (λ z are.
+    (#self inst) fn (code.unfolded 𝓤 H 𝓜 𝓡 wired (T, (A, tt)) d dx dd) (λ z are.
     let κs = z.0.0 in let qs = z.0.1 in let v = z.0.3.0 in let a = v.alloc in let Post : Val → SProp 𝓤 =
-    (walk_of 𝓛 En hs c).post z in let Run : List Val → SProp 𝓤 = λ ws. WpFn 𝓤 H 𝓣.C 𝓣.Λ fn ws Post in
+    (walk_of 𝓛 En hs c).post z in let Runs = λ (us : List Val). prop (WpFn 𝓤 H 𝓣.C 𝓣.Λ fn us Post) in
     let toks = ‵ (flft κs.0 qs.0) ⊛ ‵ (flft κs.1.0 qs.1.0) ⊛ ‵ ftrue in let asked = raw
     ((c κs z.0.3).requires z.1) in
     qed 𝓛 ((toks ⊛ ‵ (owns (types_at En.signature.params κs) z.0.3 z.0.4)) ∷ asked ∷ []) ∵ split ! $ move !
@@ -48,8 +47,7 @@ into_box_spec 𝓤 𝓛 𝓜 𝓡 wired T A L LA g d dx dd allocator glue glued 
     (id⊢ 𝓤 _) $ split3 ! $ move ! (2 ∷ []) $ drop ! $ move ! (1 ∷ 2 ∷ []) $ join ! $ move ! (1 ∷ 0 ∷ []) $
     join ! $ move ! (2 ∷ []) $ feq_i ! (List Val) (vptr b o ∷ []) (vptr b o ∷ []) refl $ fjoin ! $ move !
     (2 ∷ 0 ∷ []) $ fjoin ! $ move ! (2 ∷ 0 ∷ []) $ join ! $ join ! $ use1 𝓛 (raw (k.pre y)) (id⊢ 𝓤 _) $
-    suffices ! (Run (w ∷ [])) (subst (λ (us : List Val). ent 𝓤 (Run (w ∷ [])) (Run us))
-    (sym (λ i. ws i ++ [])) (id⊢ 𝓤 (Run (w ∷ [])))) $ enter ! 𝓣.C 𝓣.Λ fn (w ∷ []) Post $ alloc_all !
+    regoal ! Runs (λ i. ws i ++ []) refl $ enter ! 𝓣.C 𝓣.Λ fn (w ∷ []) Post $ alloc_all !
     (λ l. pass_all ! refl (typed, tt) $ let Ev = env fn.locals l in sets !
     (of_opd ! (get_in ! (fld ! refl (stop !)) (sub ! 0 refl (whole !)))) refl (tt, tt) $ sets !
     (of_opd ! (get_in ! (fld ! refl (stop !))

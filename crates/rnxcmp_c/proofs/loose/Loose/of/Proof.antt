@@ -1,9 +1,10 @@
 -- `of` takes the box apart.
 use Rattle.rnxcmp_c.proofs.{LooseValues.{both, loose_good, loose_in}, RawWords.{◌≡◌, List, [], ◌∷◌, ◌++◌}}
-use Rattle.rnxcmp_c.proofs.RawWords.{refl, sym, ap, ◌∙◌, subst, a_type, dcons, dnil, Val, vptr, vstruct}
-use Rattle.rnxcmp_c.proofs.RawWords.{of_list, inst_fn, SProp, ent, emp, never, id⊢, fst∗, ftrue, fsep, flft}
+use Rattle.rnxcmp_c.proofs.RawWords.{refl, ap, ◌∙◌, a_type, dcons, dnil, Val, vptr, vstruct}
+use Rattle.rnxcmp_c.proofs.RawWords.{of_list, inst_fn, SProp, emp, never, id⊢, fst∗, ftrue, fsep, flft}
 use Rattle.rnxcmp_c.proofs.RawWords.{WpFn, sem, ‵, raw, ◌⊛◌, some, later, ◌$◌, ◌∵◌, !, qed, by, move, keep}
-use Rattle.rnxcmp_c.proofs.RawWords.{drop, split, split3, join, fsplit, fjoin, fpick, pick, suffices, use0}
+use Rattle.rnxcmp_c.proofs.RawWords.{drop, split, split3, join, fsplit, fjoin, fpick, pick, regoal, prop}
+use Rattle.rnxcmp_c.proofs.RawWords.{use0}
 use Rattle.rnxcmp_c.proofs.RawWords.{use1, await, rewrite, feq_l, stop, fld, of_opd, no_more, and_then}
 use Rattle.rnxcmp_c.proofs.RawWords.{returns, enter, alloc_all, pass_all, free_all, look_at, get, get_in}
 use Rattle.rnxcmp_c.proofs.RawWords.{sets, agg, sub, whole, fact, fact_i, tables, no, RattleType, owns}
@@ -29,14 +30,13 @@ of_spec 𝓤 𝓛 𝓜 𝓡 wired T A L LA g d dx dd allocator glue glued =
       row = T;
       laws = L;
       al = record { row = A; laws = LA; g = g; d = d; drops = dd };
-    } in let fn = inst_fn (bounded (a_type ∷ a_type ∷ []) (T, (A, tt))
-    (dcons d (dcons dx (dcons dd dnil)))) code.function in
+    } in let inst = bounded (a_type ∷ a_type ∷ []) (T, (A, tt))
+    (dcons d (dcons dx (dcons dd dnil))) in let fn = inst_fn inst code.function in
     let hs : Stays En.signature.params En.kept = (stay_dropped (plain (λ _. box.B E)) no, tt) in
     proved_at 𝓛 En hs c 𝓜 𝓡 (Goes-blank 𝓛 2 (plain (λ _. box.B E)) no (λ κs x f. tt), tt)
-    (#self (bounded (a_type ∷ a_type ∷ []) (T, (A, tt)) (dcons d (dcons dx (dcons dd dnil))))) fn
-    (code.unfolded 𝓤 H 𝓜 𝓡 wired (T, (A, tt)) d dx dd) (λ z are.
+    (#self inst) fn (code.unfolded 𝓤 H 𝓜 𝓡 wired (T, (A, tt)) d dx dd) (λ z are.
     let κs = z.0.0 in let qs = z.0.1 in let v = z.0.3.0 in let a = v.alloc in let Post : Val → SProp 𝓤 =
-    (walk_of 𝓛 En hs c).post z in let Run : List Val → SProp 𝓤 = λ ws. WpFn 𝓤 H 𝓣.C 𝓣.Λ fn ws Post in
+    (walk_of 𝓛 En hs c).post z in let Runs = λ (us : List Val). prop (WpFn 𝓤 H 𝓣.C 𝓣.Λ fn us Post) in
     let toks = ‵ (flft κs.0 qs.0) ⊛ ‵ (flft κs.1.0 qs.1.0) ⊛ ‵ ftrue in let asked = raw
     ((c κs z.0.3).requires z.1) in
     qed 𝓛 ((toks ⊛ ‵ (owns (types_at En.signature.params κs) z.0.3 z.0.4)) ∷ asked ∷ []) ∵ split ! $ move !
@@ -44,9 +44,8 @@ of_spec 𝓤 𝓛 𝓜 𝓡 wired T A L LA g d dx dd allocator glue glued =
     let w : Val = box.word E h b o in let typed = loose_good R Z LZ g b o h fits in let k =
     triple_of 𝓛 (callee.signature T A g d dd dx) (callee.spec T A g d dd dx 𝓛 𝓜.mem 𝓡.returns) in
     let y : k.Ghost = ((κs, qs, tt, (v, tt), (w ∷ [], tt)), tt) in let Pair = Tuple (RawPtr ∷ Z ∷ []) in
-    fjoin ! $ move ! (1 ∷ 0 ∷ []) $ join ! $ join ! $ use1 𝓛 (raw (k.pre y)) (id⊢ 𝓤 _) $ suffices !
-    (Run (w ∷ [])) (subst (λ (us : List Val). ent 𝓤 (Run (w ∷ [])) (Run us)) (sym (λ i. ws i ++ []))
-    (id⊢ 𝓤 (Run (w ∷ [])))) $ enter ! 𝓣.C 𝓣.Λ fn (w ∷ []) Post $ alloc_all !
+    fjoin ! $ move ! (1 ∷ 0 ∷ []) $ join ! $ join ! $ use1 𝓛 (raw (k.pre y)) (id⊢ 𝓤 _) $ regoal ! Runs
+    (λ i. ws i ++ []) refl $ enter ! 𝓣.C 𝓣.Λ fn (w ∷ []) Post $ alloc_all !
     (λ l. pass_all ! refl (typed, tt) $ sets ! (of_opd ! (get ! refl)) refl typed $ calls_at ! (fm 𝓛 𝓜 𝓡) k
     (met 𝓤 𝓛 𝓜 𝓡 (code.calls-std_alloc::boxed::Box::into_raw_with_allocator 𝓡.env
     wired) T A L LA g d dd dx allocator glued glue) y (and_then ! (get ! refl) (no_more !)) (λ u. use1 𝓛

@@ -1,18 +1,19 @@
 -- `into_loose` moves the pointer, and what the place owned goes with it.
-use Rattle.rnxcmp_c.proofs.{LooseValues.{both, loose_good, loose_in}, PlaceValues.word, RawWords.{◌≡◌, List}}
-use Rattle.rnxcmp_c.proofs.RawWords.{[], ◌∷◌, ◌++◌, refl, sym, ap, ◌∙◌, subst, Val, vptr, vstruct, of_list}
-use Rattle.rnxcmp_c.proofs.RawWords.{SProp, ent, id⊢, never, fst∗, ftrue, fsep, WpFn, sem, ‵, raw, ◌⊛◌, ◌$◌}
+use Rattle.rnxcmp_c.proofs.LooseValues.{al, both, loose_good, loose_in}
+use Rattle.rnxcmp_c.proofs.{PlaceValues.word, RawWords.{◌≡◌, List}}
+use Rattle.rnxcmp_c.proofs.RawWords.{[], ◌∷◌, ◌++◌, refl, ap, ◌∙◌, Val, vptr, vstruct, of_list}
+use Rattle.rnxcmp_c.proofs.RawWords.{SProp, never, fst∗, ftrue, fsep, WpFn, sem, ‵, raw, ◌⊛◌, ◌$◌}
 use Rattle.rnxcmp_c.proofs.RawWords.{◌∵◌, !, qed, move, drop, split, join, fsplit, fjoin, fpick, suffices}
+use Rattle.rnxcmp_c.proofs.RawWords.{regoal, prop}
 use Rattle.rnxcmp_c.proofs.RawWords.{rewrite, feq_l, done, stop, fld, of_opd, no_more, and_then, returns}
 use Rattle.rnxcmp_c.proofs.RawWords.{enter, alloc_all, pass_all, free_all, look_at, get, get_in, sets, agg}
 use Rattle.rnxcmp_c.proofs.RawWords.{sub, whole, fact, tables, yes, RattleType, plain, Ptr, block_ptr}
 use Rattle.rnxcmp_c.proofs.RawWords.{null_ptr, ptr_val, in_a_block, lone, nothing, heard, says, Stays}
-use Rattle.rnxcmp_c.proofs.RawWords.{stay_dropped, walk_of, ends_at, Goes-dropped, proved_at, Al}
+use Rattle.rnxcmp_c.proofs.RawWords.{stay_dropped, walk_of, ends_at, Goes-dropped, proved_at}
 use Rattle.rnxcmp_c.proofs.RawWords.{handle_tells, box_owns, ghosts, place_owns, Reader}
 use Rattle.rnxcmp_c.{proofs.place.Place.into_loose.Statement.statement, specs.Places.heap}
 use Rattle.rnxcmp_c.specs.contracts.place.Place.into_loose.{ended, clauses, Key.name as #self}
 use mir.Raw.{raw as bare}
-use Rattle.std_heap.specs.contracts.GlobalAllocator.TheImpl.{dict}
 use Rattle.std_heap.specs.contracts.Global as heap
 use Rattle.std_heap.proofs.Global.TheLaws as heap_laws
 use Rattle.rnxcmp_c.specs.contracts.reader.Reader as reader
@@ -24,13 +25,6 @@ into_loose_spec 𝓤 𝓛 𝓜 𝓡 wired =
     let H = 𝓛.H in let 𝓣 = tables 𝓤 H 𝓜 𝓡 𝓡.env in let c = clauses 𝓛 𝓜.mem 𝓡.returns in
     let R : RattleType = reader.the_row in let Z : RattleType = heap.the_row in let LZ =
     heap_laws.the_row_laws in let P : RattleType = place.the_row in
-    let al : Al = record {
-      row = Z;
-      laws = LZ;
-      g = ghosts;
-      d = dict;
-      drops = mir.Syntax.impl [] mir.Syntax.tnil mir.Syntax.dnil;
-    } in
     let hs : Stays ended.signature.params ended.kept =
     (stay_dropped (plain (λ _. P)) yes, (stay_dropped (plain (λ _. Z)) yes, tt)) in
     proved_at 𝓛 ended hs c 𝓜 𝓡 (
@@ -38,8 +32,7 @@ into_loose_spec 𝓤 𝓛 𝓜 𝓡 wired =
       (Goes-dropped 𝓛 0 (plain (λ _. Z)) yes (λ κs x f. refl), tt),
     ) #self code.function (code.unfolded 𝓤 H 𝓜 𝓡 wired) (λ z are.
     let v = z.0.3.0 in let a = z.0.3.1.0 in let Post : Val → SProp 𝓤 =
-    (walk_of 𝓛 ended hs c).post z in let Run : List Val → SProp 𝓤 =
-    λ ws. WpFn 𝓤 H 𝓣.C 𝓣.Λ code.function ws Post in
+    (walk_of 𝓛 ended hs c).post z in
     let Asked : Type 0 = (value : Reader) × (v.held ≡ value ∷ []) in
     qed 𝓛 ((‵ ftrue ⊛ ‵ (fsep (P.own_val v z.0.4.0) (fsep (Z.own_val a z.0.4.1.0) ftrue))) ∷ raw
     (fact 𝓤 Asked) ∷ []) ∵ move ! (1 ∷ 0 ∷ []) $ heard ! Asked
@@ -49,14 +42,14 @@ into_loose_spec 𝓤 𝓛 𝓜 𝓡 wired =
     rewrite ! 0 (λ (held : List Reader). ‵ (place_owns v.at held)) asked.1 refl $ in_a_block ! v.at
     (λ p. box_owns (ghosts.dealloc_token heap) R p x)
     (fst∗ 𝓤 (never 𝓤) (sem 𝓛 (ghosts.dealloc_token heap (bare (lone R.mir)) null_ptr))) (λ b o e. move !
-    (1 ∷ []) $ fsplit ! $ handle_tells al ! a z.0.4.1.0
+    (1 ∷ []) $ fsplit ! $ handle_tells (al R Z LZ ghosts) ! a z.0.4.1.0
     (λ h eh fits. move ! (1 ∷ []) $ drop ! $ move ! (1 ∷ 0 ∷ []) $
     let w : Val = word (block_ptr b o) in let made = both (vptr b o) h in let good =
     loose_good R Z LZ ghosts b o h fits in
     let ew : z.0.4.0 ≡ w ∷ [] = ev ∙ (λ j. vstruct
     (of_list ((ep ∙ ap (λ (π : Ptr). ptr_val π ∷ []) e) j ++ [])) ∷ []) in
-    suffices ! (Run (w ∷ h ∷ [])) (subst (λ (us : List Val). ent 𝓤 (Run (w ∷ h ∷ [])) (Run us))
-    (sym (λ i. ew i ++ (eh i ++ []))) (id⊢ 𝓤 (Run (w ∷ h ∷ [])))) $ enter ! 𝓣.C 𝓣.Λ code.function (w ∷ h ∷ [])
+    regoal ! (λ (us : List Val). prop (WpFn 𝓤 H 𝓣.C 𝓣.Λ code.function us Post))
+    (λ i. ew i ++ (eh i ++ [])) refl $ enter ! 𝓣.C 𝓣.Λ code.function (w ∷ h ∷ [])
     Post $ alloc_all ! (λ l. pass_all ! refl ((tt, (tt, tt)), (fits, tt)) $ sets !
     (of_opd ! (get_in ! (fld ! refl (stop !)) (sub ! 0 refl (whole !)))) refl (tt, tt) $ sets !
     (of_opd ! (get ! refl)) refl (tt, tt) $ sets !

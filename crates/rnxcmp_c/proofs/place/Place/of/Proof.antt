@@ -1,9 +1,10 @@
 -- `of` moves the pointer, and what the parts owned goes with it.
 use Rattle.std.proofs.{Common.arith, lemmas.Grind.common_steps}
 use Rattle.rnxcmp_c.proofs.{LooseValues.{both, Loose, loose_good, loose_out}, PlaceValues.{word, place_in}}
-use Rattle.rnxcmp_c.proofs.RawWords.{List, [], ◌∷◌, ◌++◌, refl, sym, subst, Val, vptr, SProp, ent, emp, id⊢}
+use Rattle.rnxcmp_c.proofs.RawWords.{List, [], ◌∷◌, ◌++◌, refl, Val, vptr, SProp, emp}
 use Rattle.rnxcmp_c.proofs.RawWords.{ftrue, fsep, WpFn, ‵, raw, ◌⊛◌, ◌$◌, ◌∵◌, !, qed, move, keep, drop}
-use Rattle.rnxcmp_c.proofs.RawWords.{split, join, fsplit, fjoin, suffices, done, stop, fld, of_opd, no_more}
+use Rattle.rnxcmp_c.proofs.RawWords.{split, join, fsplit, fjoin, suffices, regoal, prop, done, stop, fld}
+use Rattle.rnxcmp_c.proofs.RawWords.{of_opd, no_more}
 use Rattle.rnxcmp_c.proofs.RawWords.{and_then, returns, enter, alloc_all, pass_all, free_all, look_at, get}
 use Rattle.rnxcmp_c.proofs.RawWords.{get_in, sets, agg, sub, whole, tables, yes, RattleType, plain, block_ptr}
 use Rattle.rnxcmp_c.proofs.RawWords.{nothing, says, Stays, stay_dropped, walk_of, ends_at, Goes-dropped}
@@ -22,13 +23,11 @@ of_spec 𝓤 𝓛 𝓜 𝓡 wired =
     let hs : Stays ended.signature.params ended.kept = (stay_dropped (plain (λ _. From)) yes, tt) in
     proved_at 𝓛 ended hs c 𝓜 𝓡 (grind (arith, common_steps, Goes-dropped, From)) #self code.function
     (code.unfolded 𝓤 H 𝓜 𝓡 wired) (λ z are.
-    let v = z.0.3.0 in let Post : Val → SProp 𝓤 =
-    (walk_of 𝓛 ended hs c).post z in let Run : List Val → SProp 𝓤 =
-    λ ws. WpFn 𝓤 H 𝓣.C 𝓣.Λ code.function ws Post in
+    let v = z.0.3.0 in let Post : Val → SProp 𝓤 = (walk_of 𝓛 ended hs c).post z in
     qed 𝓛 ((‵ ftrue ⊛ ‵ (fsep (From.own_val v z.0.4.0) ftrue)) ∷ raw (emp 𝓤) ∷ []) ∵ split ! $ drop !
     $ fsplit ! $ loose_out R Z LZ ghosts ! v z.0.4.0 (λ b o h e ws fits. let w : Val = both (vptr b o) h in
-    move ! (0 ∷ []) $ suffices ! (Run (w ∷ [])) (subst (λ (us : List Val). ent 𝓤 (Run (w ∷ [])) (Run us))
-    (sym (λ i. ws i ++ [])) (id⊢ 𝓤 (Run (w ∷ [])))) $ keep ! (0 ∷ []) $ enter ! 𝓣.C 𝓣.Λ code.function (w ∷ [])
+    move ! (0 ∷ []) $ regoal ! (λ (us : List Val). prop (WpFn 𝓤 H 𝓣.C 𝓣.Λ code.function us Post))
+    (λ i. ws i ++ []) refl $ keep ! (0 ∷ []) $ enter ! 𝓣.C 𝓣.Λ code.function (w ∷ [])
     Post $ alloc_all ! (λ l. pass_all ! refl (loose_good R Z LZ ghosts b o h fits, tt) $ sets !
     (of_opd ! (get_in ! (fld ! refl (stop !)) (sub ! 0 refl (whole !)))) refl (tt, tt) $ sets !
     (of_opd ! (get ! refl)) refl (tt, tt) $ sets ! (agg ! (and_then ! (get ! refl) (no_more !))) refl

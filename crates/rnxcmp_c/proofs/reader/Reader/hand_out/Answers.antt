@@ -13,4 +13,4 @@ returns-clause-stands c = λ task past stands.
     taken-stands task old past _ _ output _ (sym (take-append-drop _ _) ∙ ap (λ t. output ++ t)
     (sym c.hand_out.ensures.left)) (sym (take-append-drop _ _) ∙ ap (λ t. messages ++ t)
     (sym c.hand_out-2.ensures.left)) c.hand_out.ensures.counts.failures c.hand_out-2.ensures.counts.failures
-    stands
+    _ stands
