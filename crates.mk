@@ -16,8 +16,13 @@ files_of = $(shell find $(wildcard crates/$(1)/src crates/$(1)/specs crates/$(1)
 # What the longest chain of crates waits for last makes way for it: it is proved at a lower priority, in a job more than there are cores. (A
 # build on 2 cores takes two minutes less.)
 ASIDE := crx_runs crx_command
+# The two largest crates come when there is little else to prove: so each has a job for each core, up to 4, with 2 GB of memory for each.
+# (crx_compact takes 4 minutes on 2 cores so, and 6 by one job.)
+LARGE := crx_compact crx_filter
+CORES := $(shell awk -v n="$$(nproc)" '/^MemTotal/ { m = int($$2 / 2e6); if (m < n) n = m; print n < 1 ? 1 : n < 4 ? n : 4 }' /proc/meminfo)
 
-proof_of = @$(if $(filter $(1),$(ASIDE)),nice) tests/gate.py proof $(1) $(KIT)/bin/rattle build --crate-name $(1) src/$(2).rt --links $(1)= --jobs 1 \
+proof_of = @$(if $(filter $(1),$(ASIDE)),nice) tests/gate.py proof $(1) $(KIT)/bin/rattle build --crate-name $(1) src/$(2).rt --links $(1)= \
+    --jobs $(if $(filter $(1),$(LARGE)),$(CORES),1) \
     $(foreach it,std $(call uses_of,$(1)),--extern $(it)=$(if $(filter $(it),$(CRATES)),$(PROVED),$(KIT)/rlibs)/$(it).rlib) \
     -L dependency=$(KIT)/rlibs -L dependency=$(PROVED) --antt-project $(KIT)/rattle/logic/antt-project.json --logic-built $(KIT)/logic_built
 BACKEND = --toolchain $(KIT)/toolchain --backend llvm
