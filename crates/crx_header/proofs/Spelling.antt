@@ -29,20 +29,11 @@ index-within name e = grind (arith, common_steps)
 
 -- ---- what a table has
 
-pub zeros : (count k : ℕ) → get_or (replicate {A = ℕ} count 0) k 0 ≡ zero
-zeros (suc count) (suc k) = zeros count k
-zeros count k = grind (arith, common_steps)
+pub none-there : (count k : ℕ) → get_or (replicate {A = Bool} count false) k false ≡ false
+none-there (suc count) (suc k) = none-there count k
+none-there count k = grind (arith, common_steps)
 
-same-round : (round : ℕ) → (round == round) ≡ true
-same-round round = grind (arith, common_steps)
-
--- in a round that is later than all of its places, a table has none
-pub none-there : (rounds : List ℕ) (round : ℕ) → ((k : ℕ) → get_or rounds k 0 < round) → (k : ℕ)
-    → get_or (map (λ (r : ℕ). r == round) rounds) k false ≡ false
-none-there (r ∷ rounds) round before (suc k) = none-there rounds round (λ j. before (suc j)) k
-none-there rounds round before k = grind (arith, common_steps, before 0)
-
-put-there : (table : List Bool) (name other : List ℕ) → length table ≡ LETTERS * TENS * UNITS
+pub put-there : (table : List Bool) (name other : List ℕ) → length table ≡ LETTERS * TENS * UNITS
     → is_identifier name ≡ true → is_identifier other ≡ true
     → has_identifier (set table (index_of name) true) other
     ≡ (bytes_eq name other || has_identifier table other)
@@ -54,10 +45,3 @@ put-there table name other long e f = decided (bytes_eq name other) refl
         (rw (long) (index-within name e)))
     decided false is = get_or-set_other table (index_of name) (index_of other) true false
         (λ same. false≢true (sym is ∙ (bytes_eq-Decides name other).1 (index-apart name other e f (sym same))))
-
--- a round is noted at the place of an identifier
-pub noted : (rounds : List ℕ) (round : ℕ) (name other : List ℕ) → length rounds ≡ LETTERS * TENS * UNITS
-    → is_identifier name ≡ true → is_identifier other ≡ true
-    → has_identifier (map (λ (r : ℕ). r == round) (set rounds (index_of name) round)) other
-    ≡ (bytes_eq name other || has_identifier (map (λ (r : ℕ). r == round) rounds) other)
-noted rounds round name other long e f = grind (arith, common_steps, map-set, same-round, put-there)

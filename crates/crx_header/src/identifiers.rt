@@ -21,25 +21,19 @@ const TENS: usize = 11;
 /// How many the second may be.
 const UNITS: usize = 10;
 
-/// A set of identifiers, with a place for each that can be spelt: it asks for no memory. A round of it ends where all are taken out: this
-/// changes no place until the rounds have been counted up to 255, which saves a hundred instructions an epoch.
+/// A set of identifiers, with a place for each that can be spelt: it asks for no memory.
 #[derive(Drop)]
 pub struct Identifiers {
-    /// In which round each has come last.
-    rounds: [u8; LETTERS * TENS * UNITS],
-    /// The round, from 1.
-    round: u8,
+    /// Whether each is there.
+    there: [bool; LETTERS * TENS * UNITS],
 }
 
 impl Model for Identifiers {
-    ghost use Rattle.std.specs.Prelude.{Bool, List, ℕ, get_or, map, ◌==◌, ◌≤◌, ◌<◌};
+    ghost use Rattle.std.specs.Prelude.{Bool, List};
 
     ghost Value = { List Bool };
 
-    ghost view = { λ identifiers. map (λ (r : ℕ). r == identifiers.round) identifiers.rounds };
-
-    ghost invariant = { λ identifiers. (0 < identifiers.round)
-        × ((k : ℕ) → get_or identifiers.rounds k 0 ≤ identifiers.round) };
+    ghost view = { λ identifiers. identifiers.there };
 }
 
 impl Identifiers {
@@ -48,8 +42,7 @@ impl Identifiers {
         ensures empty { (name : List ℕ) → has_identifier result name ≡ false }
     {
         Identifiers {
-            rounds: [0; LETTERS * TENS * UNITS],
-            round: 1,
+            there: [false; LETTERS * TENS * UNITS],
         }
     }
 
@@ -57,12 +50,7 @@ impl Identifiers {
     pub fn clear(&mut self)
         ensures empty { (name : List ℕ) → has_identifier self.new name ≡ false }
     {
-        if self.round < u8::MAX {
-            self.round += 1;
-            return;
-        }
-        self.rounds = [0; LETTERS * TENS * UNITS];
-        self.round = 1;
+        self.there = [false; LETTERS * TENS * UNITS];
     }
 
     /// Puts an identifier in: `false` says that it was there.
@@ -74,8 +62,8 @@ impl Identifiers {
             → has_identifier self.new other ≡ (bytes_eq name other || has_identifier self.old other) }
     {
         let index = index_of(&name);
-        let is_new = self.rounds[index] != self.round;
-        self.rounds[index] = self.round;
+        let is_new = !self.there[index];
+        self.there[index] = true;
         is_new
     }
 }

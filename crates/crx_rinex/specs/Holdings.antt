@@ -34,10 +34,7 @@ row_buffer_with one other = record one {
 
 -- identifiers, with the parts of another
 abbrev pub identifiers_with : IdentifiersInside → IdentifiersInside → IdentifiersInside
-identifiers_with one other = record one {
-  rounds = other.rounds;
-  round = other.round;
-}
+identifiers_with one other = record one { there = other.there }
 
 -- an epoch line, with the parts of another
 abbrev pub epoch_line_with : EpochLineInside → EpochLineInside → EpochLineInside
