@@ -1,0 +1,60 @@
+-- An arc, whoever wrote it: its code gives its newest value, and leaves its tail.
+use Rattle.crx_compact.proofs.Words.{◌≡◌, refl, ℕ, ℤ, List, [], ◌∷◌, Option, Some, None, Ok, ap, sym, ◌∙◌, arith, length, min}
+use Rattle.crx_compact.proofs.Words.{subst, inl, inr, ◌⊎◌, code_at, difference, value_of_code, arc_of_code, differences_of, values_of}
+use Rattle.crx_compact.proofs.Words.{IsWithin, IsMissingOrWithin, ArcTail, Step, Start, in_range, Result, Fault}
+use Rattle.crx_compact.proofs.arcs.Inversion.{numbers_of, value-numbers}
+use Rattle.crx_compact.proofs.arcs.Stepping.{values-by_tail, first-differences}
+use Rattle.crx_compact.proofs.arcs.{Weights.difference-zero, Bounds.within-is}
+use Rattle.crx_compact.specs.ArcSteps.{arc_after_number, value_of_tail}
+use Rattle.crx_compact.specs.meaning.AnyWriter.{Arc, code_now, arc_before, MayFollow}
+use Rattle.crx_compact.specs.AnyWriter.{value_now, arc_left}
+
+pub record Goes (width : ℕ) (before now : Option Arc) : Type 0 where
+  pub value : value_of_code width (code_now now) (arc_left before) ≡ Ok (value_now now)
+  pub leaves : arc_of_code (code_now now) (arc_left before) ≡ arc_left now
+
+pub values-back : (n : ℕ) (xs : List ℤ) → values_of n (numbers_of n xs) ≡ xs
+values-back n [] = refl
+values-back n (x ∷ xs) = cc (value-numbers n xs x, values-back n xs)
+
+abbrev pub tail_at : ℕ → List ℤ → ArcTail
+tail_at n xs = record { order = n; differences = differences_of n xs }
+
+-- one value more
+step : (n : ℕ) (x y : ℤ) (ys : List ℤ)
+    → arc_after_number (difference (min (length (y ∷ ys)) n) (x ∷ y ∷ ys)) (tail_at n (y ∷ ys)) ≡ tail_at n (x ∷ y ∷ ys)
+step n x y ys =
+    let d = difference (min (length (y ∷ ys)) n) (x ∷ y ∷ ys) in
+    let c = difference (min (length ys) n) (y ∷ ys) in
+    let tails = (values-by_tail n d c (numbers_of n ys)).tail in
+    ap (λ vs. arc_after_number d (tail_at n vs)) (sym (values-back n (y ∷ ys)))
+    ∙ sym tails ∙ ap (tail_at n) (values-back n (x ∷ y ∷ ys))
+
+within : (width : ℕ) (x : ℤ) → IsWithin width x → in_range width x ≡ Ok (Some x)
+within width x h = cc ((within-is width x).1 h)
+
+next : (width n : ℕ) (x y : ℤ) (ys : List ℤ) → IsWithin width x
+    → Goes width (Some (record { order = n; newest = y; older = ys })) (Some (record { order = n; newest = x; older = y ∷ ys }))
+next width n x y ys h = record {
+  value = ap (λ t. in_range width (value_of_tail t)) (step n x y ys)
+      ∙ ap (in_range width) (difference-zero x (y ∷ ys)) ∙ within width x h;
+  leaves = ap {B = Option ArcTail} Some (step n x y ys);
+}
+
+first : (width n : ℕ) (x : ℤ) (before : Option Arc) → IsWithin width x
+    → Goes width before (Some (record { order = n; newest = x; older = [] }))
+first width n x before h = record { value = within width x h; leaves = cc (first-differences n x) }
+
+by_older : (width n : ℕ) (x : ℤ) (older : List ℤ) (before : Option Arc) → IsWithin width x
+    → MayFollow before (Some (record { order = n; newest = x; older = older }))
+    → Goes width before (Some (record { order = n; newest = x; older = older }))
+by_older width n x [] before h f = first width n x before h
+by_older width n x (y ∷ ys) before h (inl e) = absurd (cc e)
+by_older width n x (y ∷ ys) before h (inr e) =
+    subst (λ b. Goes width b (Some (record { order = n; newest = x; older = y ∷ ys }))) e (next width n x y ys h)
+
+-- whatever was there, and whichever choice was made
+pub goes : (width : ℕ) (before now : Option Arc) → MayFollow before now → IsMissingOrWithin width (value_now now)
+    → Goes width before now
+goes width before None f h = record { value = refl; leaves = refl }
+goes width before (Some arc) f h = by_older width arc.order arc.newest arc.older before h f

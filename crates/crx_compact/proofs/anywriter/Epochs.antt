@@ -1,0 +1,138 @@
+-- The lines of an epoch, whoever wrote them, read as that epoch.
+use Rattle.crx_compact.proofs.Words.{◌≡◌, refl, ℕ, List, [], ◌∷◌, ◌++◌, Bool, true, false, Option, Some, None, Ok, map, length, arith, ap, sym, ◌∙◌, ◌*◌, ◌+◌, ◌<◌, drop, subst}
+use Rattle.crx_compact.proofs.Words.{list_all, AllByRecursion, length-map, option_map, rules, common_steps, unwrap_or, few_kept, if◌then◌else◌}
+use Rattle.crx_compact.proofs.Words.{Count, Row, Epoch, IsWholeEpoch, are_different, epoch_text, columns, at, at-without_end_blanks, without_end_blanks, patched, is_printable}
+use Rattle.crx_compact.proofs.Words.{ReadLine, Content, Done, Place, then_place, RawRow, RawEpoch, ReadRow, ReadEpoch, ReadCell, rows_read, epoch_at, epoch_after, clock_line_read}
+use Rattle.crx_compact.proofs.Words.{Satellite, satellites_of_text, satellites_of_line, begins_epoch, past_of_tail, Past, Tail, RowTail, no_tail, tail_left, tail_for_line}
+use Rattle.crx_compact.proofs.Words.{raw_row_tail_after, raw_tail_after, tail_named, CLOCK_WIDTH, arc_of_code, code_of, ArcTail}
+use Rattle.crx_compact.proofs.{SoundTexts.{patched-trimmed, first-columns}, Identifiers.none-earlier}
+use Rattle.crx_compact.proofs.reading.RawTailing.{place-by_tail, left-by_tail}
+use Rattle.crx_compact.proofs.soundness.Soundness.{reads-soundly}
+use Rattle.crx_compact.proofs.wayback.Facts.{IsTypedRow, typed-rows, head-counted, text-kept, text-head, length-text, text-names, names-read, satellites-good, satellites_of_rows}
+use Rattle.crx_compact.proofs.wayback.Reading.{text-other, text-columns, text-good}
+use Rattle.std.proofs.Common.{drop_of_length-le}
+use Rattle.crx_compact.specs.meaning.AnyWriter.{Arc, WrittenRow, WrittenEpoch, code_now, row_now, epoch_now, goes_on_from, nothing_written, AreRowLines, AreLinesAfter, AreEpochLines}
+use Rattle.crx_compact.specs.AnyWriter.{value_now, arc_left, row_left, epoch_left, RowReads, EpochReads, ReadsAnyEpoch}
+use Rattle.crx_compact.proofs.anywriter.{Arcs.{Goes, goes}, Rows.{any-row, marks-printable}, Texts.spelled-characters}
+
+-- ---- the satellites' lines
+
+abbrev satellites_written : List WrittenRow → List Satellite
+satellites_written rows = map (λ (r : WrittenRow). record { name = r.name; count = length r.arcs }) rows
+
+satellites-same : (rows : List WrittenRow) → satellites_of_rows (map row_now rows) ≡ satellites_written rows
+satellites-same [] = refl
+satellites-same (r ∷ rs) = cc (length-map r.arcs value_now, satellites-same rs)
+
+record RowsRead (base : WrittenEpoch) (rows : List WrittenRow) (lines : List (List ℕ)) : Type 0 where
+  reads : List ReadRow
+  place : (rest : List ReadLine) → rows_read (past_of_tail (epoch_left base)) (satellites_written rows)
+      (map Content lines ++ rest) ≡ Done reads (length rows)
+  shown : map (λ (r : ReadRow). r.row) reads ≡ map row_now rows
+  leaves : map (λ (r : RawRow). raw_row_tail_after (tail_named r.name (epoch_left base)) r) (map (λ (r : ReadRow). r.raw) reads)
+      ≡ map row_left rows
+
+rows-read : (types : List Count) (base : WrittenEpoch) (rows : List WrittenRow) (lines : List (List ℕ))
+    → AllByRecursion (IsTypedRow types) (map row_now rows) → AreRowLines base rows lines → RowsRead base rows lines
+rows-read types base [] [] h k = record { reads = []; place = λ rest. refl; shown = refl; leaves = refl }
+rows-read types base [] (line ∷ lines) h k = absurd k
+rows-read types base (r ∷ rs) [] h k = absurd k
+rows-read types base (r ∷ rs) (line ∷ lines) h k =
+    let first = any-row base r line h.0.0 k.0 in
+    let others = rows-read types base rs lines h.1 k.1 in
+    let count : 1 + (length rs + 0) ≡ length (r ∷ rs) = omega arith in
+    record {
+      reads = first.read ∷ others.reads;
+      place = λ rest. rw (first.reads, others.place rest) (ap {B = Place (List ReadRow)} (λ n. Done (first.read ∷ others.reads) n) count);
+      shown = cc (first.row, others.shown);
+      leaves = cc (first.leaves, others.leaves);
+    }
+
+-- ---- the epoch line
+
+pub base-found : (before : Option WrittenEpoch) (line : List ℕ)
+    → tail_for_line (option_map epoch_left before) line ≡ option_map epoch_left (goes_on_from before line)
+base-found before line = pick (begins_epoch line)
+  where
+    pick : (b : Bool) → (if b then Some no_tail else option_map epoch_left before)
+        ≡ option_map epoch_left (if b then Some nothing_written else before)
+    pick true = refl
+    pick false = refl
+
+-- ---- the epoch
+
+module _ (types : List Count) (base now : WrittenEpoch) (line clock : List ℕ) (lines : List (List ℕ))
+    (whole : IsWholeEpoch types (epoch_now now)) (h : AreLinesAfter base now line clock lines) where
+  text-made : patched (without_end_blanks (epoch_text (epoch_now base))) line
+      ≡ without_end_blanks (epoch_text (epoch_now now))
+  text-made = patched-trimmed (epoch_text (epoch_now base)) line ∙ h.marked
+
+  printable : list_all is_printable line ≡ true
+  printable = marks-printable (epoch_text (epoch_now base)) line (epoch_text (epoch_now now)) h.marked
+      (text-kept types (epoch_now now) whole)
+
+  satellites : satellites_of_line types (past_of_tail (epoch_left base)) line ≡ Ok (satellites_written now.rows)
+  satellites = rw (printable, text-made) (text-good types (epoch_now now) whole ∙ ap Ok (satellites-same now.rows))
+
+  clock-other : begins_epoch clock ≡ false
+  clock-other = ap (λ c. begins_epoch (c ∷ [])) (sym (at-without_end_blanks clock 0))
+      ∙ text-other (without_end_blanks clock) (spelled-characters (without_end_blanks clock) (code_now now.clock) h.spelled)
+
+  clock-goes : Goes CLOCK_WIDTH base.clock now.clock
+  clock-goes = goes CLOCK_WIDTH base.clock now.clock h.follows whole.sound.head_sound.ranged
+
+  clock-good : clock_line_read (past_of_tail (epoch_left base)) clock
+      ≡ Ok (record { code = code_now now.clock; value = value_now now.clock })
+  clock-good = rw (clock-other, h.spelled, clock-goes.value) refl
+
+  rows-good : RowsRead base now.rows lines
+  rows-good = rows-read types base now.rows lines (typed-rows types (epoch_now now) whole) h.satellites
+
+  abbrev raw : RawEpoch
+  raw = record { line = line; clock = code_now now.clock; rows = map (λ (r : ReadRow). r.raw) rows-good.reads }
+
+  epoch-reads : (tail : Option Tail) (rest : List ReadLine) → tail_for_line tail line ≡ Some (epoch_left base)
+      → epoch_after types tail (map Content (line ∷ clock ∷ lines) ++ rest)
+      ≡ Done (record { raw = raw; epoch = epoch_now now }) (2 + length now.rows)
+  epoch-reads tail rest e =
+      let count : 1 + (1 + (length now.rows + 0)) ≡ 2 + length now.rows = omega arith in
+      rw (
+        e,
+        satellites,
+        clock-good,
+        rows-good.place rest,
+        rows-good.shown,
+        text-made,
+        text-columns types (epoch_now now) whole,
+        count,
+      ) refl
+
+  tail-next : raw_tail_after (epoch_left base) raw ≡ epoch_left now
+  tail-next = cc (text-made, clock-goes.leaves, rows-good.leaves)
+
+by_parts : (types : List Count) (before : Option WrittenEpoch) (raws : List RawEpoch) (base now : WrittenEpoch)
+    (line clock : List ℕ) (lines : List (List ℕ)) → tail_left raws ≡ option_map epoch_left before
+    → IsWholeEpoch types (epoch_now now) → goes_on_from before line ≡ Some base → AreLinesAfter base now line clock lines
+    → EpochReads types raws now (line ∷ clock ∷ lines)
+by_parts types before raws base now line clock lines left whole found h =
+    let e : tail_for_line (tail_left raws) line ≡ Some (epoch_left base) =
+    ap (λ t. tail_for_line t line) left ∙ base-found before line ∙ ap (option_map epoch_left) found in
+    let here : (rest : List ReadLine) → epoch_at types raws (map Content (line ∷ clock ∷ lines) ++ rest)
+    ≡ Done (record { raw = raw types base now line clock lines whole h; epoch = epoch_now now }) (2 + length now.rows) =
+    λ rest. place-by_tail types raws (map Content (line ∷ clock ∷ lines) ++ rest)
+    ∙ epoch-reads types base now line clock lines whole h (tail_left raws) rest e in
+    let single = (reads-soundly types raws (map Content (line ∷ clock ∷ lines) ++ [])
+    (record { raw = raw types base now line clock lines whole h; epoch = epoch_now now }) (2 + length now.rows) (here [])).single in
+    record {
+      raw = raw types base now line clock lines whole h;
+      reads = here;
+      leaves = left-by_tail (raw types base now line clock lines whole h) raws single
+          ∙ ap {B = Option Tail} (λ t. Some (raw_tail_after (unwrap_or t no_tail) (raw types base now line clock lines whole h))) e
+          ∙ ap {B = Option Tail} Some (tail-next types base now line clock lines whole h);
+    }
+
+pub any-epoch : ReadsAnyEpoch
+any-epoch types before raws now [] left whole h = absurd h
+any-epoch types before raws now (line ∷ []) left whole h = absurd h
+any-epoch types before raws now (line ∷ clock ∷ lines) left whole h =
+    by_parts types before raws h.0 now line clock lines left whole h.1 h.2

@@ -1,0 +1,253 @@
+-- Our own writer's epochs are ones that any writer may write.
+use Rattle.crx_compact.proofs.Words.{◌≡◌, ◌≢◌, refl, ℕ, ℤ, zero, suc, List, [], ◌∷◌, ◌++◌, Bool, true, false, Option, Some, None, Ok, map, length, arith, ap, sym, ◌∙◌, ◌*◌, ◌+◌, ◌≤◌, ◌<◌, drop, subst, inl, inr}
+use Rattle.crx_compact.proofs.Words.{list_all, AllByRecursion, length-map, option_map, rules, common_steps, flat_map, if◌then◌else◌, slice_index_or, get_or_past}
+use Rattle.crx_compact.proofs.Words.{Count, Row, Epoch, Marked, AreWhole, IsWholeEpoch, epoch_text, newest_text, since_full, run_of, arc_of, clock_arc, row_named, back_to, stretch, named, value_in, codes_of, indicators_before, satellite_line, epoch_line, compact_epoch}
+use Rattle.crx_compact.proofs.Words.{at, at-without_end_blanks, at-drop, list_all-from_at, without_end_blanks, patched, character_of, by_position, mark_of, text_difference, is_blank, begins_epoch, nat_eq}
+use Rattle.crx_compact.proofs.Words.{Code, code_at, code_of, code_text, cell_text, code_of-code_text, IsPrintable, WRITTEN_ORDER, each_place, map-each_place, index-each_place, each_place-same, length-each_place}
+use Rattle.crx_compact.proofs.Characters.{same_characters, at-by_position}
+use Rattle.crx_compact.proofs.Identifiers.{each-own}
+use Rattle.crx_compact.proofs.Words.{and_parts}
+use Rattle.crx_compact.proofs.wayback.Cells.{is_code_character, code-characters}
+use Rattle.crx_compact.proofs.wayback.Overlays.{character-mark, at_past}
+use Rattle.crx_compact.proofs.wayback.Runs.{IsUnmarked, marked, rows_before, named-made, begins_full, begins_later}
+use Rattle.crx_compact.proofs.wayback.Rows.{IsRowOf, run-begins, rows-of_run, run-printable, clock-printable, values-again}
+use Rattle.crx_compact.proofs.wayback.Reading.{no-end_blanks}
+use Rattle.crx_compact.proofs.wayback.Facts.{IsTypedRow, typed-rows, unmarked, text-kept, text-begins, at-difference}
+use Rattle.crx_compact.specs.AnyWriter.{value_now}
+use Rattle.crx_compact.specs.meaning.AnyWriter.{Arc, WrittenRow, WrittenEpoch, code_now, arc_before, MayFollow, row_now, epoch_now, goes_on_from, nothing_written, arc_in, flags_in, IsRowLine, AreRowLines, AreLinesAfter, AreEpochLines}
+
+-- ---- arcs
+
+abbrev pub arc_written : List ℤ → Option Arc
+arc_written [] = None
+arc_written (x ∷ xs) = Some (record { order = WRITTEN_ORDER; newest = x; older = xs })
+
+code-written : (xs : List ℤ) → code_now (arc_written xs) ≡ code_at WRITTEN_ORDER xs
+code-written [] = refl
+code-written (x ∷ xs) = refl
+
+before-written : (x : ℤ) (xs : List ℤ) → arc_before (record { order = WRITTEN_ORDER; newest = x; older = xs }) ≡ arc_written xs
+before-written x [] = refl
+before-written x (y ∷ ys) = refl
+
+follow : (o : Option ℤ) (os : List (Option ℤ)) → MayFollow (arc_written (stretch os)) (arc_written (stretch (o ∷ os)))
+follow None os = tt
+follow (Some x) os = inr (before-written x (stretch os))
+
+value-written : (o : Option ℤ) (os : List (Option ℤ)) → value_now (arc_written (stretch (o ∷ os))) ≡ o
+value-written None os = refl
+value-written (Some x) os = refl
+
+-- ---- epochs
+
+abbrev pub row_written : List Row → Row → WrittenRow
+row_written run row =
+    record { name = row.name; arcs = each_place (length row.values) (λ j. arc_written (arc_of j run)); flags = row.flags }
+
+abbrev pub epoch_written : Marked → List Marked → WrittenEpoch
+epoch_written m older =
+    record {
+      head = m.epoch.head;
+      clock = arc_written (clock_arc (m ∷ older));
+      rows = map (λ (r : Row). row_written (run_of r.name (m ∷ older)) r) m.epoch.rows;
+    }
+
+row-same : (r : Row) (rs : List Row) → row_now (row_written (r ∷ rs) r) ≡ r
+row-same r rs =
+    let values : map value_now (each_place (length r.values) (λ j. arc_written (arc_of j (r ∷ rs)))) ≡ r.values =
+    map-each_place value_now (length r.values) (λ j. arc_written (arc_of j (r ∷ rs)))
+    ∙ each_place-same (length r.values) (λ j. value_now (arc_written (arc_of j (r ∷ rs)))) (λ j. value_in j r)
+    (λ j. value-written (value_in j r) (map (value_in j) rs))
+    ∙ values-again r.values in
+    ap {B = Row} (λ vs. record { name = r.name; values = vs; flags = r.flags }) values
+
+module _ (full : Bool) (e : Epoch) (older : List Marked) where
+  rows-same : (rows : List Row) → AllByRecursion (λ (r : Row). row_named r.name e.rows ≡ Some r) rows
+      → map row_now (map (λ (r : Row). row_written (run_of r.name (marked full e ∷ older)) r) rows) ≡ rows
+  rows-same [] h = refl
+  rows-same (r ∷ rs) h =
+      let first : row_now (row_written (run_of r.name (marked full e ∷ older)) r) ≡ r =
+      ap (λ run. row_now (row_written run r)) (run-begins full e older r h.0) ∙ row-same r (rows_before full r.name older) in
+      cc (first, rows-same rs h.1)
+
+pub epoch-same : (types : List Count) (full : Bool) (e : Epoch) (older : List Marked) → IsWholeEpoch types e
+    → epoch_now (epoch_written (marked full e) older) ≡ e
+epoch-same types full e older h =
+    let rows = rows-same full e older e.rows (each-own (λ (r : Row). r.name) e.rows h.sound.apart) in
+    let clock = value-written e.clock (map (λ (q : Epoch). q.clock) (map (λ (m : Marked). m.epoch)
+    (if full then [] else back_to (λ (m : Marked). m.in_full) older))) in
+    ap {B = Epoch} (λ c. record { head = e.head; clock = c; rows = map row_now (map (λ (r : Row). row_written (run_of r.name (marked full e ∷ older)) r) e.rows) }) clock
+    ∙ ap {B = Epoch} (λ rs. record { head = e.head; clock = e.clock; rows = rs }) rows
+
+-- ---- what the epoch before holds of a satellite
+
+abbrev base_of : Bool → List Marked → WrittenEpoch
+base_of true older = nothing_written
+base_of false [] = nothing_written
+base_of false (m ∷ older) = epoch_written m older
+
+abbrev found_in : WrittenEpoch → List ℕ → Option WrittenRow
+found_in base name = named (λ (r : WrittenRow). r.name) name base.rows
+
+found-written : (name : List ℕ) (m : Marked) (older : List Marked) → found_in (epoch_written m older) name
+    ≡ option_map (row_written (run_of name (m ∷ older))) (row_named name m.epoch.rows)
+found-written name m older = named-made (λ (r : Row). r.name) (λ (t : WrittenRow). t.name)
+    (λ n r. row_written (run_of n (m ∷ older)) r) (λ n r. refl) name m.epoch.rows
+
+arc-found : (rest : List (Option Row)) (found : Option Row) (j : ℕ)
+    → arc_in (option_map (row_written (stretch (found ∷ rest))) found) j ≡ arc_written (arc_of j (stretch (found ∷ rest)))
+arc-found rest None j = refl
+arc-found rest (Some r) j = search (rules, index-each_place, get_or_past)
+
+arc-left : (full : Bool) (name : List ℕ) (older : List Marked) (j : ℕ)
+    → arc_in (found_in (base_of full older) name) j ≡ arc_written (arc_of j (rows_before full name older))
+arc-left true name older j = refl
+arc-left false name [] j = refl
+arc-left false name (m ∷ older) j = ap (λ f. arc_in f j) (found-written name m older) ∙ arc-found _ (row_named name m.epoch.rows) j
+
+flags-found : (rest : List (Option Row)) (found : Option Row) (r : Row)
+    → flags_in (option_map (row_written (stretch (found ∷ rest))) found) ≡ indicators_before (r ∷ stretch (found ∷ rest))
+flags-found rest None r = refl
+flags-found rest (Some q) r = refl
+
+flags-left : (full : Bool) (name : List ℕ) (older : List Marked) (r : Row)
+    → flags_in (found_in (base_of full older) name) ≡ indicators_before (r ∷ rows_before full name older)
+flags-left true name older r = refl
+flags-left false name [] r = refl
+flags-left false name (m ∷ older) r = ap flags_in (found-written name m older) ∙ flags-found _ (row_named name m.epoch.rows) r
+
+-- ---- a satellite's line
+
+abbrev codes_at : List Row → ℕ → Code
+codes_at run j = code_at WRITTEN_ORDER (arc_of j run)
+
+spelled-each : (n : ℕ) (f : ℕ → Code) (a : ℕ → Option Arc) → ((j : ℕ) → IsPrintable (f j)) → ((j : ℕ) → code_now (a j) ≡ f j)
+    → map code_of (map code_text (each_place n f)) ≡ map (λ (arc : Option Arc). Some (code_now arc)) (each_place n a)
+spelled-each zero f a p h = refl
+spelled-each (suc n) f a p h =
+    cc (code_of-code_text (f 0) (p 0), h 0, spelled-each n (λ j. f (suc j)) (λ j. a (suc j)) (λ j. p (suc j)) (λ j. h (suc j)))
+
+texts-same : (codes : List Code) → flat_map (λ (t : List ℕ). t ++ 32 ∷ []) (map code_text codes) ≡ flat_map cell_text codes
+texts-same [] = refl
+texts-same (c ∷ cs) = cc (texts-same cs)
+
+patched-again : (old new : List ℕ) → IsUnmarked new → patched old (text_difference old new) ≡ without_end_blanks new
+patched-again old new h = search (rules, same_characters, at-by_position, at-without_end_blanks, character-mark)
+
+trimmed-again : (text : List ℕ) → without_end_blanks (without_end_blanks text) ≡ without_end_blanks text
+trimmed-again text = same_characters (without_end_blanks text) text (λ p. at-without_end_blanks text p)
+
+before-short : (types : List Count) (name : List ℕ) (r : Row) (rs : List Row) → AllByRecursion (IsRowOf types name) (r ∷ rs)
+    → length (indicators_before (r ∷ rs)) ≤ 2 * length r.values
+before-short types name r [] h = omega arith
+before-short types name r (q ∷ qs) h = grind arith
+
+blank-mark : (a b : ℕ) → a ≡ 32 → b ≡ 32 → is_blank (mark_of a b) ≡ true
+blank-mark a b e f = grind (arith, e, f)
+
+no-more : (n : ℕ) (old new : List ℕ) → length old ≤ n → length new ≤ n
+    → list_all is_blank (drop n (text_difference old new)) ≡ true
+no-more n old new h k = list_all-from_at is_blank (drop n (text_difference old new)) (λ p.
+    ap is_blank (at-drop n (text_difference old new) p ∙ at-difference old new (n + p))
+    ∙ blank-mark (at old (n + p)) (at new (n + p)) (at_past old (n + p) (omega (arith, h))) (at_past new (n + p) (omega (arith, k))))
+
+follows-at : (before : Option Arc) (n : ℕ) (a : ℕ → Option Arc) (j : ℕ) → MayFollow before (a j)
+    → MayFollow before (slice_index_or (each_place n a) j None)
+follows-at before zero a j h = tt
+follows-at before (suc n) a zero h = h
+follows-at before (suc n) a (suc j) h = follows-at before n (λ i. a (suc i)) j h
+
+row-line : (types : List Count) (found : Option WrittenRow) (r : Row) (rs : List Row)
+    → AllByRecursion (IsRowOf types r.name) (r ∷ rs)
+    → ((j : ℕ) → arc_in found j ≡ arc_written (arc_of j rs)) → flags_in found ≡ indicators_before (r ∷ rs)
+    → IsRowLine found (row_written (r ∷ rs) r) (satellite_line (r ∷ rs) r)
+row-line types found r rs h arcs flags =
+    let n = length r.values in
+    let marks = text_difference (indicators_before (r ∷ rs)) r.flags in
+    let many : length (each_place n (λ j. arc_written (arc_of j (r ∷ rs)))) ≡ n = length-each_place n _ in
+    record {
+      texts = map code_text (codes_of n (r ∷ rs));
+      marks = marks;
+      spelled = spelled-each n (codes_at (r ∷ rs)) (λ j. arc_written (arc_of j (r ∷ rs)))
+          (run-printable types r.name (r ∷ rs) h) (λ j. code-written (arc_of j (r ∷ rs)));
+      written = trimmed-again (flat_map cell_text (codes_of n (r ∷ rs)) ++ marks)
+          ∙ ap (λ t. without_end_blanks (t ++ marks)) (sym (texts-same (codes_of n (r ∷ rs))));
+      marked = ap (λ t. patched t marks) flags ∙ patched-again (indicators_before (r ∷ rs)) r.flags
+          (unmarked r.flags h.0.is_row.0.kept);
+      no_more = ap (λ k. list_all is_blank (drop (2 * k) marks)) many ∙ no-more (2 * n) (indicators_before (r ∷ rs)) r.flags
+          (before-short types r.name r rs h) (omega (arith, h.0.is_row.0.paired));
+      follows = λ j. follows-at (arc_in found j) n (λ i. arc_written (arc_of i (r ∷ rs))) j
+          (subst (λ b. MayFollow b (arc_written (arc_of j (r ∷ rs)))) (sym (arcs j))
+          (follow (value_in j r) (map (value_in j) rs)));
+    }
+
+module _ (types : List Count) (full : Bool) (e : Epoch) (older : List Marked)
+    (h : AreWhole types (since_full (marked full e ∷ older))) where
+  row-here : (r : Row) → row_named r.name e.rows ≡ Some r → IsRowLine (found_in (base_of full older) r.name)
+      (row_written (run_of r.name (marked full e ∷ older)) r) (satellite_line (run_of r.name (marked full e ∷ older)) r)
+  row-here r own =
+      subst (λ run. IsRowLine (found_in (base_of full older) r.name) (row_written run r) (satellite_line run r))
+      (sym (run-begins full e older r own))
+      (row-line types (found_in (base_of full older) r.name) r (rows_before full r.name older)
+      (rows-of_run types full e older h r own) (arc-left full r.name older) (flags-left full r.name older r))
+
+  rows-here : (rows : List Row) → AllByRecursion (λ (r : Row). row_named r.name e.rows ≡ Some r) rows
+      → AreRowLines (base_of full older) (map (λ (r : Row). row_written (run_of r.name (marked full e ∷ older)) r) rows)
+      (map (λ (r : Row). satellite_line (run_of r.name (marked full e ∷ older)) r) rows)
+  rows-here [] own = tt
+  rows-here (r ∷ rs) own = (row-here r own.0, rows-here rs own.1)
+
+-- ---- an epoch's lines
+
+old-same : (types : List Count) (full : Bool) (e : Epoch) (older : List Marked)
+    → AreWhole types (since_full (marked full e ∷ older))
+    → epoch_text (epoch_now (base_of full older)) ≡ (if full then [] else newest_text older)
+old-same types true e older h = refl
+old-same types false e [] h = refl
+old-same types false e (m ∷ older) h = ap epoch_text (epoch-same types m.in_full m.epoch older h.1.0)
+
+clock-left : (full : Bool) (older : List Marked) → (base_of full older).clock ≡ arc_written (stretch
+    (map (λ (q : Epoch). q.clock) (map (λ (m : Marked). m.epoch) (if full then [] else back_to (λ (m : Marked). m.in_full) older))))
+clock-left true older = refl
+clock-left false [] = refl
+clock-left false (m ∷ older) = refl
+
+lines-after : (types : List Count) (full : Bool) (e : Epoch) (older : List Marked)
+    → AreWhole types (since_full (marked full e ∷ older))
+    → AreLinesAfter (base_of full older) (epoch_written (marked full e) older) (epoch_line (marked full e) older)
+    (code_text (code_at WRITTEN_ORDER (clock_arc (marked full e ∷ older))))
+    (map (λ (r : Row). satellite_line (run_of r.name (marked full e ∷ older)) r) e.rows)
+lines-after types full e older h =
+    let code = code_at WRITTEN_ORDER (clock_arc (marked full e ∷ older)) in
+    let printable = clock-printable types (since_full (marked full e ∷ older)) h in
+    let clocks = map (λ (q : Epoch). q.clock) (map (λ (m : Marked). m.epoch)
+    (if full then [] else back_to (λ (m : Marked). m.in_full) older)) in
+    record {
+      marked = ap (λ t. patched t (epoch_line (marked full e) older)) (old-same types full e older h)
+          ∙ patched-again (if full then [] else newest_text older) (epoch_text e) (unmarked (epoch_text e) (text-kept types e h.0))
+          ∙ ap (λ q. without_end_blanks (epoch_text q)) (sym (epoch-same types full e older h.0));
+      spelled = ap code_of (no-end_blanks (code_text code) (code-characters code printable))
+          ∙ code_of-code_text code printable ∙ ap {B = Option Code} Some (sym (code-written (clock_arc (marked full e ∷ older))));
+      follows = subst (λ b. MayFollow b (arc_written (clock_arc (marked full e ∷ older)))) (sym (clock-left full older))
+          (follow e.clock clocks);
+      satellites = rows-here types full e older h e.rows (each-own (λ (r : Row). r.name) e.rows h.0.sound.apart);
+    }
+
+-- an epoch in full, after any other or none; and one that goes on from the epoch before
+pub full-lines : (types : List Count) (e : Epoch) (older : List Marked) (before : Option WrittenEpoch)
+    → AreWhole types (since_full (marked true e ∷ older))
+    → AreEpochLines before (epoch_written (marked true e) older) (compact_epoch (marked true e ∷ older))
+full-lines types e older before h =
+    let begins : begins_epoch (epoch_line (marked true e) older) ≡ true = begins_full (epoch_text e) (text-begins types e h.0) in
+    (nothing_written, ap (λ b. if b then Some nothing_written else before) begins, lines-after types true e older h)
+
+pub later-lines : (types : List Count) (e : Epoch) (m : Marked) (older : List Marked)
+    → AreWhole types (since_full (marked false e ∷ m ∷ older))
+    → AreEpochLines (Some (epoch_written m older)) (epoch_written (marked false e) (m ∷ older)) (compact_epoch (marked false e ∷ m ∷ older))
+later-lines types e m older h =
+    let other : begins_epoch (epoch_line (marked false e) (m ∷ older)) ≡ false =
+    begins_later (epoch_text m.epoch) (epoch_text e) (text-begins types m.epoch h.1.0) (text-begins types e h.0) in (
+      epoch_written m older,
+      ap (λ b. if b then Some nothing_written else Some (epoch_written m older)) other,
+      lines-after types false e (m ∷ older) h,
+    )

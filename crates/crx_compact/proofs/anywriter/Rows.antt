@@ -1,0 +1,233 @@
+-- A satellite's line, whoever wrote it, reads as its row.
+use Rattle.crx_compact.proofs.Words.{◌≡◌, refl, ℕ, ℤ, zero, suc, List, [], ◌∷◌, Bool, true, false, Option, Some, None, Result, Ok, map, length, arith, ap, sym, ◌∙◌, ◌*◌, ◌+◌, ◌<◌, drop, take}
+use Rattle.crx_compact.proofs.Words.{list_all, All, All-head, All-tail, length-map, slice_index_or, option_map, rules, common_steps, take_all, and_parts, and_from}
+use Rattle.crx_compact.proofs.Words.{Code, Missing, Fault, code_of, cells_of, after_cells, cells_read, ReadCell, code_in, IsValue, OBSERVATION_WIDTH}
+use Rattle.crx_compact.proofs.Words.{without_end_blanks, patched, character_of, by_position, at, at-without_end_blanks, at-drop, list_all-from_at, is_blank, is_kept, is_printable, are_marks}
+use Rattle.crx_compact.proofs.Words.{IsSoundRow, satellite_line_read, row_of_cells, past_of_tail, raw_row_tail_after, tail_named, cell_of_tail, flags_of_tail, flags_held}
+use Rattle.crx_compact.proofs.Words.{value_of_code, arc_of_code, ArcTail, RowTail, named, each_place, begins_epoch, columns, ReadRow}
+use Rattle.crx_compact.proofs.Characters.{same_characters, at-by_position, list_all-at}
+use Rattle.crx_compact.proofs.SoundTexts.{patched-trimmed, first-columns, same-cut}
+use Rattle.crx_compact.proofs.wayback.Runs.{named-made}
+use Rattle.crx_compact.specs.meaning.AnyWriter.{Arc, WrittenRow, WrittenEpoch, code_now, row_now, arc_in, flags_in, IsRowLine, MayFollow}
+use Rattle.crx_compact.specs.AnyWriter.{value_now, arc_left, row_left, epoch_left, RowReads, ReadsAnyRow}
+use Rattle.crx_compact.proofs.anywriter.Arcs.{Goes, goes}
+use Rattle.crx_compact.proofs.anywriter.Texts.{AreTexts, spelled-characters, cells-again, marks-again, line-other}
+
+abbrev codes_wanted : List (Option Arc) → List (Option Code)
+codes_wanted arcs = map (λ (arc : Option Arc). Some (code_now arc)) arcs
+
+abbrev arc_at : List (Option Arc) → ℕ → Option Arc
+arc_at arcs j = slice_index_or arcs j None
+
+-- ---- what the epoch before left of a satellite
+
+at-map : (arcs : List (Option Arc)) (j : ℕ) → slice_index_or (map arc_left arcs) j None ≡ arc_left (arc_at arcs j)
+at-map [] j = refl
+at-map (a ∷ as') zero = refl
+at-map (a ∷ as') (suc j) = at-map as' j
+
+pub tail-found : (name : List ℕ) (before : WrittenEpoch) → tail_named name (epoch_left before)
+    ≡ option_map row_left (named (λ (r : WrittenRow). r.name) name before.rows)
+tail-found name before = named-made (λ (r : WrittenRow). r.name) (λ (t : RowTail). t.name)
+    (λ n r. row_left r) (λ n r. refl) name before.rows
+
+pub cell-found : (found : Option WrittenRow) (j : ℕ) → cell_of_tail j (option_map row_left found) ≡ arc_left (arc_in found j)
+cell-found None j = refl
+cell-found (Some r) j = at-map r.arcs j
+
+pub flags-found : (found : Option WrittenRow) → flags_of_tail (option_map row_left found) ≡ without_end_blanks (flags_in found)
+flags-found None = refl
+flags-found (Some r) = refl
+
+-- ---- its codes
+
+first-same : (t : List ℕ) (ts : List (List ℕ)) (a : Option Arc) (arcs : List (Option Arc))
+    → map code_of (t ∷ ts) ≡ codes_wanted (a ∷ arcs) → code_of t ≡ Some (code_now a)
+first-same t ts a arcs e = ap (λ l. slice_index_or l 0 None) e
+
+rest-same : (t : List ℕ) (ts : List (List ℕ)) (a : Option Arc) (arcs : List (Option Arc))
+    → map code_of (t ∷ ts) ≡ codes_wanted (a ∷ arcs) → map code_of ts ≡ codes_wanted arcs
+rest-same t ts a arcs e = ap (drop 1) e
+
+pub count-same : (ts : List (List ℕ)) (arcs : List (Option Arc)) → map code_of ts ≡ codes_wanted arcs → length ts ≡ length arcs
+count-same ts arcs e =
+    sym (length-map ts code_of) ∙ ap length e ∙ length-map arcs (λ (arc : Option Arc). Some (code_now arc))
+
+are-texts : (ts : List (List ℕ)) (arcs : List (Option Arc)) → map code_of ts ≡ codes_wanted arcs → AreTexts ts
+are-texts [] arcs e = tt
+are-texts (t ∷ ts) [] e = absurd (cc e)
+are-texts (t ∷ ts) (a ∷ arcs) e =
+    (spelled-characters t (code_now a) (first-same t ts a arcs e), are-texts ts arcs (rest-same t ts a arcs e))
+
+abbrev cell_now : Option Arc → ReadCell
+cell_now arc = record { code = code_now arc; value = value_now arc }
+
+cells-good : (value : ℕ → Code → Result (Option ℤ) Fault) (ts : List (List ℕ)) (arcs : List (Option Arc))
+    → map code_of ts ≡ codes_wanted arcs → ((j : ℕ) → value j (code_now (arc_at arcs j)) ≡ Ok (value_now (arc_at arcs j)))
+    → cells_read value ts ≡ Ok (map cell_now arcs)
+cells-good value [] [] e h = refl
+cells-good value [] (a ∷ arcs) e h = absurd (cc e)
+cells-good value (t ∷ ts) [] e h = absurd (cc e)
+cells-good value (t ∷ ts) (a ∷ arcs) e h =
+    let rest = cells-good (λ j. value (suc j)) ts arcs (rest-same t ts a arcs e) (λ j. h (suc j)) in
+    cc (first-same t ts a arcs e, h 0)
+
+fits : (arcs : List (Option Arc)) (j : ℕ) → All IsValue (map value_now arcs) → IsValue (value_now (arc_at arcs j))
+fits [] j h = tt
+fits (a ∷ arcs) zero h = All-head IsValue (value_now a) (map value_now arcs) h
+fits (a ∷ arcs) (suc j) h = fits arcs j (All-tail IsValue (value_now a) (map value_now arcs) h)
+
+codes-shown : (arcs : List (Option Arc)) → map (λ (c : ReadCell). c.code) (map cell_now arcs) ≡ map code_now arcs
+codes-shown [] = refl
+codes-shown (a ∷ arcs) = cc (codes-shown arcs)
+
+values-shown : (arcs : List (Option Arc)) → map (λ (c : ReadCell). c.value) (map cell_now arcs) ≡ map value_now arcs
+values-shown [] = refl
+values-shown (a ∷ arcs) = cc (values-shown arcs)
+
+arcs-left : (arcs : List (Option Arc)) (b : ℕ → Option ArcTail)
+    → ((j : ℕ) → arc_of_code (code_now (arc_at arcs j)) (b j) ≡ arc_left (arc_at arcs j))
+    → each_place (length (map code_now arcs)) (λ j. arc_of_code (slice_index_or (map code_now arcs) j Missing) (b j))
+    ≡ map arc_left arcs
+arcs-left [] b h = refl
+arcs-left (a ∷ arcs) b h = cc (h 0, arcs-left arcs (λ j. b (suc j)) (λ j. h (suc j)))
+
+-- ---- its marks
+
+at-same : (a b : List ℕ) → without_end_blanks a ≡ without_end_blanks b → (p : ℕ) → at a p ≡ at b p
+at-same a b e p = sym (at-without_end_blanks a p) ∙ ap (λ t. at t p) e ∙ at-without_end_blanks b p
+
+pub patched-same : (old a b : List ℕ) → without_end_blanks a ≡ without_end_blanks b → patched old a ≡ patched old b
+patched-same old a b e = same_characters (by_position character_of old a) (by_position character_of old b)
+    (λ p. cc (at-by_position character_of refl old a p, at-by_position character_of refl old b p, at-same a b e p))
+
+mark-printable : (old mark new : ℕ) → character_of old mark ≡ new → is_kept new ≡ true → is_printable mark ≡ true
+mark-printable old mark new e h = grind arith
+
+-- marks that make a text of characters that may be there are printable
+pub marks-printable : (old marks new : List ℕ) → patched old marks ≡ without_end_blanks new
+    → list_all is_kept new ≡ true → list_all is_printable marks ≡ true
+marks-printable old marks new e h = list_all-from_at is_printable marks (λ p.
+    mark-printable (at old p) (at marks p) (at new p)
+    (sym (at-by_position character_of refl old marks p)
+    ∙ at-same (by_position character_of old marks) new e p) (list_all-at is_kept refl new h p))
+
+blanks-same : (n : ℕ) (a b : List ℕ) → without_end_blanks a ≡ without_end_blanks b
+    → list_all is_blank (drop n a) ≡ true → list_all is_blank (drop n b) ≡ true
+blanks-same n a b e h = list_all-from_at is_blank (drop n b) (λ p.
+    ap is_blank (at-drop n b p ∙ sym (at-same a b e (n + p)) ∙ sym (at-drop n a p))
+    ∙ list_all-at is_blank refl (drop n a) h p)
+
+-- ---- the line
+
+module _ (before : WrittenEpoch) (now : WrittenRow) (line : List ℕ) (sound : IsSoundRow (row_now now))
+    (h : IsRowLine (named (λ (r : WrittenRow). r.name) now.name before.rows) now line) where
+  count : length h.texts ≡ length now.arcs
+  count = count-same h.texts now.arcs h.spelled
+
+  texts : AreTexts h.texts
+  texts = are-texts h.texts now.arcs h.spelled
+
+  marks-same : without_end_blanks (after_cells (length now.arcs) line) ≡ without_end_blanks h.marks
+  marks-same = ap (λ k. without_end_blanks (after_cells k line)) (sym count) ∙ marks-again h.texts h.marks line texts h.written
+
+  cells : cells_of (length now.arcs) line ≡ h.texts
+  cells = ap (λ k. cells_of k line) (sym count) ∙ cells-again h.texts h.marks line texts h.written
+
+  values-many : length (map value_now now.arcs) ≡ length now.arcs
+  values-many = length-map now.arcs value_now
+
+  other : begins_epoch line ≡ false
+  other = line-other h.texts h.marks line (omega (arith, count, values-many, sound.counted.0)) texts h.written
+
+  cell-held : (j : ℕ) → cell_of_tail j (tail_named now.name (epoch_left before))
+      ≡ arc_left (arc_in (named (λ (r : WrittenRow). r.name) now.name before.rows) j)
+  cell-held j = ap (cell_of_tail j) (tail-found now.name before)
+      ∙ cell-found (named (λ (r : WrittenRow). r.name) now.name before.rows) j
+
+  flags-made : patched (flags_of_tail (tail_named now.name (epoch_left before))) (after_cells (length now.arcs) line)
+      ≡ without_end_blanks now.flags
+  flags-made =
+      let f = named (λ (r : WrittenRow). r.name) now.name before.rows in
+      let m' = after_cells (length now.arcs) line in
+      ap (λ t. patched t m') (ap flags_of_tail (tail-found now.name before) ∙ flags-found f)
+      ∙ patched-trimmed (flags_in f) m' ∙ patched-same (flags_in f) m' h.marks marks-same ∙ h.marked
+
+  goes-at : (j : ℕ) → Goes OBSERVATION_WIDTH
+      (arc_in (named (λ (r : WrittenRow). r.name) now.name before.rows) j) (arc_at now.arcs j)
+  goes-at j = goes OBSERVATION_WIDTH (arc_in (named (λ (r : WrittenRow). r.name) now.name before.rows) j)
+      (arc_at now.arcs j) (h.follows j) (fits now.arcs j sound.ranged)
+
+  value-here : (j : ℕ) → value_of_code OBSERVATION_WIDTH (code_now (arc_at now.arcs j))
+      (cell_of_tail j (tail_named now.name (epoch_left before))) ≡ Ok (value_now (arc_at now.arcs j))
+  value-here j = ap (value_of_code OBSERVATION_WIDTH (code_now (arc_at now.arcs j))) (cell-held j) ∙ (goes-at j).value
+
+  leaves-here : (j : ℕ) → arc_of_code (code_now (arc_at now.arcs j))
+      (cell_of_tail j (tail_named now.name (epoch_left before))) ≡ arc_left (arc_at now.arcs j)
+  leaves-here j = ap (arc_of_code (code_now (arc_at now.arcs j))) (cell-held j) ∙ (goes-at j).leaves
+
+  paired : length now.flags ≡ 2 * length now.arcs
+  paired = sound.paired ∙ ap (λ k. 2 * k) values-many
+
+  printable : list_all is_printable (after_cells (length now.arcs) line) ≡ true
+  printable = marks-printable (flags_of_tail (tail_named now.name (epoch_left before))) (after_cells (length now.arcs) line)
+      now.flags flags-made sound.kept
+
+  blanks : list_all is_blank (drop (2 * length now.arcs) (after_cells (length now.arcs) line)) ≡ true
+  blanks = blanks-same (2 * length now.arcs) h.marks (after_cells (length now.arcs) line) (sym marks-same) h.no_more
+
+  abbrev read : ReadRow
+  read = row_of_cells (past_of_tail (epoch_left before)) now.name (after_cells (length now.arcs) line) (map cell_now now.arcs)
+
+  reads : satellite_line_read (past_of_tail (epoch_left before)) (record { name = now.name; count = length now.arcs }) line
+      ≡ Ok read
+  reads = rw (
+    other,
+    cells,
+    cells-good (λ j code. value_of_code OBSERVATION_WIDTH code (cell_of_tail j (tail_named now.name (epoch_left before))))
+        h.texts now.arcs h.spelled value-here,
+    printable,
+    blanks,
+  ) refl
+
+  flags-again : columns (patched (flags_of_tail (tail_named now.name (epoch_left before))) (after_cells (length now.arcs) line))
+      1 (2 * length (map cell_now now.arcs)) ≡ now.flags
+  flags-again = ap (λ k. columns (patched (flags_of_tail (tail_named now.name (epoch_left before)))
+      (after_cells (length now.arcs) line)) 1 (2 * k)) (length-map now.arcs cell_now)
+      ∙ ap (λ t. columns t 1 (2 * length now.arcs)) flags-made
+      ∙ first-columns (2 * length now.arcs) (without_end_blanks now.flags) now.flags paired
+      (λ p less. at-without_end_blanks now.flags p)
+
+  row-again : read.row ≡ row_now now
+  row-again = cc (values-shown now.arcs, flags-again)
+
+  many-codes : length (map (λ (c : ReadCell). c.code) (map cell_now now.arcs)) ≡ length now.arcs
+  many-codes = length-map (map cell_now now.arcs) (λ (c : ReadCell). c.code) ∙ length-map now.arcs cell_now
+
+  flags-left : flags_held (length (map (λ (c : ReadCell). c.code) (map cell_now now.arcs)))
+      (patched (flags_of_tail (tail_named now.name (epoch_left before))) (after_cells (length now.arcs) line))
+      ≡ without_end_blanks now.flags
+  flags-left = ap (λ k. flags_held k (patched (flags_of_tail (tail_named now.name (epoch_left before)))
+      (after_cells (length now.arcs) line))) many-codes
+      ∙ ap (flags_held (length now.arcs)) flags-made
+      ∙ same-cut (2 * length now.arcs) (without_end_blanks now.flags) now.flags (λ p less. at-without_end_blanks now.flags p)
+      ∙ ap without_end_blanks (take_all (2 * length now.arcs) now.flags (omega (arith, paired)))
+
+  cells-left : each_place (length (map (λ (c : ReadCell). c.code) (map cell_now now.arcs)))
+      (λ j. arc_of_code (slice_index_or (map (λ (c : ReadCell). c.code) (map cell_now now.arcs)) j Missing)
+      (cell_of_tail j (tail_named now.name (epoch_left before)))) ≡ map arc_left now.arcs
+  cells-left = ap (λ codes. each_place (length codes) (λ j. arc_of_code (slice_index_or codes j Missing)
+      (cell_of_tail j (tail_named now.name (epoch_left before))))) (codes-shown now.arcs)
+      ∙ arcs-left now.arcs (λ j. cell_of_tail j (tail_named now.name (epoch_left before))) leaves-here
+
+  leaves-row : raw_row_tail_after (tail_named read.raw.name (epoch_left before)) read.raw ≡ row_left now
+  leaves-row = cc (flags-left, cells-left)
+
+pub any-row : ReadsAnyRow
+any-row before now line sound h = record {
+  read = read before now line sound h;
+  reads = reads before now line sound h;
+  row = row-again before now line sound h;
+  name = refl;
+  leaves = leaves-row before now line sound h;
+}
