@@ -6,7 +6,6 @@ pub mod SameTexts
 pub mod Making
 pub mod LineTexts
 pub mod Characters
-pub mod EncodingRooms
 pub mod EpochLines
 pub mod EpochTexts
 pub mod RowByRow
@@ -25,6 +24,7 @@ pub mod ShownRows
 pub mod SoundTexts
 pub mod reading
 pub mod wayback
+pub mod anywriter
 pub mod soundness
 mod Justified
 pub mod Lists

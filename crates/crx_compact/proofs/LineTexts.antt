@@ -8,7 +8,7 @@ use Rattle.std.proofs.{Common.append_assoc, lemmas.List.{take-append-drop, take-
 use Rattle.std.proofs.Math.Seq.{take-append_seam, drop-append-add, take-append-add, take-set-lt}
 use Rattle.std.proofs.Math.ListN.{drop_of_length-le}
 use Rattle.crx_text.proofs.WrittenTexts.{counted-line, line-ended}
-use Rattle.crx_compact.specs.LineLists.{lines_text}
+use Rattle.crx_compact.specs.Blocks.{lines_text}
 
 -- the first of some lines ends within the text, and the others are its rest
 pub record Ended (count : ℕ) (counts text : List ℕ) : Type 0 where
@@ -94,6 +94,16 @@ all-lines lengths bytes filled past past_bytes c kept = search (rules, length-ta
 pub none-left : (lengths bytes : List ℕ) (filled past : ℕ)
     → length lengths ≤ past → cut (drop past lengths) (drop filled (take filled bytes)) ≡ []
 none-left lengths bytes filled past within = grind (arith, common_steps, cut, drop_of_length-le)
+
+-- no line is left of those that are there
+pub none-cut : (lengths bytes : List ℕ) (many filled : ℕ)
+    → many ≤ length lengths → filled ≤ length bytes → AreCut (take many lengths) (take filled bytes) many filled
+none-cut lengths bytes many filled counted within =
+    let all = length-take-le many lengths counted in
+    let long = length-take-le filled bytes within in
+    let none = none-left (take many lengths) bytes filled many (omega (arith, all)) in
+    let rest : drop filled (take filled bytes) ≡ [] = drop_of_length-le (take filled bytes) (omega (arith, long)) in
+    record { past_within = omega (arith, all); bytes_within = omega (arith, long); whole = cc (none, rest) }
 
 -- ---- a line that was written after others
 

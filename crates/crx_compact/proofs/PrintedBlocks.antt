@@ -1,61 +1,70 @@
--- The printed lines of an open epoch grow row by row, and stay its lines while the others are read.
-use Rattle.crx_compact.proofs.Words.{◌≡◌, ◌≤◌, ◌+◌, ◌++◌, ◌∷◌, [], refl, ℕ, zero, suc, List, Bool, true}
-use Rattle.crx_compact.proofs.Words.{false, Some, length, map, sum, drop, slice_get, slice_set, sym, ap}
-use Rattle.crx_compact.proofs.Words.{subst, arith, length-set, take_all, columns, HEAD_WIDTH, printed_epoch}
-use Rattle.crx_compact.proofs.Words.{printed_head, printed_row, shown_value, PendingLines, IsRowRead}
-use Rattle.crx_compact.proofs.Words.{OpenHistory, tail_of_history, AreLinesTo, IsBlock, printed_room}
-use Rattle.crx_compact.proofs.Words.{shown_epoch, shown_row, RowTail, common_steps, rules, HasRoomForAll}
-use Rattle.crx_compact.proofs.{RowByRow.{printed-next, sum-left}, reading.StepsByCode.printed-shown}
+-- The printed lines of an epoch, as its rows come.
+use Rattle.crx_compact.proofs.Words.{◌≡◌, ◌++◌, ◌∷◌, ◌+◌, [], List, ℕ, length, Some, slice_get, arith, take_all, printed_epoch}
+use Rattle.crx_compact.proofs.Words.{OpenHistory, tail_of_history, lines_to, shown_epoch, rules, Tail, RowTail}
+use Rattle.crx_compact.proofs.Words.{columns, HEAD_WIDTH, printed_head, printed_row, shown_row, shown_value, IsRowRead, PendingLines}
+use Rattle.crx_compact.proofs.Words.{◌<◌, ◌-◌, ◌∙◌, ap, sym, subst, refl, Bool, Stage, ColumnsState, columns_state}
+use Rattle.crx_compact.proofs.Words.{Option, Idle, Reading, before_clock, false≢true, is_idle, with_rows}
+use Rattle.crx_compact.proofs.{reading.Stages.state-rows}
+use Rattle.crx_compact.specs.OpenEpochs.{OpenRawEpoch, has_come, tail_so_far}
+use Rattle.crx_compact.specs.{OpenLines.IsLineTaken, PrintedBlocks.ArePrinted}
+use Rattle.crx_compact.proofs.{RowByRow.printed-next, reading.StepsByCode.printed-shown}
+use Rattle.crx_compact.specs.{Blocks.HasTakenLine, PrintedBlocks.IsPrinted}
 use Rattle.std.proofs.lemmas.List.{take-set-le}
 
--- ---- one line more
+-- all lines are those of the epoch
+pub block-whole : (tail : Tail) (lines : List (List ℕ)) → lines ≡ lines_to (length tail.rows) tail
+    → lines ≡ printed_epoch (shown_epoch tail (length tail.rows))
+block-whole tail lines is = grind (arith, take_all, printed-shown)
 
-pub row-printed : (history : OpenHistory) (count : ℕ) (row : RowTail) (old new : PendingLines)
-    → AreLinesTo count old history → slice_get history.satellites.rows count ≡ Some row
-    → new.lines ≡ old.lines ++ printed_row (shown_row row) ∷ [] → new.free_lines + 1 ≡ old.free_lines
-    → old.free_bytes ≤ new.free_bytes + printed_room row → AreLinesTo (count + 1) new history
-row-printed history count row old new h here lines free_lines free_bytes =
-    let next = sum-left printed_room history.satellites.rows count row here in
+-- one row more
+pub row-printed : (tail : Tail) (count : ℕ) (row : RowTail) (old new : PendingLines)
+    → IsPrinted count tail old → slice_get tail.rows count ≡ Some row
+    → new.lines ≡ old.lines ++ printed_row (shown_row row) ∷ [] → HasTakenLine old new → IsPrinted (count + 1) tail new
+row-printed tail count row old new so_far here lines taken = record {
+  lines = printed-next (printed_head (columns tail.text 1 HEAD_WIDTH) (shown_value tail.clock) ∷ [])
+      old.lines new.lines tail.rows count row so_far.lines here lines;
+  left = omega (arith, so_far.left, taken.left);
+}
+
+-- the rows before the one that is read stay
+pub rows-kept : (old new : OpenHistory) (place : ℕ) (line : List ℕ) → IsRowRead place line old new
+    → lines_to place (tail_of_history new) ≡ lines_to place (tail_of_history old)
+rows-kept old new place line read = search (rules, take-set-le)
+
+-- the lines of a block before a row that was read
+pub printed-before : (is_kept : Bool) (stage after : Stage) (count come : ℕ) (history new : OpenHistory) (line : List ℕ)
+    (is_whole : Bool) (state : ColumnsState) (block : PendingLines) → columns_state is_kept stage count history ≡ state
+    → ArePrinted state block → IsLineTaken line stage count history after come new is_whole → 0 < come
+    → IsPrinted (come - 1) (tail_of_history new) block
+printed-before is_kept stage after count come history new line is_whole state block e printed taken some =
+    let last = taken.last some in
+    let open_state = state-rows is_kept stage count history (taken.awaited some) in
+    let so_far : IsPrinted count (tail_of_history history) block =
+    printed (with_rows (tail_of_history history) count) (sym e ∙ open_state) refl in
+    let same : count ≡ come - 1 = omega (arith, last.0) in
     record {
-      lines =
-          printed-next (printed_head (columns history.text 1 HEAD_WIDTH) (shown_value history.clock) ∷ [])
-          old.lines new.lines history.satellites.rows count row h.lines here lines;
-      free_lines = omega (arith, h.free_lines);
-      free_bytes = omega (arith, h.free_bytes);
+      lines = so_far.lines ∙ sym last.1 ∙ ap (λ n. lines_to n (tail_of_history new)) same;
+      left = omega (arith, so_far.left, last.0);
     }
 
--- the room for the next row
-pub room-there : (history : OpenHistory) (count : ℕ) (row : RowTail) (pending : PendingLines)
-    → AreLinesTo count pending history → slice_get history.satellites.rows count ≡ Some row
-    → printed_room row ≤ pending.free_bytes
-room-there history count row pending h here = grind (arith, common_steps, sum-left, printed_room)
+-- ---- which epoch is open
 
--- all lines are those of the epoch
-pub block-whole : (history : OpenHistory) (count : ℕ) (pending : PendingLines)
-    → AreLinesTo count pending history → length history.satellites.rows ≤ count
-    → pending.lines ≡ printed_epoch (shown_epoch (tail_of_history history) (length history.satellites.rows))
-block-whole history count pending h all = grind (arith, take_all, printed-shown)
+abbrev begun_in : OpenRawEpoch → ColumnsState → OpenRawEpoch
+begun_in begun (Idle tail) = begun
+begun_in begun (Reading other) = other
 
--- ---- the lines that are read meanwhile
+-- what is printed of an epoch whose clock line and first so many rows have come
+pub rows-printed : (tail : Tail) (count : ℕ) (state : ColumnsState) (block : PendingLines)
+    → state ≡ Reading (with_rows tail count) → IsPrinted count tail block → ArePrinted state block
+rows-printed tail count state block e printed = λ begun is come.
+    subst (λ (b : OpenRawEpoch). IsPrinted b.count (tail_so_far b) block)
+    (ap (begun_in (with_rows tail count)) (sym e ∙ is)) printed
 
--- a row is as long after its line as before it
-rooms-set : (rows : List RowTail) (count place : ℕ) (row left : RowTail)
-    → slice_get rows place ≡ Some row → length left.cells ≡ length row.cells
-    → map printed_room (drop count (slice_set rows place left)) ≡ map printed_room (drop count rows)
-rooms-set (r ∷ rs) zero zero row left there sized = grind arith
-rooms-set (r ∷ rs) zero (suc place) row left there sized = cc (rooms-set rs zero place row left there sized)
-rooms-set (r ∷ rs) (suc count) (suc place) row left there sized =
-    rooms-set rs count place row left there sized
-rooms-set rows count place row left there sized = refl
+-- nothing is printed between two epochs, nor before the clock line
+pub idle-unprinted : (held : Option Tail) (state : ColumnsState) (block : PendingLines) → state ≡ Idle held → ArePrinted state block
+idle-unprinted held state block e = λ begun is come. absurd (false≢true (ap is_idle (sym is ∙ e)))
 
-pub block-row : (has_head : Bool) (count : ℕ) (pending : PendingLines)
-    (old new : OpenHistory) (place : ℕ) (line : List ℕ) → IsRowRead place line old new → count ≤ place
-    → IsBlock has_head count pending old → IsBlock has_head count pending new
-block-row true count pending old new place line read within h =
-    search (rules, length-set, take-set-le, rooms-set)
-block-row false count pending old new place line read within h =
-    let rows = old.satellites.rows in
-    let same = ap sum (rooms-set rows 0 place read.row read.left read.there read.sized) in
-    let rooms : HasRoomForAll pending (slice_set rows place read.left) =
-    search (rules, h.0.none, h.0.free_lines, length-set, h.0.free_bytes) in
-    (subst (HasRoomForAll pending) (sym read.rows) rooms, h.1)
+pub clock-unprinted : (tail : Tail) (state : ColumnsState) (block : PendingLines) → state ≡ Reading (before_clock tail)
+    → ArePrinted state block
+clock-unprinted tail state block e = λ begun is come.
+    absurd (false≢true (ap (λ s. has_come (begun_in (before_clock tail) s).clock) (sym e ∙ is) ∙ come))

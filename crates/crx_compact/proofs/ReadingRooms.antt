@@ -1,17 +1,16 @@
 -- The room that an epoch's lines need, by its satellites and by its rows.
-use Rattle.crx_compact.proofs.Words.{rules, sym, ◌∙◌, ap, subst, arith, ◌≡◌, ◌≤◌, ◌<◌, ◌+◌, ◌*◌, refl, ℕ}
+use Rattle.crx_compact.proofs.Words.{rules, sym, ◌∙◌, ap, subst, arith, ◌≡◌, refl, ℕ}
 use Rattle.crx_compact.proofs.Words.{List, []}
-use Rattle.crx_compact.proofs.Words.{◌∷◌, map, sum, length, Option, Some, Result, Ok, Err, All-head, All-tail}
-use Rattle.crx_compact.proofs.Words.{length-each_place, length-map, patched, HEAD_WIDTH, NAME_WIDTH}
-use Rattle.crx_compact.proofs.Words.{LINE_LIMIT, Content, Fault, Count}
+use Rattle.crx_compact.proofs.Words.{◌∷◌, length, Option, Some, Result, Ok, Err, All-head, All-tail}
+use Rattle.crx_compact.proofs.Words.{length-each_place, patched}
+use Rattle.crx_compact.proofs.Words.{Content, Fault, Count}
 use Rattle.crx_compact.proofs.Words.{past_of_tail, satellites_of_line, Satellite, and_then, before_clock}
 use Rattle.crx_compact.proofs.Words.{first_step, opened_raw, opening, tail_for_line, tail_opened, HasRoom}
-use Rattle.crx_compact.proofs.Words.{HaveTypesRoom, OpenHistory, padded, printed_room, cell_of_tail}
+use Rattle.crx_compact.proofs.Words.{HaveTypesRoom, padded, cell_of_tail}
 use Rattle.crx_compact.proofs.Words.{tail_named, RowTail, Tail}
 use Rattle.std.proofs.lemmas.List.Elements.{All-nil, All-cons}
 use Rattle.crx_compact.specs.OpenEpochs.{OpenRawEpoch, Going, rows_before}
-use Rattle.crx_compact.specs.{OpenLines.reading_room, declared.printed_block.PrintedBlock.PrintedBlock}
-use Rattle.crx_compact.specs.ReadingRooms.{HasRoomFor, HasRoomReady, HaveCellsRoom, ReadingRoom}
+use Rattle.crx_compact.specs.ReadingRooms.{HaveCellsRoom}
 
 -- ---- satellites, and the rows of them
 
@@ -74,36 +73,20 @@ opened-from types line tail before begun e step =
         }
     by_result (Err fault) is e = absurd (cc)
 
--- the satellites that a line was found to have are those of the epoch
-pub rows-opened : (types : List Count) (line : List ℕ) (before : Tail) (begun : OpenRawEpoch)
-    (found : List Satellite) (rows : List RowTail) → IsOpened types line before begun
-    → satellites_of_line types (past_of_tail before) line ≡ Ok found → rows ≡ rows_before before found
-    → rows ≡ begun.rows
-rows-opened types line before begun found rows opened read made = grind arith
-
--- ---- what the lines need is there
+-- ---- what the rows need is there
 
 pub satellites-known : (types : List Count) (line : List ℕ) (before : Tail) (begun : OpenRawEpoch)
-    (room : ReadingRoom)
-    (rooms : List (List ℕ × ℕ)) (opened : IsOpened types line before begun) → HasRoomFor begun room
-    → room.rooms ≡ rooms → HaveTypesRoom opened.satellites rooms
-satellites-known types line before begun room rooms opened has same =
+    (held rooms : List (List ℕ × ℕ)) (opened : IsOpened types line before begun) → HaveCellsRoom begun.rows held
+    → held ≡ rooms → HaveTypesRoom opened.satellites rooms
+satellites-known types line before begun held rooms opened has same =
     types-room before opened.satellites rooms (search rules)
-
-pub text-known : (types : List Count) (line : List ℕ) (before : Tail) (begun : OpenRawEpoch)
-    (room : ReadingRoom)
-    (held : ℕ) (opened : IsOpened types line before begun) → HasRoomFor begun room → room.text ≡ held
-    → HEAD_WIDTH + NAME_WIDTH * length opened.satellites ≤ held
-text-known types line before begun room held opened has same =
-    omega (arith, has.text, ap length opened.rows ∙ length-map opened.satellites (row_before before), same)
 
 -- what was read for has room
 pub room-for : (types : List Count) (line : List ℕ) (before : Tail) (begun : OpenRawEpoch)
-    (opened : IsOpened types line before begun) (new : OpenHistory) (after : PrintedBlock)
-    → HEAD_WIDTH + NAME_WIDTH * length new.satellites.rows ≤ new.held_room
-    → HaveTypesRoom opened.satellites new.satellites.rooms → new.satellites.rows ≡ begun.rows
-    → length new.satellites.rows < after.lines.all_lines
-    → LINE_LIMIT + 1 + sum (map printed_room new.satellites.rows) ≤ after.lines.all_bytes
-    → HasRoomReady begun (reading_room new after)
-room-for types line before begun opened new after fits known rows lines bytes =
-    search (rules, cells-room)
+    (opened : IsOpened types line before begun) (rooms : List (List ℕ × ℕ)) (found : List Satellite)
+    → satellites_of_line types (past_of_tail before) line ≡ Ok found → HaveTypesRoom found rooms
+    → HaveCellsRoom begun.rows rooms
+room-for types line before begun opened rooms found read known =
+    let same : found ≡ opened.satellites = grind (arith, read, opened.read) in
+    subst (λ rows. HaveCellsRoom rows rooms) (sym opened.rows)
+    (cells-room before opened.satellites rooms (subst (λ ss. HaveTypesRoom ss rooms) same known))

@@ -16,7 +16,7 @@ pub use Rattle.crx_compact.specs.Cells.{value_at_place, CellsAreRead}
 pub use Rattle.crx_compact.specs.HeldRows.{past_of_tail, IsAwaitedSatellite, held_row, HeldRow, arcs_of_tail}
 pub use Rattle.crx_compact.specs.HeldRows.{held_from, past_of_row, row_held, row_held_from, AreHeldFlags}
 pub use Rattle.crx_compact.specs.Laws.{AreWhole, patched_in_turn, CodesFit, has_no_epochs, LinesCanStand}
-pub use Rattle.crx_compact.specs.LineLists.{cut, AreCut, HasFront, PendingLines, lines_text}
+pub use Rattle.crx_compact.specs.Blocks.{cut, AreCut, HasFront, PendingLines, lines_text}
 pub use Rattle.crx_compact.specs.OpenEpochs.{HasMade, HeldEpoch, held_after, next_step, placed_as, opened_raw}
 pub use Rattle.crx_compact.specs.OpenEpochs.{Reading, is_idle, step_in, RawStep, with_rows, opening, row_step}
 pub use Rattle.crx_compact.specs.OpenEpochs.{before_clock, tail_for_line, step_with_rows, place_of_step, Idle}
@@ -25,8 +25,8 @@ pub use Rattle.crx_compact.specs.OpenEpochs.{tail_held, HasPrintedLines, whole_o
 pub use Rattle.crx_compact.specs.OpenLines.{columns_state, step_at}
 pub use Rattle.crx_compact.specs.Placing.{IsRowRead, OpenHistory, tail_of_history, IsAnnounced, satellite_of}
 pub use Rattle.crx_compact.specs.Placing.{PlacedRows, row_or_blank, HasRoom, HaveTypesRoom, HaveRoom, HasCome}
-pub use Rattle.crx_compact.specs.Placing.{row_of_parts, row_room, padded_among, KeepsRooms, padded, empty_row}
-pub use Rattle.crx_compact.specs.PrintedBlocks.{AreLinesTo, IsBlock, printed_room, HasRoomForAll}
+pub use Rattle.crx_compact.specs.Placing.{row_of_parts, padded_among, KeepsRooms, padded, empty_row}
+pub use Rattle.crx_compact.specs.PrintedBlocks.{lines_to}
 pub use Rattle.crx_compact.specs.ReadingLaws.{HasSingleLines, raw_row, raw_of, raws_of, Forgets, is_wanted}
 pub use Rattle.crx_compact.specs.ReadingRooms.{HeldColumns}
 pub use Rattle.crx_compact.specs.RowsSoFar.{AreAnnounced, AreRowsSoFar, NamesSatellites}

@@ -1,9 +1,7 @@
--- An epoch and the compact lines of it that are pending, and for how many there is room in their memory.
+-- An epoch and the compact lines of it that are pending.
 use Rattle.std.specs.Prelude.{ℕ, List}
-use Rattle.crx_compact.specs.LineLists.{LinesRoom}
 use Rattle.crx_rinex.specs.meaning.Observations.{Epoch}
 
 pub record CodedEpoch : Type 0 where
   pub epoch : Epoch
   pub lines : List (List ℕ)
-  pub room : LinesRoom

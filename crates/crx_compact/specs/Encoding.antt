@@ -1,27 +1,26 @@
 -- An encoder between two lines: the tail of the epochs before; and of the open epoch, whether it was asked for in full, and its rows so far.
-use Rattle.std.specs.Prelude.{◌≡◌, ℕ, List, [], Bool, true, false, Option, None, Some, if◌then◌else◌}
-use Rattle.crx_compact.specs.EncodingRooms.{EncodingRoom}
+use Rattle.std.specs.Prelude.{◌≡◌, ◌+◌, ℕ, List, length, [], Bool, true, false, Option, None, Some, if◌then◌else◌}
+use Rattle.crx_compact.specs.Blocks.{PendingLines}
 use Rattle.crx_compact.specs.Placing.{OpenHistory, IsBetween, tail_of_history}
 use Rattle.crx_compact.specs.Steps.{tail_written_after}
 use Rattle.crx_compact.specs.Tails.{Tail}
 use Rattle.crx_compact.specs.Written.{AreRowsWritten}
-use Rattle.crx_compact.specs.declared.lines.TheConstants.{FIRST_LINES}
+use Rattle.crx_compact.specs.declared.block.TheConstants.{FIRST_LINES, LINES_LIMIT}
 use Rattle.crx_rinex.specs.meaning.Observations.{Row}
 
 -- the tail of the epochs before, or none; whether an epoch is open, and then whether it was asked for in full, and its rows so far; the
--- lines that are pending; and for how much there is room
+-- lines that are pending; and for how many types of each known satellite there is room
 pub record EncoderState : Type 0 where
   pub before : Option Tail
   pub is_open : Bool
   pub in_full : Bool
   pub rows : List Row
   pub pending : List (List ℕ)
-  pub room : EncodingRoom
+  pub rooms : List (List ℕ × ℕ)
 
 -- every epoch is forgotten, and these lines are pending
-abbrev pub forgotten : EncoderState → List (List ℕ) → EncodingRoom → EncoderState
-forgotten state pending room =
-    record state { before = None; is_open = false; rows = []; pending = pending; room = room }
+abbrev pub forgotten : EncoderState → List (List ℕ) → EncoderState
+forgotten state pending = record state { before = None; is_open = false; rows = []; pending = pending }
 
 -- the tail that the rows of the open epoch are written after
 abbrev pub tail_in : EncoderState → Tail
@@ -34,8 +33,9 @@ pub record IsClosed (before : Option Tail) (is_kept : Bool) (rows : List Row) (h
   pub none : rows ≡ []
 
 -- what holds of an encoder's parts: whether an epoch is open; the tail before, whether one is kept, whether the open epoch is in full, its rows
--- so far, the history, the lines that are made, and how many can be put in front of them
-abbrev pub IsEncoding : Bool → Option Tail → Bool → Bool → List Row → OpenHistory → List (List ℕ) → ℕ → Type 0
-IsEncoding false before is_kept in_full rows history made front = IsClosed before is_kept rows history
-IsEncoding true before is_kept in_full rows history made front =
-    AreRowsWritten (tail_written_after in_full before) rows history made × (front ≡ FIRST_LINES)
+-- so far, the history, and the lines that are made: place is left for every other satellite that an epoch may have
+abbrev pub IsEncoding : Bool → Option Tail → Bool → Bool → List Row → OpenHistory → PendingLines → Type 0
+IsEncoding false before is_kept in_full rows history made = IsClosed before is_kept rows history
+IsEncoding true before is_kept in_full rows history made =
+    AreRowsWritten (tail_written_after in_full before) rows history made.lines × (made.front ≡ FIRST_LINES)
+    × (made.left + length rows ≡ LINES_LIMIT)

@@ -6,7 +6,7 @@ use Rattle.std.specs.Str.{bytes_eq}
 use Rattle.crx_compact.specs.meaning.Sequences.{named}
 use Rattle.crx_header.specs.meaning.ObservationTypes.{Count}
 use Rattle.crx_header.specs.meaning.Satellites.{types_of_satellite}
-use Rattle.crx_compact.specs.Placing.{GrowsOnly, IsAskedFor, KeepsRooms, PlacedRows, SatelliteTail, padded}
+use Rattle.crx_compact.specs.Placing.{KeepsRooms, PlacedRows, SatelliteTail, padded}
 use Rattle.crx_compact.specs.Placing.{room_of_entry, row_of_entry, satellite_of}
 
 abbrev pub Entry : Type 0
@@ -35,7 +35,6 @@ pub record IsFound (name : List ℕ) (found : ℕ) (old new : List Entry) : Type
   pub front : (count : ℕ) → count ≤ length old → take count new ≡ take count old
   pub known : found < length old → new ≡ old
   pub rooms : KeepsRooms (rooms_of old) (rooms_of new)
-  pub only : GrowsOnly (IsAskedFor name 0) (rooms_of old) (rooms_of new)
 
 -- a satellite that means nothing is the first one behind those that do, with nothing stored
 pub record IsRevived (live found : ℕ) (old new : List Entry) : Type 0 where

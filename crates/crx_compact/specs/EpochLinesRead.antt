@@ -1,8 +1,7 @@
 -- What reading an epoch line makes of a history: its satellites have come, or the line is refused.
-use Rattle.std.specs.Prelude.{◌≡◌, ◌≤◌, ◌+◌, ◌*◌, ℕ, List, [], All, length, map, Result, Ok, Some, None, OnOk}
+use Rattle.std.specs.Prelude.{◌≡◌, ℕ, List, [], All, length, map, Result, Ok, Some, None, OnOk}
 use Rattle.std.specs.Prelude.{IfErr}
 use Rattle.crx_base.specs.declared.fault.Fault.{Fault}
-use Rattle.crx_base.specs.declared.limits.TheConstants.{HEAD_WIDTH, NAME_WIDTH}
 use Rattle.crx_base.specs.declared.fault.Fault.TheVariants.{OutOfMemory}
 use Rattle.crx_text.specs.Texts.{patched}
 use Rattle.crx_header.specs.meaning.ObservationTypes.{Count}
@@ -58,7 +57,7 @@ pub record AnswersSatellites (made : Result (List Satellite) Fault) (old new : P
   pub err : IfErr answer (AreSatellitesRefused made old new)
   pub rooms : KeepsRooms old.rooms new.rooms
 
--- an epoch line was read after a history: the satellites of the text that it makes have come, and there is room for both
+-- an epoch line was read after a history: the satellites of the text that it makes have come, and there is room for them
 pub record IsEpochLineRead (types : List Count) (line : List ℕ) (old new : OpenHistory) : Type 0 where
   pub satellites : List Satellite
   pub read : satellites_of_line types (past_of_tail (tail_of_history old)) line ≡ Ok satellites
@@ -68,15 +67,13 @@ pub record IsEpochLineRead (types : List Count) (line : List ℕ) (old new : Ope
   pub clock : new.clock ≡ old.clock
   pub announced : IsAnnounced new
   pub room : HaveTypesRoom satellites new.satellites.rooms
-  pub fits : HEAD_WIDTH + NAME_WIDTH * length new.satellites.rows ≤ new.held_room
 
 -- an epoch line is refused: by its fault, where it has one, and then no room was asked for; else for want of memory, where there wasn't room
 pub record IsEpochLineRefused (types : List Count) (line : List ℕ) (old new : OpenHistory) (fault : Fault)
     : Type 0 where
   pub answer : AnswersRefusal (satellites_of_line types (past_of_tail (tail_of_history old)) line) fault
   pub unasked : (fault ≡ OutOfMemory → ⊥)
-      → KeepsRooms new.satellites.rooms old.satellites.rooms × (new.held_room ≡ old.held_room)
+      → KeepsRooms new.satellites.rooms old.satellites.rooms
   pub wanting : (satellites : List Satellite)
       → satellites_of_line types (past_of_tail (tail_of_history old)) line ≡ Ok satellites
-      → HaveTypesRoom satellites old.satellites.rooms
-      → HEAD_WIDTH + NAME_WIDTH * length satellites ≤ old.held_room → ⊥
+      → HaveTypesRoom satellites old.satellites.rooms → ⊥

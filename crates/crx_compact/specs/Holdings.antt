@@ -4,9 +4,7 @@
 use Rattle.crx_compact.specs.declared.satellite.SatelliteHistory.TheInside.{Inside as SatelliteHistoryInside}
 use Rattle.crx_compact.specs.declared.satellites.Satellites.TheInside.{Inside as SatellitesInside}
 use Rattle.crx_compact.specs.declared.history.History.TheInside.{Inside as HistoryInside}
-use Rattle.crx_compact.specs.declared.lines.Lines.TheInside.{Inside as LinesInside}
-use Rattle.crx_compact.specs.declared.expanded_lines.ExpandedLines.TheInside.{Inside as ExpandedLinesInside}
-use Rattle.crx_compact.specs.declared.printed_block.PrintedBlock.{PrintedBlock}
+use Rattle.crx_compact.specs.declared.block.Block.TheInside.{Inside as BlockInside}
 use Rattle.crx_compact.specs.declared.columns.Columns.TheInside.{Inside as ColumnsInside}
 use Rattle.crx_compact.specs.declared.encoder.Encoder.TheInside.{Inside as EncoderInside}
 use Rattle.crx_compact.specs.declared.kept_tail.KeptTail.{KeptTail}
@@ -41,32 +39,16 @@ history_with one other = record one {
   alloc = other.alloc;
 }
 
--- lines, with the parts of others
-abbrev pub lines_with : LinesInside → LinesInside → LinesInside
-lines_with one other = record one {
+-- the lines of an epoch, with the parts of others
+abbrev pub block_with : BlockInside → BlockInside → BlockInside
+block_with one other = record one {
   bytes = other.bytes;
-  filled = other.filled;
-  claimed = other.claimed;
   lengths = other.lengths;
+  filled = other.filled;
   count = other.count;
   handed_out = other.handed_out;
   handed_out_bytes = other.handed_out_bytes;
-  reserved = other.reserved;
   front = other.front;
-}
-
--- the lines that an expansion has ready, with the parts of another
-abbrev pub expanded_lines_with : ExpandedLinesInside → ExpandedLinesInside → ExpandedLinesInside
-expanded_lines_with one other = record one {
-  printed = other.printed;
-}
-
--- the printed lines of an open epoch, with the parts of another
-abbrev pub printed_block_with : PrintedBlock → PrintedBlock → PrintedBlock
-printed_block_with one other = record one {
-  lines = other.lines;
-  has_head = other.has_head;
-  rows = other.rows;
 }
 
 -- columns, with the parts of another
@@ -77,8 +59,6 @@ columns_with one other = record one {
   is_named = other.is_named;
   stage = other.stage;
   count = other.count;
-  block = other.block;
-  lines = other.lines;
   scratch = other.scratch;
   alloc = other.alloc;
 }

@@ -257,9 +257,9 @@ HasMade step after None = (begun : OpenRawEpoch) × (step ≡ Going begun) × (a
 HasMade step after (Some epoch) = (held : HeldEpoch)
     × (step ≡ Whole held) × (epoch ≡ held.epoch) × (after ≡ Idle (Some held.tail))
 
--- the same of a whole epoch that is printed: its lines are ready
+-- the same where a whole epoch is printed: its lines are ready
 abbrev pub HasPrintedLines : RawStep → ColumnsState → Bool → List (List ℕ) → Type 0
-HasPrintedLines step after false lines = HasMade step after None × (lines ≡ [])
+HasPrintedLines step after false lines = HasMade step after None
 HasPrintedLines step after true lines = (held : HeldEpoch)
     × (step ≡ Whole held) × (lines ≡ printed_epoch held.epoch) × (after ≡ Idle (Some held.tail))
 

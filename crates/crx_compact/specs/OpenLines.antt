@@ -1,15 +1,12 @@
 -- How code stores the state of a reader of compact epochs: how far the lines of an epoch have come, and the
 -- history.
-use Rattle.std.specs.Prelude.{◌≡◌, ◌≤◌, ⊤, ◌<◌, ◌==◌, ℕ, List, length, Bool, true, false, Some, None, if◌then◌else◌}
+use Rattle.std.specs.Prelude.{◌≡◌, ◌≤◌, ◌<◌, ◌==◌, ◌+◌, ℕ, List, length, Bool, true, false, Some, None, if◌then◌else◌}
 use Rattle.crx_base.specs.meaning.AsRead.{Content, ReadLine}
 use Rattle.crx_header.specs.meaning.EpochColumns.{begins_epoch}
 use Rattle.crx_compact.specs.OpenEpochs.{OpenRawEpoch, RawStep, before_clock, step_in, step_with_rows, with_rows}
 use Rattle.crx_compact.specs.OpenEpochs.{ColumnsState, Idle, Reading}
-use Rattle.crx_compact.specs.LineLists.{block_room}
+use Rattle.crx_compact.specs.PrintedBlocks.{lines_to}
 use Rattle.crx_compact.specs.Placing.{OpenHistory, IsAnnounced, IsBetween, tail_of_history}
-use Rattle.crx_compact.specs.PrintedBlocks.{IsBlock}
-use Rattle.crx_compact.specs.ReadingRooms.{ReadingRoom}
-use Rattle.crx_compact.specs.declared.printed_block.PrintedBlock.{PrintedBlock}
 use Rattle.crx_compact.specs.declared.columns.Stage.{Stage}
 use Rattle.crx_compact.specs.declared.columns.Stage.TheVariants.{Unbegun, Clock, Rows}
 
@@ -32,19 +29,11 @@ IsSoundState Unbegun count history = IsBetween history
 IsSoundState Clock count history = IsAnnounced history
 IsSoundState Rows count history = IsAnnounced history × (count < length history.satellites.rows)
 
--- while an epoch is open, its printed lines up to some row that has come, and room for the others
-abbrev pub IsSoundBlock : Stage → ℕ → PrintedBlock → OpenHistory → Type 0
-IsSoundBlock Unbegun count block history = ⊤
-IsSoundBlock Clock count block history =
-    (block.has_head ≡ false) × IsBlock block.has_head block.rows block.lines history
-IsSoundBlock Rows count block history =
-    (block.rows ≤ count) × IsBlock block.has_head block.rows block.lines history
-
 -- what a line makes by how far the lines of the epoch have come; whether epochs came before doesn't matter to it
 abbrev pub step_at : Stage → ℕ → OpenHistory → ReadLine → RawStep
 step_at stage count history line = step_in (columns_state true stage count history) line
 
--- a line of an open epoch was taken, after which rows are awaited, or all have come; what is printed stays the printed lines of the epoch so far
+-- a line of an open epoch was taken, after which rows are awaited, or all have come; the rows before the one that came last stay
 pub record IsLineTaken (line : List ℕ) (stage : Stage) (count : ℕ) (history : OpenHistory)
     (after : Stage) (come : ℕ) (new : OpenHistory) (is_whole : Bool) : Type 0 where
   pub rows : after ≡ Rows
@@ -54,13 +43,4 @@ pub record IsLineTaken (line : List ℕ) (stage : Stage) (count : ℕ) (history 
   pub announced : IsAnnounced new
   pub start : begins_epoch line ≡ false
   pub awaited : 0 < come → stage ≡ Rows
-  pub block : (block : PrintedBlock) → IsSoundBlock stage count block history → IsSoundBlock after come block new
-
--- for how much there is room in a history and in the lines of a block
-abbrev pub reading_room : OpenHistory → PrintedBlock → ReadingRoom
-reading_room history block =
-    record {
-      text = history.held_room;
-      rooms = history.satellites.rooms;
-      block = block_room block.lines;
-    }
+  pub last : 0 < come → (come ≡ count + 1) × (lines_to count (tail_of_history new) ≡ lines_to count (tail_of_history history))

@@ -1,7 +1,7 @@
 -- The satellites of a history while an epoch is open: the rows that have come, in the order of the file; those of the epoch before that
 -- haven't come yet, each known by its identifier; and how many types there is room for.
 use Rattle.std.specs.Prelude.{◌≡◌, ◌≤◌, ◌++◌, ◌∷◌, ℕ, ℤ, List, [], length, slice_index_or, Option, None, Some, false, map}
-use Rattle.std.specs.Prelude.{All, unwrap_or, ◌+◌, ◌*◌, ◌<◌, ◌⊎◌, Bool, true, not, IfSome}
+use Rattle.std.specs.Prelude.{All, unwrap_or, ◌+◌, ◌*◌, ◌<◌, Bool, true, not, IfSome}
 use Rattle.std.specs.Str.{bytes_eq}
 use Rattle.crx_text.specs.meaning.EachPlace.{each_place}
 use Rattle.crx_compact.specs.ArcTails.{ArcTail}
@@ -20,7 +20,6 @@ use Rattle.crx_rinex.specs.meaning.Observations.{Row}
 use Rattle.crx_base.specs.declared.limits.TheConstants.{HEAD_WIDTH, NAME_WIDTH, TYPES_LIMIT}
 use Rattle.crx_header.specs.meaning.Satellites.{is_among, types_of_satellite}
 use Rattle.crx_text.specs.meaning.Columns.{columns, without_end_blanks}
-use Rattle.crx_compact.specs.declared.cells.TheConstants.{CELL_ROOM}
 
 -- what is stored of a satellite: its indicators without the blanks at their end, the tail of each cell's arc, and how many types it has
 -- room for
@@ -89,15 +88,6 @@ pub record HasSameRooms (before after : List (List ℕ × ℕ)) : Type 0 where
   pub forth : KeepsRooms before after
   pub back : KeepsRooms after before
 
--- a satellite is known that wasn't, or has more room than before, only where so much was asked for it
-abbrev pub GrowsOnly : (List ℕ → ℕ → Type 0) → List (List ℕ × ℕ) → List (List ℕ × ℕ) → Type 0
-GrowsOnly asked before after = (name : List ℕ) (count : ℕ) → HasRoom name count after
-    → HasRoom name count before ⊎ asked name count
-
--- what is asked for a satellite: room for so many types
-abbrev pub IsAskedFor : List ℕ → ℕ → List ℕ → ℕ → Type 0
-IsAskedFor satellite most name count = (name ≡ satellite) × (count ≤ most)
-
 -- the satellites that haven't come stay, and each has as much room
 pub record KeepsRest (old new : PlacedRows) : Type 0 where
   pub rest : new.rest ≡ old.rest
@@ -157,27 +147,11 @@ row_read row line = row_held (Some row) (satellite_of row) line
 
 -- ---- the history
 
--- the text of the newest epoch, the text of the next one where it is made already, for a text of how many characters each of the two has
--- room, for one of how many that of the newest epoch has, the clock's arc, and the satellites
+-- the text of the newest epoch, the clock's arc, and the satellites
 pub record OpenHistory : Type 0 where
   pub text : List ℕ
-  pub next_text : List ℕ
-  pub text_room : ℕ
-  pub held_room : ℕ
   pub clock : Option ArcTail
   pub satellites : PlacedRows
-
--- the text of the next epoch is the same, and there is room for as long texts
-pub record HasSameTexts (old new : OpenHistory) : Type 0 where
-  pub next_text : new.next_text ≡ old.next_text
-  pub text_room : new.text_room ≡ old.text_room
-  pub held_room : new.held_room ≡ old.held_room
-
--- no satellite has less room than before, and there is room for texts as long as before
-pub record HasNoLessRoom (old new : OpenHistory) : Type 0 where
-  pub rooms : KeepsRooms old.satellites.rooms new.satellites.rooms
-  pub held_room : old.held_room ≤ new.held_room
-  pub text_room : old.text_room ≤ new.text_room
 
 -- the tail that a history has between two epochs
 abbrev pub tail_of_history : OpenHistory → Tail
@@ -196,13 +170,6 @@ HaveRoom rows rooms = All (λ (row : Row). HasRoom row.name (length row.values) 
 abbrev pub HaveTypesRoom : List Satellite → List (List ℕ × ℕ) → Type 0
 HaveTypesRoom satellites rooms = All (λ (s : Satellite). HasRoom s.name s.count rooms) satellites
 
--- what is asked for a satellite of one of some rows
-pub record IsAskedAmong (rows : List Row) (name : List ℕ) (count : ℕ) : Type 0 where
-  pub index : ℕ
-  pub row : Row
-  pub there : slice_get rows index ≡ Some row
-  pub asked : IsAskedFor row.name (length row.values) name count
-
 -- the same of so many satellites of an epoch text, which have no fault
 abbrev pub HaveNamesRoom : List Count → List ℕ → ℕ → List (List ℕ × ℕ) → Type 0
 HaveNamesRoom types text count rooms = (place cells : ℕ) → place < count
@@ -212,13 +179,6 @@ HaveNamesRoom types text count rooms = (place cells : ℕ) → place < count
 -- a row by its identifier, values and indicators
 abbrev pub row_of_parts : List ℕ → List (Option ℤ) → List ℕ → Row
 row_of_parts name values flags = record { name = name; values = values; flags = flags }
-
--- as many bytes as the compact line of a row of so many types has at most, with its LF
-abbrev pub room_of_types : ℕ → ℕ
-room_of_types count = CELL_ROOM * count + 2 * TYPES_LIMIT + 1
-
-abbrev pub row_room : Row → ℕ
-row_room row = room_of_types (length row.values)
 
 -- a row has as many cells as a system may have types
 abbrev pub HasAllowedCount : RowTail → Type 0

@@ -8,3 +8,4 @@ pub mod EpochText
 pub mod Expansion
 pub mod Past
 pub mod CompactPlaces
+pub mod AnyWriter

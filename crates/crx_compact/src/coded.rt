@@ -6,7 +6,7 @@ ghost use Rattle.std.specs.Io.BufRead.{Rests};
 ghost use Rattle.std.specs.Option.{option_copied};
 ghost use Rattle.crx_compact.specs.contracts.coded.Coded.{the_row};
 
-use crate::lines::Lines;
+use crate::block::Block;
 use crx_rinex::Epoch;
 use std::marker::Model;
 
@@ -15,20 +15,15 @@ use std::marker::Model;
 #[derive(Drop)]
 pub struct Coded {
     pub(crate) epoch: Epoch,
-    pub(crate) lines: Lines,
+    pub(crate) lines: Block,
 }
 
 impl Model for Coded {
     ghost use Rattle.crx_compact.specs.Coded.{CodedEpoch};
-    ghost use Rattle.crx_compact.specs.LineLists.{room_of_lines};
 
     ghost Value = { CodedEpoch };
 
-    ghost view = { λ coded. record {
-      epoch = coded.epoch;
-      lines = coded.lines.lines;
-      room = room_of_lines coded.lines;
-    } };
+    ghost view = { λ coded. record { epoch = coded.epoch; lines = coded.lines.lines } };
 }
 
 impl Coded {

@@ -12,31 +12,27 @@ ghost use Rattle.crx_compact.specs.meaning.CompactPlaces.{epoch_at};
 ghost use Rattle.crx_compact.specs.ReadBlocks.{AnswersLine, IsReading};
 ghost use Rattle.crx_base.specs.declared.limits.TheConstants.{LINE_LIMIT};
 ghost use Rattle.crx_header.specs.meaning.EpochColumns.{begins_epoch, is_event_line};
-ghost use Rattle.crx_compact.specs.LineLists.{HasNoMoreRoom};
 ghost use Rattle.crx_compact.specs.OpenLines.{IsLineTaken, IsSoundState, step_at};
-ghost use Rattle.crx_compact.specs.EncodingRooms.{GrowsForEpoch, HasRoomForEpoch, KeepsEncodingRoom, made_room, no_encoding_room, with_lines};
 ghost use Rattle.crx_compact.specs.EpochLinesRead.{history_cleared};
-ghost use Rattle.crx_compact.specs.declared.lines.TheConstants.{FIRST_LINES};
-ghost use Rattle.crx_compact.specs.Placing.{HasNoLessRoom, IsBetween, KeepsRooms, tail_of_history};
-ghost use Rattle.crx_compact.specs.ReadingRooms.{AnswersWithRoom, KeepsAllRoom, KeepsHistoryRoom, KeepsRoom, no_reading_room};
+ghost use Rattle.crx_compact.specs.Placing.{IsBetween, KeepsRooms, tail_of_history};
+ghost use Rattle.crx_compact.specs.ReadingRooms.{AnswersWithRoom};
+ghost use Rattle.crx_compact.specs.Blocks.{PendingLines};
+ghost use Rattle.crx_compact.specs.PrintedBlocks.{ArePrinted};
 ghost use Rattle.crx_compact.specs.OpenEpochs.{OpenRawEpoch, Going, awaits_row, is_faulty, is_idle, makes_epoch, tail_held, first_step, step_in, tail_for_line, Faulty, HasMade, HasPrintedLines};
 ghost use Rattle.crx_compact.specs.OpenEpochs.ColumnsState.{Idle};
 ghost use Rattle.crx_compact.specs.meaning.Compaction.{Marked, compact_epoch};
 ghost use Rattle.crx_compact.specs.Tails.{tail_left, tail_or_nothing};
 ghost use Rattle.crx_compact.specs.Steps.{lines_after_tail, tail_after, tail_written_after};
 
+use crate::block::Block;
 use crate::coded::Coded;
-use crate::expanded_lines::ExpandedLines;
 use crate::history::History;
-use crate::lines::Lines;
-use crate::printed_block::PrintedBlock;
 use crx_base::Fault;
 use crx_header::Types;
 use crx_rinex::{Epoch, begins_epoch};
 use crx_text::Text;
 use std::alloc::Global;
 use std::marker::Model;
-use std::mem;
 
 /// How far the lines of an epoch have come.
 #[derive(Clone, Copy)]
@@ -62,16 +58,12 @@ pub struct Columns {
     stage: Stage,
     /// How many satellite lines of the open epoch have come.
     count: usize,
-    /// The open epoch's lines that are printed already.
-    block: PrintedBlock,
-    lines: Lines,
     scratch: Text,
     alloc: Global,
 }
 
 impl Model for Columns {
-    ghost use Rattle.crx_compact.specs.EncodingRooms.{all_free, encoding_room};
-    ghost use Rattle.crx_compact.specs.OpenLines.{columns_state, reading_room, IsSoundBlock, IsSoundState};
+    ghost use Rattle.crx_compact.specs.OpenLines.{columns_state, IsSoundState};
     ghost use Rattle.crx_compact.specs.Placing.{IsAnnounced};
     ghost use Rattle.crx_compact.specs.ReadingRooms.{HeldColumns};
     ghost use Rattle.std.specs.Prelude.{◌≡◌, true};
@@ -80,25 +72,20 @@ impl Model for Columns {
 
     ghost view = { λ columns. record {
       state = columns_state columns.is_kept columns.stage columns.count columns.history;
-      room = reading_room columns.history columns.block;
-      encoding = all_free (encoding_room columns.history columns.lines);
-      front = columns.lines.reserved;
+      rooms = columns.history.satellites.rooms;
     } };
 
     // Where an epoch is open, a line is awaited.
     ghost invariant = { λ columns. IsSoundState columns.stage columns.count columns.history
-        × IsSoundBlock columns.stage columns.count columns.block columns.history × (columns.block.lines.reserved ≡ 0)
         × (columns.is_named ≡ true → IsAnnounced columns.history) };
 }
 
 impl Columns {
-    /// Columns without a history.
+    /// Columns without a history. Part of its callers, as a call copies its texts.
+    #[inline(always)]
     pub fn new(alloc: Global) -> Columns
         ensures empty { result.state ≡ Idle None }
-        // No memory is held.
-        ensures room { result.room ≡ no_reading_room }
-        ensures encoding { result.encoding ≡ no_encoding_room }
-        ensures front { result.front ≡ 0 }
+        ensures rooms { result.rooms ≡ [] }
     {
         Columns {
             history: History::new(alloc),
@@ -106,8 +93,6 @@ impl Columns {
             is_named: false,
             stage: Stage::Unbegun,
             count: 0,
-            block: PrintedBlock::new(alloc),
-            lines: Lines::new(alloc),
             scratch: Text::new(),
             alloc,
         }
@@ -145,29 +130,13 @@ impl Columns {
             ≡ record {
               epoch = epoch;
               lines = lines_after_tail (tail_written_after full (tail_held self.old.state)) epoch;
-              room = coded.room;
             }) }
         ensures kept { OnOk result (self.new.state
             ≡ Idle (Some (tail_after (tail_written_after full (tail_held self.old.state)) epoch))) }
         ensures refused { IfErr result (λ refused. (refused.0 ≡ epoch) × (refused.1 ≡ Fault.OutOfMemory)) }
         ensures err { OnErr result (self.new.state ≡ self.old.state) }
-        // Where there is room for all that the epoch's lines need, the answer isn't for want of memory.
-        ensures known { HasRoomForEpoch epoch self.old.encoding → self.old.front ≡ FIRST_LINES → IsOk result }
-        // After `Ok` there is, once the lines are taken back: for the epoch again, and for each one that needs no more.
-        ensures room { IfOk result (λ coded. HasRoomForEpoch epoch (with_lines coded.room self.new.encoding)
-            × (coded.room.front ≡ FIRST_LINES)) }
-        // There is never less room for encoding than before, after a refusal too, but that the lines leave with their memory.
-        ensures rooms_kept { KeepsRooms self.old.encoding.rooms self.new.encoding.rooms }
-        ensures text_kept { self.old.encoding.text ≤ self.new.encoding.text }
-        ensures reading { KeepsRooms self.old.room.rooms self.new.room.rooms × (self.new.room.block ≡ self.old.room.block) }
-        ensures lines_kept { self.old.front ≡ FIRST_LINES → IfOk result (λ coded.
-            KeepsEncodingRoom self.old.encoding (with_lines coded.room self.new.encoding)) }
-        // After `Ok` lines have no more memory than before, or than twice what the epoch needs, and a satellite no more than before, or than
-        // for its types.
-        ensures only { IfOk result (λ coded. GrowsForEpoch epoch self.old.encoding.rooms self.new.encoding.rooms
-            (made_room self.old.front self.old.encoding) coded.room) }
-        ensures err_kept { self.old.front ≡ FIRST_LINES → OnErr result
-            (KeepsEncodingRoom self.old.encoding self.new.encoding × (self.new.front ≡ FIRST_LINES)) }
+        // No satellite has less room than before, after a refusal too.
+        ensures rooms { KeepsRooms self.old.rooms self.new.rooms }
         // After any epochs at all, the lines are those of their compact text, and the columns have their tail.
         ensures left { (epochs : List Marked) → tail_held self.old.state ≡ tail_or_nothing epochs
             → OnOk result (self.new.state ≡ Idle
@@ -178,14 +147,16 @@ impl Columns {
     {
         prove!(epoch.is_full());
         self.is_named = false;
+        let Ok(mut lines) = Block::new(self.alloc) else {
+            return Err((epoch, Fault::OutOfMemory));
+        };
         let in_full = full || !self.is_kept;
         match self
             .history
-            .encode(&epoch, in_full, &mut self.scratch, &mut self.lines)
+            .encode(&epoch, in_full, &mut self.scratch, &mut lines)
         {
             Ok(()) => {
                 self.is_kept = true;
-                let lines = mem::replace(&mut self.lines, Lines::new(self.alloc));
                 Ok(Coded { epoch, lines })
             }
             Err(_) => Err((epoch, Fault::OutOfMemory)),
@@ -193,7 +164,7 @@ impl Columns {
     }
 
     /// Begins an epoch with its epoch line, which is read after the epoch before; a line that begins with `>` is read after
-    /// nothing. The counts of types hold for all lines of the epoch. Room for its printed lines is asked for here.
+    /// nothing. The counts of types hold for all lines of the epoch.
     ///
     /// `NotAnEpoch` comes where there is no history and the line doesn't begin with `>`; then `BadEpoch`,
     /// `BadSatellite` and `RepeatedSatellite`; `OutOfMemory` where something can't grow and the line has no fault. After a refusal everything
@@ -212,20 +183,21 @@ impl Columns {
             → is_faulty (first_step types.now (tail_held self.old.state) (Content line.now)) ≡ false) }
         // At a line with a fault none was asked for: there is no more room than before.
         ensures unasked { IfErr result (λ fault. (fault ≡ Fault.OutOfMemory → ⊥)
-            → KeepsRoom self.new.room self.old.room) }
+            → KeepsRooms self.new.rooms self.old.rooms) }
         // After the raw epochs accepted since everything was last forgotten, the line makes what it makes by them.
         ensures block { (older : List RawEpoch) → tail_held self.old.state ≡ tail_left older
             → OnOk result (IsReading types.now older (Content line.now ∷ []) self.new.state) }
         ensures block_fault { (older : List RawEpoch) → tail_held self.old.state ≡ tail_left older
             → IfErr result (λ fault. (epoch_at types.now older (Content line.now ∷ []) ≡ Fails 0 fault)
             ⊎ (fault ≡ Fault.OutOfMemory)) }
-        // Where there is room for all that the epoch's lines need, the answer isn't for want of memory. After `Ok` there is; and for printed
-        // lines no more is held than before, or than twice what the epoch's need.
+        // Where there is room for the epoch's satellites, the answer isn't for want of memory. After `Ok` there is.
         ensures room { (begun : OpenRawEpoch)
             → first_step types.now (tail_held self.old.state) (Content line.now) ≡ Going begun
-            → AnswersWithRoom begun self.old.room self.new.room result }
+            → AnswersWithRoom begun self.old.rooms self.new.rooms result }
         // There is never less than before, after a refusal too.
-        ensures kept { KeepsAllRoom self.old self.new }
+        ensures kept { KeepsRooms self.old.rooms self.new.rooms }
+        // No line of the epoch is printed yet.
+        ensures unprinted { (block : PendingLines) → ArePrinted self.new.state block }
     {
         let is_named = self.is_named & !begins_epoch(line);
         self.is_named = false;
@@ -236,22 +208,11 @@ impl Columns {
             .history
             .read_epoch_line(types, line, is_named, &mut self.scratch)
         {
-            Ok(()) => match self.block.begin(&self.history) {
-                Ok(()) => {
-                    self.is_named = true;
-                    self.stage = Stage::Clock;
-                    Ok(())
-                }
-                Err(_) => {
-                    forget(
-                        &mut self.history,
-                        &mut self.is_kept,
-                        &mut self.is_named,
-                        &mut self.stage,
-                    );
-                    Err(Fault::OutOfMemory)
-                }
-            },
+            Ok(()) => {
+                self.is_named = true;
+                self.stage = Stage::Clock;
+                Ok(())
+            }
             Err(fault) => {
                 forget(
                     &mut self.history,
@@ -261,27 +222,6 @@ impl Columns {
                 );
                 Err(fault)
             }
-        }
-    }
-
-    /// Takes the memory of printed lines back, once none of them is pending, for those of the next epoch: so one block of memory serves all
-    /// epochs.
-    pub fn take_room(&mut self, lines: &mut ExpandedLines)
-        requires drained { lines.old.lines ≡ [] }
-        ensures drained { lines.new.lines ≡ [] }
-        ensures others { self.new ≡ record self.old { room = self.new.room } }
-        // There is never less room than before, and where the lines have no less than there is for printed lines, it is theirs.
-        ensures kept { KeepsRoom self.old.room self.new.room }
-        ensures taken { is_idle self.old.state ≡ true → HasNoMoreRoom self.old.room.block lines.old.room
-            → self.new.room.block ≡ lines.old.room }
-        // The two stay, or change places.
-        ensures places { ((self.new.room.block ≡ lines.old.room)
-            × (lines.new.room ≡ self.old.room.block))
-            ⊎ ((self.new.room ≡ self.old.room) × (lines.new.room ≡ lines.old.room)) }
-    {
-        if self.is_idle() && self.block.lines.has_no_more_room(&lines.printed) {
-            self.block.lines.clear();
-            mem::swap(&mut self.block.lines, &mut lines.printed);
         }
     }
 
@@ -308,7 +248,7 @@ impl Columns {
             → IsReading types older lines self.old.state
             → AnswersLine types older lines (Content line.now) self.new.state result }
         // There is never less room than before.
-        ensures kept { KeepsAllRoom self.old self.new }
+        ensures kept { KeepsRooms self.old.rooms self.new.rooms }
     {
         match take_line(
             &mut self.history,
@@ -347,31 +287,23 @@ impl Columns {
         }
     }
 
-    /// Takes the next line of the epoch that was begun as [`Columns::feed`] does, with its refusals but `OutOfMemory`, and `NotAnEpoch` where
-    /// none was: each row is printed as its line is read, where [`Columns::begin`] has asked for room. `true` says that it is the last one,
-    /// and that the printed lines of the epoch are ready; no epoch is made of them.
+    /// Takes the next line of the epoch that was begun as [`Columns::feed`] does, with its refusals but
+    /// `OutOfMemory`, and `NotAnEpoch` where none was. Each row is printed as its line is read, behind those
+    /// of the epoch that are in the block already; after a refusal the block has no lines. `true` says that
+    /// it is the last one, and that the printed lines of the epoch are ready; no epoch is made of them.
     #[inline(always)]
-    pub fn feed_into(&mut self, line: &[u8], lines: &mut ExpandedLines) -> Result<bool, Fault>
+    pub fn feed_into(&mut self, line: &[u8], lines: &mut Block) -> Result<bool, Fault>
         requires short { length line.now ≤ LINE_LIMIT }
-        requires drained { lines.old.lines ≡ [] }
+        requires printed { ArePrinted self.old.state lines.old }
         ensures made { IfOk result (λ is_whole.
             HasPrintedLines (step_in self.old.state (Content line.now)) self.new.state is_whole lines.new.lines) }
         ensures refused { IfErr result (λ fault. step_in self.old.state (Content line.now) ≡ Faulty fault) }
         // At no line but the epoch line the answer is for want of memory.
         ensures unasked { IfErr result (λ fault. fault ≡ Fault.OutOfMemory → ⊥) }
         ensures emptied { OnErr result (self.new.state ≡ Idle None) }
-        ensures none { OnErr result (lines.new ≡ lines.old) }
-        // There is never less room than before, but that the lines of a whole epoch leave with their memory, in exchange for that of the
-        // lines before them.
-        ensures kept { KeepsHistoryRoom self.old.room self.new.room }
-        ensures lines_kept { IfOk result (λ is_whole. is_whole ≡ false
-            → KeepsRoom self.old.room self.new.room × (lines.new ≡ lines.old)) }
-        ensures err_kept { OnErr result (KeepsRoom self.old.room self.new.room) }
-        ensures exchanged { IfOk result (λ is_whole. is_whole ≡ true
-            → (lines.new.room ≡ self.old.room.block)
-            × (self.new.room.block ≡ lines.old.room)) }
-        ensures encoding { KeepsEncodingRoom self.old.encoding self.new.encoding }
-        ensures front { self.new.front ≡ self.old.front }
+        ensures none { OnErr result (lines.new.lines ≡ []) }
+        ensures printed { ArePrinted self.new.state lines.new }
+        ensures rooms { KeepsRooms self.old.rooms self.new.rooms }
     {
         match take_line(
             &mut self.history,
@@ -381,18 +313,17 @@ impl Columns {
             &mut self.scratch,
         ) {
             Ok(is_whole) => {
-                self.block
-                    .print(&self.history, self.count, &mut self.scratch);
+                self.history.print(self.count, lines, &mut self.scratch);
                 if !is_whole {
                     return Ok(false);
                 }
-                mem::swap(&mut self.block.lines, &mut lines.printed);
                 self.history.end();
                 self.stage = Stage::Unbegun;
                 self.is_kept = true;
                 Ok(true)
             }
             Err(fault) => {
+                lines.clear();
                 forget(
                     &mut self.history,
                     &mut self.is_kept,
@@ -402,17 +333,6 @@ impl Columns {
                 Err(fault)
             }
         }
-    }
-
-    /// Takes an epoch and its lines back: their memory serves the epochs after it.
-    pub fn take_back(&mut self, coded: Coded) -> Epoch
-        ensures epoch { result ≡ coded.epoch }
-        ensures same { (self.new.state ≡ self.old.state) × (self.new.room ≡ self.old.room) }
-        ensures encoding { self.new.encoding ≡ with_lines coded.room self.old.encoding }
-        ensures front { self.new.front ≡ coded.room.front }
-    {
-        self.lines = coded.lines;
-        coded.epoch
     }
 }
 
@@ -438,8 +358,6 @@ fn has_history(history: &mut History, is_kept: bool, line: &[u8]) -> bool
     ensures before { tail_for_line (if is_kept then Some (tail_of_history history.old) else None) line.now
         ≡ (if result then Some (tail_of_history history.new) else None) }
     ensures rooms { history.new.satellites.rooms ≡ history.old.satellites.rooms }
-    ensures held_room { history.new.held_room ≡ history.old.held_room }
-    ensures text_room { history.new.text_room ≡ history.old.text_room }
 {
     if begins_epoch(line) {
         history.clear();
@@ -465,7 +383,7 @@ fn take_line(
         step_at stage.old count.old history.old (Content line.now) ≡ Faulty fault) }
     // At no line but the epoch line the answer is for want of memory.
     ensures memory { IfErr result (λ fault. fault ≡ Fault.OutOfMemory → ⊥) }
-    ensures room { HasNoLessRoom history.old history.new }
+    ensures rooms { KeepsRooms history.old.satellites.rooms history.new.satellites.rooms }
 {
     match *stage {
         Stage::Unbegun => Err(Fault::NotAnEpoch),

@@ -5,15 +5,16 @@ ghost use Rattle.crx_base.specs.declared.limits.TheConstants.{DATE_LIMIT};
 ghost use Rattle.crx_header.specs.meaning.CompactHeader.{lines_before_header};
 ghost use Rattle.crx_rinex.specs.meaning.Epochs.{has_satellite};
 ghost use Rattle.crx_compact.specs.Encoding.{EncoderState, forgotten, tail_in};
-ghost use Rattle.crx_compact.specs.EncodingRooms.{GrowsForRow, HasRowRoom, HasSameMemory, HasTakenRow, all_free};
-ghost use Rattle.crx_compact.specs.LineLists.{lines_text};
+ghost use Rattle.crx_compact.specs.Placing.{HasRoom, KeepsRooms};
+ghost use Rattle.crx_compact.specs.declared.block.TheConstants.{LINES_LIMIT};
+ghost use Rattle.crx_compact.specs.Blocks.{lines_text};
 ghost use Rattle.crx_compact.specs.EpochLinesRead.{history_cleared};
 ghost use Rattle.crx_compact.specs.Steps.{lines_after_tail, tail_after};
 ghost use Rattle.crx_compact.specs.Written.{epoch_by_rows};
 
+use crate::block::Block;
 use crate::history::History;
 use crate::kept_tail::KeptTail;
-use crate::lines::{FIRST_LINES, Lines};
 use crx_base::options::in_columns;
 use crx_header::crinex::{CRINEX_PROGRAM, CRINEX_PROGRAM_LABEL, CRINEX_VERSION_LINE};
 use crx_rinex::{EpochLine, RowBuffer, RowsSoFar};
@@ -22,11 +23,11 @@ use crx_text::appending::append;
 use std::alloc::{AllocError, Global};
 use std::marker::Model;
 
-/// Makes the compact lines of epochs whose rows come one by one, and has them ready, as it has the two lines before the header. All memory but
-/// that of an epoch's rows is taken at the beginning, for the texts of all epochs too.
+/// Makes the compact lines of epochs whose rows come one by one, and has them ready, as it has the two lines
+/// before the header. All memory but that of an epoch's satellites is taken at the beginning.
 #[derive(Drop)]
 pub struct Encoder {
-    history: History,
+    history: Box<History>,
     /// Whether an epoch came since everything was last forgotten.
     is_kept: bool,
     /// Whether the open epoch was asked for in full; it is in full also where nothing is kept.
@@ -34,7 +35,7 @@ pub struct Encoder {
     /// Whether an epoch is open; then no line is ready.
     is_open: bool,
     /// The lines that are ready, or the compact lines of the open epoch so far.
-    made: Lines,
+    made: Block,
     scratch: Box<Text>,
     /// The tail of the epochs before the open one, whose rows change the history in place.
     before: KeptTail,
@@ -45,9 +46,6 @@ pub struct Encoder {
 impl Model for Encoder {
     ghost use Rattle.std.specs.Prelude.{◌≡◌, ◌≤◌, [], if◌then◌else◌};
     ghost use Rattle.crx_compact.specs.Encoding.{EncoderState, IsEncoding};
-    ghost use Rattle.crx_compact.specs.EncodingRooms.{encoding_room};
-    ghost use Rattle.crx_compact.specs.declared.history.TheConstants.{TEXT_LIMIT};
-    ghost use Rattle.crx_compact.specs.declared.lines.TheConstants.{FIRST_LINES};
 
     ghost Value = { EncoderState };
 
@@ -57,12 +55,11 @@ impl Model for Encoder {
       in_full = encoder.in_full;
       rows = encoder.rows.rows;
       pending = if encoder.is_open then [] else encoder.made.lines;
-      room = encoding_room encoder.history encoder.made;
+      rooms = encoder.history.value.satellites.rooms;
     } };
 
     ghost invariant = { λ encoder. IsEncoding encoder.is_open encoder.before.tail encoder.is_kept encoder.in_full
-        encoder.rows.rows encoder.history encoder.made.lines encoder.made.front
-        × (encoder.made.reserved ≡ FIRST_LINES) × (TEXT_LIMIT ≤ encoder.history.text_room) };
+        encoder.rows.rows encoder.history.value encoder.made };
 }
 
 impl Encoder {
@@ -71,18 +68,16 @@ impl Encoder {
     ghost use Rattle.std.specs.Option.{option_copied};
     ghost use Rattle.crx_compact.specs.contracts.encoder.Encoder.{the_row};
 
-    /// An encoder before the first line. It takes the memory for all lines but those of an epoch's rows; `AllocError` comes where there is
-    /// none.
+    /// An encoder before the first line. It takes the memory for all lines; `AllocError` comes where there is none.
     pub fn new(alloc: Global) -> Result<Encoder, AllocError>
         ensures before { IfOk result (λ e. e.before ≡ None) }
         ensures closed { IfOk result (λ e. e.is_open ≡ false) }
         ensures rows { IfOk result (λ e. e.rows ≡ []) }
         ensures pending { IfOk result (λ e. e.pending ≡ []) }
     {
-        let mut made = Lines::new(alloc);
-        made.reserve_front(FIRST_LINES)?;
+        let made = Block::new(alloc)?;
         let scratch = Box::new(alloc, Text::new())?;
-        let history = History::with_texts(alloc)?;
+        let history = Box::new(alloc, History::new(alloc))?;
         Ok(Encoder {
             history,
             is_kept: false,
@@ -98,7 +93,7 @@ impl Encoder {
     /// Forgets every epoch, the open one too, and drops all lines.
     pub fn reset(&mut self)
         // Whatever was asked for is used again.
-        ensures emptied { self.new ≡ forgotten self.old [] (all_free self.old.room) }
+        ensures emptied { self.new ≡ forgotten self.old [] }
     {
         self.is_open = false;
         self.made.clear();
@@ -113,7 +108,7 @@ impl Encoder {
     /// Makes the two lines before the header ready, in place of all others, and forgets every epoch.
     pub fn put_first_lines(&mut self, date: &[u8])
         requires dated { length date.now ≤ DATE_LIMIT }
-        ensures put { self.new ≡ forgotten self.old (lines_before_header date.now true) (all_free self.old.room) }
+        ensures put { self.new ≡ forgotten self.old (lines_before_header date.now true) }
     {
         self.is_open = false;
         self.made.clear();
@@ -131,8 +126,8 @@ impl Encoder {
         self.made.put_front(&CRINEX_VERSION_LINE);
     }
 
-    /// Begins an epoch, in place of all lines: in full, where that is asked for or there is no epoch before, else as differences from the
-    /// epoch before. All room that was ever asked for lines is free again.
+    /// Begins an epoch, in place of all lines: in full, where that is asked for or there is no epoch before, else as
+    /// differences from the epoch before.
     pub fn begin(&mut self, full: bool)
         requires closed { self.old.is_open ≡ false }
         ensures begun { self.new ≡ record self.old {
@@ -140,7 +135,6 @@ impl Encoder {
           in_full = full;
           rows = [];
           pending = [];
-          room = all_free self.old.room;
         } }
     {
         self.history.begin_rows(full || !self.is_kept);
@@ -154,19 +148,17 @@ impl Encoder {
     #[inline(always)]
     pub fn encode_row(&mut self, row: &RowBuffer) -> Result<bool, AllocError>
         requires open { self.old.is_open ≡ true }
+        requires few { length self.old.rows < LINES_LIMIT }
         ensures answer { IfOk result (λ is_new. is_new ≡ not (has_satellite row.now.name self.old.rows)) }
         ensures written { IfOk result (λ is_new. is_new ≡ true
-            → self.new ≡ record self.old { rows = self.old.rows ++ row.now ∷ []; room = self.new.room }) }
+            → self.new ≡ record self.old { rows = self.old.rows ++ row.now ∷ []; rooms = self.new.rooms }) }
         ensures repeated { IfOk result (λ is_new. is_new ≡ false → self.new ≡ self.old) }
         ensures memory { OnErr result (has_satellite row.now.name self.old.rows ≡ false) }
-        ensures forgotten { OnErr result (self.new ≡ forgotten self.old [] self.new.room) }
+        ensures forgotten { OnErr result (self.new ≡ record (forgotten self.old []) { rooms = self.new.rooms }) }
         // Where there is room for the row, the answer isn't for want of memory.
-        ensures known { HasRowRoom row.now self.old.room → IsOk result }
-        ensures taken { IfOk result (λ is_new. is_new ≡ true
-            → HasTakenRow row.now self.old.room self.new.room) }
-        // There is never less room than before, after a refusal too; and lines have no more memory than before, or than twice what those so
-        // far and the row need.
-        ensures only { GrowsForRow row.now self.old.room self.new.room }
+        ensures known { HasRoom row.now.name (length row.now.values) self.old.rooms → IsOk result }
+        ensures room { IfOk result (λ is_new. is_new ≡ true → HasRoom row.now.name (length row.now.values) self.new.rooms) }
+        ensures rooms { KeepsRooms self.old.rooms self.new.rooms }
     {
         match self.history.write_row(
             row.name(),
@@ -194,7 +186,7 @@ impl Encoder {
         }
     }
 
-    /// Ends the open epoch, whose rows have all come: its compact lines are ready. There is room for its text.
+    /// Ends the open epoch, whose rows have all come: its compact lines are ready.
     pub fn end(&mut self, head: &EpochLine)
         requires open { self.old.is_open ≡ true }
         requires counted { length self.old.rows ≡ head.now.count }
@@ -204,12 +196,10 @@ impl Encoder {
             ≡ Some (tail_after (tail_in self.old) (epoch_by_rows head.now self.old.rows)) }
         ensures closed { self.new.is_open ≡ false }
         ensures rows { self.new.rows ≡ [] }
-        // There is never less room than before, and memory for no more satellites and lines.
-        ensures memory { HasSameMemory self.old.room self.new.room }
+        ensures rooms_kept { self.new.rooms ≡ self.old.rooms }
     {
         self.history
-            .end_rows(head, &mut self.scratch, &mut self.made)
-            .unwrap();
+            .end_rows(head, &mut self.scratch, &mut self.made);
         self.is_kept = true;
         self.before = KeptTail::of(&self.history);
         self.rows = RowsSoFar::new();
@@ -220,7 +210,7 @@ impl Encoder {
     pub fn is_drained(&self) -> bool
         ensures value { IsTrue result ↔ (self.now.pending ≡ []) }
     {
-        self.is_open || self.made.is_empty()
+        self.is_open || self.made.is_drained()
     }
 
     /// Borrows the next of the lines that are ready, without its line end; `None` once none is pending.

@@ -1,6 +1,6 @@
 //! The history, which each epoch's lines are made and read after, and which they change in place: Hatanaka's Compact RINEX 3.0.
 
-ghost use Rattle.std.specs.Prelude.{List, ℕ, sum, flat_map, ◌≡◌, ◌≤◌, ◌<◌, ◌+◌, ◌*◌, ◌++◌, ◌∷◌, ◌⊎◌, if◌then◌else◌, [], true, false, None, Some, Ok, Err, All, length, max, take, map, slice_get, is_some, OnOk, OnErr, IfOk, IfErr, IsOk, vec_capacity};
+ghost use Rattle.std.specs.Prelude.{List, ℕ, sum, flat_map, ◌≡◌, ◌≤◌, ◌<◌, ◌+◌, ◌-◌, ◌*◌, ◌++◌, ◌∷◌, ◌⊎◌, if◌then◌else◌, [], true, false, None, Some, Ok, Err, All, length, max, take, map, slice_get, is_some, OnOk, OnErr, IfOk, IfErr, IsOk, vec_capacity};
 ghost use Rattle.std.specs.Result.{is_ok};
 ghost use Rattle.crx_text.specs.meaning.Columns.{columns, without_end_blanks};
 ghost use Rattle.crx_base.specs.declared.limits.TheConstants.{HEAD_WIDTH, LINE_LIMIT, NAME_WIDTH, SATELLITES_LIMIT};
@@ -11,14 +11,14 @@ ghost use Rattle.crx_rinex.specs.meaning.Observations.{Row};
 ghost use Rattle.crx_header.specs.meaning.Satellites.{types_of_satellite};
 ghost use Rattle.crx_rinex.specs.meaning.Printing.{printed_head};
 ghost use Rattle.crx_compact.specs.ArcSteps.{shown_value};
-ghost use Rattle.crx_compact.specs.EncodingRooms.{GrowsForEpoch, GrowsForRow, HasRoomForEpoch, HasRowRoom, HasSameMemory, HasTakenRow, encoding_room};
 ghost use Rattle.crx_compact.specs.EpochLinesRead.{AnswersSatellites, AreSatellitesRefused, IsEpochLineRead, IsEpochLineRefused, history_cleared};
 ghost use Rattle.crx_compact.specs.HeldRows.{IsAwaitedSatellite, past_of_tail, row_held};
-ghost use Rattle.crx_compact.specs.LineLists.{HasLineRoom, HasSameRoom, HasTakenLine, KeepsLinesRoom, room_of_lines};
+ghost use Rattle.crx_compact.specs.Blocks.{HasTakenLine, no_lines};
+ghost use Rattle.crx_compact.specs.declared.block.TheConstants.{FIRST_LINES, LINES_LIMIT};
+ghost use Rattle.crx_compact.specs.PrintedBlocks.{IsPrinted};
 ghost use Rattle.crx_compact.specs.meaning.CompactPlaces.{clock_line_read, satellites_of_text};
 ghost use Rattle.crx_compact.specs.meaning.EpochText.{names_in, satellites_named};
-ghost use Rattle.crx_compact.specs.Placing.{GrowsOnly, HasAllowedCount, HasAskedRoom, HasNoLessRoom, HasSameTexts, HaveRoom, IsAnnounced, IsAskedAmong, IsBetween, IsPlaced, IsRowRead, KeepsRooms, padded, row_of_parts, row_room, satellite_of, tail_of_history};
-ghost use Rattle.crx_compact.specs.declared.history.TheConstants.{TEXT_LIMIT};
+ghost use Rattle.crx_compact.specs.Placing.{HasAllowedCount, HasAskedRoom, HasRoom, HaveRoom, IsAnnounced, IsBetween, IsPlaced, IsRowRead, KeepsRooms, padded, row_of_parts, satellite_of, tail_of_history};
 ghost use Rattle.crx_compact.specs.Written.{AreRowsWritten, IsEpochWritten, IsRowWritten, epoch_by_rows};
 ghost use Rattle.crx_rinex.specs.meaning.SatelliteLines.{IsSoundRow};
 ghost use Rattle.crx_compact.specs.RowsSoFar.{NamesSatellites, HasClock};
@@ -27,87 +27,55 @@ ghost use Rattle.crx_compact.specs.Steps.{no_tail};
 ghost use Rattle.crx_compact.specs.Tails.{RowTail, Tail};
 
 use crate::arc::ClockArc;
-use crate::cells::CELL_ROOM;
-use crate::lines::{FIRST_LINES, Lines, lengthen};
+use crate::block::Block;
 use crate::refusals::prepare_names;
 use crate::satellites::Satellites;
 use crx_base::Fault;
 use crx_base::limits::{HEAD_WIDTH, LINE_LIMIT, NAME_WIDTH, SATELLITES_LIMIT, TYPES_LIMIT};
 use crx_header::{Types, after_columns, all_blank, identifier, padded, put_identifier};
 use crx_rinex::{Epoch, EpochLine, SatRow, begins_epoch, print_head, types_of_satellite};
-use crx_text::block::put_text;
+use crx_text::appending::append;
 use crx_text::columns::end_trimmed;
 use crx_text::difference::{append_difference, patch_bytes};
 use crx_text::{Text, code_print, code_read, trim_end};
 use std::alloc::{AllocError, Global};
 use std::marker::Model;
-use std::mem;
-
-/// How long the text of an epoch can be: columns 1 to 41 of its line, and the identifiers of as many satellites as it may have.
-pub const TEXT_LIMIT: usize = HEAD_WIDTH + NAME_WIDTH * SATELLITES_LIMIT;
 
 /// The history: the text of the newest epoch, the clock's arc, and its satellites in the order of the file.
 #[derive(Drop)]
 pub struct History {
-    text: Vec<u8>,
+    text: Text,
     /// The text of the epoch whose lines are made next, while they are made.
-    next_text: Vec<u8>,
+    next_text: Text,
     clock: ClockArc,
     satellites: Satellites,
     alloc: Global,
 }
 
 impl Model for History {
-    ghost use Rattle.std.specs.Prelude.{◌≤◌, length, min, vec_capacity};
-    ghost use Rattle.crx_base.specs.declared.limits.TheConstants.{LINE_LIMIT};
     ghost use Rattle.crx_compact.specs.Placing.{OpenHistory};
 
     ghost Value = { OpenHistory };
 
-    ghost view = { λ history. record {
-      text = history.text.items;
-      next_text = history.next_text.items;
-      text_room = min (vec_capacity history.text) (vec_capacity history.next_text);
-      held_room = vec_capacity history.text;
-      clock = history.clock;
-      satellites = history.satellites;
-    } };
-
-    ghost invariant = { λ history. (length history.text.items ≤ LINE_LIMIT) × (length history.next_text.items ≤ LINE_LIMIT)
-        × (vec_capacity history.text ≤ LINE_LIMIT) × (vec_capacity history.next_text ≤ LINE_LIMIT) };
+    ghost view = { λ history. record { text = history.text; clock = history.clock; satellites = history.satellites } };
 }
 
 impl History {
-    /// The history where everything starts anew: an empty text, and no arcs and satellites.
+    /// The history where everything starts anew: an empty text, and no arcs and satellites. Part of its
+    /// callers, as a call copies its texts.
+    #[inline(always)]
     pub(crate) fn new(alloc: Global) -> History
         ensures empty { tail_of_history result ≡ no_tail }
         ensures between { IsBetween result }
-        ensures room { (result.text_room ≡ 0) × (result.held_room ≡ 0) × (result.satellites.rooms ≡ []) }
+        ensures rooms { result.satellites.rooms ≡ [] }
     {
         History {
-            text: Vec::new(alloc),
-            next_text: Vec::new(alloc),
+            text: Text::new(),
+            next_text: Text::new(),
             clock: ClockArc::new(),
             satellites: Satellites::new(alloc),
             alloc,
         }
-    }
-
-    /// The same, with room for the texts of all epochs.
-    pub(crate) fn with_texts(alloc: Global) -> Result<History, AllocError>
-        ensures empty { IfOk result (λ history. tail_of_history history ≡ no_tail) }
-        ensures between { IfOk result IsBetween }
-        ensures room { IfOk result (λ history. TEXT_LIMIT ≤ history.text_room) }
-    {
-        let text = Vec::with_capacity(alloc, TEXT_LIMIT)?;
-        let next_text = Vec::with_capacity(alloc, TEXT_LIMIT)?;
-        Ok(History {
-            text,
-            next_text,
-            clock: ClockArc::new(),
-            satellites: Satellites::new(alloc),
-            alloc,
-        })
     }
 
     /// Forgets everything; the memory is used again.
@@ -119,41 +87,26 @@ impl History {
         self.satellites.clear();
     }
 
-    /// Puts the compact lines of an epoch in place of others: in full, where that is asked for, else as differences from the epoch before. The
-    /// history is the one after the epoch. All memory is asked for first, so that after `AllocError` the history stays.
+    /// Puts the compact lines of an epoch into a block without lines: in full, where that is asked for, else as differences from the epoch
+    /// before. The history is the one after the epoch. All memory is asked for first, so that after `AllocError` the history stays.
     pub(crate) fn encode(
         &mut self,
         epoch: &Epoch,
         in_full: bool,
         scratch: &mut Text,
-        lines: &mut Lines,
+        lines: &mut Block,
     ) -> Result<(), AllocError>
         requires sound { IsSoundEpoch epoch.now }
         requires whole { is_full_epoch epoch.now ≡ true }
         requires between { IsBetween self.old }
+        requires none { lines.old ≡ no_lines }
         ensures written { OnOk result (IsEpochWritten
             (if in_full then no_tail else tail_of_history self.old) epoch.now self.new lines.new.lines) }
         ensures err { OnErr result (tail_of_history self.new ≡ tail_of_history self.old) }
         ensures between { IsBetween self.new }
-        // Where room was asked for before, the answer isn't for want of memory.
-        ensures known { HasRoomForEpoch epoch.now (encoding_room self.old lines.old)
-            → FIRST_LINES ≡ lines.old.reserved → IsOk result }
-        // After `Ok` there is, and there is never less room than before, after a refusal too.
-        ensures room { OnOk result (HasRoomForEpoch epoch.now (encoding_room self.new lines.new)) }
-        ensures reserved { OnOk result (lines.new.reserved ≡ FIRST_LINES) }
-        ensures rooms_kept { KeepsRooms self.old.satellites.rooms self.new.satellites.rooms }
-        ensures text_kept { self.old.text_room ≤ self.new.text_room }
-        ensures lines_kept { FIRST_LINES ≡ lines.old.reserved → KeepsLinesRoom lines.old lines.new }
-        ensures only { OnOk result (GrowsForEpoch epoch.now self.old.satellites.rooms self.new.satellites.rooms
-            (room_of_lines lines.old) (room_of_lines lines.new)) }
+        ensures rooms { KeepsRooms self.old.satellites.rooms self.new.satellites.rooms }
     {
-        let length = HEAD_WIDTH + NAME_WIDTH * epoch.count();
-        make_long(&mut self.next_text, length, length)?;
-        self.text
-            .reserve_exact(length.saturating_sub(self.text.len()))?;
-        let room = prepare_rows(&mut self.satellites, epoch)?;
-        lines.reserve_front(FIRST_LINES)?;
-        lines.make_room(epoch.count(), room, room)?;
+        prepare_rows(&mut self.satellites, epoch)?;
         self.begin_rows(in_full);
         let mut index = 0;
         while let Some(row) = epoch.row(index) {
@@ -161,7 +114,7 @@ impl History {
                 .unwrap();
             index += 1;
         }
-        self.end_rows(epoch.head(), scratch, lines).unwrap();
+        self.end_rows(epoch.head(), scratch, lines);
         Ok(())
     }
 
@@ -169,12 +122,7 @@ impl History {
     pub(crate) fn begin_rows(&mut self, in_full: bool)
         requires between { IsBetween self.old }
         ensures begun { AreRowsWritten (if in_full then no_tail else tail_of_history self.old) [] self.new [] }
-        // No memory is asked for, and the text that is made next stays.
-        ensures memory { self.new ≡ record self.old {
-          text = self.new.text;
-          clock = self.new.clock;
-          satellites = record self.new.satellites { rooms = self.old.satellites.rooms };
-        } }
+        ensures rooms { self.new.satellites.rooms ≡ self.old.satellites.rooms }
     {
         if in_full {
             self.clear();
@@ -191,68 +139,52 @@ impl History {
         values: &[Option<i64>],
         flags: &[u8],
         scratch: &mut Text,
-        lines: &mut Lines,
+        lines: &mut Block,
     ) -> Result<bool, AllocError>
         requires sound { IsSoundRow (row_of_parts name.now values.now flags.now) }
+        requires left { 0 < lines.old.left }
         ensures written { (after : Tail) (rows : List Row) → AreRowsWritten after rows self.old lines.old.lines
             → IfOk result (IsRowWritten after rows (row_of_parts name.now values.now flags.now)
             self.new lines.new.lines) }
         ensures same { IfOk result (λ is_new. is_new ≡ false → (self.new ≡ self.old) × (lines.new ≡ lines.old)) }
         ensures memory { (after : Tail) (rows : List Row) → AreRowsWritten after rows self.old lines.old.lines
             → OnErr result (has_satellite name.now rows ≡ false) }
-        ensures front { lines.new.front ≡ lines.old.front }
-        ensures reserved { lines.new.reserved ≡ lines.old.reserved }
+        ensures taken { IfOk result (λ is_new. is_new ≡ true → HasTakenLine lines.old lines.new) }
         // Where room was asked for before, the answer isn't for want of memory.
-        ensures known { HasRowRoom (row_of_parts name.now values.now flags.now) (encoding_room self.old lines.old)
-            → IsOk result }
-        ensures taken { IfOk result (λ is_new. is_new ≡ true → HasTakenRow
-            (row_of_parts name.now values.now flags.now) (encoding_room self.old lines.old)
-            (encoding_room self.new lines.new)) }
-        ensures only { GrowsForRow (row_of_parts name.now values.now flags.now) (encoding_room self.old lines.old)
-            (encoding_room self.new lines.new) }
-        ensures texts { HasSameTexts self.old self.new }
+        ensures known { HasRoom name.now (length values.now) self.old.satellites.rooms → IsOk result }
+        ensures room { IfOk result (λ is_new. is_new ≡ true → HasRoom name.now (length values.now) self.new.satellites.rooms) }
+        ensures rooms { KeepsRooms self.old.satellites.rooms self.new.satellites.rooms }
     {
         let count = values.len();
         if !self.satellites.place_or_add(name, count)? {
             return Ok(false);
         }
-        let room = CELL_ROOM * count + 2 * TYPES_LIMIT + 1;
-        lines.make_room(1, room, room)?;
         let last = self.satellites.placed() - 1;
         lines.put_row(&mut self.satellites, last, values, flags, scratch);
         Ok(true)
     }
 
     /// Ends an epoch whose rows have all been written: puts its first two lines in front of theirs. The history is the one after the epoch.
-    pub(crate) fn end_rows(
-        &mut self,
-        head: &EpochLine,
-        scratch: &mut Text,
-        lines: &mut Lines,
-    ) -> Result<(), AllocError>
+    pub(crate) fn end_rows(&mut self, head: &EpochLine, scratch: &mut Text, lines: &mut Block)
         requires counted { length self.old.satellites.rows ≡ head.now.count }
         requires front { FIRST_LINES ≤ lines.old.front }
         ensures written { (after : Tail) (rows : List Row) → AreRowsWritten after rows self.old lines.old.lines
-            → OnOk result (IsEpochWritten after (epoch_by_rows head.now rows) self.new lines.new.lines) }
+            → IsEpochWritten after (epoch_by_rows head.now rows) self.new lines.new.lines }
         ensures between { IsBetween self.new }
-        ensures lines { HasSameRoom lines.old lines.new }
-        // Where room was asked for before, the answer isn't for want of memory.
-        ensures known { HEAD_WIDTH + NAME_WIDTH * head.now.count ≤ length self.old.next_text → IsOk result }
-        ensures ample { TEXT_LIMIT ≤ self.old.text_room → IsOk result }
-        ensures memory { HasSameMemory (encoding_room self.old lines.old) (encoding_room self.new lines.new) }
+        ensures rooms { self.new.satellites.rooms ≡ self.old.satellites.rooms }
     {
         self.satellites.end();
-        renew_text(&mut self.next_text, head, &self.satellites)?;
+        renew_text(&mut self.next_text, head, &self.satellites);
         scratch.clear();
         code_print(self.clock.push(head.clock()), scratch).unwrap();
         lines.put_front(scratch.bytes());
         // The texts of two epochs mostly differ by their time alone.
         scratch.clear();
-        append_difference(&self.text, &self.next_text, scratch);
+        append_difference(self.text.bytes(), self.next_text.bytes(), scratch);
         scratch.trim_end_blanks();
         lines.put_front(scratch.bytes());
-        mem::swap(&mut self.text, &mut self.next_text);
-        Ok(())
+        self.text.clear();
+        append(&mut self.text, self.next_text.bytes());
     }
 
     /// Reads an epoch line: replaces the text by the one that it makes, and has the satellites of that text come, each with as many types as
@@ -273,9 +205,9 @@ impl History {
         requires named { is_named ≡ true → IsAnnounced self.old }
         ensures ok { OnOk result (IsEpochLineRead types.now line.now self.old self.new) }
         ensures err { IfErr result (IsEpochLineRefused types.now line.now self.old self.new) }
-        ensures room { HasNoLessRoom self.old self.new }
+        ensures rooms { KeepsRooms self.old.satellites.rooms self.new.satellites.rooms }
     {
-        if patch_bytes(&self.text, line, scratch).is_err() {
+        if patch_bytes(self.text.bytes(), line, scratch).is_err() {
             return Err(Fault::BadEpoch);
         }
         self.satellites.begin();
@@ -283,13 +215,8 @@ impl History {
         // Most lines have marks in the columns before the identifiers alone.
         let are_same = is_named & (line.len() <= HEAD_WIDTH);
         read_satellites(types, text, are_same, &mut self.satellites)?;
-        // The text is no longer than this. So there is room for that of each later epoch with no more satellites.
-        let room = HEAD_WIDTH + NAME_WIDTH * self.satellites.placed();
-        if make_long(&mut self.text, text.len(), room).is_err() {
-            return Err(Fault::OutOfMemory);
-        }
-        put_text(&mut self.text, 0, text);
-        self.text.truncate(text.len());
+        self.text.clear();
+        append(&mut self.text, text);
         Ok(())
     }
 
@@ -343,7 +270,7 @@ impl History {
         ensures err { IfErr result (λ fault. (row : RowTail)
             → slice_get self.old.satellites.rows index ≡ Some row
             → row_held (Some row) (satellite_of row) line.now ≡ Err fault) }
-        ensures room { HasNoLessRoom self.old self.new }
+        ensures rooms { KeepsRooms self.old.satellites.rooms self.new.satellites.rooms }
     {
         if begins_epoch(line) {
             return Err(Fault::Truncated);
@@ -382,98 +309,68 @@ impl History {
         ensures head { result.head ≡ columns self.now.text 1 HEAD_WIDTH }
         ensures clock { result.clock ≡ shown_value self.now.clock }
     {
-        EpochLine::new(padded(&self.text, 1), self.clock.value()).unwrap()
+        EpochLine::new(padded(self.text.bytes(), 1), self.clock.value()).unwrap()
     }
 
     /// Puts the first line of the epoch that the history shows after others, for which there is room. Most epochs have no clock offset:
     /// then the columns are put as they are, which saves some 130 instructions.
-    pub(crate) fn put_head(&self, lines: &mut Lines, scratch: &mut Text)
+    pub(crate) fn put_head(&self, lines: &mut Block, scratch: &mut Text)
         requires announced { is_some (epoch_count (columns self.now.text 1 HEAD_WIDTH)) ≡ true }
-        requires room { HasLineRoom (LINE_LIMIT + 1) lines.old }
+        requires left { 0 < lines.old.left }
         ensures lines { lines.new.lines ≡ lines.old.lines
             ++ printed_head (columns self.now.text 1 HEAD_WIDTH) (shown_value self.now.clock) ∷ [] }
-        ensures taken { HasTakenLine (LINE_LIMIT + 1) lines.old lines.new }
+        ensures taken { HasTakenLine lines.old lines.new }
     {
         let Some(_) = self.clock.value() else {
-            lines.put(end_trimmed(&self.text, 1, HEAD_WIDTH));
+            lines.put(end_trimmed(self.text.bytes(), 1, HEAD_WIDTH));
             return;
         };
         print_head(&self.head(), scratch);
         lines.put(scratch.bytes());
     }
 
-    /// Its satellites.
+    /// Prints what the line that came last has made known of an epoch of which so many rows have come: its
+    /// first line, in place of all lines, or the last of these rows, behind the others.
     #[inline(always)]
-    pub(crate) fn satellites(&self) -> &Satellites
-        ensures value { result.now ≡ self.now.satellites }
+    pub(crate) fn print(&self, count: usize, lines: &mut Block, scratch: &mut Text)
+        requires announced { IsAnnounced self.now }
+        requires within { count ≤ length self.now.satellites.rows }
+        requires before { 0 < count → IsPrinted (count - 1) (tail_of_history self.now) lines.old }
+        ensures printed { IsPrinted count (tail_of_history self.now) lines.new }
     {
-        &self.satellites
+        if count == 0 {
+            lines.clear();
+            self.put_head(lines, scratch);
+            return;
+        }
+        lines.put_printed(&self.satellites, count - 1);
     }
 }
 
-/// Asks for all memory that the lines of an epoch's rows need of their satellites. Gives as many bytes as these lines have at most, each
-/// with its LF.
-fn prepare_rows(satellites: &mut Satellites, epoch: &Epoch) -> Result<usize, AllocError>
-    ensures bytes { IfOk result (λ bytes. bytes ≡ sum (map row_room epoch.now.rows)) }
+/// Asks for all memory that the satellites of an epoch's rows need.
+fn prepare_rows(satellites: &mut Satellites, epoch: &Epoch) -> Result<(), AllocError>
     ensures asked { HasAskedRoom satellites.old satellites.new }
     ensures room { OnOk result (HaveRoom epoch.now.rows satellites.new.rooms) }
-    ensures only { OnOk result (GrowsOnly (IsAskedAmong epoch.now.rows) satellites.old.rooms satellites.new.rooms) }
-    ensures known { HaveRoom epoch.now.rows satellites.old.rooms → IsOk result }
 {
-    let mut bytes = 0;
     let mut index = 0;
     while let Some(row) = epoch.row(index) {
-        let count = row.values().len();
-        satellites.prepare(row.name(), count)?;
-        bytes += CELL_ROOM * count + 2 * TYPES_LIMIT + 1;
+        satellites.prepare(row.name(), row.values().len())?;
         index += 1;
     }
-    Ok(bytes)
+    Ok(())
 }
 
 /// Replaces a text by that of an epoch, without the blanks at its end: columns 1 to 41 of its line, and the identifiers of its satellites.
-fn renew_text(
-    text: &mut Vec<u8>,
-    head: &EpochLine,
-    satellites: &Satellites,
-) -> Result<(), AllocError>
+fn renew_text(text: &mut Text, head: &EpochLine, satellites: &Satellites)
     requires counted { length satellites.now.rows ≡ head.now.count }
-    requires text { length text.old.items ≤ LINE_LIMIT }
-    ensures ok { OnOk result (text.new.items ≡ without_end_blanks
-        (head.now.head ++ flat_map (λ (row : RowTail). row.name) satellites.now.rows)) }
-    ensures within { length text.new.items ≤ LINE_LIMIT }
-    ensures known { HEAD_WIDTH + NAME_WIDTH * head.now.count ≤ length text.old.items → IsOk result }
-    ensures ample { TEXT_LIMIT ≤ vec_capacity text.old → IsOk result }
-    ensures room { vec_capacity text.old ≤ vec_capacity text.new }
-    ensures held { vec_capacity text.new ≤ max (vec_capacity text.old) (HEAD_WIDTH + NAME_WIDTH * head.now.count) }
-    ensures bounded { vec_capacity text.old ≤ LINE_LIMIT → vec_capacity text.new ≤ LINE_LIMIT }
+    ensures renewed { text.new ≡ without_end_blanks
+        (head.now.head ++ flat_map (λ (row : RowTail). row.name) satellites.now.rows) }
 {
-    let length = HEAD_WIDTH + NAME_WIDTH * head.count();
-    make_long(text, length, length)?;
-    put_text(text, 0, head.columns());
-    put_names(text, satellites);
-    let end = trim_end(&text[..length]).len();
-    text.truncate(end);
-    Ok(())
-}
-
-/// Makes a text have at least so many characters, and memory for as many as `room`; those that are there stay.
-fn make_long(text: &mut Vec<u8>, count: usize, room: usize) -> Result<(), AllocError>
-    requires short { room ≤ LINE_LIMIT }
-    requires fits { count ≤ room }
-    requires within { length text.old.items ≤ LINE_LIMIT }
-    ensures room { OnOk result (count ≤ length text.new.items) }
-    ensures within { length text.new.items ≤ LINE_LIMIT }
-    ensures memory { OnOk result (room ≤ vec_capacity text.new) }
-    ensures known { room ≤ length text.old.items → IsOk result }
-    ensures asked { room ≤ vec_capacity text.old → IsOk result }
-    ensures capacity { vec_capacity text.old ≤ vec_capacity text.new }
-    ensures held { vec_capacity text.new ≤ max (vec_capacity text.old) room }
-{
-    if text.len() < count || text.capacity() < room {
-        lengthen(text, count, room, room, b' ')?;
-    }
-    Ok(())
+    text.clear();
+    append(text, head.columns());
+    put_names(&mut text.bytes, satellites);
+    text.len = HEAD_WIDTH + NAME_WIDTH * head.count();
+    text.trim_end_blanks();
 }
 
 /// Puts the identifiers of the satellites that have come behind the columns of an epoch line.

@@ -1,16 +1,14 @@
 //! Laws over the definitions of this crate: each is the contract of a function that does nothing.
 
 ghost use Rattle.std.specs.Prelude.{◌≡◌};
-ghost use Rattle.crx_compact.specs.Holdings.{satellite_with, satellites_with, history_with, lines_with, expanded_lines_with, printed_block_with, columns_with, encoder_with, kept_tail_with, rows_with};
+ghost use Rattle.crx_compact.specs.Holdings.{satellite_with, satellites_with, history_with, block_with, columns_with, encoder_with, kept_tail_with, rows_with};
 ghost use Rattle.crx_compact.specs.declared.encoder.Encoder.TheInside.{Inside as EncoderInside};
 ghost use Rattle.crx_compact.specs.declared.kept_tail.KeptTail.{KeptTail};
 ghost use Rattle.crx_rinex.specs.declared.rows_so_far.RowsSoFar.{RowsSoFar};
 ghost use Rattle.crx_compact.specs.declared.satellite.SatelliteHistory.TheInside.{Inside as SatelliteHistoryInside};
 ghost use Rattle.crx_compact.specs.declared.satellites.Satellites.TheInside.{Inside as SatellitesInside};
 ghost use Rattle.crx_compact.specs.declared.history.History.TheInside.{Inside as HistoryInside};
-ghost use Rattle.crx_compact.specs.declared.lines.Lines.TheInside.{Inside as LinesInside};
-ghost use Rattle.crx_compact.specs.declared.expanded_lines.ExpandedLines.TheInside.{Inside as ExpandedLinesInside};
-ghost use Rattle.crx_compact.specs.declared.printed_block.PrintedBlock.{PrintedBlock};
+ghost use Rattle.crx_compact.specs.declared.block.Block.TheInside.{Inside as BlockInside};
 ghost use Rattle.crx_compact.specs.declared.columns.Columns.TheInside.{Inside as ColumnsInside};
 
 /// What columns hold, the history among it, and the lines that a compaction and an expansion have ready, each in full: one that takes over
@@ -19,9 +17,7 @@ pub fn columns_hold()
     ensures satellite { (one other : SatelliteHistoryInside) → satellite_with one other ≡ other }
     ensures satellites { (one other : SatellitesInside) → satellites_with one other ≡ other }
     ensures history { (one other : HistoryInside) → history_with one other ≡ other }
-    ensures lines { (one other : LinesInside) → lines_with one other ≡ other }
-    ensures expanded { (one other : ExpandedLinesInside) → expanded_lines_with one other ≡ other }
-    ensures printed { (one other : PrintedBlock) → printed_block_with one other ≡ other }
+    ensures block { (one other : BlockInside) → block_with one other ≡ other }
     ensures columns { (one other : ColumnsInside) → columns_with one other ≡ other }
     ensures rows { (one other : RowsSoFar) → rows_with one other ≡ other }
     ensures tail { (one other : KeptTail) → kept_tail_with one other ≡ other }

@@ -4,23 +4,21 @@
 #![tactic(auto)]
 
 pub mod arc;
+pub mod block;
 pub mod cells;
 pub mod coded;
 pub mod columns;
 pub mod encoder;
-pub mod expanded_lines;
 mod history;
 mod kept_tail;
 pub mod laws;
-pub mod lines;
-mod printed_block;
 mod refusals;
 pub mod same;
 mod satellite;
 mod satellites;
 
 pub use arc::{ClockArc, ObsArc};
+pub use block::Block;
 pub use coded::Coded;
 pub use columns::Columns;
 pub use encoder::Encoder;
-pub use expanded_lines::ExpandedLines;

@@ -13,7 +13,7 @@ ghost use Rattle.crx_rinex.specs.meaning.Printing.{printed_row};
 ghost use Rattle.crx_compact.specs.declared.cells.TheConstants.{CELL_ROOM};
 ghost use Rattle.crx_compact.specs.Cells.{arcs_of_cells, codes_of_cells};
 ghost use Rattle.crx_compact.specs.HeldRows.{AreHeldFlags};
-ghost use Rattle.crx_compact.specs.LineLists.{IsLinePut};
+ghost use Rattle.crx_compact.specs.Blocks.{IsLinePut};
 ghost use Rattle.crx_compact.specs.meaning.Cells.{cell_text};
 ghost use Rattle.crx_text.specs.meaning.Numbers.{IsValue};
 ghost use Rattle.crx_compact.specs.meaning.CompactPlaces.{are_marks};
@@ -116,7 +116,6 @@ impl SatelliteHistory {
         ensures cells { self.new.cells ≡ self.old.cells }
         ensures room { OnOk result (count ≤ self.new.room) }
         ensures kept { self.old.room ≤ self.new.room }
-        ensures only { self.new.room ≤ max self.old.room count }
         ensures known { count ≤ self.old.room → IsOk result }
     {
         if count <= self.arcs.len() {
@@ -277,7 +276,6 @@ fn grow(indicators: &mut Vec<u8>, arcs: &mut Vec<ObsArc>, count: usize) -> Resul
     ensures room { OnOk result (length arcs.new.items ≡ count) }
     ensures longer { length arcs.old.items ≤ length arcs.new.items }
     ensures few { length arcs.new.items ≤ TYPES_LIMIT }
-    ensures only { length arcs.new.items ≤ count }
     ensures paired { length indicators.new.items ≡ 2 * length arcs.new.items }
     ensures arcs { (n : ℕ) → n ≤ length arcs.old.items → take n arcs.new.items ≡ take n arcs.old.items }
     ensures indicators { (n : ℕ) → n ≤ length indicators.old.items
@@ -286,7 +284,6 @@ fn grow(indicators: &mut Vec<u8>, arcs: &mut Vec<ObsArc>, count: usize) -> Resul
         ((vec_capacity indicators.old < 2 * count) ⊎ (vec_capacity arcs.old < count)) }
     ensures filled { vec_capacity arcs.new ≡ length arcs.new.items }
     ensures bounded { vec_capacity indicators.new ≤ 2 * TYPES_LIMIT }
-    ensures held { vec_capacity indicators.new ≤ max (vec_capacity indicators.old) (2 * count) }
 {
     let more = count - arcs.len();
     indicators.reserve_exact(2 * more)?;

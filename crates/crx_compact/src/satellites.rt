@@ -1,6 +1,6 @@
 //! The satellites of a history, in the order of the file: Hatanaka's Compact RINEX 3.0.
 
-ghost use Rattle.std.specs.Prelude.{List, ℕ, All, ◌≡◌, ◌≤◌, ◌<◌, ◌+◌, ◌*◌, ◌^◌, ◌++◌, ◌∷◌, [], true, false, is_some, None, Some, Ok, Err, length, take, map, slice_get, slice_set, OnOk, OnErr, IfOk, IfErr, IfSome, IsOk, IsTrue, ◌↔◌, sum};
+ghost use Rattle.std.specs.Prelude.{List, ℕ, All, ◌≡◌, ◌≤◌, ◌<◌, ◌+◌, ◌*◌, ◌^◌, ◌++◌, ◌∷◌, [], true, false, is_some, None, Some, Ok, Err, length, take, map, slice_get, slice_set, OnOk, OnErr, IfOk, IfErr, IfSome, IsOk, IsTrue, ◌↔◌};
 ghost use Rattle.std.specs.Bool.{OnTrue};
 ghost use Rattle.std.specs.Map.{lookup};
 ghost use Rattle.std.specs.Str.{bytes_eq};
@@ -14,8 +14,7 @@ ghost use Rattle.crx_compact.specs.declared.cells.TheConstants.{CELL_ROOM};
 ghost use Rattle.crx_compact.specs.Entries.{Entry, IsFound, IsPutNext, IsRevived, KeepsTypes, key_of};
 ghost use Rattle.crx_compact.specs.EpochLinesRead.{HaveComeAgain};
 ghost use Rattle.crx_compact.specs.HeldRows.{IsAwaitedSatellite, row_held};
-ghost use Rattle.crx_compact.specs.Placing.{AnswersPlacing, GrowsOnly, HasAskedRoom, HasRoom, IsAskedFor, IsPlaced, KeepsRest, KeepsRooms, SatelliteTail, padded, row_of_parts, satellite_of};
-ghost use Rattle.crx_compact.specs.PrintedBlocks.{printed_room};
+ghost use Rattle.crx_compact.specs.Placing.{AnswersPlacing, HasAskedRoom, HasRoom, IsPlaced, KeepsRest, KeepsRooms, SatelliteTail, padded, row_of_parts, satellite_of};
 ghost use Rattle.crx_compact.specs.ShownRows.{shown_row};
 ghost use Rattle.crx_compact.specs.Steps.{row_line_after, row_tail_after};
 ghost use Rattle.crx_compact.specs.Tails.{RowTail};
@@ -206,7 +205,6 @@ impl Satellites {
         ensures ok { IfOk result (IsPlaced name.now count self.old self.new) }
         ensures err { OnErr result (is_among (λ (row : RowTail). row.name) name.now self.old.rows ≡ false) }
         ensures rooms { KeepsRooms self.old.rooms self.new.rooms }
-        ensures only { GrowsOnly (IsAskedFor name.now count) self.old.rooms self.new.rooms }
         ensures known { HasRoom name.now count self.old.rooms → IsOk result }
     {
         if let Some(is_new) = self.place(name, count) {
@@ -222,7 +220,6 @@ impl Satellites {
     pub(crate) fn prepare(&mut self, name: [u8; NAME_WIDTH], count: usize) -> Result<(), AllocError>
         requires allowed { count ≤ TYPES_LIMIT }
         ensures asked { HasAskedRoom self.old self.new }
-        ensures only { GrowsOnly (IsAskedFor name count) self.old.rooms self.new.rooms }
         ensures room { OnOk result (HasRoom name count self.new.rooms) }
         ensures known { HasRoom name count self.old.rooms → IsOk result }
     {
@@ -312,19 +309,6 @@ impl Satellites {
     {
         let (_, satellite) = self.known.pair_mut(index);
         satellite.read(line, scratch)
-    }
-
-    /// As many bytes as the printed lines of an epoch of the rows have at most, each with its LF: its first line, and those of the rows.
-    pub(crate) fn printed_room(&self) -> usize
-        requires few { length self.now.rows ≤ SATELLITES_LIMIT }
-        ensures value { result ≡ LINE_LIMIT + 1 + sum (map printed_room self.now.rows) }
-    {
-        let mut room = LINE_LIMIT + 1;
-        for index in 0..self.placed {
-            let (_, satellite) = self.known.get_index(index).unwrap();
-            room += NAME_WIDTH + CELL_WIDTH * satellite.count() + 1;
-        }
-        room
     }
 
     /// Prints the line of the row at an index in place of the bytes from another index on, and gives the line's length.

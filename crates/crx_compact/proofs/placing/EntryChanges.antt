@@ -1,15 +1,15 @@
 -- One entry of the map gets another value.
-use Rattle.std.proofs.Common.{◌≡◌, ℕ, zero, suc, ◌<◌, ◌≤◌, max, List, [], ◌∷◌, length, set, slice_get, refl}
+use Rattle.std.proofs.Common.{◌≡◌, ℕ, zero, suc, ◌<◌, ◌≤◌, List, [], ◌∷◌, length, set, slice_get, refl}
 use Rattle.std.proofs.Common.{Some, ap, sym, ◌∙◌, inl, inr, arith, length-set, subst, Bool, true, false}
 use Rattle.std.proofs.{Common.{IsTrue, ◌↔◌, rules}, lemmas.Slice.Eq.bytes_eq-Decides}
-use Rattle.std.proofs.lemmas.Bool.{cases_Bool, cases_lt, cond-true, cond-false, false≢true}
+use Rattle.std.proofs.lemmas.Bool.{cases_Bool, cond-true, cond-false, false≢true}
 use Rattle.std.proofs.{lemmas.List.get_or-set_same, lemmas.Grind.common_steps}
 use Rattle.std.proofs.{lemmas.Map.Entries.hash_map_get_place, lemmas.Option.{same_Some, slice_get_read}}
 use Rattle.std.specs.{Cmp.IsEquivalence, Str.bytes_eq}
 use Rattle.indexmap.proofs.CallerLemmas.{updates-with_value_at}
 use Rattle.indexmap.specs.IndexMap.{IndexMap, IsUnique, get, set_value_at}
 use Rattle.crx_compact.specs.Entries.{Entry, IsFound, rooms_of}
-use Rattle.crx_compact.specs.Placing.{GrowsOnly, HasRoom, IsAskedFor, KeepsRooms, SatelliteTail}
+use Rattle.crx_compact.specs.Placing.{HasRoom, KeepsRooms, SatelliteTail}
 use Rattle.crx_compact.proofs.Characters.{bytes_eq-same}
 use Rattle.crx_compact.proofs.placing.Rooms.{known-room, room-from_look_up, rooms-kept}
 
@@ -79,24 +79,6 @@ module _ {S : Type 0} (m : IndexMap (List ℕ) SatelliteTail S) (i : ℕ) (name 
           omega arith,
         )
       ])
-
-  -- where its room is no greater than what it was or than what was asked for it, no more is asked for
-  pub rooms-changed-only : (most : ℕ) → after.room ≤ max before.room most
-      → GrowsOnly (IsAskedFor name most) (rooms_of m.entries) (rooms_of (set_value_at m.entries i after))
-  rooms-changed-only most within other count has =
-      let updates = updates-with_value_at m i after bytes_eq-equiv unique name before there in
-      let known = known-room other count _ has in
-      elim (cases_Bool (bytes_eq name other)) [
-        | inl t ↦
-            let same : name ≡ other = (bytes_eq-Decides name other).0 t in
-            let is = same_Some known.0 after (sym known.1
-            ∙ updates.0 other ∙ cond-true (bytes_eq name other) (Some after) (get bytes_eq m other) t) in
-            grind (arith, common_steps, cases_lt, rooms_of, room-here)
-        | inr f ↦ inl (room-from_look_up other count _ known.0
-            (sym (cond-false (bytes_eq name other) (Some after) (get bytes_eq m other) f)
-            ∙ sym (updates.0 other) ∙ known.1)
-            known.2)
-      ]
 
   pub has-room : (count : ℕ) → count ≤ after.room
       → HasRoom name count (rooms_of (set_value_at m.entries i after))

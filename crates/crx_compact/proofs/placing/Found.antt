@@ -1,15 +1,15 @@
 -- A satellite is found by its identifier, or added behind the others.
 use Rattle.std.proofs.Common.{◌≡◌, ℕ, List, [], ◌∷◌, ◌++◌, length, take, slice_get, get_or, position}
-use Rattle.std.proofs.Common.{Option, Some, None, IfSome, is_some, refl, ap, sym, ◌∙◌, ◌⊎◌, arith}
-use Rattle.std.proofs.{Common.{Bool, false, true}, lemmas.Bool.cases_Bool, lemmas.Slice.Eq.bytes_eq-Decides}
+use Rattle.std.proofs.Common.{Option, Some, None, IfSome, is_some, refl, ap, sym, ◌∙◌, arith}
+use Rattle.std.proofs.{Common.{Bool, false}, lemmas.Bool.cases_Bool, lemmas.Slice.Eq.bytes_eq-Decides}
 use Rattle.std.proofs.lemmas.Grind.{common_steps}
 use Rattle.std.proofs.{lemmas.List.{take-append-le, length-map}, lemmas.List.Quantifiers.position-Some}
-use Rattle.std.proofs.lemmas.Option.{get_or_from_slice_get, none-some, same_Some, slice_get-map}
+use Rattle.std.proofs.lemmas.Option.{get_or_from_slice_get, none-some, slice_get-map}
 use Rattle.std.specs.{Str.bytes_eq, Map.{keys_of, lookup}}
 use Rattle.crx_header.specs.meaning.Satellites.{is_among}
 use Rattle.crx_header.proofs.Apart.{other_way}
 use Rattle.crx_compact.specs.{Entries.{Entry, IsFound, key_of}, Placing.SatelliteTail}
-use Rattle.crx_compact.proofs.{RowByRow.is-there, placing.Rooms.{known-room, room-from_look_up, rooms-kept}}
+use Rattle.crx_compact.proofs.{RowByRow.is-there, placing.Rooms.{rooms-kept}}
 
 pub found-there : (name : List ℕ) (i : ℕ) (es : List Entry) (satellite : SatelliteTail)
     → slice_get es i ≡ Some (name, satellite) → IsFound name i es es
@@ -44,14 +44,6 @@ look_up-more : (test : List ℕ → Bool) (es more : List Entry) (satellite : Sa
 look_up-more test [] more satellite h = absurd (none-some satellite h)
 look_up-more test (e ∷ es) more satellite h = grind (arith, common_steps, look_up-more test es more satellite)
 
--- what is found once one was added was there, or is that one
-look_up-added : (test : List ℕ → Bool) (es : List Entry) (name : List ℕ) (satellite found : SatelliteTail)
-    → lookup test (es ++ (name, satellite) ∷ []) ≡ Some found
-    → (lookup test es ≡ Some found) ⊎ ((test name ≡ true) × (satellite ≡ found))
-look_up-added test [] name satellite found h = grind (arith, common_steps, cases_Bool, same_Some, none-some)
-look_up-added test (e ∷ es) name satellite found h =
-    grind (arith, common_steps, look_up-added test es name satellite found)
-
 pub found-added : (name : List ℕ) (satellite : SatelliteTail) (es new : List Entry)
     → new ≡ es ++ (name, satellite) ∷ [] → satellite.room ≡ 0 → IsFound name (length es) es new
 found-added name satellite es new is none = record {
@@ -65,9 +57,6 @@ found-added name satellite es new is none = record {
         ∙ look_up-more (bytes_eq other) es ((name, satellite) ∷ []) found known,
     omega arith,
   ));
-  only = λ other count has.
-      let known = known-room other count new has in
-      grind (arith, common_steps, look_up-added, bytes_eq, lookup, room-from_look_up, bytes_eq-Decides);
 }
 
 pub none-there : {X : Type 0} (r : Option X) → is_some r ≡ false → r ≡ None

@@ -1,5 +1,5 @@
 -- The texts of codes hold no blank and no >, so the cells of a satellite line are read back from it.
-use Rattle.crx_compact.proofs.Words.{◌≡◌, [], ◌∷◌, map, ◌+◌, Bool, not, ◌&&◌, ◌==◌, pos, Step}
+use Rattle.crx_compact.proofs.Words.{◌≡◌, [], ◌∷◌, map, Bool, not, ◌&&◌, ◌==◌, pos, Step}
 use Rattle.crx_compact.proofs.Words.{refl, after_cells, IsPrintable, append_assoc, common_steps}
 use Rattle.crx_compact.proofs.Words.{ℕ, list_all, code_text, cell_text, cells_of, decimal, is_blank, flat_map}
 use Rattle.crx_compact.proofs.Words.{true, List, ◌++◌, arith, Code, ℤ, negsuc, Missing, Start, IsShort}

@@ -56,11 +56,11 @@ block-found false e older raws h k = grind arith
 
 -- ---- the epoch line
 
-text-columns : (types : List Count) (e : Epoch)
+pub text-columns : (types : List Count) (e : Epoch)
     → IsWholeEpoch types e → columns (without_end_blanks (epoch_text e)) 1 41 ≡ e.head
 text-columns types e h = search (rules, first-columns, at-without_end_blanks, text-head)
 
-text-good : (types : List Count) (e : Epoch) → IsWholeEpoch types e
+pub text-good : (types : List Count) (e : Epoch) → IsWholeEpoch types e
     → satellites_of_text types (without_end_blanks (epoch_text e)) ≡ Ok (satellites_of_rows e.rows)
 text-good types e h =
     let text = without_end_blanks (epoch_text e) in
@@ -78,7 +78,7 @@ pub text-other : (text : List ℕ) → list_all is_code_character text ≡ true 
 text-other [] h = refl
 text-other (c ∷ cs) h = grind arith
 
-no-end_blanks : (text : List ℕ) → list_all is_code_character text ≡ true → without_end_blanks text ≡ text
+pub no-end_blanks : (text : List ℕ) → list_all is_code_character text ≡ true → without_end_blanks text ≡ text
 no-end_blanks [] h = refl
 no-end_blanks (c ∷ cs) h =
     grind (arith, no-end_blanks cs (and_parts (is_code_character c) (list_all is_code_character cs) h).1)

@@ -161,7 +161,7 @@ written-codes types name n run h = search (rules, each_place-all, code-character
 first-code : (r : Row) (rs : List Row) (i : ℕ) → code_in i (raw_row (r ∷ rs) r) ≡ codes_at (r ∷ rs) i
 first-code r rs i = grind (arith, common_steps, index-each_place, code_at, stretch, value_in, get_or_past)
 
-values-again : (vs : List (Option ℤ)) → each_place (length vs) (λ j. slice_index_or vs j None) ≡ vs
+pub values-again : (vs : List (Option ℤ)) → each_place (length vs) (λ j. slice_index_or vs j None) ≡ vs
 values-again [] = refl
 values-again (v ∷ vs) = ap (λ r. v ∷ r) (values-again vs)
 

@@ -1,7 +1,7 @@
 use Rattle.std.proofs.lemmas.Grind.{common_steps}
 use Rattle.crx_compact.proofs.Words.{◌≡◌, sym, subst, arith, rules, Some, length-set, err_from_is_err_and}
 use Rattle.crx_compact.proofs.Words.{Content, step_at, satellite_of, tail_of_history, Stage}
-use Rattle.crx_compact.proofs.{PrintedBlocks.block-row, reading.NoMemory.no-memory-at-row}
+use Rattle.crx_compact.proofs.{PrintedBlocks.rows-kept, reading.NoMemory.no-memory-at-row}
 use Rattle.crx_compact.proofs.reading.Announced.{row-announced, rows-allowed, rows-few}
 use Rattle.crx_compact.proofs.reading.StepsByCode.{row-awaited, row-faulty, row-stepped}
 use Rattle.crx_compact.specs.OpenEpochs.{Faulty}
@@ -33,4 +33,4 @@ pub overflow_add-count : goal.overflow_add-count
 overflow_add-count c = grind (arith, common_steps, rows-few, c.in-Rows.is, c.requires.sound)
 
 pub returns-in_ok-read_row-in-Rows-clause-ok : goal.returns-in_ok-read_row-in-Rows-clause-ok
-returns-in_ok-read_row-in-Rows-clause-ok c = search (rules, length-set, row-stepped, row-announced, block-row)
+returns-in_ok-read_row-in-Rows-clause-ok c = search (rules, length-set, row-stepped, row-announced, rows-kept)

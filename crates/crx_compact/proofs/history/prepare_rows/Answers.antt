@@ -1,6 +1,6 @@
-use Rattle.crx_compact.proofs.Words.{◌≡◌, ℕ, List, ap, length, sym, ◌∙◌, arith}
-use Rattle.crx_compact.proofs.Words.{false≢true, Row, HasRoom, row_room, slice_get_within}
-use Rattle.crx_compact.proofs.{Making.taken_all, RowByRow.{all-at, all-next, sum-next}}
+use Rattle.crx_compact.proofs.Words.{ℕ, List, length, sym, ◌∙◌, arith}
+use Rattle.crx_compact.proofs.Words.{Row, HasRoom, slice_get_within}
+use Rattle.crx_compact.proofs.{Making.taken_all, RowByRow.{all-next}}
 use borrow.Author.Count.{falls}
 use Rattle.crx_compact.proofs.history.prepare_rows.Goals as goal
 
@@ -11,26 +11,16 @@ loop-row-preserved c =
     let index : ℕ = c.loop-row.index in
     let rooms = c.prepare.new.self.rooms in
     let roomy : HasRoom row.name (length row.values) rooms =
-    rw (c.name.ensures.value, c.values-count.ensures.value) at c.in_ok-prepare.ensures.room in
-    let many : length c.values-count.result.now ≡ length row.values = ap length c.values-count.ensures.value
-    in
-    let next = sum-next row_room rows index row (sym c.in-Some.ensures.value) in
+    rw (c.name.ensures.value, c.values.ensures.value) at c.in_ok-prepare.ensures.room in
     record {
-      made = omega arith;
-      bounded = omega arith;
       rows = c.prepare.ensures.asked.rows ∙ c.loop-row.invariant.rows;
       rest = c.prepare.ensures.asked.rest ∙ c.loop-row.invariant.rest;
       kept = λ name count has. c.prepare.ensures.asked.rooms name count
           (c.loop-row.invariant.kept name count has);
-      only = grind (arith, c.prepare.ensures.only, c.loop-row.invariant.only, c.name.ensures.value);
       room = all-next (λ (r : Row). HasRoom r.name (length r.values) rooms) rows index row
           (λ i d within. c.prepare.ensures.asked.rooms _ _ (c.loop-row.invariant.room i d within))
           (sym c.in-Some.ensures.value) roomy;
     }
-
-pub returns-clause-bytes : goal.returns-clause-bytes
-returns-clause-bytes c =
-    grind (arith, c.loop-row.invariant.made, row_room, taken_all, c.in_default.ensures.value)
 
 pub returns-clause-room : goal.returns-clause-room
 returns-clause-room c = grind (arith, taken_all, c.in_default.ensures.value, c.loop-row.invariant.room)
@@ -43,25 +33,9 @@ returns-in_err-prepare-clause-asked c = record {
       c.prepare.ensures.asked.rooms name count (c.loop-row.invariant.kept name count has);
 }
 
-pub overflow_add-bytes-in-Some-2 : goal.overflow_add-bytes-in-Some-2
-overflow_add-bytes-in-Some-2 c =
-    let within = slice_get_within c.args.epoch.now.rows c.loop-row.index _ (sym c.in-Some.ensures.value) in
-    omega (arith, within, ap length c.values-count.ensures.value)
-
 pub overflow_add-index : goal.overflow_add-index
 overflow_add-index c =
     omega (arith, slice_get_within c.args.epoch.now.rows c.loop-row.index _ (sym c.in-Some.ensures.value))
 
 pub loop-row-smaller : goal.loop-row-smaller
 loop-row-smaller c = falls _ _ (slice_get_within _ _ _ (sym c.in-Some.ensures.value))
-
-pub returns-in_err-prepare-clause-known : goal.returns-in_err-prepare-clause-known
-returns-in_err-prepare-clause-known c = λ have.
-    let row : Row = c.in-Some.row.now in
-    let rooms = c.loop-row.satellites.rooms in
-    let roomy : HasRoom row.name (length row.values) rooms =
-    c.loop-row.invariant.kept row.name (length row.values)
-    (all-at (λ (r : Row). HasRoom r.name (length r.values) c.args.satellites.now.rooms) c.args.epoch.now.rows
-    c.loop-row.index row have (sym c.in-Some.ensures.value)) in
-    absurd (false≢true (c.in_err-prepare.ensures.known
-    (rw (c.name.ensures.value, c.values-count.ensures.value) roomy)))

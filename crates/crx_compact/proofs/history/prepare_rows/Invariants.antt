@@ -1,15 +1,12 @@
-use Rattle.std.proofs.Common.{◌≡◌, ◌≤◌, ◌*◌, ◌-◌, length, map, sum, take}
-use Rattle.crx_compact.specs.Placing.{GrowsOnly, HaveRoom, IsAskedAmong, KeepsRooms, row_room}
+use Rattle.std.proofs.Common.{◌≡◌, ◌-◌, length, take}
+use Rattle.crx_compact.specs.Placing.{HaveRoom, KeepsRooms}
 use Rattle.crx_compact.proofs.history.prepare_rows.Given as goal
 
 abbrev pub invariant-loop-row : goal.invariant-loop-row
 invariant-loop-row l = record {
-  made : l.bytes ≡ sum (map row_room (take l.index l.epoch.rows));
-  bounded : l.bytes ≤ 20000 * l.index;
   rows : l.satellites.rows ≡ l.initial.satellites.rows;
   rest : l.satellites.rest ≡ l.initial.satellites.rest;
   kept : KeepsRooms l.initial.satellites.rooms l.satellites.rooms;
-  only : GrowsOnly (IsAskedAmong l.epoch.rows) l.initial.satellites.rooms l.satellites.rooms;
   room : HaveRoom (take l.index l.epoch.rows) l.satellites.rooms;
 }
 

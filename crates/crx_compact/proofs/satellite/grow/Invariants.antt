@@ -1,4 +1,4 @@
-use Rattle.std.specs.Prelude.{◌≡◌, ◌≤◌, ◌*◌, ◌-◌, ℕ, length, max, take, vec_capacity}
+use Rattle.std.specs.Prelude.{◌≡◌, ◌≤◌, ◌*◌, ◌-◌, ℕ, length, take, vec_capacity}
 use Rattle.crx_base.specs.declared.limits.TheConstants.{TYPES_LIMIT}
 use Rattle.crx_compact.proofs.satellite.grow.Given as goal
 
@@ -14,7 +14,6 @@ invariant-loop-indicators l = record {
   room : vec_capacity l.arcs ≡ l.count;
   held : 2 * l.count ≤ vec_capacity l.indicators;
   bounded : vec_capacity l.indicators ≤ 2 * TYPES_LIMIT;
-  only : vec_capacity l.indicators ≤ max (vec_capacity l.initial.indicators) (2 * l.count);
 }
 
 abbrev pub decreases-loop-indicators : goal.decreases-loop-indicators

@@ -18,16 +18,16 @@ returns-clause-written c = λ after rows written.
     let whole = epoch_text (epoch_by_rows head rows) in
     let is = ap (λ (p : PlacedRows). p.rows) c.end.ensures.ended
     ∙ ap (λ (h : OpenHistory). h.satellites.rows) c.self.view_is ∙ written.rows_after in
-    let text : c.renew_text.new.text.items ≡ without_end_blanks whole =
-    search (rules, without_end_blanks, flat_map-map, row_tail_in, is, c.in_ok-renew_text.ensures.ok) in
+    let text : c.renew_text.new.text ≡ without_end_blanks whole =
+    search (rules, without_end_blanks, flat_map-map, row_tail_in, is, c.renew_text.ensures.renewed) in
     let clock = ap (λ (h : OpenHistory). h.clock) c.self.view_is ∙ written.clock in
-    let before = c.deref.ensures.value ∙ ap (λ (h : OpenHistory). h.text) c.self.view_is ∙ written.text in
-    let first : c.bytes-2.result.now ≡ text_difference after.text whole =
-    c.bytes-2.ensures.value ∙ c.trim_end_blanks.ensures.trimmed
+    let before = c.bytes-2.ensures.value ∙ ap (λ (h : OpenHistory). h.text) c.self.view_is ∙ written.text in
+    let first : c.bytes-4.result.now ≡ text_difference after.text whole =
+    c.bytes-4.ensures.value ∙ c.trim_end_blanks.ensures.trimmed
     ∙ ap without_end_blanks (c.append_difference.ensures.appended
-    ∙ ap (λ (t : List ℕ). t ++ by_position mark_of c.deref.result.now c.deref-2.result.now)
+    ∙ ap (λ (t : List ℕ). t ++ by_position mark_of c.bytes-2.result.now c.bytes-3.result.now)
     c.clear-2.ensures.emptied)
-    ∙ (λ j. text_difference (before j) ((c.deref-2.ensures.value ∙ text) j))
+    ∙ (λ j. text_difference (before j) ((c.bytes-3.ensures.value ∙ text) j))
     ∙ difference-trimmed after.text whole in
     let code = c.push.ensures.code ∙ (λ j. code_of_value (c.clock.ensures.value j) (clock j)) in
-    search (rules, c.swap.ensures.x_after, c.put_front-2.ensures.lines, c.put_front.ensures.lines)
+    search (rules, c.append.ensures.appended, c.clear-3.ensures.emptied, c.bytes-5.ensures.value, c.put_front-2.ensures.lines, c.put_front.ensures.lines)

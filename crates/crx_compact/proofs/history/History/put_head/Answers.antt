@@ -11,11 +11,9 @@ few text line is =
     let kept = few_kept (columns text 1 HEAD_WIDTH) in let all = length-columns text 1 HEAD_WIDTH in
     omega (arith, ap length is, kept, all)
 
-pub put-requires : goal.put-requires
-put-requires c =
-    let few = few c.deref.result.now c.end_trimmed.result.now c.end_trimmed.ensures.value in
-    let room = c.requires.room in
-    record { room = record { line = room.line; bytes = omega (arith, few, room.bytes) } }
+pub put-requires-clause-short : goal.put-requires-clause-short
+put-requires-clause-short c =
+    omega (arith, few c.bytes.result.now c.end_trimmed.result.now c.end_trimmed.ensures.value)
 
 pub returns-in_default-clause-lines : goal.returns-in_default-clause-lines
 unfolding numbers.number_text
@@ -23,10 +21,6 @@ returns-in_default-clause-lines c =
     let clock = ap (λ (h : OpenHistory). shown_value h.clock) (sym c.self.view_is)
     ∙ sym c.in_default.ensures.value in
     c.put.ensures.lines ∙ ap (λ t. c.args.lines.now.lines ++ t ∷ []) (c.end_trimmed.ensures.value ∙ ap (λ t.
-    without_end_blanks (columns t 1 HEAD_WIDTH)) (c.deref.ensures.value ∙ ap (λ (h : OpenHistory). h.text)
+    without_end_blanks (columns t 1 HEAD_WIDTH)) (c.bytes.ensures.value ∙ ap (λ (h : OpenHistory). h.text)
     c.self.view_is) ∙ sym (end_blanks-more (columns c.args.self.now.text 1 HEAD_WIDTH) 15) ∙ ap (printed_head
     (columns c.args.self.now.text 1 HEAD_WIDTH)) (sym clock))
-
-pub returns-in_default-clause-taken : goal.returns-in_default-clause-taken
-returns-in_default-clause-taken c =
-    grind (arith, few c.deref.result.now c.end_trimmed.result.now c.end_trimmed.ensures.value)

@@ -1,11 +1,9 @@
-use Rattle.crx_compact.proofs.Words.{rules, ◌≡◌, ◌≤◌, ◌-◌, ◌++◌, ◌∷◌, [], List, ℕ, Some, length, min, not, ap}
-use Rattle.crx_compact.proofs.Words.{sym, ◌∙◌, refl, subst, arith, false≢true, same_Some, has_satellite, Row}
+use Rattle.crx_compact.proofs.Words.{rules, ◌≡◌, ◌-◌, ◌++◌, ◌∷◌, [], List, ℕ, Some, length, not, ap}
+use Rattle.crx_compact.proofs.Words.{sym, ◌∙◌, refl, subst, false≢true, same_Some, has_satellite, Row}
 use Rattle.crx_compact.proofs.Words.{IsSoundRow, HasRoom, KeepsRooms, OpenHistory, row_of_parts, row_or_blank}
 use Rattle.crx_compact.proofs.Words.{row_line_after, row_tail_after, RowTail, Tail, AreRowsWritten}
 use Rattle.crx_compact.proofs.{Results.on_err, Writing.{come-already, come-last, no-row, written-next}}
 use Rattle.crx_compact.proofs.history.History.write_row.Goals.{After-place_or_add, In_ok-place_or_add}
-use Rattle.std.specs.Prelude.{vec_capacity}
-use Rattle.crx_compact.specs.Placing.{GrowsOnly, IsAskedFor}
 use Rattle.crx_compact.proofs.history.History.write_row.Goals as goal
 
 pub returns-in_err-place_or_add-clause-memory : goal.returns-in_err-place_or_add-clause-memory
@@ -14,19 +12,11 @@ returns-in_err-place_or_add-clause-memory c = λ after rows written.
     c.self.inside.satellites c.args.name.now (ap (λ (h : OpenHistory). h.satellites) c.self.view_is) written)
     ∙ c.in_err-place_or_add.ensures.err)
 
-pub returns-in_err-place_or_add-clause-known : goal.returns-in_err-place_or_add-clause-known
-returns-in_err-place_or_add-clause-known c = λ known.
-    search (rules, false≢true, c.in_err-place_or_add.ensures.known, c.self.view_is)
-
--- no satellite has less room, and for texts there is as much
+-- no satellite has less room
 rooms : (c : After-place_or_add)
     → KeepsRooms c.args.self.now.satellites.rooms c.place_or_add.new.self.rooms
 rooms c = subst (λ (h : OpenHistory). KeepsRooms h.satellites.rooms c.place_or_add.new.self.rooms)
     c.self.view_is c.place_or_add.ensures.rooms
-
-texts : (c : After-place_or_add)
-    → c.args.self.now.text_room ≤ min (vec_capacity c.self.inside.text) (vec_capacity c.self.inside.next_text)
-texts c = let same = ap (λ (h : OpenHistory). h.text_room) c.self.view_is in omega (arith, same)
 
 -- whether the row's satellite is new
 answer : (c : In_ok-place_or_add) (after : Tail) (rows : List Row)
@@ -43,48 +33,6 @@ returns-then-not-branch-clause-written c = λ after rows written. record {
       c).In_ok-place_or_add after rows written;
   written = λ is. absurd (false≢true is);
 }
-
-pub returns-in_err-make_room-clause-memory : goal.returns-in_err-make_room-clause-memory
-returns-in_err-make_room-clause-memory c = λ after rows written.
-    on_err c.from_residual-in_err-make_room.result (no-row after rows c.args.self.now c.args.lines.now.lines
-    c.self.inside.satellites c.args.name.now c.in_ok-place_or_add.field-0
-    (ap (λ (h : OpenHistory). h.satellites) c.self.view_is) c.in_ok-place_or_add.ensures.ok.answer
-    c.if-not-branch.false
-    written)
-
-pub returns-in_err-make_room-clause-known : goal.returns-in_err-make_room-clause-known
-returns-in_err-make_room-clause-known c = search (rules, false≢true, c.in_err-make_room.ensures.known)
-
--- what is asked for is what the row needs
-only : (c : After-place_or_add)
-    → GrowsOnly (IsAskedFor c.args.name.now (length c.args.values.now)) c.args.self.now.satellites.rooms
-    c.place_or_add.new.self.rooms
-only c = subst (λ (h : OpenHistory). GrowsOnly (IsAskedFor c.args.name.now (length c.args.values.now))
-    h.satellites.rooms c.place_or_add.new.self.rooms) c.self.view_is c.place_or_add.ensures.only
-
-not-more : (c : After-place_or_add)
-    → min (vec_capacity c.self.inside.text) (vec_capacity c.self.inside.next_text) ≤ c.args.self.now.text_room
-not-more c = let same = ap (λ (h : OpenHistory). h.text_room) c.self.view_is in omega (arith, same)
-
-pub returns-in_err-place_or_add-clause-only : goal.returns-in_err-place_or_add-clause-only
-returns-in_err-place_or_add-clause-only c = search (rules, rooms, texts, only, not-more)
-
-pub returns-then-not-branch-clause-only : goal.returns-then-not-branch-clause-only
-returns-then-not-branch-clause-only c = search (rules, rooms, texts, only, not-more)
-
-pub returns-in_err-make_room-clause-only : goal.returns-in_err-make_room-clause-only
-returns-in_err-make_room-clause-only c = search (rules, rooms, texts, only, not-more)
-
-pub returns-clause-only : goal.returns-clause-only
-returns-clause-only c =
-    let at = (goal.at.returns-clause-only c).After-place_or_add in
-    record {
-      kept = search (rules, rooms, texts);
-      rooms = λ name count has. only at name count (c.put_row.ensures.kept.rooms.back name count has);
-      text = not-more at;
-      lines = search rules;
-      bytes = search rules;
-    }
 
 pub put_row-requires-clause-sound : goal.put_row-requires-clause-sound
 put_row-requires-clause-sound c = λ old there.
@@ -126,7 +74,7 @@ returns-clause-written c = λ after rows written.
           (search (rules, c.put_row.ensures.after, row_tail_after, row_of_parts))
           c.put_row.ensures.kept.rest
           (c.put_row.ensures.lines kept last.there
-          ∙ (λ j. c.make_room.ensures.grown.lines j ++ row_line_after (Some kept) (parts j) ∷ []))
+          ∙ (λ j. c.args.lines.now.lines ++ row_line_after (Some kept) (parts j) ∷ []))
           (ap (λ (h : OpenHistory). h.text) c.self.view_is) (ap (λ (h : OpenHistory). h.clock)
           c.self.view_is);
     }

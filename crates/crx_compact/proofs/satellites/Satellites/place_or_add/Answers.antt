@@ -13,20 +13,12 @@ pub returns-in_err-prepare-clause-rooms : goal.returns-in_err-prepare-clause-roo
 returns-in_err-prepare-clause-rooms c = λ name count has.
     c.prepare.ensures.asked.rooms name count (c.place.ensures.rooms.forth name count has)
 
-pub returns-in_err-prepare-clause-only : goal.returns-in_err-prepare-clause-only
-returns-in_err-prepare-clause-only c = λ name count has.
-    search (rules, c.place.ensures.rooms.back, c.prepare.ensures.only)
-
 pub unwrap-requires : goal.unwrap-requires
 unwrap-requires c = search (rules, some-otherwise, c.place-2.ensures.unplaced, c.in_ok-prepare.ensures.room)
 
 -- no row has changed before it comes
 pub returns-clause-ok : goal.returns-clause-ok
 returns-clause-ok c = search (rules, placed-asked, from_some)
-
-pub returns-clause-only : goal.returns-clause-only
-returns-clause-only c = λ name count has.
-    search (rules, c.place.ensures.rooms.back, c.prepare.ensures.only, c.place-2.ensures.rooms.back)
 
 pub returns-clause-rooms : goal.returns-clause-rooms
 returns-clause-rooms c = λ name count has.

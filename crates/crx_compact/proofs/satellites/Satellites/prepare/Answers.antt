@@ -1,10 +1,10 @@
-use Rattle.std.proofs.Common.{rules, ◌≤◌, max, inl, inr, arith, ap, subst, sym, ◌∙◌}
+use Rattle.std.proofs.Common.{rules, ◌≤◌, arith, subst, sym, ◌∙◌}
 use Rattle.std.proofs.{lemmas.Option.same_Some, lemmas.Result.on_ok_weaker}
 use Rattle.indexmap.specs.Layout.{length-set_value_at}
-use Rattle.crx_compact.proofs.placing.EntryChanges.{has-room, room-there, rooms-changed, rooms-changed-only}
+use Rattle.crx_compact.proofs.placing.EntryChanges.{has-room, room-there, rooms-changed}
 use Rattle.crx_compact.proofs.placing.Prepared.{front-same, none-lost, range-same, rows-same}
 use Rattle.crx_compact.proofs.placing.Rooms.{unknown}
-use Rattle.crx_compact.specs.{Entries.Entry, Placing.SatelliteTail}
+use Rattle.crx_compact.specs.{Entries.Entry}
 use Rattle.crx_compact.proofs.satellites.Satellites.prepare.Goals as goal
 
 pub invariant_of-self-2 : goal.invariant_of-self-2
@@ -14,22 +14,6 @@ invariant_of-self-2 c =
 
 pub returns-clause-asked : goal.returns-clause-asked
 returns-clause-asked c = search (rules, rows-same, front-same, range-same, rooms-changed)
-
-pub returns-clause-only : goal.returns-clause-only
-returns-clause-only c =
-    let is = c.in_ok-found.ensures.found in
-    rw (← c.self.view_is) (λ name count has. elim (rooms-changed-only c.find_or_add.new.map
-    c.in_ok-found.found c.args.name is.satellite c.make_room.new.self c.find_or_add.ensures.unique is.there
-    c.args.count
-    (subst (λ (s : SatelliteTail). c.make_room.new.self.room ≤ max s.room c.args.count)
-    (ap (λ (e : Entry). e.1) (sym (same_Some _ _ (sym is.there ∙ c.pair_mut-satellite.ensures.value))))
-    c.make_room.ensures.only) name count has) [
-      | inl there ↦ elim (is.only name count there) [
-        | inl before ↦ inl before
-        | inr added ↦ inr (added.0, omega (arith, added.1))
-      ]
-      | inr asked ↦ inr asked
-    ])
 
 pub returns-clause-room : goal.returns-clause-room
 returns-clause-room c = on_ok_weaker c.make_room.result (search (rules, has-room)) c.make_room.ensures.room

@@ -1,6 +1,0 @@
-use Rattle.crx_compact.proofs.{Words.{rules, length-take-le}, LineTexts.{all-lines, none-left}}
-use Rattle.crx_compact.proofs.lines.Lines.take_text.Goals as goal
-
-pub returns : goal.returns
-returns c =
-    search (rules, length-take-le, none-left, all-lines)

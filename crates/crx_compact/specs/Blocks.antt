@@ -1,0 +1,48 @@
+-- The lines of an epoch, one after another in one text, each followed by LF.
+use Rattle.std.specs.Prelude.{◌≡◌, ◌≤◌, ◌<◌, ◌++◌, ◌+◌, ◌-◌, ◌*◌, ℕ, suc, List, [], ◌∷◌, length, take, drop}
+use Rattle.crx_base.specs.declared.limits.TheConstants.{LINE_LIMIT}
+use Rattle.crx_compact.specs.declared.block.TheConstants.{FIRST_LINES, FRONT, LINES_LIMIT, LINE_ROOM}
+pub use Rattle.crx_base.specs.meaning.Lines.{lines_text}
+
+-- the lines of these lengths in a text in which one character follows each of them
+abbrev pub cut : List ℕ → List ℕ → List (List ℕ)
+cut [] text = []
+cut (count ∷ counts) text = take count text ∷ cut counts (drop (suc count) text)
+
+-- lengths and a text that belong together, of which so many lines, and with them so many bytes, were borrowed already
+pub record AreCut (lengths text : List ℕ) (past past_bytes : ℕ) : Type 0 where
+  pub past_within : past ≤ length lengths
+  pub bytes_within : past_bytes ≤ length text
+  pub whole : lines_text (cut (drop past lengths) (drop past_bytes text)) ≡ drop past_bytes text
+
+-- lines that are pending; how many can be put behind them; and how many in front of them
+pub record PendingLines : Type 0 where
+  pub lines : List (List ℕ)
+  pub left : ℕ
+  pub front : ℕ
+
+-- no line is pending
+abbrev pub no_lines : PendingLines
+no_lines = record { lines = []; left = LINES_LIMIT; front = FIRST_LINES }
+
+-- a line was put behind the others
+pub record HasTakenLine (old new : PendingLines) : Type 0 where
+  pub left : new.left + 1 ≡ old.left
+  pub front : new.front ≡ old.front
+
+-- a line was put into bytes from an index on: it has so many bytes, no more than its room, and a byte is left behind it, for its LF
+pub record IsLinePut (line : List ℕ) (room at : ℕ) (old new : List ℕ) (count : ℕ) : Type 0 where
+  pub written : take (at + count) new ≡ take at old ++ line
+  pub within : at + count < length new
+  pub short : count ≤ room
+
+-- there is place for so many lines, each as long as a line may be, among so many lines and bytes
+abbrev pub HasFront : ℕ → ℕ → ℕ → Type 0
+HasFront front lines bytes = (front ≤ lines) × (front * (LINE_LIMIT + 1) ≤ bytes)
+
+-- of so many lines, those in front among them, and of so many bytes, each line has its room at most; and for
+-- all lines that may come there are so many lengths and there is just so much memory
+abbrev pub HasPlace : ℕ → ℕ → ℕ → ℕ → Type 0
+HasPlace count filled lengths memory = (FIRST_LINES ≤ count) × (FRONT ≤ filled)
+    × (filled ≤ FRONT + (count - FIRST_LINES) * LINE_ROOM) × (lengths ≡ FIRST_LINES + LINES_LIMIT)
+    × (memory ≡ FRONT + LINES_LIMIT * LINE_ROOM)

@@ -1,0 +1,274 @@
+//! The lines of an epoch, made one after another and borrowed in that order, one by one or as one text.
+
+ghost use Rattle.std.specs.Prelude.{◌≡◌, ◌≤◌, ◌<◌, ◌+◌, ◌-◌, ◌*◌, ◌++◌, ◌∷◌, ◌↔◌, [], ℕ, IfOk, IsTrue, Some, drop, length, max, slice_get, slice_set, take, vec_capacity};
+ghost use Rattle.std.specs.Borrow.{sem};
+ghost use Rattle.std.specs.Io.BufRead.{Rests};
+ghost use Rattle.std.specs.Option.{option_copied};
+ghost use Rattle.crx_base.specs.declared.limits.TheConstants.{LINE_LIMIT, TYPES_LIMIT};
+ghost use Rattle.crx_rinex.specs.meaning.Printing.{printed_row};
+ghost use Rattle.crx_rinex.specs.meaning.SatelliteLines.{IsSoundRow};
+ghost use Rattle.crx_compact.specs.Blocks.{HasTakenLine, lines_text, no_lines};
+ghost use Rattle.crx_compact.specs.Placing.{HasRoom, KeepsRest, row_of_parts};
+ghost use Rattle.crx_compact.specs.ShownRows.{shown_row};
+ghost use Rattle.crx_compact.specs.Steps.{row_line_after, row_tail_after};
+ghost use Rattle.crx_compact.specs.Tails.{RowTail};
+ghost use Rattle.crx_compact.specs.contracts.block.Block.{the_row};
+
+use crate::cells::CELL_ROOM;
+use crate::satellites::Satellites;
+use crx_base::limits::{LINE_LIMIT, SATELLITES_LIMIT, TYPES_LIMIT};
+use crx_text::Text;
+use crx_text::block::put_line;
+use std::alloc::{AllocError, Global};
+use std::marker::Model;
+use std::mem;
+
+/// How many lines of an epoch come before its rows, in compact text: they are known once its last row has come.
+pub(crate) const FIRST_LINES: usize = 2;
+
+/// How many lines may come behind these: a row for each satellite, and in RINEX the first line before them.
+pub(crate) const LINES_LIMIT: usize = SATELLITES_LIMIT + 1;
+
+/// How many bytes a line takes at most, with its LF: the compact line of a row of as many types as a system may have. No printed line is longer.
+pub(crate) const LINE_ROOM: usize = CELL_ROOM * TYPES_LIMIT + 2 * TYPES_LIMIT + 1;
+
+/// How many bytes are left for the first lines.
+pub(crate) const FRONT: usize = FIRST_LINES * (LINE_LIMIT + 1);
+
+/// The lines of an epoch that are pending, each followed by LF. Memory for the longest epoch that there is is asked for once; only what is
+/// written of it comes into use.
+#[derive(Drop)]
+pub struct Block {
+    /// The lines; the bytes after them are of earlier, longer texts, and mean nothing.
+    bytes: Vec<u8>,
+    /// The length of each line; those after the lines are of earlier ones, and mean nothing.
+    lengths: Vec<usize>,
+    /// How many of the bytes are lines, the room in front of them among these.
+    filled: usize,
+    /// How many lines there are, with those for which room is left in front.
+    count: usize,
+    handed_out: usize,
+    handed_out_bytes: usize,
+    /// How many lines can be put in front of those that are pending.
+    front: usize,
+}
+
+impl Model for Block {
+    ghost use Rattle.std.specs.Prelude.{◌≤◌, ◌+◌, ◌-◌, drop, length, take, vec_capacity};
+    ghost use Rattle.crx_compact.specs.Blocks.{AreCut, HasFront, HasPlace, PendingLines, cut};
+    ghost use Rattle.crx_compact.specs.declared.block.TheConstants.{FIRST_LINES, LINES_LIMIT};
+
+    ghost Value = { PendingLines };
+
+    ghost view = { λ block. record {
+      lines = cut (drop block.handed_out (take block.count block.lengths.items))
+          (drop block.handed_out_bytes (take block.filled block.bytes.items));
+      left = FIRST_LINES + LINES_LIMIT - block.count;
+      front = block.front;
+    } };
+
+    ghost invariant = { λ block. AreCut (take block.count block.lengths.items) (take block.filled block.bytes.items)
+        block.handed_out block.handed_out_bytes
+        × (block.count ≤ length block.lengths.items) × (block.filled ≤ length block.bytes.items)
+        × HasFront block.front block.handed_out block.handed_out_bytes
+        × HasPlace block.count block.filled (length block.lengths.items) (vec_capacity block.bytes) };
+}
+
+impl Block {
+    /// No lines. This is the one call that asks for memory.
+    pub fn new(alloc: Global) -> Result<Block, AllocError>
+        ensures empty { IfOk result (λ block. block ≡ no_lines) }
+    {
+        let mut bytes = Vec::with_capacity(alloc, FRONT + LINES_LIMIT * LINE_ROOM)?;
+        let mut lengths = Vec::with_capacity(alloc, FIRST_LINES + LINES_LIMIT)?;
+        lengthen(&mut bytes, FRONT, b'\n');
+        lengthen(&mut lengths, FIRST_LINES + LINES_LIMIT, 0);
+        Ok(Block {
+            bytes,
+            lengths,
+            filled: FRONT,
+            count: FIRST_LINES,
+            handed_out: FIRST_LINES,
+            handed_out_bytes: FRONT,
+            front: FIRST_LINES,
+        })
+    }
+
+    /// Drops all lines.
+    pub fn clear(&mut self)
+        ensures cleared { self.new ≡ no_lines }
+    {
+        self.filled = FRONT;
+        self.count = FIRST_LINES;
+        self.handed_out = FIRST_LINES;
+        self.handed_out_bytes = FRONT;
+        self.front = FIRST_LINES;
+    }
+
+    /// Puts a line in front of the others.
+    pub(crate) fn put_front(&mut self, line: &[u8])
+        requires front { 0 < self.old.front }
+        requires short { length line.now ≤ LINE_LIMIT }
+        ensures lines { self.new.lines ≡ line.now ∷ self.old.lines }
+        ensures front { self.new.front + 1 ≡ self.old.front }
+        ensures left { self.new.left ≡ self.old.left }
+    {
+        let start = self.handed_out_bytes - line.len() - 1;
+        put_line(&mut self.bytes, start, line);
+        self.handed_out -= 1;
+        self.handed_out_bytes = start;
+        self.lengths[self.handed_out] = line.len();
+        self.front -= 1;
+    }
+
+    /// Puts a line after the others.
+    pub(crate) fn put(&mut self, line: &[u8])
+        requires left { 0 < self.old.left }
+        requires short { length line.now ≤ LINE_LIMIT }
+        ensures lines { self.new.lines ≡ self.old.lines ++ line.now ∷ [] }
+        ensures taken { HasTakenLine self.old self.new }
+    {
+        use_bytes(&mut self.bytes, self.filled);
+        put_line(&mut self.bytes, self.filled, line);
+        self.lengths[self.count] = line.len();
+        self.count += 1;
+        self.filled += line.len() + 1;
+    }
+
+    /// Puts the compact line of a row after the others; the row's satellite is at an index among those that have come, and has room for the
+    /// row. What is stored of the satellite is that after the row.
+    #[inline(always)]
+    pub(crate) fn put_row(
+        &mut self,
+        satellites: &mut Satellites,
+        index: usize,
+        values: &[Option<i64>],
+        flags: &[u8],
+        scratch: &mut Text,
+    )
+        requires left { 0 < self.old.left }
+        requires few { length values.now ≤ TYPES_LIMIT }
+        requires within { index < length satellites.old.rows }
+        requires sound { (old : RowTail) → slice_get satellites.old.rows index ≡ Some old
+            → IsSoundRow (row_of_parts old.name values.now flags.now)
+            × HasRoom old.name (length values.now) satellites.old.rooms }
+        ensures after { (old : RowTail) → slice_get satellites.old.rows index ≡ Some old → satellites.new.rows
+            ≡ slice_set satellites.old.rows index
+            (row_tail_after (Some old) (row_of_parts old.name values.now flags.now)) }
+        ensures lines { (old : RowTail) → slice_get satellites.old.rows index ≡ Some old → self.new.lines
+            ≡ self.old.lines ++ row_line_after (Some old) (row_of_parts old.name values.now flags.now) ∷ [] }
+        ensures taken { HasTakenLine self.old self.new }
+        ensures kept { KeepsRest satellites.old satellites.new }
+    {
+        use_bytes(&mut self.bytes, self.filled);
+        // The place of the bytes and the index are read once: after the line is written they would be read again, by 4 instructions.
+        let filled = self.filled;
+        let bytes = self.bytes.as_mut_slice();
+        let length = satellites.write_line(index, values, flags, scratch, bytes, filled);
+        bytes[filled + length] = b'\n';
+        self.lengths[self.count] = length;
+        self.count += 1;
+        self.filled = filled + (length + 1);
+    }
+
+    /// Puts the printed line of the row that a satellite shows after the others; the satellite is at an index among those that have come.
+    #[inline(always)]
+    pub(crate) fn put_printed(&mut self, satellites: &Satellites, index: usize)
+        requires left { 0 < self.old.left }
+        requires within { index < length satellites.now.rows }
+        requires few { (old : RowTail) → slice_get satellites.now.rows index ≡ Some old
+            → length old.cells ≤ TYPES_LIMIT }
+        ensures lines { (old : RowTail) → slice_get satellites.now.rows index ≡ Some old
+            → self.new.lines ≡ self.old.lines ++ printed_row (shown_row old) ∷ [] }
+        ensures taken { HasTakenLine self.old self.new }
+    {
+        use_bytes(&mut self.bytes, self.filled);
+        let filled = self.filled;
+        let bytes = self.bytes.as_mut_slice();
+        let length = satellites.print_line(index, bytes, filled);
+        bytes[filled + length] = b'\n';
+        self.lengths[self.count] = length;
+        self.count += 1;
+        self.filled = filled + (length + 1);
+    }
+
+    /// Whether no line is pending.
+    pub fn is_drained(&self) -> bool
+        ensures value { IsTrue result ↔ (self.now.lines ≡ []) }
+    {
+        self.handed_out == self.count
+    }
+
+    /// Borrows the next pending line, without its line end; `None` once none is pending.
+    pub fn next_line(&mut self) -> Option<&[u8]>
+        ensures value { option_copied result ≡ slice_get self.old.lines 0 }
+        // That line is no longer pending.
+        ensures* after_borrow { sem 𝓛 (Rests the_row self.entry (λ new.
+            new ≡ record self.old { lines = drop 1 self.old.lines })) }
+    {
+        if self.handed_out == self.count {
+            return None;
+        }
+        let start = self.handed_out_bytes;
+        let end = start + self.lengths[self.handed_out];
+        self.handed_out += 1;
+        self.handed_out_bytes = end + 1;
+        Some(&self.bytes[start..end])
+    }
+
+    /// Borrows the text of all lines that are pending, each followed by LF. From then on none is pending.
+    pub fn take_text(&mut self) -> &[u8]
+        ensures value { result.now ≡ lines_text self.old.lines }
+        // No line is pending.
+        ensures* after_borrow { sem 𝓛 (Rests the_row self.entry (λ new.
+            new ≡ record self.old { lines = [] })) }
+    {
+        let start = self.handed_out_bytes;
+        self.handed_out = self.count;
+        self.handed_out_bytes = self.filled;
+        &self.bytes[start..self.filled]
+    }
+}
+
+/// Brings as many bytes into use behind the first ones as a line may have, for which there is memory.
+#[inline(always)]
+fn use_bytes(bytes: &mut Vec<u8>, filled: usize)
+    requires memory { filled + LINE_ROOM ≤ vec_capacity bytes.old }
+    ensures counted { filled + LINE_ROOM ≤ length bytes.new.items }
+    ensures kept { (n : ℕ) → n ≤ length bytes.old.items → take n bytes.new.items ≡ take n bytes.old.items }
+    ensures memory { vec_capacity bytes.new ≡ vec_capacity bytes.old }
+{
+    if bytes.len() < filled + LINE_ROOM {
+        lengthen(bytes, filled + LINE_ROOM, b'\n');
+    }
+}
+
+/// Makes a list have so many items, for which it has memory, by items that are all the same.
+#[cold]
+#[inline(never)]
+fn lengthen<T: Copy>(items: &mut Vec<T>, count: usize, item: T)
+    requires longer { length items.old.items ≤ count }
+    requires memory { count ≤ vec_capacity items.old }
+    ensures counted { length items.new.items ≡ count }
+    ensures kept { (n : ℕ) → n ≤ length items.old.items → take n items.new.items ≡ take n items.old.items }
+    ensures memory { vec_capacity items.new ≡ vec_capacity items.old }
+{
+    let alloc = *items.allocator();
+    *items = lengthened(mem::replace(items, Vec::new(alloc)), count, item);
+}
+
+/// A list with items that are all the same behind its own, for which it has memory. As a value it is filled by one call of the C library;
+/// behind a reference an item would take five instructions.
+#[inline(always)]
+fn lengthened<T: Copy>(mut items: Vec<T>, count: usize, item: T) -> Vec<T>
+    requires longer { length items.items ≤ count }
+    requires memory { count ≤ vec_capacity items }
+    ensures counted { length result.items ≡ count }
+    ensures kept { (n : ℕ) → n ≤ length items.items → take n result.items ≡ take n items.items }
+    ensures memory { vec_capacity result ≡ vec_capacity items }
+{
+    while items.len() < count {
+        items.push_reserved(item);
+    }
+    items
+}
