@@ -1,0 +1,136 @@
+-- A text whose expansion ends with status 0 is compact text of a whole file.
+use Rattle.crx_filter.proofs
+use proofs.Words.{common_steps, ℕ, zero, suc, ◌≡◌, ◌+◌, ◌-◌, Bool, true, false, cond, not, List, [], ◌∷◌, ◌++◌, map, length, drop, take, max, reverse, Option, Some, None, Result, Ok, Err, refl, ap, sym, ◌∙◌, subst, arith, append_assoc, append-nil, map-append, nat_lt, if◌then◌else◌, ◌&&◌}
+use proofs.Words.{lines_of, as_read, ReadLine, Content, Overlong, At, Fault, BadEpoch, Epoch, Place, Done, FileUnit, HeaderLine, EventLine, EventRecord, Observation, Item, Accepted, Warned, Count, RawEpoch, ReadEpoch, types_of}
+use proofs.Words.{is_at_start, header_has_ended, records_left, records_count_types, declaring_lines, types_in_force, types_fault, header_line_fault, is_event_line, records_in, raws_kept, warnings_in}
+use proofs.Words.{WholeReading, Reading, Stop, Looking, reading_within, ended_reading, ended_with, fault_at_end, after_fault, looked_for, AtLines, AtFault, compact_place, compact_epoch_place, event_line, whole_compact, expanded, Choices, IsWholeEpoch, is_skipped, FilterResult, AreInPlace}
+use Rattle.crx_filter.proofs.wayback.{ExpandedStandard.{read-settled, count-read}, ExpandedWhole.{AreGoodEpochs, marks-printable}, Cut.input-stands}
+use Rattle.crx_filter.proofs.reading.{Types.counts-in_force, KeptThroughout.{IsKept, looked-kept, within-kept}, Resuming.{by_place, within-here, within-wrong, within-wanted}}
+use Rattle.crx_filter.specs.meaning.{Expanded.{rinex_unit, crinex_version, crinex_program, empties_state, as_observation}, WrittenStandard.rinex_items, UnitPlaces.{header_line, event_record, unless_wrong}}
+use Rattle.crx_filter.specs.meaning.UnitsAndText.{as_items}
+use Rattle.crx_filter.specs.{meaning.CompactText.{AreLinesOfUnit, AreLinesOf, IsCompactText, AreUnitsInPlace, AreWholeFile}, CompactText.AcceptsExactly}
+use Rattle.crx_runs.specs.meaning.Results.{are_some, status_after}
+use Rattle.crx_rinex.specs.meaning.Places.{first_line, one_line, Fails, NeedsMore}
+use Rattle.crx_header.proofs.Counts.{types_of-push}
+use Rattle.std.specs.{Str.bytes_eq}
+use Rattle.crx_text.specs.meaning.Columns.{columns, without_blanks}
+use Rattle.crx_header.specs.meaning.Label.{has_label}
+use Rattle.crx_header.specs.declared.crinex.TheConstants.{CRINEX_VERSION, CRINEX_VERSION_LABEL, CRINEX_PROGRAM_LABEL}
+use Rattle.crx_base.specs.declared.fault.Fault.TheVariants.{NotCompact, BadProgLine}
+use Rattle.crx_compact.proofs.soundness.Goodness.{reads-whole}
+use Rattle.crx_compact.proofs.Words.{epoch_at, tail_left, option_map, same_Some}
+use Rattle.std.proofs.{Common.{take-append-drop}, lemmas.List.{reverse-reverse}}
+use Rattle.crx_compact.specs.meaning.AnyWriter.{WrittenEpoch, epoch_now, AreEpochLines}
+use Rattle.crx_compact.specs.AnyWriter.{epoch_left}
+use Rattle.crx_compact.proofs.anywriter.{Epochs.any-epoch, OnlyEpochs.{LineBack, first-back, only-epoch, done-things}}
+use Rattle.crx_filter.proofs.anywriter.{AnyText.{any-text, whole-read}, OnlyUnits.Standing, OnlyReadings.{EndsBack, within-back}}
+
+-- ---- the text
+
+record FirstBack (lines : List ReadLine) : Type 0 where
+  version : List ℕ
+  program : List ℕ
+  rest : List ReadLine
+  is : lines ≡ Content version ∷ Content program ∷ rest
+  first : crinex_version version ≡ Ok version
+  second : crinex_program program ≡ Ok program
+
+if-own : (b : Bool) (line x : List ℕ) (fault : Fault) → (if b then Ok line else Err fault) ≡ Ok x
+    → (if b then Ok line else Err fault) ≡ Ok line
+if-own true line x fault e = refl
+if-own false line x fault e = absurd (cc e)
+
+own-version : (line x : List ℕ) → crinex_version line ≡ Ok x → crinex_version line ≡ Ok line
+own-version line x e = if-own (bytes_eq (without_blanks (columns line 1 20)) CRINEX_VERSION && has_label CRINEX_VERSION_LABEL line)
+    line x NotCompact e
+
+own-program : (line x : List ℕ) → crinex_program line ≡ Ok x → crinex_program line ≡ Ok line
+own-program line x e = if-own (has_label CRINEX_PROGRAM_LABEL line) line x BadProgLine e
+
+second-back : (skip : Bool) (version x : List ℕ) (lines : List ReadLine) → crinex_version version ≡ Ok x
+    → WholeReading.fault (whole_compact skip (Content version ∷ lines)) ≡ None → FirstBack (Content version ∷ lines)
+second-back skip version x [] e f = let never = rw (e, whole_compact) at f in absurd (cc never)
+second-back skip version x (Overlong ∷ rest) e f = let never = rw (e, whole_compact) at f in absurd (cc never)
+second-back skip version x (Content program ∷ rest) e f = pick (crinex_program program) refl
+  where
+    pick : (r : Result (List ℕ) Fault) → crinex_program program ≡ r → FirstBack (Content version ∷ Content program ∷ rest)
+    pick (Ok y) k = record {
+      version = version;
+      program = program;
+      rest = rest;
+      is = refl;
+      first = own-version version x e;
+      second = own-program program y k;
+    }
+    pick (Err fault) k = let never = rw (e, k, whole_compact) at f in absurd (cc never)
+
+two-back : (skip : Bool) (lines : List ReadLine) → WholeReading.fault (whole_compact skip lines) ≡ None → FirstBack lines
+two-back skip [] f = absurd (cc f)
+two-back skip (Overlong ∷ rest) f = absurd (cc f)
+two-back skip (Content version ∷ rest) f = pick (crinex_version version) refl
+  where
+    pick : (r : Result (List ℕ) Fault) → crinex_version version ≡ r → FirstBack (Content version ∷ rest)
+    pick (Ok x) e = second-back skip version x rest e f
+    pick (Err fault) e = let never = rw (e, whole_compact) at f in absurd (cc never)
+
+standing-first : Standing [] [] None
+standing-first = record { known = refl; left = refl; whole = λ b e. absurd (cc e); good = tt }
+
+items-text : (skip : Bool) (version program : List ℕ) (rest : List ReadLine) → crinex_version version ≡ Ok version
+    → crinex_program program ≡ Ok program → EndsBack rest (whole_compact skip (Content version ∷ Content program ∷ rest))
+items-text skip version program rest e k = subst (λ w. EndsBack rest w) (sym (whole-read skip version program rest e k))
+    (within-back skip (length rest + 1) [] [] None 3 [] rest standing-first (refl, refl))
+
+-- ---- status 0
+
+none-warned : (ws : List At) (o : Option At) → status_after ws o ≡ 0 → (ws ≡ []) × (o ≡ None)
+none-warned [] None e = (refl, refl)
+none-warned (w ∷ ws) None e = absurd (cc e)
+none-warned ws (Some at) e = absurd (cc e)
+
+units-in_place : (units : List (FileUnit Epoch)) → AreInPlace (as_items units) → AreUnitsInPlace units
+units-in_place [] h = tt
+units-in_place (unit ∷ before) h = (h.0, units-in_place before h.1)
+
+of-text : (text : List ℕ) (skip : Bool) → WholeReading.fault (whole_compact skip (map as_read (lines_of text))) ≡ None
+    → warnings_in (WholeReading.items (whole_compact skip (map as_read (lines_of text)))) ≡ [] → IsCompactText text
+of-text text skip f none =
+    let two = two-back skip (map as_read (lines_of text)) f in
+    let all : whole_compact skip (Content two.version ∷ Content two.program ∷ two.rest) ≡ whole_compact skip (map as_read (lines_of text)) =
+    ap (λ ls. whole_compact skip ls) (sym two.is) in
+    let back = items-text skip two.version two.program two.rest two.first two.second
+    (ap WholeReading.fault all ∙ f) (ap (λ w. warnings_in (WholeReading.items w)) all ∙ none) in
+    let settled = read-settled skip (map as_read (lines_of text)) (input-stands text) f in
+    let known : rinex_items (WholeReading.items (whole_compact skip (map as_read (lines_of text)))) ≡ as_items back.units =
+    ap (λ w. rinex_items (WholeReading.items w)) (sym all) ∙ back.known in
+    let file : AreWholeFile back.units = record {
+      in_place = units-in_place back.units (subst AreInPlace known settled.in_place);
+      header = ap header_has_ended (sym known) ∙ settled.header;
+      complete = ap records_left (sym known) ∙ settled.none;
+    } in (
+      back.units,
+      file,
+      record {
+        version = two.version;
+        program = two.program;
+        lines = back.own;
+        last = back.last;
+        cut = two.is ∙ ap (λ ls. Content two.version ∷ Content two.program ∷ ls) back.cut;
+        first = two.first;
+        second = two.second;
+        written = back.written;
+      },
+    )
+
+pub only-text : (text : List ℕ) (choices : Choices) → FilterResult.status (expanded text choices) ≡ 0 → IsCompactText text
+only-text text choices e =
+    let good = none-warned (reverse (warnings_in (WholeReading.items (whole_compact choices.skip (map as_read (lines_of text))))))
+    (WholeReading.fault (whole_compact choices.skip (map as_read (lines_of text)))) e in
+    of-text text choices.skip good.1
+    (sym (reverse-reverse (warnings_in (WholeReading.items (whole_compact choices.skip (map as_read (lines_of text)))))) ∙ ap reverse good.0)
+
+pub accepts-exactly : AcceptsExactly
+accepts-exactly text choices = (
+  only-text text choices,
+  λ is. ap FilterResult.status (any-text text choices is.0 is.1 is.2),
+)

@@ -1,0 +1,49 @@
+-- Beside meaning/CompactText: the laws of compact text, whoever wrote it.
+use Rattle.std.specs.Prelude.{◌≡◌, ◌↔◌, ℕ, true, List, ◌∷◌, ◌++◌, map, Option, Ok}
+use Rattle.crx_base.specs.meaning.AsRead.{ReadLine, Content, as_read}
+use Rattle.crx_base.specs.meaning.Choices.{Choices, is_date}
+use Rattle.crx_base.specs.meaning.Lines.{lines_of}
+use Rattle.crx_compact.specs.meaning.AnyWriter.{WrittenEpoch}
+use Rattle.crx_rinex.specs.meaning.Observations.{Epoch}
+use Rattle.crx_rinex.specs.meaning.Units.{Unit as FileUnit}
+use Rattle.crx_filter.specs.meaning.CompactText.{AreLinesOf, IsCompactTextOf, AreUnitsInPlace, AreWholeFile, IsCompactText, ReadsAnyText}
+use Rattle.crx_filter.specs.meaning.Expanded.{crinex_version, crinex_program, expanded}
+use Rattle.crx_filter.specs.meaning.UnitsAndText.{MakeAFile, compact_text, rinex_text}
+use Rattle.crx_runs.specs.meaning.Results.{Begins}
+
+-- whoever wrote a text, and whatever is chosen: its expansion is the RINEX text of the units of which it is compact text
+abbrev pub ExpandsAnyText : Type 0
+ExpandsAnyText = (text : List ℕ) (choices : Choices) → ReadsAnyText (λ result. expanded text choices ≡ result) text
+
+-- status 0 comes of compact text of whole files, and of no other
+abbrev pub AcceptsExactly : Type 0
+AcceptsExactly = (text : List ℕ) (choices : Choices) → ((expanded text choices).status ≡ 0) ↔ IsCompactText text
+
+-- no text is compact text of two files
+abbrev pub IsOfOneFile : Type 0
+IsOfOneFile = (text : List ℕ) (one two : List (FileUnit Epoch)) → AreWholeFile one → AreWholeFile two
+    → IsCompactTextOf one text → IsCompactTextOf two text → one ≡ two
+
+-- the compact text that is written here, by whatever is chosen, with a date that is one, is one that any writer may write
+abbrev pub OwnTextIsOne : Type 0
+OwnTextIsOne = (units : List (FileUnit Epoch)) (choices : Choices) → is_date choices.date ≡ true → MakeAFile units
+    → AreWholeFile units × IsCompactTextOf units (compact_text choices units)
+
+-- ---- text that is cut off, or bad from some place on
+
+-- a text that begins with the lines of some units, whole, whoever wrote them and whatever comes after them
+pub record BeginsWithUnits (units : List (FileUnit Epoch)) (text : List ℕ) : Type 0 where
+  pub version : List ℕ
+  pub program : List ℕ
+  pub lines : List (List ℕ)
+  pub more : List ReadLine
+  pub last : Option WrittenEpoch
+  pub cut : map as_read (lines_of text) ≡ map Content (version ∷ program ∷ lines) ++ more
+  pub first : crinex_version version ≡ Ok version
+  pub second : crinex_program program ≡ Ok program
+  pub written : AreLinesOf units lines last
+
+-- their RINEX text is written first, with -s or without
+abbrev pub WritesFirstUnits : Type 0
+WritesFirstUnits = (units : List (FileUnit Epoch)) (text : List ℕ) (choices : Choices) → AreUnitsInPlace units
+    → BeginsWithUnits units text → Begins (expanded text choices).output (rinex_text units)
