@@ -1,0 +1,104 @@
+-- What compactions, expansions and checks promise follows from what their results are, by the laws.
+use Rattle.crx_filter.proofs.Words
+use Words.{common_steps, arith, ℕ, ◌≡◌, List, ◌++◌, map, Option, None, reverse, refl, ap, sym, ◌∙◌, subst}
+use Words.{append-nil, lines_of, as_read, At, Choices, Epoch, ReadEpoch, compacted, expanded, checked, Device}
+use Words.{whole_rinex, whole_compact, FilterResult, IsResult, WholeReading, warnings_in, notices_text}
+use Rattle.crx_filter.proofs.accounts.{OfFile.file-accounted, OfText.text-accounted, Shortness.short-blocks}
+use Rattle.crx_filter.proofs.anywriter.{AnyRun.reads-any, OnlyTexts.only-text}
+use Rattle.crx_filter.proofs.wayback.{Canonical.same-compaction, ExpandedStandard.expanded-standard}
+use Rattle.crx_filter.proofs.wayback.Units.{texts-of_units}
+use Rattle.crx_filter.proofs.standard.{CheckStandard.named-where_not, Lossless.what-passes}
+use Rattle.crx_filter.specs.meaning.Accounts.{AccountsForFile, AccountsForText, HasShortBlocks}
+use Rattle.crx_filter.specs.meaning.ByResults.{CompactionKeeps, ExpansionKeeps, CheckKeeps}
+use Rattle.crx_filter.specs.meaning.ByResults.{RanWith, GivesBackWhatPasses}
+use Rattle.crx_runs.specs.meaning.{Messages.error_text, Results.status_after}
+
+-- ---- nothing is lost in silence
+
+no-error : (warnings : List At) (fault : Option At) → fault ≡ None
+    → notices_text warnings ++ error_text fault ≡ notices_text warnings
+no-error warnings fault good =
+    ap (λ o. notices_text warnings ++ error_text o) good ∙ append-nil (notices_text warnings)
+
+pub accounts-for_file : (choices : Choices) (file : List ℕ)
+    → AccountsForFile choices file (compacted file choices)
+accounts-for_file choices file good =
+    let lines = map as_read (lines_of file) in
+    let whole : WholeReading Epoch = whole_rinex choices.skip lines in
+    record {
+      lines_are = file-accounted choices.skip lines good;
+      output = refl;
+      messages = no-error (reverse (warnings_in whole.items)) whole.fault good;
+      status = ap (status_after (reverse (warnings_in whole.items))) good;
+    }
+
+pub accounts-for_text : (choices : Choices) (text : List ℕ) → AccountsForText choices.skip text (expanded text choices)
+accounts-for_text choices text good =
+    let lines = map as_read (lines_of text) in
+    let whole : WholeReading ReadEpoch = whole_compact choices.skip lines in
+    let (first, second, rest, is, own) = text-accounted choices.skip lines good in (
+      first,
+      second,
+      rest,
+      is,
+      record {
+        lines_are = own;
+        output = refl;
+        messages = no-error (reverse (warnings_in whole.items)) whole.fault good;
+        status = ap (status_after (reverse (warnings_in whole.items))) good;
+      },
+    )
+
+-- ---- in runs
+
+pub file-ends : (choices : Choices) (writer messages : Device) (status : ℕ) (fault : Option At) (file : List ℕ)
+    → IsResult (compacted file choices) writer messages status fault
+    → RanWith (AccountsForFile choices) writer messages status fault file
+file-ends choices writer messages status fault file ran =
+    (compacted file choices, ran, accounts-for_file choices file)
+
+pub blocks-end : (choices : Choices) (writer messages : Device) (status : ℕ) (fault : Option At) (file : List ℕ)
+    → IsResult (compacted file choices) writer messages status fault
+    → RanWith (HasShortBlocks choices) writer messages status fault file
+blocks-end choices writer messages status fault file ran =
+    (compacted file choices, ran, short-blocks choices file)
+
+pub text-ends : (choices : Choices) (writer messages : Device) (status : ℕ) (fault : Option At) (text : List ℕ)
+    → IsResult (expanded text choices) writer messages status fault
+    → RanWith (AccountsForText choices.skip) writer messages status fault text
+text-ends choices writer messages status fault text ran =
+    (expanded text choices, ran, accounts-for_text choices text)
+
+-- ---- by what holds of a result
+
+pub compaction-keeps : (holds : FilterResult → Type 0) (choices : Choices) (file : List ℕ)
+    → holds (compacted file choices) → CompactionKeeps holds choices file
+compaction-keeps holds choices file ran = record {
+  units = λ units h same. subst holds (ap (λ t. compacted t choices) same
+      ∙ (texts-of_units units choices choices h).compaction) ran;
+  canonical = λ other h k same. subst holds (same-compaction file other choices h k (sym same)) ran;
+  accounted = (compacted file choices, ran, accounts-for_file choices file);
+  blocks = (compacted file choices, ran, short-blocks choices file);
+}
+
+pub gives-back : (holds : FilterResult → Type 0) (choices : Choices) (text : List ℕ)
+    → holds (expanded text choices) → GivesBackWhatPasses holds text
+gives-back holds choices text ran file compacting dated passed same = subst holds
+    (ap (λ t. expanded t choices) same ∙ what-passes file passed compacting choices dated) ran
+
+pub expansion-keeps : (holds : FilterResult → Type 0) (choices : Choices) (text : List ℕ)
+    → holds (expanded text choices) → ExpansionKeeps holds choices.skip text
+expansion-keeps holds choices text ran = record {
+  units = λ units compacting dated h same. subst holds (ap (λ t. expanded t choices) same
+      ∙ (texts-of_units units compacting choices h).expansion dated) ran;
+  any_writer = reads-any holds choices text ran;
+  no_other = (expanded text choices, ran, only-text text choices);
+  standard = (expanded text choices, ran, λ good plain. (expanded-standard text choices good).standard plain);
+  accounted = (expanded text choices, ran, accounts-for_text choices text);
+}
+
+pub check-keeps : (status : ℕ) (file : List ℕ) → status ≡ (checked file).status → CheckKeeps status file
+check-keeps status file is = record {
+  lossless = λ zero. what-passes file (sym is ∙ zero);
+  standard = λ good. grind (arith, common_steps, named-where_not);
+}
