@@ -4,6 +4,7 @@ use Rattle.crx_filter.proofs.Words.{lines_of, At, Choices, compacted, expanded, 
 use Rattle.crx_filter.proofs.{Words.{checked_by, checked, Device, IsResult}, damage.DamageStays.saved-lines}
 use Rattle.crx_filter.proofs.standard.CheckStandard.{named-where_not, standard-exactly_where_same}
 use Rattle.crx_filter.proofs.wayback.{Standard.{normal-comes_back, standard-comes_back}, WayBack.comes-back}
+use Rattle.crx_filter.specs.meaning.Lossless.{WritesOutputOf}
 use Rattle.crx_filter.specs.meaning.Promises.{Keeps, BringsBackWhatWasCompacted, SavesAllElse}
 use Rattle.crx_filter.specs.meaning.{Promises.JudgesStandard, Standard.{Findings, report_status}}
 use Rattle.{crx_runs.specs.meaning.{Filters.Filter, Runs.Runs, Spans.Input}, std.specs.Prelude.◌↔◌}
@@ -23,6 +24,12 @@ kept (given, gave, r) keeps = (
     good = λ e. keeps given (r.good e).5;
   },
 )
+
+-- it wrote the output of its input's result
+pub writes-output : (result_of : List ℕ → FilterResult) (writer messages : Device) (status : ℕ) (fault : Option At)
+    (input : List ℕ) → IsResult (result_of input) writer messages status fault
+    → WritesOutputOf result_of writer input
+writes-output result_of writer messages status fault input ran = ran.output
 
 -- ---- the way back
 

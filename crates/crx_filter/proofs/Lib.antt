@@ -11,8 +11,10 @@ pub mod following
 pub mod steps
 pub mod output
 pub mod wayback
+pub mod anywriter
 pub mod standard
 pub mod damage
 pub mod stretches
 pub mod Kept
 pub mod CompactSteps
+pub mod accounts

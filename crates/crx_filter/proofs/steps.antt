@@ -5,14 +5,12 @@ pub mod CompactionSteps
 pub mod RowSteps
 pub mod Together
 pub mod EngineFaults
-pub mod RoomSteps
+pub mod LostLines
 pub mod Enough
 pub mod Given
-pub mod RoomsOfBlocks
-pub mod EnoughRoom
-pub mod RoomsOfLines
+pub mod HeldRows
+pub mod ExpansionKnows
 pub mod StepCounts
 pub mod CheckerSteps
 pub mod CheckerEnds
-pub mod RoomsOfEpochs
 pub mod CompactionKnows

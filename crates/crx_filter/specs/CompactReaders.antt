@@ -12,9 +12,9 @@ use Rattle.crx_filter.specs.declared.compact_reader.CompactReader.{CompactReader
 abbrev pub compact_reader_parts : CompactReader → DirectionParts OpenRawEpoch (Option Tail)
 compact_reader_parts r = record {
   stage = r.stage;
-  begun = open_in r.columns.state;
+  begun = open_in r.columns.value.state;
   types = r.types;
-  kept = tail_held r.columns.state;
+  kept = tail_held r.columns.value.state;
 }
 
 -- what it answers to a line, by any choices, and these lines are ready then

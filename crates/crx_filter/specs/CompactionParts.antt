@@ -1,20 +1,16 @@
 -- What a compaction has between two lines, and how its parts belong together.
-use Rattle.std.specs.Prelude.{◌≡◌, ◌≤◌, ◌+◌, ℕ, Bool, true, false, not, List, [], length, map, sum, All}
-use Rattle.std.specs.Prelude.{if◌then◌else◌}
+use Rattle.std.specs.Prelude.{◌≡◌, ℕ, Bool, true, false, not, List, [], map, if◌then◌else◌}
 use Rattle.crx_base.specs.declared.fault.Fault.{Fault}
 use Rattle.crx_base.specs.meaning.AsRead.{as_read}
 use Rattle.crx_base.specs.meaning.Choices.{Choices}
 use Rattle.crx_base.specs.meaning.Lines.{InputLine}
 use Rattle.crx_compact.specs.Encoding.{EncoderState}
-use Rattle.crx_compact.specs.EncodingRooms.{EncodingRoom, KeepsEncodingRoom}
-use Rattle.crx_compact.specs.Placing.{HaveRoom, HaveTypesRoom, row_room}
+use Rattle.crx_compact.specs.Placing.{HaveRoom, KeepsRooms}
 use Rattle.crx_rinex.specs.meaning.EpochPlaces.{OpenEpoch}
-use Rattle.crx_rinex.specs.meaning.Observations.{Epoch as ObservationEpoch, Row}
 use Rattle.crx_filter.specs.CompactionByLine.{Written}
 use Rattle.crx_filter.specs.DirectionParts.{DirectionParts}
 use Rattle.crx_filter.specs.meaning.Directions.{rinex_reading}
-use Rattle.crx_filter.specs.meaning.Memory.{accepted_epochs, bytes_together, compact_line_room, compaction_outgrows}
-use Rattle.crx_filter.specs.meaning.Memory.{satellites_had}
+use Rattle.crx_filter.specs.meaning.Memory.{compaction_outgrows}
 use Rattle.crx_filter.specs.RinexReaders.{RefusesRinexLine, TakesRinexLine, epoch_open, made_at}
 use Rattle.crx_filter.specs.RinexStages.{is_open_stage, rows_open}
 use Rattle.crx_filter.specs.declared.rinex_reader.RinexReader.{RinexReader}
@@ -28,31 +24,11 @@ pub record CompactionState : Type 0 where
   pub reader : RinexReader
   pub encoder : EncoderState
 
--- the rows of an open epoch have room for their types; they have a line each, and no more bytes than they claim, for
--- which memory is held
-pub record HoldsRows (rows : List Row) (room : EncodingRoom) : Type 0 where
-  pub rooms : HaveRoom rows room.rooms
-  pub lines : room.free_lines + length rows ≡ room.lines
-  pub bytes : room.bytes ≤ room.free_bytes + sum (map row_room rows)
-  pub claimed : room.claimed_bytes ≡ sum (map row_room rows)
-  pub held : room.claimed_bytes ≤ room.bytes + room.spare_bytes
-
--- what is held is enough for the satellites of an epoch
-pub record HasHeldFor (room : EncodingRoom) (epoch : ObservationEpoch) : Type 0 where
-  pub types : HaveTypesRoom (satellites_had epoch) room.rooms
-  pub lines : length (satellites_had epoch) ≤ room.lines + room.spare_lines
-  pub bytes : bytes_together compact_line_room (satellites_had epoch) ≤ room.bytes + room.spare_bytes
-
 -- the encoder has the rows of the epoch that the reader has open, and room for them
 pub record BelongTogether (reader : RinexReader) (encoder : EncoderState) : Type 0 where
   pub opened : encoder.is_open ≡ is_open_stage reader.stage
   pub rows : encoder.rows ≡ rows_open reader.stage reader.rows.rows
-  pub held : encoder.is_open ≡ true → HoldsRows encoder.rows encoder.room
-
--- what a compaction holds is enough for each epoch that was accepted in these lines
-abbrev pub HoldsEpochs : CompactionState → Choices → List InputLine → Type 0
-HoldsEpochs c choices lines =
-    All (HasHeldFor c.encoder.room) (accepted_epochs (rinex_reading choices.skip (map as_read lines)).items)
+  pub held : encoder.is_open ≡ true → HaveRoom encoder.rows encoder.rooms
 
 -- whether a line needs more than the epochs that were accepted in the lines before it did
 abbrev pub compaction_line_outgrows : Choices → List InputLine → InputLine → Bool
@@ -78,9 +54,9 @@ pub record HasWrittenRow (before : RinexReader) (encoder : EncoderState) (line :
     (after : RinexReader) (new : EncoderState) : Type 0 where
   pub takes : (kept : Written)
       → TakesRinexLine (made_at before line kept) before line (if is_last then Epoch else NextRow) after
-  pub written : new ≡ record encoder { rows = after.rows.rows; room = new.room }
-  pub held : HoldsRows new.rows new.room
-  pub kept : KeepsEncodingRoom encoder.room new.room
+  pub written : new ≡ record encoder { rows = after.rows.rows; rooms = new.rooms }
+  pub held : HaveRoom new.rows new.rooms
+  pub kept : KeepsRooms encoder.rooms new.rooms
 
 -- a row was refused: nothing is written
 pub record HasRefusedRow (before : RinexReader) (encoder : EncoderState) (line : List ℕ) (fault : Fault)
@@ -88,7 +64,7 @@ pub record HasRefusedRow (before : RinexReader) (encoder : EncoderState) (line :
   pub refuses : (kept : Written) → RefusesRinexLine (made_at before line kept) before line fault
   pub types : after.types ≡ before.types
   pub nothing : new.pending ≡ []
-  pub kept : KeepsEncodingRoom encoder.room new.room
+  pub kept : KeepsRooms encoder.rooms new.rooms
   pub together : BelongTogether after new
   pub full : (due : Bool) → is_full_where_due before.stage encoder.in_full due ≡ true
       → is_full_where_due after.stage new.in_full due ≡ true

@@ -1,10 +1,21 @@
 -- What an expansion has between two lines.
-use Rattle.std.specs.Prelude.{Option}
+use Rattle.std.specs.Prelude.{ℕ, List, [], Option, if◌then◌else◌}
+use Rattle.crx_compact.specs.Blocks.{PendingLines}
 use Rattle.crx_compact.specs.OpenEpochs.{OpenRawEpoch}
 use Rattle.crx_compact.specs.Tails.{Tail}
 use Rattle.crx_filter.specs.CompactReaders.{compact_reader_parts}
 use Rattle.crx_filter.specs.DirectionParts.{DirectionParts}
-use Rattle.crx_filter.specs.declared.expansion.Expansion.{Expansion}
+use Rattle.crx_filter.specs.RinexStages.{is_open_stage}
+use Rattle.crx_filter.specs.declared.compact_reader.CompactReader.{CompactReader}
 
-abbrev pub expansion_parts : Expansion → DirectionParts OpenRawEpoch (Option Tail)
+-- the reader, and the lines that are ready, or those of the open epoch that are printed already
+pub record ExpansionState : Type 0 where
+  pub reader : CompactReader
+  pub lines : PendingLines
+
+abbrev pub expansion_parts : ExpansionState → DirectionParts OpenRawEpoch (Option Tail)
 expansion_parts e = compact_reader_parts e.reader
+
+-- the lines that are ready: not those of an epoch that is open
+abbrev pub expansion_ready : ExpansionState → List (List ℕ)
+expansion_ready e = if is_open_stage e.reader.stage then [] else e.lines.lines

@@ -7,7 +7,8 @@ use Rattle.crx_filter.specs.declared.compaction.Compaction.TheInside.{Inside as 
 use Rattle.crx_filter.specs.declared.compact_reader.CompactReader.{CompactReader}
 use Rattle.crx_filter.specs.CompactionParts.{CompactionState}
 use Rattle.crx_filter.specs.declared.engine.Engine.TheInside.{Inside as EngineInside}
-use Rattle.crx_filter.specs.declared.expansion.Expansion.{Expansion}
+use Rattle.crx_filter.specs.declared.expansion.Expansion.TheInside.{Inside as ExpansionInside}
+use Rattle.crx_filter.specs.ExpansionParts.{ExpansionState}
 use Rattle.crx_filter.specs.declared.lender.Lender.TheInside.{Inside as LenderInside}
 use Rattle.crx_filter.specs.DirectionParts.{EngineParts}
 use Rattle.crx_filter.specs.declared.checking.Checking.TheInside.{Inside as CheckingInside}
@@ -33,6 +34,7 @@ rinex_reader_with one other = record one {
   row = other.row;
   rows = rows_with one.rows other.rows;
   consistent = other.consistent;
+  few = other.few;
 }
 
 -- a compaction, with the parts of another; and what its code has of one
@@ -59,9 +61,15 @@ compact_reader_with one other = record one {
   consistent = other.consistent;
 }
 
--- an expansion, with the parts of another
-abbrev pub expansion_with : Expansion → Expansion → Expansion
+-- an expansion, with the parts of another; and what its code has of one
+abbrev pub expansion_with : ExpansionState → ExpansionState → ExpansionState
 expansion_with one other = record one {
+  reader = compact_reader_with one.reader other.reader;
+  lines = other.lines;
+}
+
+abbrev pub expansion_inside_with : ExpansionInside → ExpansionInside → ExpansionInside
+expansion_inside_with one other = record one {
   reader = compact_reader_with one.reader other.reader;
   lines = other.lines;
 }
@@ -85,7 +93,8 @@ compacting_engine_with one other = record one {
   answer = other.answer;
 }
 
-abbrev pub expanding_engine_with : EngineParts Expansion → EngineParts Expansion → EngineParts Expansion
+abbrev pub expanding_engine_with : EngineParts ExpansionState → EngineParts ExpansionState
+    → EngineParts ExpansionState
 expanding_engine_with one other = record one {
   options = other.options;
   number = other.number;

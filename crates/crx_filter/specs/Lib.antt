@@ -14,6 +14,7 @@ pub mod Expanded
 pub mod Damage
 pub mod Laws
 pub mod WayBack
+pub mod CompactText
 pub mod EngineSteps
 pub mod CompactionParts
 pub mod CompactorState
@@ -30,5 +31,5 @@ pub mod LenderState
 pub mod CheckerState
 pub mod CheckingParts
 pub mod Rooms
-pub mod ExpansionRooms
+pub mod EpochRooms
 pub mod Holdings

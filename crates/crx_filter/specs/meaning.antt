@@ -12,7 +12,10 @@ pub mod Directions
 pub mod WayBack
 pub mod Lossless
 pub mod UnitsAndText
+pub mod CompactText
 pub mod WrittenStandard
 pub mod Canonical
 pub mod Promises
 pub mod Stretches
+pub mod Accounts
+pub mod ByResults

@@ -3,7 +3,7 @@
 ghost use Rattle.std.specs.Prelude.{◌≡◌, None, Some};
 ghost use Rattle.crx_base.specs.declared.fault.At.{At};
 ghost use Rattle.crx_filter.specs.meaning.Directions.{check_filter};
-ghost use Rattle.crx_filter.specs.meaning.Lossless.{SaysThatItComesBack};
+ghost use Rattle.crx_filter.specs.meaning.Lossless.{SaysThatItComesBack, WritesOutputOf};
 ghost use Rattle.crx_filter.specs.meaning.Promises.{JudgesStandard, Keeps, KeepsPromise};
 ghost use Rattle.crx_runs.specs.meaning.Runs.{HasRun, ran_over};
 ghost use Rattle.crx_runs.specs.meaning.Spans.{reader_span, span};
@@ -53,6 +53,9 @@ pub fn check<R: Source, W: Sink, M: Sink>(
     ensures standard { KeepsPromise (λ writer _ status _. JudgesStandard writer status)
         (ran_over R.Source reader.old reader.new
         W.Sink writer.old writer.new M.Sink messages.old messages.new result) }
+    ensures written { Keeps (WritesOutputOf checked (span W.Sink writer.old writer.new))
+        (reader_span R.Source reader.old reader.new)
+        (span W.Sink writer.old writer.new) (span M.Sink messages.old messages.new) result.fault }
 {
     match Engine::<Checking>::new(alloc, no_options()) {
         Ok(mut engine) => {

@@ -1,15 +1,16 @@
 //! Compact RINEX 3.0, one line at a time: what each line is, the observation types in force, and the epoch whose lines come.
 
-ghost use Rattle.std.specs.Prelude.{◌≡◌, ◌≢◌, ◌≤◌, ◌⊎◌, if◌then◌else◌, List, [], None, true, false, length, IfErr};
+ghost use Rattle.std.specs.Prelude.{◌≡◌, ◌≢◌, ◌≤◌, ◌⊎◌, if◌then◌else◌, [], None, true, false, length, IfErr, IfOk};
 ghost use Rattle.crx_base.specs.declared.limits.TheConstants.{LINE_LIMIT};
 ghost use Rattle.crx_base.specs.meaning.Choices.{Choices};
-ghost use Rattle.crx_rinex.specs.meaning.Observations.{Epoch};
-ghost use Rattle.crx_compact.specs.LineLists.{BlockRoom};
 ghost use Rattle.crx_compact.specs.OpenEpochs.{tail_held};
-ghost use Rattle.crx_compact.specs.OpenEpochs.ColumnsState.{Idle};
-ghost use Rattle.crx_compact.specs.ReadingRooms.{no_reading_room};
+ghost use Rattle.crx_compact.specs.Blocks.{PendingLines};
+ghost use Rattle.crx_compact.specs.Placing.{KeepsRooms};
+ghost use Rattle.crx_compact.specs.PrintedBlocks.{ArePrinted};
 ghost use Rattle.crx_header.specs.meaning.EpochColumns.{begins_epoch};
 ghost use Rattle.crx_filter.specs.CompactStages.{is_compact_stage};
+ghost use Rattle.crx_filter.specs.EpochRooms.{HaveHeldRoom};
+ghost use Rattle.crx_filter.specs.RinexStages.{is_open_stage};
 ghost use Rattle.crx_filter.specs.Stages.{is_ended, is_settled};
 ghost use Rattle.crx_filter.specs.declared.stage.Stage.{Stage};
 ghost use Rattle.crx_filter.specs.declared.stage.Stage.TheVariants.{Between, Looking, Open};
@@ -19,53 +20,55 @@ use crate::first_lines::{check_program, check_version};
 use crate::stage::{Stage, after_header_line, counts_types, with_records_left};
 use crate::types_lines::{accept_header_line, accept_record};
 use crx_base::Fault;
-use crx_compact::{Columns, ExpandedLines};
+use crx_compact::{Block, Columns};
 use crx_header::Types;
 use crx_rinex::{begins_epoch, is_event_line};
-use std::alloc::Global;
+use std::alloc::{AllocError, Global};
 
 /// Reads compact text one line at a time.
 #[derive(Drop)]
 pub struct CompactReader {
     pub stage: Stage,
     types: Types,
-    pub(crate) columns: Columns,
-    ghost consistent: { is_compact_stage stage columns.state ≡ true },
+    pub(crate) columns: Box<Columns>,
+    ghost consistent: { is_compact_stage stage columns.value.state ≡ true },
 }
 
 impl CompactReader {
     ghost use Rattle.crx_filter.specs.CompactReaders.{ReadsCompactLine, compact_reader_parts, line_copied};
     ghost use Rattle.crx_filter.specs.DirectionParts.{state_by};
     ghost use Rattle.crx_filter.specs.ExpansionByLine.{expansion_state};
-    ghost use Rattle.crx_filter.specs.ExpansionRooms.{AreHeldAmong, AreHeldInColumns, AreHeldInLines};
     ghost use Rattle.crx_filter.specs.Rooms.{HasRoomToBegin, do_types_count, may_begin};
 
-    /// A reader before the first line.
-    pub fn new(alloc: Global) -> CompactReader
-        ensures start { (choices : Choices) → state_by choices 0 (compact_reader_parts result)
-            ≡ expansion_state choices [] }
-        ensures nothing { (result.columns.state ≡ Idle None) × (result.columns.room ≡ no_reading_room) }
+    /// A reader before the first line. Its columns are made where they stay; `AllocError` comes where there is no memory for them.
+    pub fn new(alloc: Global) -> Result<CompactReader, AllocError>
+        ensures start { (choices : Choices) → IfOk result (λ r. state_by choices 0 (compact_reader_parts r)
+            ≡ expansion_state choices []) }
+        ensures closed { IfOk result (λ r. is_open_stage r.stage ≡ false) }
+        ensures held { IfOk result (λ r. HaveHeldRoom r.columns.value) }
     {
-        CompactReader {
+        let columns = Box::new(alloc, Columns::new(alloc))?;
+        Ok(CompactReader {
             stage: Stage::FirstLines { count: 0 },
             types: Types::new(alloc),
-            columns: Columns::new(alloc),
-        }
+            columns,
+        })
     }
 
     /// Takes a line of the epoch that is open. `true` says that it is the last one, and that the lines of the epoch are ready.
     ///
     /// The refusals are those of [`Columns::feed_into`].
     #[inline(always)]
-    pub(crate) fn go_on(&mut self, line: &[u8], lines: &mut ExpandedLines) -> Result<bool, Fault>
+    pub(crate) fn go_on(&mut self, line: &[u8], lines: &mut Block) -> Result<bool, Fault>
         requires open { self.old.stage ≡ Open }
         requires short { length line.now ≤ LINE_LIMIT }
-        requires drained { lines.old.lines ≡ [] }
-        ensures reads { ReadsCompactLine self.old line.now result lines.new.lines self.new }
+        requires printed { ArePrinted self.old.columns.value.state lines.old }
+        ensures reads { ReadsCompactLine self.old line.now result
+            (if is_open_stage self.new.stage then [] else lines.new.lines) self.new }
+        ensures printed { ArePrinted self.new.columns.value.state lines.new }
         ensures unasked { IfErr result (λ fault. fault ≡ Fault.OutOfMemory → ⊥) }
-        // There is room for as many epochs as before, and for the one whose lines come: its block goes to the lines that are ready.
-        ensures held { (epochs : List Epoch) → AreHeldInColumns epochs self.old.columns lines.old.room
-            → AreHeldAmong epochs self.new.columns lines.new.room }
+        ensures rooms { KeepsRooms self.old.columns.value.rooms self.new.columns.value.rooms }
+        ensures held { HaveHeldRoom self.old.columns.value → HaveHeldRoom self.new.columns.value }
     {
         match self.columns.feed_into(line, lines) {
             Ok(false) => Ok(false),
@@ -93,16 +96,16 @@ impl CompactReader {
         requires between { self.old.stage ≢ Open }
         requires short { length line.now ≤ LINE_LIMIT }
         ensures reads { ReadsCompactLine self.old line.now result (line_copied line.now result) self.new }
-        // It asks for memory only for the first types, and where there is no room for an epoch's lines.
+        // It asks for memory only for the first types, and where there is no room for a satellite of an epoch.
         ensures known { (do_types_count self.old.stage ≡ true → self.old.types ≡ [] → ⊥)
             → (may_begin self.old.stage ≡ true
-            → HasRoomToBegin self.old.types (tail_held self.old.columns.state) line.now self.old.columns.room)
+            → HasRoomToBegin self.old.types (tail_held self.old.columns.value.state) line.now self.old.columns.value.rooms)
             → IfErr result (λ fault. fault ≡ Fault.OutOfMemory → ⊥) }
-        // There is room for as many epochs as before, and for one that the line begins.
-        ensures held { (epochs : List Epoch) (lines : BlockRoom) → AreHeldInColumns epochs self.old.columns lines
-            → AreHeldInColumns epochs self.new.columns lines }
-        ensures beside { may_begin self.old.stage ≡ false → (epochs : List Epoch) (lines : BlockRoom)
-            → AreHeldInLines epochs self.old.columns lines → AreHeldInLines epochs self.new.columns lines }
+        ensures rooms { KeepsRooms self.old.columns.value.rooms self.new.columns.value.rooms }
+        ensures held { HaveHeldRoom self.old.columns.value → HaveHeldRoom self.new.columns.value }
+        // Of an epoch that the line begins no line is printed yet.
+        ensures unprinted { (block : PendingLines) → is_open_stage self.new.stage ≡ true
+            → ArePrinted self.new.columns.value.state block }
     {
         match self.stage {
             Stage::FirstLines { count: 0 } => {
@@ -146,10 +149,12 @@ impl CompactReader {
             ⊎ ((self.old.stage ≡ Looking) × (begins_epoch line.now ≡ true)) }
         requires short { length line.now ≤ LINE_LIMIT }
         ensures reads { ReadsCompactLine self.old line.now result (line_copied line.now result) self.new }
-        ensures known { HasRoomToBegin self.old.types (tail_held self.old.columns.state) line.now
-            self.old.columns.room → IfErr result (λ fault. fault ≡ Fault.OutOfMemory → ⊥) }
-        ensures held { (epochs : List Epoch) (lines : BlockRoom) → AreHeldInColumns epochs self.old.columns lines
-            → AreHeldInColumns epochs self.new.columns lines }
+        ensures known { HasRoomToBegin self.old.types (tail_held self.old.columns.value.state) line.now
+            self.old.columns.value.rooms → IfErr result (λ fault. fault ≡ Fault.OutOfMemory → ⊥) }
+        ensures rooms { KeepsRooms self.old.columns.value.rooms self.new.columns.value.rooms }
+        ensures held { HaveHeldRoom self.old.columns.value → HaveHeldRoom self.new.columns.value }
+        ensures unprinted { (block : PendingLines) → is_open_stage self.new.stage ≡ true
+            → ArePrinted self.new.columns.value.state block }
     {
         if is_event_line(line) {
             let count = records_announced(line)?;
@@ -166,9 +171,9 @@ impl CompactReader {
         requires settled { is_settled stage ≡ true }
         ensures stage { self.new.stage ≡ stage }
         ensures types { self.new.types ≡ self.old.types }
-        ensures tail { tail_held self.new.columns.state ≡ None }
-        ensures held { (epochs : List Epoch) (lines : BlockRoom) → AreHeldAmong epochs self.old.columns lines
-            → AreHeldAmong epochs self.new.columns lines }
+        ensures tail { tail_held self.new.columns.value.state ≡ None }
+        ensures rooms { self.new.columns.value.rooms ≡ self.old.columns.value.rooms }
+        ensures held { HaveHeldRoom self.new.columns.value }
     {
         self.columns.reset();
         self.stage = stage;

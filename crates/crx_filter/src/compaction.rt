@@ -2,7 +2,6 @@
 
 ghost use Rattle.std.specs.Prelude.{◌≡◌, [], false, length, is_some, Some, IfSome, IfOk, IfErr, true};
 ghost use Rattle.crx_compact.specs.Encoding.{tail_in};
-ghost use Rattle.crx_compact.specs.EncodingRooms.{HasSameMemory};
 ghost use Rattle.crx_compact.specs.Steps.{lines_after_tail, tail_after};
 ghost use Rattle.crx_compact.specs.Written.{epoch_by_rows};
 ghost use Rattle.crx_rinex.specs.meaning.EpochLines.{ObservationHead};
@@ -36,8 +35,8 @@ pub struct Compaction {
 /// The faults of a line are in the header `MissingVersion`, `UnsupportedVersion` and `NotObservation` at the first line, and
 /// `BadTypesLine`; `BadTypesLine` among an event's records, where types lines count; and where faults aren't skipped `NotAnEpoch`,
 /// `BadEpoch` and `BadClock` where an epoch or an event may begin, and `Truncated`, `BadSatellite`, `BadField`, `BadFlags` and
-/// `RepeatedSatellite` in an epoch. `OutOfMemory` comes only at a line without a fault: the first types line that counts, and a satellite's
-/// line that needs more than the epochs accepted before it. At the end the fault is `MissingVersion` before the first line,
+/// `RepeatedSatellite` in an epoch. `OutOfMemory` comes only at a line without a fault: the first types line that counts, and a line of a
+/// satellite that no accepted epoch had with as many types. At the end the fault is `MissingVersion` before the first line,
 /// `NoEndOfHeader` in the header, `Truncated` among an event's records, and in an epoch where faults aren't skipped.
 pub type Compactor = Lender<Compaction>;
 
@@ -72,8 +71,8 @@ fn take_row(reader: &mut RinexReader, encoder: &mut Encoder, line: &[u8]) -> Res
         (λ is_last. HasWrittenRow reader.old encoder.old line.now is_last reader.new encoder.new) }
     ensures refused { IfErr result
         (λ fault. HasRefusedRow reader.old encoder.old line.now fault reader.new encoder.new) }
-    // Where there is room for the row, the answer isn't for want of memory.
-    ensures known { HasRoomForRow reader.old.types line.now encoder.old.room
+    // Where there is room for the row, memory doesn't run out.
+    ensures known { HasRoomForRow reader.old.types line.now encoder.old.rooms
         → IfErr result (λ fault. fault ≡ Fault.OutOfMemory → ⊥) }
 {
     reader.read_row(line)?;
@@ -103,7 +102,7 @@ fn end_epoch(reader: &RinexReader, encoder: &mut Encoder)
         ≡ Some (tail_after (tail_in encoder.old) (epoch_by_rows head encoder.old.rows)) }
     ensures closed { encoder.new.is_open ≡ false }
     ensures rows { encoder.new.rows ≡ [] }
-    ensures memory { HasSameMemory encoder.old.room encoder.new.room }
+    ensures rooms { encoder.new.rooms ≡ encoder.old.rooms }
 {
     let Some(head) = &reader.head else {
         unreachable!()
@@ -116,7 +115,8 @@ impl Direction for Compaction {
     ghost use Rattle.crx_rinex.specs.meaning.EpochPlaces.{OpenEpoch};
     ghost use Rattle.crx_rinex.specs.meaning.Observations.{Epoch as ObservationEpoch};
     ghost use Rattle.crx_filter.specs.CompactionByLine.{Written, compaction, compaction_state};
-    ghost use Rattle.crx_filter.specs.CompactionParts.{HoldsEpochs, compaction_line_outgrows, compaction_parts, is_full_where_due};
+    ghost use Rattle.crx_filter.specs.CompactionParts.{compaction_line_outgrows, compaction_parts, is_full_where_due};
+    ghost use Rattle.crx_filter.specs.EpochRooms.{HaveEpochsRoom, rinex_epochs};
     ghost use Rattle.crx_filter.specs.Rooms.{HasRoomInCompaction};
     ghost use Rattle.crx_filter.specs.meaning.Directions.{compaction_filter};
 
@@ -151,7 +151,7 @@ impl Direction for Compaction {
 
     ghost has_room = { HasRoomInCompaction };
 
-    ghost knows = { HoldsEpochs };
+    ghost knows = { λ c choices lines. HaveEpochsRoom c.encoder.rooms (rinex_epochs choices lines) };
 
     ghost has_found = { λ c lines. ⊤ };
 

@@ -63,7 +63,7 @@ pub trait Direction: Drop {
     // What it holds is enough for the line with this content.
     ghost has_room: { Self → List ℕ → Type 0 };
 
-    // What it knows of these lines by these choices, beside what is seen of it: that the memory that it holds is enough for their epochs, or
+    // What it knows of these lines by these choices, beside what is seen of it: that there is room for the satellites of their epochs, or
     // what a check has noted of them.
     ghost knows: { Self → Choices → List InputLine → Type 0 };
 

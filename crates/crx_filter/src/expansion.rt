@@ -5,17 +5,32 @@ use crate::direction::Direction;
 use crate::lender::Lender;
 use crate::stage::Stage;
 use crx_base::{Fault, Options};
-use crx_compact::ExpandedLines;
+use crx_compact::Block;
 use crx_lines::Line;
 use crx_runs::HandedOut;
 use std::alloc::{AllocError, Global};
+use std::marker::Model;
 
 /// What an expansion keeps between two lines.
 #[derive(Drop)]
 pub struct Expansion {
     reader: CompactReader,
-    /// The lines that are ready.
-    lines: ExpandedLines,
+    /// The lines that are ready, or those of the open epoch that are printed already.
+    lines: Block,
+}
+
+impl Model for Expansion {
+    ghost use Rattle.std.specs.Prelude.{◌≡◌, true};
+    ghost use Rattle.crx_compact.specs.PrintedBlocks.{ArePrinted};
+    ghost use Rattle.crx_filter.specs.ExpansionParts.{ExpansionState};
+    ghost use Rattle.crx_filter.specs.RinexStages.{is_open_stage};
+
+    ghost Value = { ExpansionState };
+
+    ghost view = { λ e. record { reader = e.reader; lines = e.lines } };
+
+    // Of an open epoch what can be printed is printed.
+    ghost invariant = { λ e. is_open_stage e.reader.stage ≡ true → ArePrinted e.reader.columns.value.state e.lines };
 }
 
 /// Makes RINEX of the lines of Compact RINEX 3.0, which it takes one at a time; the lines to be written are borrowed from it.
@@ -24,7 +39,7 @@ pub struct Expansion {
 /// `NotObservation` and `BadTypesLine` in the header; `BadTypesLine` among an event's records, where types lines count; and where faults
 /// aren't skipped those of an event's first line and of [`Columns::begin`](crx_compact::Columns::begin) and
 /// [`Columns::feed`](crx_compact::Columns::feed). `OutOfMemory` comes only at a line without a fault: the first types line that counts, and
-/// an epoch's first line that needs more than the epochs accepted before it. At the end the fault is `NotCompact` before the first line,
+/// the first line of an epoch with a satellite that no accepted epoch had with as many types. At the end the fault is `NotCompact` before the first line,
 /// `BadProgLine` before the second, `MissingVersion` before the header, `NoEndOfHeader` in it, `Truncated` among an event's records, and in an
 /// epoch where faults aren't skipped.
 pub type Expander = Lender<Expansion>;
@@ -35,8 +50,8 @@ impl Direction for Expansion {
     ghost use Rattle.crx_compact.specs.OpenEpochs.{HeldEpoch, OpenRawEpoch};
     ghost use Rattle.crx_compact.specs.Tails.{Tail};
     ghost use Rattle.crx_filter.specs.ExpansionByLine.{expansion, expansion_state};
-    ghost use Rattle.crx_filter.specs.ExpansionParts.{expansion_parts};
-    ghost use Rattle.crx_filter.specs.ExpansionRooms.{HasRoomForLines};
+    ghost use Rattle.crx_filter.specs.ExpansionParts.{expansion_parts, expansion_ready};
+    ghost use Rattle.crx_filter.specs.EpochRooms.{HaveRoomInColumns, compact_epochs};
     ghost use Rattle.crx_filter.specs.Rooms.{HasRoomInExpansion};
     ghost use Rattle.crx_filter.specs.meaning.Directions.{compact_reading, expansion_filter};
     ghost use Rattle.crx_filter.specs.meaning.Memory.{expansion_outgrows};
@@ -59,7 +74,7 @@ impl Direction for Expansion {
 
     ghost parts = { expansion_parts };
 
-    ghost ready = { λ e. e.lines.lines };
+    ghost ready = { expansion_ready };
 
     ghost closing = { λ e. [] };
 
@@ -67,11 +82,11 @@ impl Direction for Expansion {
 
     ghost serves = { λ e choices. true };
 
-    ghost takes_at_start = { false };
+    ghost takes_at_start = { true };
 
     ghost has_room = { HasRoomInExpansion };
 
-    ghost knows = { HasRoomForLines };
+    ghost knows = { λ e choices lines. HaveRoomInColumns e.reader.columns.value (compact_epochs choices lines) };
 
     ghost has_found = { λ e lines. ⊤ };
 
@@ -85,10 +100,9 @@ impl Direction for Expansion {
     }
 
     fn new(alloc: Global) -> Result<Expansion, AllocError> {
-        Ok(Expansion {
-            reader: CompactReader::new(alloc),
-            lines: ExpandedLines::new(alloc),
-        })
+        let lines = Block::new(alloc)?;
+        let reader = CompactReader::new(alloc)?;
+        Ok(Expansion { reader, lines })
     }
 
     #[inline(always)]
@@ -102,18 +116,14 @@ impl Direction for Expansion {
     }
 
     fn take(&mut self, _options: &Options, line: Line<'_>) -> Result<HandedOut, Fault> {
-        // The line may begin an epoch: one block of memory serves for the printed lines of all.
-        if let Stage::Between | Stage::Looking = self.reader.stage {
-            self.reader.columns.take_room(&mut self.lines);
-        }
         if self.reader.read_between(line.bytes())? {
-            Ok(HandedOut::AsItIs)
-        } else {
-            Ok(HandedOut::Nothing)
+            return Ok(HandedOut::AsItIs);
         }
+        Ok(HandedOut::Nothing)
     }
 
     fn end_with(&mut self, stage: Stage) {
+        self.lines.clear();
         self.reader.end_with(stage);
     }
 
@@ -123,14 +133,20 @@ impl Direction for Expansion {
     }
 
     fn is_drained(&self) -> bool {
-        self.lines.is_drained()
+        self.reader.stage.is_in_epoch() || self.lines.is_drained()
     }
 
     fn next_line(&mut self) -> Option<&[u8]> {
+        if self.reader.stage.is_in_epoch() {
+            return None;
+        }
         self.lines.next_line()
     }
 
     fn take_text(&mut self) -> Option<&[u8]> {
+        if self.reader.stage.is_in_epoch() {
+            return None;
+        }
         Some(self.lines.take_text())
     }
 }

@@ -1,8 +1,11 @@
 //! Both filters over a whole input.
 
 ghost use Rattle.std.specs.Prelude.{◌≡◌, None};
+ghost use Rattle.crx_filter.specs.meaning.Accounts.{AccountsForFile, AccountsForText, HasShortBlocks};
+ghost use Rattle.crx_filter.specs.meaning.ByResults.{RanWith};
 ghost use Rattle.crx_filter.specs.meaning.Canonical.{DependsOnNormalForm};
-ghost use Rattle.crx_filter.specs.meaning.Lossless.{BringsBackWhatPasses};
+ghost use Rattle.crx_filter.specs.meaning.CompactText.{IsCompactText, ReadsAnyText};
+ghost use Rattle.crx_filter.specs.meaning.Lossless.{BringsBackWhatPasses, WritesOutputOf};
 ghost use Rattle.crx_filter.specs.meaning.UnitsAndText.{ReadsUnits, WritesUnits};
 ghost use Rattle.crx_filter.specs.meaning.WrittenStandard.{WroteStandard};
 ghost use Rattle.crx_filter.specs.meaning.Compacted.{compacted};
@@ -10,7 +13,7 @@ ghost use Rattle.crx_filter.specs.meaning.Directions.{compaction_filter, expansi
 ghost use Rattle.crx_filter.specs.meaning.Expanded.{expanded};
 ghost use Rattle.crx_filter.specs.meaning.Promises.{BringsBackWhatWasCompacted, Keeps, KeepsPromise, SavesAllElse};
 ghost use Rattle.crx_filter.specs.meaning.Stretches.{KeepsUndamaged, WritesWholeUnits};
-ghost use Rattle.crx_runs.specs.meaning.Runs.{HasRun, ran_over};
+ghost use Rattle.crx_runs.specs.meaning.Runs.{HasRun, IsResult, ran_over};
 ghost use Rattle.crx_runs.specs.meaning.Spans.{reader_span, span};
 
 use crate::Options;
@@ -30,7 +33,7 @@ use std::alloc::Global;
 /// `OutOfMemory` come where a device or memory failed or the input is longer; what was written by then is a prefix of the defined output.
 ///
 /// Of the RINEX text of units that make a file it writes their compact text. Files that have the same normal form have the same compact
-/// text.
+/// text. Where no fault ends it, each line was copied, is one of an epoch that was written, or was dropped with a warning.
 #[inline(never)]
 pub fn compact<R: Source, W: Sink, M: Sink>(
     alloc: Global,
@@ -45,6 +48,13 @@ pub fn compact<R: Source, W: Sink, M: Sink>(
     ensures units { KeepsPromise (WritesUnits options) (ran_over R.Source reader.old reader.new
         W.Sink writer.old writer.new M.Sink messages.old messages.new result) }
     ensures canonical { KeepsPromise (DependsOnNormalForm options) (ran_over R.Source reader.old reader.new
+        W.Sink writer.old writer.new M.Sink messages.old messages.new result) }
+    ensures written { Keeps (WritesOutputOf (λ input. compacted input options) (span W.Sink writer.old writer.new))
+        (reader_span R.Source reader.old reader.new)
+        (span W.Sink writer.old writer.new) (span M.Sink messages.old messages.new) result.fault }
+    ensures accounted { KeepsPromise (RanWith (AccountsForFile options)) (ran_over R.Source reader.old reader.new
+        W.Sink writer.old writer.new M.Sink messages.old messages.new result) }
+    ensures blocks { KeepsPromise (RanWith (HasShortBlocks options)) (ran_over R.Source reader.old reader.new
         W.Sink writer.old writer.new M.Sink messages.old messages.new result) }
 {
     start(
@@ -63,7 +73,9 @@ pub fn compact<R: Source, W: Sink, M: Sink>(
 /// `OutOfMemory` come where a device or memory failed or the input is longer; what was written by then is a prefix of the defined output.
 ///
 /// A file that a check passes comes back from its compact text byte for byte, and of the compact text of units that make a file it writes
-/// their RINEX text. Whatever text is expanded, what is written without a fault is a standard file, unless a line of it ends in CR.
+/// their RINEX text. Compact text that follows the format is read as what it means, whoever wrote it, and nothing else ends with status 0.
+/// Whatever text is expanded, what is written without a fault is a standard file, unless a line of it ends in CR; and each line after the
+/// two first was copied, is one of an epoch that was written, or was dropped with a warning.
 #[inline(never)]
 pub fn expand<R: Source, W: Sink, M: Sink>(
     alloc: Global,
@@ -81,6 +93,12 @@ pub fn expand<R: Source, W: Sink, M: Sink>(
         (span W.Sink writer.old writer.new) (span M.Sink messages.old messages.new) result.fault }
     ensures units { KeepsPromise ReadsUnits (ran_over R.Source reader.old reader.new
         W.Sink writer.old writer.new M.Sink messages.old messages.new result) }
+    ensures any_writer { KeepsPromise (λ writer messages status fault.
+        ReadsAnyText (λ whole. IsResult whole writer messages status fault)) (ran_over R.Source reader.old reader.new
+        W.Sink writer.old writer.new M.Sink messages.old messages.new result) }
+    ensures no_other { KeepsPromise (λ _ _ status _ text. status ≡ 0 → IsCompactText text)
+        (ran_over R.Source reader.old reader.new
+        W.Sink writer.old writer.new M.Sink messages.old messages.new result) }
     ensures standard { result.fault ≡ None → WroteStandard (span W.Sink writer.old writer.new) }
     ensures way_back { KeepsPromise BringsBackWhatWasCompacted (ran_over R.Source reader.old reader.new
         W.Sink writer.old writer.new M.Sink messages.old messages.new result) }
@@ -90,6 +108,11 @@ pub fn expand<R: Source, W: Sink, M: Sink>(
         W.Sink writer.old writer.new M.Sink messages.old messages.new result) }
     ensures whole_units { KeepsPromise (λ writer _ _ _. WritesWholeUnits writer)
         (ran_over R.Source reader.old reader.new
+        W.Sink writer.old writer.new M.Sink messages.old messages.new result) }
+    ensures written { Keeps (WritesOutputOf (λ input. expanded input options) (span W.Sink writer.old writer.new))
+        (reader_span R.Source reader.old reader.new)
+        (span W.Sink writer.old writer.new) (span M.Sink messages.old messages.new) result.fault }
+    ensures accounted { KeepsPromise (RanWith (AccountsForText options.skip)) (ran_over R.Source reader.old reader.new
         W.Sink writer.old writer.new M.Sink messages.old messages.new result) }
 {
     start(

@@ -1,14 +1,15 @@
 //! Laws over the definitions of this crate: each is the contract of a function that does nothing.
 
 ghost use Rattle.std.specs.Prelude.{◌≡◌};
-ghost use Rattle.crx_filter.specs.Holdings.{options_with, rinex_reader_with, compaction_with, compaction_inside_with, compact_reader_with, compacting_engine_with, engine_inside_with, expanding_engine_with, expansion_with, checking_engine_with, checking_with, checking_inside_with, lender_inside_with};
+ghost use Rattle.crx_filter.specs.Holdings.{options_with, rinex_reader_with, compaction_with, compaction_inside_with, compact_reader_with, compacting_engine_with, engine_inside_with, expanding_engine_with, expansion_with, expansion_inside_with, checking_engine_with, checking_with, checking_inside_with, lender_inside_with};
 ghost use Rattle.crx_base.specs.declared.options.Options.TheInside.{Inside as OptionsInside};
 ghost use Rattle.crx_filter.specs.declared.rinex_reader.RinexReader.{RinexReader};
 ghost use Rattle.crx_filter.specs.declared.compaction.Compaction.TheInside.{Inside as CompactionInside};
 ghost use Rattle.crx_filter.specs.declared.compact_reader.CompactReader.{CompactReader};
 ghost use Rattle.crx_filter.specs.CompactionParts.{CompactionState};
 ghost use Rattle.crx_filter.specs.declared.engine.Engine.TheInside.{Inside as EngineInside};
-ghost use Rattle.crx_filter.specs.declared.expansion.Expansion.{Expansion};
+ghost use Rattle.crx_filter.specs.declared.expansion.Expansion.TheInside.{Inside as ExpansionInside};
+ghost use Rattle.crx_filter.specs.ExpansionParts.{ExpansionState};
 ghost use Rattle.crx_filter.specs.declared.lender.Lender.TheInside.{Inside as LenderInside};
 ghost use Rattle.crx_filter.specs.declared.checking.Checking.TheInside.{Inside as CheckingInside};
 ghost use Rattle.crx_filter.specs.CheckingParts.{CheckingState};
@@ -29,9 +30,9 @@ pub fn engines_hold()
     ensures compactor { (one other : LenderInside CompactionState)
         → lender_inside_with compacting_engine_with one other ≡ other }
     ensures compact_reader { (one other : CompactReader) → compact_reader_with one other ≡ other }
-    ensures expansion { (one other : Expansion) → expansion_with one other ≡ other }
-    ensures expanding { (one other : EngineInside Expansion) → engine_inside_with expansion_with one other ≡ other }
-    ensures expander { (one other : LenderInside Expansion)
+    ensures expansion { (one other : ExpansionInside) → expansion_inside_with one other ≡ other }
+    ensures expanding { (one other : EngineInside ExpansionState) → engine_inside_with expansion_with one other ≡ other }
+    ensures expander { (one other : LenderInside ExpansionState)
         → lender_inside_with expanding_engine_with one other ≡ other }
     ensures checking { (one other : CheckingInside) → checking_inside_with one other ≡ other }
     ensures checks { (one other : EngineInside CheckingState) → engine_inside_with checking_with one other ≡ other }

@@ -1,6 +1,7 @@
 //! RINEX observation files, one line at a time: what each line is, the types in force, and the row that was read last.
 
-ghost use Rattle.std.specs.Prelude.{ℕ, List, ◌≡◌, true};
+ghost use Rattle.std.specs.Prelude.{ℕ, List, ◌≡◌, ◌≤◌, length, true};
+ghost use Rattle.crx_base.specs.declared.limits.TheConstants.{SATELLITES_LIMIT};
 ghost use Rattle.crx_filter.specs.RinexStages.{is_rinex_stage};
 
 use crate::stage::{Stage, after_header_line, counts_types, with_records_left};
@@ -48,11 +49,11 @@ pub struct RinexReader {
     /// The rows that have come.
     rows: RowsSoFar,
     ghost consistent: { is_rinex_stage stage head count rows.rows ≡ true },
+    ghost few: { length rows.rows ≤ SATELLITES_LIMIT },
 }
 
 impl RinexReader {
-    ghost use Rattle.std.specs.Prelude.{◌⊎◌, ◌++◌, ◌∷◌, [], Ok, false, length, ◌≤◌, OnOk, IfOk, IfErr, OnErr};
-    ghost use Rattle.crx_base.specs.declared.limits.TheConstants.{SATELLITES_LIMIT};
+    ghost use Rattle.std.specs.Prelude.{◌⊎◌, ◌++◌, ◌∷◌, [], Ok, false, OnOk, IfOk, IfErr, OnErr};
     ghost use Rattle.crx_base.specs.meaning.AsRead.{Content};
     ghost use Rattle.crx_header.specs.meaning.EpochColumns.{begins_epoch};
     ghost use Rattle.crx_rinex.specs.meaning.Epochs.{has_satellite};

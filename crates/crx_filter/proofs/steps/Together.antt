@@ -5,13 +5,14 @@ use Words.{if◌then◌else◌, Fault, OutOfMemory, None, Option, Ok, sym, ap, s
 use Words.{length, is_some, begins_epoch, ObservationHead, Some, has_satellite, ObservationEpoch, OpenEpoch}
 use Words.{row_of, Written, is_row, made_at, CompletedEpoch, IsSameReader, MovesReader, TakesRinexLine, Made}
 use Words.{is_open_stage, RinexReader, RinexStep, Stage, Row as ObservationRow}
-use Rattle.crx_compact.specs.{Encoding.{EncoderState, forgotten}, EncodingRooms.{EncodingRoom, HasTakenRow}}
-use Rattle.crx_compact.specs.EncodingRooms.{KeepsEncodingRoom, all_free}
-use Rattle.crx_filter.proofs.steps.{RoomsOfEpochs.{room-freed, row-held}, RowSteps.taken-from}
-use Rattle.crx_filter.specs.CompactionParts.{BelongTogether, HasRefusedRow, HasWrittenRow, HoldsRows}
+use Rattle.crx_compact.specs.{Encoding.{EncoderState, forgotten}, Placing.{HasRoom, HaveRoom, KeepsRooms}}
+use Rattle.crx_filter.proofs.steps.RowSteps.{taken-from}
+use Rattle.std.proofs.lemmas.List.Elements.{All-nil, All-push}
+use Rattle.crx_base.specs.declared.limits.TheConstants.{SATELLITES_LIMIT}
+use Rattle.crx_filter.specs.CompactionParts.{BelongTogether, HasRefusedRow, HasWrittenRow}
 use Rattle.crx_filter.specs.{CompactionParts.is_full_where_due, RinexReaders.{BeginsEpoch, RefusesRinexLine}}
 use Rattle.crx_filter.specs.{RinexStages.rows_open, declared.rinex_reader.RinexStep.TheVariants.{Row, Epoch}}
-use Rattle.std.{specs.Prelude.IfSome}
+use Rattle.std.{specs.Prelude.{IfSome, ◌<◌, ◌+◌}}
 
 -- ---- by the stage
 
@@ -39,7 +40,7 @@ closed-together reader encoder closed ended none = grind (arith, common_steps, t
 
 -- an epoch is open
 open-together : (reader : RinexReader) (encoder : EncoderState) → is_open_stage reader.stage ≡ true
-    → encoder.is_open ≡ true → encoder.rows ≡ reader.rows.rows → HoldsRows encoder.rows encoder.room
+    → encoder.is_open ≡ true → encoder.rows ≡ reader.rows.rows → HaveRoom encoder.rows encoder.rooms
     → BelongTogether reader encoder
 open-together reader encoder opened begun rows holds = grind (arith, common_steps, rows-opened)
 
@@ -47,6 +48,11 @@ open-together reader encoder opened begun rows holds = grind (arith, common_step
 pub rows-there : (reader : RinexReader) (encoder : EncoderState) → BelongTogether reader encoder
     → is_open_stage reader.stage ≡ true → encoder.rows ≡ reader.rows.rows
 rows-there reader encoder t opened = t.rows ∙ rows-opened reader.stage reader.rows.rows opened
+
+-- there is place for a row more
+pub rows-few : (reader : RinexReader) (encoder : EncoderState) → BelongTogether reader encoder
+    → is_open_stage reader.stage ≡ true → length encoder.rows < SATELLITES_LIMIT + 1
+rows-few reader encoder t opened = omega (arith, reader.few, ap length (rows-there reader encoder t opened))
 
 -- where no epoch is open, the encoder has no rows
 pub none-there : (reader : RinexReader) (encoder : EncoderState) → BelongTogether reader encoder
@@ -74,10 +80,10 @@ module _ (before mid : RinexReader) (encoder new : EncoderState) (line : List �
     (together : BelongTogether before encoder) (same : IsSameReader before mid) where
   -- the row was written and taken
   pub row-written : (after : RinexReader) (step : RinexStep) (is_last answer : Bool) (row : ObservationRow)
-      → HasTakenRow row encoder.room new.room → KeepsEncodingRoom encoder.room new.room
+      → HasRoom row.name (length row.values) new.rooms → KeepsRooms encoder.rooms new.rooms
       → is_open_stage before.stage ≡ true → row_of before.types line ≡ Ok mid.row → begins_epoch line ≡ false
       → row ≡ mid.row → answer ≡ not (has_satellite row.name encoder.rows) → answer ≡ true → new ≡ record
-      encoder { rows = encoder.rows ++ row ∷ []; room = new.room } → ((l : List ℕ) (kept : Written) → row_of
+      encoder { rows = encoder.rows ++ row ∷ []; rooms = new.rooms } → ((l : List ℕ) (kept : Written) → row_of
       mid.types l ≡ Ok mid.row → begins_epoch l ≡ false → has_satellite mid.row.name mid.rows.rows ≡ false
       → TakesRinexLine (made_at mid l kept) mid l step after) → is_row step ≡ true → after.rows.rows
       ≡ mid.rows.rows ++ mid.row ∷ [] → step ≡ (if is_last then Epoch else Row) → HasWrittenRow before encoder
@@ -91,11 +97,12 @@ module _ (before mid : RinexReader) (encoder new : EncoderState) (line : List �
             (taken-from before mid after line kept step is same (takes line kept (ap (λ ts. row_of ts line)
             same.types ∙ read) other (row-known answer row mid.row encoder.rows mid.rows.rows said same_row
             (there ∙ sym same.rows) ∙ ap not fresh)));
-        written = written ∙ ap (λ (rs : List ObservationRow). record encoder { rows = rs; room = new.room })
+        written = written ∙ ap (λ (rs : List ObservationRow). record encoder { rows = rs; rooms = new.rooms })
             (rw (there, same_row, ← same.rows) (sym added));
-        held = subst (λ (rs : List ObservationRow). HoldsRows rs new.room)
+        held = subst (λ (rs : List ObservationRow). HaveRoom rs new.rooms)
             (sym (ap (λ (e : EncoderState). e.rows) written))
-            (row-held encoder.rows row encoder.room new.room holds kept taken);
+            (All-push (λ (r : ObservationRow). HasRoom r.name (length r.values) new.rooms) encoder.rows row
+            (λ i d within. kept _ _ (holds i d within)) taken);
         kept = kept;
       }
 
@@ -106,11 +113,11 @@ module _ (before mid : RinexReader) (encoder new : EncoderState) (line : List �
   row-refused fault is none refuses = grind (arith, common_steps, same-together)
 
   -- everything was forgotten
-  pub row-lost : (after : RinexReader) (room : EncodingRoom) → KeepsEncodingRoom encoder.room new.room
-      → new ≡ forgotten encoder [] room → after.types
+  pub row-lost : (after : RinexReader) → KeepsRooms encoder.rooms new.rooms
+      → new ≡ record (forgotten encoder []) { rooms = new.rooms } → after.types
       ≡ mid.types → is_open_stage after.stage ≡ false → ((kept : Written) → RefusesRinexLine (made_at before
       line kept) before line OutOfMemory) → HasRefusedRow before encoder line OutOfMemory after new
-  row-lost after room kept is typed closed refuses =
+  row-lost after kept is typed closed refuses =
       grind (arith, common_steps, closed-together, forgotten, served-closed)
 
 -- what an epoch's end asks for
@@ -167,15 +174,15 @@ begun-whole made line before after begins is = grind (arith, common_steps)
 module _ {made : Made ObservationEpoch OpenEpoch} {line : List ℕ} {before after : RinexReader}
     (encoder : EncoderState) {new : EncoderState} {full : Bool}
     (begins : BeginsEpoch made line before after) (begun : new ≡ record encoder
-    { is_open = true; in_full = full; rows = []; pending = []; room = all_free encoder.room }) where
+    { is_open = true; in_full = full; rows = []; pending = [] }) where
   pub begun-rows : new.rows ≡ after.rows.rows
   begun-rows = ap (λ (e : EncoderState). e.rows) begun ∙ sym begins.0
 
-  pub begun-holds : HoldsRows new.rows new.room
-  begun-holds = rw begun (grind (arith, common_steps))
+  pub begun-holds : HaveRoom new.rows new.rooms
+  begun-holds = rw begun (All-nil (λ (r : ObservationRow). HasRoom r.name (length r.values) encoder.rooms))
 
-  pub begun-kept : KeepsEncodingRoom encoder.room new.room
-  begun-kept = rw begun (room-freed encoder.room)
+  pub begun-kept : KeepsRooms encoder.rooms new.rooms
+  begun-kept = rw begun (λ name count has. has)
 
   pub begun-together : is_open_stage after.stage ≡ true → BelongTogether after new
   begun-together opened = grind (arith, common_steps, open-together, begun-rows, begun-holds)

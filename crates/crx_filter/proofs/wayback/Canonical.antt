@@ -13,7 +13,7 @@ compacted-by file choices good = cc (same-reading choices.skip (map as_read (lin
 pub as-normal : (file : List ℕ) (choices : Choices) → CompactsAsNormal file choices
 as-normal file choices h = search (read-as_normal, compacted-by)
 
-same-compaction : (one other : List ℕ) (choices : Choices) → HasNormalForm one → HasNormalForm other
+pub same-compaction : (one other : List ℕ) (choices : Choices) → HasNormalForm one → HasNormalForm other
     → normal_form one ≡ normal_form other → compacted one choices ≡ compacted other choices
 same-compaction one other choices h k same = cc (as-normal one choices h, same, as-normal other choices k)
 

@@ -22,23 +22,23 @@ use Rattle.crx_filter.specs.meaning.WrittenStandard.{WhatIsExpandedIsStandard, W
 
 -- ---- the units of compact text, as units of RINEX, have the same header, events and types in force
 
-header-read : (items : List (Item ReadEpoch)) → header_has_ended (rinex_items items) ≡ header_has_ended items
+pub header-read : (items : List (Item ReadEpoch)) → header_has_ended (rinex_items items) ≡ header_has_ended items
 header-read [] = refl
 header-read (item ∷ before) = grind (arith, header-read before)
 
-start-read : (items : List (Item ReadEpoch)) → is_at_start (rinex_items items) ≡ is_at_start items
+pub start-read : (items : List (Item ReadEpoch)) → is_at_start (rinex_items items) ≡ is_at_start items
 start-read items = grind (arith, common_steps)
 
-left-read : (items : List (Item ReadEpoch)) → records_left (rinex_items items) ≡ records_left items
+pub left-read : (items : List (Item ReadEpoch)) → records_left (rinex_items items) ≡ records_left items
 left-read [] = refl
 left-read (item ∷ before) = grind (arith, left-read before)
 
-count-read : (items : List (Item ReadEpoch))
+pub count-read : (items : List (Item ReadEpoch))
     → records_count_types (rinex_items items) ≡ records_count_types items
 count-read [] = refl
 count-read (item ∷ before) = grind (arith, count-read before)
 
-declares-read : (items : List (Item ReadEpoch)) → declaring_lines (rinex_items items) ≡ declaring_lines items
+pub declares-read : (items : List (Item ReadEpoch)) → declaring_lines (rinex_items items) ≡ declaring_lines items
 declares-read [] = refl
 declares-read (Accepted (HeaderLine line) ∷ before) = cc (declares-read before)
 declares-read (Accepted (EventRecord line) ∷ before) = cc (count-read before, declares-read before)
@@ -152,7 +152,7 @@ read-settled skip lines h f =
 
 -- ---- what is written
 
-printed-read : (items : List (Item ReadEpoch))
+pub printed-read : (items : List (Item ReadEpoch))
     → written_lines expanded_unit items ≡ printed_items (rinex_items items)
 printed-read [] = refl
 printed-read (Accepted unit ∷ before) = ap (λ ls. ls ++ printed_unit (rinex_unit unit)) (printed-read before)

@@ -14,7 +14,7 @@ use Rattle.std.{proofs.lemmas.List.length-take-le, specs.Prelude.nat_le}
 date-width : (date : List ℕ) → length (left_justified 20 date) ≡ 20
 date-width date = length-take-le 20 _ (omega (arith, length-append date (replicate 20 32)))
 
-program-read : (date : List ℕ) → crinex_program (program_line date) ≡ Ok (program_line date)
+pub program-read : (date : List ℕ) → crinex_program (program_line date) ≡ Ok (program_line date)
 program-read date = grind (arith, common_steps, drop-append_seam, date-width)
 
 pub first-lines_read : (date : List ℕ) (rest : List ReadLine) → first_lines (Content version_line ∷ Content

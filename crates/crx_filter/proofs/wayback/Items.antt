@@ -36,7 +36,7 @@ read_back every items = carried (known_back every) items
 
 -- ---- the epochs since the latest full one
 
-not-interrupted : (every : Option ℕ) (before : List (Item Epoch))
+pub not-interrupted : (every : Option ℕ) (before : List (Item Epoch))
     → is_in_full every before ≡ false → is_interrupted before ≡ false
 not-interrupted every before e = grind (arith, common_steps)
 

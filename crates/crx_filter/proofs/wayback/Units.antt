@@ -28,15 +28,15 @@ can-stand line h = (h.one_line, h.short)
 no-return : (line : List ℕ) → CanBeCopied line → NoReturn line
 no-return line h = h.no_return
 
-settled : (units : List (FileUnit Epoch)) → MakeAFile units → IsSettled (as_items units)
+pub settled : (units : List (FileUnit Epoch)) → MakeAFile units → IsSettled (as_items units)
 settled units h = search (in-place, copied, can-stand)
 
-no-returns : (units : List (FileUnit Epoch)) → MakeAFile units → HaveNoReturns (as_items units)
+pub no-returns : (units : List (FileUnit Epoch)) → MakeAFile units → HaveNoReturns (as_items units)
 no-returns units h = copied NoReturn no-return units h.in_order
 
 -- ---- their texts
 
-none-warned : (units : List (FileUnit Epoch)) → warnings_in (as_items units) ≡ []
+pub none-warned : (units : List (FileUnit Epoch)) → warnings_in (as_items units) ≡ []
 none-warned [] = refl
 none-warned (unit ∷ before) = none-warned before
 

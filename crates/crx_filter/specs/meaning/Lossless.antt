@@ -7,6 +7,7 @@ use Rattle.crx_filter.specs.meaning.Compacted.{compacted}
 use Rattle.crx_filter.specs.meaning.Expanded.{expanded}
 use Rattle.crx_filter.specs.meaning.Standard.{checked}
 use Rattle.crx_filter.specs.meaning.WayBack.{written_well}
+use Rattle.crx_runs.specs.meaning.Results.{FilterResult}
 use Rattle.crx_runs.specs.meaning.Runs.{IsResult}
 use Rattle.crx_runs.specs.meaning.Spans.{Device}
 
@@ -30,3 +31,7 @@ BringsBackWhatPasses writer messages status fault text =
     (file : List ℕ) (compacting : Choices)
     → is_date compacting.date ≡ true → (checked file).status ≡ 0 → text ≡ (compacted file compacting).output
     → IsResult (written_well file) writer messages status fault
+
+-- a run wrote the output of its input's result
+abbrev pub WritesOutputOf : (List ℕ → FilterResult) → Device → List ℕ → Type 0
+WritesOutputOf result_of writer input = writer.took (result_of input).output

@@ -1,7 +1,13 @@
 use Rattle.crx_filter.proofs.{Words.{common_steps, arith, inl, inr, refl, ap, not, ◌∙◌}}
-use Rattle.crx_filter.proofs.{steps.Together.row-lost}
+use Rattle.crx_filter.proofs.{steps.Together.{row-lost, rows-few}}
 use Rattle.crx_filter.proofs.steps.Together.{row-known, row-or-epoch, row-refused, row-written, rows-there}
 use Rattle.crx_filter.proofs.compaction.take_row.Goals as goal
+
+pub encode_row-requires : goal.encode_row-requires
+encode_row-requires c = record {
+  «open» = c.requires.together.opened ∙ c.requires.«open»;
+  few = rows-few _ _ c.requires.together c.requires.«open»;
+}
 
 pub returns-in_err-read_row-clause-refused : goal.returns-in_err-read_row-clause-refused
 returns-in_err-read_row-clause-refused c = grind (arith, common_steps, row-refused)
@@ -19,7 +25,7 @@ pub returns-in-Err-clause-refused : goal.returns-in-Err-clause-refused
 returns-in-Err-clause-refused c =
     let read = c.in_ok-read_row.ensures in
     let encoded = c.in-Err.ensures in
-    row-lost _ _ _ _ _ c.requires.together read.same _ _ encoded.only.kept encoded.forgotten refl refl
+    row-lost _ _ _ _ _ c.requires.together read.same _ encoded.rooms encoded.forgotten refl refl
     (λ kept. inr (
       refl,
       read.memory (rw (← rows-there _ _ c.requires.together c.requires.open) encoded.memory),
@@ -31,7 +37,7 @@ returns-in-Row-clause-written c =
     let encoded = c.in-Ok-true.ensures in
     let took = c.take_row.ensures in
     row-written _ _ _ _ _ c.requires.together read.same _ _ _ _ _
-    (encoded.taken c.in-Ok-true.field-0-test) encoded.only.kept c.requires.open read.ok read.row
+    (encoded.room c.in-Ok-true.field-0-test) encoded.rooms c.requires.open read.ok read.row
     refl encoded.answer c.in-Ok-true.field-0-test (encoded.written c.in-Ok-true.field-0-test)
     took.takes took.steps took.rows c.in-Row.is
 
@@ -42,7 +48,7 @@ returns c =
     let took = c.take_row.ensures in
     record {
       written = row-written _ _ _ _ _ c.requires.together read.same _ _ _ _ _
-          (encoded.taken c.in-Ok-true.field-0-test) encoded.only.kept c.requires.open read.ok read.row
+          (encoded.room c.in-Ok-true.field-0-test) encoded.rooms c.requires.open read.ok read.row
           refl encoded.answer c.in-Ok-true.field-0-test
           (encoded.written c.in-Ok-true.field-0-test) took.takes took.steps took.rows
           (row-or-epoch _ took.steps c.in_default.not-Row);

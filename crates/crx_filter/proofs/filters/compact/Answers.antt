@@ -1,6 +1,7 @@
 use Rattle.crx_filter.proofs.Words.{◌≡◌, [], ap, OpenEpoch, RunState, Written, compaction_state, compacted}
-use Rattle.crx_filter.proofs.{Words.{compaction_filter, Device}, Kept.kept}
+use Rattle.crx_filter.proofs.{Words.{compaction_filter, Device}, Kept.{kept, writes-output}}
 use Rattle.crx_filter.proofs.{following.Lawful.compaction-lawful, wayback.Canonical.depends-on_normal}
+use Rattle.crx_filter.proofs.accounts.ByResults.{blocks-end, file-ends}
 use Rattle.crx_filter.{proofs.wayback.Units.writes-units, specs.CompactionParts.CompactionState}
 use Rattle.crx_filter.specs.{CompactorState.compacting_state, DirectionParts.EngineParts}
 use Rattle.crx_runs.specs.meaning.{Runs.Runs, Spans.{Input, reader_span, span}}
@@ -25,6 +26,9 @@ returns g c =
       runs = ran;
       units = kept ran (writes-units choices writer messages status fault);
       canonical = kept ran (depends-on_normal choices writer messages status fault);
+      written = kept ran (writes-output (λ bytes. compacted bytes choices) writer messages status fault);
+      accounted = kept ran (file-ends choices writer messages status fault);
+      blocks = kept ran (blocks-end choices writer messages status fault);
     }
 
 pub start-requires-clause-lawful : goal.start-requires-clause-lawful

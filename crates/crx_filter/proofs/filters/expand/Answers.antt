@@ -1,10 +1,12 @@
 use Rattle.crx_filter.proofs.{stretches.StretchesKept.{keeps-undamaged, writes-whole_units}, Words.{◌≡◌}}
 use Rattle.crx_filter.proofs.Words.{[], Option, ap, OpenRawEpoch, Tail, expansion_state, RunState}
-use Rattle.crx_filter.proofs.Words.{expanded, expansion_filter, Device}
-use Rattle.crx_filter.proofs.{Kept.{kept, brings-back, saves-all_else}, following.Lawful.expansion-lawful}
+use Rattle.crx_filter.proofs.Words.{expanded, expansion_filter, Device, IsResult}
+use Rattle.crx_filter.proofs.anywriter.AnyRun.{reads-any, reads-no_other}
+use Rattle.crx_filter.proofs.{Kept.{kept, writes-output, brings-back, saves-all_else}, following.Lawful.expansion-lawful}
 use Rattle.crx_filter.proofs.{standard.Lossless.brings-back_passed, wayback.ExpandedStandard.wrote-standard}
+use Rattle.crx_filter.proofs.accounts.ByResults.{text-ends}
 use Rattle.crx_filter.{proofs.wayback.Units.reads-units, specs.DirectionParts.EngineParts}
-use Rattle.crx_filter.specs.{ExpanderState.expanding_state, declared.expansion.Expansion.Expansion}
+use Rattle.crx_filter.specs.{ExpanderState.expanding_state, ExpansionParts.ExpansionState as Expansion}
 use Rattle.crx_runs.specs.meaning.{Runs.Runs, Spans.{Input, reader_span, span}}
 use Rattle.std.proofs.lemmas.Result.{IfOk-weaker}
 use Rattle.crx_filter.proofs.filters.expand.Goals as goal
@@ -28,11 +30,15 @@ returns g c =
       runs = ran;
       lossless = kept ran (brings-back_passed choices writer messages status fault);
       units = kept ran (reads-units choices writer messages status fault);
+      any_writer = kept ran (λ text ran. reads-any (λ whole. IsResult whole writer messages status fault) choices text ran);
+      no_other = kept ran (reads-no_other choices writer messages status fault);
       standard = λ good. wrote-standard choices writer messages status fault ran.0 good (ran.2.good good).5;
       way_back = kept ran (brings-back choices writer messages status fault);
       salvage = kept ran (saves-all_else choices writer messages status fault);
       damage = kept ran (keeps-undamaged choices writer messages status fault);
       whole_units = kept ran (writes-whole_units choices writer messages status fault);
+      written = kept ran (writes-output (λ bytes. expanded bytes choices) writer messages status fault);
+      accounted = kept ran (text-ends choices writer messages status fault);
     }
 
 pub start-requires-clause-lawful : goal.start-requires-clause-lawful

@@ -54,13 +54,13 @@ pub returns-then-not-is_last-clause-knows : goal.returns-then-not-is_last-clause
 returns-then-not-is_last-clause-knows c =
     let row = c.in_ok-is_last.ensures.written in
     rw (← c.self.view_is) (knows-moved c.self.inside _ (line_shown c.args.line) c.args.line.short
-    c.bytes.ensures.content _ c.take_row.new.encoder c.take_row.new.reader
+    c.bytes.ensures.content _ c.take_row.new.encoder.rooms c.take_row.new.reader
     (row-moves row _ c.if-not-is_last.true).0 row.kept)
 
 pub returns-clause-knows : goal.returns-clause-knows
 returns-clause-knows c =
     let row = c.in_ok-is_last.ensures.written in
     rw (← c.self.view_is) (knows-epoch c.self.inside _ (line_shown c.args.line) c.args.line.short
-    c.bytes.ensures.content _ c.end_epoch.new.encoder c.take_row.new.reader
+    c.bytes.ensures.content _ c.end_epoch.new.encoder.rooms c.take_row.new.reader
     c.take_row.new.encoder (row-ends row _ c.if-not-is_last.false)
-    (ap (λ (e : EncoderState). e.rows) row.written) row.held row.kept c.end_epoch.ensures.memory)
+    (ap (λ (e : EncoderState). e.rows) row.written) row.held row.kept c.end_epoch.ensures.rooms)

@@ -15,4 +15,4 @@ pub returns-clause-enough : goal.returns-clause-enough
 returns-clause-enough c =
     let inside = c.self.inside in
     rw (← c.self.view_is) (λ choices lines line given knew short needs. has-enough choices lines line
-    (compaction_of inside.index inside.reader inside.encoder) given c.self.invariant knew short needs)
+    (compaction_of inside.index inside.reader inside.encoder) given knew short needs)

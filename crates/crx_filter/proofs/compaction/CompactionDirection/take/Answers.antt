@@ -3,7 +3,7 @@ use Rattle.{crx_filter.proofs.Words.{is_at_every}, crx_compact.specs.Encoding.En
 use Rattle.crx_filter.proofs.steps.CompactionKnows.{kept_in, knows-epoch, knows-event, knows-header}
 use Rattle.crx_filter.proofs.steps.{CompactionKnows.knows-moved, CompactionSteps.{ended-read, event-closed}}
 use Rattle.crx_filter.proofs.steps.CompactionSteps.{event-read, header-read, moved-read, of-event}
-use Rattle.crx_filter.proofs.steps.{CompactionSteps.refused-read, RoomsOfEpochs.room-freed}
+use Rattle.crx_filter.proofs.steps.{CompactionSteps.refused-read}
 use Rattle.crx_filter.proofs.steps.Together.{begun-asked, begun-open, begun-rows, begun-together, begun-whole}
 use Rattle.crx_filter.proofs.steps.Together.{closed-together, none-there, same-together, served-closed}
 use Rattle.crx_filter.proofs.steps.Together.{served-open, begun-holds, begun-kept}
@@ -110,7 +110,7 @@ returns-in-Nothing-clause-knows c =
     let takes = rw c.in-Nothing.is at (c.in_ok-take.ensures.takes (kept_in inside)) in
     rw (← c.self.view_is) (knows-moved inside _ (line_shown c.args.line) c.args.line.short
     c.bytes.ensures.content _
-    inside.encoder _ takes.0 (grind (arith, common_steps)))
+    inside.encoder.rooms _ takes.0 (λ name count has. has))
 
 pub returns-then-is_in_epoch-clause-knows : goal.returns-then-is_in_epoch-clause-knows
 returns-then-is_in_epoch-clause-knows c =
@@ -118,7 +118,7 @@ returns-then-is_in_epoch-clause-knows c =
     let takes = rw c.in-Begun.is at (c.in_ok-take.ensures.takes (kept_in inside)) in
     rw (← c.self.view_is) (knows-moved inside _ (line_shown c.args.line) c.args.line.short
     c.bytes.ensures.content _
-    c.begin.new.self c.take.new.self (begun-open _ _ _ _ takes
+    c.begin.new.self.rooms c.take.new.self (begun-open _ _ _ _ takes
     (sym c.is_in_epoch.ensures.value ∙ c.if-is_in_epoch.true))
     (begun-kept inside.encoder takes c.begin.ensures.begun))
 
@@ -129,10 +129,10 @@ returns-else-is_in_epoch-clause-knows c =
     let begun = c.begin.ensures.begun in
     rw (← c.self.view_is) (knows-epoch inside _ (line_shown c.args.line) c.args.line.short
     c.bytes.ensures.content _
-    c.end_epoch.new.encoder c.take.new.self c.begin.new.self
+    c.end_epoch.new.encoder.rooms c.take.new.self c.begin.new.self
     (begun-whole _ _ _ _ takes (sym c.is_in_epoch.ensures.value ∙ c.if-is_in_epoch.false))
     (begun-rows inside.encoder takes begun) (begun-holds inside.encoder takes begun)
-    (begun-kept inside.encoder takes begun) c.end_epoch.ensures.memory)
+    (begun-kept inside.encoder takes begun) c.end_epoch.ensures.rooms)
 
 pub returns-then-is_first-clause-knows : goal.returns-then-is_first-clause-knows
 returns-then-is_first-clause-knows c =
@@ -140,8 +140,8 @@ returns-then-is_first-clause-knows c =
     let takes = rw c.in-Header.is at (c.in_ok-take.ensures.takes (kept_in inside)) in
     rw (← c.self.view_is) (knows-header inside _ (line_shown c.args.line) c.args.line.short
     c.bytes.ensures.content _
-    c.put_first_lines.new.self _ takes.0
-    (rw c.put_first_lines.ensures.put (room-freed inside.encoder.room)))
+    c.put_first_lines.new.self.rooms _ takes.0
+    (rw c.put_first_lines.ensures.put (λ name count has. has)))
 
 pub returns-else-is_first-clause-knows : goal.returns-else-is_first-clause-knows
 returns-else-is_first-clause-knows c =
@@ -149,7 +149,7 @@ returns-else-is_first-clause-knows c =
     let takes = rw c.in-Header.is at (c.in_ok-take.ensures.takes (kept_in inside)) in
     rw (← c.self.view_is) (knows-header inside _ (line_shown c.args.line) c.args.line.short
     c.bytes.ensures.content _
-    c.reset.new.self _ takes.0 (rw c.reset.ensures.emptied (room-freed inside.encoder.room)))
+    c.reset.new.self.rooms _ takes.0 (rw c.reset.ensures.emptied (λ name count has. has)))
 
 pub returns-in_default-clause-knows : goal.returns-in_default-clause-knows
 returns-in_default-clause-knows c =
@@ -158,5 +158,5 @@ returns-in_default-clause-knows c =
     c.in_default.not-Header (c.in_ok-take.ensures.takes (kept_in inside)) in
     rw (← c.self.view_is) (knows-event inside _ (line_shown c.args.line) c.args.line.short
     c.bytes.ensures.content _
-    c.reset-in_default.new.self c.take.new.self done
-    (rw c.reset-in_default.ensures.emptied (room-freed inside.encoder.room)))
+    c.reset-in_default.new.self.rooms c.take.new.self done
+    (rw c.reset-in_default.ensures.emptied (λ name count has. has)))

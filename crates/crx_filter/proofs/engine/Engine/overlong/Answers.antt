@@ -2,7 +2,7 @@ use Rattle.crx_filter.proofs.Words.{ap, ◌∙◌, sym, ◌+◌, ◌≡◌, true
 use Rattle.crx_filter.proofs.{Words.{InputLine, is_long, Steps}, steps.EngineAnswers.answers-seen}
 use Rattle.crx_filter.proofs.steps.{EngineAnswers.{engine-answers, as-read-long}, EngineFaults.after-error}
 use Rattle.crx_filter.proofs.steps.EngineFaults.{long-failed, not-settled, notes-refused}
-use Rattle.crx_filter.proofs.steps.{EngineLemmas.repeats, RoomSteps.not-lost}
+use Rattle.crx_filter.proofs.steps.{EngineLemmas.repeats, LostLines.not-lost}
 use Rattle.crx_filter.specs.{DirectionParts.{EngineParts, state_by}, EngineState.{EngineGoes, EngineNotes}}
 use Rattle.crx_filter.specs.EngineState.{EngineSkips, RanOutBefore, engine_ready, engine_state}
 use Rattle.crx_filter.proofs.engine.Engine.overlong.Goals as goal

@@ -1,7 +1,7 @@
 use Rattle.crx_filter.proofs.Words.{sym, subst, refl, ap, ◌+◌, ◌∙◌, begins_epoch, InputLine}
 use Rattle.crx_filter.proofs.steps.{EngineAnswers.as-read-within, EngineFaults.{after-error, handed-line}}
 use Rattle.crx_filter.proofs.steps.EngineFaults.{notes-handed, notes-refused, refused-line}
-use Rattle.{crx_filter.proofs.steps.RoomSteps.{handed-well, not-lost}, crx_lines.specs.Reading.line_shown}
+use Rattle.{crx_filter.proofs.steps.LostLines.{handed-well, not-lost}, crx_lines.specs.Reading.line_shown}
 use Rattle.crx_filter.proofs.engine.Engine.take_between.Goals as goal
 
 pub returns-in-Err : goal.returns-in-Err

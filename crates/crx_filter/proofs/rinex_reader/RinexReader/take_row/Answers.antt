@@ -5,9 +5,9 @@ use Rattle.crx_filter.proofs.RinexSteps.{IsInEpoch, in-its-epoch, last-row-taken
 use Rattle.{crx_rinex.specs.meaning.EpochLines.IsObservationHead, std.proofs.lemmas.List.length_push}
 use Rattle.crx_filter.proofs.rinex_reader.RinexReader.take_row.Goals as goal
 
-few : (r : RinexReader) (head : ObservationHead) (row : Row) (rows : List Row) → IsInEpoch r head
+few-rows : (r : RinexReader) (head : ObservationHead) (row : Row) (rows : List Row) → IsInEpoch r head
     → IsObservationHead head → rows ≡ r.rows.rows ++ row ∷ [] → length rows ≤ SATELLITES_LIMIT
-few r head row rows at sound is = grind (arith, common_steps, length_push)
+few-rows r head row rows at sound is = grind (arith, common_steps, length_push)
 
 pub overflow_add-self : goal.overflow_add-self
 overflow_add-self c =
@@ -21,7 +21,15 @@ returns-then-self-announced-clause-takes c = λ line kept read other new.
     (record { types_then = refl; held = c.in-Some.is; rows_then = c.add.ensures.rows }) refl
 
 pub returns-then-self-announced-clause-few : goal.returns-then-self-announced-clause-few
-returns-then-self-announced-clause-few c = search (few, in-its-epoch)
+returns-then-self-announced-clause-few c = search few-rows
+
+pub invariant_of-self : goal.invariant_of-self
+invariant_of-self c = record {
+  consistent = refl;
+  few = few-rows c.args.self.now c.in-Some.head c.args.self.now.row c.add.new.self.rows
+      (in-its-epoch c.args.self.now c.in-Some.head c.requires.«open» c.in-Some.is)
+      c.count-announced.ensures.sound c.add.ensures.rows;
+}
 
 pub invariant_of-self-else-self-announced : goal.invariant_of-self-else-self-announced
 invariant_of-self-else-self-announced c =
@@ -35,6 +43,7 @@ invariant_of-self-else-self-announced c =
           (c.args.self.now.count + 1) c.add.new.self.rows at.stage c.in-Some.is (ap (λ n. n + 1) counted
           ∙ sym (ap length c.add.ensures.rows ∙ length_push c.args.self.now.rows.rows c.args.self.now.row))
           (omega (arith, wants, others, announced));
+      few = search few-rows;
     }
 
 pub returns-clause-takes : goal.returns-clause-takes
@@ -48,4 +57,4 @@ returns-clause-takes c = λ line kept read other new.
     )
 
 pub returns-clause-few : goal.returns-clause-few
-returns-clause-few c = search (few, in-its-epoch)
+returns-clause-few c = search few-rows
