@@ -6,3 +6,5 @@ pub mod ExpandedReadyToHandOut
 pub mod OpenSound
 pub mod blockwise
 pub mod Weights
+pub mod OnceMore
+pub mod HoursMakeADay

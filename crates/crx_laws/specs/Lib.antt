@@ -8,3 +8,5 @@ pub mod Bounds
 pub mod SmallStretches
 pub mod Blocks
 pub mod Sizes
+pub mod Again
+pub mod WildText

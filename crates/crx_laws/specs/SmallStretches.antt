@@ -29,6 +29,18 @@ second_block_text =
     lines_text (full_line_at 2 1 (codes "G01") ∷ [] ∷ codes "3&20000202000" ∷ second_changed 3 ∷ []
     ∷ codes "102500" ∷ [])
 
+-- all five epochs, and their text where only the first is in full
+abbrev pub five_epochs : List (Item Epoch)
+five_epochs = (Accepted (Observation (epoch_at_second 4 20000408000)) ∷ second_block)
+    ++ Accepted (Observation (epoch_at_second 1 20000100500))
+    ∷ Accepted (Observation (epoch_at_second 0 20000000000)) ∷ []
+
+abbrev pub five_epochs_text : List ℕ
+five_epochs_text =
+    lines_text (full_line_at 0 1 (codes "G01") ∷ [] ∷ codes "3&20000000000" ∷ second_changed 1 ∷ [] ∷ codes "100500"
+    ∷ second_changed 2 ∷ [] ∷ codes "1000" ∷ second_changed 3 ∷ [] ∷ codes "0"
+    ∷ second_changed 4 ∷ [] ∷ codes "0" ∷ [])
+
 -- in place of the second epoch's lines two others, of which the first begins with >; and in place of the
 -- third block, its first line too, a part of that line without LF at its end
 abbrev pub two_stretches : List Stretch

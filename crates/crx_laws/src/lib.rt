@@ -2,6 +2,8 @@
 //! the contract of a function that does nothing, but for the way back through `Columns`, which reads what was written.
 #![tactic(auto)]
 
+pub mod again;
+pub mod any_writer;
 pub mod blocks;
 pub mod canonical;
 pub mod checking_examples;
@@ -17,8 +19,8 @@ pub mod normal_form;
 pub mod read_back;
 pub mod reading_back;
 pub mod rinex_laws;
-pub mod room;
 pub mod salvage;
+pub mod silence;
 pub mod sizes;
 pub mod stretch_examples;
 pub mod stretches;

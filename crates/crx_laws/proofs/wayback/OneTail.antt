@@ -16,7 +16,8 @@ use Rattle.crx_compact.specs.ArcTails.{arc_tail, values_of, started_tail}
 use Rattle.crx_compact.specs.ReadingLaws.{raw_row, OneTail}
 use Rattle.crx_compact.specs.Laws.{AreWhole}
 use Rattle.crx_text.proofs.EachPlace.{each_place-same, length-each_place}
-use Rattle.crx_compact.proofs.arcs.Inversion.{numbers_of, value-numbers, started-codes}
+use Rattle.crx_compact.proofs.arcs.Inversion.{started-codes}
+use Rattle.crx_compact.proofs.anywriter.Arcs.{values-back}
 use Rattle.crx_compact.proofs.Lists.{mapped-same}
 use Rattle.crx_compact.proofs.wayback.Runs.{raw_block, marked, block-raws, raw_run, runs-read}
 use Rattle.crx_compact.proofs.wayback.Runs.{codes_of_values, clocks-read, codes-read, started-values}
@@ -26,10 +27,6 @@ use Rattle.crx_compact.proofs.wayback.Rows.{IsRowOf, run-begins, rows-of_run, fl
 use Rattle.crx_compact.proofs.wayback.Reading.{epochs-begin, epochs-unmarked}
 
 -- ---- arcs
-
-values-back : (n : ℕ) (xs : List ℤ) → values_of n (numbers_of n xs) ≡ xs
-values-back n [] = refl
-values-back n (x ∷ xs) = cc (value-numbers n xs x, values-back n xs)
 
 -- the codes of values that may be missing leave what the values do
 arc-same : (os : List (Option ℤ))

@@ -4,7 +4,6 @@ use super::cases::{Table, both_forms, both_ways};
 use super::*;
 use crate::expecting::expect_at;
 use crx_compact::Coded;
-use crx_compact::lines::Lines;
 use std::process::Abort;
 use std::test::Fail;
 
@@ -37,7 +36,7 @@ fn is_encoded(
         Ok(coded) => {
             let mut coded = Owned::of(coded);
             let is_so = are_next(&mut coded.value, compact);
-            let _ = Owned::of(columns.take_back(coded.into_value()));
+            let _ = Owned::of(coded.into_value().into_epoch());
             is_so
         }
         Err((epoch, _)) => {

@@ -1,0 +1,5 @@
+use Rattle.crx_filter.proofs.accounts.Shortness.{short-blocks}
+use Rattle.crx_laws.proofs.silence.blocks_are_short.Goals as goal
+
+pub returns : goal.returns
+returns c = record { law = short-blocks }

@@ -1,0 +1,68 @@
+-- A small file and a compact text of it that no writer known here would write.
+use Rattle.std.specs.Prelude.{ℕ, ◌+◌, List, [], ◌∷◌, ◌++◌, codes, replicate, pos}
+use Rattle.crx_base.specs.meaning.Lines.{lines_text}
+use Rattle.crx_rinex.specs.meaning.Observations.{Epoch}
+use Rattle.crx_rinex.specs.meaning.Units.{Unit as FileUnit, HeaderLine, EventLine, EventRecord, Observation}
+use Rattle.std.specs.Prelude.{Some, None}
+
+abbrev pub blanks : ℕ → List ℕ
+blanks count = replicate count 32
+
+abbrev pub version : List ℕ
+version = codes "     3.04           OBSERVATION DATA    G                   RINEX VERSION / TYPE"
+
+abbrev pub types_line : List ℕ
+types_line = codes "G    1 C1C" ++ blanks 50 ++ codes "SYS / # / OBS TYPES"
+
+abbrev pub end_line : List ℕ
+end_line = blanks 60 ++ codes "END OF HEADER"
+
+abbrev pub event : List ℕ
+event = codes "> 2024 01 01 00 00  1.5000000  4  1"
+
+abbrev pub comment : List ℕ
+comment = codes "a comment" ++ blanks 51 ++ codes "COMMENT"
+
+abbrev pub head_at : ℕ → List ℕ
+head_at s = codes "> 2024 01 01 00 00  " ++ (48 + s) ∷ codes ".0000000  0  1"
+
+abbrev pub epoch_at_second : ℕ → ℕ → FileUnit Epoch
+epoch_at_second s value = Observation (record {
+  head = head_at s ++ blanks 6;
+  clock = None;
+  rows = record { name = codes "G01"; values = Some (pos value) ∷ []; flags = codes "  " } ∷ [];
+})
+
+-- a header, two epochs, an event with a record, and an epoch more
+abbrev pub wild_units : List (FileUnit Epoch)
+wild_units = epoch_at_second 2 20000202000 ∷ EventRecord comment ∷ EventLine event
+    ∷ epoch_at_second 1 20000100500 ∷ epoch_at_second 0 20000000000
+    ∷ HeaderLine end_line ∷ HeaderLine types_line ∷ HeaderLine version ∷ []
+
+abbrev pub file : List (List ℕ)
+file = version ∷ types_line ∷ end_line ∷ head_at 0 ∷ codes "G01  20000000.000" ∷ head_at 1 ∷ codes "G01  20000100.500"
+    ∷ event ∷ comment ∷ head_at 2 ∷ codes "G01  20000202.000" ∷ []
+
+-- the lines of each epoch: order 9 and leading zeros; marks where nothing changes, 18 digits, and & for indicators that
+-- stay blank; and an epoch that goes on over the event
+abbrev pub first_lines_of : List (List ℕ)
+first_lines_of = (head_at 0 ++ blanks 6 ++ codes "G01   ") ∷ [] ∷ codes "9&0020000000000" ∷ []
+
+abbrev pub second_lines : List (List ℕ)
+second_lines = (blanks 9 ++ codes "&0" ++ blanks 9 ++ codes "1   ") ∷ blanks 2 ∷ codes "000000000000100500 &&" ∷ []
+
+abbrev pub third_lines : List (List ℕ)
+third_lines = (blanks 20 ++ codes "2") ∷ [] ∷ codes "1000 " ∷ []
+
+abbrev pub first_line : List ℕ
+first_line = codes " 3.0                COMPACT RINEX FORMAT                    CRINEX VERS   / TYPE"
+
+abbrev pub second_line : List ℕ
+second_line = codes "ANOTHER PROGRAM     SOMEBODY            ANY DAY             CRINEX PROG / DATE"
+
+abbrev pub body : List (List ℕ)
+body = version ∷ types_line ∷ end_line ∷ first_lines_of ++ second_lines ++ event ∷ comment ∷ third_lines
+
+-- its first line ends with CR LF
+abbrev pub wild_text : List ℕ
+wild_text = first_line ++ 13 ∷ 10 ∷ lines_text (second_line ∷ body)

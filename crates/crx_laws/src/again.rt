@@ -1,0 +1,45 @@
+//! What is compacted or expanded again is the same: each law is the contract of a function that does nothing.
+
+ghost use Rattle.std.specs.Prelude.{◌≡◌, ◌++◌, [], ℕ, List, None, true};
+ghost use Rattle.crx_base.specs.meaning.Choices.{Choices, is_date};
+ghost use Rattle.crx_base.specs.meaning.Lines.{lines_text};
+ghost use Rattle.crx_rinex.specs.meaning.Observations.{Epoch};
+ghost use Rattle.crx_filter.specs.meaning.Compacted.{compact_lines, compacted};
+ghost use Rattle.crx_filter.specs.meaning.Expanded.{expanded};
+ghost use Rattle.crx_filter.specs.meaning.Items.{Item};
+ghost use Rattle.crx_filter.specs.meaning.WayBack.{HasNormalForm};
+ghost use Rattle.crx_filter.specs.meaning.WrittenStandard.{has_plain_lines};
+ghost use Rattle.crx_laws.specs.Again.{ExpandsTheSameAgain, Follows, IsTheSameAgain, MakeADay};
+ghost use Rattle.crx_laws.specs.SmallFiles.{file_of_five, header_items, of_other_orders, plain_choices, with_event};
+ghost use Rattle.crx_laws.specs.SmallStretches.{five_epochs, five_epochs_text};
+
+/// The compact text of a file without faults, and without copied lines that end in two CRs, is written again by the compaction of its
+/// expansion, with the same options and the same date, whatever is chosen for the expansion.
+pub fn compacting_again_changes_nothing()
+    ensures law { (file : List ℕ) (compacting expanding : Choices) → IsTheSameAgain file compacting expanding }
+{}
+
+/// What was expanded of any text without a fault, and has no line that ends in CR, is expanded again from its own compact text.
+pub fn expanding_again_changes_nothing()
+    ensures law { (text : List ℕ) (choices compacting expanding : Choices)
+        → ExpandsTheSameAgain text choices compacting expanding }
+{}
+
+/// Hours make a day: the compact text of one file, and behind it that of the next without its two first lines and its header, expand to both,
+/// where neither has faults, no copied line of them ends in two CRs, and the types that the first ends with are those of the second's header.
+pub fn hours_make_a_day()
+    ensures law { (first second : List ℕ) (header later : List (Item Epoch)) (rest : List ℕ)
+        (compacting expanding : Choices) → MakeADay first second header later rest compacting expanding }
+{}
+
+/// What these laws ask for can be met: by a date, by a file of five epochs, by a text with arcs of other orders, and by that file behind one
+/// with an event.
+pub fn premises()
+    ensures date { is_date plain_choices.date ≡ true }
+    ensures file { HasNormalForm (lines_text (file_of_five [])) }
+    ensures text { (expanded of_other_orders plain_choices).fault ≡ None }
+    ensures plain { has_plain_lines (expanded of_other_orders plain_choices).output ≡ true }
+    ensures follows { Follows (lines_text with_event) (lines_text (file_of_five [])) header_items five_epochs }
+    ensures behind { (compacted (lines_text (file_of_five [])) plain_choices).output
+        ≡ lines_text (compact_lines plain_choices header_items) ++ five_epochs_text }
+{}
