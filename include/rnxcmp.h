@@ -26,8 +26,9 @@
  *
  * Any number of threads may call at once, for a handle one at a time. No call keeps a pointer, opens a file, prints or ends the process.
  * The input, the two rooms and the answer must not overlap, and nothing else may change them during the call. A call needs 256 KiB of
- * stack. It takes memory from malloc: for each text less than twice what its room holds, three times while realloc copies, and what the
- * run needs of earlier lines. It isn't for signal handlers.
+ * stack. It takes memory from malloc: for each text less than twice what its room holds, three times while realloc copies; what the run needs
+ * of earlier lines; and, where it compacts or expands, 10.4 MB at its start, of which usual files use a hundredth. It isn't for signal
+ * handlers.
  *
  * What differs from version 1, whose library is librnxcmp.so.1:
  * - rnxcmp_options begins with its own size, and has `max_output`; the status RNXCMP_OUTPUT_LIMIT is new.

@@ -1,3 +1,4 @@
 pub mod FilterEnds
 pub mod Refusals
 pub mod StreamLemmas
+pub mod KeptLemmas

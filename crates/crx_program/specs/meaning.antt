@@ -2,3 +2,4 @@
 pub mod Program
 pub mod Jobs
 pub mod Streams
+pub mod Kept

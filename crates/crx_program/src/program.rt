@@ -35,15 +35,20 @@ pub struct Ended<F: Write + Drop> {
     pub target: Option<TargetFile<F>>,
 }
 
-/// Hands on what a buffer still holds. A run that ended since a message couldn't be written hasn't flushed what it wrote before. After a
-/// write that failed nothing is written here.
-pub(crate) fn hand_on<F: Write + Drop>(device: TargetFile<F>) {
-    let mut buffer = device.into_inner().into_inner();
-    match buffer.flush() {
-        // A run whose output wasn't handed on before has ended with status 1, so a failure says nothing more. The buffer is taken apart,
-        // since one that is dropped flushes again.
-        Ok(()) | Err(_) => drop(buffer.into_parts()),
+/// Has a buffer hand on what it still holds: no byte more is written. A run that ended since a message couldn't be written hasn't flushed what
+/// it wrote before. After a write that failed nothing is handed on. A run whose output wasn't handed on before has ended with status 1, so a
+/// failure says nothing more.
+pub(crate) fn settle<F: Write + Drop>(device: &mut TargetFile<F>)
+    ensures { device.new.log.bytes ≡ device.old.log.bytes }
+{
+    match device.flush() {
+        Ok(()) | Err(_) => {}
     }
+}
+
+/// Lets go of a device. Its buffer is taken apart, since one that is dropped flushes.
+pub(crate) fn let_go<F: Write + Drop>(device: TargetFile<F>) {
+    drop(device.into_inner().into_inner().into_parts());
 }
 
 impl<F: Write + Drop> Ended<F> {
@@ -56,8 +61,9 @@ impl<F: Write + Drop> Ended<F> {
             source: _,
             target,
         } = self;
-        if let Some(file) = target {
-            hand_on(file);
+        if let Some(mut file) = target {
+            settle(&mut file);
+            let_go(file);
         }
         status
     }

@@ -3,12 +3,13 @@
 ghost use Rattle.std.specs.Prelude.{◌≡◌, [], None, map, string_bytes};
 ghost use Rattle.crx_command.specs.meaning.Planning.{Help, Refusal, Refused, Run, plan_of};
 ghost use Rattle.crx_program.specs.meaning.Jobs.{IsJobDone};
+ghost use Rattle.crx_program.specs.meaning.Kept.{KeepsItsPromises};
 ghost use Rattle.crx_program.specs.meaning.Program.{IsHelped, IsRefused, IsShown, at_start};
 ghost use Rattle.crx_program.specs.meaning.Streams.{FromUnused, IsExact, IsPrefix, IsUnused};
 ghost use Rattle.crx_runs.specs.meaning.Spans.{reader_span, span};
 
 use crate::log::{Logged, SourceFile, TargetFile};
-use crate::program::{hand_on, run_with_files};
+use crate::program::{let_go, run_with_files, settle};
 use crate::refusal::report_at_start;
 use crx_base::Fault;
 use crx_command::job::Job;
@@ -103,6 +104,8 @@ pub fn run_over<H: Files, I: Read, O: Write + Drop, E: Write>(
         → (result.status ≡ 1 → ⊥) → IsExact moment job result }
     ensures front { (job : Job) → plan_of (map string_bytes words.items) ≡ Run job
         → IsPrefix moment job result }
+    ensures keeps { (job : Job) → plan_of (map string_bytes words.items) ≡ Run job
+        → (result.status ≡ 1 → ⊥) → KeepsItsPromises moment job result }
 {
     let mut input = Logged::new(Std::new(stdin));
     let mut output = Logged::new(Std::new(stdout));
@@ -127,10 +130,26 @@ pub fn run_over<H: Files, I: Read, O: Write + Drop, E: Write>(
 }
 
 impl<I: Drop, O: Write + Drop, E: Drop, F: Write + Drop> Whole<I, O, E, F> {
-    /// Hands on what the buffers of the output still hold, closes the files, and answers the exit status.
-    pub fn close(self) -> u8
+    ghost use Rattle.std.specs.Option.{option_map};
+
+    /// Has the buffers of the outputs hand on what they still hold. No byte more is written to them.
+    fn settle(&mut self)
+        ensures output { self.new.output.log.bytes ≡ self.old.output.log.bytes }
+        ensures target { option_map (λ file. file.log.bytes) self.new.target
+            ≡ option_map (λ file. file.log.bytes) self.old.target }
+        ensures status { self.new.status ≡ self.old.status }
+    {
+        if let Some(file) = &mut self.target {
+            settle(file);
+        }
+        settle(&mut self.output);
+    }
+
+    /// Hands on what the buffers of the output still hold, closes the files, and answers the exit status. No byte more is written.
+    pub fn close(mut self) -> u8
         ensures status { result ≡ self.status }
     {
+        self.settle();
         let Whole {
             status,
             input: _,
@@ -140,9 +159,9 @@ impl<I: Drop, O: Write + Drop, E: Drop, F: Write + Drop> Whole<I, O, E, F> {
             target,
         } = self;
         if let Some(file) = target {
-            hand_on(file);
+            let_go(file);
         }
-        hand_on(output);
+        let_go(output);
         status
     }
 }

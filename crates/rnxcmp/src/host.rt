@@ -4,6 +4,7 @@ ghost use Rattle.std.specs.Prelude.{◌≡◌, [], None, drop, map, string_bytes
 ghost use Rattle.std.specs.Vec.Iter.{into_iter_items};
 ghost use Rattle.crx_command.specs.meaning.Planning.{Help, Refusal, Refused, Run, plan_of};
 ghost use Rattle.crx_program.specs.meaning.Jobs.{IsJobDone};
+ghost use Rattle.crx_program.specs.meaning.Kept.{KeepsItsPromises};
 ghost use Rattle.crx_program.specs.meaning.Program.{IsHelped, IsRefused};
 ghost use Rattle.crx_program.specs.meaning.Streams.{FromUnused, IsExact, IsPrefix};
 ghost use Rattle.crx_runs.specs.meaning.Spans.{reader_span, span};
@@ -64,6 +65,9 @@ pub fn run_streams(
     ensures front { (job : Job)
         → plan_of (map string_bytes (drop 1 (into_iter_items arguments))) ≡ Run job
         → IsPrefix moment job result }
+    ensures keeps { (job : Job)
+        → plan_of (map string_bytes (drop 1 (into_iter_items arguments))) ≡ Run job
+        → (result.status ≡ 1 → ⊥) → KeepsItsPromises moment job result }
 {
     match words_given(rt.alloc(), arguments) {
         Ok(words) => run_over(rt, rt.alloc(), moment, words, stdin, stdout, stderr),

@@ -3,12 +3,17 @@ use Rattle.std.proofs.{Common.{rules, arith}, lemmas.Grind.common_steps}
 use Rattle.rnxcmp_c.proofs.Words.{◌≡◌, ◌⊎◌, ℕ, List, true, code_of_fault, InputTooLong, Choices, expanded}
 use Rattle.rnxcmp_c.proofs.Words.{checked, what-passes, FilterResult, Answer, OUTPUT_LIMIT, BothTexts}
 use Rattle.rnxcmp_c.proofs.Words.{HasNoMemory, RunHasEnded, RunHasResult, StopsAtLimit, StopsForMemory}
-use Rattle.rnxcmp_c.proofs.Words.{StopsWhenFull, Task, run_for, CallBringsBackWhatPasses}
+use Rattle.rnxcmp_c.proofs.Words.{StopsWhenFull, Task, Compact, Expand, Check, run_for, CallBringsBackWhatPasses}
 use Rattle.rnxcmp_c.proofs.{Kept.{brings-back, judges-status, saves-all_else}, Lossless.brings-back_passed}
 use Rattle.rnxcmp_c.proofs.Words.{CallBringsBackWhatWasCompacted, CallSavesAllElse}
 use Rattle.rnxcmp_c.specs.meaning.Ended.{CheckPromises, ExpansionPromises}
 use Rattle.rnxcmp_c.specs.meaning.Stretches.{CallKeepsUndamaged, CallWritesWholeUnits}
+use Rattle.crx_filter.proofs.accounts.ByResults.{compaction-keeps, expansion-keeps}
+use Rattle.crx_filter.specs.meaning.ByResults.{ExpansionKeeps}
+use Rattle.rnxcmp_c.specs.meaning.Kept.{TaskKeeps}
 use Rattle.crx_filter.proofs.stretches.StretchesSaved.{rest-kept, whole-first}
+use Rattle.rnxcmp_c.proofs.Words.{sym, ap, ◌∙◌}
+use Rattle.crx_filter.proofs.anywriter.{AnyRun.reads-any, OnlyTexts.only-text}
 
 -- what holds of the result of an expansion holds of what it brings back, saves and keeps
 pub record KeepsPromises (holds : FilterResult → Type 0) (choices : Choices) (text : List ℕ) : Type 0 where
@@ -18,11 +23,18 @@ pub record KeepsPromises (holds : FilterResult → Type 0) (choices : Choices) (
   pub salvage : choices.skip ≡ true → CallSavesAllElse holds text
   pub damage : choices.skip ≡ true → CallKeepsUndamaged holds text
   pub whole_units : CallWritesWholeUnits holds text
+  pub keeps : ExpansionKeeps holds choices.skip text
 
 pub keeps-promises : (holds : FilterResult → Type 0) (choices : Choices) (text : List ℕ)
     → holds (expanded text choices) → KeepsPromises holds choices text
 keeps-promises holds choices text whole =
-    search (rules, brings-back_passed, brings-back, saves-all_else, rest-kept, whole-first)
+    search (rules, brings-back_passed, brings-back, saves-all_else, rest-kept, whole-first, expansion-keeps)
+
+pub task-keeps : (task : Task) (holds : FilterResult → Type 0) (input : List ℕ)
+    → holds ((run_for task).result input) → TaskKeeps task holds input
+task-keeps (Compact choices limit) holds input ran = compaction-keeps holds choices input ran
+task-keeps (Expand choices limit) holds input ran = expansion-keeps holds choices input ran
+task-keeps Check holds input ran = tt
 
 module _ (fed : List ℕ) (made kept : BothTexts) (answer : Answer) where
   abbrev Has : FilterResult → Type 0
@@ -49,7 +61,16 @@ module _ (fed : List ℕ) (made kept : BothTexts) (answer : Answer) where
 
   pub run-expansion : (choices : Choices) → Has (expanded fed choices)
       → ExpansionPromises choices fed made kept answer
-  run-expansion choices whole = grind (arith, common_steps, keeps-promises Has choices fed whole)
+  run-expansion choices whole =
+      let k = keeps-promises Has choices fed whole in record {
+        lossless = k.lossless;
+        any_writer = reads-any Has choices fed whole;
+        no_other = λ e. only-text fed choices (sym (ap (λ (a : Answer). a.status) whole.answered) ∙ e);
+        way_back = k.way_back;
+        salvage = k.salvage;
+        damage = k.damage;
+        whole_units = k.whole_units;
+      }
 
   pub run-check : Has (checked fed) → CheckPromises fed answer
   run-check whole = grind (arith, common_steps, RunHasResult.answered whole, what-passes, judges-status)

@@ -5,9 +5,9 @@ use Rattle.rnxcmp_c.proofs.Words.{Some, None, take, arith, append-nil, length-ap
 use Rattle.rnxcmp_c.proofs.Words.{ended_lines_of, ended_lines-come_first, Outcome, ReaderRuns, FeedsBy}
 use Rattle.rnxcmp_c.proofs.Words.{HasEndedBy, HasFedBy, ReaderStands}
 use Rattle.rnxcmp_c.proofs.Words.{StandsBy, RunIsOutOfMemory, HandlePast, fed_with, limit_for}
-use Rattle.rnxcmp_c.proofs.Words.{nothing_fed, Task, Answer, AnyEngine, Held, Reader}
+use Rattle.rnxcmp_c.proofs.Words.{subst, sym, nothing_fed, Task, Answer, AnyEngine, Held, Reader}
 use Rattle.rnxcmp_c.{proofs.Words.{◌⊎◌, FeedsBytes, HasFed}, specs.Handles.{IsFresh, ReaderEndsBy}}
-use Rattle.rnxcmp_c.specs.{Handles.ReaderHasPassed, Holding.HoldsNothing}
+use Rattle.rnxcmp_c.specs.{Handles.{HasPassedBy, ReaderHasPassed}, Holding.HoldsNothing}
 
 -- the lines that an LF ends are no more than all
 ended-within : (fed : List ℕ) → length (ended_lines_of fed) ≤ length (lines_of fed)
@@ -55,11 +55,29 @@ pub either-fed : {task : Task} {old new : Reader} {past : HandlePast} {bytes : L
     ⊎ ((0 < length bytes) × (used ≡ 0) × ReaderHasPassed task new past)
 either-fed {task} {old} {new} {past} {bytes} feeds = grind (arith, common_steps, ⊎_elim, none-or)
 
+-- an input that is too long has ended it
+passed-stands : (task : Task) (reader : Reader) (past : HandlePast) (outcome : Option Outcome)
+    → HasPassedBy task reader past outcome → StandsBy task reader past outcome
+passed-stands task reader past None passed = absurd passed
+passed-stands task reader past (Some outcome) over = inr (inr (inl over))
+
 pub feeds-stands : (task : Task) (old new : Reader) (past : HandlePast) (bytes : List ℕ) (used : ℕ)
     (answer : Answer) (outcome : Option Outcome) → ReaderStands task old past
     → FeedsBy task old new past bytes used answer outcome
     → ReaderStands task new (fed_with past (take used bytes))
-feeds-stands = grind (arith, common_steps, ⊎_elim, fed-stands, none-fed, either-fed)
+feeds-stands task old new past bytes used answer None stands feeds = pick (either-fed feeds)
+  where
+    now : HandlePast
+    now = fed_with past (take used bytes)
+
+    pick : HasFed past.fed task new now ⊎ ((0 < length bytes) × (used ≡ 0) × ReaderHasPassed task new past)
+        → ReaderStands task new now
+    pick (inl fed) = fed-stands past.fed task new now new.outcome fed
+    pick (inr (some, none, passed)) = subst (λ (p : HandlePast). ReaderStands task new p)
+        (none-fed past bytes used none) (passed-stands task new past new.outcome passed)
+feeds-stands task old new past bytes used answer (Some outcome) stands (misused, none, same) =
+    subst (λ (reader : Reader). ReaderStands task reader (fed_with past (take used bytes))) (sym same)
+    (subst (λ (p : HandlePast). ReaderStands task old p) (none-fed past bytes used none) stands)
 
 pub ends-stands : (task : Task) (old new : Reader) (past : HandlePast) (answer : Answer)
     (outcome : Option Outcome) → ReaderStands task old past → ReaderEndsBy task old new past answer outcome

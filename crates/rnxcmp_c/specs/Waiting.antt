@@ -1,11 +1,15 @@
 -- What a handle's texts are, for their caller.
-use Rattle.std.specs.Prelude.{◌≡◌, ◌⊎◌, ◌<◌, ℕ, ◌+◌, List, drop, length, vec_capacity}
+use Rattle.std.specs.Prelude.{◌≡◌, ◌⊎◌, ◌<◌, ℕ, ◌+◌, List, drop, length, min, vec_capacity}
 use Rattle.rnxcmp_c.specs.declared.limits.TheConstants.{WAITING_LIMIT}
 use Rattle.rnxcmp_c.specs.declared.pending.Pending.{Pending}
 
 -- the bytes that were made and not handed out
 abbrev pub waiting : Pending → List ℕ
 waiting p = drop p.passed p.bytes.items
+
+-- how many of all bytes were handed out once so many more are
+abbrev pub handed_with : Pending → ℕ → ℕ
+handed_with p count = p.passed + min (length (waiting p)) count
 
 -- so many bytes were refused: more than may wait would wait then, or the buffer was too small for them
 abbrev pub IsTextRefused : Pending → ℕ → Type 0

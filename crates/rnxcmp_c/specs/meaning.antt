@@ -6,3 +6,4 @@ pub mod Handles
 pub mod Lossless
 pub mod Promises
 pub mod Stretches
+pub mod Kept

@@ -5,8 +5,10 @@
 //! far as it does. Else, and where the output is longer than it may be, nothing in the caller's rooms is changed.
 
 ghost use Rattle.std.specs.Prelude.{◌≡◌, ◌≤◌, length, Some, true, false};
+ghost use Rattle.crx_filter.specs.meaning.ByResults.{CompactionKeeps, ExpansionKeeps};
 ghost use Rattle.crx_filter.specs.meaning.Lossless.{SaysThatItComesBack};
 ghost use Rattle.crx_base.specs.meaning.Choices.{Choices, choices_of, is_date};
+ghost use Rattle.crx_filter.specs.meaning.CompactText.{IsCompactText, ReadsAnyText};
 ghost use Rattle.crx_filter.specs.meaning.Compacted.{compacted};
 ghost use Rattle.crx_filter.specs.meaning.Expanded.{expanded};
 ghost use Rattle.crx_filter.specs.meaning.Standard.{checked};
@@ -46,6 +48,9 @@ pub extern "C" fn rnxcmp_c_compact(
     ensures runs { is_date date.now ≡ true → WhereItRan input.now result
         (AnswersWithin max_output (compacted input.now (choices_of (Some every) skip date.now)) result
         (rooms output.old messages.old) (rooms output.new messages.new)) }
+    ensures keeps { is_date date.now ≡ true → KeepsWhereItRan (λ holds.
+        CompactionKeeps holds (choices_of (Some every) skip date.now)) input.now max_output result
+        (rooms output.old messages.old) (rooms output.new messages.new) }
 {
     let Ok(options) = Options::new(Some(every), skip, date) else {
         return bare(BAD_DATE, 0, 0);
@@ -88,6 +93,9 @@ pub extern "C" fn rnxcmp_c_expand(
         (rooms output.old messages.old) (rooms output.new messages.new)) }
     ensures lossless { KeepsWhereItRan CallBringsBackWhatPasses input.now max_output result
         (rooms output.old messages.old) (rooms output.new messages.new) }
+    ensures any_writer { KeepsWhereItRan ReadsAnyText input.now max_output result
+        (rooms output.old messages.old) (rooms output.new messages.new) }
+    ensures no_other { WhereItRan input.now result (result.status ≡ 0 → IsCompactText input.now) }
     ensures way_back { KeepsWhereItRan CallBringsBackWhatWasCompacted input.now max_output result
         (rooms output.old messages.old) (rooms output.new messages.new) }
     ensures salvage { skip ≡ true → KeepsWhereItRan CallSavesAllElse input.now max_output result
@@ -95,6 +103,8 @@ pub extern "C" fn rnxcmp_c_expand(
     ensures damage { skip ≡ true → KeepsWhereItRan CallKeepsUndamaged input.now max_output result
         (rooms output.old messages.old) (rooms output.new messages.new) }
     ensures whole_units { KeepsWhereItRan CallWritesWholeUnits input.now max_output result
+        (rooms output.old messages.old) (rooms output.new messages.new) }
+    ensures keeps { KeepsWhereItRan (λ holds. ExpansionKeeps holds skip) input.now max_output result
         (rooms output.old messages.old) (rooms output.new messages.new) }
 {
     if input.len() as u64 > INPUT_LIMIT {

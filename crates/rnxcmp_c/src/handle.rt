@@ -10,12 +10,13 @@ ghost use Rattle.crx_base.specs.declared.fault.Fault.TheVariants.{InputTooLong};
 ghost use Rattle.crx_base.specs.meaning.Faults.{code_of_fault};
 ghost use Rattle.crx_base.specs.meaning.Lines.{lines_of};
 ghost use Rattle.rnxcmp_c.specs.Handles.{IsFresh};
-ghost use Rattle.rnxcmp_c.specs.meaning.Handles.{HandlePromise, RunHasEnded, RunWasEnded, StopsAtLimit, StopsForMemory, TakesBytes, Task, joined_texts, run_for};
+ghost use Rattle.rnxcmp_c.specs.meaning.Handles.{HandlePromise, RunHasEnded, RunHasResult, RunWasEnded, StopsAtLimit, StopsForMemory, TakesBytes, Task, joined_texts, run_for};
 ghost use Rattle.rnxcmp_c.specs.Holding.{HoldsNothing};
 ghost use Rattle.rnxcmp_c.specs.Opened.{AnswersOpening, ByItsPast, EndsHandle, FeedsHandle, ForChecks, ForExpansions, HandleStands, Holds, IsSoundHandle, IsUnchanged, KeepsExpansion, KeepsHandle, OnceItHasEnded, RefusesMisuse, WhereItEnded, WhileItGoesOn, has_ended, messages_kept, output_kept, run_state, texts_kept};
 ghost use Rattle.rnxcmp_c.specs.declared.reader.Reader.{Reader};
 ghost use Rattle.rnxcmp_c.specs.meaning.Answers.{BothTexts, bare_answer, placed, rooms};
 ghost use Rattle.rnxcmp_c.specs.meaning.Ended.{CheckPromises};
+ghost use Rattle.rnxcmp_c.specs.meaning.Kept.{TaskKeeps};
 ghost use Rattle.rnxcmp_c.specs.declared.answer.TheConstants.{MISUSED};
 
 use crate::answer::{Answer, BAD_DATE, MISUSED, bare, failed};
@@ -239,6 +240,9 @@ pub extern "C" fn rnxcmp_c_end(alloc: Global, handle: &mut Handle) -> Answer
     ensures check { ForChecks handle.old (λ fed. has_ended handle.old ≡ false
         → WhereItEnded result (CheckPromises fed result)) }
     ensures sound { IsSoundHandle handle.new }
+    ensures keeps { WhileItGoesOn handle.old (λ task fed taken. WhereItEnded result (TaskKeeps task
+        (λ whole. RunHasResult whole (joined_texts taken (texts_kept handle.new)) (texts_kept handle.new) result)
+        fed)) }
 {
     if !handle.is_open {
         return bare(MISUSED, 0, 0);
@@ -284,6 +288,10 @@ pub extern "C" fn rnxcmp_c_take(
     ensures check { ForChecks handle.new (λ fed. has_ended handle.new ≡ true
         → WhereItEnded result ((result.code ≡ code_of_fault InputTooLong → ⊥) → CheckPromises fed result)) }
     ensures sound { IsSoundHandle handle.new }
+    ensures keeps { ByItsPast handle.new (λ task fed taken. has_ended handle.new ≡ true
+        → WhereItEnded result ((result.code ≡ code_of_fault InputTooLong → ⊥) → TaskKeeps task
+        (λ whole. RunHasResult whole (joined_texts taken (texts_kept handle.new)) (texts_kept handle.new) result)
+        fed)) }
 {
     if !handle.is_open {
         return bare(MISUSED, 0, 0);

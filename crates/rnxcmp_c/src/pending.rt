@@ -26,7 +26,7 @@ pub struct Pending {
 }
 
 impl Pending {
-    ghost use Rattle.rnxcmp_c.specs.Waiting.{CountsAlike, IsTextRefused, waiting};
+    ghost use Rattle.rnxcmp_c.specs.Waiting.{CountsAlike, IsTextRefused, handed_with, waiting};
 
     /// No bytes.
     pub(crate) fn new(alloc: Global) -> Pending
@@ -86,6 +86,9 @@ impl Pending {
         ensures room { room.new ≡ placed (waiting self.old) room.old }
         ensures left { waiting self.new ≡ drop (length room.old) (waiting self.old) }
         ensures counts { CountsAlike self.old self.new }
+        // What waits is moved only where more than half was handed out.
+        ensures unmoved { handed_with self.old (length room.old) + handed_with self.old (length room.old)
+            ≤ length self.old.bytes.items → self.new.bytes.items ≡ self.old.bytes.items }
     {
         let passed = self.passed;
         place(&self.bytes[passed..], room);

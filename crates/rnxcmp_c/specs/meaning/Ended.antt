@@ -1,6 +1,7 @@
 -- What a handle promises of the files that the text was made of which it was fed, once its run has ended with
 -- its result.
 use Rattle.std.specs.Prelude.{◌≡◌, ℕ, List, true}
+use Rattle.crx_filter.specs.meaning.CompactText.{IsCompactText, ReadsAnyText}
 use Rattle.crx_filter.specs.meaning.Lossless.{SaysThatItComesBack}
 use Rattle.crx_base.specs.meaning.Choices.{Choices}
 use Rattle.rnxcmp_c.specs.declared.answer.Answer.{Answer}
@@ -11,11 +12,14 @@ use Rattle.rnxcmp_c.specs.meaning.Promises.{CallBringsBackWhatWasCompacted, Call
 use Rattle.rnxcmp_c.specs.meaning.Promises.{CallSavesAllElse}
 use Rattle.rnxcmp_c.specs.meaning.Stretches.{CallKeepsUndamaged, CallWritesWholeUnits}
 
--- an expansion: what passes a check comes back; so does what was compacted; and where faults are skipped, all
+-- an expansion: what passes a check comes back; compact text is read as what it means, whoever wrote it, and no other text ends with
+-- status 0; what was compacted comes back; and where faults are skipped, all
 -- but what is damaged is there, or all that is whole before a cut
 pub record ExpansionPromises (choices : Choices) (fed : List ℕ) (made kept : BothTexts) (answer : Answer)
     : Type 0 where
   pub lossless : CallBringsBackWhatPasses (λ whole. RunHasResult whole made kept answer) fed
+  pub any_writer : ReadsAnyText (λ whole. RunHasResult whole made kept answer) fed
+  pub no_other : answer.status ≡ 0 → IsCompactText fed
   pub way_back : CallBringsBackWhatWasCompacted (λ whole. RunHasResult whole made kept answer) fed
   pub salvage : choices.skip ≡ true → CallSavesAllElse (λ whole. RunHasResult whole made kept answer) fed
   pub damage : choices.skip ≡ true → CallKeepsUndamaged

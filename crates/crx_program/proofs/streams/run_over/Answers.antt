@@ -4,7 +4,7 @@ use Rattle.crx_command.specs.declared.job.Job.{Job}
 use Rattle.crx_command.specs.meaning.Planning.{Run, plan_of}
 use Rattle.crx_lines.specs.declared.uninterrupted.Uninterrupted.{Uninterrupted}
 use Rattle.crx_runs.specs.declared.until_failure.UntilFailure.{UntilFailure}
-use Rattle.crx_program.proofs.StreamLemmas.{fresh, run_over}
+use Rattle.crx_program.proofs.{KeptLemmas.kept-of_exact, StreamLemmas.{fresh, run_over}}
 use Rattle.crx_program.proofs.streams.run_over.Goals as goal
 
 pub returns : goal.returns
@@ -54,4 +54,12 @@ returns g c =
       );
       exact = λ job e. (run job e).0;
       front = λ job e. (run job e).1;
+      keeps = λ job e well. kept-of_exact {E = g.row.E.Denot} c.args.moment job (record {
+        status = _;
+        input = _;
+        output = _;
+        messages = c.run_with_files-ended.new.messages;
+        source = _;
+        target = _;
+      }) well ((run job e).0 well);
     }

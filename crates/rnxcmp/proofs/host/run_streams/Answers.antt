@@ -13,6 +13,10 @@ pub returns-in-Ok-clause-front : goal.returns-in-Ok-clause-front
 returns-in-Ok-clause-front c = λ job e.
     c.run_over.ensures.front job (ap (λ words. plan_of (map string_bytes words)) c.in-Ok.ensures.words ∙ e)
 
+pub returns-in-Ok-clause-keeps : goal.returns-in-Ok-clause-keeps
+returns-in-Ok-clause-keeps c = λ job e well. c.run_over.ensures.keeps job
+    (ap (λ words. plan_of (map string_bytes words)) c.in-Ok.ensures.words ∙ e) well
+
 pub returns-in-Err-clause-refused : goal.returns-in-Err-clause-refused
 returns-in-Err-clause-refused c = λ refusal e.
     let shown = c.without_memory.ensures.shown in (
@@ -72,6 +76,9 @@ returns-in-Err-clause-done c = λ job e.
 
 pub returns-in-Err-clause-exact : goal.returns-in-Err-clause-exact
 returns-in-Err-clause-exact c = λ job e well. absurd (well c.without_memory.ensures.status)
+
+pub returns-in-Err-clause-keeps : goal.returns-in-Err-clause-keeps
+returns-in-Err-clause-keeps c = λ job e well. absurd (well c.without_memory.ensures.status)
 
 pub returns-in-Err-clause-front : goal.returns-in-Err-clause-front
 returns-in-Err-clause-front c = λ job e.

@@ -1,5 +1,6 @@
 use Rattle.rnxcmp_c.proofs.{RunLemmas.{answers-alone, answers-within}, Words.{sym, ◌∙◌, subst}}
 use Rattle.rnxcmp_c.proofs.Words.{compacted, AnswersWithin, rooms, Compact}
+use Rattle.crx_filter.proofs.accounts.ByResults.{compaction-keeps}
 use Rattle.rnxcmp_c.proofs.exports.rnxcmp_c_compact.Goals as goal
 
 pub returns-clause-memory : goal.returns-clause-memory
@@ -14,3 +15,8 @@ returns-clause-runs c dated within memory =
     before after) c.in-Ok.ensures.value.0
     (answers-within (Compact c.in-Ok.options 0) run.2 (sym c.new-reader.ensures ∙ run.1) within before after
     c.new-written.ensures c.new-reported.ensures c.answer_of.ensures memory)
+
+pub returns-clause-keeps : goal.returns-clause-keeps
+returns-clause-keeps c dated within memory =
+    compaction-keeps (λ whole. AnswersWithin c.args.max_output whole c.answer_of.result (rooms _ _) (rooms _ _)) _ _
+    (returns-clause-runs c dated within memory)

@@ -1,9 +1,11 @@
 use Rattle.std.proofs.Common.{rules}
 use Rattle.rnxcmp_c.proofs.{EndedLemmas.{KeepsPromises, keeps-promises}, RunLemmas.answers-alone}
+use Rattle.rnxcmp_c.proofs.Kept.{zero-answered}
+use Rattle.crx_filter.proofs.anywriter.{AnyRun.reads-any, OnlyTexts.only-text}
 use Rattle.rnxcmp_c.proofs.{RunLemmas.answers-within, Words.{◌≤◌, length, map, subst, sym, ◌∙◌}}
 use Rattle.rnxcmp_c.proofs.Words.{INPUT_LIMIT, lines_of, as_read, whole_compact, FilterResult, AnswersWithin}
 use Rattle.rnxcmp_c.proofs.{Words.{HasNoMemory, rooms, Expand}, exports.rnxcmp_c_expand.Goals.After-answer_of}
-use Rattle.crx_filter.specs.meaning.{Expanded.expanded_unit, Written.result_of}
+use Rattle.crx_filter.specs.meaning.{ByResults.ExpansionKeeps, Expanded.expanded_unit, Written.result_of}
 use Rattle.rnxcmp_c.proofs.exports.rnxcmp_c_expand.Goals as goal
 
 promised : (c : After-answer_of) → length c.args.input.now ≤ INPUT_LIMIT
@@ -32,8 +34,18 @@ returns c =
           (rooms c.answer_of.new.output_room c.answer_of.new.messages_room))
           (c.expansion_options.ensures ∙ sym same) (kept within memory).whole;
       lossless = λ within memory. (kept within memory).lossless;
+      any_writer = λ within memory. reads-any (λ whole. AnswersWithin c.args.max_output whole c.answer_of.result
+          (rooms c.args.output.now c.args.messages.now) (rooms c.answer_of.new.output_room c.answer_of.new.messages_room))
+          c.expansion_options.result c.args.input.now (kept within memory).whole;
+      no_other = λ within memory e. only-text c.args.input.now c.expansion_options.result
+          (zero-answered c.args.max_output _ c.answer_of.result (rooms c.args.output.now c.args.messages.now)
+          (rooms c.answer_of.new.output_room c.answer_of.new.messages_room) (kept within memory).whole e);
       way_back = λ within memory. (kept within memory).way_back;
       salvage = λ skips within memory. (kept within memory).salvage (c.expansion_options.ensures ∙ skips);
       damage = λ skips within memory. (kept within memory).damage (c.expansion_options.ensures ∙ skips);
       whole_units = λ within memory. (kept within memory).whole_units;
+      keeps = λ within memory. subst (λ skip. ExpansionKeeps (λ whole. AnswersWithin c.args.max_output whole
+          c.answer_of.result (rooms c.args.output.now c.args.messages.now)
+          (rooms c.answer_of.new.output_room c.answer_of.new.messages_room)) skip c.args.input.now)
+          c.expansion_options.ensures (kept within memory).keeps;
     }

@@ -1,5 +1,5 @@
 use Rattle.std.proofs.Common.{arith}
-use Rattle.rnxcmp_c.proofs.{EndedLemmas.{result-where, run-check, run-expansion}, PromiseLemmas.ends-on}
+use Rattle.rnxcmp_c.proofs.{EndedLemmas.{result-where, run-check, run-expansion, task-keeps}, PromiseLemmas.ends-on}
 use Rattle.rnxcmp_c.proofs.PromiseLemmas.{ends-promise, ends-refused, ends-was_ended, sound-holds}
 use Rattle.rnxcmp_c.proofs.PromiseLemmas.{sound-stands, stood}
 use Rattle.rnxcmp_c.proofs.{Words.{Holds, past_of, Expand, Check}, handle.rnxcmp_c_end.Goals.After-put_in}
@@ -45,4 +45,6 @@ returns c =
       sound = λ is_open.
           let sound = c.requires.sound c.if-not-handle.false in
           (sound.0, _, _, ends-on (ends _ _ _ sound.3) sound.3);
+      keeps = λ task fed taken stands runs memory few. task-keeps task _ fed
+          (result-where fed _ _ _ _ task memory few (ends-was_ended (ends _ fed taken stands) stands runs).1);
     }

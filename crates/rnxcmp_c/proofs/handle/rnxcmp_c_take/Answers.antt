@@ -1,5 +1,6 @@
 use Rattle.std.proofs.{Common.{rules, arith}, lemmas.Grind.common_steps}
 use Rattle.rnxcmp_c.proofs.EndedLemmas.{ended-where, result-where, run-check, run-expansion}
+use Rattle.rnxcmp_c.proofs.EndedLemmas.{task-keeps}
 use Rattle.rnxcmp_c.proofs.PromiseLemmas.{handle-promise, sound-holds, stood}
 use Rattle.rnxcmp_c.proofs.Words.{ℕ, List, Holds, past_of, BothTexts, Task, Expand, Check}
 use Rattle.rnxcmp_c.proofs.handle.rnxcmp_c_take.Goals as goal
@@ -36,3 +37,8 @@ pub returns-clause-sound : goal.returns-clause-sound
 returns-clause-sound c = λ is_open.
     let sound = c.requires.sound c.if-not-handle.false in
     (sound.0, _, _, returns-clause-stands c sound.0 sound.1 sound.2 sound.3)
+
+pub returns-clause-keeps : goal.returns-clause-keeps
+returns-clause-keeps c = λ task fed taken stands ended memory few long. task-keeps task _ fed
+    (result-where fed _ _ _ _ task memory few (ended-where fed _ _ _ _ task memory long
+    ((handle-promise stands c.put_in.ensures.reader c.hand_out-answer.ensures.taken.answered).ended ended)))

@@ -1,0 +1,64 @@
+-- What a run promises of its input follows from what its logs are.
+use Rattle.std.proofs.Common.{◌≡◌, ℕ, List, Option, Some, None, map, refl, sym, ◌∙◌, ap}
+use Rattle.std.specs.Prelude.{reverse}
+use Rattle.crx_base.specs.declared.fault.At.{At}
+use Rattle.crx_base.specs.meaning.{AsRead.as_read, Choices.Choices, Lines.lines_of}
+use Rattle.crx_filter.proofs.accounts.ByResults.{check-keeps, compaction-keeps, expansion-keeps, gives-back}
+use Rattle.crx_filter.specs.meaning.{Compacted.{compacted, whole_rinex}, Expanded.{expanded, whole_compact}}
+use Rattle.crx_filter.specs.meaning.{Reading.WholeReading, Written.warnings_in}
+use Rattle.crx_filter.specs.meaning.Standard.{Findings, checked, checked_by, findings_of, whole_of}
+use Rattle.crx_filter.proofs.Words.{Epoch, ReadEpoch}
+use Rattle.crx_runs.specs.meaning.Results.{FilterResult, status_after}
+use Rattle.jiff.specs.declared.timestamp.Timestamp.{Timestamp}
+use Rattle.crx_command.specs.declared.job.{Job.Job, Tool.{Tool, TheVariants.{Compact, Expand, Check}}}
+use Rattle.crx_program.specs.declared.streams.Whole.{Whole}
+use Rattle.crx_program.specs.meaning.{Jobs.tool_result, Kept.{KeepsItsPromises, IsLogged, ToolKeeps}, Streams.IsExact}
+
+-- a result without status 1 has no fault
+without-fault : (warnings : List At) (fault : Option At) → (status_after warnings fault ≡ 1 → ⊥) → fault ≡ None
+without-fault warnings None well = refl
+without-fault warnings (Some at) well = absurd (well refl)
+
+without-check_fault : (fault : Option At) (found : Findings)
+    → (FilterResult.status (checked_by fault found) ≡ 1 → ⊥) → FilterResult.fault (checked_by fault found) ≡ None
+without-check_fault None found well = refl
+without-check_fault (Some at) found well = absurd (well refl)
+
+good-result : (tool : Tool) (choices : Choices) (input : List ℕ)
+    → (FilterResult.status (tool_result tool choices input) ≡ 1 → ⊥)
+    → FilterResult.fault (tool_result tool choices input) ≡ None
+good-result Compact choices input well =
+    let whole : WholeReading Epoch = whole_rinex choices.skip (map as_read (lines_of input)) in
+    without-fault (reverse (warnings_in whole.items)) whole.fault well
+good-result Expand choices input well =
+    let whole : WholeReading ReadEpoch = whole_compact choices.skip (map as_read (lines_of input)) in
+    without-fault (reverse (warnings_in whole.items)) whole.fault well
+good-result Check choices input well =
+    without-check_fault (whole_of input).fault (findings_of (lines_of input)) well
+
+tool-keeps : (tool : Tool) (choices : Choices) (holds : FilterResult → Type 0) (status : ℕ) (input : List ℕ)
+    → holds (tool_result tool choices input) → status ≡ FilterResult.status (tool_result tool choices input)
+    → ToolKeeps tool choices holds status input
+tool-keeps Compact choices holds status input ran same = compaction-keeps holds choices input ran
+tool-keeps Expand choices holds status input ran same =
+    (gives-back holds choices input ran, expansion-keeps holds choices input ran)
+tool-keeps Check choices holds status input ran same = check-keeps status input same
+
+pub kept-of_exact : {I O E F : Type 0} (moment : Option Timestamp) (job : Job) (whole : Whole I O E F)
+    → (whole.status ≡ 1 → ⊥) → IsExact moment job whole → KeepsItsPromises moment job whole
+kept-of_exact moment job whole well
+    (given, written, gave, told, took, flushed, (choices, chosen, wrote, reported, same)) = (
+      given,
+      written,
+      choices,
+      gave,
+      took,
+      chosen,
+      tool-keeps job.tool choices (IsLogged written whole.messages.log.bytes whole.status) whole.status given
+          (record {
+            output = wrote;
+            messages = reported;
+            status_is = same;
+            good = good-result job.tool choices given (λ one. well (same ∙ one));
+          }) same,
+    )

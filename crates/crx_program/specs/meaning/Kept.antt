@@ -1,0 +1,33 @@
+-- What a run over standard streams promises of its input, by the logs of its devices.
+use Rattle.std.specs.Prelude.{◌≡◌, ℕ, List, Option, None}
+use Rattle.crx_base.specs.meaning.Choices.{Choices}
+use Rattle.crx_filter.specs.meaning.ByResults.{CheckKeeps, CompactionKeeps, ExpansionKeeps, GivesBackWhatPasses}
+use Rattle.crx_runs.specs.meaning.Results.{FilterResult}
+use Rattle.jiff.specs.declared.timestamp.Timestamp.{Timestamp}
+use Rattle.crx_command.specs.declared.job.Job.{Job}
+use Rattle.crx_command.specs.declared.job.Tool.{Tool}
+use Rattle.crx_command.specs.declared.job.Tool.TheVariants.{Compact, Expand, Check}
+use Rattle.crx_program.specs.declared.streams.Whole.{Whole}
+use Rattle.crx_program.specs.meaning.Jobs.{IsChosen}
+use Rattle.crx_program.specs.meaning.Streams.{ReadsGave, WritesTook}
+
+-- the logs of the output and of the messages, and the status, are those of a result without a fault
+pub record IsLogged (written reported : List ℕ) (status : ℕ) (result : FilterResult) : Type 0 where
+  pub output : written ≡ result.output
+  pub messages : reported ≡ result.messages
+  pub status_is : status ≡ result.status
+  pub good : result.fault ≡ None
+
+-- what a tool promises of its input, by what holds of a result
+abbrev pub ToolKeeps : Tool → Choices → (FilterResult → Type 0) → ℕ → List ℕ → Type 0
+ToolKeeps Compact choices holds status input = CompactionKeeps holds choices input
+ToolKeeps Expand choices holds status input = GivesBackWhatPasses holds input × ExpansionKeeps holds choices.skip input
+ToolKeeps Check choices holds status input = CheckKeeps status input
+
+-- a run keeps what its tool promises, of the bytes that its reads gave, by those that its writes took
+abbrev pub KeepsItsPromises : {I O E F : Type 0} → Option Timestamp → Job → Whole I O E F → Type 0
+KeepsItsPromises moment job whole = (given : List ℕ) × (written : List ℕ) × (choices : Choices)
+    × ReadsGave job.source whole.source whole.input given
+    × WritesTook job.target job.force whole.target whole.output written
+    × IsChosen moment job.tool job.date job.every job.skip choices
+    × ToolKeeps job.tool choices (IsLogged written whole.messages.log.bytes whole.status) whole.status given
