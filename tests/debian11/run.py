@@ -27,6 +27,7 @@ SUITE, NUMBER, C_LIBRARY = "bullseye", "11", "2.31"
 PACKAGES = "python3,make,groff,less,mandoc,parallel,strace"  # what the tests use, beside what every root has
 TOOLS = ("debootstrap", "dpkg", "dpkg-deb", "tar", "unshare", "chroot", "mount")
 VERSION = (TOP / "VERSION").read_text().strip()
+DEBIAN = VERSION.replace("-", "~")  # as Debian writes it
 SAMPLE = TOP / "samples/station.rnx"
 NAME = f"rnxcmp-{VERSION}-linux-x86_64"
 SECONDS = 1200  # in which each step is to end
@@ -116,11 +117,11 @@ def check_own_tests(root):
 def check_package(root):
     """Installed and used as the system's own; then removed, with nothing left."""
     before = {path for path in (root / "usr").rglob("*")}
-    run = inside(root, "dpkg", "-i", f"/tmp/dist/rnxcmp_{VERSION}_amd64.deb")
+    run = inside(root, "dpkg", "-i", f"/tmp/dist/rnxcmp_{DEBIAN}_amd64.deb")
     if run.returncode:
         return [said(run)]
     state = inside(root, "dpkg-query", "-W", "-f", "${Status} ${Version}", "rnxcmp").stdout.decode()
-    wrong = [] if state == f"install ok installed {VERSION}" else [f"state {state!r}"]
+    wrong = [] if state == f"install ok installed {DEBIAN}" else [f"state {state!r}"]
     wrong += check_way_back(root, "/usr/bin/rnxcmp", "rnxcmp-file")
     changed = inside(root, "dpkg", "-V", "rnxcmp")
     wrong += [] if changed.returncode == 0 and not changed.stdout else [f"changed: {said(changed)}"]
@@ -134,7 +135,7 @@ def checks(root, folder):
     yield "the archive", lambda: check_archive(root)
     yield "the archive's own tests", lambda: check_own_tests(root)
     yield "the package", lambda: check_package(root)
-    yield "the package in an empty root", lambda: check_in_empty_root(root / f"tmp/dist/rnxcmp_{VERSION}_amd64.deb", folder)
+    yield "the package in an empty root", lambda: check_in_empty_root(root / f"tmp/dist/rnxcmp_{DEBIAN}_amd64.deb", folder)
 
 
 def main():

@@ -9,7 +9,7 @@ use clap::{Arg, ArgAction, Command, value_parser};
 use std::alloc::{AllocError, Global};
 
 // The version is that of the file VERSION; tests/release compares.
-const ABOUT: &str = "rnxcmp 1.0.0: compacts, expands and checks RINEX 3.0x observation files";
+const ABOUT: &str = "rnxcmp 2.0.0-dev: compacts, expands and checks RINEX 3.0x observation files";
 
 const HELP: &str = "\
 What goes in and out:
