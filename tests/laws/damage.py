@@ -1,32 +1,47 @@
 #!/usr/bin/env python3
-"""What damage to compact text costs, on random files with random damage (`make laws-test`).
+"""What damage to compact text costs, and what of it is noticed, on random files with random damage (`make laws-test`).
 
-    tests/laws/damage.py PROGRAM [--cases N] [--seed S]
+    tests/laws/damage.py PROGRAM [--flips N] [--damages N] [--seed S]
 
-Each file is made up here, compacted by the program, and then damaged behind its header, in one place or many: bytes changed, lost and made,
-line ends among them, lines dropped, doubled and replaced, first lines of blocks too, and texts cut off. What the program makes of it with
-`crx2rnx -s` is compared with the law that `damage` of `expand` states: all units before the first damaged stretch, then for each stretch
-some whole epochs followed by exactly the units that are kept; no fault. A unit is kept here if its lines still stand together, each on
-a line of its own, and if it follows one that is kept, or is an event or an epoch in full. Damage of which the law says nothing, where an
-event's first line comes in a stretch or the types change there, is passed over and not counted. The last line is `N passed, M failed`.
+Each file is made up here, compacted by the program, and then damaged behind its header: by one flipped bit, or in one place or many by
+bytes changed, lost and made, line ends among them, lines dropped, doubled and replaced, first lines of events and of blocks too, and texts
+cut off. Some records of its events read as first lines of events. Of what the program makes of it with `crx2rnx -s` three sentences of
+README.md are asked, as they are printed there.
+
+What damage costs: all units before the first damaged stretch, then for each stretch some whole epochs followed by exactly the units that
+are kept; no fault. A stretch has all lines of each event and of each epoch that it touches. A unit is kept if its lines still stand
+together, on lines of their own, and if it follows one that is kept, or is an event or an epoch in full. Of two kinds of damage nothing is
+said, and both have to be reached: a line of a stretch reads as an event's first one, or an event that changes types is lost.
+
+Nothing is lost in silence: with status 0 each line after the two first ones was copied or is one of an epoch's that came out; with status 2
+a warning tells of at least one line that wasn't, and each of another. Noise is noticed: where all damage is one byte of an epoch's lines that
+isn't one of the characters 32 to 126, nor LF, nor CR before LF, the status is 2. The last line is `N passed, M failed`.
 """
 
 from __future__ import annotations
 
 import argparse
+import os
 import random
-import subprocess
+import shutil
 import sys
+import tempfile
 from array import array
+from collections import Counter
 from dataclasses import dataclass, field
 from functools import lru_cache
+from multiprocessing import Pool
 from pathlib import Path
 
-sys.path.insert(0, str(Path(__file__).resolve().parents[1]))
+sys.path[:0] = [str(Path(__file__).resolve().parents[1]), str(Path(__file__).resolve().parent)]
 from checking import LIMITS  # noqa: E402
+from runs import Runs  # noqa: E402
 
-LF, LONGEST = 10, LIMITS["LINE_LIMIT"]
+LF, CR, LONGEST = 10, 13, LIMITS["LINE_LIMIT"]
 DAMAGES_OF_A_FILE = 40
+EVENT_LINE, TYPES_LOST = "a line of a stretch reads as an event's first one", "an event that changes types is lost"
+EXCEPTIONS = (EVENT_LINE, TYPES_LOST)
+OF_RECORDS = (b" code 1: ", b" code 6: ", b" code 19: ")  # the faults of an event's records
 
 
 @dataclass
@@ -106,9 +121,15 @@ class Station:
         rows = [(name.decode() + "".join(self.cell(name, k) for k in range(self.types[name[:1]]))).rstrip().encode() for name in names]
         return Group([head.encode(), *rows], 2 + len(rows), False, dict(self.types), dict(self.types))
 
+    def record(self, number: int) -> bytes:
+        """A record of an event. Some read as an event's first line, which announces few records or many, or as that of an epoch."""
+        if self.pick.random() < 0.7:
+            return labelled(f"record {number}", "COMMENT")
+        return epoch_line(self.second, self.pick.choice([0, 2, 4, 4, 6]), self.pick.choice([0, 1, 2, 999])).encode()
+
     def event(self) -> Group:
         before, flag = dict(self.types), self.pick.choice([2, 3, 4, 4, 5, 6])
-        records = [labelled(f"record {k}", "COMMENT") for k in range(self.pick.randint(0, 3))]
+        records = [self.record(k) for k in range(self.pick.randint(0, 3))]
         if flag < 6 and self.pick.random() < 0.3:
             system = self.pick.choice(list(self.types))
             self.types[system] = self.pick.randint(1, 4)
@@ -118,21 +139,16 @@ class Station:
         return Group(lines, len(lines), True, before, dict(self.types))
 
 
-def run(program: str, words: list[str], text: bytes) -> tuple[int, bytes, bytes]:
-    done = subprocess.run([program, *words], input=text, capture_output=True, timeout=60)
-    return done.returncode, done.stdout, done.stderr
-
-
-def make_file(program: str, pick: random.Random) -> File:
+def make_file(runs: Runs, pick: random.Random) -> File:
     station = Station(pick)
     made = File(station.header())
     for _ in range(pick.randint(2, 14)):
         made.groups.append(station.event() if pick.random() < 0.15 else station.epoch())
     rinex = b"".join(line + b"\n" for line in made.header + [line for g in made.groups for line in g.lines])
     words = ["rnx2crx", "--date", "D"] + (["-e", str(pick.randint(1, 5))] if pick.random() < 0.7 else [])
-    status, made.compact, messages = run(program, words, rinex)
-    if status or run(program, ["crx2rnx"], made.compact) != (0, rinex, b""):
-        sys.exit(f"a file that is made here doesn't come back: {messages!r}\n{rinex.decode()}")
+    status, made.compact, messages = runs.all_of(words, rinex)
+    if status or runs.all_of(["crx2rnx"], made.compact) != (0, rinex, b""):
+        raise ValueError(f"a file that is made here doesn't come back: {messages!r}\n{rinex.decode()}")
     lines = made.compact.splitlines(keepends=True)
     at = sum(map(len, lines[: 2 + len(made.header)]))
     made.body, rest = at, lines[2 + len(made.header) :]
@@ -150,6 +166,7 @@ class Damaged:
     """A text, and where each of its bytes was before: -1 for a byte that wasn't there."""
 
     def __init__(self, file: File) -> None:
+        self.groups = file.groups
         self.data = bytearray(file.compact)
         self.origin = array("l", range(len(file.compact)))
         self.body = file.body
@@ -179,11 +196,32 @@ class Damaged:
             return bytes(pick.choices(range(256), k=pick.randint(1, 30)))
         return bytes(pick.choices(b"0123456789&- \n", k=pick.randint(0, 30)))
 
+    def flip(self, pick: random.Random, at: int) -> None:
+        self.put(at, at + 1, bytes([self.data[at] ^ (1 << pick.randrange(8))]))
+
+    def start_of(self, group: Group) -> int | None:
+        """Where a group's first byte stands now."""
+        try:
+            return self.origin.index(group.start)
+        except ValueError:
+            return None
+
+    def damage_beginning(self, pick: random.Random) -> None:
+        """Damages an event's own first line, or the line end before an event or an epoch in full."""
+        beginning = [group for group in self.groups if group.is_event or group.in_full]
+        at = self.start_of(pick.choice(beginning)) if beginning else None
+        if at is None:
+            return
+        if pick.random() < 0.5:
+            self.flip(pick, min(at + pick.choice([0, 31, 31, 32, 33, 34]), len(self.data) - 1))
+        elif at > self.body:
+            self.put(at - 1, at, pick.choice([b"", b"\x0b", b" ", b"\r"]))
+
     def damage(self, pick: random.Random) -> None:
-        kind, at = pick.randrange(9), self.place(pick)
+        kind, at = pick.randrange(11), self.place(pick)
         first, last = self.line(pick)
         if kind in (0, 1) and at < len(self.data):
-            self.put(at, at + 1, bytes([self.data[at] ^ (1 << pick.randrange(8))]))
+            self.flip(pick, at)
         elif kind == 2:
             self.put(at, at, pick.choice([b"\n", b"\r", b"\0", b"\n>", b">", b" "]))
         elif kind == 3:
@@ -198,6 +236,8 @@ class Damaged:
             self.put(first, last, self.random_text(pick) + b"\n" * pick.randint(0, 1))
         elif kind == 8:
             self.put(at, at, self.random_text(pick))
+        elif kind > 8:
+            self.damage_beginning(pick)
 
 
 # ---- the law
@@ -210,12 +250,15 @@ class Stretch:
 
 
 def begins_event(line: bytes) -> bool:
+    """Whether a line reads as an event's first one: >, its flag, and a count of records or blanks in columns 33 to 35."""
     line = line.removesuffix(b"\r")
-    return len(line) <= LONGEST and line[:1] == b">" and line[31:32] in (b"2", b"3", b"4", b"5", b"6")
+    count = line[32:35].strip(b" ")
+    return (len(line) <= LONGEST and line[:1] == b">" and line[31:32] in (b"2", b"3", b"4", b"5", b"6")
+            and (not count or count.isdigit()))
 
 
-def stretches_of(file: File, text: Damaged) -> tuple[list[bytes], list[Stretch]] | None:
-    """The lines of the units before the first stretch, and the stretches; nothing where the law says nothing."""
+def stretches_of(file: File, text: Damaged) -> tuple[list[bytes], list[Stretch]] | str:
+    """The lines of the units before the first stretch, and the stretches; or the exception that they fall under."""
     starts = {o: at for at, o in enumerate(text.origin) if o >= 0}
 
     def stands(group: Group, at: int | None) -> bool:
@@ -241,8 +284,10 @@ def stretches_of(file: File, text: Damaged) -> tuple[list[bytes], list[Stretch]]
                 break
         end = starts[file.groups[following].start] if following < len(file.groups) else len(text.data)
         lines = bytes(text.data[at:end]).split(b"\n")
+        if following == len(file.groups) and any(lost.types_after != types for lost in file.groups[number_of_group:]):
+            return TYPES_LOST
         if any(map(begins_event, lines[:-1] if lines[-1] == b"" else lines)):
-            return None
+            return EVENT_LINE
         stretches.append(Stretch(types, []))
         kept, at, number_of_group = stretches[-1].kept, end, following
 
@@ -278,43 +323,128 @@ def is_saved(output: bytes, before: list[bytes], stretches: list[Stretch]) -> bo
     return matches(len(before), 0)
 
 
-def wrong(program: str, file: File, pick: random.Random) -> tuple[bool, str, bytes]:
-    """Whether the law speaks of some damage, what is wrong with what the program makes of it, and the text."""
+def units_of(output: bytes) -> tuple[int, int]:
+    """How many lines an output has, and how many epochs."""
+    lines = output.split(b"\n")[:-1]
+    at = lines.index(labelled("", "END OF HEADER")) + 1
+    epochs = 0
+    while at < len(lines):
+        epochs += not begins_event(lines[at])
+        at += 1 + int(lines[at][32:35].strip() or b"0")
+    return len(lines), epochs
+
+
+def is_accounted_for(data: bytes, output: bytes, warnings: int) -> bool:
+    """Whether each line was copied, or is one of an epoch's, which has one more in compact text; or warnings tell of it."""
+    given = data.count(b"\n") + (data[-1:] != b"\n") - 2
+    lines, epochs = units_of(output)
+    lost = given - lines - epochs
+    return lost >= warnings if warnings else lost == 0
+
+
+def is_noise(file: File, text: Damaged) -> bool:
+    """Whether all damage is one byte of an epoch's lines that no line of an epoch holds."""
+    changed = [at for at, before in enumerate(text.origin) if before != at]
+    if len(text.data) != len(file.compact) or len(changed) != 1:
+        return False
+    at = changed[0]
+    byte, ends = text.data[at], text.data[at + 1 : at + 2] == b"\n"
+    printable = 32 <= byte <= 126 or byte == LF or (byte == CR and ends)
+    return not printable and any(group.start <= at < group.end and not group.is_event for group in file.groups)
+
+
+def judge(runs: Runs, file: File, text: Damaged) -> tuple[Counter, str]:
+    """What was asked of a damaged text, and what is wrong with what the program makes of it."""
+    data = bytes(text.data)
+    parts, asked = stretches_of(file, text), Counter()
+    status, output, messages = runs.all_of(["crx2rnx", "-s"], data)
+    warned = messages.splitlines()
+    fault = status == 1 and messages.count(b"ERROR line ") == 1
+    if isinstance(parts, str):
+        asked[parts] += 1
+        if fault:
+            asked["ended by a fault, in an exception"] += 1
+            return asked, "" if any(code in messages for code in OF_RECORDS) else f"a fault that isn't of records: {messages!r}"
+    if status != (2 if warned else 0) or not all(line.startswith(b"WARNING line ") for line in warned):
+        return asked, f"status {status}, messages {messages!r}"
+    asked["noticed" if warned else "unnoticed"] += 1
+    if not is_accounted_for(data, output, len(warned)):
+        return asked, f"lines were lost in silence, or gained: {messages!r}"
+    if is_noise(file, text):
+        asked["noise"] += 1
+        if not warned:
+            return asked, "noise wasn't noticed"
+    if not isinstance(parts, str):
+        asked["costs"] += 1
+        if not is_saved(output, *parts):
+            return asked, "the output isn't what damage may cost"
+    return asked, ""
+
+
+def flipped(file: File, pick: random.Random) -> Damaged:
+    text = Damaged(file)
+    text.flip(pick, pick.randrange(file.body, len(text.data)))
+    return text
+
+
+def damaged(file: File, pick: random.Random) -> Damaged:
     text = Damaged(file)
     for _ in range(pick.choice([0, 1, 1, 2, 3, 5, 9])):
         text.damage(pick)
     if pick.random() < 0.2:
         text.put(text.place(pick), len(text.data), b"")
-    parts = stretches_of(file, text)
-    if parts is None:
-        return False, "", b""
-    data = bytes(text.data)
-    status, output, messages = run(program, ["crx2rnx", "-s"], data)
-    warned = messages.splitlines()
-    if status != (2 if warned else 0) or not all(line.startswith(b"WARNING line ") for line in warned):
-        return True, f"status {status}, messages {messages!r}", data
-    return True, "" if is_saved(output, *parts) else "the output isn't what the law says", data
+    return text
+
+
+KINDS = {"flips": flipped, "damages": damaged}
+
+
+def try_file(job: tuple[str, str, int]) -> tuple[str, Counter, list[str]]:
+    """Damages one file so many times; gives what was asked, and what was wrong."""
+    program, kind, seed = job
+    pick, asked, wrong = random.Random(f"{kind} {seed}"), Counter(), []
+    folder = tempfile.mkdtemp(dir="/dev/shm" if os.path.isdir("/dev/shm") else None)
+    try:
+        runs = Runs(program, folder)
+        file = make_file(runs, pick)
+        for _ in range(DAMAGES_OF_A_FILE):
+            text = KINDS[kind](file, pick) if file.body < len(file.compact) else Damaged(file)
+            more, what = judge(runs, file, text)
+            asked.update(more)
+            wrong += [f"{kind}, seed {seed}: {what}: {bytes(text.data[file.body :])[:2000]!r}"] if what else []
+    finally:
+        shutil.rmtree(folder)
+    return kind, asked, wrong
+
+
+def tried(program: Path, counts: dict[str, int], seed: int = 1) -> tuple[dict[str, Counter], list[str]]:
+    """Tries so many damages of each kind, some of each file; gives what was asked for each kind, and what was wrong."""
+    jobs = [(str(program), kind, seed * 10**6 + k) for kind, count in counts.items() for k in range(-(-count // DAMAGES_OF_A_FILE))]
+    asked, wrong = {kind: Counter() for kind in counts}, []
+    with Pool() as pool:
+        for kind, more, failures in pool.imap_unordered(try_file, jobs, 4):
+            asked[kind].update(more)
+            wrong += failures
+    for kind, count in asked.items():
+        wrong += [f"{kind}: never reached: {name}" for name in (*EXCEPTIONS, "costs", "noise", "noticed", "unnoticed") if not count[name]]
+    return asked, wrong
 
 
 def main() -> int:
     words = argparse.ArgumentParser(description=__doc__, formatter_class=argparse.RawDescriptionHelpFormatter)
-    words.add_argument("program")
-    words.add_argument("--cases", type=int, default=100000)
+    words.add_argument("program", type=Path)
+    words.add_argument("--flips", type=int, default=100000)
+    words.add_argument("--damages", type=int, default=100000)
     words.add_argument("--seed", type=int, default=1)
     given = words.parse_args()
-    program, pick = str(Path(given.program).resolve()), random.Random(given.seed)
-    passed = failed = passed_over = 0
-    while passed + failed < given.cases:
-        file = make_file(program, pick)
-        for _ in range(DAMAGES_OF_A_FILE):
-            counts, what, data = wrong(program, file, pick)
-            if what:
-                Path(f"damaged{failed}.crx").write_bytes(data)
-                print(f"damaged{failed}.crx: {what}")
-            passed, failed, passed_over = passed + (counts and not what), failed + bool(what), passed_over + (not counts)
-    print(f"{passed_over} damages of which the law says nothing")
-    print(f"{passed} passed, {failed} failed")
-    return failed > 0
+    asked, wrong = tried(given.program.resolve(), {"flips": given.flips, "damages": given.damages}, given.seed)
+    for kind, counts in asked.items():
+        print(f"{kind}: " + ", ".join(f"{count} {name}" for name, count in sorted(counts.items())))
+    for line in wrong[:20]:
+        print(line)
+    done = sum(-(-count // DAMAGES_OF_A_FILE) * DAMAGES_OF_A_FILE for count in (given.flips, given.damages))
+    print(f"{done - len(wrong)} passed, {len(wrong)} failed")
+    return len(wrong) > 0
 
 
 if __name__ == "__main__":

@@ -4,8 +4,8 @@
     tests/laws/standard.py PROGRAM                      tries 200000 damaged texts (make laws-test)
     tests/laws/standard.py PROGRAM --texts 5000 --seed 7
 
-Half of the texts are the program's own compactions, half are of a writer with other orders (writer.py). Nine damaged ones are made of each,
-and it is tried as it is too: it has to expand to what was compacted. `check` has to say `standard yes` of each output that has no line with CR at its end, and not to say it of the others. One of ten outputs
+Half of the texts are the program's own compactions, half are of a writer with other orders (conformance/generate.py). Nine damaged ones are
+made of each, and it is tried as it is too: it has to expand to what was compacted. `check` has to say `standard yes` of each output that has no line with CR at its end, and not to say it of the others. One of ten outputs
 that pass is compacted and expanded again, and has to come back byte for byte. The exit status is 0 where all was so.
 """
 
@@ -17,28 +17,11 @@ import tempfile
 from collections import Counter
 from pathlib import Path
 
-sys.path.insert(0, str(Path(__file__).resolve().parent))
-from writer import compact, damaged, generator, rinex, units  # noqa: E402
+sys.path[:0] = [str(Path(__file__).resolve().parent), str(Path(__file__).resolve().parents[2] / "conformance")]
+from generate import compact, damaged, generator, rinex, units  # noqa: E402
+from runs import Runs  # noqa: E402
 
 DAMAGED = 9
-READ, WRITE = os.O_RDONLY, os.O_WRONLY | os.O_CREAT | os.O_TRUNC
-
-
-class Runs:
-    """Runs of the program over files of a folder."""
-
-    def __init__(self, program, folder):
-        self.program, self.folder = str(program), Path(folder)
-
-    def of(self, words, text):
-        """The status and the output of a run over a text."""
-        before, after = self.folder / "input", self.folder / "output"
-        before.write_bytes(text)
-        streams = [(os.POSIX_SPAWN_OPEN, 0, before, READ, 0), (os.POSIX_SPAWN_OPEN, 1, after, WRITE, 0o600)]
-        streams.append((os.POSIX_SPAWN_OPEN, 2, os.devnull, os.O_WRONLY, 0))
-        process = os.posix_spawn(self.program, ["rnxcmp", *words], {}, file_actions=streams)
-        status = os.waitstatus_to_exitcode(os.waitpid(process, 0)[1])
-        return status, after.read_bytes()
 
 
 def is_standard(runs, output):
