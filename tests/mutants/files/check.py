@@ -3,6 +3,7 @@
 are run over the package in COPY, up to the first that fails; first those that are about FILE."""
 
 import os
+import subprocess
 import sys
 from pathlib import Path
 
@@ -16,13 +17,21 @@ COPY.chmod(0o755)  # some runs are another user's
 import faults  # noqa: E402
 import matrix  # noqa: E402
 import meanwhile  # noqa: E402
+import neighbour  # noqa: E402
+import neighbour_disks  # noqa: E402
+import neighbour_looks  # noqa: E402
+import neighbour_machines  # noqa: E402
 import options  # noqa: E402
+import others  # noqa: E402
+import resources  # noqa: E402
 import signals  # noqa: E402
 from place import Texts  # noqa: E402
 
+NOT_KNOWN = 3  # the status where a check didn't end in time, and no other has seen anything
 ABOUT = {  # words in the names of the checks that are about a file
-    "_parts.py": ("order", "modes", "old parts", "parts in use", "close", "that comes", "others", "a link", "links", "fsync"),
-    "_whole.py": ("the input", "another", "damaged", "a folder", "output is", "changed", "part that", "in use", "nothing", "shorter"),
+    "_rights.py": ("access", "modes", "order", "owner"),
+    "_parts.py": ("among others", "order", "modes", "old parts", "parts in use", "close", "that comes", "others", "a link", "links", "fsync"),
+    "_whole.py": ("among others", "the input", "another", "damaged", "a folder", "output is", "changed", "part that", "in use", "nothing", "shorter"),
     "_packed.py": ("packs", "output names"),
     "_names.py": ("quoting", "output names", "names"),
     "_on_disk.py": ("from python", "unreadable"),
@@ -35,17 +44,20 @@ def is_about(name):
 
 
 def main():
-    texts = Texts(PROGRAM)
-    checks = [check for module in (options, meanwhile, matrix, faults, signals) for check in module.checks(texts)]
+    texts, late = Texts(PROGRAM), ""
+    checks = [check for module in (options, others, meanwhile, resources, matrix, faults, signals, neighbour_disks, neighbour_looks, neighbour_machines, neighbour) for check in module.checks(texts)]
     for name, check in sorted(checks, key=lambda check: not is_about(check[0])):
         try:
             wrong = check()
+        except subprocess.TimeoutExpired as error:  # which may be the machine's fault
+            late, wrong = f"{name}: {error}", []
         except Exception as error:  # what can't go on has seen it too
             wrong = [repr(error)]
         if wrong and not isinstance(wrong, str):
             print(f"{name}: {wrong[0][:100]}".replace("\n", " "))
             return 1
-    return 0
+    print(late, end="")
+    return NOT_KNOWN if late else 0
 
 
 if __name__ == "__main__":

@@ -12,8 +12,9 @@ sys.path[:0] = [str(Path(copy) / "tests/library")]
 import quick  # noqa: E402
 import servers  # noqa: E402
 
+NOT_KNOWN = 3  # the status where a check didn't end in time, and no other has seen anything
 # checks that come first, by the ending of the file
-FIRST = {".py": ("calls from Python",), ".f90": ("sizes", "calls and handles from Fortran")}
+FIRST = {".py": ("calls from Python", "what calls from Python"), ".f90": ("sizes", "calls and handles from Fortran")}
 
 
 def built():
@@ -35,16 +36,20 @@ def main():
     except subprocess.CalledProcessError as failed:
         print(failed.stderr.decode().strip())
         return 2
+    late = ""
     for name, check in ordered(quick.checks(b)):
         try:
             wrong = check()
+        except subprocess.TimeoutExpired as error:  # which may be the machine's fault
+            late, wrong = f"{name}: {error}", []
         except Exception as error:  # a check that can't go on has seen something
             wrong = [repr(error)]
         if wrong and not isinstance(wrong, str):
             print("\n".join(wrong))
             print(name)
             return 1
-    return 0
+    print(late, end="")
+    return NOT_KNOWN if late else 0
 
 
 if __name__ == "__main__":
