@@ -8,7 +8,7 @@ top=$(cd "$(dirname "$0")/.." && pwd)
 version=$(cat "$top/VERSION")
 work=$(mktemp -d)
 trap 'rm -rf "$work"' EXIT
-CC=${CC:-cc}
+CC=${CC:-cc} LD=${LD:-ld} AR=${AR:-ar} OBJCOPY=${OBJCOPY:-objcopy}
 
 mkdir -p "$folder"
 python3 "$top/library/words.py" "$top/crates/crx_base/src/fault.rt" > "$work/words.inc"
@@ -17,14 +17,14 @@ $CC $flags -c "$top/library/heap.c" -o "$work/heap.o"
 $CC $flags -I "$top/include" -I "$work" -DRNXCMP_VERSION="\"$version\"" -c "$top/library/rnxcmp.c" -o "$work/rnxcmp.o"
 
 # the archive holds one object, in which the header's names alone are global
-ld -r -o "$work/all.o" "$work/rnxcmp.o" "$work/heap.o" --whole-archive "$proved" --no-whole-archive
+$LD -r -o "$work/all.o" "$work/rnxcmp.o" "$work/heap.o" --whole-archive "$proved" --no-whole-archive
 names=$(sed -n 's/^ *\(rnxcmp_[a-z_]*\);$/\1/p' "$top/library/symbols.map")
 for name in $names; do
     echo "$name"
 done > "$work/names"
-objcopy --keep-global-symbols="$work/names" "$work/all.o" "$work/librnxcmp.o"
+$OBJCOPY --keep-global-symbols="$work/names" "$work/all.o" "$work/librnxcmp.o"
 rm -f "$folder/librnxcmp.a"
-ar rcD "$folder/librnxcmp.a" "$work/librnxcmp.o"
+$AR rcD "$folder/librnxcmp.a" "$work/librnxcmp.o"
 
 $CC -shared -o "$folder/librnxcmp.so.2" "$work/librnxcmp.o" -Wl,-soname,librnxcmp.so.2 -Wl,--version-script="$top/library/symbols.map" \
     -Wl,-z,defs -Wl,-z,text -Wl,-z,noexecstack -Wl,-z,relro -Wl,-z,now

@@ -2,7 +2,7 @@
 # Makes what a release consists of, from the object file that rt leaves and the folder that `make library` leaves:
 #     packaging/dist.sh OBJECT FOLDER [LIBRARY]
 # An archive with a static program and the library, a Debian package, a source archive of the last commit, and SHA256SUMS. The first two have the
-# pages of `make docs` too. Each is the same bytes wherever and whenever it is made, with the same compiler and C library: all times are
+# pages of `make docs` too, and the archive the suite for other programs. Each is the same bytes wherever and whenever it is made, with the same compiler and C library: all times are
 # SOURCE_DATE_EPOCH, the last commit's if not set.
 set -eu
 umask 022
@@ -23,6 +23,7 @@ else # unpacked from a source archive, whose files have the commit's time
 fi
 export SOURCE_DATE_EPOCH
 version=$(cat "$top/VERSION")
+debian=$(echo "$version" | tr - "~") # a version under work comes before the one that it becomes
 kit=$(dirname "$(dirname "$(readlink -f "$(command -v rt)")")")
 rm -rf "$to"
 mkdir -p "$to"
@@ -44,7 +45,11 @@ if [ -n "$library" ]; then
     install -m 644 "$top/docs/LIBRARY.md" "$work/$name/share/doc/rnxcmp"
     install -d "$work/$name/share/doc/rnxcmp/examples"
     install -m 644 "$top"/examples/compact.* "$top/examples/stream.c" "$work/$name/share/doc/rnxcmp/examples"
+    install -m 755 "$top/examples/availability.py" "$work/$name/share/doc/rnxcmp/examples"
 fi
+install -d "$work/$name/share/doc/rnxcmp/conformance" # the suite for other programs
+install -m 644 "$top"/conformance/*.md "$top"/conformance/*.json "$work/$name/share/doc/rnxcmp/conformance"
+install -m 755 "$top"/conformance/*.py "$work/$name/share/doc/rnxcmp/conformance"
 tar -C "$work" --sort=name --mtime="@$SOURCE_DATE_EPOCH" --owner=0 --group=0 --numeric-owner --format=gnu -cf - "$name" |
     gzip -9n > "$to/$name.tar.gz"
 
@@ -52,11 +57,13 @@ tar -C "$work" --sort=name --mtime="@$SOURCE_DATE_EPOCH" --owner=0 --group=0 --n
 root=$work/root
 "$top/packaging/install.sh" "$root/usr" "$work/rnxcmp" "$library" share/zsh/vendor-completions
 doc=$root/usr/share/doc/rnxcmp
-mv "$doc/NOTICES" "$doc/copyright"
+{ cat "$doc/NOTICES" && printf '\n' && cat "$doc/LICENSE-MIT"; } > "$doc/copyright"
+rm "$doc/NOTICES" "$doc/LICENSE-MIT"
 maintainer=${MAINTAINER:-the administrator of this machine <root@localhost>}
 { # the changes of this version, and those since, in the form that Debian's tools read
-    printf 'rnxcmp (%s) stable; urgency=medium\n\n' "$version"
-    awk -v version="$version" '/^## / { past = found; found = found || $2 == version } !past && /^- / { sub(/^- /, "  * "); print }' \
+    printf 'rnxcmp (%s) stable; urgency=medium\n\n' "$debian"
+    case $version in *-dev) newest=Unreleased ;; *) newest=$version ;; esac
+    awk -v newest="$newest" '/^## / { past = found; found = found || $2 == newest } !past && /^- / { sub(/^- /, "  * "); print }' \
         "$doc/CHANGELOG.md" | fold -s -w 70 | sed 's/^[^ ]/    &/; s/ *$//'
     printf '\n -- %s  %s\n' "$maintainer" "$(date -u -R -d "@$SOURCE_DATE_EPOCH")"
 } | gzip -9n > "$doc/changelog.gz"
@@ -69,7 +76,7 @@ done
 mkdir "$root/DEBIAN"
 cat > "$root/DEBIAN/control" <<END
 Package: rnxcmp
-Version: $version
+Version: $debian
 Architecture: amd64
 Section: science
 Priority: optional
@@ -81,8 +88,9 @@ Description: compact, expand and check RINEX 3.0x observation files
  proved program; and rnxcmp-file, a tool in Python over the proved library that
  does whole files of an archive, verifies them, and removes none.
 END
+(cd "$root" && find usr -type f | sort | tr '\n' '\0' | xargs -0 md5sum > DEBIAN/md5sums)
 find "$root" -exec touch -h -d "@$SOURCE_DATE_EPOCH" {} +
-dpkg-deb --root-owner-group -Zgzip -z9 --build "$root" "$to/rnxcmp_${version}_amd64.deb" > /dev/null
+dpkg-deb --root-owner-group -Zgzip -z9 --build "$root" "$to/rnxcmp_${debian}_amd64.deb" > /dev/null
 
 # the source archive
 if [ -e "$top/.git" ]; then

@@ -44,7 +44,7 @@ for name in rnxcmp RNX2CRX CRX2RNX rnx2crx crx2rnx rnxcmp-file; do
     install -m 644 "$here/completions/rnxcmp.fish" "$prefix/share/fish/vendor_completions.d/$name.fish"
 done
 install -m 644 "$here/completions/_rnxcmp" "$prefix/$zsh/_rnxcmp"
-install -m 644 "$here/../NOTICES" "$here/../CHANGELOG.md" "$prefix/share/doc/rnxcmp"
+install -m 644 "$here/../NOTICES" "$here"/../LICENSE-* "$here/../CHANGELOG.md" "$prefix/share/doc/rnxcmp"
 for name in USE FILES ARCHIVES PLANNING GUARANTEES FORMATS; do
     install -m 644 "$here/../docs/$name.md" "$prefix/share/doc/rnxcmp"
 done

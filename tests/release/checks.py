@@ -18,9 +18,11 @@ TOP = Path(__file__).resolve().parents[2]
 SAMPLE = TOP / "samples/station.rnx"
 LIBRARY = TOP / "out/library"  # which the archive has too, where make library made it
 VERSION = (TOP / "VERSION").read_text().strip()
+DEBIAN = VERSION.replace("-", "~")  # as Debian writes it
 SECONDS = 100  # in which each step is to end
 INTERPRETER = 3  # what says in a program's table that it needs the system's loader
 FILES = ("bin/rnxcmp", "bin/RNX2CRX", "bin/crx2rnx", "share/man/man1/rnxcmp.1")
+DOCUMENTS = ["NOTICES", "LGPL-2.1.txt", "CHANGELOG.md", "USE.md", "ARCHIVES.md", "GUARANTEES.md"]
 PAGES = ["READING.md", "DEFINITIONS.md", "DEFINITIONS.html", "CONTRACTS.md", "CONTRACTS.html"]  # those of make docs
 
 
@@ -50,7 +52,7 @@ def check_twice(program, one, two):
     if wrong:
         return wrong
     names = sorted(path.name for path in one.iterdir())
-    wanted = sorted([f"rnxcmp-{VERSION}-linux-x86_64.tar.gz", f"rnxcmp-{VERSION}.tar.gz", f"rnxcmp_{VERSION}_amd64.deb", "SHA256SUMS"])
+    wanted = sorted([f"rnxcmp-{VERSION}-linux-x86_64.tar.gz", f"rnxcmp-{VERSION}.tar.gz", f"rnxcmp_{DEBIAN}_amd64.deb", "SHA256SUMS"])
     wrong += [] if names == wanted else [f"files {names}"]
     wrong += [f"{name} differs" for name in names if (one / name).read_bytes() != (two / name).read_bytes()]
     sums = subprocess.run(["sha256sum", "-c", "SHA256SUMS"], cwd=one, capture_output=True, text=True, timeout=SECONDS)
@@ -98,7 +100,7 @@ def check_archive(made_in, folder):
     folder.mkdir()
     name = f"rnxcmp-{VERSION}-linux-x86_64"
     subprocess.run(["tar", "-xzf", made_in / f"{name}.tar.gz", "-C", folder], check=True, timeout=SECONDS)
-    return check_unpacked(folder / name, ["NOTICES", "LGPL-2.1.txt", "CHANGELOG.md", "USE.md", "ARCHIVES.md", "GUARANTEES.md", *PAGES])
+    return check_unpacked(folder / name, ["LICENSE-MIT", "LICENSE-APACHE", "conformance/conform.py", "conformance/cases.json", *DOCUMENTS, *PAGES])
 
 
 def check_library(folder):
@@ -123,11 +125,16 @@ def check_static(folder):
 
 
 def check_package(made_in, folder):
-    package = made_in / f"rnxcmp_{VERSION}_amd64.deb"
+    package = made_in / f"rnxcmp_{DEBIAN}_amd64.deb"
     subprocess.run(["dpkg-deb", "-x", package, folder], check=True, timeout=SECONDS)
     fields = subprocess.run(["dpkg-deb", "-f", package, "Package", "Version", "Depends"], capture_output=True, text=True, timeout=SECONDS).stdout
-    wrong = [] if fields == f"Package: rnxcmp\nVersion: {VERSION}\n" else [f"fields {fields!r}"]
-    return wrong + check_unpacked(folder / "usr", ["copyright", "changelog.gz", *PAGES])
+    wrong = [] if fields == f"Package: rnxcmp\nVersion: {DEBIAN}\n" else [f"fields {fields!r}"]
+    subprocess.run(["dpkg-deb", "-e", package, folder / "DEBIAN"], check=True, timeout=SECONDS)
+    sums = subprocess.run(["md5sum", "--quiet", "-c", "DEBIAN/md5sums"], cwd=folder, capture_output=True, text=True, timeout=SECONDS)
+    named = {line.split("  ", 1)[1] for line in (folder / "DEBIAN/md5sums").read_text().splitlines()}
+    files = {str(path.relative_to(folder)) for path in (folder / "usr").rglob("*") if path.is_file()}
+    wrong += [] if sums.returncode == 0 and named == files else [f"md5sums: {sums.stdout}{sums.stderr}, {sorted(named ^ files)}"]
+    return wrong + check_unpacked(folder / "usr", ["copyright", "LICENSE-APACHE", "changelog.gz", *PAGES])
 
 
 def check_printed(made_in, folder):
@@ -160,19 +167,42 @@ def check_made_from_source(program, made_in, folder):
         return "there are changes that aren't committed"
     again = folder / "again"
     wrong = made(program, again, folder / f"rnxcmp-{VERSION}")
-    names = (f"rnxcmp-{VERSION}-linux-x86_64.tar.gz", f"rnxcmp_{VERSION}_amd64.deb")
+    names = (f"rnxcmp-{VERSION}-linux-x86_64.tar.gz", f"rnxcmp_{DEBIAN}_amd64.deb")
     return wrong or [f"{name} differs" for name in names if (again / name).read_bytes() != (made_in / name).read_bytes()]
 
 
 def check_version(program):
-    """The help, the manual pages and the list of changes, but for those that aren't released, say the version that stands in VERSION."""
-    wrong = [] if re.fullmatch(r"[0-9]+\.[0-9]+\.[0-9]+", VERSION) else [f"VERSION: {VERSION!r}"]
+    """The help and the manual pages say the version that stands in VERSION, and the list of changes has its changes: those of a version that
+    ends in `-dev` aren't released, and there are none such where it doesn't."""
+    wrong = [] if re.fullmatch(r"[0-9]+\.[0-9]+\.[0-9]+(-dev)?", VERSION) else [f"VERSION: {VERSION!r}"]
     text = subprocess.run([program, "--help"], capture_output=True, text=True, timeout=SECONDS).stdout
     wrong += [] if text.startswith(f"rnxcmp {VERSION}: ") else [f"help: {text[:40]!r}"]
     for page in sorted((TOP / "packaging/man").glob("*.1")):
         wrong += [] if '"rnxcmp @VERSION@"' in page.read_text() and VERSION not in page.read_text() else [f"{page.name} has a version of its own"]
-    newest = re.search(r"^## (?!Unreleased$)(.*)$", (TOP / "CHANGELOG.md").read_text(), re.M)[1]
-    return wrong + ([] if newest == VERSION else [f"CHANGELOG.md: {newest}"])
+    return wrong + wrong_changes(VERSION, (TOP / "CHANGELOG.md").read_text())
+
+
+def wrong_changes(version, changes):
+    """What is wrong with a list of changes beside a version. One that ends in `-dev` is above the newest that was released."""
+    released = re.findall(r"^## ([0-9.]+)$", changes, re.M)
+    unreleased = re.search(r"^## Unreleased\n(.*?)(?=^## |\Z)", changes, re.M | re.S)
+    number, work, _ = version.partition("-dev")
+    if not work:
+        wrong = ["VERSION is a released one, and changes are unreleased"] if unreleased and unreleased[1].strip() else []
+        return wrong + ([] if released[:1] == [version] else [f"CHANGELOG.md: {released[:1]}"])
+    newest = max(([int(part) for part in one.split(".")] for one in released), default=[])
+    return [] if [int(part) for part in number.split(".")] > newest else [f"VERSION: {version}, and {released[0]} is released"]
+
+
+def check_wrong_changes():
+    """What the check of versions calls wrong."""
+    empty, some = "# Changes\n\n## Unreleased\n\n", "# Changes\n\n## Unreleased\n\n- A change.\n\n"
+    rows = (
+        ("2.0.0-dev", some + "## 1.0.0\n", True), ("2.0.0-dev", empty + "## 1.0.0\n", True), ("1.0.0", some + "## 1.0.0\n", False),
+        ("1.0.0", empty + "## 1.0.0\n", True), ("1.0.0", "# Changes\n\n## 1.0.0\n", True), ("2.0.0", empty + "## 1.0.0\n", False),
+        ("1.0.0-dev", some + "## 1.0.0\n", False), ("1.10.0-dev", some + "## 1.9.0\n", True),
+    )  # fmt: skip
+    return [f"{version}: {changes!r}" for version, changes, right in rows if right != (not wrong_changes(version, changes))]
 
 
 def check_notices():
@@ -186,6 +216,7 @@ def check_notices():
 
 def checks(program):
     yield "the version", lambda: check_version(program)
+    yield "versions that don't fit the list of changes", check_wrong_changes
     yield "the notices", check_notices
     with tempfile.TemporaryDirectory() as name:
         folder = Path(name)
@@ -199,7 +230,7 @@ def checks(program):
             ("the package", lambda: check_package(one, folder / "package")),
             ("the archive in an empty root", lambda: check_archive_in_empty_root(one / f"rnxcmp-{VERSION}-linux-x86_64.tar.gz", folder / "empty_too")),
             ("the printed commands", lambda: check_printed(one, folder / "printed")),
-            ("the package in an empty root", lambda: check_in_empty_root(one / f"rnxcmp_{VERSION}_amd64.deb", folder / "empty")),
+            ("the package in an empty root", lambda: check_in_empty_root(one / f"rnxcmp_{DEBIAN}_amd64.deb", folder / "empty")),
             ("the source archive", lambda: check_source(one, folder / "source")),
             ("made from the source archive", lambda: check_made_from_source(program, one, folder / "source")),
         ):

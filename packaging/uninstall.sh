@@ -1,0 +1,17 @@
+#!/bin/sh
+# Removes what packaging/install.sh put below a folder, and the folders of its own that are empty then: packaging/uninstall.sh FOLDER
+# What it removes is found by installing into a new folder, so that the list stands in one place.
+set -eu
+prefix=$1
+here=$(dirname "$0")
+work=$(mktemp -d)
+trap 'rm -rf "$work"' EXIT
+mkdir "$work/library"
+: > "$work/library/librnxcmp.so.2"
+"$here/install.sh" "$work/all" /bin/sh "$work/library"
+(cd "$work/all" && find . -type f) | while IFS= read -r name; do
+    rm -f "$prefix/$name"
+done
+for folder in lib/rnxcmp/rnxcmp lib/rnxcmp share/doc/rnxcmp; do
+    [ ! -d "$prefix/$folder" ] || rmdir "$prefix/$folder" 2> /dev/null || echo "$prefix/$folder has other files, and stays" >&2
+done
