@@ -32,6 +32,8 @@ end
 
 complete -c rnxcmp-file -n 'not __fish_seen_subcommand_from rnx2crx crx2rnx' -f -a rnx2crx -d 'Compact files'
 complete -c rnxcmp-file -n 'not __fish_seen_subcommand_from rnx2crx crx2rnx' -f -a crx2rnx -d 'Expand files'
+complete -c rnxcmp-file -n 'not __fish_seen_subcommand_from rnx2crx crx2rnx' -f -a explain -d 'Say why files are refused'
+complete -c rnxcmp-file -n 'not __fish_seen_subcommand_from rnx2crx crx2rnx' -l version -d 'Print the version'
 complete -c rnxcmp-file -n '__fish_seen_subcommand_from rnx2crx' -s e -x -d 'Start everything anew at every N epochs'
 complete -c rnxcmp-file -n '__fish_seen_subcommand_from rnx2crx' -l date -x -d 'The date in line 2 of the output'
 complete -c rnxcmp-file -n '__fish_seen_subcommand_from rnx2crx crx2rnx' -s s -d 'Warn about strange epochs and skip them'
@@ -43,5 +45,8 @@ complete -c rnxcmp-file -n '__fish_seen_subcommand_from rnx2crx crx2rnx' -l inpu
 complete -c rnxcmp-file -n '__fish_seen_subcommand_from rnx2crx crx2rnx' -l verify -d 'Compare the output with the input'
 complete -c rnxcmp-file -n '__fish_seen_subcommand_from rnx2crx crx2rnx' -l verified-to -r -d 'List the verified inputs'
 complete -c rnxcmp-file -n '__fish_seen_subcommand_from rnx2crx crx2rnx' -l normal-form -d 'List those verified by normal form too'
+complete -c rnxcmp-file -n '__fish_seen_subcommand_from rnx2crx crx2rnx' -l accept-cut -d 'List those whose last line has no line end too'
+complete -c rnxcmp-file -n '__fish_seen_subcommand_from rnx2crx crx2rnx' -l max-output -x -d 'Make no longer output'
+complete -c rnxcmp-file -n '__fish_seen_subcommand_from rnx2crx crx2rnx' -s v -d 'Print all warnings'
 complete -c rnxcmp-file -n '__fish_seen_subcommand_from rnx2crx crx2rnx' -l json -d 'Print a JSON object a file'
 complete -c rnxcmp-file -n '__fish_seen_subcommand_from rnx2crx crx2rnx' -s q -d 'Print messages and the summary alone'

@@ -1,12 +1,11 @@
-"""Both filters and the check over bytes."""
+"""Both filters over bytes, at once and in pieces."""
+
+from __future__ import annotations
 
 import ctypes
-import re
+import os
 import sys
-import warnings
-from dataclasses import dataclass
-from datetime import datetime, timezone
-from typing import Callable, Dict, Iterator, List, Optional, Tuple, Union
+import time
 
 from ._library import (
     BAD_DATE,
@@ -23,12 +22,24 @@ from ._library import (
     Options,
 )
 
-BytesLike = Union[bytes, bytearray, memoryview]
+TYPE_CHECKING = False
+if TYPE_CHECKING:  # what costs a start time, and only says types
+    from typing import IO, Any, Callable, Iterator, List, Optional, Tuple, Union
+
+    BytesLike = Union[bytes, bytearray, memoryview]
+    Path = Union[str, "os.PathLike[str]"]
+    Content = Union[BytesLike, Path, "IO[bytes]", "IO[str]"]
 
 _MONTHS = "Jan Feb Mar Apr May Jun Jul Aug Sep Oct Nov Dec".split()
 
 # bytes of a message room at first: a fault and some warnings
 _LINES = 4096
+
+CUT_OFF = "the last line has no line end: the file may be cut off"
+
+USUAL: Any = object()  # the limit of an output where none is given:
+_USUAL_TIMES = 1000  # so many times the input,
+_USUAL_LEAST = 64_000_000  # and at least so many bytes
 
 
 class RnxcmpError(Exception):
@@ -51,28 +62,7 @@ class OutputLimitError(RnxcmpError):
 
 
 class RnxcmpWarning(UserWarning):
-    """An epoch was skipped."""
-
-
-@dataclass(frozen=True)
-class Report:
-    """What a check found.
-
-    :ivar text: the report, six lines.
-    :ivar is_standard: whether the file comes back byte for byte from its compact form.
-    :ivar format: the version of its header.
-    :ivar systems: the letters of its systems and their counts of observation types.
-    :ivar first_not_standard: the number of the first line that isn't standard, if there is one.
-    """
-
-    text: str
-    is_standard: bool
-    format: str
-    systems: Dict[str, int]
-    epochs: int
-    events: int
-    observations: int
-    first_not_standard: Optional[int]
+    """An epoch was skipped, or a file may have been cut off."""
 
 
 def bytes_of(data: BytesLike) -> bytes:
@@ -80,6 +70,24 @@ def bytes_of(data: BytesLike) -> bytes:
     if not isinstance(data, (bytes, bytearray, memoryview)):
         raise TypeError(f"bytes, a bytearray or a memoryview is needed, not {type(data).__name__}")
     return bytes(data)
+
+
+def bytes_of_file(path: Path) -> bytes:
+    """All bytes of the file that a path names."""
+    with open(path, "rb") as file:
+        return file.read()
+
+
+def content_of(content: Content) -> bytes:
+    """The bytes of an input: those that are given, of a text, of the file that a path names, or of an open file from where it is.
+
+    A ``str`` with a line end in it is a text, and any other is a path.
+    """
+    if hasattr(content, "read"):
+        content = content.read()
+    elif isinstance(content, os.PathLike) or (isinstance(content, str) and "\n" not in content):
+        return bytes_of_file(content)
+    return content.encode("utf-8", "surrogateescape") if isinstance(content, str) else bytes_of(content)
 
 
 def _view_of(data: BytesLike) -> memoryview:
@@ -113,7 +121,7 @@ class _Rooms:
         return bytes(memoryview(self.output)[:output]), bytes(memoryview(self.messages)[:messages])
 
 
-def _filled(call: Callable[..., int], arguments: List[object], output: int) -> _Rooms:
+def filled(call: Callable[..., int], arguments: List[object], output: int) -> _Rooms:
     """Calls with room for so much output, and once more where a room was too small."""
     rooms = _Rooms(output, _LINES)
     call(*arguments, *rooms.arguments())
@@ -136,6 +144,8 @@ def _level_outside() -> int:
 
 def warn(text: str) -> None:
     """Issues a warning."""
+    import warnings
+
     warnings.warn(text, RnxcmpWarning, stacklevel=_level_outside())
 
 
@@ -164,7 +174,7 @@ def _error_of(answer: Answer, output: bytes) -> Optional[Exception]:
     return None
 
 
-def _output_of(rooms: _Rooms) -> bytes:
+def output_of(rooms: _Rooms) -> bytes:
     """The output; raises the error and issues the warnings of a call."""
     output, lines = rooms.texts(rooms.answer.output_length, rooms.answer.messages_length)
     _warn_of(lines)
@@ -174,16 +184,16 @@ def _output_of(rooms: _Rooms) -> bytes:
     return output
 
 
-def _date_of(moment: datetime) -> str:
-    """A moment in UTC as compact text has it, whatever the locale."""
-    return f"{moment.day:02}-{_MONTHS[moment.month - 1]}-{moment.year % 100:02} {moment.hour:02}:{moment.minute:02}"
+def _date_of(moment: time.struct_time) -> str:
+    """A moment as compact text has it, whatever the locale."""
+    return f"{moment.tm_mday:02}-{_MONTHS[moment.tm_mon - 1]}-{moment.tm_year % 100:02} {moment.tm_hour:02}:{moment.tm_min:02}"
 
 
 def _dated(date: Optional[str]) -> bytes:
     """A date's bytes, or those of the present moment; what no date can be becomes one that is refused."""
     if date is not None and not isinstance(date, str):
         raise TypeError(f"a date is a str, not {type(date).__name__}")
-    text = _date_of(datetime.now(timezone.utc)) if date is None else date
+    text = _date_of(time.gmtime()) if date is None else date
     return b"\n" if not text.isascii() or "\0" in text else text.encode("ascii")
 
 
@@ -197,6 +207,11 @@ def _within(name: str, value: Optional[int], least: int, bits: int) -> int:
 def limit_of(max_length: Optional[int]) -> int:
     """The most bytes that an output may have; 0 for None, which is no limit."""
     return _within("max_length", max_length, 1, 64)
+
+
+def limit_for(length: int, max_length: Optional[int]) -> Optional[int]:
+    """The limit of what comes out of an input of a length, where none may have been given."""
+    return max(_USUAL_TIMES * length, _USUAL_LEAST) if max_length is USUAL else max_length
 
 
 def _options_of(
@@ -217,7 +232,7 @@ def _room_for(guess: int, max_length: Optional[int]) -> int:
 
 
 def rnx2crx(
-    data: BytesLike,
+    data: Content,
     *,
     skip_strange_epochs: bool = False,
     reinit_every_nth: Optional[int] = None,
@@ -226,6 +241,7 @@ def rnx2crx(
 ) -> bytes:
     """Compacts RINEX 3.0x into Compact RINEX 3.0.
 
+    :param data: bytes, a path, an open file, or a text: a ``str`` with a line end in it.
     :param skip_strange_epochs: warn about epochs with a fault, and skip them.
     :param reinit_every_nth: an epoch in full at every so many.
     :param date: the date of the second line, at most 20 printable ASCII characters; else the present moment, in UTC.
@@ -233,46 +249,35 @@ def rnx2crx(
     :raises RnxcmpError: where a fault ended the run.
     :raises OutputLimitError: where the output is longer than ``max_length``.
     """
-    content = bytes_of(data)
+    content = content_of(data)
     options = _options_of(skip_strange_epochs, max_length, reinit_every_nth, _dated(date))
     arguments = [content, len(content), ctypes.byref(options)]
-    return _output_of(_filled(LIBRARY.rnxcmp_compact, arguments, _room_for(len(content) + 4096, max_length)))
+    return output_of(filled(LIBRARY.rnxcmp_compact, arguments, _room_for(len(content) + 4096, max_length)))
 
 
-def crx2rnx(data: BytesLike, *, skip_strange_epochs: bool = False, max_length: Optional[int] = None) -> bytes:
+def crx2rnx(data: Content, *, skip_strange_epochs: bool = False, max_length: Optional[int] = USUAL) -> bytes:
     """Expands Compact RINEX 3.0 into RINEX 3.0x.
 
+    :param data: bytes, a path, an open file, or a text: a ``str`` with a line end in it.
     :param skip_strange_epochs: warn about epochs with a fault, and skip them.
-    :param max_length: the most bytes that the output may have.
+    :param max_length: the most bytes that the output may have; if it isn't given, a thousand times the input's, and at least 64 MB.
+        None is no limit.
     :raises RnxcmpError: where a fault ended the run.
     :raises OutputLimitError: where the output is longer than ``max_length``.
     """
-    content = bytes_of(data)
-    options = _options_of(skip_strange_epochs, max_length)
-    arguments = [content, len(content), ctypes.byref(options)]
-    return _output_of(_filled(LIBRARY.rnxcmp_expand, arguments, _room_for(6 * len(content) + 4096, max_length)))
+    content = content_of(data)
+    limit = limit_for(len(content), max_length)
+    with Stream.expanding(skip_strange_epochs=skip_strange_epochs, max_length=limit) as stream:
+        try:
+            return _joined(_all_outputs(stream, content))
+        except OutputLimitError as error:
+            error.output = b""
+            raise
 
 
-def check(data: BytesLike) -> Report:
-    """Checks RINEX 3.0x: what it holds, and whether it is standard.
-
-    :raises RnxcmpError: where the file isn't accepted.
-    """
-    content = bytes_of(data)
-    text = _output_of(_filled(LIBRARY.rnxcmp_check, [content, len(content)], 4096)).decode("latin-1")
-    found = dict(re.findall(r"^(\w+) ?(.*)$", text, re.M))
-    systems = [] if found["systems"] == "none" else found["systems"].split()
-    standard = found["standard"].split()
-    return Report(
-        text=text,
-        is_standard=standard == ["yes"],
-        format=found["format"],
-        systems=dict(zip(systems[::2], map(int, systems[1::2]))),
-        epochs=int(found["epochs"]),
-        events=int(found["events"]),
-        observations=int(found["observations"]),
-        first_not_standard=int(standard[1]) if len(standard) == 2 else None,
-    )
+def _all_outputs(stream: Stream, content: bytes) -> Iterator[bytes]:
+    yield from stream.outputs(content)
+    yield from stream.last_outputs()
 
 
 class Stream:

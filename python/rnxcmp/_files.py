@@ -1,47 +1,41 @@
 """The content of files, gzipped or not, as users of the package ``hatanaka`` know the calls."""
 
-import gzip
-import io
-import os
-from pathlib import Path
-from typing import Optional, Union
+from __future__ import annotations
 
-from ._calls import OutputLimitError, bytes_of, crx2rnx, limit_of, rnx2crx
-from ._packed import UnsupportedError, other_packing
+from ._calls import CUT_OFF, USUAL, OutputLimitError, bytes_of_file, content_of, crx2rnx, limit_for, limit_of, rnx2crx, warn
+from ._packed import COMPRESS, GZIP, UnsupportedError, other_packing, out_of_compress, out_of_gzip, packed_by_gzip, pieces_in
 
-Content = Union[bytes, bytearray, memoryview, str, "os.PathLike[str]"]
+TYPE_CHECKING = False
+if TYPE_CHECKING:
+    from typing import Iterable, Optional
 
-_GZIP, _COMPRESS = b"\x1f\x8b", b"\x1f\x9d"
-# bytes that are unpacked at once
-_PART = 1 << 20
+    from ._calls import Content
 
 
 def _bytes_of(content: Content) -> bytes:
-    """The bytes of a file, or those that were given."""
-    if isinstance(content, (str, os.PathLike)):
-        return Path(content).read_bytes()
-    return bytes_of(content)
+    """The bytes of a file, or those that were given; a ``str`` is a path."""
+    return bytes_of_file(content) if isinstance(content, str) else content_of(content)
 
 
-def _gunzipped(data: bytes, max_length: Optional[int]) -> bytes:
-    """The bytes out of gzip, of which no more are unpacked than may be."""
+def _within(pieces: Iterable[bytes], packing: str, max_length: Optional[int]) -> bytes:
+    """The pieces of what is unpacked, of which no more are taken than may be."""
     parts, length = [], 0
-    with gzip.GzipFile(fileobj=io.BytesIO(data)) as file:
-        for part in iter(lambda: file.read(_PART), b""):
-            length += len(part)
-            if max_length is not None and length > max_length:
-                raise OutputLimitError("what is in gzip is longer than max_length")
-            parts.append(part)
+    for part in pieces:
+        length += len(part)
+        if max_length is not None and length > max_length:
+            raise OutputLimitError(f"what is in {packing} is longer than max_length")
+        parts.append(part)
     return b"".join(parts)
 
 
 def _unpacked(data: bytes, max_length: Optional[int] = None) -> bytes:
-    """The bytes, out of gzip where they are in it."""
+    """The bytes, out of gzip or out of compress (``.Z``) where they are in it."""
     limit_of(max_length)
-    other = ".Z (LZW)" if data.startswith(_COMPRESS) else other_packing(data)
-    if other:
-        raise UnsupportedError(f"compression not supported: {other}")
-    return _gunzipped(data, max_length) if data.startswith(_GZIP) else data
+    if other_packing(data):
+        raise UnsupportedError(f"compression not supported: {other_packing(data)}")
+    if data.startswith(COMPRESS):
+        return _within(out_of_compress(data), ".Z", max_length)
+    return _within(out_of_gzip(pieces_in(data)), "gzip", max_length) if data.startswith(GZIP) else data
 
 
 def _label(data: bytes) -> bytes:
@@ -73,18 +67,28 @@ def ensure_known(data: bytes) -> None:
         raise UnsupportedError(f"format not supported: RINEX {version}")
 
 
-def decompress(content: Content, *, skip_strange_epochs: bool = False, max_length: Optional[int] = None) -> bytes:
-    """The content of a file, or of bytes, as RINEX: out of gzip, and expanded where it is Compact RINEX 3.0.
+def _warn_if_cut(data: bytes) -> None:
+    """Warns where the last line has no line end."""
+    if not data.endswith(b"\n"):
+        warn(CUT_OFF)
 
-    What is neither comes back as it is. ``.Z`` and other compressions, and Compact RINEX 1.0, raise :class:`UnsupportedError`.
 
-    :param max_length: the most bytes that may come out of gzip, and that the expansion may have; more raise :class:`OutputLimitError`.
+def decompress(content: Content, *, skip_strange_epochs: bool = False, max_length: Optional[int] = USUAL) -> bytes:
+    """The content of a file, or of bytes, as RINEX: out of gzip or ``.Z``, and expanded where it is Compact RINEX 3.0.
+
+    What is neither comes back as it is. Other compressions, and Compact RINEX 1.0, raise :class:`UnsupportedError`.
+
+    :param max_length: the most bytes that may be unpacked, and that the expansion may have; more raise :class:`OutputLimitError`.
+        If it isn't given, that is a thousand times the content, and at least 64 MB; None is no limit.
     """
-    data = _unpacked(_bytes_of(content), max_length)
+    packed = _bytes_of(content)
+    limit = limit_for(len(packed), max_length)
+    data = _unpacked(packed, limit)
     if not is_compact(data):
         return data
     ensure_known(data)
-    return crx2rnx(data, skip_strange_epochs=skip_strange_epochs, max_length=max_length)
+    _warn_if_cut(data)
+    return crx2rnx(data, skip_strange_epochs=skip_strange_epochs, max_length=limit)
 
 
 def compress(
@@ -105,7 +109,8 @@ def compress(
     data = _unpacked(_bytes_of(content), max_length)
     if is_observation(data):
         ensure_known(data)
+        _warn_if_cut(data)
         data = rnx2crx(
             data, skip_strange_epochs=skip_strange_epochs, reinit_every_nth=reinit_every_nth, max_length=max_length
         )
-    return gzip.compress(data, mtime=0) if compression == "gz" else data
+    return packed_by_gzip(data) if compression == "gz" else data

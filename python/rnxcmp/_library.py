@@ -1,9 +1,13 @@
 """The shared library, as include/rnxcmp.h declares it."""
 
+from __future__ import annotations
+
 import ctypes
 import os
-from pathlib import Path
-from typing import Any, List, Tuple
+
+TYPE_CHECKING = False
+if TYPE_CHECKING:
+    from typing import Any, List, Tuple
 
 GOOD, FAULT, WARNINGS, NO_ROOM, BAD_DATE, BAD_PROCESSOR, MISUSED, OUTPUT_LIMIT = range(8)
 INPUT_TOO_LONG, OUT_OF_MEMORY = 2, 22
@@ -48,8 +52,8 @@ class Handle(ctypes.Structure):
 def _opened() -> ctypes.CDLL:
     """The library that the environment variable RNXCMP_LIBRARY names, the one beside this file, or the system's."""
     named = os.environ.get("RNXCMP_LIBRARY")
-    beside = Path(__file__).resolve().parent / _NAME
-    library = ctypes.CDLL(named or (str(beside) if beside.exists() else _NAME))
+    beside = os.path.join(os.path.dirname(os.path.realpath(__file__)), _NAME)
+    library = ctypes.CDLL(named or (beside if os.path.exists(beside) else _NAME))
     room: List[Any] = [ctypes.c_void_p, ctypes.c_size_t]
     content: List[Any] = [ctypes.c_char_p, ctypes.c_size_t]
     options, answer, handle = ctypes.POINTER(Options), ctypes.POINTER(Answer), ctypes.POINTER(Handle)

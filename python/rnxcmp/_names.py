@@ -1,9 +1,14 @@
 """Names of files: what an output is called, and how a name is written in a message."""
 
+from __future__ import annotations
+
 import os
 import re
 from itertools import groupby
-from typing import Optional
+
+TYPE_CHECKING = False
+if TYPE_CHECKING:
+    from typing import Optional
 
 _PACKED = re.compile(r"\.(gz|GZ|z|Z)\Z")
 _FORMS = {"rnx2crx": (("rnx", "crx"), ("o", "d")), "crx2rnx": (("crx", "rnx"), ("d", "o"))}

@@ -8,7 +8,7 @@ from ._calls import warn
 from ._files import ensure_known, is_compact, is_observation
 from ._names import is_named_as_input, other_name, unpacked_name
 from ._packed import UnsupportedError
-from ._whole import COMPACTION, COPY, EXPANSION, Choices, Input, Whole
+from ._whole import COMPACTION, COPY, EXPANSION, Choices, Input, Patience, Whole
 
 PathLike = Union[str, "os.PathLike[str]"]
 
@@ -17,7 +17,7 @@ _FIRST_LINE = 82  # bytes of a file that say what it is
 
 def _start_of(path: str) -> bytes:
     """The first bytes of a file's text."""
-    source = Input(path)
+    source = Input(path, Patience(lambda _, text: warn(text)))
     try:
         start = b""
         for piece in source.text():

@@ -1,14 +1,18 @@
 """The text of a file in pieces: as it is, out of gzip, or out of compress (`.Z`); and into gzip."""
 
+from __future__ import annotations
+
 import os
-import subprocess
 import zlib
-from typing import Callable, Iterable, Iterator
 
 from ._calls import RnxcmpError
 
+TYPE_CHECKING = False
+if TYPE_CHECKING:
+    from typing import Callable, Iterable, Iterator
+
 _PIECE = 1 << 18
-_GZIP, _COMPRESS = b"\x1f\x8b", b"\x1f\x9d"
+GZIP, COMPRESS = b"\x1f\x8b", b"\x1f\x9d"
 _OTHERS = ((b"\x1f\xa0", ".Z (LZH)"), (b"BZh", "bzip2"), (b"PK\x03\x04", "zip"), (b"\xfd7zXZ\x00", "xz"), (b"\x28\xb5\x2f\xfd", "zstd"))
 _SIGN = 6  # bytes that say how a file is packed
 _GZIP_FORM = 31  # zlib's number for gzip
@@ -36,7 +40,12 @@ def pieces_of(descriptor: int) -> Iterator[bytes]:
         yield piece
 
 
-def _out_of_gzip(pieces: Iterable[bytes]) -> Iterator[bytes]:
+def pieces_in(data: bytes) -> Iterator[bytes]:
+    """Bytes in pieces, as a file's are read."""
+    return (data[at : at + _PIECE] for at in range(0, len(data), _PIECE))
+
+
+def out_of_gzip(pieces: Iterable[bytes]) -> Iterator[bytes]:
     """The text of all members; zeros between and after them are no text."""
     member, first = None, True
     for piece in pieces:
@@ -49,7 +58,7 @@ def _out_of_gzip(pieces: Iterable[bytes]) -> Iterator[bytes]:
             try:
                 text = member.decompress(piece, _PIECE)
             except zlib.error as error:
-                raise PackError(f"the packed text is damaged: {error}") from None
+                raise PackError(f"the packed text is damaged: {error}") from error
             if text:
                 yield text
             if member.eof:
@@ -62,13 +71,31 @@ def _out_of_gzip(pieces: Iterable[bytes]) -> Iterator[bytes]:
         raise PackError("the packed text is cut off")
 
 
+def packed_by_gzip(data: bytes) -> bytes:
+    """The bytes in gzip, as small as it makes them. The same bytes are packed the same."""
+    packer = zlib.compressobj(9, zlib.DEFLATED, _GZIP_FORM)
+    return packer.compress(data) + packer.flush()
+
+
+def out_of_compress(data: bytes) -> Iterator[bytes]:
+    """The text of bytes that compress packed (`.Z`)."""
+    import tempfile
+
+    with tempfile.TemporaryFile() as file:
+        file.write(data)
+        file.flush()
+        yield from _out_of_compress(file.fileno())
+
+
 def _out_of_compress(descriptor: int) -> Iterator[bytes]:
     """The text of a `.Z` file, by `gzip -dc`."""
+    import subprocess
+
     os.lseek(descriptor, 0, os.SEEK_SET)
     try:
         run = subprocess.Popen(["gzip", "-dc"], stdin=descriptor, stdout=subprocess.PIPE, stderr=subprocess.PIPE)
     except OSError as error:
-        raise UnsupportedError(f".Z is unpacked by gzip -dc, which can't be started: {error.strerror}") from None
+        raise UnsupportedError(f".Z is unpacked by gzip -dc, which can't be started: {error.strerror}") from error
     assert run.stdout is not None and run.stderr is not None
     try:
         while True:
@@ -86,26 +113,29 @@ def _out_of_compress(descriptor: int) -> Iterator[bytes]:
         run.wait()
 
 
-def text_of(descriptor: int) -> Iterator[bytes]:
-    """The text of an open file, unpacked by what it begins with. The file is at its beginning."""
-    start = b""
-    while len(start) < _SIGN:
+def text_of(descriptor: int, see: Callable[[bytes], object] = bool) -> Iterator[bytes]:
+    """The text of an open file, unpacked by what it begins with. The file is at its beginning; `see` is called with all bytes that are
+    read of it, but for a `.Z` file's."""
+
+    def read() -> bytes:
         piece = os.read(descriptor, _PIECE)
-        if not piece:
-            break
+        see(piece)
+        return piece
+
+    start = b""
+    while len(start) < _SIGN and (piece := read()):
         start += piece
-    if start.startswith(_COMPRESS):
+    if start.startswith(COMPRESS):
         yield from _out_of_compress(descriptor)
         return
     if other_packing(start):
         raise UnsupportedError(f"compression not supported: {other_packing(start)}")
 
     def all_pieces() -> Iterator[bytes]:
-        if start:
-            yield start
-            yield from pieces_of(descriptor)
+        yield start
+        yield from iter(read, b"")
 
-    yield from _out_of_gzip(all_pieces()) if start.startswith(_GZIP) else all_pieces()
+    yield from out_of_gzip(all_pieces()) if start.startswith(GZIP) else all_pieces()
 
 
 class Packing:

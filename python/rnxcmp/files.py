@@ -1,26 +1,30 @@
-"""Whole files: the command ``rnxcmp-file`` (``python3 -m rnxcmp.files``), :func:`compress_on_disk` and :func:`decompress_on_disk`.
+"""Whole files: the command ``rnxcmp-file`` (``python3 -I -m rnxcmp.files``), :func:`compress_on_disk` and :func:`decompress_on_disk`.
 
 It never removes or changes an input. Whatever fails, is killed or loses power, a file under an output's name is the old one or the whole
 new one. What it calls verified was read back from the disk, and expands to the bytes (*exact*) or to the normal form of this very input.
 """
 
+from __future__ import annotations
+
 import argparse
-import fcntl
-import json
 import os
 import re
-import signal
 import sys
-from typing import Callable, Iterator, List, NoReturn, Optional, Sequence, Tuple, Union
 
-from ._calls import RnxcmpError
+from ._calls import RnxcmpError, version
 from ._names import is_packed, quoted
-from ._on_disk import compress_on_disk, decompress_on_disk
-from ._parts import NoLinks, Part
+from ._parts import Changed, NoLinks, Part, identity_of, remove_left_beside
 from ._whole import (
     COMPACTION, EXACT, EXPANSION, MADE, NORMAL_FORM, REPLACED, THERE,
-    Choices, Done, FileError, Whole, identity_of, place_of,
+    Choices, Done, FileError, Patience, Whole,
 )  # fmt: skip
+
+TYPE_CHECKING = False
+if TYPE_CHECKING:
+    import signal
+    from typing import Callable, Dict, Iterator, List, NoReturn, Optional, Sequence, Tuple, Union
+
+    from ._on_disk import compress_on_disk, decompress_on_disk
 
 __all__ = ["compress_on_disk", "decompress_on_disk", "main"]
 
@@ -29,9 +33,12 @@ GOOD, FAILED, SKIPPED = 0, 1, 2  # statuses
 USAGE = """\
 usage: rnxcmp-file rnx2crx [options] INPUT..
        rnxcmp-file crx2rnx [options] INPUT..
+       rnxcmp-file explain [--json] [--inputs LIST] INPUT..
 
 Compacts (rnx2crx) or expands (crx2rnx) whole files. The output is beside the
 input, under its name with the other ending, packed by gzip if the input is.
+With explain it says why a file is refused or isn't standard, where that is in a
+line, what was expected there, and what mends it.
 
   -o OUTPUT           the output's name, for one input
   --inputs LIST       the names of more inputs, each with a NUL; - is standard
@@ -42,12 +49,18 @@ input, under its name with the other ending, packed by gzip if the input is.
   --verified-to LIST  do so, and write the names of the inputs that are verified
                       exact into the file LIST, each with a NUL
   --normal-form       with --verified-to: those verified by normal form too
+  --accept-cut        with --verified-to: those whose last line has no line end
+                      too
   -f                  replace an output that is there
   -e N, --date TEXT   as for rnxcmp rnx2crx
   -s                  warn about epochs with a fault, and skip them
+  --max-output SIZE   make no output that is longer, unpacked: a number of bytes
+                      or of thousands (k), millions (M) or milliards (G)
+  -v                  print all warnings, not three a file
   --json              print a JSON object a file, each on one line
   -q                  print no line for a file that is done
   -h, --help          print this help
+  --version           print the version
 
 It never removes or changes an input. An output that is there is left as it is:
 one that holds this input is fine, and any other one is an error, unless -f is
@@ -55,9 +68,12 @@ given. Exit status: 0 all files are done; 2 epochs were skipped, so a file isn't
 verified; 1 an error. Each message begins with the input's name.
 """
 REMOVES_NOTHING = (
-    "--delete is no longer an option: no input is ever removed; "
+    "is no longer an option: no input is ever removed; "
     "--verified-to LIST writes the names of those that are verified, for xargs -0 rm --"
 )
+WARNINGS = 3  # that are printed of a file
+EXPLANATION = "explain"
+_UNITS = {"": 1, "k": 10**3, "M": 10**6, "G": 10**9}
 
 
 class Stopped(BaseException):
@@ -77,20 +93,26 @@ class _Parser(argparse.ArgumentParser):
         _refuse(message)
 
 
+def _formatter(prog: str) -> argparse.HelpFormatter:
+    """With a width, since to find out that of the terminal takes as long as all else."""
+    return argparse.HelpFormatter(prog, width=80)
+
+
 def _parser() -> argparse.ArgumentParser:
-    parser = _Parser(prog="rnxcmp-file", add_help=False, allow_abbrev=False)
+    parser = _Parser(prog="rnxcmp-file", add_help=False, allow_abbrev=False, formatter_class=_formatter)
     parser.add_argument("direction", nargs="?")
     parser.add_argument("inputs", nargs="*")
     parser.add_argument("-o", dest="output")
     packing = parser.add_mutually_exclusive_group()
     packing.add_argument("--gzip", dest="pack", action="store_true", default=None)
     packing.add_argument("--no-gzip", dest="pack", action="store_false")
-    for flag in ("--verify", "--normal-form", "--delete", "--json"):
+    for flag in ("--verify", "--normal-form", "--accept-cut", "--delete", "-d", "--json", "-v", "--version"):
         parser.add_argument(flag, action="store_true")
     for flag, name in (("-f", "force"), ("-s", "skip"), ("-q", "quiet"), ("-h", "help"), ("--help", "help")):
         parser.add_argument(flag, dest=name, action="store_true")
     parser.add_argument("--inputs", dest="more", action="append")
     parser.add_argument("--verified-to", dest="list")
+    parser.add_argument("--max-output", dest="most")
     parser.add_argument("-e", dest="every")
     parser.add_argument("--date")
     return parser
@@ -103,31 +125,51 @@ def _is_date(text: str) -> bool:
 def _arguments(words: Sequence[str]) -> argparse.Namespace:
     """The arguments; refuses what doesn't go together."""
     found = _parser().parse_intermixed_args(words)
-    if found.help:
+    if found.help or found.version:
         return found
-    if found.delete:
-        _refuse(REMOVES_NOTHING)
-    if found.direction not in (COMPACTION, EXPANSION):
-        _refuse(f"neither rnx2crx nor crx2rnx: {quoted(found.direction)}" if found.direction else "rnx2crx or crx2rnx is missing")
+    if found.delete or found.d:
+        _refuse(f"{'--delete' if found.delete else '-d'} {REMOVES_NOTHING}")
+    if found.direction not in (COMPACTION, EXPANSION, EXPLANATION):
+        _refuse(f"neither rnx2crx nor crx2rnx nor explain: {quoted(found.direction)}" if found.direction else "rnx2crx or crx2rnx is missing")
     if found.more:
         found.inputs += [name for one in found.more for name in _listed(one)]
     elif not found.inputs:
         _refuse("the input is missing")
+    _ensure_names(found)
+    _ensure_choices(found)
+    return found
+
+
+def _ensure_names(found: argparse.Namespace) -> None:
     if "" in (*found.inputs, found.output, found.list):
         _refuse("an empty name")
     if "-" in (found.output, found.list):
         _refuse("no file is written to standard output; ./- is the name of a file")
     if found.output is not None and len(found.inputs) > 1:
         _refuse("-o names one output, and there is more than one input")
+
+
+def _ensure_choices(found: argparse.Namespace) -> None:
+    given = [name for name, value in vars(found).items() if value not in (None, False)]
+    if found.direction == EXPLANATION and not {*given} <= {"direction", "inputs", "more", "json"}:
+        _refuse("explain takes --json and --inputs alone")
     if found.direction == EXPANSION and (found.every is not None or found.date is not None):
         _refuse("-e and --date belong to rnx2crx")
     if found.every is not None and not (re.fullmatch("[0-9]{1,20}", found.every) and 1 <= int(found.every) <= 1000000):
         _refuse("the number of -e is from 1 to 1000000")
     if found.date is not None and not _is_date(found.date):
         _refuse("bad date: at most 20 characters, each printable ASCII")
-    if found.normal_form and found.list is None:
-        _refuse("--normal-form belongs to --verified-to")
-    return found
+    if found.most is not None and not _size_of(found.most):
+        _refuse("the size of --max-output is a number of bytes, from 1, or one with k, M or G behind it")
+    for given, name in ((found.normal_form, "--normal-form"), (found.accept_cut, "--accept-cut")):
+        if given and found.list is None:
+            _refuse(f"{name} belongs to --verified-to")
+
+
+def _size_of(text: str) -> int:
+    """A number of bytes, or 0 for what is none."""
+    size = re.fullmatch("([0-9]{1,9})([kMG]?)", text) or re.fullmatch("([0-9]{1,18})()", text)
+    return int(size[1]) * _UNITS[size[2]] if size else 0
 
 
 def _listed(name: str) -> List[str]:
@@ -147,7 +189,8 @@ def _choices(found: argparse.Namespace) -> Choices:
     if pack is None and found.output is not None:
         pack = is_packed(found.output)
     every = None if found.every is None else int(found.every)
-    return Choices(found.direction, pack, found.verify or found.list is not None, found.force, found.skip, every, found.date)
+    most = None if found.most is None else _size_of(found.most)
+    return Choices(found.direction, pack, found.verify or found.list is not None, found.force, found.skip, every, found.date, most)
 
 
 # ---- what is printed
@@ -165,6 +208,24 @@ def _say(text: str) -> None:
         _write_all(2, f"{text}\n")
     except OSError:
         pass
+
+
+class Failure:
+    """Why nothing was made of a file: the message, and the line and the code of a fault, or 0."""
+
+    def __init__(self, text: str, line: int = 0, code: int = 0) -> None:
+        self.text, self.line, self.code = text, line, code
+
+
+def _as_json(name: str, done: Optional[Done], failure: Optional[Failure]) -> str:
+    from json import dumps
+
+    return dumps({
+        "input": name, "output": done and done.output, "state": done.state if done else "error",
+        "verified": (done and done.verified) or None, "skipped": done.skipped if done else 0,
+        "may_be_cut_off": bool(done and done.may_be_cut_off), "error": failure and failure.text,
+        "line": (failure and failure.line) or None, "code": (failure and failure.code) or None,
+    })  # fmt: skip
 
 
 class Printer:
@@ -207,13 +268,10 @@ class Printer:
             self.failed = True
             _say(f"rnxcmp-file: ERROR: cannot write to standard output: {error.strerror}")
 
-    def file(self, name: str, done: Optional[Done], error: str) -> None:
-        """What was done with a file."""
+    def file(self, name: str, done: Optional[Done], failure: Optional[Failure]) -> None:
+        """What was done with a file, or why nothing was."""
         if self._json:
-            self.line(json.dumps({
-                "input": name, "output": done and done.output, "state": done.state if done else "error",
-                "verified": (done and done.verified) or None, "skipped": done.skipped if done else 0, "error": error or None,
-            }))  # fmt: skip
+            self.line(_as_json(name, done, failure))
         elif done and not self._quiet:
             said = f"{quoted(done.output)} is there already" if done.state == THERE else f"{done.state} {quoted(done.output)}"
             said += f", verified {done.verified}" if done.verified else ""
@@ -231,6 +289,25 @@ class Printer:
         self.line(f"{len(found)} files: {counts}, {len(found) - len(done)} errors; verified: {verified}; with skipped epochs: {skipped}")
 
 
+class Warnings:
+    """The warnings about a file: of those about lines some are printed, and how many more there are, or all."""
+
+    def __init__(self, printer: Printer, name: str, all_of_them: bool) -> None:
+        self._printer, self._name, self._all, self._count = printer, name, all_of_them, 0
+
+    def tell(self, text: str) -> None:
+        if not text.startswith("line "):
+            self._printer.say(self._name, f"WARNING: {text}")
+            return
+        self._count += 1
+        if self._all or self._count <= WARNINGS:
+            self._printer.say(self._name, f"WARNING {text}")
+
+    def end(self) -> None:
+        if self._count > WARNINGS and not self._all:
+            self._printer.say(self._name, f"WARNING: {self._count - WARNINGS} more; -v prints all")
+
+
 # ---- the list of verified inputs
 
 
@@ -241,47 +318,57 @@ def _absolute(name: str) -> str:
 class VerifiedList:
     """The file that gets the names of verified inputs, whole, at the end. It never replaces a file."""
 
-    def __init__(self, place: str, normal_form: bool) -> None:
+    def __init__(self, place: str, normal_form: bool, accept_cut: bool) -> None:
         self._place = place
         self._counted = (EXACT, NORMAL_FORM) if normal_form else (EXACT,)
-        self._found: List[Tuple[str, Done]] = []
+        self._accepts_cut = accept_cut
+        self._found: Dict[Tuple[int, ...], List[Tuple[str, Done]]] = {}  # by the output's device and inode
+        self._gone = 0
         self._part = Part(place)
 
     def begin(self) -> None:
         """Makes the file's part, so that it is known at once where it can't be made."""
         if os.path.lexists(self._place):
             raise FileError("file exists")
+        remove_left_beside(self._place)
         try:
             self._part.begin()
         except OSError as error:
             raise FileError(f"cannot write beside it: {error.strerror}") from None
 
     def add(self, name: str, done: Done) -> None:
-        if done.verified in self._counted:
-            self._found.append((_absolute(name), done))
+        if done.verified in self._counted and (self._accepts_cut or not done.may_be_cut_off):
+            self._found.setdefault(done.output_identity[:2], []).append((_absolute(name), done))
+
+    def forget(self, placed: os.stat_result) -> None:
+        """An output was put into place: what was there before as this file is gone, whatever its times and its size were."""
+        self._gone += len(self._found.pop(identity_of(placed)[:2], ()))
 
     def _still_as_verified(self) -> Iterator[str]:
         """The names of those of which neither the input nor the output changed since."""
-        for name, done in self._found:
+        for name, done in (one for many in self._found.values() for one in many):
             try:
-                if identity_of(os.stat(name)) == done.identity and place_of(os.stat(done.output)) == done.output_place:
+                if identity_of(os.stat(name)) == done.identity and identity_of(os.stat(done.output)) == done.output_identity:
                     yield name
+                    continue
             except OSError:
                 pass
+            self._gone += 1
 
     def put(self) -> int:
         """Puts the list into place: how many inputs changed meanwhile, and aren't in it."""
         try:
-            names = list(self._still_as_verified())
-            for name in names:
+            for name in list(self._still_as_verified()):
                 self._part.write(os.fsencode(name) + b"\0")
             self._part.finish_as_it_is()
-            self._part.put(False)
+            self._part.put(None, False)
         except NoLinks as error:
             raise FileError(f"cannot put it into place without a link: {error.strerror}") from None
+        except Changed:
+            raise FileError("another file took its name") from None
         except OSError as error:
             raise FileError(f"cannot write it: {error.strerror}") from None
-        return len(self._found) - len(names)
+        return self._gone
 
     def remove(self) -> None:
         self._part.remove()
@@ -290,57 +377,83 @@ class VerifiedList:
 # ---- the run
 
 
-def _done_with(name: str, choices: Choices, output: Optional[str], printer: Printer) -> "Tuple[Optional[Done], str]":
+def _done_by(whole: Callable[[], Whole], verified: Optional[VerifiedList]) -> Union[Done, Failure]:
     """What was done with a file, or the message of its error."""
+    work = None
     try:
-        return Whole(name, choices, output, lambda text: printer.say(name, f"WARNING {text}")).run(), ""
+        work = whole()
+        return work.run()
     except (RnxcmpError, MemoryError) as error:
         words = str(error) or "out of memory"  # of which Python says nothing
-        return None, f"ERROR {words}" if words.startswith("line ") else f"ERROR: {words}"
+        text = f"ERROR {words}" if words.startswith("line ") else f"ERROR: {words}"
+        return Failure(text, getattr(error, "line", 0), getattr(error, "code", 0))
     except OSError as error:
-        return None, f"ERROR: {error.strerror or error}"
-
-
-def _do_all(found: argparse.Namespace, printer: Printer, verified: Optional[VerifiedList]) -> int:
-    """Does one file after another: the status."""
-    choices = _choices(found)
-    results: List[Optional[Done]] = []
-    for name in found.inputs:
-        printer.begin(name)
-        done, error = _done_with(name, choices, found.output, printer)
-        if error:
-            printer.say(name, error)
-        if done and choices.verify and not done.verified:
-            printer.say(name, "WARNING: not verified, since epochs were skipped")
-        if done and verified:
-            verified.add(name, done)
-        printer.file(name, done, error)
-        results.append(done)
-    printer.clear()
-    printer.summary(results)
-    if None in results or printer.failed:
-        return FAILED
-    return SKIPPED if any(one and one.skipped for one in results) else GOOD
-
-
-def _run(found: argparse.Namespace) -> int:
-    """Does all files, and puts the list into place: the status."""
-    printer = Printer(found)
-    if found.list is None:
-        return _do_all(found, printer, None)
-    verified = VerifiedList(found.list, found.normal_form)
-    try:
-        verified.begin()
-        status = _do_all(found, printer, verified)
-        changed = verified.put()
-    except FileError as error:
-        printer.say(found.list, f"ERROR: {error}")
-        return FAILED
+        return Failure(f"ERROR: {error.strerror or error}")
     finally:
-        verified.remove()
-    if changed:
-        printer.say(found.list, f"ERROR: {changed} files changed after they were verified, and aren't in it")
-    return FAILED if changed else status
+        if verified and work and work.placed:
+            verified.forget(work.placed)
+
+
+class Run:
+    """One call of the tool."""
+
+    def __init__(self, found: argparse.Namespace) -> None:
+        self._found, self._choices = found, _choices(found)
+        self._printer = Printer(found)
+        self._patience = Patience(self._printer.say)
+        self._verified = None if found.list is None else VerifiedList(found.list, found.normal_form, found.accept_cut)
+
+    def _do(self, name: str) -> Optional[Done]:
+        """Does one file, and says so."""
+        printer, warnings = self._printer, Warnings(self._printer, name, self._found.v)
+        printer.begin(name)
+        result = _done_by(lambda: Whole(name, self._choices, self._found.output, warnings.tell, self._patience), self._verified)
+        warnings.end()
+        if isinstance(result, Failure):
+            result = self._with_cause(name, result)
+            printer.say(name, result.text)
+            printer.file(name, None, result)
+            return None
+        if self._choices.verify and not result.verified:
+            printer.say(name, "WARNING: not verified, since epochs were skipped")
+        if self._verified:
+            self._verified.add(name, result)
+        printer.file(name, result, None)
+        return result
+
+    def _with_cause(self, name: str, failure: Failure) -> Failure:
+        """What failed, with the likely cause of a fault of the input in parentheses."""
+        if not failure.code or not failure.text.startswith("ERROR line "):
+            return failure
+        from ._told import cause_of
+
+        return Failure(failure.text + cause_of(name, self._choices.direction, failure.line, failure.code), failure.line, failure.code)
+
+    def _do_all(self) -> int:
+        """Does one file after another: the status."""
+        results = [self._do(name) for name in self._found.inputs]
+        self._printer.clear()
+        self._printer.summary(results)
+        if None in results or self._printer.failed:
+            return FAILED
+        return SKIPPED if any(one and one.skipped for one in results) else GOOD
+
+    def run(self) -> int:
+        """Does all files, and puts the list into place: the status."""
+        if self._verified is None:
+            return self._do_all()
+        try:
+            self._verified.begin()
+            status = self._do_all()
+            changed = self._verified.put()
+        except FileError as error:
+            self._printer.say(self._found.list, f"ERROR: {error}")
+            return FAILED
+        finally:
+            self._verified.remove()
+        if changed:
+            self._printer.say(self._found.list, f"ERROR: {changed} files changed after they were verified, and aren't in it")
+        return FAILED if changed else status
 
 
 def _stop(number: int, _: object) -> NoReturn:
@@ -351,24 +464,32 @@ def _open_streams() -> None:
     """Has no file take the number of a standard stream that was closed."""
     for descriptor in range(3):
         try:
-            fcntl.fcntl(descriptor, fcntl.F_GETFD)
+            os.fstat(descriptor)
         except OSError:
             os.open("/", os.O_RDONLY)
 
 
-def _handle_signals(handler: Union[Callable[[int, object], object], signal.Handlers]) -> None:
-    """Has a handler called for the signals that ask a run to end, where they aren't ignored."""
+def _handle_signals(handler: Union[Callable[[int, object], object], signal.Handlers, None] = None) -> None:
+    """Has a handler, or what the system does, called for the signals that ask a run to end, where they aren't ignored."""
+    import signal
+
     for number in (signal.SIGHUP, signal.SIGINT, signal.SIGTERM):
         if signal.getsignal(number) != signal.SIG_IGN:
-            signal.signal(number, handler)
+            signal.signal(number, handler or signal.SIG_DFL)
 
 
 def _run_words(words: Sequence[str]) -> int:
     found = _arguments(words)
-    if found.help:
-        _write_all(1, USAGE)
+    if found.help or found.version:
+        _write_all(1, USAGE if found.help else f"rnxcmp-file {version()}\n")
         return GOOD
-    return _run(found)
+    if found.direction == EXPLANATION:
+        from ._told import explain_files
+
+        printer = Printer(found)
+        status = explain_files(found.inputs, found.json, printer.line, printer.say)
+        return FAILED if printer.failed else status
+    return Run(found).run()
 
 
 def main(words: Optional[Sequence[str]] = None) -> int:
@@ -377,15 +498,24 @@ def main(words: Optional[Sequence[str]] = None) -> int:
     try:
         _handle_signals(_stop)
         status = _run_words(sys.argv[1:] if words is None else words)
-        _handle_signals(signal.SIG_DFL)
+        _handle_signals()
         return status
     except Stopped as stopped:
-        _handle_signals(signal.SIG_DFL)
+        _handle_signals()
         os.kill(os.getpid(), stopped.args[0])
         return FAILED
     except OSError as error:
         _say(f"rnxcmp-file: ERROR: {error.strerror or error}")
         return FAILED
+
+
+def __getattr__(name: str) -> object:
+    """The calls for files, which need more than the command does."""
+    if name in ("compress_on_disk", "decompress_on_disk"):
+        from . import _on_disk
+
+        return getattr(_on_disk, name)
+    raise AttributeError(f"module {__name__!r} has no attribute {name!r}")
 
 
 if __name__ == "__main__":

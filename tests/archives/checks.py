@@ -132,7 +132,7 @@ def check_reasons(work, environment):
         "a_MO.rnx": (good.replace(b"\n", b"\r\n"), "1, CR before LF"),
         "b_MO.rnx": (good.replace(lines[first], lines[first] + b" "), f"{first + 1}, blanks at its end"),
         "c_MO.rnx": (good.replace(row, re.sub(rb" (\d)", rb"0\1", row, count=1)), f"{first + 2}, a number written otherwise"),
-        "d_MO.rnx": (good[:-1], f"{len(lines) - 1}, no LF at its end"),
+        "d_MO.rnx": (good[:-1], f"{len(lines) - 1}, the last line has no line end: the file may be cut off"),
         "e_MO.rnx": (good, ""),
     }
     folder = work / "reasons"

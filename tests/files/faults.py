@@ -18,11 +18,11 @@ from place import GOOD, Place, Promise, Texts, is_traced, marked
 # kinds of calls, and the errors that are tried
 CALLS = {
     "openat": ("EACCES", "EMFILE", "EIO"), "read": ("EIO",), "pread64": ("EIO",), "write": ("ENOSPC", "EIO", "EDQUOT"), "fsync": ("EIO", "ENOSPC"), "close": ("EIO", "ENOSPC"),
-    "linkat": ("EPERM", "EIO", "EEXIST", "EOPNOTSUPP", "ENOSPC"), "renameat": ("EIO", "EXDEV", "ENOSPC"), "mkdirat": ("EACCES", "ENOSPC", "EROFS"), "unlinkat": ("EIO",),
+    "linkat": ("EPERM", "EIO", "EEXIST", "EOPNOTSUPP", "ENOSPC"), "renameat2": ("EIO", "EINVAL", "ENOSPC"), "fgetxattr": ("EIO",), "getdents64": ("EIO",), "mkdirat": ("EACCES", "ENOSPC", "EROFS"), "unlinkat": ("EIO",),
     "fchmod": ("EPERM", "EIO"), "fchown": ("EPERM", "EIO"), "utimensat": ("EPERM", "EIO"), "flock": ("ENOLCK", "EAGAIN", "EIO"), "newfstatat": ("EIO", "EACCES"), "fstat": ("EIO",),
-    "fadvise64": ("EINVAL",), "getdents64": ("EIO",), "lseek": ("EIO",), "mmap": ("ENOMEM",),
+    "fadvise64": ("EINVAL",), "lseek": ("EIO",), "mmap": ("ENOMEM",),
 }  # fmt: skip
-SOME = {"write": ("ENOSPC",), "fsync": ("EIO",), "linkat": ("EPERM", "EEXIST"), "renameat": ("EIO",), "fchmod": ("EPERM",), "utimensat": ("EPERM",), "flock": ("EIO",), "unlinkat": ("EIO",), "mkdirat": ("ENOSPC",)}  # in the gate
+SOME = {"write": ("ENOSPC",), "fsync": ("EIO",), "linkat": ("EPERM", "EEXIST"), "renameat2": ("EIO", "EINVAL"), "fchmod": ("EPERM",), "utimensat": ("EPERM",), "flock": ("EIO",), "unlinkat": ("EIO",), "mkdirat": ("ENOSPC",)}  # in the gate
 FINAL = {("fsync", error) for error in ("EIO", "ENOSPC")}  # where one such call fails, there is no success
 WAYS = {"new": (("--verify",), None), "replaced": (("--verify", "-f"), "other"), "there": (("--verify",), "same")}
 

@@ -11,7 +11,7 @@ import stat
 import subprocess
 import sys
 
-from place import DATE, ENVIRONMENT, GOOD, OLD, SECONDS, TOOL, Place, changed_epoch, is_traced, marked, padded
+from place import DATE, ENVIRONMENT, GOOD, OLD, PACKAGE, SECONDS, TOOL, TOP, Place, changed_epoch, is_traced, marked, padded
 
 PACKED = gzip.compress(GOOD)
 ANOTHER_USER = ("setpriv", "--reuid=65534", "--regid=65534", "--clear-groups")
@@ -74,7 +74,8 @@ def refusals(texts):
         (("rnx2crx", "a.rnx", "-e", "9" * 5000), "from 1 to 1000000"),
         (("rnx2crx", "a.rnx", "--date", "x" * 21), "bad date"), (("rnx2crx", "a.rnx", "--date", "\u00e9"), "bad date"),
         (("rnx2crx", "a.rnx", "--gzip", "--no-gzip"), "not allowed"), (("rnx2crx", "a.rnx", "--ver"), "unrecognized"), (("rnx2crx", "a.rnx", "--normal-form"), "belongs to --verified-to"),
-        (("rnx2crx", "a.rnx", "--delete"), "no input is ever removed"), (("rnx2crx", "."), "no output name"), (("rnx2crx", "a.txt"), "no output name"),
+        (("rnx2crx", "a.rnx", "--accept-cut"), "belongs to --verified-to"), *((("rnx2crx", "a.rnx", "--max-output", size), "the size of --max-output") for size in ("0", "x", "1m", "-1", "9" * 20)),
+        (("rnx2crx", "a.rnx", "--delete"), "ERROR: --delete is no longer an option: no input is ever removed"), (("rnx2crx", "-d", "a.rnx"), "ERROR: -d is no longer an option: no input is ever removed"), (("rnx2crx", "."), "this is a folder, not a file"), (("rnx2crx", "folder.rnx"), "this is a folder, not a file"), (("rnx2crx", "a.txt"), "no output name"),
         (("rnx2crx", ".", "-o", "b"), "this is a folder"), (("rnx2crx", "a.rnx", "-o", "b.24o.gz"), "named as an input"), (("crx2rnx", "a.crx", "-o", "sub/.CRX"), "named as an input"), (("rnx2crx", "fifo.rnx"), "no regular file"), (("rnx2crx", "none.rnx"), "No such file"), (("rnx2crx", "a.rnx", "-o", "no/b"), "cannot write beside no/b: No such file"), (("rnx2crx", "a.rnx", "-o", "a.rnx/b"), "cannot look at a.rnx/b: Not a directory"),
         (("rnx2crx", "a.rnx", "-o", "fifo"), "no regular file"), (("rnx2crx", "a.rnx", "-o", "dangling"), "a link to nothing"), (("rnx2crx", "empty.rnx"), "ERROR line 1 code 3"), (("rnx2crx", "a.bz2.rnx"), "bzip2"),
     ):  # fmt: skip
@@ -82,6 +83,7 @@ def refusals(texts):
             place.write("a.rnx", GOOD)
             place.write("empty.rnx", b"")
             place.write("a.bz2.rnx", b"BZh91AY")
+            (place.work / "folder.rnx").mkdir()
             os.mkfifo(place.work / "fifo.rnx")
             os.mkfifo(place.work / "fifo")
             os.symlink("nothing", place.work / "dangling")
@@ -94,7 +96,9 @@ def refusals(texts):
 def help_text(texts):
     with Place() as place:
         run = place.run_in_child("-h")
-        return differs(run, 0, ["usage: rnxcmp-file rnx2crx", "--verified-to LIST"]) + ([] if place.run("--help", "rnx2crx").stdout == run.stdout else ["--help differs"])
+        wrong = differs(run, 0, ["usage: rnxcmp-file rnx2crx", "--verified-to LIST"]) + ([] if place.run("--help", "rnx2crx").stdout == run.stdout else ["--help differs"])
+        version = place.run_in_child("--version")
+        return wrong + ([] if version.returncode == 0 and re.fullmatch(r"rnxcmp-file [0-9a-z.-]+\n", version.stdout) else [f"{version}"])
 
 
 def names(texts):
@@ -185,6 +189,8 @@ def lines(texts):
         states = [(one["input"], one["output"], one["state"], one["verified"], one["skipped"], bool(one["error"])) for one in found]
         wanted = [("a.rnx", "a.crx", "made", "exact", 0, False), ("p.rnx", "p.crx", "made", "normal form", 0, False), ("s.rnx", "s.crx", "made", None, 1, False), ("b.rnx", None, "error", None, 0, True)]
         wrong += [] if states == wanted else [f"json: {run.stdout!r}"]
+        faults = [(one["line"], one["code"]) for one in found]
+        wrong += [] if faults == [(None, None)] * 3 + [(1, 3)] else [f"json: {faults}"]
         run = place.run_in_child("rnx2crx", "-q", "-f", "a.rnx", "p.rnx")
         wrong += [] if run.stdout == "2 files: 0 made, 2 replaced, 0 there already, 0 errors; verified: 0 exact, 0 normal form; with skipped epochs: 0\n" else [f"-q: {run.stdout!r}"]
         wrong += differs(place.run_in_child("rnx2crx", "-q", "a.rnx"), 0)
@@ -296,7 +302,7 @@ def no_epoch(texts):
 
 
 def modes(texts):
-    """Mode, times and owner are the input's; where the group can't be had, it gets no rights."""
+    """Mode, times and owner are the input's; where the group can't be had, another group and all others get what both had."""
     wrong = []
     with Place() as place:
         for mode in (0o600, 0o640, 0o444, 0o666, 0o4755):
@@ -314,49 +320,14 @@ def modes(texts):
         if os.geteuid() or not shutil.which("setpriv"):
             return wrong
         source = place.write("b.rnx", GOOD)
-        os.chown(source, 65534, 23456)
-        source.chmod(0o664)
         place.work.chmod(0o777)
-        run = place.run("rnx2crx", "b.rnx", through=ANOTHER_USER)
-        other = (place.work / "b.crx").stat() if (place.work / "b.crx").exists() else None
-        return wrong + differs(run, 0, ["b.crx"]) + ([] if other and (other.st_uid, other.st_gid, stat.S_IMODE(other.st_mode)) == (65534, 65534, 0o604) else [f"{other}"])
-
-
-def old_parts(texts):
-    """Parts of runs that were killed are removed; those that are locked stay."""
-    with Place() as place:
-        place.write("a.rnx", GOOD)
-        folder = place.work / f".rnxcmp-file.{os.geteuid()}"
-        folder.mkdir(0o700)
-        for name in ("part.1.old", "part.1.used"):
-            (folder / name).write_bytes(b"half")
-        with subprocess.Popen(["flock", folder / "part.1.used", "sh", "-c", "echo on; read x"], stdin=subprocess.PIPE, stdout=subprocess.PIPE) as used:
-            used.stdout.readline()
-            wrong = differs(place.run_in_child("rnx2crx", "a.rnx"), 0)
-            left = place.parts()
-            used.stdin.close()
-            used.wait()
-        wrong += [] if sorted(left) == [folder.name, f"{folder.name}/part.1.used"] else [f"left: {left}"]
-        wrong += differs(place.run_in_child("rnx2crx", "a.rnx", "-f"), 0)
-        return wrong + ([] if not place.parts() else [f"left: {place.parts()}"])
-
-
-def old_parts_of_readable_inputs(texts):
-    """A part that may only be read, as its input, is removed too, by a user who isn't root."""
-    if os.geteuid() or not shutil.which("setpriv"):
-        return "only root becomes another user"
-    with Place() as place:
-        place.work.chmod(0o777)
-        place.write("a.rnx", GOOD)
-        folder = place.work / ".rnxcmp-file.65534"
-        folder.mkdir(0o700)
-        part = folder / "part.1.old"
-        part.write_bytes(b"half")
-        part.chmod(0o444)
-        for path in (folder, part):
-            os.chown(path, 65534, 65534)
-        run = place.run("rnx2crx", "a.rnx", through=ANOTHER_USER)
-        return differs(run, 0, ["made a.crx"]) + ([] if not place.parts() else [f"left: {place.parts()}"])
+        for mode, wanted in ((0o664, 0o644), (0o604, 0o600), (0o640, 0o600), (0o666, 0o666), (0o755, 0o755)):
+            os.chown(source, 65534, 23456)
+            source.chmod(mode)
+            run = place.run("rnx2crx", "-f", "b.rnx", through=ANOTHER_USER)
+            other = (place.work / "b.crx").stat() if (place.work / "b.crx").exists() else None
+            wrong += differs(run, 0, ["b.crx"]) + ([] if other and (other.st_uid, other.st_gid, stat.S_IMODE(other.st_mode)) == (65534, 65534, wanted) else [f"{mode:o}: {other}"])
+        return wrong
 
 
 def no_memory(texts):
@@ -414,6 +385,91 @@ def no_room_for_a_part(texts):
         return differs(run, 1, errors=["cannot write beside a.crx: Input/output error"]) + ([] if not place.parts() else [f"left: {place.parts()}"])
 
 
+CUT = GOOD[:-9]  # inside the last line
+CUT_OFF = "the last line has no line end: the file may be cut off"
+
+
+def cut_files(texts):
+    """An input whose last line has no line end is named; it is in the list of verified ones only with --accept-cut."""
+    wrong = []
+    compact = texts.plain_compact[:-1]
+    for direction, name, content in (("rnx2crx", "a.rnx", CUT), ("rnx2crx", "a.rnx.gz", gzip.compress(CUT)), ("crx2rnx", "a.crx", compact), ("crx2rnx", "a.crx.gz", gzip.compress(compact))):
+        for more in ((), ("--accept-cut",)):
+            with Place() as place:
+                place.write(name, content)
+                for number, state in ((1, "made"), (2, "is there already")):
+                    listed = f"list{number}"
+                    run = place.run_in_child(direction, "--normal-form", "--verified-to", listed, *more, name)
+                    lines = differs(run, 0, [state, "verified "], [f"{name}: WARNING: {CUT_OFF}\n"])
+                    lines += [] if (place.work / listed).read_bytes() == (f"{place.work}/{name}\0".encode() if more else b"") else ["another list"]
+                    wrong += [f"{name} {more} {number}: {line}" for line in lines]
+                run = place.run_in_child(direction, "--json", "-f", name)
+                wrong += [] if json.loads(run.stdout)["may_be_cut_off"] is True else [f"{run.stdout}"]
+    with Place() as place:
+        place.write("a.rnx", GOOD)
+        run = place.run_in_child("rnx2crx", "--json", "a.rnx")
+        return wrong + ([] if not run.stderr and json.loads(run.stdout)["may_be_cut_off"] is False else [f"{run}"])
+
+
+def greatest_output(texts):
+    """--max-output: an output that would be longer isn't made; one that is as long is."""
+    wrong = []
+    for direction, name, content, length in (("rnx2crx", "a.rnx", GOOD, len(texts.filtered(GOOD, "rnx2crx", "--date", ""))), ("crx2rnx", "a.crx", texts.plain_compact, len(GOOD))):
+        more = ("--date", "") if direction == "rnx2crx" else ()
+        for size, status in ((length, 0), (length - 1, 1), ("1k", 1), ("1M", 0), ("1G", 0)):
+            with Place() as place:
+                place.write(name, content)
+                run = place.run_in_child(direction, "--verify", *more, "--max-output", str(size), name)
+                lines = differs(run, status, ["verified exact"] if status == 0 else (), [f"{name}: ERROR: the output is longer than it may be"] if status else None)
+                lines += [] if len(place.names()) == 2 - status and not place.parts() else [f"files {place.names()}"]
+                wrong += [f"{direction} {size}: {line}" for line in lines]
+    return wrong
+
+
+def many_warnings(texts):
+    """Three warnings of a file are printed, and how many more there are; with -v all are."""
+    wrong = []
+    text = GOOD
+    for number in range(8):
+        text = changed_epoch(text, number)
+    for more, count in (((), 3), (("-v",), 8)):
+        with Place() as place:
+            place.write("a.rnx", text)
+            run = place.run_in_child("rnx2crx", "-s", *more, "a.rnx")
+            lines = differs(run, 2, ["made a.crx, not verified: 8 warnings"], ["a.rnx: WARNING line "])
+            lines += [] if run.stderr.count("a.rnx: WARNING line ") == count else [f"{run.stderr}"]
+            lines += [] if ("a.rnx: WARNING: 5 more; -v prints all\n" in run.stderr) == (not more) else [f"{run.stderr}"]
+            wrong += [f"{more}: {line}" for line in lines]
+    return wrong
+
+
+LATER = "bz2 dataclasses datetime gzip hashlib inspect json lzma pathlib shutil subprocess tempfile typing".split()
+
+
+def quick_start(texts):
+    """A run over a file loads nothing that it doesn't use, since that takes longer than the file."""
+    script = f"import sys\nfrom rnxcmp.files import main\nmain(['rnx2crx', 'a.rnx'])\nprint(*(set({LATER!r}) & set(sys.modules)))"
+    with Place() as place:
+        place.write("a.rnx", GOOD)
+        run = subprocess.run([sys.executable, "-S", "-c", script], cwd=place.work, env=ENVIRONMENT, capture_output=True, text=True, timeout=SECONDS)
+        return [] if run.stdout == "a.rnx: made a.crx\n\n" else [f"{run}"]
+
+
+def modules_of_the_folder(texts):
+    """Started as docs/FILES.md says, it imports nothing that is in the current folder; so does the installed command."""
+    wrong = []
+    tool = (TOP / "packaging/bin/rnxcmp-file").read_text().splitlines()[0]
+    with Place() as place:
+        for name in ("json", "argparse", "re", "ctypes"):
+            place.write(f"{name}.py", b"import os\nos.write(2, b'of this folder')\n")
+        place.write("a.rnx", GOOD)
+        script = f"import sys; sys.path.insert(0, {str(PACKAGE)!r}); sys.argv[0] = 'x'; import runpy; runpy.run_module('rnxcmp.files', run_name='__main__')"
+        run = subprocess.run([sys.executable, "-I", "-c", script, "rnx2crx", "--json", "a.rnx"], cwd=place.work, env=ENVIRONMENT, capture_output=True, text=True, timeout=SECONDS)
+        wrong += [] if run.returncode == 0 and not run.stderr else [f"{run}"]
+    page = (TOP / "docs/FILES.md").read_text()
+    return wrong + ([] if "`python3 -I -m rnxcmp.files`" in page and "-m rnxcmp.files" not in page.replace("-I -m", "") else ["docs/FILES.md starts it otherwise"]) + ([] if tool == "#!/usr/bin/env -S python3 -IS" else [tool])
+
+
 FROM_PYTHON = """
 import sys, warnings, rnxcmp
 from pathlib import Path
@@ -442,6 +498,9 @@ def from_python(texts):
         ("compress_on_disk", "a.rnx", changed_epoch(GOOD), None, {}, "RnxcmpError line 33 code", None),
         ("compress_on_disk", "a.rnx", changed_epoch(GOOD), None, {"skip_strange_epochs": True}, "a.crx.gz\n1 {'<string>'}", "a.crx.gz"),
         ("compress_on_disk", "a.rnx", GOOD.replace(b"     3.05", b"     2.11", 1), None, {}, "UnsupportedError format not supported: RINEX 2.11", None),
+        ("compress_on_disk", "a.24o", CUT, None, {}, "a.24d.gz\n1 {'<string>'}", "a.24d.gz"),
+        ("decompress_on_disk", "a.crx", texts.plain_compact[:-1], None, {}, "a.rnx\n1 {'<string>'}", "a.rnx"),
+        ("compress_on_disk", "a.24n", b"navigation", None, {}, "a.24n.gz\n0 set()", "a.24n.gz"),
         ("decompress_on_disk", "a.24d.gz", gzip.compress(texts.plain_compact), None, {"verify": True}, "a.24o", "a.24o"),
         ("decompress_on_disk", "a.rnx.gz", PACKED, None, {"verify": True}, "a.rnx", "a.rnx"),
         ("decompress_on_disk", "a.crx", texts.plain_compact, b"half", {}, "FileError file exists, and is damaged", "a.rnx"),
@@ -474,7 +533,12 @@ def unreadable_from_python(texts):
             with Place() as place:
                 (place.work / "folder.rnx").mkdir()
                 os.mkfifo(place.work / "pipe.rnx")
-                run = subprocess.run([sys.executable, "-S", "-c", FROM_PYTHON, call, name, "{}"], cwd=place.work, env=ENVIRONMENT, capture_output=True, text=True, timeout=SECONDS)
+                command = [sys.executable, "-S", "-c", FROM_PYTHON, call, name, "{}"]
+                try:
+                    run = subprocess.run(command, cwd=place.work, env=ENVIRONMENT, capture_output=True, text=True, timeout=SECONDS)
+                except subprocess.TimeoutExpired:
+                    wrong.append(f"{call} {name}: it waits for ever")
+                    continue
                 wrong += [] if run.stdout.startswith(f"FileError {said}\n") else [f"{call} {name}: {run.stdout!r}, {run.stderr!r}"]
     return wrong
 
@@ -518,7 +582,7 @@ def quoting(texts):
 
 CHECKS = (
     output_names, choices_of_the_filter, refusals, help_text, names, lists, lists_of_inputs, list_of_replaced_outputs, lines, progress, packs,
-    shorter_and_longer, no_gzip_program, no_epoch, modes, old_parts, old_parts_of_readable_inputs, interrupted_removal, no_room_for_a_part, no_memory,
+    shorter_and_longer, no_gzip_program, no_epoch, modes, interrupted_removal, no_room_for_a_part, no_memory, cut_files, greatest_output, many_warnings, quick_start, modules_of_the_folder,
     from_python, unreadable_from_python, warnings_of_threads, quoting,
 )  # fmt: skip
 

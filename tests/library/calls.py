@@ -2,7 +2,9 @@
 
 import array
 import gzip
+import io
 import os
+import random
 import subprocess
 import sys
 import tempfile
@@ -10,6 +12,7 @@ import threading
 import time
 import tracemalloc
 import warnings
+import zlib
 from datetime import datetime, timezone
 from pathlib import Path
 
@@ -99,8 +102,14 @@ def check_arguments(data, compact):
         for length in (0, -1, 2**64):
             raised(ValueError, lambda: opened(compact if opened is rnxcmp.crx2rnx else gzip.compress(data), max_length=length))
     for call in (rnxcmp.rnx2crx, rnxcmp.crx2rnx, rnxcmp.check, rnxcmp.Stream.checking().feed, rnxcmp.Stream.checking().outputs):
-        for content in (5, "text", None, [66], array.array("B", b"text"), Path("text")):
+        for content in (5, None, [66], array.array("B", b"text")):
             raised(TypeError, lambda: call(content))
+    for call in (rnxcmp.check, rnxcmp.Stream.checking().feed, rnxcmp.Stream.checking().outputs):
+        for content in ("text", Path("text"), io.BytesIO(data)):
+            raised(TypeError, lambda: call(content))
+    for call in (rnxcmp.rnx2crx, rnxcmp.crx2rnx, rnxcmp.decompress, rnxcmp.compress, rnxcmp.open):
+        for content in ("no such file", Path("no such file"), ""):
+            raised(FileNotFoundError, lambda: call(content))
     for call in (rnxcmp.decompress, rnxcmp.compress):
         for content in (5, None, [66]):
             raised(TypeError, lambda: call(content))
@@ -164,6 +173,51 @@ def check_limits(data, compact):
         raised(ValueError, lambda: stream.feed(b""))
     whole = rnxcmp.Stream.compacting(date=DATE, max_length=len(compact))
     expect("a stream within the limit", whole.feed(data) + whole.end(), compact)
+
+
+def check_usual_limits(data):
+    """Where no limit is given an expansion has one, which None lifts; it is made in steps."""
+    header, epochs = header_and_epochs(data)
+    long = header + epochs * 100
+    packed = rnxcmp.rnx2crx(long, date=DATE)
+    tracemalloc.start()
+    expanded = rnxcmp.crx2rnx(packed)
+    most = tracemalloc.get_traced_memory()[1]
+    tracemalloc.stop()
+    expect("a long expansion", (expanded == long, most < 2.2 * len(long) + 1_000_000), (True, True))
+    bomb = gzip.compress(bytes(70_000_000), 9)
+    tracemalloc.start()
+    fault = raised(rnxcmp.OutputLimitError, lambda: rnxcmp.decompress(bomb))
+    expect("what is in gzip without a limit", (fault.output, tracemalloc.get_traced_memory()[1] < 70_000_000), (b"", True))
+    tracemalloc.stop()
+    expect("no limit", len(rnxcmp.decompress(bomb, max_length=None)), 70_000_000)
+
+
+def check_cut_content(data, compact):
+    """What has no line end at its end may have been cut off: the calls for files' contents warn."""
+    said = ["the last line has no line end: the file may be cut off"]
+    for call, content, warned in ((rnxcmp.compress, data, said), (rnxcmp.decompress, compact, said), (rnxcmp.decompress, data, [])):
+        for cut, wanted in ((0, []), (1, warned)):
+            for pack in (bytes, gzip.compress):
+                with warnings.catch_warnings(record=True) as caught:
+                    warnings.simplefilter("always")
+                    call(pack(content[: len(content) - cut]))
+                expect("a warning of what is cut", [f"{one.message}" for one in caught], wanted)
+
+
+def check_damaged_gzip(data):
+    """Damaged gzip is an RnxcmpError, with its cause; what the damage leaves as it was comes back."""
+    packed, dice = gzip.compress(data, 6, mtime=0), random.Random(1)
+    for _ in range(3000):
+        content = bytearray(packed)
+        if dice.random() < 0.2:
+            del content[dice.randrange(3, len(content)) :]
+        else:
+            content[dice.randrange(3, len(content))] ^= 1 << dice.randrange(8)
+        try:
+            expect("gzip with a changed byte", rnxcmp.decompress(bytes(content)), data)
+        except rnxcmp.RnxcmpError as fault:
+            expect("the cause of damage", type(fault.__cause__) is zlib.error or "is cut off" in f"{fault}", True)
 
 
 def check_streams(data, compact):
@@ -277,8 +331,76 @@ def check_files(data, compact, folder):
     expect("a file whole or not at all", sorted(path.name for path in folder.iterdir() if path.name.startswith(".")), [])
 
 
+def packed_by_compress(data):
+    """A text as compress packs it (`.Z`), in codes of 9 bits: the table is cleared before it would need more."""
+    packed, codes = b"\x1f\x9d\x90", 0
+    for at in range(0, len(data), 200):
+        codes = [*data[at : at + 200], 256]
+        codes += [0] * (-len(codes) % 8)  # what stands behind a clearing up to the end of eight codes isn't read
+        packed += sum(code << 9 * k for k, code in enumerate(codes)).to_bytes(len(codes) * 9 // 8, "little")
+    return packed
+
+
+def check_inputs(data, compact, folder):
+    """What the filters read: bytes, a text, a path, and open files, from where they are."""
+    for content, other, call in ((data, compact, lambda content: rnxcmp.rnx2crx(content, date=DATE)), (compact, data, rnxcmp.crx2rnx)):
+        path = folder / "input"
+        path.write_bytes(content)
+        for given in (path, str(path), content.decode(), io.BytesIO(content), io.StringIO(content.decode())):
+            expect(f"an input that is a {type(given).__name__}", call(given), other)
+        with open(path, "rb") as file:
+            expect("an open file", call(file), other)
+            expect("the file, which is open at its end", (file.closed, file.read()), (False, b""))
+    expect("decompress of an open file", rnxcmp.decompress(io.BytesIO(gzip.compress(compact))), data)
+    expect("decompress of .Z", rnxcmp.decompress(packed_by_compress(compact)), data)
+    expect("compress of .Z", rnxcmp.compress(packed_by_compress(data), compression="none").split(b"\n")[2:], compact.split(b"\n")[2:])
+    fault = raised(rnxcmp.OutputLimitError, lambda: rnxcmp.decompress(packed_by_compress(data), max_length=len(data) - 1))
+    expect("a limit of .Z", ".Z" in f"{fault}", True)
+    raised(rnxcmp.RnxcmpError, lambda: rnxcmp.decompress(b"\x1f\x9d\x90" + b"\xff" * 50))
+
+
+def check_opened(data, compact, folder):
+    """A file as a stream of text, in each form, in memory that doesn't grow with it; what is refused, and how."""
+    descriptors = len(os.listdir("/proc/self/fd"))
+    crlf = data.replace(b"\n", b"\r\n", 3)
+    for form, content in (("rnx", data), ("crx", compact), ("crlf", crlf), ("note", b"no RINEX\n"), ("empty", b"")):
+        for ending, pack in (("", bytes), (".gz", gzip.compress), (".Z", packed_by_compress)):
+            path = folder / f"{form}{ending}"
+            path.write_bytes(pack(content))
+            text = (data if form in ("rnx", "crx", "crlf") else content).decode()
+            with rnxcmp.open(path) as file:
+                expect(f"the text of {path.name}", file.read(), text)
+            with rnxcmp.open(str(path)) as file:
+                expect(f"the lines of {path.name}", list(file), text.splitlines(True))
+            with rnxcmp.open(path) as file:
+                file.readline()
+    expect("descriptors that stay open", len(os.listdir("/proc/self/fd")), descriptors)
+    header, epochs = header_and_epochs(data)
+    long = header + epochs * 300
+    path = folder / "long.crx.gz"
+    path.write_bytes(gzip.compress(rnxcmp.rnx2crx(long, date=DATE)))
+    tracemalloc.start()
+    with rnxcmp.open(path) as file:
+        length = sum(len(line) for line in file)
+    most = tracemalloc.get_traced_memory()[1]
+    tracemalloc.stop()
+    expect("a long file", (length, most < 3_000_000), (len(long), True))
+    for content, error in ((b"1.0" + compact[3:], rnxcmp.UnsupportedError), (b"BZh9", rnxcmp.UnsupportedError), (compact[:85] + b"x\n", rnxcmp.RnxcmpError)):
+        path.write_bytes(content)
+        raised(error, lambda: rnxcmp.open(path))
+    path.write_bytes(compact.replace(b"3&", b"3?", 3))
+    fault = raised(rnxcmp.RnxcmpError, lambda: rnxcmp.open(path).read())
+    expect("the line of a fault", fault.line > 0, True)
+    path.write_bytes(compact.rstrip(b"\n"))
+    with warnings.catch_warnings(record=True) as caught:
+        warnings.simplefilter("always")
+        with rnxcmp.open(path) as file:
+            expect("what may be cut off", file.read(), data.decode())
+    expect("its warning", [f"{one.message}" for one in caught if one.category is rnxcmp.RnxcmpWarning], ["the last line has no line end: the file may be cut off"])
+
+
 def check_refusals(data, compact):
-    for content, name in ((b"\x1f\x9d\x90abc", ".Z"), (b"BZh9", "bzip2"), (b"PK\x03\x04", "zip"), (b"1.0" + compact[3:], "RINEX 2")):
+    for content, name in ((b"BZh9", "bzip2"), (b"PK\x03\x04", "zip"), (b"1.0" + compact[3:], "RINEX 2")):
         fault = raised(rnxcmp.UnsupportedError, lambda: rnxcmp.decompress(content))
         expect("a refusal's name", name in f"{fault}", True)
     expect("RINEX 2", "RINEX 2.11" in f"{raised(rnxcmp.UnsupportedError, lambda: rnxcmp.compress(b'     2.11' + data[9:]))}", True)
@@ -308,11 +430,16 @@ def main():
     check_arguments(data, compact)
     check_views(data, compact)
     check_limits(data, compact)
+    check_usual_limits(data)
+    check_cut_content(data, compact)
+    check_damaged_gzip(data)
     check_streams(data, compact)
     check_many_warnings(data)
     expect("the version", (rnxcmp.version(), rnxcmp.__version__), (VERSION.read_text().strip(),) * 2)
     with tempfile.TemporaryDirectory() as folder:
         check_files(data, compact, Path(folder))
+        check_inputs(data, compact, Path(folder))
+        check_opened(data, compact, Path(folder))
     check_refusals(data, compact)
     check_threads(data, compact)
     print("\n".join(wrong))

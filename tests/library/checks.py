@@ -14,10 +14,12 @@ import argparse
 import os
 import pickle
 import random
+import re
 import shutil
 import subprocess
 import sys
 import tempfile
+import zipfile
 from concurrent.futures import ThreadPoolExecutor
 from importlib import util
 from pathlib import Path
@@ -43,8 +45,8 @@ LENGTHS = ((1, 7), (65536, 65536))
 BY_BYTES = 200_000
 # compilers of the last five years, where they are
 COMPILERS = [f"gcc-{version}" for version in range(11, 17)] + [f"clang-{version}" for version in range(12, 23)] + ["gcc", "clang"]
-# bytes that a handle holds at most over epochs like those of the sample
-HELD = 1_000_000
+# bytes that a handle holds at most over epochs like those of the sample, beside the lines of the longest epoch, which it asks for at its start
+HELD = 10_430_000 + 1_000_000
 
 
 # ---- runs of tests/cases, and random and damaged inputs
@@ -269,6 +271,16 @@ def check_compilers(b):
     return wrong
 
 
+def check_tools(b):
+    """The library is built by the linker, the archiver and the copier that the environment names."""
+    if not b.proved.exists():
+        return "there is no proved archive"
+    build = [TOP / "library/build.sh", b.proved, b.work / "library_by_tools"]
+    names = ("LD", "AR", "OBJCOPY")
+    wrong = [f"{name} isn't used" for name in names if not quick.output_of(build, env={**os.environ, name: "false"})]
+    return wrong + quick.output_of(build, env={**os.environ, **{name: f"env {name.lower()}" for name in names}})
+
+
 def check_example(b, name):
     """An example, linked with the shared library, and with the archive; over a standard file, and one that isn't."""
     ending = name.partition(".")[2]
@@ -331,6 +343,31 @@ def check_wheel(b):
     return [] if made == (left or made[:1]) * 2 else ["the wheels differ"]
 
 
+def check_wheel_fields(b):
+    """The wheel names its licence, and has the texts of it and README."""
+    with zipfile.ZipFile(wheel_in(b, "fields")) as wheel:
+        names = {name.partition(".dist-info/")[2]: wheel.read(name) for name in wheel.namelist()}
+    fields, readme = names["METADATA"].decode().split("\n\n", 1)
+    files = re.findall("^License-File: (.*)$", fields, re.M)
+    wrong = [] if "\nLicense-Expression: MIT OR Apache-2.0\n" in fields and "LICENSE-MIT" in files and "LICENSE-APACHE" in files else [fields]
+    wrong += [f"{name} isn't there" for name in files if names.get(f"licenses/{name}") != (TOP / name).read_bytes()]
+    return wrong + ([] if readme == (TOP / "README.md").read_text() else ["the description isn't README"])
+
+
+def check_from_sources(b, python):
+    """`pip install ./python`, without a network, and the package as a command."""
+    if MADE != TOP:
+        return "the library is elsewhere"
+    folder = b.work / "from_sources"
+    pip = [python, "-m", "pip", "install", "--no-index", "--quiet", "--disable-pip-version-check", "--target", folder, TOP / "python"]
+    wrong = quick.output_of(pip)
+    for words, more in ((["-I"], {}), ([], {"cwd": folder})):  # the wheel's, and that of the sources
+        run = subprocess.run([python, *words, "-m", "rnxcmp", "--version"], capture_output=True, text=True, timeout=60, **more)
+        said = f"rnxcmp-file {(TOP / 'VERSION').read_text().strip()}\n"
+        wrong += [] if (run.returncode, run.stdout, run.stderr) == (0, said, "") else [f"{run}"]
+    return wrong
+
+
 def check_installed(b, python, script):
     """The package as it is installed."""
     environment = {key: value for key, value in quick.python_environment(b).items() if key != "RNXCMP_LIBRARY"}
@@ -369,7 +406,7 @@ def check_tool(b, python):
     folder = b.work / "whole"
     folder.mkdir()
     wrong = []
-    for number, command in enumerate(([python.parent / "rnxcmp-file"], [python, "-m", "rnxcmp.files"])):
+    for number, command in enumerate(([python.parent / "rnxcmp-file"], [python, "-I", "-m", "rnxcmp.files"])):
         (folder / f"{number}.rnx").write_bytes(SAMPLE.read_bytes())
         run = subprocess.run([*command, "rnx2crx", "--verify", f"{number}.rnx"], cwd=folder, capture_output=True, text=True, timeout=60)
         said = f"{number}.rnx: made {number}.crx, verified exact\n"
@@ -379,11 +416,13 @@ def check_tool(b, python):
 
 def checks_of_python(b, answers):
     yield "wheel, the same bytes twice", lambda: check_wheel(b)
+    yield "wheel, its licence and README", lambda: check_wheel_fields(b)
     python, lacking = python_in(b.work / "environment", [wheel_in(b, "three")])
     yield "wheel, installed without a network", lambda: lacking
     if python is not None:
         yield "calls from Python, as it is installed", lambda: check_installed(b, python, "calls.py")
         yield f"{len(answers)} runs of tests/cases from Python, at once and in pieces", lambda: check_python_cases(python, answers)
+        yield "pip install ./python", lambda: check_from_sources(b, python)
         yield "examples/compact.py", lambda: wrong_example(b, [python, TOP / "examples/compact.py"])
         yield "rnxcmp-file, as the wheel installs it", lambda: check_tool(b, python)
 
@@ -406,6 +445,7 @@ def checks(program, count=INPUTS):
         yield "lengths over 4 GB", lambda: check_long(b)
         yield "header", lambda: check_header(b)
         yield "compilers", lambda: check_compilers(b)
+        yield "linker, archiver and copier", lambda: check_tools(b)
         for example in ("compact.c", "compact.cpp", "compact.f90", "stream.c"):
             yield f"examples/{example}", lambda: check_example(b, example)
         yield "pkg-config", lambda: check_pkg_config(b)

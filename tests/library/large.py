@@ -27,8 +27,8 @@ from servers import COUNTED, built  # noqa: E402
 LIBRARY = Path(os.environ.get("LIBRARY_TOP", TOP)).resolve() / "out/library"
 DATE = "01-Jan-24 00:00"
 PARTS = ["whole", "bounds", "time", "long"]
-# the most bytes that a handle holds, over usual files and over any: 770 satellites, which is all that there are, of as many types as may be
-USUAL, ANY = 1_000_000, 120_000_000
+# the most bytes that a handle holds, beside the lines of the longest epoch, over usual files and over any: 770 satellites, which is all that there are, of as many types as may be
+USUAL, ANY = 10_430_000 + 1_000_000, 10_430_000 + 120_000_000
 # the most time that the loop may take, times the program's
 SLOWER = 1.5
 

@@ -21,6 +21,8 @@ enum { ROOM = 1 << 17, WARNED = 200, MANY = 20000, STACK = 256 << 10 };
 #define DATE "01-Jan-24 00:00"
 #define FIRST "> 2024 01 01 00 00  0.0000000  0  1\nG01  20000000.000\n"
 #define SECOND "> 2024 01 01 00 00  1.0000000  0  1\nG01  20000100.500\n"
+/* The lines of the longest epoch that there is, in bytes: a compaction and an expansion ask for them once, at the start. */
+#define BLOCK 10430000
 #define COMPACT_FIRST "> 2024 01 01 00 00  0.0000000  0  1      G01\n\n3&20000000000\n"
 #define COMPACT_SECOND "                    1\n\n100500\n"
 #define SECOND_IN_FULL "> 2024 01 01 00 00  1.0000000  0  1      G01\n\n3&20000100500\n"
@@ -191,11 +193,11 @@ static void check_no_memory_without_room(void) {
     most_held = held;
     EXPECT(rnxcmp_expand(good, strlen(good), &options, NULL, 0, NULL, 0, &answer) == RNXCMP_NO_ROOM);
     EXPECT(answer.output_length == strlen(HEADER) + (1 + MANY) * strlen(FIRST) && answer.messages_length == 0);
-    EXPECT(held == before && most_held - before < 300000);
+    EXPECT(held == before && most_held - before < BLOCK + 300000);
     most_held = held;
     EXPECT(rnxcmp_compact(bad, strlen(bad), &options, NULL, 0, NULL, 0, &answer) == RNXCMP_NO_ROOM);
     EXPECT(answer.output_length == strlen(before_strange) && answer.messages_length > MANY * 35);
-    EXPECT(held == before && most_held - before < 300000);
+    EXPECT(held == before && most_held - before < BLOCK + 300000);
     __real_free(good);
     __real_free(bad);
 }

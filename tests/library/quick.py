@@ -220,6 +220,10 @@ def check_python(b):
     return output_of([sys.executable, HERE / "calls.py", b.program, SAMPLE], env=python_environment(b))
 
 
+def check_python_held(b):
+    return output_of([sys.executable, HERE / "held.py", SAMPLE], env=python_environment(b))
+
+
 def check_python_refused(b):
     """Memory that is refused under Python."""
     if not shutil.which("gcc"):
@@ -239,6 +243,7 @@ def checks(b, with_python=True):
     yield "threads", lambda: check_threads(b)
     if with_python:
         yield "calls from Python", lambda: check_python(b)
+        yield "what calls from Python hold", lambda: check_python_held(b)
     yield "calls and handles from Fortran", lambda: check_fortran(b)
     yield "samples in each room", lambda: served(b, "calls", Calls, check_rooms, short_answers(b))
     yield "samples through handles", lambda: served(b, "handles", Handles, check_handles, short_answers(b))
