@@ -20,6 +20,8 @@ LIKED = (
     *("gcc", "g++", "gfortran", "nm", "readelf", "pkg-config", "git", "dpkg", "dpkg-deb", "sha256sum"),
 )
 
+left_out = []  # the checks that weren't run, each with the reason
+
 
 def files_below(folder):
     """The files below a folder in which other processes are at work: a folder that goes meanwhile is passed over."""
@@ -51,6 +53,7 @@ def tally(kind, checks):
         except Exception:  # a check that can't go on has failed, and the others are run
             wrong = traceback.format_exc().splitlines()
         if isinstance(wrong, str):
+            left_out.append(f"{kind} {name}: {wrong}")
             print(f"{kind} {name} ... left out: {wrong}", flush=True)
             continue
         passed, failed = (passed, failed + 1) if wrong else (passed + 1, failed)

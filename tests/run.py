@@ -12,9 +12,10 @@ The program runs over whole texts (tests/cases), by tables of arguments (tests/a
 (tests/process), by the recipes of docs/ARCHIVES.md (tests/archives), and by the commands that README.md, the manual page and the help
 print, and as it is installed (tests/commands). Reads, writes and flushes of it are made to fail (tests/faults), and growths of its memory
 (tests/memory); its instructions are counted (tests/instructions). The tool for whole files is tried over all that may be under an output's
-name, at once, ended by signals and with failing calls (tests/files). The library for C and Python is called beside it (tests/library), a
-release is made (tests/release), and the documents are compared with the sources (tests/documents). The last line is `N passed, M failed`, of
-all. The exit status is 0 where nothing failed.
+name, at once, ended by signals and with failing calls (tests/files), what it explains of damaged files (tests/explain), and the suite for other
+programs over this one (tests/conformance). The library for C and Python is called beside it (tests/library), a release is made (tests/release),
+and the documents are compared with the sources (tests/documents). What needs a tool or a right that isn't there is listed at the end. The last
+line is `N passed, M failed`, of all. The exit status is 0 where nothing failed.
 """
 
 import argparse
@@ -27,7 +28,7 @@ HERE = Path(__file__).resolve().parent
 TOP = HERE.parent
 sys.path.insert(0, str(HERE))
 import gate  # noqa: E402
-from checking import LIKED, tally  # noqa: E402
+from checking import LIKED, left_out, tally  # noqa: E402
 
 # What is run of the built program: the word that its lines begin with, and the folder of its checks.py. The library is made by its own tests,
 # and those of recipes, commands and files use it.
@@ -40,9 +41,12 @@ KINDS = (
     ("command", "commands"),
     ("fault", "faults"),
     ("file", "files"),
+    ("explained", "explain"),
+    ("conformance", "conformance"),
     ("memory", "memory"),
     ("instruction", "instructions"),
     ("example", "examples"),
+    ("law", "laws"),
     ("document", "documents"),
     ("release", "release"),
 )
@@ -54,6 +58,15 @@ def checks_of(name, program):
     module = util.module_from_spec(spec)
     spec.loader.exec_module(module)
     return module.checks(program)
+
+
+def print_left_out():
+    """Prints what wasn't tried on this machine, and why."""
+    lacking = [tool for tool in LIKED if not shutil.which(tool)]
+    if lacking:
+        print(f"not found here: {', '.join(lacking)}; what needs them was left out")
+    if left_out:
+        print(f"{len(left_out)} left out:", *left_out, sep="\n    ")
 
 
 def main():
@@ -69,9 +82,6 @@ def main():
             print("0 passed, 1 failed")
             return 1
         counts = [gate.ci(program)]
-    lacking = [tool for tool in LIKED if not shutil.which(tool)]
-    if lacking:
-        print(f"not found here: {', '.join(lacking)}; what needs them is left out")
     if program.exists():
         counts += [tally(kind, checks_of(name, program)) for kind, name in KINDS if not arguments.only or kind in arguments.only]
     else:
@@ -80,6 +90,7 @@ def main():
     passed, failed = (sum(column) for column in zip(*counts))
     if arguments.gate:
         gate.failures()
+    print_left_out()
     print(f"{passed} passed, {failed} failed")
     return 1 if failed else 0
 

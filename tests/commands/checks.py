@@ -36,7 +36,7 @@ COMPLETIONS = (
     ("CRX2RNX -f a", ["a.crx"]),
     ("rnx2crx b", ["b c.rnx"]),
     ("crx2rnx -", ["-s", "-f", "-h", "--help", "-"]),
-    ("rnxcmp-file ", ["rnx2crx", "crx2rnx", "-h", "--help"]),
+    ("rnxcmp-file ", ["rnx2crx", "crx2rnx", "explain", "-h", "--help", "--version"]),
     ("rnxcmp-file rnx2crx --d", ["--date"]),
     ("rnxcmp-file crx2rnx --d", []),
     ("rnxcmp-file crx2rnx --v", ["--verify", "--verified-to"]),
@@ -52,7 +52,7 @@ COMPLETIONS = (
 OFFERED = (
     ("rnxcmp ", ["rnx2crx", "crx2rnx", "check"]),
     ("RNX2CRX --d", ["--date"]),
-    ("rnxcmp-file ", ["rnx2crx", "crx2rnx"]),
+    ("rnxcmp-file ", ["rnx2crx", "crx2rnx", "explain"]),
     ("rnxcmp-file rnx2crx --", ["--gzip", "--no-gzip", "--verify", "--verified-to", "--json", "--date"]),
     ("rnxcmp-file crx2rnx --", ["--gzip", "--no-gzip", "--verify", "--inputs", "--normal-form"]),
     ("rnxcmp-file rnx2crx a", ["abcd0010.24o", "a.rnx.gz"]),
@@ -131,6 +131,50 @@ def check_installed(prefix, folder):
     return wrong + file_is(folder / "a.rnx", SAMPLE.read_bytes())
 
 
+def check_links(prefix, folder):
+    """A symbolic link in another folder, of which a command is called by its path and by its name, finds the program beside what it names;
+    help has the other program's name, and each other word goes on to the program."""
+    wrong, links = [], folder / "links"
+    links.mkdir(exist_ok=True)
+    for name, word in (("RNX2CRX", "rnx2crx"), ("CRX2RNX", "crx2rnx")):
+        link = links / name
+        link.unlink(missing_ok=True)
+        link.symlink_to(os.path.relpath(prefix / "bin" / name, links))
+        plain = run_in(folder, "/usr/bin", [prefix / "bin/rnxcmp", word, "--help"])
+        for tools, called in (("/usr/bin", str(link)), (links, name), ("/usr/bin", str(prefix / "bin" / name.lower()))):
+            for option in ("-h", "--help"):
+                run = run_in(folder, tools, [called, option])
+                right = run.returncode == 0 and f"\nUsage: {name} [OPTIONS]" in run.stdout and not run.stderr
+                right = right and run.stdout == plain.stdout.replace(f"rnxcmp {word}", name)
+                wrong += [] if right else [f"{called} {option}: {run}"]
+            run, wanted = (run_in(folder, tools, [*words, "-h", "-x"]) for words in ([called], [prefix / "bin/rnxcmp", word]))
+            wrong += [] if (run.returncode, run.stdout, run.stderr) == (wanted.returncode, wanted.stdout, wanted.stderr) else [f"{called}: {run}"]
+    return wrong
+
+
+def check_uninstalled(program, folder):
+    """`make uninstall` leaves what others put there, and nothing of what was installed."""
+    failed = install(program, folder)
+    if failed:
+        return failed
+    (folder / "bin/other").touch()
+    wrong = []
+    for _ in range(2):  # the second time there is nothing left to remove
+        run = subprocess.run([TOP / "packaging/uninstall.sh", folder], capture_output=True, text=True, timeout=60)
+        left = [str(path.relative_to(folder)) for path in folder.rglob("*") if path.is_file()]
+        wrong += [] if run.returncode == 0 and not run.stderr and left == ["bin/other"] else [f"{run}, {left}"]
+        wrong += [f"{name} is there" for name in ("lib/rnxcmp", "share/doc/rnxcmp") if (folder / name).exists()]
+    return wrong
+
+
+def check_targets():
+    """`make help` names each target that the first lines of the Makefile describe, and those that it names are there."""
+    run = subprocess.run(["make", "--no-print-directory", "help"], cwd=TOP, capture_output=True, text=True, timeout=60)
+    named = set(re.findall(r"^make ([a-z0-9-]+)", run.stdout, re.M))
+    targets = set(re.findall(r"^([a-z0-9-]+):", (TOP / "Makefile").read_text(), re.M)) - {"all"}
+    return [] if not run.returncode and named == targets else [f"{sorted(named ^ targets)}, status {run.returncode}, {run.stderr!r}"]
+
+
 def check_pages(prefix):
     """Each manual page is there, and groff has nothing to say against it."""
     lacking = missing_tools("groff")
@@ -144,6 +188,12 @@ def check_pages(prefix):
             wrong.append(f"{name}.1: status {run.returncode}, {run.stderr!r}")
         wrong += [f"{name}.1: wide: {line!r}" for line in run.stdout.splitlines() if len(line) > WIDTH]
     return wrong
+
+
+def check_lines_of_pages():
+    """No line of a manual page's source is wider than a terminal, which is what mandoc calls bad style."""
+    pages = sorted((TOP / "packaging/man").glob("*.1"))
+    return [f"{page.name}:{number}: {len(line)} bytes" for page in pages for number, line in enumerate(page.read_bytes().splitlines(), 1) if len(line) >= WIDTH]
 
 
 def check_pages_strictly(prefix):
@@ -231,7 +281,11 @@ def checks(program):
         folder = top / "installed"
         folder.mkdir()
         yield "installed: the other names", lambda: check_installed(prefix, folder)
+        yield "installed: links to the other names, and their help", lambda: check_links(prefix, folder)
+        yield "uninstalled", lambda: check_uninstalled(program, top / "uninstalled")
+        yield "make help", check_targets
         yield "installed: manual pages", lambda: check_pages(prefix)
+        yield "lines of the manual pages", check_lines_of_pages
         yield "installed: manual pages, by mandoc", lambda: check_pages_strictly(prefix)
         yield "help: 80 columns", lambda: check_help(program, prefix)
         folder = top / "completions"

@@ -1,9 +1,10 @@
-"""`examples/parallel.py`, which cuts a file of compact text into pieces and expands them apart: the same output, messages and status as one
+"""`examples/availability.py` over the sample; and `examples/parallel.py`, which cuts a file of compact text into pieces and expands them apart: the same output, messages and status as one
 run of the program, for pieces of each size (see tests/run.py). Its speed on a large file is measured by hand:
 
     bench/generate.py --megabytes 1000 -o big.rnx && PROGRAM rnx2crx -e 100 big.rnx && time examples/parallel.py --program PROGRAM big.crx back.rnx
 """
 
+import os
 import subprocess
 import sys
 import tempfile
@@ -12,6 +13,7 @@ from pathlib import Path
 TOP = Path(__file__).resolve().parents[2]
 PARALLEL = TOP / "examples/parallel.py"
 SAMPLE = TOP / "samples/station.rnx"
+LIBRARY = TOP / "out/library/librnxcmp.so.2"
 SIZES = (1, 300, 2000, 1 << 24)
 
 
@@ -68,7 +70,19 @@ def compared(program, text):
     return wrong
 
 
+def available():
+    """The satellites of the sample over time, by samples/README.md: E17 sets after the ninth of 20 epochs, and G24 rises in the tenth."""
+    if not LIBRARY.exists():
+        return "there is no library: make library"
+    environment = {**os.environ, "PYTHONPATH": str(TOP / "python"), "RNXCMP_LIBRARY": str(LIBRARY)}
+    run = subprocess.run([sys.executable, TOP / "examples/availability.py", SAMPLE], env=environment, capture_output=True, text=True, timeout=60)
+    there = {"E17": "*" * 9, "G24": " " * 9 + "*" * 11}
+    wanted = "".join(f"{name} {there.get(name, '*' * 20)}\n" for name in ("C10", "E17", "G02", "G13", "G14", "G24", "G29", "R01"))
+    return [] if run.stdout == wanted else [run.stdout + run.stderr]
+
+
 def checks(program):
+    yield "satellites over time", available
     sample = compacted(program, SAMPLE.read_bytes(), 2)
     events = compacted(program, with_events(), 5)
     lines = events.splitlines(keepends=True)

@@ -3,6 +3,7 @@ memory that doesn't grow with the input (see tests/run.py). tests/memory/run.py 
 
 import os
 import shutil
+import subprocess
 import sys
 import tempfile
 from functools import partial
@@ -77,7 +78,39 @@ def at_random(program):
     return wrong[:10] + ([] if points > 100 * FILES else [f"{points} growths alone"])
 
 
+def types_lines(system, count):
+    """The types lines of a system that has so many types, thirteen of them a line."""
+    parts = [min(13, count - start) for start in range(0, count, 13)]
+    first = f"{system}  {count:3}"
+    return [((" " * 6 if place else first) + " C1C" * n).ljust(60) + "SYS / # / OBS TYPES" for place, n in enumerate(parts)]
+
+
+def one_more_each(most, satellites):
+    """A file whose epochs have one type more each, or, of one type, one satellite more each."""
+    lines = list(H)
+    for count in range(1, most + 1):
+        time = f"> 2024 01 01 {count // 60:2} {count % 60:2}  0.0000000"
+        names = [f"{'GRECJIS'[n // 99]}{n % 99 + 1:02}" for n in range(count if satellites else 1)]
+        types = [line for system in "GRECJIS" for line in types_lines(system, 1)] if satellites else types_lines("G", count)
+        if count == 1 or not satellites:
+            lines += [f"{time}  4{len(types):3}", *types]
+        lines += [f"{time}  0{len(names):3}", *[(name + f"{count:14.3f}  " * (1 if satellites else count)).rstrip() for name in names]]
+    return text(*lines)
+
+
+def each_count(program, most, satellites):
+    """What is wrong with runs in which each count of types, or of satellites, comes in turn, as lines: with memory at hand none is refused."""
+    whole = one_more_each(most, satellites)
+    compact = subprocess.run([program, *DATED], input=whole, capture_output=True)
+    back = subprocess.run([program, "crx2rnx"], input=compact.stdout, capture_output=True)
+    checked = subprocess.run([program, "check"], input=whole, capture_output=True)
+    wrong = [f"{run.args[1]}: {run.stderr[-200:]}, {run.returncode}" for run in (compact, back, checked) if run.returncode or run.stderr]
+    return wrong + ([] if back.stdout == whole else ["the text that comes back is another one"])
+
+
 def checks(program):
+    yield "each count of types from 1 to 400, with memory at hand", lambda: each_count(program, 400, False)
+    yield "each count of satellites from 1 to 693, with memory at hand", lambda: each_count(program, 693, True)
     yield "a header alone, the first growth refused", lambda: with_program(program, first_refused)
     yield "a header alone, each growth refused in turn", lambda: with_program(program, each_refused)
     yield "short files, words and help, each growth refused in turn", lambda: with_program(program, short_runs)

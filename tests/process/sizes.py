@@ -2,12 +2,14 @@
 
 import hashlib
 import os
+import shutil
 import subprocess
 import tempfile
 import threading
 from pathlib import Path
 
 from cases import COMPACT_FIVE, DATED, FIVE, H, epoch, text
+from checking import LIMITS
 
 SECONDS = 120  # in which each of these runs is to end
 PIECE = text(*[line for second in range(4000) for line in (epoch(second % 10, 1), f"G01  {20000000 + 7 * second}.000")])
@@ -131,7 +133,82 @@ def two_million_epochs(program):
     return comes_back(program, [text(*H), *[piece] * (EPOCHS // 10000)])
 
 
+def preloaded(folder, **environment):
+    """The environment with interrupting.c in front of the C library, built by the toolchain's clang or by CC."""
+    compiler = os.environ.get("CC") or str(Path(shutil.which("rt")).resolve().parents[1] / "toolchain/bin/clang")
+    built = Path(folder) / "interrupting.so"
+    flags = [] if os.environ.get("CC") else ["-fuse-ld=lld"]
+    source = Path(__file__).with_name("interrupting.c")
+    subprocess.run([compiler, "-O1", "-shared", "-fPIC", "-nostdlib", *flags, "-o", built, source], check=True)
+    return {**os.environ, "LD_PRELOAD": str(built), **environment}
+
+
+def interrupted_reads(program):
+    """An input whose every read is interrupted a thousand times: the same output, by standard input and by a name."""
+    if not (os.environ.get("CC") or shutil.which("rt")):
+        return "neither rt nor CC"
+    wrong = []
+    with tempfile.TemporaryDirectory() as folder:
+        (Path(folder) / "a.rnx").write_bytes(FIVE)
+        for words, given in ((DATED, FIVE), ([*DATED, "-", "a.rnx"], b"")):
+            run = subprocess.run([program, *words], input=given, cwd=folder, env=preloaded(folder, INTERRUPTIONS="1000"), capture_output=True, timeout=SECONDS)
+            wrong += answered(run, 0, COMPACT_FIVE, b"")
+    return wrong
+
+
+def writes_of_one_byte(program):
+    """Help, an output and the line of a refusal, where each write takes one byte: they are the same."""
+    if not (os.environ.get("CC") or shutil.which("rt")):
+        return "neither rt nor CC"
+    wrong = []
+    with tempfile.TemporaryDirectory() as folder:
+        short = preloaded(folder, SHORT="1")
+        for words in (["--help"], ["rnx2crx", "--help"], ["crx2rnx", "--help"], ["check", "--help"], DATED, ["rnx2crx", "-x"], ["check", "missing"]):
+            whole, slow = (subprocess.run([program, *words], input=FIVE, env=env, capture_output=True, timeout=SECONDS) for env in (None, short))
+            wrong += [f"{' '.join(words)}: {line}" for line in answered(slow, whole.returncode, whole.stdout, whole.stderr)]
+    return wrong
+
+
+def each_count_of_types(program):
+    """Files of each count of types up to the limit come back from their compact text, and pass a check; one type more is a fault."""
+    wrong, most = [], LIMITS["TYPES_LIMIT"]
+    for count in range(1, most + 2):
+        names = [f"C{place % 10}{chr(ord('A') + place // 10 % 26)}" for place in range(count)]
+        lines = [names[place : place + 13] for place in range(0, count, 13)]
+        heads = [f"G  {count:3}", *["      "] * (len(lines) - 1)]
+        types = [f"{head} {' '.join(line)}".ljust(60) + "SYS / # / OBS TYPES" for head, line in zip(heads, lines)]
+        rows = [f"G01{''.join(f'{20000000 + 1000 * second + 7 * place:10}.{place:03}  ' for place in range(count))}".rstrip() for second in range(3)]
+        standard = text(H[0], *types, H[2], *[line for second, row in enumerate(rows) for line in (epoch(second, 1), row)])
+        packed = subprocess.run([program, *DATED], input=standard, capture_output=True, timeout=SECONDS)
+        if count > most:
+            wrong += [] if packed.returncode == 1 and b" code " in packed.stderr else [f"{count} types: status {packed.returncode}"]
+            continue
+        back = subprocess.run([program, "crx2rnx"], input=packed.stdout, capture_output=True, timeout=SECONDS)
+        report = subprocess.run([program, "check"], input=standard, capture_output=True, timeout=SECONDS)
+        if (packed.returncode, packed.stderr, back.returncode, back.stdout, report.returncode) != (0, b"", 0, standard, 0):
+            wrong.append(f"{count} types: status {packed.returncode}, {back.returncode}, {report.returncode}, messages {packed.stderr!r}, {back.stderr!r}")
+    return wrong
+
+
+def longer_words_than_a_buffer(program):
+    """A name of 5,000 bytes is named whole where it can't be read, and so is a refused argument of 4,000 bytes."""
+    wrong = []
+    name = "n" * 5000
+    run = subprocess.run([program, "check", name], capture_output=True, stdin=subprocess.DEVNULL, timeout=SECONDS)
+    wrong += answered(run, 1, b"", text(f"ERROR: cannot read {name}"))
+    for words in (["rnx2crx"], []):
+        short, long = (subprocess.run([program, *words, "--" + letter], capture_output=True, stdin=subprocess.DEVNULL, timeout=SECONDS)
+                       for letter in ("zz", "z" * 4000))
+        wrong += answered(long, 1, b"", short.stderr.replace(b"--zz", b"--" + b"z" * 4000))
+        wrong += [] if short.stderr.count(b"--zz") > 0 else [f"{short.stderr!r}"]
+    return wrong
+
+
 CHECKS = [
+    ("an input whose every read is interrupted a thousand times", interrupted_reads),
+    ("writes of one byte", writes_of_one_byte),
+    ("each count of types", each_count_of_types),
+    ("a name of 5,000 bytes, and a refused argument of 4,000", longer_words_than_a_buffer),
     ("forty arguments", forty_arguments),
     ("names with blanks", names_with_blanks),
     ("long names", long_names),
