@@ -13,8 +13,12 @@
 #             more or less
 # make archive-test runs each recipe of docs/ARCHIVES.md over 200 files, some of them bad, with kills and full disks (tests/archives)
 # make files-test tries rnxcmp-file for longer (tests/files/run.py): runs at once, signals, failing calls, full disks, power cuts (as root)
-# make laws-test compares two laws with what the program that make built does: on 100,000 damages of random files, and on 200,000 damaged
-#             texts (tests/laws; some twenty minutes)
+# make explain-test changes a byte in 2,000 files, and asks what is explained of each (tests/explain)
+# make conformance PEER='RNX2CRX -;CRX2RNX -'
+#             runs the suite for other programs (conformance) over this one and over the two commands; out/conformance has the report
+# make laws-test asks sentences of README.md of what the program that make built does: on 100,000 flips of a bit and 100,000 damages of random
+#             files, on 20,000 files, on 2,000 runs that signals end, on 200,000 damaged texts, and on 100,000
+#             of any writer (tests/laws; some forty minutes)
 # make cluster-test runs the recipes for several machines over 200 files, with Slurm and sshd on this one (tests/cluster; 11 minutes)
 # make debian11-test tries what make dist made in a root of Debian 11, in out/debian11 (tests/debian11)
 # make docs   writes what one reads to know what is claimed, from the sources, into out/docs (docs/READING.md): DEFINITIONS, with the
@@ -24,6 +28,10 @@
 # make install PREFIX=/usr/local
 #             puts the program that make built, its manual pages, completions and other names in place, and the tool for whole files,
 #             for which it builds the library where that isn't built
+# make uninstall PREFIX=/usr/local
+#             removes what that put there, and nothing else
+# make clean  removes all that was made, the proofs too
+# make help   shows this list
 # make library
 #             proves and builds the library for C, C++ and Fortran, into out/library (docs/LIBRARY.md)
 # make library-fuzz INPUTS=100000
@@ -53,7 +61,7 @@ JOBS := $(shell awk -v jobs="$$(($$(nproc) + 1))" '/^MemTotal/ { n = int($$2 / 2
 # What crates.mk makes, all at once; where a proof fails, its errors are the last lines that are printed.
 made = @rm -rf out/failed; $(MAKE) --no-print-directory $(if $(findstring jobserver,$(MAKEFLAGS)),,-j$(JOBS)) $(1) || tests/gate.py failures
 
-.PHONY: all proofs test quick memory-test memory-random-test instruction-counts archive-test files-test laws-test cluster-test debian11-test docs numbers install dist
+.PHONY: all proofs test quick memory-test memory-random-test instruction-counts archive-test files-test explain-test conformance laws-test cluster-test debian11-test docs numbers install dist
 
 all:
 	$(call made,$(PROGRAM))
@@ -95,9 +103,17 @@ archive-test:
 files-test:
 	tests/files/run.py $(PROGRAM)
 
+explain-test:
+	tests/explain/run.py $(PROGRAM)
+
+conformance:
+	PEER='$(PEER)' tests/run.py $(PROGRAM) --only conformance
+
 laws-test:
-	cd out && ../tests/laws/damage.py ../$(PROGRAM)
+	tests/laws/damage.py $(PROGRAM)
+	tests/laws/sentences.py $(PROGRAM)
 	tests/laws/standard.py $(PROGRAM)
+	tests/laws/any_writer.py $(PROGRAM)
 
 cluster-test:
 	tests/cluster/run.py $(PROGRAM)
@@ -118,7 +134,17 @@ install:
 	@[ -f out/library/librnxcmp.so.2 ] || $(MAKE) --no-print-directory library || echo "the library isn't built"
 	packaging/install.sh "$(DESTDIR)$(PREFIX)" $(PROGRAM) out/library
 
-.PHONY: library library-fuzz library-large mutants-test python
+uninstall:
+	packaging/uninstall.sh "$(DESTDIR)$(PREFIX)"
+
+# what the first lines of this file say
+help:
+	@sed -n '/^#/!q; s/^# \{0,1\}//p' Makefile
+
+clean:
+	rm -rf out crates/*/out
+
+.PHONY: uninstall help clean library library-fuzz library-large mutants-test python
 
 INPUTS := 100000
 

@@ -32,11 +32,11 @@ OF_ENGINES = ("AnyEngine", "IsOf", "ready_of", "engine_filter", "shows_of")
 CHAPTERS = (
     Chapter(
         "Losslessness",
-        "A file that a check passes comes back byte for byte. `compacted`, `expanded` and `checked` are what the three calls write, report"
-        " and answer for a whole input; here they need not be known.",
-        (("crx_filter::check", "lossless"), ("crx_filter::expand", "lossless")),
-        RESULTS + DEVICES,
-        20,
+        "A file that a check passes comes back byte for byte, from what a compaction wrote of it. `compacted`, `expanded` and `checked` are what"
+        " the three calls write, report and answer for a whole input; here they need not be known.",
+        (("crx_filter::check", "lossless written"), ("crx_filter::compact", "written"), ("crx_filter::expand", "lossless written")),
+        RESULTS,
+        25,
     ),
     Chapter(
         "What compact text is",
@@ -50,6 +50,14 @@ CHAPTERS = (
         "The order of units, and what each has to be. A file is standard exactly where it is the RINEX text of such units.",
         (("crx_filter::MakeAFile", ""), ("crx_laws::standard_files_are_units", "*")),
         ("IsStandard",),
+    ),
+    Chapter(
+        "Any writer, and no other",
+        "Which texts are compact text of a file, whoever wrote them: by what stands in their lines, and by no reader. These are expanded to that"
+        " file, and no other text is accepted.",
+        (("crx_filter::expand", "any_writer no_other"),),
+        RESULTS + FILTERS + DEVICES,
+        own=True,
     ),
     Chapter(
         "Runs",
@@ -67,8 +75,14 @@ CHAPTERS = (
     Chapter(
         "Laws of the results",
         "What follows of `compacted` and `expanded` alone: whatever text is expanded, standard files come of it; files with the same normal"
-        " form have the same compact text; blocks of compact text stand alone; and how much output a byte of it can make.",
+        " form have the same compact text; no line is lost in silence, and blocks are short; again changes nothing; hours make a day; blocks of compact text"
+        " stand alone; and how much output a byte of it can make.",
         (
+            ("crx_laws::nothing_is_lost_in_silence", "*"),
+            ("crx_laws::blocks_are_short", "*"),
+            ("crx_laws::compacting_again_changes_nothing", "*"),
+            ("crx_laws::expanding_again_changes_nothing", "*"),
+            ("crx_laws::hours_make_a_day", "*"),
             ("crx_laws::what_is_expanded_is_standard", "*"),
             ("crx_laws::the_normal_form_compacts_the_same", "*"),
             ("crx_laws::compact_text_is_canonical", "*"),

@@ -1,6 +1,7 @@
 #!/usr/bin/env python3
 """Puts the numbers of the sources into the texts that state them: the limits, and how many definitions one has to believe; and what is
-listed: the faults in the manual page, the options in it, in the page of use and in the completions, the cases in the page of the tests. Who
+listed: the faults in the manual page, the options in it, in the page of use and in the completions, what explains faults in the page of use, the
+cases in the page of the tests. Who
 changes a limit, or adds a fault, an option or a case, runs `make numbers`; none of these texts needs a hand for it. A page says a limit's
 number only where this script puts it; code and tests cite the limit by its name.
 
@@ -13,6 +14,7 @@ import sys
 import textwrap
 from dataclasses import dataclass
 from functools import cache
+from importlib import util
 from pathlib import Path
 
 from chapters import Book, is_definition
@@ -149,7 +151,7 @@ def typed_in(file):
 def with_codes(text):
     """The manual page with its list of codes as the table of faults has it."""
     codes = "Codes: " + ", ".join(f"{number} {words}" for number, words in faults().items()) + "."
-    return re.sub(r"^Codes: .*?\.$", textwrap.fill(codes, 130, break_on_hyphens=False), text, flags=re.M | re.S)
+    return re.sub(r"^Codes: .*?\.$", textwrap.fill(codes, 79, break_on_hyphens=False), text, flags=re.M | re.S)
 
 
 def with_cases(text):
@@ -202,7 +204,8 @@ def for_bash(text):
         words = " ".join(name for option in options(tool) for name in option.names())
         text = re.sub(rf"(^ +{tool}\)\n.*?-W ')[^']*", lambda m, words=words: f"{m[1]}{words} -", text, count=1, flags=re.M)
     valued = dict.fromkeys(name for tool in HELP for option in options(tool) if option.value for name in option.names())
-    return re.sub(r"-[-\w| ]+\) return ;;", f"{' | '.join(valued)}) return ;;", text)
+    of_the_program, name, of_the_tool = text.partition("_rnxcmp_file()")
+    return re.sub(r"-[-\w| ]+\) return ;;", f"{' | '.join(valued)}) return ;;", of_the_program) + name + of_the_tool
 
 
 def for_zsh(text):
@@ -245,11 +248,22 @@ def tools_with():
     return found
 
 
+@cache
+def explained():
+    """The tables of what explains faults, each under its first line, as the package has them."""
+    spec = util.spec_from_file_location("causes", TOP / "python/rnxcmp/_causes.py")
+    module = util.module_from_spec(spec)
+    spec.loader.exec_module(module)
+    return module.tables()
+
+
 def for_use(text):
-    """The page of use with the options of each subcommand, and a row for an option that has none: what help says, which a hand may change."""
+    """The page of use with the tables of what explains faults, the options of each subcommand, and a row for an option that has none: what help says, which a hand may change."""
     for tool in HELP:
         words = "".join(f" [{option.with_value()}]" for option, tools in tools_with().items() if tool in tools)
         text = re.sub(rf"^(    rnxcmp {tool}).*(?= \[-\] \[FILE\]$)", lambda m, words=words: m[1] + words, text, flags=re.M)
+    for title, table in explained().items():
+        text = re.sub(rf"^{re.escape(title)}\n(?:\|.*\n)*", lambda m, table=table: f"{table}\n", text, flags=re.M)
     for option, tools in tools_with().items():
         if f"| `{option.with_value()}` |" not in text:
             named = ", ".join(f"`{tool}`" for tool in tools)
