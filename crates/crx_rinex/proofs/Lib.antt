@@ -7,3 +7,6 @@ pub mod ReadingBack
 pub mod Rows
 pub mod SoundEpochs
 pub mod HeadColumns
+pub mod PrintedNumbers
+pub mod PrintedForms
+pub mod PrintedRows

@@ -72,18 +72,18 @@ first-cell line rest k value a b fits same =
     )
 
 -- the first cell, and those after it
-cells-are : (values : List (Option ℤ)) (flags : List ℕ) (value : Option ℤ) (a b : ℕ)
+pub cells-are : (values : List (Option ℤ)) (flags : List ℕ) (value : Option ℤ) (a b : ℕ)
     → printed_cells (value ∷ values) (a ∷ b ∷ flags) ≡ observation_text value
     ++ a ∷ b ∷ printed_cells values flags
 cells-are values flags value a b = grind (arith, common_steps, append_assoc, observation_text, printed_cells)
 
 -- the place that is counted from, and those after it
-from-next : {X : Type 0} (n k : ℕ) (f : ℕ → X)
+pub from-next : {X : Type 0} (n k : ℕ) (f : ℕ → X)
     → each_place (suc n) (λ j. f (k + j)) ≡ f k ∷ each_place n (λ j. f (k + 1 + j))
 from-next n k f = grind arith
 
 -- places that are counted from 0
-from-none : {X : Type 0} (n : ℕ) (f : ℕ → X) → each_place n f ≡ each_place n (λ j. f (0 + j))
+pub from-none : {X : Type 0} (n : ℕ) (f : ℕ → X) → each_place n f ≡ each_place n (λ j. f (0 + j))
 from-none n f = grind arith
 
 cells-read : (line : List ℕ) (k : ℕ) (values : List (Option ℤ)) (flags : List ℕ)

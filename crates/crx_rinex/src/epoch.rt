@@ -55,8 +55,8 @@ impl Epoch {
 
     /// Puts a row after the others.
     ///
-    /// `RepeatedSatellite` comes where the epoch has a row of the same identifier already, else `OutOfMemory`.
-    /// Either hands the row back, and the epoch is as it was.
+    /// `RepeatedSatellite` comes where the epoch has a row of the same identifier already, else
+    /// `OutOfMemory`. Either hands the row back, and the epoch is as it was.
     pub fn push(&mut self, row: SatRow) -> Result<(), (SatRow, Fault)>
         requires { is_full_epoch self.old ≡ false }
         ensures ok { OnOk result (self.new ≡ with_row self.old row) }

@@ -102,10 +102,10 @@ pub enum Head {
 impl Head {
     /// Reads a line where an epoch may begin (RINEX 3.05, table A3).
     ///
-    /// `NotAnEpoch` comes where column 1 isn't `>`; then `BadEpoch` where the flag in column 32 is none of 0 to
-    /// 6, the count in columns 33 to 35 is none, or, in an observation epoch, columns 1 to 41 hold a character
-    /// that may not be there or something is after column 56; then `BadClock` where columns 42 to 56
-    /// hold neither blanks nor a number of format F15.12.
+    /// `NotAnEpoch` comes where column 1 isn't `>`; then `BadEpoch` where the flag in column 32 is none of 0
+    /// to 6, the count in columns 33 to 35 is none, or, in an observation epoch, columns 1 to 41 hold a
+    /// character that may not be there or something is after column 56; then `BadClock` where columns 42 to
+    /// 56 hold neither blanks nor a number of format F15.12.
     #[inline(always)]
     pub fn read(line: &[u8]) -> Result<Head, Fault>
         ensures value { MatchResult result

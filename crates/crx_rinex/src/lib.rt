@@ -1,11 +1,12 @@
-//! RINEX 3.0x observation files: epoch lines and satellite lines, read and printed. Header lines, observation types, identifiers and
-//! an epoch line's flag and count are those of crx_header; they are handed on.
+//! RINEX 3.0x observation files: epoch lines and satellite lines, read and printed. Header lines, observation
+//! types, identifiers and an epoch line's flag and count are those of crx_header; they are handed on.
 #![tactic(auto)]
 
 pub mod epoch;
 pub mod epoch_line;
 pub mod laws;
 pub mod printed;
+pub mod printed_form;
 pub mod row_buffer;
 pub mod rows_so_far;
 pub mod satellite_row;
@@ -18,6 +19,7 @@ pub use crx_header::{
 pub use epoch::Epoch;
 pub use epoch_line::{EpochLine, Head};
 pub use printed::{Printed, print_head};
+pub use printed_form::has_printed_form;
 pub use row_buffer::RowBuffer;
 pub use rows_so_far::RowsSoFar;
 pub use satellite_row::SatRow;

@@ -14,11 +14,13 @@ use crx_header::{Types, identifier, types_of_satellite};
 use crx_text::Text;
 use std::marker::Model;
 
-/// The row of the satellite line that was read last. It has room for every row, so that reading one takes no memory.
+/// The row of the satellite line that was read last. It has room for every row, so that reading one takes no
+/// memory.
 #[derive(Drop)]
 pub struct RowBuffer {
     name: [u8; NAME_WIDTH],
-    /// How many types the row has. The values and indicators after theirs are of earlier rows, and mean nothing.
+    /// How many types the row has. The values and indicators after theirs are of earlier rows, and mean
+    /// nothing.
     count: usize,
     values: [Option<i64>; TYPES_LIMIT],
     flags: [u8; 2 * TYPES_LIMIT],
@@ -52,9 +54,10 @@ impl RowBuffer {
 
     /// Reads a satellite line, with the counts of types that the header declared, in place of the row before.
     ///
-    /// `BadSatellite` comes where columns 1 to 3 hold no identifier of a system that has types; then `BadField` where a field is neither blank
-    /// nor a number of format F14.3, or something is after the last cell; then `BadFlags` where an indicator is outside the characters 32
-    /// to 126, or is `&`. The row after a fault means nothing.
+    /// `BadSatellite` comes where columns 1 to 3 hold no identifier of a system that has types; then
+    /// `BadField` where a field is neither blank nor a number of format F14.3, or something is after the last
+    /// cell; then `BadFlags` where an indicator is outside the characters 32 to 126, or is `&`. The row after
+    /// a fault means nothing.
     #[inline(always)]
     pub fn read(&mut self, types: &Types, line: &[u8]) -> Result<(), Fault>
         ensures ok { OnOk result (row_of types.now line.now ≡ Ok self.new) }
@@ -125,7 +128,8 @@ impl RowBuffer {
     }
 }
 
-/// Reads the cells of a satellite line of so many types into the first values and indicators, as [`read_cells`] does.
+/// Reads the cells of a satellite line of so many types into the first values and indicators, as
+/// [`read_cells`] does.
 #[inline(always)]
 fn read_first_cells(
     line: &[u8],

@@ -50,10 +50,10 @@ impl Model for SatRow {
 impl SatRow {
     /// Reads a satellite line, with the counts of types that the header declared (RINEX 3.05, table A3).
     ///
-    /// `BadSatellite` comes where columns 1 to 3 hold no identifier (a letter that has types, a digit or a blank,
-    /// a digit); then `OutOfMemory`; then `BadField` where a field is neither blank nor a number of format F14.3,
-    /// or something is after the last cell; then `BadFlags` where an indicator is outside the characters 32
-    /// to 126, or is `&`.
+    /// `BadSatellite` comes where columns 1 to 3 hold no identifier (a letter that has types, a digit or a
+    /// blank, a digit); then `OutOfMemory`; then `BadField` where a field is neither blank nor a number of
+    /// format F14.3, or something is after the last cell; then `BadFlags` where an indicator is outside the
+    /// characters 32 to 126, or is `&`.
     pub fn read(alloc: Global, types: &Types, line: &[u8]) -> Result<SatRow, Fault>
         ensures ok { IfOk result (λ row. row_of types.now line.now ≡ Ok row) }
         ensures sound { IfOk result IsSoundRow }
@@ -105,8 +105,8 @@ impl SatRow {
         self.name
     }
 
-    /// The value of type k, from 0, in thousandths of its unit: `Some(None)` where the observation is missing,
-    /// `None` from the count of types on.
+    /// The value of type k, from 0, in thousandths of its unit: `Some(None)` where the observation is
+    /// missing, `None` from the count of types on.
     pub fn value(&self, k: usize) -> Option<Option<i64>>
         ensures value { result ≡ slice_get self.now.values k }
         ensures sound { IsSoundRow self.now }
@@ -181,9 +181,9 @@ pub(crate) fn print_row(
     text.trim_end_blanks();
 }
 
-/// Reads the cells of a satellite line, and looks at what is after the last. `BadField` comes where a field is neither
-/// blank nor a number, or something is after the last cell; then `BadFlags` where an indicator may not be there. Part of its callers, as
-/// a call takes some 8 instructions for each line.
+/// Reads the cells of a satellite line, and looks at what is after the last. `BadField` comes where a field
+/// is neither blank nor a number, or something is after the last cell; then `BadFlags` where an indicator may
+/// not be there. Part of its callers, as a call takes some 8 instructions for each line.
 #[inline(always)]
 pub(crate) fn read_cells(
     line: &[u8],
@@ -207,10 +207,10 @@ pub(crate) fn read_cells(
     Ok(())
 }
 
-/// Takes the values and the indicators out of a line's first cells, and gives how many: it stops where a cell isn't within the line,
-/// or its field isn't written as files mostly have it. One by one, each as an `Option` of a value and its indicators, a cell
-/// takes 16 instructions more: that is set to zero, and then tested and copied part by part. The two indicators are one load and one
-/// store.
+/// Takes the values and the indicators out of a line's first cells, and gives how many: it stops where a cell
+/// isn't within the line, or its field isn't written as files mostly have it. One by one, each as an `Option`
+/// of a value and its indicators, a cell takes 16 instructions more: that is set to zero, and then tested and
+/// copied part by part. The two indicators are one load and one store.
 fn split_plain_cells(line: &[u8], values: &mut [Option<i64>], flags: &mut [u8]) -> usize
     requires { ArePaired values.old flags.old }
     ensures { AreCellsRead result line.now values.new flags.new }
@@ -231,9 +231,9 @@ fn split_plain_cells(line: &[u8], values: &mut [Option<i64>], flags: &mut [u8]) 
     count
 }
 
-/// Takes the last cell, where those before it have been read, and the line ends with the cell's value: mostly both of its indicators
-/// are blank, and blanks at a line's end are cut. `true` also where all cells have been read, and the line ends with them; `false` leaves
-/// all as it was.
+/// Takes the last cell, where those before it have been read, and the line ends with the cell's value: mostly
+/// both of its indicators are blank, and blanks at a line's end are cut. `true` also where all cells have
+/// been read, and the line ends with them; `false` leaves all as it was.
 #[inline(always)]
 fn take_last_cell(line: &[u8], first: usize, values: &mut [Option<i64>], flags: &mut [u8]) -> bool
     requires { AreCellsRead first line.now values.old flags.old }
@@ -247,7 +247,8 @@ fn take_last_cell(line: &[u8], first: usize, values: &mut [Option<i64>], flags: 
     if first + 1 != values.len() || line.len() != start + OBSERVATION_WIDTH {
         return false;
     }
-    // The compiler knows the length of this part: with the rest of the line it tests the length again, by 7 instructions a line.
+    // The compiler knows the length of this part: with the rest of the line it tests the length again, by 7
+    // instructions a line.
     if !obs_read_into(&line[start..start + OBSERVATION_WIDTH], &mut values[first]) {
         return false;
     }
@@ -256,9 +257,9 @@ fn take_last_cell(line: &[u8], first: usize, values: &mut [Option<i64>], flags: 
     true
 }
 
-/// Reads the cells from one on, where those before it have been read, and looks at what is after the last: `false` where a field is
-/// neither blank nor a number, or where something is there. Most of these cells are past the line's end, or cut by it: blanks at a line's
-/// end are cut.
+/// Reads the cells from one on, where those before it have been read, and looks at what is after the last:
+/// `false` where a field is neither blank nor a number, or where something is there. Most of these cells are
+/// past the line's end, or cut by it: blanks at a line's end are cut.
 #[inline(never)]
 fn read_other_cells(line: &[u8], first: usize, values: &mut [Option<i64>], flags: &mut [u8]) -> bool
     requires { AreCellsRead first line.now values.old flags.old }
@@ -283,8 +284,8 @@ fn read_other_cells(line: &[u8], first: usize, values: &mut [Option<i64>], flags
     all_blank(after_columns(line, CELL_WIDTH * values.len() + NAME_WIDTH))
 }
 
-/// The value of type k, from 0; `None` where its field is neither blank nor a number of format F14.3. Most of these fields end with the
-/// line, and are read out of it: their copy would take some 30 instructions more.
+/// The value of type k, from 0; `None` where its field is neither blank nor a number of format F14.3. Most of
+/// these fields end with the line, and are read out of it: their copy would take some 30 instructions more.
 #[inline(always)]
 fn observation(line: &[u8], k: usize) -> Option<Option<i64>>
     requires { k < TYPES_LIMIT }
@@ -300,7 +301,8 @@ fn observation(line: &[u8], k: usize) -> Option<Option<i64>>
     }
 }
 
-/// Prints cells in place of the bytes from an index on, each value in its columns, and its two indicators, and gives the index after them.
+/// Prints cells in place of the bytes from an index on, each value in its columns, and its two indicators,
+/// and gives the index after them.
 fn print_cells(values: &[Option<i64>], flags: &[u8], bytes: &mut [u8], at: usize) -> usize
     requires ranged { All IsValue values.now }
     requires paired { length flags.now ≡ 2 * length values.now }

@@ -26,7 +26,8 @@ pub fn put_text(bytes: &mut [u8], start: usize, text: &[u8]) -> usize
     ensures end { result ≡ start + length text.now }
     ensures rest { drop (start + length text.now) bytes.new ≡ drop (start + length text.now) bytes.old }
 {
-    // Most satellite lines have no marks to be put: without this a call of the C library comes, and 12 instructions before it.
+    // Most satellite lines have no marks to be put: without this a call of the C library comes, and 12
+    // instructions before it.
     if text.is_empty() {
         return start;
     }

@@ -19,7 +19,8 @@ pub(crate) fn size_print(size: u64, field: &mut [u8])
 {
     let whole = size / SECOND;
     let digits = digits(size - whole * SECOND);
-    // The digits of the groups one after another, as characters; the first 12 lanes are the columns after the point.
+    // The digits of the groups one after another, as characters; the first 12 lanes are the columns after the
+    // point.
     let text = digits.swizzle([6, 5, 4, 2, 1, 0, 14, 13, 12, 10, 9, 8, 3, 3, 3, 3])
         + u8x16::splat(b'0');
     text.extract::<0, 8>().copy_to_slice(&mut field[3..]);

@@ -31,8 +31,8 @@ ghost use Rattle.crx_text.specs.meaning.Codes.{after_cell, code_of, code_text, c
 ghost use Rattle.crx_text.specs.declared.code.Code.TheVariants.{Step};
 ghost use Rattle.crx_base.specs.declared.limits.TheConstants.{LINE_LIMIT};
 
-/// The most bytes that are written with a code: an order, `&`, a minus, the digits, and three more, since digits
-/// are written four at a time.
+/// The most bytes that are written with a code: an order, `&`, a minus, the digits, and three more, since
+/// digits are written four at a time.
 const CODE_WIDTH: usize = DIGITS_LIMIT + 6;
 
 /// Appends a code's printed text: an order is one digit, and `&` is after it. It asks for an
@@ -55,9 +55,9 @@ pub fn code_print(code: Code, text: &mut Text) -> Result<(), TextFull>
     Ok(())
 }
 
-/// Writes a code's printed text and a blank from an index on, and answers the index after them. What is before them stays; up
-/// to two bytes after them may be overwritten.
-/// It asks for an order and numbers within the limits, and for room.
+/// Writes a code's printed text and a blank from an index on, and answers the index after them. What is
+/// before them stays; up to two bytes after them may be overwritten. It asks for an order and numbers within
+/// the limits, and for room.
 #[inline(always)]
 pub fn write_cell(buffer: &mut [u8], at: usize, code: Code) -> usize
     requires printable { IsPrintable code }
@@ -133,9 +133,9 @@ pub fn code_before_blank(line: &[u8]) -> Result<(Code, usize), BadField>
     }
 }
 
-/// Reads a difference up to a line's first blank, or up to its end, and answers it with the index after that blank, or of
-/// the line's end. `None` comes where the cell is another code or none, and also where [`code_before_blank`] is to read it:
-/// of seven digits or more.
+/// Reads a difference up to a line's first blank, or up to its end, and answers it with the index after that
+/// blank, or of the line's end. `None` comes where the cell is another code or none, and also where
+/// [`code_before_blank`] is to read it: of seven digits or more.
 #[inline(always)]
 pub fn step_before_blank(line: &[u8]) -> Option<(i64, usize)>
     ensures value { IfSome result (λ cell. code_of (first_cell line.now) ≡ Some (Step cell.0)) }

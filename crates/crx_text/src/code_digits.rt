@@ -34,10 +34,11 @@ pub(crate) fn digits_before_blank(text: &[u8]) -> Option<(u64, usize)>
     ended_digits(text, size, count)
 }
 
-// What `digits_before_blank` gives, where at most six digits are before a blank, or before the text's end; else None, whatever there
-// is. Six digits are two groups of three, which one product joins, and most codes have no more: `step_before_blank` takes 52 instructions
-// for one, and digit by digit it would take 60 to 115. Where fewer characters than a row has are left of a line, they are copied into a
-// row: a line's last code takes some 60 instructions so, and 50 to 100 digit by digit (bench/README.md).
+// What `digits_before_blank` gives, where at most six digits are before a blank, or before the text's end;
+// else None, whatever there is. Six digits are two groups of three, which one product joins, and most codes
+// have no more: `step_before_blank` takes 52 instructions for one, and digit by digit it would take 60
+// to 115. Where fewer characters than a row has are left of a line, they are copied into a row: a line's last
+// code takes some 60 instructions so, and 50 to 100 digit by digit (bench/README.md).
 #[inline(always)]
 pub(crate) fn few_digits_before_blank(text: &[u8]) -> Option<(u64, usize)>
     ensures { IfSome result (IsDigitsCell text.now) }
@@ -52,8 +53,8 @@ pub(crate) fn few_digits_before_blank(text: &[u8]) -> Option<(u64, usize)>
     ended_digits(text, size, count)
 }
 
-// The number of so many first digits, and the index after its blank or of the text's end; None where something else is
-// after them.
+// The number of so many first digits, and the index after its blank or of the text's end; None where
+// something else is after them.
 #[inline(always)]
 fn ended_digits(text: &[u8], size: u64, count: usize) -> Option<(u64, usize)>
     requires digits { HasFirstDigits text.now size count }
@@ -122,9 +123,10 @@ static SCALES: [u64; FEW + 1] = [
     (1000 << 32) + 1,
 ];
 
-// The number that the digits at a row's beginning write, and how many they are; None where it begins with none, or with more than `FEW`.
-// What the lanes hold is how far a character is above `0`, and after the row bytes 0, which are no digits. The two groups of three digits
-// are weighed by one product, whose upper half is their sum.
+// The number that the digits at a row's beginning write, and how many they are; None where it begins with
+// none, or with more than `FEW`. What the lanes hold is how far a character is above `0`, and after the row
+// bytes 0, which are no digits. The two groups of three digits are weighed by one product, whose upper half
+// is their sum.
 #[inline(always)]
 fn row_number(text: &[u8]) -> Option<(u64, usize)>
     requires { ROW ≤ length text.now }
@@ -194,7 +196,8 @@ fn write_decimal(buffer: &mut [u8], at: usize, size: u64) -> usize
     middle + 4
 }
 
-// Writes a number of any count of digits, four at a time, the first ones first: it calls itself for those before the last four.
+// Writes a number of any count of digits, four at a time, the first ones first: it calls itself for those
+// before the last four.
 #[tactic(auto, using(itoa::proofs::Decimal::length_four, crate::proofs::DigitPairs::four_written))]
 fn write_long(buffer: &mut [u8], at: usize, size: u64) -> usize
     requires { at + length (decimal size) + 3 ≤ length buffer.old }
@@ -210,9 +213,10 @@ fn write_long(buffer: &mut [u8], at: usize, size: u64) -> usize
     middle + 4
 }
 
-// Writes a number of at most four digits. Its four columns are made in one word, the word is shifted by the zeros
-// before the number, and it is written by one store. A branch on the count of digits takes 3 to 15 instructions less, but
-// is mispredicted where the count differs from value to value: 7.9 ns a call in place of 4.4 over random numbers.
+// Writes a number of at most four digits. Its four columns are made in one word, the word is shifted by the
+// zeros before the number, and it is written by one store. A branch on the count of digits takes 3 to 15
+// instructions less, but is mispredicted where the count differs from value to value: 7.9 ns a call in place
+// of 4.4 over random numbers.
 #[inline(always)]
 #[tactic(auto, using(std::proofs::lemmas::Fmt::decimal_nonempty))]
 fn write_short(buffer: &mut [u8], at: usize, size: u32) -> usize
@@ -222,8 +226,9 @@ fn write_short(buffer: &mut [u8], at: usize, size: u32) -> usize
     ensures within { result ≡ at + length (decimal size) }
 {
     let columns = four_digits(size);
-    // The lowest bit that is set among the digits says where the first one is that isn't 0; a bit above the last one ends the search, since
-    // 0 has a digit of its own. That bit is one of every character: to take `0` from each column and to set it took 2 instructions more.
+    // The lowest bit that is set among the digits says where the first one is that isn't 0; a bit above the
+    // last one ends the search, since 0 has a digit of its own. That bit is one of every character: to take
+    // `0` from each column and to set it took 2 instructions more.
     let zeros = ((columns & 0x1f0f_0f0f).trailing_zeros() / 8) as usize;
     write_word(buffer, at, columns >> (8 * zeros));
     at + 4 - zeros
@@ -236,7 +241,8 @@ fn four_digits(size: u32) -> u32
     ensures { to_le_bytes w32 result ≡ (48 + size / 100 / 10)
         ∷ (48 + size / 100 % 10) ∷ (48 + size % 100 / 10) ∷ (48 + size % 100 % 10) ∷ [] }
 {
-    // By one product: the compiler's own division of a number that it knows less of takes three instructions more.
+    // By one product: the compiler's own division of a number that it knows less of takes three instructions
+    // more.
     let high = (size * 5243) >> 19;
     let low = size - high * 100;
     let (high, low) = (high as usize, low as usize);

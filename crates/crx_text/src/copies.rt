@@ -1,4 +1,5 @@
-//! Short texts copied, and blanks put, without a call of the C library, which takes more instructions than so few bytes.
+//! Short texts copied, and blanks put, without a call of the C library, which takes more instructions than so
+//! few bytes.
 
 ghost use Rattle.std.specs.Prelude.{◌≡◌, ◌≤◌, ◌<◌, length, replicate};
 ghost use Rattle.crx_base.specs.declared.limits.TheConstants.{LINE_LIMIT};
@@ -45,7 +46,8 @@ pub fn copy_text(to: &mut [u8], from: &[u8])
     to[count - 1] = last;
 }
 
-/// Puts blanks in place of a text, by vectors as [`copy_text`]. What is after a row's indicators is mostly empty.
+/// Puts blanks in place of a text, by vectors as [`copy_text`]. What is after a row's indicators is mostly
+/// empty.
 #[inline]
 pub fn put_blanks(text: &mut [u8])
     requires { length text.old ≤ LINE_LIMIT }

@@ -60,8 +60,8 @@ pub fn patch_text(old: &Text, marks: &[u8], out: &mut Text) -> Result<(), BadCha
     patch_bytes(old.bytes(), marks, out)
 }
 
-/// Writes the text that marks make of an old one, as [`patch_text`] does, where the old one is a slice. It asks for at most
-/// [`LINE_LIMIT`](crx_base::limits::LINE_LIMIT) bytes in each.
+/// Writes the text that marks make of an old one, as [`patch_text`] does, where the old one is a slice. It
+/// asks for at most [`LINE_LIMIT`](crx_base::limits::LINE_LIMIT) bytes in each.
 pub fn patch_bytes(old: &[u8], marks: &[u8], out: &mut Text) -> Result<(), BadCharacter>
     requires old_fits { length old.now ≤ LINE_LIMIT }
     requires marks_fit { length marks.now ≤ LINE_LIMIT }

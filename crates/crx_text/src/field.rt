@@ -32,7 +32,8 @@ pub(crate) const FIELD: u64 = 0x3fff;
 // The first byte of what a column may have beside blanks and a minus: a digit, or the point.
 const FIRST: [u8; 16] = [45, 48, 48, 48, 48, 48, 48, 48, 48, 48, 46, 48, 48, 48, 0, 0];
 
-// How far from that one on it may be; the first column has no digit, but a minus, and the lanes after the field may have anything.
+// How far from that one on it may be; the first column has no digit, but a minus, and the lanes after the
+// field may have anything.
 const MOST: [u8; 16] = [0, 9, 9, 9, 9, 9, 9, 9, 9, 9, 0, 9, 9, 9, 255, 255];
 
 /// Whether the columns are plain.
@@ -54,8 +55,8 @@ pub(crate) fn is_plain(columns: u8x16) -> bool
 /// What three digits weigh.
 pub(crate) const WEIGHTS: [u8; 16] = [100, 10, 1, 0, 100, 10, 1, 0, 100, 10, 1, 0, 100, 10, 1, 0];
 
-/// The number whose digits are in four groups of three, the first ones first. The groups are joined two at a time, in lanes of 64 bits,
-/// whose products are the fastest ones.
+/// The number whose digits are in four groups of three, the first ones first. The groups are joined two at a
+/// time, in lanes of 64 bits, whose products are the fastest ones.
 #[inline(always)]
 #[tactic(auto, using(crate::proofs::PlainSizes::pairs_are))]
 pub(crate) fn of_groups(groups: u32x4) -> u64

@@ -8,8 +8,8 @@ ghost use Rattle.crx_text.specs.meaning.Numbers.{size_text};
 
 use std::simd::prelude::*;
 
-/// The digits of the groups of three of a size, of its upper half and of its lower half, in each the lower group first: each group's
-/// three digits, the last one first, and a 0.
+/// The digits of the groups of three of a size, of its upper half and of its lower half, in each the lower
+/// group first: each group's three digits, the last one first, and a 0.
 #[inline(always)]
 pub(crate) fn digits(size: u64) -> u8x16
     requires { size < 10 ^ 12 }
@@ -17,13 +17,14 @@ pub(crate) fn digits(size: u64) -> u8x16
 {
     let high = (size / 1_000_000) as u32;
     let low = (size - u64::from(high) * 1_000_000) as u32;
-    // The zeros tell the compiler that each half is small, so that their products are one instruction, and not four.
+    // The zeros tell the compiler that each half is small, so that their products are one instruction, and
+    // not four.
     let halves = u64x2::from_le_bytes(u32x4::from_array([high, 0, low, 0]).to_le_bytes());
     // Each half's rest by 1000, and its thousands in the upper 32 bits.
     let thousands = (halves * u64x2::splat(274_877_907)) >> u64x2::splat(38);
     let parts = halves + thousands * u64x2::splat((1 << 32) - 1000);
-    // A group, its tenth and its hundredth, which one product turns into digits, so that no division is made. The mask tells the compiler
-    // that all factors are small, for which it has a product that is faster.
+    // A group, its tenth and its hundredth, which one product turns into digits, so that no division is made.
+    // The mask tells the compiler that all factors are small, for which it has a product that is faster.
     let groups = u32x4::from_le_bytes(parts.to_le_bytes()) & u32x4::splat(1023);
     let tenths = (groups * u32x4::splat(205)) >> u32x4::splat(11);
     let hundredths = (groups * u32x4::splat(41)) >> u32x4::splat(12);
@@ -40,8 +41,8 @@ const BASES: [u8; 32] = [
     48, 48, 48, 48, 48, 48, 48, 48,
 ];
 
-/// Prints a size right justified into the first columns of a cell, with blanks before it, and answers the index where it begins. The two
-/// columns of the cell's indicators are overwritten.
+/// Prints a size right justified into the first columns of a cell, with blanks before it, and answers the
+/// index where it begins. The two columns of the cell's indicators are overwritten.
 #[inline(always)]
 pub(crate) fn size_print(size: u64, cell: &mut [u8]) -> usize
     requires short { size < 10 ^ 12 }

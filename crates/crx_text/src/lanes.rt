@@ -23,9 +23,9 @@ pub(crate) trait Kind {
             ≡ (list_all (λ lane. lane == 0) others && list_all is_of_kind characters) };
 }
 
-// Whether all characters of a text are of the kind. Nearly all texts are, so that what was found is tested once, at the end. From 8
-// characters on the two ends of a text are one vector: the indicators of four types are as many, and one by one they take 6 instructions
-// each.
+// Whether all characters of a text are of the kind. Nearly all texts are, so that what was found is tested
+// once, at the end. From 8 characters on the two ends of a text are one vector: the indicators of four types
+// are as many, and one by one they take 6 instructions each.
 pub(crate) fn all_of<K: Kind>(text: &[u8]) -> bool
     ensures { result ≡ list_all K.is_of_kind text.now }
 {
@@ -74,8 +74,8 @@ pub(crate) trait Rule {
         ensures value { result ≡ zip2 rule old other };
 }
 
-/// Writes what the rule makes of two texts of one length: where they are shorter than a vector, from 8 characters on of their two ends
-/// in one, of fewer one by one.
+/// Writes what the rule makes of two texts of one length: where they are shorter than a vector, from 8
+/// characters on of their two ends in one, of fewer one by one.
 pub(crate) fn write_by_rule<R: Rule>(old: &[u8], other: &[u8], out: &mut [u8])
     requires { (length other.now ≡ length old.now) × (length out.old ≡ length old.now) }
     ensures { out.new ≡ zip2 R.rule old.now other.now }

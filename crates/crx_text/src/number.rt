@@ -42,10 +42,11 @@ pub fn obs_read(field: &[u8]) -> Result<Option<i64>, BadField>
     number_read(field, OBSERVATION_WIDTH, OBSERVATION_DECIMALS)
 }
 
-/// Reads an observation in the spellings that files have, as [`obs_read`] does, out of its field or out of a whole cell, the field with
-/// two indicators after it, into a place. `false` comes for every other text, also for one that `obs_read` takes, and then the place stays
-/// as it was. A result that holds a value beside a mark of its own is set to zero before each call, and copied after it. Few fields are
-/// blank, so that is tested last.
+/// Reads an observation in the spellings that files have, as [`obs_read`] does, out of its field or out of a
+/// whole cell, the field with two indicators after it, into a place. `false` comes for every other text, also
+/// for one that `obs_read` takes, and then the place stays as it was. A result that holds a value beside a
+/// mark of its own is set to zero before each call, and copied after it. Few fields are blank, so that is
+/// tested last.
 #[inline(always)]
 #[tactic(auto, using(crate::proofs::LaneBits::each_of_field))]
 pub fn obs_read_into(text: &[u8], value: &mut Option<i64>) -> bool
@@ -81,8 +82,9 @@ pub fn obs_print(value: Option<i64>, field: &mut [u8; OBSERVATION_WIDTH])
     field.copy_from_slice(&cell[..OBSERVATION_WIDTH]);
 }
 
-/// Prints an observation's cell in place of the bytes from an index on: the columns that [`obs_print`] prints, and the two of some
-/// indicators that are at an index and after it, which become one load and one store.
+/// Prints an observation's cell in place of the bytes from an index on: the columns that [`obs_print`]
+/// prints, and the two of some indicators that are at an index and after it, which become one load and one
+/// store.
 #[inline(always)]
 pub fn obs_print_cell(
     value: Option<i64>,
@@ -117,8 +119,8 @@ fn obs_print_row(value: Option<i64>, cell: &mut [u8])
         return;
     };
     let size = number.unsigned_abs();
-    // A digit in the first column is printed digit by digit. The millions, which the lanes' digits are made of, are as good a test as the
-    // size itself, and fit 32 bits.
+    // A digit in the first column is printed digit by digit. The millions, which the lanes' digits are made
+    // of, are as good a test as the size itself, and fit 32 bits.
     if ((size / 1_000_000) as u32) >= 1_000_000 {
         number_print(value, OBSERVATION_DECIMALS, &mut cell[0..OBSERVATION_WIDTH]);
         return;

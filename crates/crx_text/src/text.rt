@@ -107,7 +107,8 @@ pub fn trim_end(text: &[u8]) -> &[u8]
         if text[end - 1] != b' ' {
             return &text[..end];
         }
-        // One blank is after the last code of most compact lines, two where the last cell of a row has no indicators.
+        // One blank is after the last code of most compact lines, two where the last cell of a row has no
+        // indicators.
         if text[end - 2] != b' ' {
             return &text[..end - 1];
         }
