@@ -1,5 +1,5 @@
-//! What every other crate stands on: the faults that a message can name, the limits of the formats, what the lines of an input are, and what
-//! the user chose for a run.
+//! What every other crate stands on: the faults that a message can name, the limits of the formats, what the
+//! lines of an input are, and what the user chose for a run.
 #![tactic(auto)]
 
 pub mod fault;

@@ -1,7 +1,8 @@
 //! The limits of this project's profile. Code and definitions cite them from here alone.
 //!
-//! They depend on each other, and the law [`limits_fit`](crate::laws::limits_fit) says how: each line that is written has to fit into
-//! a line that is read, each count into its columns, and each sum of an arc into 64 bits. The prover refuses a number that breaks it.
+//! They depend on each other, and the law [`limits_fit`](crate::laws::limits_fit) says how: each line that is
+//! written has to fit into a line that is read, each count into its columns, and each sum of an arc into 64
+//! bits. The prover refuses a number that breaks it.
 
 /// The most bytes of a line's content, the line end not counted.
 pub const LINE_LIMIT: usize = 8192;

@@ -87,8 +87,8 @@ impl Options {
         })
     }
 
-    /// At every how many epochs one is in full; `None` where only those are that must be: the first, and the first after each
-    /// event or warning.
+    /// At every how many epochs one is in full; `None` where only those are that must be: the first, and the
+    /// first after each event or warning.
     pub fn every(&self) -> Option<u32>
         ensures value { result ≡ self.now.every }
     {

@@ -82,7 +82,8 @@ fn ends_in_year(stem: &str) -> bool
     }
 }
 
-/// The part of the name that the output's name has too, and the ending that it gets, by the first ending that it has.
+/// The part of the name that the output's name has too, and the ending that it gets, by the first ending that
+/// it has.
 fn renamed<'a>(endings: &[Ending], name: &'a str) -> Option<(&'a str, &'static str)>
     ensures { option_map (λ p. p.0.now ++ p.1.now) result
         ≡ first_renamed (map renaming_of endings.now) name.now }

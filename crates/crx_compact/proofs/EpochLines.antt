@@ -7,7 +7,10 @@ use Rattle.crx_compact.proofs.Words.{◌otherwise◌next◌, is_printable, names
 use Rattle.crx_compact.proofs.Words.{Past, satellites_of_line, length-map, apart-map, Tail, past_of_tail}
 use Rattle.crx_compact.proofs.Words.{AreAnnounced, length-each_place, patched, HEAD_WIDTH, NAME_WIDTH, All}
 use Rattle.crx_compact.proofs.Words.{subst, arith, rules, All-head, All-tail, common_steps, list_any}
-use Rattle.crx_compact.proofs.Words.{NamesSatellites, ◌or_else◌with◌, satellite_before}
+use Rattle.crx_compact.proofs.Words.{NamesSatellites, ◌or_else◌with◌, satellite_before, ◌≤◌, by_position, character_of}
+use Rattle.crx_compact.proofs.Words.{at-without_end_blanks, satellites_few, unwrap_or}
+use Rattle.crx_compact.proofs.EpochTexts.{blank-after, ends-within}
+use Rattle.crx_compact.specs.declared.history.TheConstants.{EPOCH_TEXT_LIMIT}
 use Rattle.crx_compact.proofs.{Identifiers.{AreNew, new-before, not-among}, Results.{no-err, if-err, if-true}}
 
 -- whether no identifier is there twice
@@ -118,3 +121,16 @@ announced types before old new line satellites e left =
       counted = facts.counted ∙ ap {B = Option ℕ} Some (sym names);
       apart = cc (different, facts.named.same, facts.named.apart);
     })
+
+-- an epoch line that was read makes a text that is no longer than an epoch's
+pub text-few : (types : List Count) (before : Tail) (line : List ℕ) (satellites : List Satellite)
+    → satellites_of_line types (past_of_tail before) line ≡ Ok satellites
+    → length (patched before.text line) ≤ EPOCH_TEXT_LIMIT
+text-few types before line satellites e =
+    let facts = line-facts_of types (past_of_tail before) line satellites e in
+    let text = patched before.text line in
+    let few = satellites_few (columns text 1 41) in
+    let count = ap (λ (n : Option ℕ). unwrap_or n 0) facts.counted in
+    let within = ends-within (41 + 3 * facts.count) (by_position character_of before.text line)
+    (λ p. sym (at-without_end_blanks _ (41 + 3 * facts.count + p)) ∙ blank-after (41 + 3 * facts.count) text facts.ended p) in
+    omega (arith, within, few, count)

@@ -1,5 +1,5 @@
 -- Beside meaning/AnyWriter: the lines of an epoch, whoever wrote them, are read as that epoch; and no others are.
-use Rattle.std.specs.Prelude.{◌≡◌, ◌≤◌, ℕ, ℤ, ◌*◌, ◌+◌, List, [], ◌∷◌, ◌++◌, map, take, length, Option, Some, None, Ok}
+use Rattle.std.specs.Prelude.{◌≡◌, ◌≤◌, ℕ, ℤ, ◌*◌, ◌+◌, List, ◌∷◌, ◌++◌, map, take, length, Option, Some, None, Ok}
 use Rattle.std.specs.Option.{option_map}
 use Rattle.crx_text.specs.meaning.Columns.{without_end_blanks}
 use Rattle.crx_base.specs.meaning.AsRead.{ReadLine, Content}

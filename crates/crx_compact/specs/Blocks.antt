@@ -1,6 +1,6 @@
 -- The lines of an epoch, one after another in one text, each followed by LF.
 use Rattle.std.specs.Prelude.{◌≡◌, ◌≤◌, ◌<◌, ◌++◌, ◌+◌, ◌-◌, ◌*◌, ℕ, suc, List, [], ◌∷◌, length, take, drop}
-use Rattle.crx_base.specs.declared.limits.TheConstants.{LINE_LIMIT}
+use Rattle.crx_compact.specs.declared.history.TheConstants.{EPOCH_TEXT_LIMIT}
 use Rattle.crx_compact.specs.declared.block.TheConstants.{FIRST_LINES, FRONT, LINES_LIMIT, LINE_ROOM}
 pub use Rattle.crx_base.specs.meaning.Lines.{lines_text}
 
@@ -36,9 +36,9 @@ pub record IsLinePut (line : List ℕ) (room at : ℕ) (old new : List ℕ) (cou
   pub within : at + count < length new
   pub short : count ≤ room
 
--- there is place for so many lines, each as long as a line may be, among so many lines and bytes
+-- there is place for so many lines, each as long as the text of an epoch may be, among so many lines and bytes
 abbrev pub HasFront : ℕ → ℕ → ℕ → Type 0
-HasFront front lines bytes = (front ≤ lines) × (front * (LINE_LIMIT + 1) ≤ bytes)
+HasFront front lines bytes = (front ≤ lines) × (front * (EPOCH_TEXT_LIMIT + 1) ≤ bytes)
 
 -- of so many lines, those in front among them, and of so many bytes, each line has its room at most; and for
 -- all lines that may come there are so many lengths and there is just so much memory

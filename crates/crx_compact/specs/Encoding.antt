@@ -2,10 +2,11 @@
 use Rattle.std.specs.Prelude.{◌≡◌, ◌+◌, ℕ, List, length, [], Bool, true, false, Option, None, Some, if◌then◌else◌}
 use Rattle.crx_compact.specs.Blocks.{PendingLines}
 use Rattle.crx_compact.specs.Placing.{OpenHistory, IsBetween, tail_of_history}
-use Rattle.crx_compact.specs.Steps.{tail_written_after}
+use Rattle.crx_compact.specs.Steps.{lines_after_tail, tail_after, tail_written_after}
 use Rattle.crx_compact.specs.Tails.{Tail}
-use Rattle.crx_compact.specs.Written.{AreRowsWritten}
+use Rattle.crx_compact.specs.Written.{AreRowsWritten, epoch_by_rows}
 use Rattle.crx_compact.specs.declared.block.TheConstants.{FIRST_LINES, LINES_LIMIT}
+use Rattle.crx_rinex.specs.meaning.EpochLines.{ObservationHead}
 use Rattle.crx_rinex.specs.meaning.Observations.{Row}
 
 -- the tail of the epochs before, or none; whether an epoch is open, and then whether it was asked for in full, and its rows so far; the
@@ -25,6 +26,14 @@ forgotten state pending = record state { before = None; is_open = false; rows = 
 -- the tail that the rows of the open epoch are written after
 abbrev pub tail_in : EncoderState → Tail
 tail_in state = tail_written_after state.in_full state.before
+
+-- the open epoch, with this line, has ended: its lines are ready, and the tail is that after it
+pub record EndsEpoch (head : ObservationHead) (old new : EncoderState) : Type 0 where
+  pub lines : new.pending ≡ lines_after_tail (tail_in old) (epoch_by_rows head old.rows)
+  pub before : new.before ≡ Some (tail_after (tail_in old) (epoch_by_rows head old.rows))
+  pub closed : new.is_open ≡ false
+  pub rows : new.rows ≡ []
+  pub rooms : new.rooms ≡ old.rooms
 
 -- nothing is open, and the history is that after the epochs before
 pub record IsClosed (before : Option Tail) (is_kept : Bool) (rows : List Row) (history : OpenHistory) : Type 0 where

@@ -1,6 +1,7 @@
 -- What reading an epoch line makes of a history: its satellites have come, or the line is refused.
 use Rattle.std.specs.Prelude.{◌≡◌, ℕ, List, [], All, length, map, Result, Ok, Some, None, OnOk}
-use Rattle.std.specs.Prelude.{IfErr}
+use Rattle.std.specs.Prelude.{IfErr, IfOk, Bool, true, ◌⊎◌}
+use Rattle.std.specs.Result.{is_ok}
 use Rattle.crx_base.specs.declared.fault.Fault.{Fault}
 use Rattle.crx_base.specs.declared.fault.Fault.TheVariants.{OutOfMemory}
 use Rattle.crx_text.specs.Texts.{patched}
@@ -9,7 +10,7 @@ use Rattle.crx_header.specs.meaning.Satellites.{types_of_satellite}
 use Rattle.crx_compact.specs.HeldRows.{IsAwaitedSatellite, past_of_tail}
 use Rattle.crx_compact.specs.meaning.CompactPlaces.{satellites_of_line}
 use Rattle.crx_compact.specs.meaning.EpochText.{Satellite}
-use Rattle.crx_compact.specs.Placing.{HasRoom, HaveTypesRoom, IsAnnounced, KeepsRooms, OpenHistory}
+use Rattle.crx_compact.specs.Placing.{HasRoom, HaveTypesRoom, IsAnnounced, IsPlaced, KeepsRooms, OpenHistory}
 use Rattle.crx_compact.specs.Placing.{PlacedRows, padded, padded_among, satellite_of, tail_of_history}
 use Rattle.crx_compact.specs.Refusals.{AnswersRefusal}
 use Rattle.crx_compact.specs.Steps.{tail_named}
@@ -57,6 +58,15 @@ pub record AnswersSatellites (made : Result (List Satellite) Fault) (old new : P
   pub err : IfErr answer (AreSatellitesRefused made old new)
   pub rooms : KeepsRooms old.rooms new.rooms
 
+-- a satellite of an epoch text has come, with room for so many types, where none of its satellites has a fault or no room was asked for; or the
+-- text is refused. No satellite has less room than before
+pub record AnswersName (made : Result (List Satellite) Fault) (name : List ℕ) (cells : ℕ) (old new : PlacedRows)
+    (answer : Result Bool Fault) : Type 0 where
+  pub ok : IfOk answer (IsPlaced name cells old new)
+  pub back : OnOk answer ((is_ok made ≡ true) ⊎ KeepsRooms new.rooms old.rooms)
+  pub err : IfErr answer (AreSatellitesRefused made old new)
+  pub rooms : KeepsRooms old.rooms new.rooms
+
 -- an epoch line was read after a history: the satellites of the text that it makes have come, and there is room for them
 pub record IsEpochLineRead (types : List Count) (line : List ℕ) (old new : OpenHistory) : Type 0 where
   pub satellites : List Satellite
@@ -77,3 +87,10 @@ pub record IsEpochLineRefused (types : List Count) (line : List ℕ) (old new : 
   pub wanting : (satellites : List Satellite)
       → satellites_of_line types (past_of_tail (tail_of_history old)) line ≡ Ok satellites
       → HaveTypesRoom satellites old.satellites.rooms → ⊥
+
+-- an epoch line was read or refused; no satellite has less room than before
+pub record AnswersEpochLine (types : List Count) (line : List ℕ) (old new : OpenHistory) (answer : Result (Unit {0}) Fault)
+    : Type 0 where
+  pub ok : OnOk answer (IsEpochLineRead types line old new)
+  pub err : IfErr answer (IsEpochLineRefused types line old new)
+  pub rooms : KeepsRooms old.satellites.rooms new.satellites.rooms

@@ -33,6 +33,7 @@ satellites_with one other = record one {
 abbrev pub history_with : HistoryInside → HistoryInside → HistoryInside
 history_with one other = record one {
   text = other.text;
+  length = other.length;
   next_text = other.next_text;
   clock = other.clock;
   satellites = other.satellites;

@@ -7,7 +7,7 @@ use Rattle.crx_text.specs.meaning.EachPlace.{each_place}
 use Rattle.crx_compact.specs.ArcTails.{ArcTail}
 use Rattle.crx_compact.specs.meaning.EpochText.{Satellite}
 use Rattle.crx_compact.specs.meaning.Sequences.{named}
-use Rattle.std.specs.Prelude.{Ok, Result, slice_get, slice_set}
+use Rattle.std.specs.Prelude.{IfOk, IsOk, Ok, OnOk, Result, ◌⊎◌, slice_get, slice_set}
 use Rattle.crx_header.specs.meaning.ObservationTypes.{Count, IsAllowedCount}
 use Rattle.crx_compact.specs.HeldRows.{AreHeldFlags, HeldRow, IsAwaitedSatellite, row_held}
 use Rattle.crx_base.specs.declared.fault.Fault.{Fault}
@@ -39,6 +39,21 @@ row_of_entry entry = row_tail_of entry.0 entry.1
 -- how many types an entry of the map has room for
 abbrev pub room_of_entry : List ℕ × SatelliteTail → List ℕ × ℕ
 room_of_entry entry = (entry.0, entry.1.room)
+
+-- so many arcs, with all their memory, and so many indicators belong together: two to an arc, for as many types as a system may have
+abbrev pub IndicatorsMatchArcs : ℕ → ℕ → ℕ → ℕ → Type 0
+IndicatorsMatchArcs arcs arcs_memory indicators indicators_memory = (arcs ≤ TYPES_LIMIT) × (indicators ≡ 2 * arcs)
+    × (arcs_memory ≡ arcs) × (indicators_memory ≤ 2 * TYPES_LIMIT)
+
+-- room for so many types was asked for: what is stored stays; after a refusal too there is no less room than before, and never more than that
+-- or than was asked for; and there is no refusal where there was as much
+pub record AnswersRoom {E : Type 0} (count : ℕ) (old new : SatelliteTail) (answer : Result (Unit {0}) E) : Type 0 where
+  pub flags : new.flags ≡ old.flags
+  pub cells : new.cells ≡ old.cells
+  pub room : OnOk answer (count ≤ new.room)
+  pub kept : old.room ≤ new.room
+  pub only : (new.room ≤ old.room) ⊎ (new.room ≤ count)
+  pub known : count ≤ old.room → IsOk answer
 
 -- indicators of so many types, for which the satellite has room
 pub record FitsFlags (count : ℕ) (flags : List ℕ) (satellite : SatelliteTail) : Type 0 where
@@ -123,6 +138,14 @@ pub record AnswersPlacing (name : List ℕ) (count : ℕ) (old new : PlacedRows)
   pub placed : IfSome answer (IsPlaced name count old new)
   pub unplaced : answer ≡ None → IsUnplaced name count old new
   pub rooms : HasSameRooms old.rooms new.rooms
+
+-- a row was to be written: there is no refusal where there was room for it; where it is its satellite's first one there is; and no satellite
+-- has less than before
+pub record PreparesRow {E : Type 0} (name : List ℕ) (count : ℕ) (before after : List (List ℕ × ℕ)) (answer : Result Bool E)
+    : Type 0 where
+  pub known : HasRoom name count before → IsOk answer
+  pub room : IfOk answer (λ is_new. is_new ≡ true → HasRoom name count after)
+  pub rooms : KeepsRooms before after
 
 -- a satellite's row by its count of types, where no line of the epoch has changed it yet
 abbrev pub padded : Satellite → Option RowTail → RowTail

@@ -1,5 +1,5 @@
-//! Arcs: Hatanaka's Compact RINEX 3.0, data arcs. An arc's values become codes and come back from them by running
-//! differences: an arc is stored as its order and its latest differences of order 0, 1, .. up to it.
+//! Arcs: Hatanaka's Compact RINEX 3.0, data arcs. An arc's values become codes and come back from them by
+//! running differences: an arc is stored as its order and its latest differences of order 0, 1, .. up to it.
 
 ghost use Rattle.std.specs.Prelude.{◌≡◌, ◌≤◌, ◌<◌, ◌+◌, ◌*◌, ◌^◌, ◌++◌, ◌∷◌, [], ℤ, List, Option, None, Some, Ok, Err, length, take, IfSome, OnSome, IfNone, OnOk, OnErr, IsTrue};
 ghost use Rattle.crx_text.specs.Codes.{IsPrintable, IsShort};
@@ -31,12 +31,12 @@ pub type ObsArc = Arc<OBSERVATION_WIDTH>;
 /// The arc of the receiver clock offset, in units of 10^-12 seconds.
 pub type ClockArc = Arc<CLOCK_WIDTH>;
 
-/// An arc of values that fit a field of so many columns: its order, and its latest differences of order 0, 1, .. up to
-/// it or as far as its values go. It takes no memory elsewhere.
+/// An arc of values that fit a field of so many columns: its order, and its latest differences of order 0, 1,
+/// .. up to it or as far as its values go. It takes no memory elsewhere.
 #[derive(Drop)]
 pub struct Arc<const WIDTH: usize> {
-    // These two are compared as one number (`is_third`). They are before the differences, so that most arcs are read and
-    // written in their first 40 bytes of 88.
+    // These two are compared as one number (`is_third`). They are before the differences, so that most arcs
+    // are read and written in their first 40 bytes of 88.
     order: u8,
     count: u8,
     differences: [i64; KEPT_LIMIT],
@@ -54,8 +54,8 @@ impl<const WIDTH: usize> Model for Arc<WIDTH> {
     ghost invariant = { λ arc. IsArcInRange WIDTH arc.order arc.count (take arc.count arc.differences) };
 }
 
-/// Puts the differences at a next value in place of those at the value before it, of order 0 up to the given one, and
-/// gives the difference of that order.
+/// Puts the differences at a next value in place of those at the value before it, of order 0 up to the given
+/// one, and gives the difference of that order.
 fn go_on(differences: &mut [i64], order: usize, value: i64) -> i64
     requires within { order < length differences.old }
     requires few { order ≤ ORDER_LIMIT }
@@ -86,7 +86,8 @@ fn put_four(differences: &mut [i64], value: i64, first: i64, second: i64, third:
     differences[3] = third;
 }
 
-/// The value after the one that some differences of order 0, 1, .. are at, by the difference of the next order.
+/// The value after the one that some differences of order 0, 1, .. are at, by the difference of the next
+/// order.
 fn value_after(differences: &[i64], number: i64) -> i64
     requires few { length differences.now ≤ ORDER_LIMIT }
     requires below { AreBelow value_bound differences.now }
@@ -100,8 +101,8 @@ fn value_after(differences: &[i64], number: i64) -> i64
     value
 }
 
-/// Whether an arc of this order, with so many differences, has order 3 and four of them, as nearly all arcs have from their fourth value
-/// on. The two numbers are compared as one.
+/// Whether an arc of this order, with so many differences, has order 3 and four of them, as nearly all arcs
+/// have from their fourth value on. The two numbers are compared as one.
 #[inline(always)]
 fn is_third(order: u8, count: u8) -> bool
     ensures third { IsTrue result → (order ≡ 3) × (count ≡ 4) }
@@ -123,9 +124,10 @@ impl<const WIDTH: usize> Arc<WIDTH> {
         }
     }
 
-    /// The code of a next value, after which the arc goes on: `Missing` where there is none, and then the arc is over; of
-    /// a first value the value itself and the order [`WRITTEN_ORDER`]; else the next difference of the arc's order, or
-    /// of a lower one while it has too few values. It asks for a value that fits the columns.
+    /// The code of a next value, after which the arc goes on: `Missing` where there is none, and then the arc
+    /// is over; of a first value the value itself and the order [`WRITTEN_ORDER`]; else the next difference
+    /// of the arc's order, or of a lower one while it has too few values. It asks for a value that fits the
+    /// columns.
     pub fn push(&mut self, value: Option<i64>) -> Code
         requires { IsMissingOrWithin WIDTH value }
         ensures code { result ≡ code_of_value value self.old }
@@ -155,9 +157,10 @@ impl<const WIDTH: usize> Arc<WIDTH> {
         Code::Step(highest)
     }
 
-    /// Does what [`Arc::push`] does where the code is a difference of order 3, as that of most values is, and gives that difference: no
-    /// other code has to be tried, three differences are made without a loop, and the order and the count, which stay, aren't written.
-    /// `None` comes where the arc has another order or fewer values, and then it is as it was.
+    /// Does what [`Arc::push`] does where the code is a difference of order 3, as that of most values is, and
+    /// gives that difference: no other code has to be tried, three differences are made without a loop, and
+    /// the order and the count, which stay, aren't written. `None` comes where the arc has another order or
+    /// fewer values, and then it is as it was.
     #[inline(always)]
     pub fn push_third(&mut self, value: i64) -> Option<i64>
         requires { IsWithin WIDTH value }
@@ -177,17 +180,19 @@ impl<const WIDTH: usize> Arc<WIDTH> {
         Some(third)
     }
 
-    /// The value that a next code gives, after which the arc goes on; `None` of `Missing`, and then the arc is over. A
-    /// start begins a new arc, also in the middle of one. It asks for an order and a number within the limits.
+    /// The value that a next code gives, after which the arc goes on; `None` of `Missing`, and then the arc
+    /// is over. A start begins a new arc, also in the middle of one. It asks for an order and a number within
+    /// the limits.
     ///
-    /// `NoArc` comes at a difference where no arc has begun, `OutOfRange` where the value doesn't fit the columns. After
-    /// either the arc is as it was.
+    /// `NoArc` comes at a difference where no arc has begun, `OutOfRange` where the value doesn't fit the
+    /// columns. After either the arc is as it was.
     pub fn apply(&mut self, code: Code) -> Result<Option<i64>, Fault>
         requires { IsPrintable code }
         ensures value { result ≡ value_of_code WIDTH code self.old }
         ensures ok { OnOk result (self.new ≡ arc_of_code code self.old) }
         ensures err { OnErr result (self.new ≡ self.old) }
-        // After any codes at all, of which those that were refused don't count, the value is the one that they give.
+        // After any codes at all, of which those that were refused don't count, the value is the one that
+        // they give.
         ensures every { (codes : List Code) → self.old ≡ arc_of_codes WIDTH codes
             → (result ≡ value_of WIDTH (code ∷ accepted WIDTH codes))
             × (self.new ≡ arc_of_codes WIDTH (code ∷ codes)) }
@@ -222,9 +227,10 @@ impl<const WIDTH: usize> Arc<WIDTH> {
         }
     }
 
-    /// Does what [`Arc::apply`] does at a difference of order 3, as most codes are, and gives the value: three sums without a loop, and
-    /// the order and the count, which stay, aren't written. `None` comes where the arc has another order or fewer values, or where the
-    /// value doesn't fit, and then the arc is as it was.
+    /// Does what [`Arc::apply`] does at a difference of order 3, as most codes are, and gives the value:
+    /// three sums without a loop, and the order and the count, which stay, aren't written. `None` comes where
+    /// the arc has another order or fewer values, or where the value doesn't fit, and then the arc is as it
+    /// was.
     #[inline(always)]
     pub fn apply_third(&mut self, number: i64) -> Option<i64>
         requires { IsShort number }

@@ -1,6 +1,6 @@
 //! The lines of an epoch, made one after another and borrowed in that order, one by one or as one text.
 
-ghost use Rattle.std.specs.Prelude.{◌≡◌, ◌≤◌, ◌<◌, ◌+◌, ◌-◌, ◌*◌, ◌++◌, ◌∷◌, ◌↔◌, [], ℕ, IfOk, IsTrue, Some, drop, length, max, slice_get, slice_set, take, vec_capacity};
+ghost use Rattle.std.specs.Prelude.{◌≡◌, ◌≤◌, ◌<◌, ◌+◌, ◌-◌, ◌*◌, ◌++◌, ◌∷◌, ◌↔◌, [], ℕ, IfOk, IsTrue, Some, drop, length, slice_get, slice_set, take, vec_capacity};
 ghost use Rattle.std.specs.Borrow.{sem};
 ghost use Rattle.std.specs.Io.BufRead.{Rests};
 ghost use Rattle.std.specs.Option.{option_copied};
@@ -13,30 +13,34 @@ ghost use Rattle.crx_compact.specs.ShownRows.{shown_row};
 ghost use Rattle.crx_compact.specs.Steps.{row_line_after, row_tail_after};
 ghost use Rattle.crx_compact.specs.Tails.{RowTail};
 ghost use Rattle.crx_compact.specs.contracts.block.Block.{the_row};
+ghost use Rattle.crx_compact.specs.declared.history.TheConstants.{EPOCH_TEXT_LIMIT};
 
 use crate::cells::CELL_ROOM;
+use crate::history::EPOCH_TEXT_LIMIT;
 use crate::satellites::Satellites;
-use crx_base::limits::{LINE_LIMIT, SATELLITES_LIMIT, TYPES_LIMIT};
+use crx_base::limits::{SATELLITES_LIMIT, TYPES_LIMIT};
 use crx_text::Text;
 use crx_text::block::put_line;
 use std::alloc::{AllocError, Global};
 use std::marker::Model;
 use std::mem;
 
-/// How many lines of an epoch come before its rows, in compact text: they are known once its last row has come.
+/// How many lines of an epoch come before its rows, in compact text: they are known once its last row has
+/// come.
 pub(crate) const FIRST_LINES: usize = 2;
 
 /// How many lines may come behind these: a row for each satellite, and in RINEX the first line before them.
 pub(crate) const LINES_LIMIT: usize = SATELLITES_LIMIT + 1;
 
-/// How many bytes a line takes at most, with its LF: the compact line of a row of as many types as a system may have. No printed line is longer.
+/// How many bytes a line takes at most, with its LF: the compact line of a row of as many types as a system
+/// may have. No printed line is longer.
 pub(crate) const LINE_ROOM: usize = CELL_ROOM * TYPES_LIMIT + 2 * TYPES_LIMIT + 1;
 
-/// How many bytes are left for the first lines.
-pub(crate) const FRONT: usize = FIRST_LINES * (LINE_LIMIT + 1);
+/// How many bytes are left for the first lines: each is as long as the text of an epoch at most.
+pub(crate) const FRONT: usize = FIRST_LINES * (EPOCH_TEXT_LIMIT + 1);
 
-/// The lines of an epoch that are pending, each followed by LF. Memory for the longest epoch that there is is asked for once; only what is
-/// written of it comes into use.
+/// The lines of an epoch that are pending, each followed by LF. Memory for the longest epoch that there is is
+/// asked for once; only what is written of it comes into use.
 #[derive(Drop)]
 pub struct Block {
     /// The lines; the bytes after them are of earlier, longer texts, and mean nothing.
@@ -105,10 +109,10 @@ impl Block {
         self.front = FIRST_LINES;
     }
 
-    /// Puts a line in front of the others.
+    /// Puts a line in front of the others, which is no longer than the text of an epoch.
     pub(crate) fn put_front(&mut self, line: &[u8])
         requires front { 0 < self.old.front }
-        requires short { length line.now ≤ LINE_LIMIT }
+        requires short { length line.now ≤ EPOCH_TEXT_LIMIT }
         ensures lines { self.new.lines ≡ line.now ∷ self.old.lines }
         ensures front { self.new.front + 1 ≡ self.old.front }
         ensures left { self.new.left ≡ self.old.left }
@@ -135,8 +139,8 @@ impl Block {
         self.filled += line.len() + 1;
     }
 
-    /// Puts the compact line of a row after the others; the row's satellite is at an index among those that have come, and has room for the
-    /// row. What is stored of the satellite is that after the row.
+    /// Puts the compact line of a row after the others; the row's satellite is at an index among those that
+    /// have come, and has room for the row. What is stored of the satellite is that after the row.
     #[inline(always)]
     pub(crate) fn put_row(
         &mut self,
@@ -161,7 +165,8 @@ impl Block {
         ensures kept { KeepsRest satellites.old satellites.new }
     {
         use_bytes(&mut self.bytes, self.filled);
-        // The place of the bytes and the index are read once: after the line is written they would be read again, by 4 instructions.
+        // The place of the bytes and the index are read once: after the line is written they would be read
+        // again, by 4 instructions.
         let filled = self.filled;
         let bytes = self.bytes.as_mut_slice();
         let length = satellites.write_line(index, values, flags, scratch, bytes, filled);
@@ -171,7 +176,8 @@ impl Block {
         self.filled = filled + (length + 1);
     }
 
-    /// Puts the printed line of the row that a satellite shows after the others; the satellite is at an index among those that have come.
+    /// Puts the printed line of the row that a satellite shows after the others; the satellite is at an index
+    /// among those that have come.
     #[inline(always)]
     pub(crate) fn put_printed(&mut self, satellites: &Satellites, index: usize)
         requires left { 0 < self.old.left }
@@ -257,8 +263,8 @@ fn lengthen<T: Copy>(items: &mut Vec<T>, count: usize, item: T)
     *items = lengthened(mem::replace(items, Vec::new(alloc)), count, item);
 }
 
-/// A list with items that are all the same behind its own, for which it has memory. As a value it is filled by one call of the C library;
-/// behind a reference an item would take five instructions.
+/// A list with items that are all the same behind its own, for which it has memory. As a value it is filled
+/// by one call of the C library; behind a reference an item would take five instructions.
 #[inline(always)]
 fn lengthened<T: Copy>(mut items: Vec<T>, count: usize, item: T) -> Vec<T>
     requires longer { length items.items ≤ count }

@@ -20,12 +20,12 @@ use crx_base::Fault;
 use crx_base::limits::{CELL_WIDTH, DIGITS_LIMIT};
 use crx_text::{Code, code_before_blank, obs_print_cell, step_before_blank, write_cell};
 
-/// The room for a cell in a satellite line: a code with its order, `&` and minus, and three bytes more, since digits are written four at a
-/// time. The cell's blank is one of the three.
+/// The room for a cell in a satellite line: a code with its order, `&` and minus, and three bytes more, since
+/// digits are written four at a time. The cell's blank is one of the three.
 pub const CELL_ROOM: usize = DIGITS_LIMIT + 6;
 
-/// Writes the code of an arc's next value and a blank from an index on, gives the index after them, and the arc goes on. It is called for
-/// the few values that [`write_value_fast`] doesn't write itself.
+/// Writes the code of an arc's next value and a blank from an index on, gives the index after them, and the
+/// arc goes on. It is called for the few values that [`write_value_fast`] doesn't write itself.
 #[cold]
 #[inline(never)]
 fn write_value(arc: &mut ObsArc, value: i64, bytes: &mut [u8], at: usize) -> usize
@@ -37,8 +37,9 @@ fn write_value(arc: &mut ObsArc, value: i64, bytes: &mut [u8], at: usize) -> usi
     write_cell(bytes, at, code)
 }
 
-/// Does what [`write_value`] does, where there may be no value. Most values are missing, or have a difference of order 3 as their code:
-/// these two are written here, without a call and without asking which code it is, and only the others by a call.
+/// Does what [`write_value`] does, where there may be no value. Most values are missing, or have a difference
+/// of order 3 as their code: these two are written here, without a call and without asking which code it is,
+/// and only the others by a call.
 #[inline(always)]
 fn write_value_fast(arc: &mut ObsArc, value: Option<i64>, bytes: &mut [u8], at: usize) -> usize
     requires value { IsValue value }
@@ -55,9 +56,10 @@ fn write_value_fast(arc: &mut ObsArc, value: Option<i64>, bytes: &mut [u8], at: 
     }
 }
 
-/// Writes the codes of the next values of some arcs, each followed by a blank, from an index on, gives the index after them, and the arcs
-/// go on. Each value fits its columns, and there are [`CELL_ROOM`] bytes for each. Arcs behind those of the values stay. Part of its
-/// callers, as a call takes up to 23 instructions for each line.
+/// Writes the codes of the next values of some arcs, each followed by a blank, from an index on, gives the
+/// index after them, and the arcs go on. Each value fits its columns, and there are [`CELL_ROOM`] bytes for
+/// each. Arcs behind those of the values stay. Part of its callers, as a call takes up to 23 instructions for
+/// each line.
 #[inline(always)]
 pub fn write_cells(
     arcs: &mut [ObsArc],
@@ -82,8 +84,9 @@ pub fn write_cells(
     end
 }
 
-/// Reads the cell that a text begins with, whatever its code is: the arc at a place goes on by it. It gives the index after the cell and
-/// its blank, and is called for the few cells that [`read_cell_fast`] doesn't read.
+/// Reads the cell that a text begins with, whatever its code is: the arc at a place goes on by it. It gives
+/// the index after the cell and its blank, and is called for the few cells that [`read_cell_fast`] doesn't
+/// read.
 ///
 /// `BadField` comes where the cell is no code, `NoArc` and `OutOfRange` come as by [`ObsArc::apply`].
 #[inline(never)]
@@ -98,9 +101,10 @@ fn read_cell(arcs: &mut [ObsArc], index: usize, text: &[u8]) -> Result<usize, Fa
     Ok(length)
 }
 
-/// The value that a difference gives, after which the arc goes on; `None` where the value has a fault, and then the arc is as it was. It
-/// is called for the few differences that aren't of order 3, or whose value doesn't fit. In the loop over the cells the place for the answer
-/// of [`ObsArc::apply`] would be cleared for each cell.
+/// The value that a difference gives, after which the arc goes on; `None` where the value has a fault, and
+/// then the arc is as it was. It is called for the few differences that aren't of order 3, or whose value
+/// doesn't fit. In the loop over the cells the place for the answer of [`ObsArc::apply`] would be cleared for
+/// each cell.
 #[inline(never)]
 fn apply_step(arc: &mut ObsArc, number: i64) -> Option<i64>
     requires short { IsShort number }
@@ -115,12 +119,13 @@ fn apply_step(arc: &mut ObsArc, number: i64) -> Option<i64>
     }
 }
 
-/// Reads the cell that a text begins with, where it has no code or a difference, as most cells do; `None` where it has another code, has
-/// more than six digits, or has a fault, and then the arcs are as they were. Most differences are of order 3, for which there is a form
-/// of its own.
+/// Reads the cell that a text begins with, where it has no code or a difference, as most cells do; `None`
+/// where it has another code, has more than six digits, or has a fault, and then the arcs are as they were.
+/// Most differences are of order 3, for which there is a form of its own.
 ///
-/// Six digits and the blank after them are within a row of eight characters, and are read at once, the minus having been put aside.
-/// That takes 52 instructions; digit by digit one digit takes 60 and six take 115 (bench/README.md).
+/// Six digits and the blank after them are within a row of eight characters, and are read at once, the minus
+/// having been put aside. That takes 52 instructions; digit by digit one digit takes 60 and six take 115
+/// (bench/README.md).
 #[inline(always)]
 fn read_cell_fast(arcs: &mut [ObsArc], index: usize, text: &[u8]) -> Option<usize>
     requires within { index < length arcs.old }
@@ -151,13 +156,14 @@ fn rest_after(text: &[u8], count: usize) -> &[u8]
     &text[count..]
 }
 
-/// Reads a cell of a line for each of the first so many arcs, which go on by them, and gives the index at which the marks begin.
+/// Reads a cell of a line for each of the first so many arcs, which go on by them, and gives the index at
+/// which the marks begin.
 ///
-/// The first cell with a fault decides: `BadField` where its text is no code, then `NoArc` and `OutOfRange` as by
-/// [`ObsArc::apply`]. The arcs before it have gone on then.
+/// The first cell with a fault decides: `BadField` where its text is no code, then `NoArc` and `OutOfRange`
+/// as by [`ObsArc::apply`]. The arcs before it have gone on then.
 ///
-/// The calls for the few other cells are in the loop: a loop without calls, meant to keep all in registers, took more instructions (.2 a
-/// byte of RINEX, bench/README.md).
+/// The calls for the few other cells are in the loop: a loop without calls, meant to keep all in registers,
+/// took more instructions (.2 a byte of RINEX, bench/README.md).
 #[inline(always)]
 pub(crate) fn read_cells(arcs: &mut [ObsArc], count: usize, line: &[u8]) -> Result<usize, Fault>
     requires fitting { count ≤ length arcs.old }
@@ -179,8 +185,8 @@ pub(crate) fn read_cells(arcs: &mut [ObsArc], count: usize, line: &[u8]) -> Resu
     Ok(line.len() - rest.len())
 }
 
-/// Prints the newest values of arcs, each with its two indicators, in place of the bytes from an index on, and gives the index after them.
-/// Both indicators of a cell are there: they become one load and one store.
+/// Prints the newest values of arcs, each with its two indicators, in place of the bytes from an index on,
+/// and gives the index after them. Both indicators of a cell are there: they become one load and one store.
 #[inline(always)]
 pub fn print_cells(arcs: &[ObsArc], flags: &[u8], bytes: &mut [u8], at: usize) -> usize
     requires full { 2 * length arcs.now ≤ length flags.now }

@@ -1,7 +1,7 @@
-//! Epochs to compact lines, and compact lines to epochs, by the history, which is what they need of earlier epochs: Hatanaka's
-//! Compact RINEX 3.0.
+//! Epochs to compact lines, and compact lines to epochs, by the history, which is what they need of earlier
+//! epochs: Hatanaka's Compact RINEX 3.0.
 
-ghost use Rattle.std.specs.Prelude.{◌≡◌, ◌≤◌, ◌<◌, ◌++◌, ◌∷◌, List, if◌then◌else◌, [], Some, None, true, false, length, IfOk, IfErr, OnOk, OnErr, Err, IsOk};
+ghost use Rattle.std.specs.Prelude.{◌≡◌, ◌≤◌, ◌<◌, ◌∷◌, List, if◌then◌else◌, [], Some, None, true, false, length, IfOk, IfErr, OnOk, OnErr, Err};
 ghost use Rattle.crx_rinex.specs.Epochs.{is_full_epoch};
 ghost use Rattle.std.specs.Prelude.{◌⊎◌};
 ghost use Rattle.crx_base.specs.meaning.AsRead.{Content, ReadLine};
@@ -45,15 +45,15 @@ pub(crate) enum Stage {
     Rows,
 }
 
-/// The columns of an epoch's cells over the epochs before it: the history, which the next epoch's compact lines are made or read after, and
-/// how many lines of an epoch have come in part.
+/// The columns of an epoch's cells over the epochs before it: the history, which the next epoch's compact
+/// lines are made or read after, and how many lines of an epoch have come in part.
 #[derive(Drop)]
 pub struct Columns {
     history: History,
     /// Whether an epoch came since everything was last forgotten.
     is_kept: bool,
-    /// Whether it is known that the satellites of the history are those that its text names: an epoch line was read last, and no epoch of
-    /// RINEX was encoded since.
+    /// Whether it is known that the satellites of the history are those that its text names: an epoch line
+    /// was read last, and no epoch of RINEX was encoded since.
     is_named: bool,
     stage: Stage,
     /// How many satellite lines of the open epoch have come.
@@ -119,8 +119,8 @@ impl Columns {
         matches!(self.stage, Stage::Unbegun)
     }
 
-    /// Makes the compact lines of an epoch that has all its rows: in full, where that is asked for or there is no history, else as
-    /// differences from the epoch before.
+    /// Makes the compact lines of an epoch that has all its rows: in full, where that is asked for or there
+    /// is no history, else as differences from the epoch before.
     ///
     /// `OutOfMemory` is its one refusal: it hands the epoch back, and the columns are as they were.
     pub fn encode(&mut self, epoch: Epoch, full: bool) -> Result<Coded, (Epoch, Fault)>
@@ -137,7 +137,8 @@ impl Columns {
         ensures err { OnErr result (self.new.state ≡ self.old.state) }
         // No satellite has less room than before, after a refusal too.
         ensures rooms { KeepsRooms self.old.rooms self.new.rooms }
-        // After any epochs at all, the lines are those of their compact text, and the columns have their tail.
+        // After any epochs at all, the lines are those of their compact text, and the columns have their
+        // tail.
         ensures left { (epochs : List Marked) → tail_held self.old.state ≡ tail_or_nothing epochs
             → OnOk result (self.new.state ≡ Idle
             (tail_or_nothing (record { in_full = full; epoch = epoch } ∷ epochs))) }
@@ -163,12 +164,12 @@ impl Columns {
         }
     }
 
-    /// Begins an epoch with its epoch line, which is read after the epoch before; a line that begins with `>` is read after
-    /// nothing. The counts of types hold for all lines of the epoch.
+    /// Begins an epoch with its epoch line, which is read after the epoch before; a line that begins with `>`
+    /// is read after nothing. The counts of types hold for all lines of the epoch.
     ///
     /// `NotAnEpoch` comes where there is no history and the line doesn't begin with `>`; then `BadEpoch`,
-    /// `BadSatellite` and `RepeatedSatellite`; `OutOfMemory` where something can't grow and the line has no fault. After a refusal everything
-    /// is forgotten.
+    /// `BadSatellite` and `RepeatedSatellite`; `OutOfMemory` where something can't grow and the line has no
+    /// fault. After a refusal everything is forgotten.
     pub fn begin(&mut self, types: &Types, line: &[u8]) -> Result<(), Fault>
         requires idle { is_idle self.old.state ≡ true }
         requires short { length line.now ≤ LINE_LIMIT }
@@ -184,13 +185,15 @@ impl Columns {
         // At a line with a fault none was asked for: there is no more room than before.
         ensures unasked { IfErr result (λ fault. (fault ≡ Fault.OutOfMemory → ⊥)
             → KeepsRooms self.new.rooms self.old.rooms) }
-        // After the raw epochs accepted since everything was last forgotten, the line makes what it makes by them.
+        // After the raw epochs accepted since everything was last forgotten, the line makes what it makes by
+        // them.
         ensures block { (older : List RawEpoch) → tail_held self.old.state ≡ tail_left older
             → OnOk result (IsReading types.now older (Content line.now ∷ []) self.new.state) }
         ensures block_fault { (older : List RawEpoch) → tail_held self.old.state ≡ tail_left older
             → IfErr result (λ fault. (epoch_at types.now older (Content line.now ∷ []) ≡ Fails 0 fault)
             ⊎ (fault ≡ Fault.OutOfMemory)) }
-        // Where there is room for the epoch's satellites, the answer isn't for want of memory. After `Ok` there is.
+        // Where there is room for the epoch's satellites, the answer isn't for want of memory. After `Ok`
+        // there is.
         ensures room { (begun : OpenRawEpoch)
             → first_step types.now (tail_held self.old.state) (Content line.now) ≡ Going begun
             → AnswersWithRoom begun self.old.rooms self.new.rooms result }
@@ -225,12 +228,13 @@ impl Columns {
         }
     }
 
-    /// Takes the next line of the epoch that was begun: the clock line, then a line for each satellite. With the last one it
-    /// gives the epoch.
+    /// Takes the next line of the epoch that was begun: the clock line, then a line for each satellite. With
+    /// the last one it gives the epoch.
     ///
-    /// `Truncated` comes where the line begins with `>`; then `BadClock` for the clock line, `BadField` for a satellite line,
-    /// for both `NoArc` and `OutOfRange`, for a satellite line `BadFlags`; `OutOfMemory` where the line is the last one and has no fault, and
-    /// the epoch can't be made. After a refusal everything is forgotten.
+    /// `Truncated` comes where the line begins with `>`; then `BadClock` for the clock line, `BadField` for a
+    /// satellite line, for both `NoArc` and `OutOfRange`, for a satellite line `BadFlags`; `OutOfMemory`
+    /// where the line is the last one and has no fault, and the epoch can't be made. After a refusal
+    /// everything is forgotten.
     pub fn feed(&mut self, line: &[u8]) -> Result<Option<Epoch>, Fault>
         requires open { is_idle self.old.state ≡ false }
         requires short { length line.now ≤ LINE_LIMIT }
@@ -242,8 +246,9 @@ impl Columns {
             → (begins_epoch line.now ≡ false) × (awaits_row self.old.state ≡ true)
             × (makes_epoch (step_in self.old.state (Content line.now)) ≡ true)) }
         ensures emptied { OnErr result (self.new.state ≡ Idle None) }
-        // After the raw epochs accepted since everything was last forgotten, and the lines of the epoch so far, the line makes
-        // what it makes by them: the epoch that is given is the one that is at these lines.
+        // After the raw epochs accepted since everything was last forgotten, and the lines of the epoch so
+        // far, the line makes what it makes by them: the epoch that is given is the one that is at these
+        // lines.
         ensures block { (types : List Count) (older : List RawEpoch) (lines : List ReadLine)
             → IsReading types older lines self.old.state
             → AnswersLine types older lines (Content line.now) self.new.state result }
@@ -265,14 +270,14 @@ impl Columns {
                     self.is_kept = true;
                     Ok(Some(epoch))
                 }
-                Err(fault) => {
+                Err(_) => {
                     forget(
                         &mut self.history,
                         &mut self.is_kept,
                         &mut self.is_named,
                         &mut self.stage,
                     );
-                    Err(fault)
+                    Err(Fault::OutOfMemory)
                 }
             },
             Err(fault) => {
@@ -349,8 +354,8 @@ fn forget(history: &mut History, is_kept: &mut bool, is_named: &mut bool, stage:
     *stage = Stage::Unbegun;
 }
 
-/// Has an epoch line read after the history: for a line that begins with `>` after nothing, and so everything is forgotten. Gives
-/// whether there is anything to read the line after.
+/// Has an epoch line read after the history: for a line that begins with `>` after nothing, and so everything
+/// is forgotten. Gives whether there is anything to read the line after.
 fn has_history(history: &mut History, is_kept: bool, line: &[u8]) -> bool
     requires between { IsBetween history.old }
     ensures between { IsBetween history.new }
@@ -366,8 +371,8 @@ fn has_history(history: &mut History, is_kept: bool, line: &[u8]) -> bool
     is_kept
 }
 
-/// Takes the next line of an open epoch: the clock line, then a line for each satellite. Gives whether all have come now; after a fault
-/// what is stored means nothing. `NotAnEpoch` comes where none is open.
+/// Takes the next line of an open epoch: the clock line, then a line for each satellite. Gives whether all
+/// have come now; after a fault what is stored means nothing. `NotAnEpoch` comes where none is open.
 #[inline(always)]
 fn take_line(
     history: &mut History,

@@ -1,16 +1,15 @@
-//! Rows to compact lines, one at a time, by the history, which they change in place: Hatanaka's Compact RINEX 3.0.
+//! Rows to compact lines, one at a time, by the history, which they change in place: Hatanaka's Compact RINEX
+//! 3.0.
 
-ghost use Rattle.std.specs.Prelude.{◌≡◌, ◌≤◌, ◌<◌, ◌+◌, ◌*◌, ◌++◌, ◌∷◌, ◌↔◌, [], None, Some, true, false, not, length, drop, slice_get, IsTrue, IfOk, IsOk, OnErr};
+ghost use Rattle.std.specs.Prelude.{◌≡◌, ◌≤◌, ◌<◌, ◌+◌, ◌*◌, ◌++◌, ◌∷◌, ◌↔◌, [], None, true, false, not, length, drop, slice_get, IsTrue, IfOk, OnErr};
 ghost use Rattle.crx_base.specs.declared.limits.TheConstants.{DATE_LIMIT};
 ghost use Rattle.crx_header.specs.meaning.CompactHeader.{lines_before_header};
 ghost use Rattle.crx_rinex.specs.meaning.Epochs.{has_satellite};
-ghost use Rattle.crx_compact.specs.Encoding.{EncoderState, forgotten, tail_in};
-ghost use Rattle.crx_compact.specs.Placing.{HasRoom, KeepsRooms};
+ghost use Rattle.crx_compact.specs.Encoding.{EncoderState, EndsEpoch, forgotten};
+ghost use Rattle.crx_compact.specs.Placing.{PreparesRow};
 ghost use Rattle.crx_compact.specs.declared.block.TheConstants.{LINES_LIMIT};
 ghost use Rattle.crx_compact.specs.Blocks.{lines_text};
 ghost use Rattle.crx_compact.specs.EpochLinesRead.{history_cleared};
-ghost use Rattle.crx_compact.specs.Steps.{lines_after_tail, tail_after};
-ghost use Rattle.crx_compact.specs.Written.{epoch_by_rows};
 
 use crate::block::Block;
 use crate::history::History;
@@ -68,7 +67,8 @@ impl Encoder {
     ghost use Rattle.std.specs.Option.{option_copied};
     ghost use Rattle.crx_compact.specs.contracts.encoder.Encoder.{the_row};
 
-    /// An encoder before the first line. It takes the memory for all lines; `AllocError` comes where there is none.
+    /// An encoder before the first line. It takes the memory for all lines; `AllocError` comes where there is
+    /// none.
     pub fn new(alloc: Global) -> Result<Encoder, AllocError>
         ensures before { IfOk result (λ e. e.before ≡ None) }
         ensures closed { IfOk result (λ e. e.is_open ≡ false) }
@@ -77,7 +77,10 @@ impl Encoder {
     {
         let made = Block::new(alloc)?;
         let scratch = Box::new(alloc, Text::new())?;
-        let history = Box::new(alloc, History::new(alloc))?;
+        // What `?` keeps of a refusal would be filled with zeros.
+        let Ok(history) = Box::new(alloc, History::new(alloc)) else {
+            return Err(AllocError);
+        };
         Ok(Encoder {
             history,
             is_kept: false,
@@ -126,8 +129,8 @@ impl Encoder {
         self.made.put_front(&CRINEX_VERSION_LINE);
     }
 
-    /// Begins an epoch, in place of all lines: in full, where that is asked for or there is no epoch before, else as
-    /// differences from the epoch before.
+    /// Begins an epoch, in place of all lines: in full, where that is asked for or there is no epoch before,
+    /// else as differences from the epoch before.
     pub fn begin(&mut self, full: bool)
         requires closed { self.old.is_open ≡ false }
         ensures begun { self.new ≡ record self.old {
@@ -143,8 +146,8 @@ impl Encoder {
         self.made.clear();
     }
 
-    /// Makes the compact line of the next row of the open epoch. `false` comes where the epoch has a row of the satellite already, and then
-    /// nothing changes. After `AllocError` everything is forgotten.
+    /// Makes the compact line of the next row of the open epoch. `false` comes where the epoch has a row of
+    /// the satellite already, and then nothing changes. After `AllocError` everything is forgotten.
     #[inline(always)]
     pub fn encode_row(&mut self, row: &RowBuffer) -> Result<bool, AllocError>
         requires open { self.old.is_open ≡ true }
@@ -155,10 +158,8 @@ impl Encoder {
         ensures repeated { IfOk result (λ is_new. is_new ≡ false → self.new ≡ self.old) }
         ensures memory { OnErr result (has_satellite row.now.name self.old.rows ≡ false) }
         ensures forgotten { OnErr result (self.new ≡ record (forgotten self.old []) { rooms = self.new.rooms }) }
-        // Where there is room for the row, the answer isn't for want of memory.
-        ensures known { HasRoom row.now.name (length row.now.values) self.old.rooms → IsOk result }
-        ensures room { IfOk result (λ is_new. is_new ≡ true → HasRoom row.now.name (length row.now.values) self.new.rooms) }
-        ensures rooms { KeepsRooms self.old.rooms self.new.rooms }
+        // Where there is room for the row, the answer isn't for want of memory; once it is written there is.
+        ensures known { PreparesRow row.now.name (length row.now.values) self.old.rooms self.new.rooms result }
     {
         match self.history.write_row(
             row.name(),
@@ -190,13 +191,7 @@ impl Encoder {
     pub fn end(&mut self, head: &EpochLine)
         requires open { self.old.is_open ≡ true }
         requires counted { length self.old.rows ≡ head.now.count }
-        ensures lines { self.new.pending
-            ≡ lines_after_tail (tail_in self.old) (epoch_by_rows head.now self.old.rows) }
-        ensures before { self.new.before
-            ≡ Some (tail_after (tail_in self.old) (epoch_by_rows head.now self.old.rows)) }
-        ensures closed { self.new.is_open ≡ false }
-        ensures rows { self.new.rows ≡ [] }
-        ensures rooms_kept { self.new.rooms ≡ self.old.rooms }
+        ensures ended { EndsEpoch head.now self.old self.new }
     {
         self.history
             .end_rows(head, &mut self.scratch, &mut self.made);

@@ -1,7 +1,7 @@
-//! The history, which each epoch's lines are made and read after, and which they change in place: Hatanaka's Compact RINEX 3.0.
+//! The history, which each epoch's lines are made and read after, and which they change in place: Hatanaka's
+//! Compact RINEX 3.0.
 
-ghost use Rattle.std.specs.Prelude.{List, ℕ, sum, flat_map, ◌≡◌, ◌≤◌, ◌<◌, ◌+◌, ◌-◌, ◌*◌, ◌++◌, ◌∷◌, ◌⊎◌, if◌then◌else◌, [], true, false, None, Some, Ok, Err, All, length, max, take, map, slice_get, is_some, OnOk, OnErr, IfOk, IfErr, IsOk, vec_capacity};
-ghost use Rattle.std.specs.Result.{is_ok};
+ghost use Rattle.std.specs.Prelude.{List, ℕ, flat_map, ◌≡◌, ◌≤◌, ◌<◌, ◌+◌, ◌-◌, ◌*◌, ◌++◌, ◌∷◌, if◌then◌else◌, [], true, false, None, Some, Ok, Err, All, length, take, map, slice_get, is_some, OnOk, OnErr, IfOk, IfErr};
 ghost use Rattle.crx_text.specs.meaning.Columns.{columns, without_end_blanks};
 ghost use Rattle.crx_base.specs.declared.limits.TheConstants.{HEAD_WIDTH, LINE_LIMIT, NAME_WIDTH, SATELLITES_LIMIT};
 ghost use Rattle.crx_header.specs.meaning.EpochColumns.{begins_epoch, epoch_count};
@@ -11,14 +11,15 @@ ghost use Rattle.crx_rinex.specs.meaning.Observations.{Row};
 ghost use Rattle.crx_header.specs.meaning.Satellites.{types_of_satellite};
 ghost use Rattle.crx_rinex.specs.meaning.Printing.{printed_head};
 ghost use Rattle.crx_compact.specs.ArcSteps.{shown_value};
-ghost use Rattle.crx_compact.specs.EpochLinesRead.{AnswersSatellites, AreSatellitesRefused, IsEpochLineRead, IsEpochLineRefused, history_cleared};
+ghost use Rattle.crx_compact.specs.EpochLinesRead.{AnswersEpochLine, AnswersName, AnswersSatellites, history_cleared};
 ghost use Rattle.crx_compact.specs.HeldRows.{IsAwaitedSatellite, past_of_tail, row_held};
 ghost use Rattle.crx_compact.specs.Blocks.{HasTakenLine, no_lines};
-ghost use Rattle.crx_compact.specs.declared.block.TheConstants.{FIRST_LINES, LINES_LIMIT};
+ghost use Rattle.crx_compact.specs.declared.block.TheConstants.{FIRST_LINES};
+ghost use Rattle.crx_compact.specs.declared.history.TheConstants.{EPOCH_TEXT_LIMIT};
 ghost use Rattle.crx_compact.specs.PrintedBlocks.{IsPrinted};
 ghost use Rattle.crx_compact.specs.meaning.CompactPlaces.{clock_line_read, satellites_of_text};
 ghost use Rattle.crx_compact.specs.meaning.EpochText.{names_in, satellites_named};
-ghost use Rattle.crx_compact.specs.Placing.{HasAllowedCount, HasAskedRoom, HasRoom, HaveRoom, IsAnnounced, IsBetween, IsPlaced, IsRowRead, KeepsRooms, padded, row_of_parts, satellite_of, tail_of_history};
+ghost use Rattle.crx_compact.specs.Placing.{HasAllowedCount, HasAskedRoom, HaveRoom, IsAnnounced, IsBetween, IsRowRead, KeepsRooms, PreparesRow, padded, row_of_parts, satellite_of, tail_of_history};
 ghost use Rattle.crx_compact.specs.Written.{AreRowsWritten, IsEpochWritten, IsRowWritten, epoch_by_rows};
 ghost use Rattle.crx_rinex.specs.meaning.SatelliteLines.{IsSoundRow};
 ghost use Rattle.crx_compact.specs.RowsSoFar.{NamesSatellites, HasClock};
@@ -29,35 +30,50 @@ ghost use Rattle.crx_compact.specs.Tails.{RowTail, Tail};
 use crate::arc::ClockArc;
 use crate::block::Block;
 use crate::refusals::prepare_names;
+use crate::satellite::put_first;
 use crate::satellites::Satellites;
 use crx_base::Fault;
 use crx_base::limits::{HEAD_WIDTH, LINE_LIMIT, NAME_WIDTH, SATELLITES_LIMIT, TYPES_LIMIT};
 use crx_header::{Types, after_columns, all_blank, identifier, padded, put_identifier};
 use crx_rinex::{Epoch, EpochLine, SatRow, begins_epoch, print_head, types_of_satellite};
-use crx_text::appending::append;
 use crx_text::columns::end_trimmed;
 use crx_text::difference::{append_difference, patch_bytes};
 use crx_text::{Text, code_print, code_read, trim_end};
 use std::alloc::{AllocError, Global};
 use std::marker::Model;
 
+/// How long the text of an epoch is at most: columns 1 to 41 of its line, and as many identifiers as three
+/// columns count.
+pub(crate) const EPOCH_TEXT_LIMIT: usize = HEAD_WIDTH + NAME_WIDTH * SATELLITES_LIMIT;
+
 /// The history: the text of the newest epoch, the clock's arc, and its satellites in the order of the file.
 #[derive(Drop)]
 pub struct History {
-    text: Text,
+    /// The text; the bytes after it mean nothing.
+    text: [u8; EPOCH_TEXT_LIMIT],
+    /// How long the text is.
+    length: usize,
     /// The text of the epoch whose lines are made next, while they are made.
-    next_text: Text,
+    next_text: [u8; EPOCH_TEXT_LIMIT],
     clock: ClockArc,
     satellites: Satellites,
     alloc: Global,
 }
 
 impl Model for History {
+    ghost use Rattle.std.specs.Prelude.{◌≤◌, take};
     ghost use Rattle.crx_compact.specs.Placing.{OpenHistory};
+    ghost use Rattle.crx_compact.specs.declared.history.TheConstants.{EPOCH_TEXT_LIMIT};
 
     ghost Value = { OpenHistory };
 
-    ghost view = { λ history. record { text = history.text; clock = history.clock; satellites = history.satellites } };
+    ghost view = { λ history. record {
+      text = take history.length history.text;
+      clock = history.clock;
+      satellites = history.satellites;
+    } };
+
+    ghost invariant = { λ history. history.length ≤ EPOCH_TEXT_LIMIT };
 }
 
 impl History {
@@ -70,8 +86,9 @@ impl History {
         ensures rooms { result.satellites.rooms ≡ [] }
     {
         History {
-            text: Text::new(),
-            next_text: Text::new(),
+            text: [b' '; EPOCH_TEXT_LIMIT],
+            length: 0,
+            next_text: [b' '; EPOCH_TEXT_LIMIT],
             clock: ClockArc::new(),
             satellites: Satellites::new(alloc),
             alloc,
@@ -82,13 +99,14 @@ impl History {
     pub(crate) fn clear(&mut self)
         ensures emptied { self.new ≡ history_cleared self.old }
     {
-        self.text.clear();
+        self.length = 0;
         self.clock.end();
         self.satellites.clear();
     }
 
-    /// Puts the compact lines of an epoch into a block without lines: in full, where that is asked for, else as differences from the epoch
-    /// before. The history is the one after the epoch. All memory is asked for first, so that after `AllocError` the history stays.
+    /// Puts the compact lines of an epoch into a block without lines: in full, where that is asked for, else
+    /// as differences from the epoch before. The history is the one after the epoch. All memory is asked for
+    /// first, so that after `AllocError` the history stays.
     pub(crate) fn encode(
         &mut self,
         epoch: &Epoch,
@@ -118,7 +136,8 @@ impl History {
         Ok(())
     }
 
-    /// Begins an epoch whose rows are written one by one: in full, where that is asked for, else as differences from the epoch before.
+    /// Begins an epoch whose rows are written one by one: in full, where that is asked for, else as
+    /// differences from the epoch before.
     pub(crate) fn begin_rows(&mut self, in_full: bool)
         requires between { IsBetween self.old }
         ensures begun { AreRowsWritten (if in_full then no_tail else tail_of_history self.old) [] self.new [] }
@@ -130,8 +149,8 @@ impl History {
         self.satellites.begin();
     }
 
-    /// Writes the compact line of the next row of an epoch after others. `false` comes where the epoch has a row of the satellite already, and
-    /// then nothing changes; what `AllocError` leaves means nothing.
+    /// Writes the compact line of the next row of an epoch after others. `false` comes where the epoch has a
+    /// row of the satellite already, and then nothing changes; what `AllocError` leaves means nothing.
     #[inline(always)]
     pub(crate) fn write_row(
         &mut self,
@@ -150,10 +169,7 @@ impl History {
         ensures memory { (after : Tail) (rows : List Row) → AreRowsWritten after rows self.old lines.old.lines
             → OnErr result (has_satellite name.now rows ≡ false) }
         ensures taken { IfOk result (λ is_new. is_new ≡ true → HasTakenLine lines.old lines.new) }
-        // Where room was asked for before, the answer isn't for want of memory.
-        ensures known { HasRoom name.now (length values.now) self.old.satellites.rooms → IsOk result }
-        ensures room { IfOk result (λ is_new. is_new ≡ true → HasRoom name.now (length values.now) self.new.satellites.rooms) }
-        ensures rooms { KeepsRooms self.old.satellites.rooms self.new.satellites.rooms }
+        ensures prepared { PreparesRow name.now (length values.now) self.old.satellites.rooms self.new.satellites.rooms result }
     {
         let count = values.len();
         if !self.satellites.place_or_add(name, count)? {
@@ -164,7 +180,8 @@ impl History {
         Ok(true)
     }
 
-    /// Ends an epoch whose rows have all been written: puts its first two lines in front of theirs. The history is the one after the epoch.
+    /// Ends an epoch whose rows have all been written: puts its first two lines in front of theirs. The
+    /// history is the one after the epoch.
     pub(crate) fn end_rows(&mut self, head: &EpochLine, scratch: &mut Text, lines: &mut Block)
         requires counted { length self.old.satellites.rows ≡ head.now.count }
         requires front { FIRST_LINES ≤ lines.old.front }
@@ -174,25 +191,27 @@ impl History {
         ensures rooms { self.new.satellites.rooms ≡ self.old.satellites.rooms }
     {
         self.satellites.end();
-        renew_text(&mut self.next_text, head, &self.satellites);
+        let length = renew_text(&mut self.next_text, head, &self.satellites);
         scratch.clear();
         code_print(self.clock.push(head.clock()), scratch).unwrap();
         lines.put_front(scratch.bytes());
         // The texts of two epochs mostly differ by their time alone.
         scratch.clear();
-        append_difference(self.text.bytes(), self.next_text.bytes(), scratch);
+        let next_text = &self.next_text[..length];
+        append_difference(&self.text[..self.length], next_text, scratch);
         scratch.trim_end_blanks();
         lines.put_front(scratch.bytes());
-        self.text.clear();
-        append(&mut self.text, self.next_text.bytes());
+        put_first(&mut self.text, next_text);
+        self.length = length;
     }
 
-    /// Reads an epoch line: replaces the text by the one that it makes, and has the satellites of that text come, each with as many types as
-    /// its system has.
+    /// Reads an epoch line: replaces the text by the one that it makes, and has the satellites of that text
+    /// come, each with as many types as its system has.
     ///
-    /// `BadEpoch` comes where the line holds a character outside 32 to 126, then where the text that it makes is none of an observation
-    /// epoch; then the faults of the identifiers; `OutOfMemory` where something can't grow and the line has no fault. After a refusal the
-    /// satellites mean nothing. It is given whether the satellites of the epoch before are those that its text names.
+    /// `BadEpoch` comes where the line holds a character outside 32 to 126, then where the text that it makes
+    /// is none of an observation epoch; then the faults of the identifiers; `OutOfMemory` where something
+    /// can't grow and the line has no fault. After a refusal the satellites mean nothing. It is given whether
+    /// the satellites of the epoch before are those that its text names.
     pub(crate) fn read_epoch_line(
         &mut self,
         types: &Types,
@@ -203,11 +222,9 @@ impl History {
         requires short { length line.now ≤ LINE_LIMIT }
         requires between { IsBetween self.old }
         requires named { is_named ≡ true → IsAnnounced self.old }
-        ensures ok { OnOk result (IsEpochLineRead types.now line.now self.old self.new) }
-        ensures err { IfErr result (IsEpochLineRefused types.now line.now self.old self.new) }
-        ensures rooms { KeepsRooms self.old.satellites.rooms self.new.satellites.rooms }
+        ensures { AnswersEpochLine types.now line.now self.old self.new result }
     {
-        if patch_bytes(self.text.bytes(), line, scratch).is_err() {
+        if patch_bytes(&self.text[..self.length], line, scratch).is_err() {
             return Err(Fault::BadEpoch);
         }
         self.satellites.begin();
@@ -215,15 +232,16 @@ impl History {
         // Most lines have marks in the columns before the identifiers alone.
         let are_same = is_named & (line.len() <= HEAD_WIDTH);
         read_satellites(types, text, are_same, &mut self.satellites)?;
-        self.text.clear();
-        append(&mut self.text, text);
+        put_first(&mut self.text, text);
+        self.length = text.len();
         Ok(())
     }
 
-    /// Reads a clock line: the clock's arc is the one after the code, which shows the clock's value. Blanks at the line's end don't count.
+    /// Reads a clock line: the clock's arc is the one after the code, which shows the clock's value. Blanks
+    /// at the line's end don't count.
     ///
-    /// `Truncated` comes where the line begins another epoch, `BadClock` where it is no code, then `NoArc` and `OutOfRange` as by
-    /// [`ClockArc::apply`].
+    /// `Truncated` comes where the line begins another epoch, `BadClock` where it is no code, then `NoArc`
+    /// and `OutOfRange` as by [`ClockArc::apply`].
     pub(crate) fn read_clock(&mut self, line: &[u8]) -> Result<(), Fault>
         ensures ok { OnOk result
             (HasClock (tail_of_history self.old) line.now (tail_of_history self.old) (tail_of_history self.new)) }
@@ -254,8 +272,8 @@ impl History {
         self.satellites.placed()
     }
 
-    /// Reads the satellite line of the row at an index. `Truncated` comes where the line begins another epoch; the other faults are those of
-    /// [`SatelliteHistory::read`].
+    /// Reads the satellite line of the row at an index. `Truncated` comes where the line begins another
+    /// epoch; the other faults are those of [`SatelliteHistory::read`].
     #[inline(always)]
     pub(crate) fn read_row(
         &mut self,
@@ -285,19 +303,18 @@ impl History {
         self.satellites.end();
     }
 
-    /// The epoch that the history shows. `OutOfMemory` is the one refusal, and comes only where there are satellites.
-    pub(crate) fn epoch(&self) -> Result<Epoch, Fault>
+    /// The epoch that the history shows. `AllocError` comes only where there are satellites.
+    pub(crate) fn epoch(&self) -> Result<Epoch, AllocError>
         requires announced { IsAnnounced self.now }
         ensures ok { IfOk result (λ epoch. epoch
             ≡ shown_epoch (tail_of_history self.now) (length self.now.satellites.rows)) }
-        ensures err { IfErr result (λ fault. fault ≡ Fault.OutOfMemory) }
         ensures memory { OnErr result (0 < length self.now.satellites.rows) }
     {
         let mut epoch = Epoch::new(self.alloc, self.head());
         for index in 0..self.satellites.placed() {
             match epoch.push(self.satellites.row(index, self.alloc)?) {
                 Ok(()) => {}
-                Err((_, fault)) => return Err(fault),
+                Err(_) => return Err(AllocError),
             }
         }
         Ok(epoch)
@@ -309,11 +326,11 @@ impl History {
         ensures head { result.head ≡ columns self.now.text 1 HEAD_WIDTH }
         ensures clock { result.clock ≡ shown_value self.now.clock }
     {
-        EpochLine::new(padded(self.text.bytes(), 1), self.clock.value()).unwrap()
+        EpochLine::new(padded(&self.text[..self.length], 1), self.clock.value()).unwrap()
     }
 
-    /// Puts the first line of the epoch that the history shows after others, for which there is room. Most epochs have no clock offset:
-    /// then the columns are put as they are, which saves some 130 instructions.
+    /// Puts the first line of the epoch that the history shows after others, for which there is room. Most
+    /// epochs have no clock offset: then the columns are put as they are, which saves some 130 instructions.
     pub(crate) fn put_head(&self, lines: &mut Block, scratch: &mut Text)
         requires announced { is_some (epoch_count (columns self.now.text 1 HEAD_WIDTH)) ≡ true }
         requires left { 0 < lines.old.left }
@@ -322,7 +339,7 @@ impl History {
         ensures taken { HasTakenLine lines.old lines.new }
     {
         let Some(_) = self.clock.value() else {
-            lines.put(end_trimmed(self.text.bytes(), 1, HEAD_WIDTH));
+            lines.put(end_trimmed(&self.text[..self.length], 1, HEAD_WIDTH));
             return;
         };
         print_head(&self.head(), scratch);
@@ -360,17 +377,17 @@ fn prepare_rows(satellites: &mut Satellites, epoch: &Epoch) -> Result<(), AllocE
     Ok(())
 }
 
-/// Replaces a text by that of an epoch, without the blanks at its end: columns 1 to 41 of its line, and the identifiers of its satellites.
-fn renew_text(text: &mut Text, head: &EpochLine, satellites: &Satellites)
+/// Puts the text of an epoch in place of other bytes: columns 1 to 41 of its line, and the identifiers of its
+/// satellites. Gives the text's length without the blanks at its end.
+fn renew_text(text: &mut [u8; EPOCH_TEXT_LIMIT], head: &EpochLine, satellites: &Satellites) -> usize
     requires counted { length satellites.now.rows ≡ head.now.count }
-    ensures renewed { text.new ≡ without_end_blanks
+    ensures put { take result text.new ≡ without_end_blanks
         (head.now.head ++ flat_map (λ (row : RowTail). row.name) satellites.now.rows) }
+    ensures within { result ≤ EPOCH_TEXT_LIMIT }
 {
-    text.clear();
-    append(text, head.columns());
-    put_names(&mut text.bytes, satellites);
-    text.len = HEAD_WIDTH + NAME_WIDTH * head.count();
-    text.trim_end_blanks();
+    put_first(text, head.columns());
+    put_names(text, satellites);
+    trim_end(&text[..HEAD_WIDTH + NAME_WIDTH * head.count()]).len()
 }
 
 /// Puts the identifiers of the satellites that have come behind the columns of an epoch line.
@@ -385,11 +402,12 @@ fn put_names(text: &mut [u8], satellites: &Satellites)
     }
 }
 
-/// Has the satellites of an epoch text come, each with as many types as its system has. It is given whether the text names those that are
-/// awaited, where it announces as many.
+/// Has the satellites of an epoch text come, each with as many types as its system has. It is given whether
+/// the text names those that are awaited, where it announces as many.
 ///
-/// `BadEpoch` comes where columns 1 to 41 are not those of an observation epoch, or anything but blanks is behind the last identifier; then
-/// the faults of the identifiers; `OutOfMemory` where something can't grow and the text has no fault.
+/// `BadEpoch` comes where columns 1 to 41 are not those of an observation epoch, or anything but blanks is
+/// behind the last identifier; then the faults of the identifiers; `OutOfMemory` where something can't grow
+/// and the text has no fault.
 fn read_satellites(
     types: &Types,
     text: &[u8],
@@ -419,8 +437,8 @@ fn read_satellites(
 
 /// Has so many satellites after the columns of an epoch text come, from left to right.
 ///
-/// `BadSatellite` comes where one has the form of none of a system that has types, then `RepeatedSatellite` where it has come already;
-/// `OutOfMemory` where something can't grow and none has a fault.
+/// `BadSatellite` comes where one has the form of none of a system that has types, then `RepeatedSatellite`
+/// where it has come already; `OutOfMemory` where something can't grow and none has a fault.
 fn read_names(
     types: &Types,
     text: &[u8],
@@ -445,8 +463,9 @@ fn read_names(
     Ok(())
 }
 
-/// Has a satellite of an epoch text come, with room for so many types; `false` comes where it has come already. Mostly it has the room;
-/// else room is asked for all of the text at once, and only where none has a fault.
+/// Has a satellite of an epoch text come, with room for so many types; `false` comes where it has come
+/// already. Mostly it has the room; else room is asked for all of the text at once, and only where none has a
+/// fault.
 #[inline(always)]
 fn place_name(
     types: &Types,
@@ -460,12 +479,8 @@ fn place_name(
     requires there { (index : ℕ) × (index < count)
         × (name ≡ columns text.now (HEAD_WIDTH + 1 + NAME_WIDTH * index) NAME_WIDTH)
         × (types_of_satellite types.now name ≡ Some cells) }
-    ensures ok { IfOk result (IsPlaced name cells satellites.old satellites.new) }
-    ensures back { OnOk result ((is_ok (satellites_named types.now [] (names_in text.now count)) ≡ true)
-        ⊎ KeepsRooms satellites.new.rooms satellites.old.rooms) }
-    ensures err { IfErr result (AreSatellitesRefused
-        (satellites_named types.now [] (names_in text.now count)) satellites.old satellites.new) }
-    ensures rooms { KeepsRooms satellites.old.rooms satellites.new.rooms }
+    ensures { AnswersName (satellites_named types.now [] (names_in text.now count)) name cells satellites.old
+        satellites.new result }
 {
     if let Some(is_new) = satellites.place(&name, cells) {
         return Ok(is_new);

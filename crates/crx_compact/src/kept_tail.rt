@@ -8,8 +8,8 @@ ghost use Rattle.crx_compact.specs.Tails.{Tail};
 use crate::history::History;
 use std::marker::{Model, PhantomData};
 
-/// The tail of the epochs before an open one, whose rows change the history in place. It takes no memory, and its methods do nothing at run
-/// time.
+/// The tail of the epochs before an open one, whose rows change the history in place. It takes no memory, and
+/// its methods do nothing at run time.
 #[derive(Drop)]
 pub struct KeptTail {
     marker: PhantomData<u8>,

@@ -1,13 +1,15 @@
-//! The faults of an epoch text's satellites, and room for them: Hatanaka's Compact RINEX 3.0, epoch line. The faults are found before
-//! memory is asked for, so that a line with a fault is answered by it and takes none, and `OutOfMemory` comes only at a line without one.
+//! The faults of an epoch text's satellites, and room for them: Hatanaka's Compact RINEX 3.0, epoch line. The
+//! faults are found before memory is asked for, so that a line with a fault is answered by it and takes none,
+//! and `OutOfMemory` comes only at a line without one.
 
-ghost use Rattle.std.specs.Prelude.{◌≡◌, ◌≤◌, ◌<◌, List, [], ℕ, Ok, Err, None, IfSome, OnOk, IfErr, IsOk, true};
+ghost use Rattle.std.specs.Prelude.{◌≡◌, ◌≤◌, ◌<◌, List, [], ℕ, Err, None, IfSome, OnOk, IfErr, true};
 ghost use Rattle.std.specs.Result.{is_ok};
 ghost use Rattle.crx_base.specs.declared.limits.TheConstants.{SATELLITES_LIMIT};
 ghost use Rattle.crx_header.specs.meaning.Satellites.{is_among};
-ghost use Rattle.crx_compact.specs.meaning.EpochText.{Satellite, names_in, satellites_named};
+ghost use Rattle.crx_compact.specs.meaning.EpochText.{names_in, satellites_named};
+ghost use Rattle.crx_compact.specs.EpochLinesRead.{AreSatellitesRefused};
 ghost use Rattle.crx_compact.specs.Placing.{HasAskedRoom, HaveNamesRoom};
-ghost use Rattle.crx_compact.specs.Refusals.{AreMarked, AnswersRefusal, mark_place};
+ghost use Rattle.crx_compact.specs.Refusals.{AreMarked, mark_place};
 
 use crate::satellites::Satellites;
 use crx_base::Fault;
@@ -26,8 +28,9 @@ fn place_of_mark(name: [u8; NAME_WIDTH]) -> usize
     (604 * usize::from(name[0]) + 10 * usize::from(name[1]) + usize::from(name[2])) % MARKS
 }
 
-/// Whether an identifier is one of the first so many of an epoch text, which are all marked. One that isn't marked is none of them: mostly
-/// it needn't be compared with each, which would take 20 instructions for each two of an epoch's satellites.
+/// Whether an identifier is one of the first so many of an epoch text, which are all marked. One that isn't
+/// marked is none of them: mostly it needn't be compared with each, which would take 20 instructions for each
+/// two of an epoch's satellites.
 fn is_among_first(text: &[u8], count: usize, name: [u8; NAME_WIDTH], marks: &[bool; MARKS]) -> bool
     requires few { count ≤ SATELLITES_LIMIT }
     requires marked { AreMarked (names_in text.now count) marks.now }
@@ -66,8 +69,8 @@ fn fault_of_names(types: &Types, text: &[u8], count: usize) -> Option<Fault>
     None
 }
 
-/// Asks for room for so many satellites of an epoch text, each with as many types as its system has, where none of them has a fault. No row
-/// changes.
+/// Asks for room for so many satellites of an epoch text, each with as many types as its system has, where
+/// none of them has a fault. No row changes.
 #[cold]
 #[inline(never)]
 pub(crate) fn prepare_names(
@@ -79,15 +82,9 @@ pub(crate) fn prepare_names(
     requires few { count ≤ SATELLITES_LIMIT }
     ensures asked { HasAskedRoom satellites.old satellites.new }
     ensures room { OnOk result (HaveNamesRoom types.now text.now count satellites.new.rooms) }
-    // Memory runs out only where no satellite has a fault; where one has, none was asked for.
-    ensures err { IfErr result (AnswersRefusal (satellites_named types.now [] (names_in text.now count))) }
-    ensures unasked { IfErr result (λ fault. (fault ≡ Fault.OutOfMemory → ⊥)
-        → satellites.new ≡ satellites.old) }
     ensures good { OnOk result (is_ok (satellites_named types.now [] (names_in text.now count)) ≡ true) }
-    // Where room was asked for before, the answer isn't for want of memory.
-    ensures known { (named : List Satellite)
-        → satellites_named types.now [] (names_in text.now count) ≡ Ok named
-        → HaveNamesRoom types.now text.now count satellites.old.rooms → IsOk result }
+    ensures err { IfErr result (AreSatellitesRefused (satellites_named types.now [] (names_in text.now count))
+        satellites.old satellites.new) }
 {
     if let Some(fault) = fault_of_names(types, text, count) {
         return Err(fault);

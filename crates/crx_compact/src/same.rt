@@ -27,8 +27,8 @@ fn is_same_by_call(text: &[u8], other: &[u8]) -> bool
     text == other
 }
 
-/// Whether two texts are the same. The indicators of 2 to 32 types are compared by their two ends, which may overlap; a call takes
-/// some 40 instructions more.
+/// Whether two texts are the same. The indicators of 2 to 32 types are compared by their two ends, which may
+/// overlap; a call takes some 40 instructions more.
 #[inline(always)]
 pub fn is_same_text(text: &[u8], other: &[u8]) -> bool
     ensures same { MatchBool result (text.now ≡ other.now) (text.now ≢ other.now) }

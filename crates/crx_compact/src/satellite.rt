@@ -1,7 +1,7 @@
-//! What is stored of a satellite: its indicators and the arcs of its cells, changed in place by each of its lines. Hatanaka's Compact RINEX
-//! 3.0, satellite lines.
+//! What is stored of a satellite: its indicators and the arcs of its cells, changed in place by each of its
+//! lines. Hatanaka's Compact RINEX 3.0, satellite lines.
 
-ghost use Rattle.std.specs.Prelude.{All, ℕ, List, ◌≡◌, ◌≤◌, ◌<◌, ◌+◌, ◌-◌, ◌*◌, ◌++◌, ◌⊎◌, [], None, Some, Ok, Err, true, false, length, max, replicate, take, OnOk, OnErr, IfOk, IfErr, IsOk, IsTrue, ◌↔◌, vec_capacity};
+ghost use Rattle.std.specs.Prelude.{All, ℕ, List, ◌≡◌, ◌≤◌, ◌<◌, ◌+◌, ◌-◌, ◌*◌, ◌++◌, [], None, Ok, Err, true, false, length, replicate, take, OnOk, IfOk, IfErr, IsTrue, ◌↔◌, vec_capacity};
 ghost use Rattle.std.specs.List.{flat_map};
 ghost use Rattle.crx_text.specs.meaning.Columns.{columns, without_end_blanks};
 ghost use Rattle.crx_text.specs.Texts.{patched};
@@ -17,7 +17,7 @@ ghost use Rattle.crx_compact.specs.Blocks.{IsLinePut};
 ghost use Rattle.crx_compact.specs.meaning.Cells.{cell_text};
 ghost use Rattle.crx_text.specs.meaning.Numbers.{IsValue};
 ghost use Rattle.crx_compact.specs.meaning.CompactPlaces.{are_marks};
-ghost use Rattle.crx_compact.specs.Placing.{FitsFlags, IsMarked, cells_for, row_read, row_tail_of};
+ghost use Rattle.crx_compact.specs.Placing.{AnswersRoom, IndicatorsMatchArcs, FitsFlags, IsMarked, cells_for, row_read, row_tail_of};
 ghost use Rattle.crx_compact.specs.ShownRows.{shown_row};
 ghost use Rattle.crx_compact.specs.Steps.{flags_held};
 
@@ -40,16 +40,16 @@ pub struct SatelliteHistory {
     /// Two for each arc.
     indicators: Vec<u8>,
     arcs: Vec<ObsArc>,
-    /// How many types it has. What is stored after these is of earlier epochs, and means nothing; its memory is used again.
+    /// How many types it has. What is stored after these is of earlier epochs, and means nothing; its memory
+    /// is used again.
     count: usize,
 }
 
 impl Model for SatelliteHistory {
-    ghost use Rattle.std.specs.Prelude.{◌≡◌, ◌≤◌, ◌*◌, length, take, vec_capacity};
-    ghost use Rattle.crx_base.specs.declared.limits.TheConstants.{TYPES_LIMIT};
+    ghost use Rattle.std.specs.Prelude.{◌≤◌, ◌*◌, length, take, vec_capacity};
     ghost use Rattle.crx_text.specs.meaning.Columns.{without_end_blanks};
     ghost use Rattle.crx_compact.specs.HeldRows.{AreHeldFlags};
-    ghost use Rattle.crx_compact.specs.Placing.{SatelliteTail};
+    ghost use Rattle.crx_compact.specs.Placing.{IndicatorsMatchArcs, SatelliteTail};
 
     ghost Value = { SatelliteTail };
 
@@ -60,10 +60,9 @@ impl Model for SatelliteHistory {
     } };
 
     ghost invariant = { λ satellite. AreHeldFlags (take (2 * satellite.count) satellite.indicators.items)
-        × (satellite.count ≤ length satellite.arcs.items) × (length satellite.arcs.items ≤ TYPES_LIMIT)
-        × (length satellite.indicators.items ≡ 2 * length satellite.arcs.items)
-        × (vec_capacity satellite.arcs ≡ length satellite.arcs.items)
-        × (vec_capacity satellite.indicators ≤ 2 * TYPES_LIMIT) };
+        × (satellite.count ≤ length satellite.arcs.items)
+        × IndicatorsMatchArcs (length satellite.arcs.items) (vec_capacity satellite.arcs)
+        (length satellite.indicators.items) (vec_capacity satellite.indicators) };
 }
 
 impl SatelliteHistory {
@@ -108,15 +107,11 @@ impl SatelliteHistory {
         self.count = 0;
     }
 
-    /// Asks for room for so many types. What is stored stays, and there is never less room than before.
+    /// Asks for room for so many types.
     #[inline(always)]
     pub(crate) fn make_room(&mut self, count: usize) -> Result<(), AllocError>
         requires allowed { count ≤ TYPES_LIMIT }
-        ensures flags { self.new.flags ≡ self.old.flags }
-        ensures cells { self.new.cells ≡ self.old.cells }
-        ensures room { OnOk result (count ≤ self.new.room) }
-        ensures kept { self.old.room ≤ self.new.room }
-        ensures known { count ≤ self.old.room → IsOk result }
+        ensures { AnswersRoom count self.old self.new result }
     {
         if count <= self.arcs.len() {
             return Ok(());
@@ -124,7 +119,8 @@ impl SatelliteHistory {
         grow(&mut self.indicators, &mut self.arcs, count)
     }
 
-    /// Makes it have so many types, for which there is room: those that it has stay, and new ones have no arcs and blank indicators.
+    /// Makes it have so many types, for which there is room: those that it has stay, and new ones have no
+    /// arcs and blank indicators.
     #[inline(always)]
     pub(crate) fn resize(&mut self, count: usize)
         requires room { count ≤ self.old.room }
@@ -141,8 +137,9 @@ impl SatelliteHistory {
         self.count = count;
     }
 
-    /// Replaces the indicators by those of a row, and makes it have as many types as the row. Gives the difference of the indicators before
-    /// and the row's: mostly they stay, and it is empty; else it is written into a text.
+    /// Replaces the indicators by those of a row, and makes it have as many types as the row. Gives the
+    /// difference of the indicators before and the row's: mostly they stay, and it is empty; else it is
+    /// written into a text.
     #[inline(always)]
     pub(crate) fn mark<'a>(&mut self, count: usize, flags: &[u8], scratch: &'a mut Text) -> &'a [u8]
         requires fits { FitsFlags count flags.now self.old }
@@ -178,8 +175,8 @@ impl SatelliteHistory {
         put_first(&mut self.indicators, indicators);
     }
 
-    /// Replaces the arcs by those after a row, and writes the row's compact line from an index on; the line's marks are given. Gives the
-    /// line's length.
+    /// Replaces the arcs by those after a row, and writes the row's compact line from an index on; the line's
+    /// marks are given. Gives the line's length.
     #[inline(always)]
     pub(crate) fn write_line(
         &mut self,
@@ -201,11 +198,12 @@ impl SatelliteHistory {
         trim_end(&bytes[at..end]).len()
     }
 
-    /// Reads a satellite's line: replaces the arcs and indicators by those after the line, which show the line's row. The line begins no
-    /// epoch.
+    /// Reads a satellite's line: replaces the arcs and indicators by those after the line, which show the
+    /// line's row. The line begins no epoch.
     ///
-    /// The first cell with a fault decides: `BadField` where its text is no code, then `NoArc` and `OutOfRange` as by [`ObsArc::apply`];
-    /// then `BadFlags` where the marks hold a character outside 32 to 126, or anything but blanks past two for each type.
+    /// The first cell with a fault decides: `BadField` where its text is no code, then `NoArc` and
+    /// `OutOfRange` as by [`ObsArc::apply`]; then `BadFlags` where the marks hold a character outside 32 to
+    /// 126, or anything but blanks past two for each type.
     #[inline(always)]
     pub(crate) fn read(&mut self, line: &[u8], scratch: &mut Text) -> Result<(), Fault>
         requires short { length line.now ≤ LINE_LIMIT }
@@ -227,15 +225,16 @@ impl SatelliteHistory {
         patch_indicators(&mut self.indicators, self.count, marks, scratch)
     }
 
-    /// The row that it shows, of the satellite with an identifier. `OutOfMemory` is the one refusal.
-    pub(crate) fn row(&self, alloc: Global, name: [u8; NAME_WIDTH]) -> Result<SatRow, Fault>
+    /// The row that it shows, of the satellite with an identifier.
+    pub(crate) fn row(&self, alloc: Global, name: [u8; NAME_WIDTH]) -> Result<SatRow, AllocError>
         requires named { is_identifier name ≡ true }
         requires allowed { IsAllowedCount (length self.now.cells) }
         ensures ok { IfOk result (λ row. row ≡ shown_row (row_tail_of name self.now)) }
-        ensures err { IfErr result (λ fault. fault ≡ Fault.OutOfMemory) }
     {
         let count = self.count;
-        let mut row = SatRow::blank(alloc, name, count)?;
+        let Ok(mut row) = SatRow::blank(alloc, name, count) else {
+            return Err(AllocError);
+        };
         for index in 0..count {
             row.set(index, self.arcs[index].value());
         }
@@ -243,8 +242,8 @@ impl SatelliteHistory {
         Ok(row)
     }
 
-    /// Prints the line of the row that it shows, of the satellite with an identifier, in place of the bytes from an index on, and gives the
-    /// line's length.
+    /// Prints the line of the row that it shows, of the satellite with an identifier, in place of the bytes
+    /// from an index on, and gives the line's length.
     #[inline(always)]
     pub(crate) fn print_line(&self, name: [u8; NAME_WIDTH], bytes: &mut [u8], at: usize) -> usize
         requires room { at + (NAME_WIDTH + CELL_WIDTH * length self.now.cells) < length bytes.old }
@@ -263,27 +262,22 @@ impl SatelliteHistory {
     }
 }
 
-/// Makes room for so many arcs, each with two indicators, and for no more than these. All memory is asked for first, so that after
-/// `AllocError` what is stored stays.
+/// Makes room for so many arcs, each with two indicators, and for no more than these. All memory is asked for
+/// first, so that after `AllocError` what is stored stays.
 #[cold]
 #[inline(never)]
 fn grow(indicators: &mut Vec<u8>, arcs: &mut Vec<ObsArc>, count: usize) -> Result<(), AllocError>
     requires allowed { count ≤ TYPES_LIMIT }
     requires more { length arcs.old.items ≤ count }
-    requires paired { length indicators.old.items ≡ 2 * length arcs.old.items }
-    requires filled { vec_capacity arcs.old ≡ length arcs.old.items }
-    requires bounded { vec_capacity indicators.old ≤ 2 * TYPES_LIMIT }
-    ensures room { OnOk result (length arcs.new.items ≡ count) }
-    ensures longer { length arcs.old.items ≤ length arcs.new.items }
-    ensures few { length arcs.new.items ≤ TYPES_LIMIT }
-    ensures paired { length indicators.new.items ≡ 2 * length arcs.new.items }
+    requires paired { IndicatorsMatchArcs (length arcs.old.items) (vec_capacity arcs.old)
+        (length indicators.old.items) (vec_capacity indicators.old) }
+    ensures counted { OnOk result (length arcs.new.items ≡ count) }
+    ensures between { (length arcs.old.items ≤ length arcs.new.items) × (length arcs.new.items ≤ count) }
+    ensures paired { IndicatorsMatchArcs (length arcs.new.items) (vec_capacity arcs.new)
+        (length indicators.new.items) (vec_capacity indicators.new) }
     ensures arcs { (n : ℕ) → n ≤ length arcs.old.items → take n arcs.new.items ≡ take n arcs.old.items }
     ensures indicators { (n : ℕ) → n ≤ length indicators.old.items
         → take n indicators.new.items ≡ take n indicators.old.items }
-    ensures asked { OnErr result
-        ((vec_capacity indicators.old < 2 * count) ⊎ (vec_capacity arcs.old < count)) }
-    ensures filled { vec_capacity arcs.new ≡ length arcs.new.items }
-    ensures bounded { vec_capacity indicators.new ≤ 2 * TYPES_LIMIT }
 {
     let more = count - arcs.len();
     indicators.reserve_exact(2 * more)?;
@@ -315,7 +309,7 @@ fn blank_types(indicators: &mut [u8], arcs: &mut [ObsArc], from: usize, to: usiz
 }
 
 /// Puts a text in place of the first bytes of a longer one.
-fn put_first(bytes: &mut [u8], text: &[u8])
+pub(crate) fn put_first(bytes: &mut [u8], text: &[u8])
     requires { length text.now ≤ length bytes.old }
     ensures { take (length text.now) bytes.new ≡ text.now }
 {
@@ -324,8 +318,8 @@ fn put_first(bytes: &mut [u8], text: &[u8])
 
 /// Replaces indicators, the first two for each of so many types, by those that marks make of them.
 ///
-/// `BadFlags` comes where the marks hold a character outside 32 to 126, or anything but blanks past the indicators; then these are as
-/// they were.
+/// `BadFlags` comes where the marks hold a character outside 32 to 126, or anything but blanks past the
+/// indicators; then these are as they were.
 #[inline(never)]
 fn patch_indicators(
     indicators: &mut [u8],

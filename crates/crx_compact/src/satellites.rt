@@ -4,7 +4,7 @@ ghost use Rattle.std.specs.Prelude.{List, ℕ, All, ◌≡◌, ◌≤◌, ◌<�
 ghost use Rattle.std.specs.Bool.{OnTrue};
 ghost use Rattle.std.specs.Map.{lookup};
 ghost use Rattle.std.specs.Str.{bytes_eq};
-ghost use Rattle.crx_base.specs.declared.limits.TheConstants.{CELL_WIDTH, LINE_LIMIT, NAME_WIDTH, SATELLITES_LIMIT, TYPES_LIMIT};
+ghost use Rattle.crx_base.specs.declared.limits.TheConstants.{CELL_WIDTH, LINE_LIMIT, NAME_WIDTH, TYPES_LIMIT};
 ghost use Rattle.crx_header.specs.meaning.EpochColumns.{begins_epoch};
 ghost use Rattle.crx_header.specs.meaning.ObservationTypes.{IsAllowedCount};
 ghost use Rattle.crx_header.specs.meaning.Satellites.{is_among, is_identifier};
@@ -14,11 +14,11 @@ ghost use Rattle.crx_compact.specs.declared.cells.TheConstants.{CELL_ROOM};
 ghost use Rattle.crx_compact.specs.Entries.{Entry, IsFound, IsPutNext, IsRevived, KeepsTypes, key_of};
 ghost use Rattle.crx_compact.specs.EpochLinesRead.{HaveComeAgain};
 ghost use Rattle.crx_compact.specs.HeldRows.{IsAwaitedSatellite, row_held};
-ghost use Rattle.crx_compact.specs.Placing.{AnswersPlacing, HasAskedRoom, HasRoom, IsPlaced, KeepsRest, KeepsRooms, SatelliteTail, padded, row_of_parts, satellite_of};
+ghost use Rattle.crx_compact.specs.Placing.{AnswersPlacing, HasAskedRoom, HasRoom, IsPlaced, KeepsRest, PreparesRow, SatelliteTail, padded, row_of_parts, satellite_of};
 ghost use Rattle.crx_compact.specs.ShownRows.{shown_row};
 ghost use Rattle.crx_compact.specs.Steps.{row_line_after, row_tail_after};
 ghost use Rattle.crx_compact.specs.Tails.{RowTail};
-ghost use Rattle.indexmap.specs.IndexMap.{IsUnique, spare};
+ghost use Rattle.indexmap.specs.IndexMap.{IsUnique};
 
 use crate::satellite::SatelliteHistory;
 use crx_base::Fault;
@@ -30,9 +30,9 @@ use indexmap::IndexMap;
 use std::alloc::{AllocError, Global};
 use std::marker::Model;
 
-/// The satellites of a history, by their identifiers. While an epoch is open, those whose rows have come are the first ones, in the order
-/// of the file; then come those of the epoch before that haven't come yet. What is stored of all others means nothing; its memory is used
-/// again when the satellite comes back.
+/// The satellites of a history, by their identifiers. While an epoch is open, those whose rows have come are
+/// the first ones, in the order of the file; then come those of the epoch before that haven't come yet. What
+/// is stored of all others means nothing; its memory is used again when the satellite comes back.
 #[derive(Drop)]
 pub struct Satellites {
     known: IndexMap<[u8; NAME_WIDTH], SatelliteHistory>,
@@ -40,8 +40,8 @@ pub struct Satellites {
     placed: usize,
     /// How many mean something: those that have come, and those of the epoch before that haven't.
     live: usize,
-    /// Where the last satellite was found that wasn't the next one: how far behind that, and at which index; where an epoch ended, the index
-    /// before the first one. These two are for speed alone.
+    /// Where the last satellite was found that wasn't the next one: how far behind that, and at which index;
+    /// where an epoch ended, the index before the first one. These two are for speed alone.
     ahead: usize,
     last: usize,
     alloc: Global,
@@ -111,11 +111,12 @@ impl Satellites {
         self.placed
     }
 
-    /// The satellite with an identifier comes, where it is known and has room for so many types: what is stored of it is the next row.
-    /// `false` comes where it has come already, and `None` where it isn't known or has too little room; then nothing changes.
+    /// The satellite with an identifier comes, where it is known and has room for so many types: what is
+    /// stored of it is the next row. `false` comes where it has come already, and `None` where it isn't known
+    /// or has too little room; then nothing changes.
     ///
-    /// The next one in the order of the epoch before mostly comes, which one comparison finds. (The identifier is borrowed, since a copy
-    /// takes 8 instructions.)
+    /// The next one in the order of the epoch before mostly comes, which one comparison finds. (The
+    /// identifier is borrowed, since a copy takes 8 instructions.)
     #[inline(always)]
     pub(crate) fn place(&mut self, name: &[u8; NAME_WIDTH], count: usize) -> Option<bool>
         ensures { AnswersPlacing name.now count self.old self.new result }
@@ -130,15 +131,16 @@ impl Satellites {
         self.bring(name, count)
     }
 
-    /// The satellite with an identifier comes, for [`Satellites::place`], where it isn't the next one in the order of the epoch before.
+    /// The satellite with an identifier comes, for [`Satellites::place`], where it isn't the next one in the
+    /// order of the epoch before.
     #[inline(never)]
     fn bring(&mut self, name: &[u8; NAME_WIDTH], count: usize) -> Option<bool>
         ensures { AnswersPlacing name.now count self.old self.new result }
     {
         let name = *name;
-        // A satellite that isn't the next one is mostly at one of two indices. Where another one came before it, it was exchanged with that,
-        // and is where the last one was found; where some of the epoch before are gone, it is as far behind as the last one was. A look-up
-        // by the map takes 100 instructions.
+        // A satellite that isn't the next one is mostly at one of two indices. Where another one came before
+        // it, it was exchanged with that, and is where the last one was found; where some of the epoch before
+        // are gone, it is as far behind as the last one was. A look-up by the map takes 100 instructions.
         let last = self.last;
         let near = if last < self.known.len()
             && is_same_identifier(key_at(&self.known, last), name)
@@ -171,9 +173,10 @@ impl Satellites {
         Some(true)
     }
 
-    /// Has the satellites of the epoch before come again in their order, where they are so many, and each has as many types as its system
-    /// has now; else nothing changes, and `false`. In an epoch of the same satellites this saves 45 instructions for each of them: no
-    /// identifier is read of the line, and none is looked for.
+    /// Has the satellites of the epoch before come again in their order, where they are so many, and each has
+    /// as many types as its system has now; else nothing changes, and `false`. In an epoch of the same
+    /// satellites this saves 45 instructions for each of them: no identifier is read of the line, and none is
+    /// looked for.
     pub(crate) fn come_again(&mut self, types: &Types, count: usize) -> bool
         requires none { self.old.rows ≡ [] }
         requires awaited { All IsAwaitedSatellite (map satellite_of self.old.rest) }
@@ -193,8 +196,8 @@ impl Satellites {
         true
     }
 
-    /// The satellite with an identifier comes, as by [`Satellites::place`]. Where it isn't known or has too little room, room is asked for
-    /// first.
+    /// The satellite with an identifier comes, as by [`Satellites::place`]. Where it isn't known or has too
+    /// little room, room is asked for first.
     #[inline(always)]
     pub(crate) fn place_or_add(
         &mut self,
@@ -204,8 +207,7 @@ impl Satellites {
         requires allowed { count ≤ TYPES_LIMIT }
         ensures ok { IfOk result (IsPlaced name.now count self.old self.new) }
         ensures err { OnErr result (is_among (λ (row : RowTail). row.name) name.now self.old.rows ≡ false) }
-        ensures rooms { KeepsRooms self.old.rooms self.new.rooms }
-        ensures known { HasRoom name.now count self.old.rooms → IsOk result }
+        ensures prepared { PreparesRow name.now count self.old.rooms self.new.rooms result }
     {
         if let Some(is_new) = self.place(name, count) {
             return Ok(is_new);
@@ -214,8 +216,8 @@ impl Satellites {
         Ok(self.place(name, count).unwrap())
     }
 
-    /// Asks for room for a satellite of so many types, which mostly is the one behind that of the call before. No row changes, and after `Ok`
-    /// the satellite is known.
+    /// Asks for room for a satellite of so many types, which mostly is the one behind that of the call
+    /// before. No row changes, and after `Ok` the satellite is known.
     #[inline(always)]
     pub(crate) fn prepare(&mut self, name: [u8; NAME_WIDTH], count: usize) -> Result<(), AllocError>
         requires allowed { count ≤ TYPES_LIMIT }
@@ -230,8 +232,8 @@ impl Satellites {
         satellite.make_room(count)
     }
 
-    /// The identifiers of the satellites that have come. They are beside each other in the map: to ask for each by its index takes 5
-    /// instructions more.
+    /// The identifiers of the satellites that have come. They are beside each other in the map: to ask for
+    /// each by its index takes 5 instructions more.
     #[inline(always)]
     pub(crate) fn names(&self) -> &[[u8; NAME_WIDTH]]
         ensures value { result.now ≡ map (λ (row : RowTail). row.name) self.now.rows }
@@ -239,8 +241,8 @@ impl Satellites {
         &self.known.keys().as_slice()[..self.placed]
     }
 
-    /// Makes the satellite that came last have so many types, for which it has room: those that it has stay, and new ones have no arcs and
-    /// blank indicators.
+    /// Makes the satellite that came last have so many types, for which it has room: those that it has stay,
+    /// and new ones have no arcs and blank indicators.
     #[inline(always)]
     pub(crate) fn resize_last(&mut self, count: usize)
         requires some { 0 < length self.old.rows }
@@ -254,8 +256,9 @@ impl Satellites {
         satellite.resize(count);
     }
 
-    /// Writes the compact line of a row, whose satellite is at an index among those that have come, from another index on, in place of
-    /// bytes. What is stored of the satellite is that after the row. Gives the line's length.
+    /// Writes the compact line of a row, whose satellite is at an index among those that have come, from
+    /// another index on, in place of bytes. What is stored of the satellite is that after the row. Gives the
+    /// line's length.
     #[inline(always)]
     pub(crate) fn write_line(
         &mut self,
@@ -284,8 +287,8 @@ impl Satellites {
         satellite.write_line(values, marks, bytes, at)
     }
 
-    /// Reads the satellite line of the row at an index: what is stored of its satellite is that after the line, which shows the row. The
-    /// faults are those of [`SatelliteHistory::read`].
+    /// Reads the satellite line of the row at an index: what is stored of its satellite is that after the
+    /// line, which shows the row. The faults are those of [`SatelliteHistory::read`].
     #[inline(always)]
     pub(crate) fn read_line(
         &mut self,
@@ -311,7 +314,8 @@ impl Satellites {
         satellite.read(line, scratch)
     }
 
-    /// Prints the line of the row at an index in place of the bytes from another index on, and gives the line's length.
+    /// Prints the line of the row at an index in place of the bytes from another index on, and gives the
+    /// line's length.
     #[inline(always)]
     pub(crate) fn print_line(&self, index: usize, bytes: &mut [u8], at: usize) -> usize
         requires within { index < length self.now.rows }
@@ -327,14 +331,13 @@ impl Satellites {
         satellite.print_line(*name, bytes, at)
     }
 
-    /// The row at an index. `OutOfMemory` is the one refusal.
-    pub(crate) fn row(&self, index: usize, alloc: Global) -> Result<SatRow, Fault>
+    /// The row at an index.
+    pub(crate) fn row(&self, index: usize, alloc: Global) -> Result<SatRow, AllocError>
         requires within { index < length self.now.rows }
         requires sound { (old : RowTail) → slice_get self.now.rows index ≡ Some old
             → (is_identifier old.name ≡ true) × IsAllowedCount (length old.cells) }
         ensures ok { IfOk result (λ row. (old : RowTail) → slice_get self.now.rows index ≡ Some old
             → row ≡ shown_row old) }
-        ensures err { IfErr result (λ fault. fault ≡ Fault.OutOfMemory) }
     {
         let (name, satellite) = self.known.get_index(index).unwrap();
         satellite.row(alloc, *name)
@@ -355,8 +358,8 @@ fn key_at(map: &IndexMap<[u8; NAME_WIDTH], SatelliteHistory>, index: usize) -> [
     map.keys().as_slice()[index]
 }
 
-/// Whether each of the first so many satellites has as many types as its system has now. Each has the form of an identifier, so its letter
-/// alone is read: this saves 10 instructions for each of them.
+/// Whether each of the first so many satellites has as many types as its system has now. Each has the form of
+/// an identifier, so its letter alone is read: this saves 10 instructions for each of them.
 fn keep_types(
     map: &IndexMap<[u8; NAME_WIDTH], SatelliteHistory>,
     count: usize,
@@ -394,8 +397,8 @@ fn has_room_at(
     satellite.has_room(count)
 }
 
-/// The index of the satellite with an identifier, where it is known. It is looked for at one index first. Part of its callers, as a call
-/// takes 12 instructions for each satellite that comes in another order.
+/// The index of the satellite with an identifier, where it is known. It is looked for at one index first.
+/// Part of its callers, as a call takes 12 instructions for each satellite that comes in another order.
 #[inline(always)]
 fn find(
     map: &IndexMap<[u8; NAME_WIDTH], SatelliteHistory>,
@@ -413,7 +416,8 @@ fn find(
     map.get_index_of(&name)
 }
 
-/// The index of the satellite with an identifier, which is added behind the others where it isn't known. It is looked for at one index first.
+/// The index of the satellite with an identifier, which is added behind the others where it isn't known. It
+/// is looked for at one index first.
 fn find_or_add(
     map: &mut IndexMap<[u8; NAME_WIDTH], SatelliteHistory>,
     near: usize,
@@ -423,7 +427,6 @@ fn find_or_add(
     ensures found { IfOk result (λ found. IsFound name found map.old.entries map.new.entries) }
     ensures unknown { OnErr result (is_among key_of name map.old.entries ≡ false) }
     ensures unchanged { OnErr result (map.new.entries ≡ map.old.entries) }
-    ensures asked { OnErr result (spare map.old ≡ 0) }
     ensures unique { IsUnique bytes_eq map.new }
     ensures small { IfOk result (λ found. found < 2 ^ 63) }
 {

@@ -1,5 +1,5 @@
 //! A sink over memory that fails where its plans say.
-ghost use Rattle.std.specs.Prelude.{◌≡◌, [], ◌++◌, ◌+◌, ◌-◌, ◌<◌, ◌≤◌, length, take, min, is_err, true, false, ◌||◌, IfOk, OnOk, OnErr};
+ghost use Rattle.std.specs.Prelude.{⊤, ◌≡◌, [], ◌++◌, ◌+◌, ◌-◌, ◌<◌, ◌≤◌, length, take, min, is_err, true, false, ◌||◌, IfOk, OnOk, OnErr};
 ghost use Rattle.crx_devices.specs.Joining.{taken_both, taken_none};
 ghost use Rattle.crx_lines.specs.meaning.Devices.{one_more};
 
@@ -100,6 +100,10 @@ impl Sink for FailingSink {
 
     ghost flushes = { λ s. s.flushes.calls };
 
+    ghost is_current = { λ s. ⊤ };
+
+    ghost is_broken = { λ s. ⊥ };
+
     fn write(&mut self, bytes: &[u8]) -> Result<usize, WriteFailed>
         ensures bound { IfOk result (λ n. n ≤ length bytes.now) }
         ensures bytes { IfOk result (λ n. take self.new.len self.new.memory.items
@@ -159,6 +163,12 @@ impl Sink for FailingSink {
             return Err(WriteFailed);
         }
         Ok(())
+    }
+
+    fn await_output(&mut self) {}
+
+    fn hand_on(&mut self) -> bool {
+        true
     }
 
     ghost took_none = { λ s. taken_none (take s.len s.memory.items) };

@@ -7,7 +7,8 @@ use Rattle.crx_filter.proofs.Words.{Made, reader_phase, TakesRinexLine, Totals, 
 use Rattle.crx_filter.proofs.Words.{RinexStep, Header, false-true}
 use Rattle.{crx_compact.proofs.Characters.bytes_eq-same, crx_filter.proofs.RinexSteps.in-epoch}
 use Rattle.crx_filter.specs.{CheckByLine.{totals_with, totals_made}, CompactionByLine.is_before_header}
-use Rattle.crx_filter.specs.{Totals.{HasPrinted, IsLastRow}, meaning.Standard.version_in}
+use Rattle.crx_filter.specs.Totals.{HasPrinted, HasRow, IsCounting, IsLastRow, LastRowIsReadFrom}
+use Rattle.crx_filter.{proofs.Words.{is_row, inl, inr, subst, ◌⊎◌}, specs.meaning.Standard.version_in}
 use Rattle.{crx_rinex.specs.meaning.Printing.printed_head, std.proofs.lemmas.Option.same_Some}
 
 -- the header's first line says the version
@@ -59,3 +60,21 @@ whole-printed made before after line takes is_last =
 pub copied-printed : (made : Made ObservationEpoch OpenEpoch) (line : List ℕ) → printed_made made ≡ line ∷ []
     → true ≡ bytes_eq line (last_line (printed_made made))
 copied-printed made line is = grind (arith, common_steps, bytes_eq-same, bytes_eq, last_line)
+
+-- and that row was read out of the line
+pub row-made : (made : Made ObservationEpoch OpenEpoch) (before after : RinexReader) (line : List ℕ) (step : RinexStep)
+    → (step ≡ Steps.Row) ⊎ (step ≡ Steps.Epoch) → TakesRinexLine made before line step after → HasRow step line after
+    → (last_line (printed_made made) ≡ printed_row after.row) × LastRowIsReadFrom line after
+row-made made before after line step (inl e) takes has =
+    let row = subst (λ s. HasRow s line after) e has in
+    (part-printed made before after line (subst (λ s. TakesRinexLine made before line s after) e takes) row.0, row.1)
+row-made made before after line step (inr e) takes has =
+    let row = subst (λ s. HasRow s line after) e has in
+    (whole-printed made before after line (subst (λ s. TakesRinexLine made before line s after) e takes) row.0, row.1)
+
+-- what a check asks of a row is there, where the row was counted and was read out of its line
+pub has_row : (step : RinexStep) (observed : ℕ) (line : List ℕ) (reader : RinexReader)
+    → IsCounting step observed reader → (is_row step ≡ true → LastRowIsReadFrom line reader) → HasRow step line reader
+has_row Steps.Row observed line reader counting read = ((counting.rows, counting.is_last), read refl)
+has_row Steps.Epoch observed line reader counting read = ((counting.rows, counting.is_last), read refl)
+has_row step observed line reader counting read = tt

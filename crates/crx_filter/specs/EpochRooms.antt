@@ -6,7 +6,7 @@ use Rattle.crx_base.specs.meaning.Choices.{Choices}
 use Rattle.crx_base.specs.meaning.Lines.{InputLine}
 use Rattle.crx_rinex.specs.meaning.Observations.{Epoch}
 use Rattle.crx_compact.specs.OpenEpochs.{ColumnsState, Idle, Reading}
-use Rattle.crx_compact.specs.Placing.{HaveTypesRoom}
+use Rattle.crx_compact.specs.Placing.{HaveTypesRoom, KeepsRooms}
 use Rattle.crx_compact.specs.ReadingRooms.{HaveCellsRoom, HeldColumns}
 use Rattle.crx_compact.specs.Tails.{RowTail}
 use Rattle.crx_compact.specs.meaning.CompactPlaces.{ReadEpoch}
@@ -34,6 +34,11 @@ rows_held (Reading begun) = begun.rows
 -- these rows have room
 abbrev pub HaveHeldRoom : HeldColumns → Type 0
 HaveHeldRoom columns = HaveCellsRoom (rows_held columns.state) columns.rooms
+
+-- no satellite has less room than before, and where the rows that were held had room those that are held now have
+pub record KeepsRoomInColumns (old new : HeldColumns) : Type 0 where
+  pub rooms : KeepsRooms old.rooms new.rooms
+  pub held : HaveHeldRoom old → HaveHeldRoom new
 
 -- each satellite of each epoch has room for its types in columns, and so have the rows that they hold
 abbrev pub HaveRoomInColumns : HeldColumns → List Epoch → Type 0

@@ -1,8 +1,9 @@
 -- What a check counts, as code stores it.
-use Rattle.std.specs.Prelude.{◌≡◌, ◌≤◌, ◌*◌, ⊤, ℕ, List, [], ◌∷◌, ◌++◌, Option, length}
+use Rattle.std.specs.Prelude.{◌≡◌, ◌≤◌, ◌*◌, ⊤, ℕ, List, [], ◌∷◌, ◌++◌, Option, Ok, length}
 use Rattle.crx_base.specs.declared.limits.TheConstants.{SATELLITES_LIMIT, TYPES_LIMIT}
 use Rattle.crx_rinex.specs.meaning.EpochPlaces.{OpenEpoch}
 use Rattle.crx_rinex.specs.meaning.Observations.{Epoch, Row, observations_of}
+use Rattle.crx_rinex.specs.meaning.SatelliteLines.{row_of}
 use Rattle.std.specs.List.{sum_by}
 use Rattle.crx_filter.specs.declared.rinex_reader.RinexReader.{RinexReader}
 use Rattle.crx_filter.specs.declared.rinex_reader.RinexStep.{RinexStep}
@@ -56,11 +57,15 @@ pub record IsObserved (observed : ℕ) (rows : List Row) : Type 0 where
 abbrev pub IsLastRow : RinexReader → Type 0
 IsLastRow reader = (rows : List Row) × (reader.rows.rows ≡ rows ++ reader.row ∷ [])
 
--- after a satellite line the row that was read last is the epoch's last one
-abbrev pub HasRow : RinexStep → RinexReader → Type 0
-HasRow StepRow reader = IsLastRow reader
-HasRow StepEpoch reader = IsLastRow reader
-HasRow step reader = ⊤
+-- the row that was read last was read out of this line
+abbrev pub LastRowIsReadFrom : List ℕ → RinexReader → Type 0
+LastRowIsReadFrom line reader = (types : List Count) × (row_of types line ≡ Ok reader.row)
+
+-- after a satellite line the row that was read last is the epoch's last one, read out of that line
+abbrev pub HasRow : RinexStep → List ℕ → RinexReader → Type 0
+HasRow StepRow line reader = IsLastRow reader × LastRowIsReadFrom line reader
+HasRow StepEpoch line reader = IsLastRow reader × LastRowIsReadFrom line reader
+HasRow step line reader = ⊤
 
 -- where an epoch may be complete with a line, its rows have so many observations
 abbrev pub HasObserved : RinexStep → ℕ → List Row → Type 0

@@ -13,7 +13,7 @@ ghost use Rattle.crx_filter.specs.CompactionByLine.{is_before_header, Written};
 ghost use Rattle.crx_filter.specs.LineByLine.{Made, Rejects};
 ghost use Rattle.crx_filter.specs.RinexReaders.{is_row, made_at, reader_phase, IsSameReader, TakesRinexLine};
 ghost use Rattle.crx_filter.specs.RinexStages.{is_open_stage};
-ghost use Rattle.crx_filter.specs.Totals.{AreBounded, HasPrinted, IsCounting, IsObserved, totals_held};
+ghost use Rattle.crx_filter.specs.Totals.{AreBounded, HasPrinted, IsCounting, IsObserved, LastRowIsReadFrom, totals_held};
 ghost use Rattle.crx_filter.specs.meaning.Standard.{is_standard_line};
 ghost use Rattle.crx_filter.specs.declared.rinex_reader.RinexReader.{RinexReader};
 ghost use Rattle.crx_filter.specs.declared.rinex_reader.RinexStep.{RinexStep};
@@ -57,8 +57,9 @@ pub struct Checking {
     handed_out: usize,
 }
 
-/// Checks a RINEX file, whose lines it takes one at a time, and skips no fault, whatever its options are; once the whole input was
-/// accepted, the six lines of the report are borrowed from it. The faults are those of a [`Compactor`](crate::Compactor).
+/// Checks a RINEX file, whose lines it takes one at a time, and skips no fault, whatever its options are;
+/// once the whole input was accepted, the six lines of the report are borrowed from it. The faults are those
+/// of a [`Compactor`](crate::Compactor).
 pub type Checker = Lender<Checking>;
 
 impl Model for Checking {
@@ -93,10 +94,12 @@ impl Noted {
 
     /// Notes a line that the reader has taken: what it adds to the totals, and whether it is standard.
     #[inline(always)]
+    #[tactic(auto, using(crate::proofs::Checkers::has_row))]
     fn note(&mut self, reader: &RinexReader, step: RinexStep, line: Line<'_>)
         requires bounded { AreBounded self.old.totals (self.old.totals.epochs + self.old.totals.events) }
         requires within { self.old.totals.epochs + self.old.totals.events < INPUT_LIMIT }
         requires observed { IsCounting step self.old.observed reader.now }
+        requires read { is_row step ≡ true → LastRowIsReadFrom (line_shown line).content reader.now }
         ensures totals { (before : RinexReader) (made : Made ObservationEpoch OpenEpoch)
             → TakesRinexLine made before (line_shown line.entry).content step reader.now
             → totals_held self.new.totals ≡ totals_made
@@ -112,10 +115,11 @@ impl Noted {
         ensures count { self.new.totals.epochs + self.new.totals.events
             ≤ self.old.totals.epochs + self.old.totals.events + 1 }
     {
-        let is_same = is_given_back(reader, step, line.bytes(), &mut self.text);
         self.observed = observed_with(self.observed, reader, step);
         self.totals = counted(self.totals, reader, step, self.observed, line.bytes());
-        if self.not_standard.is_none() && !(line.plain() && is_same) {
+        if self.not_standard.is_none()
+            && !(line.plain() && is_given_back(reader, step, line.bytes(), &mut self.text))
+        {
             self.not_standard = Some(line.number());
         }
     }
@@ -147,6 +151,7 @@ fn take_row(
     ensures steps { IfOk result (λ step. is_row step ≡ true) }
     ensures same { OnErr result (IsSameReader reader.old reader.new) }
     ensures named { is_open_stage reader.new.stage ≡ true → AreNamed names.new reader.new.rows.rows }
+    ensures read { OnOk result (LastRowIsReadFrom line.now reader.new) }
     ensures rows { OnOk result (reader.new.rows.rows ≡ reader.old.rows.rows ++ reader.new.row ∷ []) }
     ensures few { OnOk result (length reader.new.rows.rows ≤ SATELLITES_LIMIT) }
 {

@@ -34,10 +34,10 @@ fn outcome_of_check(outcome: Outcome, not_standard: Option<u64>) -> Outcome
     }
 }
 
-/// Checks a RINEX file: writes its report once the whole input is accepted, and else reports the fault that ended the check. The status
-/// is 0 where the file is standard, 2 where it isn't, and 1 after a fault: one of a line, or `ReadFailed`, `WriteFailed`, `InputTooLong` and
-/// `OutOfMemory` where a device or memory failed or the input is longer. A file with status 0 comes back from its compact text byte for
-/// byte.
+/// Checks a RINEX file: writes its report once the whole input is accepted, and else reports the fault that
+/// ended the check. The status is 0 where the file is standard, 2 where it isn't, and 1 after a fault: one of
+/// a line, or `ReadFailed`, `WriteFailed`, `InputTooLong` and `OutOfMemory` where a device or memory failed
+/// or the input is longer. A file with status 0 comes back from its compact text byte for byte.
 #[inline(never)]
 pub fn check<R: Source, W: Sink, M: Sink>(
     alloc: Global,

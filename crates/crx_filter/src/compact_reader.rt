@@ -1,15 +1,15 @@
-//! Compact RINEX 3.0, one line at a time: what each line is, the observation types in force, and the epoch whose lines come.
+//! Compact RINEX 3.0, one line at a time: what each line is, the observation types in force, and the epoch
+//! whose lines come.
 
 ghost use Rattle.std.specs.Prelude.{◌≡◌, ◌≢◌, ◌≤◌, ◌⊎◌, if◌then◌else◌, [], None, true, false, length, IfErr, IfOk};
 ghost use Rattle.crx_base.specs.declared.limits.TheConstants.{LINE_LIMIT};
 ghost use Rattle.crx_base.specs.meaning.Choices.{Choices};
 ghost use Rattle.crx_compact.specs.OpenEpochs.{tail_held};
 ghost use Rattle.crx_compact.specs.Blocks.{PendingLines};
-ghost use Rattle.crx_compact.specs.Placing.{KeepsRooms};
 ghost use Rattle.crx_compact.specs.PrintedBlocks.{ArePrinted};
 ghost use Rattle.crx_header.specs.meaning.EpochColumns.{begins_epoch};
 ghost use Rattle.crx_filter.specs.CompactStages.{is_compact_stage};
-ghost use Rattle.crx_filter.specs.EpochRooms.{HaveHeldRoom};
+ghost use Rattle.crx_filter.specs.EpochRooms.{HaveHeldRoom, KeepsRoomInColumns};
 ghost use Rattle.crx_filter.specs.RinexStages.{is_open_stage};
 ghost use Rattle.crx_filter.specs.Stages.{is_ended, is_settled};
 ghost use Rattle.crx_filter.specs.declared.stage.Stage.{Stage};
@@ -40,14 +40,18 @@ impl CompactReader {
     ghost use Rattle.crx_filter.specs.ExpansionByLine.{expansion_state};
     ghost use Rattle.crx_filter.specs.Rooms.{HasRoomToBegin, do_types_count, may_begin};
 
-    /// A reader before the first line. Its columns are made where they stay; `AllocError` comes where there is no memory for them.
+    /// A reader before the first line. Its columns are made where they stay; `AllocError` comes where there
+    /// is no memory for them.
     pub fn new(alloc: Global) -> Result<CompactReader, AllocError>
         ensures start { (choices : Choices) → IfOk result (λ r. state_by choices 0 (compact_reader_parts r)
             ≡ expansion_state choices []) }
         ensures closed { IfOk result (λ r. is_open_stage r.stage ≡ false) }
         ensures held { IfOk result (λ r. HaveHeldRoom r.columns.value) }
     {
-        let columns = Box::new(alloc, Columns::new(alloc))?;
+        // What `?` keeps of a refusal, columns in full, would be filled with zeros twice.
+        let Ok(columns) = Box::new(alloc, Columns::new(alloc)) else {
+            return Err(AllocError);
+        };
         Ok(CompactReader {
             stage: Stage::FirstLines { count: 0 },
             types: Types::new(alloc),
@@ -55,7 +59,8 @@ impl CompactReader {
         })
     }
 
-    /// Takes a line of the epoch that is open. `true` says that it is the last one, and that the lines of the epoch are ready.
+    /// Takes a line of the epoch that is open. `true` says that it is the last one, and that the lines of the
+    /// epoch are ready.
     ///
     /// The refusals are those of [`Columns::feed_into`].
     #[inline(always)]
@@ -67,8 +72,7 @@ impl CompactReader {
             (if is_open_stage self.new.stage then [] else lines.new.lines) self.new }
         ensures printed { ArePrinted self.new.columns.value.state lines.new }
         ensures unasked { IfErr result (λ fault. fault ≡ Fault.OutOfMemory → ⊥) }
-        ensures rooms { KeepsRooms self.old.columns.value.rooms self.new.columns.value.rooms }
-        ensures held { HaveHeldRoom self.old.columns.value → HaveHeldRoom self.new.columns.value }
+        ensures kept { KeepsRoomInColumns self.old.columns.value self.new.columns.value }
     {
         match self.columns.feed_into(line, lines) {
             Ok(false) => Ok(false),
@@ -85,24 +89,25 @@ impl CompactReader {
 
     /// Takes a line where no epoch is open; `true` says that it is copied into RINEX as it is.
     ///
-    /// `NotCompact` comes where the first line isn't that of Compact RINEX 3.0, `BadProgLine` where the second one has another label.
-    /// In the header the faults of its first line come first, then `BadTypesLine`; among an event's records `BadTypesLine`, where
-    /// types lines count. Where an epoch or an event may begin, `BadEpoch` comes where an event's count is none; then the refusals of
-    /// [`Columns::begin`]. `OutOfMemory` comes only at a line without a fault: the first types line that counts, and an epoch's first
-    /// line.
+    /// `NotCompact` comes where the first line isn't that of Compact RINEX 3.0, `BadProgLine` where the
+    /// second one has another label. In the header the faults of its first line come first, then
+    /// `BadTypesLine`; among an event's records `BadTypesLine`, where types lines count. Where an epoch or an
+    /// event may begin, `BadEpoch` comes where an event's count is none; then the refusals of
+    /// [`Columns::begin`]. `OutOfMemory` comes only at a line without a fault: the first types line that
+    /// counts, and an epoch's first line.
     #[inline(never)]
     pub(crate) fn read_between(&mut self, line: &[u8]) -> Result<bool, Fault>
         requires running { is_ended self.old.stage ≡ false }
         requires between { self.old.stage ≢ Open }
         requires short { length line.now ≤ LINE_LIMIT }
         ensures reads { ReadsCompactLine self.old line.now result (line_copied line.now result) self.new }
-        // It asks for memory only for the first types, and where there is no room for a satellite of an epoch.
+        // It asks for memory only for the first types, and where there is no room for a satellite of an
+        // epoch.
         ensures known { (do_types_count self.old.stage ≡ true → self.old.types ≡ [] → ⊥)
             → (may_begin self.old.stage ≡ true
             → HasRoomToBegin self.old.types (tail_held self.old.columns.value.state) line.now self.old.columns.value.rooms)
             → IfErr result (λ fault. fault ≡ Fault.OutOfMemory → ⊥) }
-        ensures rooms { KeepsRooms self.old.columns.value.rooms self.new.columns.value.rooms }
-        ensures held { HaveHeldRoom self.old.columns.value → HaveHeldRoom self.new.columns.value }
+        ensures kept { KeepsRoomInColumns self.old.columns.value self.new.columns.value }
         // Of an epoch that the line begins no line is printed yet.
         ensures unprinted { (block : PendingLines) → is_open_stage self.new.stage ≡ true
             → ArePrinted self.new.columns.value.state block }
@@ -151,8 +156,7 @@ impl CompactReader {
         ensures reads { ReadsCompactLine self.old line.now result (line_copied line.now result) self.new }
         ensures known { HasRoomToBegin self.old.types (tail_held self.old.columns.value.state) line.now
             self.old.columns.value.rooms → IfErr result (λ fault. fault ≡ Fault.OutOfMemory → ⊥) }
-        ensures rooms { KeepsRooms self.old.columns.value.rooms self.new.columns.value.rooms }
-        ensures held { HaveHeldRoom self.old.columns.value → HaveHeldRoom self.new.columns.value }
+        ensures kept { KeepsRoomInColumns self.old.columns.value self.new.columns.value }
         ensures unprinted { (block : PendingLines) → is_open_stage self.new.stage ≡ true
             → ArePrinted self.new.columns.value.state block }
     {

@@ -30,14 +30,17 @@ pub struct Compaction {
     encoder: Encoder,
 }
 
-/// Makes Compact RINEX 3.0 of the lines of a RINEX file, which it takes one at a time; the lines to be written are borrowed from it.
+/// Makes Compact RINEX 3.0 of the lines of a RINEX file, which it takes one at a time; the lines to be
+/// written are borrowed from it.
 ///
-/// The faults of a line are in the header `MissingVersion`, `UnsupportedVersion` and `NotObservation` at the first line, and
-/// `BadTypesLine`; `BadTypesLine` among an event's records, where types lines count; and where faults aren't skipped `NotAnEpoch`,
-/// `BadEpoch` and `BadClock` where an epoch or an event may begin, and `Truncated`, `BadSatellite`, `BadField`, `BadFlags` and
-/// `RepeatedSatellite` in an epoch. `OutOfMemory` comes only at a line without a fault: the first types line that counts, and a line of a
-/// satellite that no accepted epoch had with as many types. At the end the fault is `MissingVersion` before the first line,
-/// `NoEndOfHeader` in the header, `Truncated` among an event's records, and in an epoch where faults aren't skipped.
+/// The faults of a line are in the header `MissingVersion`, `UnsupportedVersion` and `NotObservation` at the
+/// first line, and `BadTypesLine`; `BadTypesLine` among an event's records, where types lines count; and
+/// where faults aren't skipped `NotAnEpoch`, `BadEpoch` and `BadClock` where an epoch or an event may begin,
+/// and `Truncated`, `BadSatellite`, `BadField`, `BadFlags` and `RepeatedSatellite` in an epoch. `OutOfMemory`
+/// comes only at a line without a fault: the first types line that counts, and a line of a satellite that no
+/// accepted epoch had with as many types. At the end the fault is `MissingVersion` before the first line,
+/// `NoEndOfHeader` in the header, `Truncated` among an event's records, and in an epoch where faults aren't
+/// skipped.
 pub type Compactor = Lender<Compaction>;
 
 impl Model for Compaction {
@@ -60,8 +63,8 @@ fn is_at_every(every: Option<u32>, index: u64) -> bool
     }
 }
 
-/// Takes a line of an open epoch, whose row is written as soon as it is read: `true` says that it is the epoch's last. After a want of
-/// memory the open epoch is forgotten.
+/// Takes a line of an open epoch, whose row is written as soon as it is read: `true` says that it is the
+/// epoch's last. After a want of memory the open epoch is forgotten.
 #[inline(always)]
 fn take_row(reader: &mut RinexReader, encoder: &mut Encoder, line: &[u8]) -> Result<bool, Fault>
     requires together { BelongTogether reader.old encoder.old }

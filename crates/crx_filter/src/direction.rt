@@ -22,7 +22,8 @@ use crx_lines::Line;
 use crx_runs::HandedOut;
 use std::alloc::{AllocError, Global};
 
-/// A direction of an engine: what it makes of a line, what it forgets after a fault, and the lines that are ready.
+/// A direction of an engine: what it makes of a line, what it forgets after a fault, and the lines that are
+/// ready.
 pub trait Direction: Drop {
     // What a whole epoch gives, the state of an open one, and that of the epochs before.
     ghost Whole: { Type 0 };
@@ -31,8 +32,8 @@ pub trait Direction: Drop {
 
     ghost Kept: { Type 0 };
 
-    // The direction that it is line by line, the user's choices as it takes them, the state after some lines, the lines that it hands
-    // out at a good end after them, and what it writes and reports.
+    // The direction that it is line by line, the user's choices as it takes them, the state after some lines,
+    // the lines that it hands out at a good end after them, and what it writes and reports.
     ghost by_line: { DirectionByLine Whole Open Kept };
 
     ghost chosen: { Choices → Choices };
@@ -63,15 +64,15 @@ pub trait Direction: Drop {
     // What it holds is enough for the line with this content.
     ghost has_room: { Self → List ℕ → Type 0 };
 
-    // What it knows of these lines by these choices, beside what is seen of it: that there is room for the satellites of their epochs, or
-    // what a check has noted of them.
+    // What it knows of these lines by these choices, beside what is seen of it: that there is room for the
+    // satellites of their epochs, or what a check has noted of them.
     ghost knows: { Self → Choices → List InputLine → Type 0 };
 
     // What it has found in these lines at a good end.
     ghost has_found: { Self → List InputLine → Type 0 };
 
-    // Whether a line that comes after these may need more memory than they did; where none is needed at all, either may be said. The filter is
-    // held to say the same (`lawful`).
+    // Whether a line that comes after these may need more memory than they did; where none is needed at all,
+    // either may be said. The filter is held to say the same (`lawful`).
     ghost outgrows: { Choices → List InputLine → InputLine → Bool };
 
     // One that skips faults has nothing to find.
@@ -119,7 +120,8 @@ pub trait Direction: Drop {
         ensures known { has_room self.old (line_shown line.entry).content
             → IfErr result (λ fault. fault ≡ Fault.OutOfMemory → ⊥) };
 
-    /// Takes a line where no epoch is open, and answers what it hands out: a line that is copied, after those that are ready.
+    /// Takes a line where no epoch is open, and answers what it hands out: a line that is copied, after those
+    /// that are ready.
     fn take(&mut self, options: &Options, line: Line<'_>) -> Result<HandedOut, Fault>
         requires running { is_ended (parts self.old).stage ≡ false }
         requires closed { is_open_stage (parts self.old).stage ≡ false }
@@ -175,7 +177,8 @@ pub trait Direction: Drop {
             (ready new ≡ drop 1 (ready self.old)) × KeepsAllBeside (parts self.old) (parts new) (counted self.old) (counted new)
             (serves self.old) (serves new) (knows self.old) (knows new) (has_found self.old) (has_found new))) };
 
-    /// Borrows all lines that are ready as one text, each followed by LF; after `None` they stay, and [`Direction::next_line`] gives them.
+    /// Borrows all lines that are ready as one text, each followed by LF; after `None` they stay, and
+    /// [`Direction::next_line`] gives them.
     fn take_text(&mut self) -> Option<&[u8]>
         ensures value { IfSome result (λ text. text.now ≡ lines_text (ready self.old)) }
         ensures* after_borrow { sem 𝓛 (Rests Self.row self.entry (λ new.

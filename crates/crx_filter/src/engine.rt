@@ -1,4 +1,5 @@
-//! Engines of every direction, as runs have them: they take the lines of an input one at a time, and answer what is to be written.
+//! Engines of every direction, as runs have them: they take the lines of an input one at a time, and answer
+//! what is to be written.
 
 ghost use Rattle.std.specs.Prelude.{◌≡◌, ◌≤◌, true};
 ghost use Rattle.crx_base.specs.declared.limits.TheConstants.{INPUT_LIMIT, LINE_LIMIT};
@@ -13,8 +14,9 @@ use crx_runs::{HandedOut, Step};
 use std::alloc::{AllocError, Global};
 use std::marker::Model;
 
-/// An engine of a direction, as a run has it: it takes the lines of an input one at a time. The lines that it makes are borrowed from it. A
-/// line that is copied it hands out as it is, and keeps none; a [`Lender`](crate::lender::Lender) keeps a copy.
+/// An engine of a direction, as a run has it: it takes the lines of an input one at a time. The lines that it
+/// makes are borrowed from it. A line that is copied it hands out as it is, and keeps none; a
+/// [`Lender`](crate::lender::Lender) keeps a copy.
 #[derive(Drop)]
 pub struct Engine<D: Direction> {
     options: Options,
@@ -52,8 +54,8 @@ impl<D: Direction> Engine<D> {
     ghost use Rattle.crx_filter.specs.declared.stage.Stage.{Stage};
     ghost use Rattle.crx_runs.specs.Engines.{Awaited, Concludes, EngineAnswers, IsAwaited, answer_given};
 
-    /// An engine before the first line of its input; `AllocError` comes where there is no memory for what its direction begins
-    /// with.
+    /// An engine before the first line of its input; `AllocError` comes where there is no memory for what its
+    /// direction begins with.
     pub fn new(alloc: Global, options: Options) -> Result<Engine<D>, AllocError>
         ensures state { IfOk result (λ e. engine_state D.Direction e ≡ D.state_after_lines (D.chosen options) []) }
         ensures drained { IfOk result (λ e. engine_ready D.Direction e ≡ []) }
@@ -69,8 +71,9 @@ impl<D: Direction> Engine<D> {
         })
     }
 
-    /// Stores the answer to a fault of the line that was counted last: it is given whether the stage may be skipped and is that of an open
-    /// epoch, and whether reading may go on at the line. A place for the stage would be cleared at every line, by 2 instructions.
+    /// Stores the answer to a fault of the line that was counted last: it is given whether the stage may be
+    /// skipped and is that of an open epoch, and whether reading may go on at the line. A place for the stage
+    /// would be cleared at every line, by 2 instructions.
     #[inline(never)]
     fn fail(&mut self, skips: bool, is_open: bool, fault: Fault, goes_on: bool)
         requires counted { D.counted self.old.direction + 1 ≤ self.old.number }
@@ -102,8 +105,9 @@ impl<D: Direction> Engine<D> {
         self.answer = Ok(Step::Warned { notice, again });
     }
 
-    /// Takes a line: see [`Lender::feed`](crate::lender::Lender::feed). It answers what the line hands out; `None` after a fault, to which the
-    /// answer is stored, and asked for by another call. An answer that held a notice would be copied from call to call at every line.
+    /// Takes a line: see [`Lender::feed`](crate::lender::Lender::feed). It answers what the line hands out;
+    /// `None` after a fault, to which the answer is stored, and asked for by another call. An answer that
+    /// held a notice would be copied from call to call at every line.
     #[inline(always)]
     pub(crate) fn take_line(&mut self, line: Line<'_>) -> Option<HandedOut>
         requires next { EngineAwaits D.Direction self.old (line_number line) }
@@ -129,8 +133,8 @@ impl<D: Direction> Engine<D> {
         }
     }
 
-    /// Takes a line where no epoch is open as [`Engine::take_line`] does, by its parts. An answer that took its place within that one, or a
-    /// place for the line, would be set to zero at every line.
+    /// Takes a line where no epoch is open as [`Engine::take_line`] does, by its parts. An answer that took
+    /// its place within that one, or a place for the line, would be set to zero at every line.
     #[inline(never)]
     fn take_between(&mut self, content: &[u8], number: u64, is_plain: bool) -> Option<HandedOut>
         requires closed { is_open_stage (D.parts self.old.direction).stage ≡ false }
@@ -199,8 +203,8 @@ impl<D: Direction> Engine<D> {
         Err(notice)
     }
 
-    /// Takes a line that is too long, by its number: it has the fault `LineTooLong`, unless a line that begins with `>` is looked for:
-    /// then it is passed over.
+    /// Takes a line that is too long, by its number: it has the fault `LineTooLong`, unless a line that
+    /// begins with `>` is looked for: then it is passed over.
     pub(crate) fn overlong(&mut self, number: u64) -> Result<Step, At>
         requires drained { engine_ready D.Direction self.old ≡ [] }
         requires next { number ≡ (engine_state D.Direction self.old).number + 1 }
@@ -229,7 +233,8 @@ impl<D: Direction> Engine<D> {
         }
     }
 
-    /// Takes the end of the input. Lines are ready then where its direction hands out some at a good end, as a check does.
+    /// Takes the end of the input. Lines are ready then where its direction hands out some at a good end, as
+    /// a check does.
     pub(crate) fn end(&mut self) -> Result<Step, At>
         requires drained { engine_ready D.Direction self.old ≡ [] }
         ensures stops { EngineEnds D.Direction self.old result self.new }
@@ -257,7 +262,8 @@ impl<D: Direction> Engine<D> {
     /// Borrows the next of the lines that are ready, without its line end; `None` once none is pending.
     pub(crate) fn next_line(&mut self) -> Option<&[u8]>
         ensures value { option_copied result ≡ slice_get (engine_ready D.Direction self.old) 0 }
-        // That line is no longer pending; all else of the engine is the same, and of its direction what is seen, known and found.
+        // That line is no longer pending; all else of the engine is the same, and of its direction what is
+        // seen, known and found.
         ensures* after_borrow { sem 𝓛 (Rests (the_row D.row D.Direction) self.entry (λ new. (engine_ready D.Direction new
             ≡ drop 1 (engine_ready D.Direction self.old)) × (engine_state D.Direction new ≡ engine_state D.Direction self.old)
             × ((choices : Choices) (lines : List InputLine) → D.knows self.old.direction choices lines

@@ -7,7 +7,8 @@ ghost use Rattle.crx_base.specs.declared.fault.Fault.TheVariants.{BadEpoch};
 use crx_base::Fault;
 use crx_rinex::Head;
 
-/// How many records follow an event's first line, by its columns 33 to 35; `BadEpoch` where these hold no count.
+/// How many records follow an event's first line, by its columns 33 to 35; `BadEpoch` where these hold no
+/// count.
 pub fn records_announced(line: &[u8]) -> Result<usize, Fault>
     requires event { is_event_line line.now ≡ true }
     ensures value { MatchResult result

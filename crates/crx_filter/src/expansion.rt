@@ -33,15 +33,17 @@ impl Model for Expansion {
     ghost invariant = { λ e. is_open_stage e.reader.stage ≡ true → ArePrinted e.reader.columns.value.state e.lines };
 }
 
-/// Makes RINEX of the lines of Compact RINEX 3.0, which it takes one at a time; the lines to be written are borrowed from it.
+/// Makes RINEX of the lines of Compact RINEX 3.0, which it takes one at a time; the lines to be written are
+/// borrowed from it.
 ///
-/// The faults of a line are those of the first two lines, `NotCompact` and `BadProgLine`; `MissingVersion`, `UnsupportedVersion`,
-/// `NotObservation` and `BadTypesLine` in the header; `BadTypesLine` among an event's records, where types lines count; and where faults
-/// aren't skipped those of an event's first line and of [`Columns::begin`](crx_compact::Columns::begin) and
-/// [`Columns::feed`](crx_compact::Columns::feed). `OutOfMemory` comes only at a line without a fault: the first types line that counts, and
-/// the first line of an epoch with a satellite that no accepted epoch had with as many types. At the end the fault is `NotCompact` before the first line,
-/// `BadProgLine` before the second, `MissingVersion` before the header, `NoEndOfHeader` in it, `Truncated` among an event's records, and in an
-/// epoch where faults aren't skipped.
+/// The faults of a line are those of the first two lines, `NotCompact` and `BadProgLine`; `MissingVersion`,
+/// `UnsupportedVersion`, `NotObservation` and `BadTypesLine` in the header; `BadTypesLine` among an event's
+/// records, where types lines count; and where faults aren't skipped those of an event's first line and of
+/// [`Columns::begin`](crx_compact::Columns::begin) and [`Columns::feed`](crx_compact::Columns::feed).
+/// `OutOfMemory` comes only at a line without a fault: the first types line that counts, and the first line
+/// of an epoch with a satellite that no accepted epoch had with as many types. At the end the fault is
+/// `NotCompact` before the first line, `BadProgLine` before the second, `MissingVersion` before the header,
+/// `NoEndOfHeader` in it, `Truncated` among an event's records, and in an epoch where faults aren't skipped.
 pub type Expander = Lender<Expansion>;
 
 impl Direction for Expansion {

@@ -25,15 +25,17 @@ use crx_runs::Outcome;
 use crx_runs::start::start;
 use std::alloc::Global;
 
-/// Compacts a RINEX 3.0x observation file into Compact RINEX 3.0: reads it once from front to back, writes each line as soon as it
-/// is ready, and reports warnings and the fault that ends the run, one line each.
+/// Compacts a RINEX 3.0x observation file into Compact RINEX 3.0: reads it once from front to back, writes
+/// each line as soon as it is ready, and reports warnings and the fault that ends the run, one line each.
 ///
-/// Where no device failed and memory didn't run out, the output, the messages, the status and the fault are those of the compaction of
-/// the whole input, of at most [`INPUT_LIMIT`](crx_base::limits::INPUT_LIMIT) bytes. `ReadFailed`, `WriteFailed`, `InputTooLong` and
-/// `OutOfMemory` come where a device or memory failed or the input is longer; what was written by then is a prefix of the defined output.
+/// Where no device failed and memory didn't run out, the output, the messages, the status and the fault are
+/// those of the compaction of the whole input, of at most [`INPUT_LIMIT`](crx_base::limits::INPUT_LIMIT)
+/// bytes. `ReadFailed`, `WriteFailed`, `InputTooLong` and `OutOfMemory` come where a device or memory failed
+/// or the input is longer; what was written by then is a prefix of the defined output.
 ///
-/// Of the RINEX text of units that make a file it writes their compact text. Files that have the same normal form have the same compact
-/// text. Where no fault ends it, each line was copied, is one of an epoch that was written, or was dropped with a warning.
+/// Of the RINEX text of units that make a file it writes their compact text. Files that have the same normal
+/// form have the same compact text. Where no fault ends it, each line was copied, is one of an epoch that was
+/// written, or was dropped with a warning.
 #[inline(never)]
 pub fn compact<R: Source, W: Sink, M: Sink>(
     alloc: Global,
@@ -66,16 +68,19 @@ pub fn compact<R: Source, W: Sink, M: Sink>(
     )
 }
 
-/// Expands Compact RINEX 3.0 into RINEX 3.0x, in the same way; of the options it uses alone whether faults are skipped.
+/// Expands Compact RINEX 3.0 into RINEX 3.0x, in the same way; of the options it uses alone whether faults
+/// are skipped.
 ///
-/// Where no device failed and memory didn't run out, the output, the messages, the status and the fault are those of the expansion of
-/// the whole input, of at most [`INPUT_LIMIT`](crx_base::limits::INPUT_LIMIT) bytes. `ReadFailed`, `WriteFailed`, `InputTooLong` and
-/// `OutOfMemory` come where a device or memory failed or the input is longer; what was written by then is a prefix of the defined output.
+/// Where no device failed and memory didn't run out, the output, the messages, the status and the fault are
+/// those of the expansion of the whole input, of at most [`INPUT_LIMIT`](crx_base::limits::INPUT_LIMIT)
+/// bytes. `ReadFailed`, `WriteFailed`, `InputTooLong` and `OutOfMemory` come where a device or memory failed
+/// or the input is longer; what was written by then is a prefix of the defined output.
 ///
-/// A file that a check passes comes back from its compact text byte for byte, and of the compact text of units that make a file it writes
-/// their RINEX text. Compact text that follows the format is read as what it means, whoever wrote it, and nothing else ends with status 0.
-/// Whatever text is expanded, what is written without a fault is a standard file, unless a line of it ends in CR; and each line after the
-/// two first was copied, is one of an epoch that was written, or was dropped with a warning.
+/// A file that a check passes comes back from its compact text byte for byte, and of the compact text of
+/// units that make a file it writes their RINEX text. Compact text that follows the format is read as what it
+/// means, whoever wrote it, and nothing else ends with status 0. Whatever text is expanded, what is written
+/// without a fault is a standard file, unless a line of it ends in CR; and each line after the two first was
+/// copied, is one of an epoch that was written, or was dropped with a warning.
 #[inline(never)]
 pub fn expand<R: Source, W: Sink, M: Sink>(
     alloc: Global,

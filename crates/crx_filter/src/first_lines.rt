@@ -8,7 +8,8 @@ use crx_header::crinex::{CRINEX_PROGRAM_LABEL, CRINEX_VERSION, CRINEX_VERSION_LA
 use crx_header::is_labelled;
 use crx_text::columns::trimmed;
 
-/// Checks the first line of compact text: `3.0` in columns 1 to 20 and the label `CRINEX VERS   / TYPE`, else `NotCompact`.
+/// Checks the first line of compact text: `3.0` in columns 1 to 20 and the label `CRINEX VERS   / TYPE`, else
+/// `NotCompact`.
 pub fn check_version(line: &[u8]) -> Result<(), Fault>
     ensures fault { MatchResult result
         (λ _. crinex_version line.now ≡ Ok line.now)

@@ -14,15 +14,15 @@ ghost use Rattle.crx_filter.specs.declared.lender.Lender.TheInside.{Inside as Le
 ghost use Rattle.crx_filter.specs.declared.checking.Checking.TheInside.{Inside as CheckingInside};
 ghost use Rattle.crx_filter.specs.CheckingParts.{CheckingState};
 
-/// What the parts of engines hold, each in full: one that takes over these parts of another is that other. So there is no part beside them,
-/// in which a record of the past lines could grow.
+/// What the parts of engines hold, each in full: one that takes over these parts of another is that other. So
+/// there is no part beside them, in which a record of the past lines could grow.
 pub fn readers_hold()
     ensures options { (one other : OptionsInside) → options_with one other ≡ other }
     ensures reader { (one other : RinexReader) → rinex_reader_with one other ≡ other }
 {}
 
-/// What an engine holds, in full: one that takes over these parts of another is that other. So there is no part beside them, in which a
-/// record of the past lines could grow.
+/// What an engine holds, in full: one that takes over these parts of another is that other. So there is no
+/// part beside them, in which a record of the past lines could grow.
 pub fn engines_hold()
     ensures compaction { (one other : CompactionInside) → compaction_inside_with one other ≡ other }
     ensures compacting { (one other : EngineInside CompactionState)

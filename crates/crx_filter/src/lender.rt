@@ -1,4 +1,5 @@
-//! Engines of every direction for callers that feed lines and borrow those that are to be written: a line that is copied is lent too.
+//! Engines of every direction for callers that feed lines and borrow those that are to be written: a line
+//! that is copied is lent too.
 
 ghost use Rattle.std.specs.Prelude.{◌≡◌};
 ghost use Rattle.crx_runs.specs.Engines.{answer_given};
@@ -13,8 +14,8 @@ use crx_text::appending::append;
 use std::alloc::{AllocError, Global};
 use std::marker::Model;
 
-/// An engine of a direction for a caller that feeds lines, and borrows those that are to be written: a line that is copied comes out of
-/// memory of its own, after those that are ready before it.
+/// An engine of a direction for a caller that feeds lines, and borrows those that are to be written: a line
+/// that is copied comes out of memory of its own, after those that are ready before it.
 #[derive(Drop)]
 pub struct Lender<D: Direction> {
     pub(crate) engine: Engine<D>,
@@ -94,8 +95,8 @@ impl<D: Direction> Lender<D> {
         self.is_pending = true;
     }
 
-    /// Takes a line that is too long, by its number: [`Lender::feed`] with the fault `LineTooLong`, unless a line that begins with `>` is
-    /// looked for: then it is passed over.
+    /// Takes a line that is too long, by its number: [`Lender::feed`] with the fault `LineTooLong`, unless a
+    /// line that begins with `>` is looked for: then it is passed over.
     pub fn overlong(&mut self, number: u64) -> Result<Step, At>
         requires drained { lender_ready D.Direction self.old ≡ [] }
         requires next { number ≡ (lender_state D.Direction self.old).number + 1 }
@@ -115,16 +116,17 @@ impl<D: Direction> Lender<D> {
         self.engine.overlong(number)
     }
 
-    /// Takes the end of the input. Lines are ready then where its direction hands out some at a good end, as a check does.
-    /// A second end is answered as a good one, with the same lines, or by the fault that has ended the run.
+    /// Takes the end of the input. Lines are ready then where its direction hands out some at a good end, as
+    /// a check does. A second end is answered as a good one, with the same lines, or by the fault that has
+    /// ended the run.
     pub fn end(&mut self) -> Result<Step, At>
         requires drained { lender_ready D.Direction self.old ≡ [] }
         ensures stops { LenderEnds D.Direction self.old result self.new }
         // After the lines that it has taken, the answer is what its direction makes of them all.
         ensures concludes { (lines : List InputLine) → lender_took D.Direction self.old lines []
             → Concludes (D.filter (lender_state D.Direction self.old).choices) (lender_ready D.Direction self.new) lines result }
-        // The same after any lines that leave what is seen of it, where a good end hands out what is to be handed out after them. A
-        // compaction and an expansion hand out nothing at the end.
+        // The same after any lines that leave what is seen of it, where a good end hands out what is to be
+        // handed out after them. A compaction and an expansion hand out nothing at the end.
         ensures by_seen { ConcludesBySeen D.Direction self.old.engine result
             (lender_ready D.Direction self.new) }
         // After a good end it has found in them what is to be found.
@@ -137,9 +139,10 @@ impl<D: Direction> Lender<D> {
         self.engine.end()
     }
 
-    /// Takes the next line. `Quiet`: nothing is to be written yet; `Ready`: [`Lender::next_line`] gives the lines; `Warned`: a fault is
-    /// skipped, and where reading goes on at this very line, it doesn't count yet and is to be fed once more. The error is the fault that
-    /// ends the run, at this line; from then on each call answers the same, and no line is ready.
+    /// Takes the next line. `Quiet`: nothing is to be written yet; `Ready`: [`Lender::next_line`] gives the
+    /// lines; `Warned`: a fault is skipped, and where reading goes on at this very line, it doesn't count yet
+    /// and is to be fed once more. The error is the fault that ends the run, at this line; from then on each
+    /// call answers the same, and no line is ready.
     pub fn feed(&mut self, line: Line<'_>) -> Result<Step, At>
         requires drained { lender_ready D.Direction self.old ≡ [] }
         requires next { line_number line ≡ (lender_state D.Direction self.old).number + 1 }
@@ -149,7 +152,8 @@ impl<D: Direction> Lender<D> {
         ensures ended { IfErr result (λ at. (lender_state D.Direction self.new).phase ≡ Ended at) }
         ensures nothing { OnErr result (lender_ready D.Direction self.new ≡ []) }
         ensures choices { (lender_state D.Direction self.new).choices ≡ (lender_state D.Direction self.old).choices }
-        // After the lines that it has taken, the answer, and the lines that are ready, are what its direction makes of these and the next one.
+        // After the lines that it has taken, the answer, and the lines that are ready, are what its direction
+        // makes of these and the next one.
         ensures answers { (lines : List InputLine) (notices : List Awaited)
             → lender_took D.Direction self.old lines notices → IsAwaited notices (line_shown line.entry)
             → EngineAnswers (D.filter (lender_state D.Direction self.old).choices) (lender_took D.Direction self.new)
@@ -159,7 +163,8 @@ impl<D: Direction> Lender<D> {
             → AnswersBySeen D.Direction self.old.engine (line_shown line.entry) result
             (lender_ready D.Direction self.new) self.new.engine }
         ensures repeated { (at : At) → (lender_state D.Direction self.old).phase ≡ Ended at → result ≡ Err at }
-        // Where its direction has room for the line, the answer isn't for want of memory, unless such a one has ended the run before.
+        // Where its direction has room for the line, the answer isn't for want of memory, unless such a one
+        // has ended the run before.
         ensures known { D.has_room self.old.engine.direction (line_shown line.entry).content
             → RanOutBefore D.Direction self.old.engine result }
         // After a fault it has noted of the lines before what it had noted.
@@ -180,7 +185,8 @@ impl<D: Direction> Lender<D> {
     /// Borrows the next of the lines that are ready, without its line end; `None` once none is pending.
     pub fn next_line(&mut self) -> Option<&[u8]>
         ensures value { option_copied result ≡ slice_get (lender_ready D.Direction self.old) 0 }
-        // That line is no longer pending; all else of the engine is the same, and of its direction what is seen, known and found.
+        // That line is no longer pending; all else of the engine is the same, and of its direction what is
+        // seen, known and found.
         ensures* after_borrow { sem 𝓛 (Rests (the_row D.row D.Direction) self.entry (λ new. (lender_ready D.Direction new
             ≡ drop 1 (lender_ready D.Direction self.old)) × (lender_state D.Direction new ≡ lender_state D.Direction self.old)
             × ((choices : Choices) (lines : List InputLine) → D.knows self.old.engine.direction choices lines

@@ -1,5 +1,5 @@
-//! What files mean, unit by unit, and what both filters and the check make of them: the readers of RINEX and of compact text, the engines
-//! line by line, and whole runs of them, from a reader to a writer and messages.
+//! What files mean, unit by unit, and what both filters and the check make of them: the readers of RINEX and
+//! of compact text, the engines line by line, and whole runs of them, from a reader to a writer and messages.
 #![tactic(auto)]
 
 pub mod checking;

@@ -1,4 +1,5 @@
-//! RINEX observation files, one line at a time: what each line is, the types in force, and the row that was read last.
+//! RINEX observation files, one line at a time: what each line is, the types in force, and the row that was
+//! read last.
 
 ghost use Rattle.std.specs.Prelude.{ℕ, List, ◌≡◌, ◌≤◌, length, true};
 ghost use Rattle.crx_base.specs.declared.limits.TheConstants.{SATELLITES_LIMIT};
@@ -33,8 +34,8 @@ pub enum RinexStep {
     Epoch,
 }
 
-/// Reads RINEX one line at a time. Of an epoch it has the line and the row that was read last; whoever takes the rows looks whether a
-/// satellite comes twice.
+/// Reads RINEX one line at a time. Of an epoch it has the line and the row that was read last; whoever takes
+/// the rows looks whether a satellite comes twice.
 #[derive(Drop)]
 pub struct RinexReader {
     pub stage: Stage,
@@ -82,12 +83,13 @@ impl RinexReader {
         }
     }
 
-    /// Takes a line that is no row of an open epoch, where no fault has ended the reading; while a line that begins with `>` is looked for,
-    /// others are passed over.
+    /// Takes a line that is no row of an open epoch, where no fault has ended the reading; while a line that
+    /// begins with `>` is looked for, others are passed over.
     ///
-    /// In the header: the faults of [`header_first`](crx_header::header_first) for the first line, then `BadTypesLine`. Among an event's
-    /// records `BadTypesLine`, where types lines count. Where an epoch or an event may begin, the faults of [`Head::read`]. `OutOfMemory` comes
-    /// only at a line without a fault, the first types line that counts. After a fault the reader is as it was.
+    /// In the header: the faults of [`header_first`](crx_header::header_first) for the first line, then
+    /// `BadTypesLine`. Among an event's records `BadTypesLine`, where types lines count. Where an epoch or an
+    /// event may begin, the faults of [`Head::read`]. `OutOfMemory` comes only at a line without a fault, the
+    /// first types line that counts. After a fault the reader is as it was.
     #[inline(always)]
     pub fn take(&mut self, line: &[u8]) -> Result<RinexStep, Fault>
         requires running { is_ended self.old.stage ≡ false }
@@ -154,8 +156,9 @@ impl RinexReader {
         }
     }
 
-    /// Reads a line of an open epoch: `Truncated` where it begins with `>`, else the faults of [`RowBuffer::read`]. Whether the satellite has
-    /// come already isn't looked at: where it has, the line's fault is `RepeatedSatellite`, else [`RinexReader::take_row`] takes the row.
+    /// Reads a line of an open epoch: `Truncated` where it begins with `>`, else the faults of
+    /// [`RowBuffer::read`]. Whether the satellite has come already isn't looked at: where it has, the line's
+    /// fault is `RepeatedSatellite`, else [`RinexReader::take_row`] takes the row.
     #[inline(always)]
     pub fn read_row(&mut self, line: &[u8]) -> Result<(), Fault>
         requires open { is_open_stage self.old.stage ≡ true }

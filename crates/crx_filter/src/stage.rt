@@ -61,7 +61,8 @@ impl Stage {
         matches!(self, Stage::Between | Stage::Open | Stage::Looking)
     }
 
-    /// What the end of the input means: a fault before the header has ended, among an event's records and in an epoch.
+    /// What the end of the input means: a fault before the header has ended, among an event's records and in
+    /// an epoch.
     pub fn fault_at_end(&self) -> Option<Fault>
         ensures value { result ≡ fault_at_end_in (bare_phase self.now) }
         ensures open { is_open_stage self.now ≡ true → result ≡ Some Fault.Truncated }

@@ -16,10 +16,11 @@ ghost use Rattle.crx_filter.specs.declared.rinex_reader.RinexReader.{RinexReader
 use crate::report::Totals;
 use crate::rinex_reader::{RinexReader, RinexStep};
 use crx_header::padded;
-use crx_rinex::print_head;
+use crx_rinex::{has_printed_form, print_head};
 use crx_text::Text;
 
-/// The totals with those of a line that was taken, by what it was; the rows of the epoch so far have so many observations.
+/// The totals with those of a line that was taken, by what it was; the rows of the epoch so far have so many
+/// observations.
 pub fn counted(
     totals: Totals,
     reader: &RinexReader,
@@ -62,10 +63,11 @@ pub fn counted(
     }
 }
 
-/// Whether printing gives back a line that was taken, by what it was: the lines that aren't of epochs are copied.
+/// Whether printing gives back a line that was taken, by what it was: the lines that aren't of epochs are
+/// copied.
 pub fn is_given_back(reader: &RinexReader, step: RinexStep, line: &[u8], text: &mut Text) -> bool
     ensures value { (before : RinexReader) (made : Made ObservationEpoch OpenEpoch)
-        → TakesRinexLine made before line.now step reader.now → HasPrinted made → HasRow step reader.now
+        → TakesRinexLine made before line.now step reader.now → HasPrinted made → HasRow step line.now reader.now
         → result ≡ bytes_eq line.now (last_line (printed_made made)) }
 {
     match step {
@@ -78,7 +80,12 @@ pub fn is_given_back(reader: &RinexReader, step: RinexStep, line: &[u8], text: &
             };
             print_head(head, text);
         }
-        RinexStep::Row | RinexStep::Epoch => reader.row.print(text),
+        RinexStep::Row | RinexStep::Epoch => {
+            if has_printed_form(line) {
+                return true;
+            }
+            reader.row.print(text);
+        }
     }
     line == text.bytes()
 }

@@ -11,8 +11,8 @@ ghost use Rattle.crx_filter.specs.meaning.UnitPlaces.{header_line_fault, types_f
 use crx_base::Fault;
 use crx_header::{Types, header_first, is_types};
 
-/// Takes in a header line, or answers what is wrong with it: the first line has checks of its own. After a fault the types
-/// are as they were. `OutOfMemory` comes only where no system has types yet.
+/// Takes in a header line, or answers what is wrong with it: the first line has checks of its own. After a
+/// fault the types are as they were. `OutOfMemory` comes only where no system has types yet.
 pub fn accept_header_line(types: &mut Types, is_first: bool, line: &[u8]) -> Result<(), Fault>
     ensures good { OnOk result (header_line_fault is_first line.now ≡ None) }
     ensures ok { OnOk result (types.new ≡ with_line types.old line.now) }
@@ -28,8 +28,9 @@ pub fn accept_header_line(types: &mut Types, is_first: bool, line: &[u8]) -> Res
     types.accept_line(line)
 }
 
-/// Takes in a record of an event: types lines among them count where this is said, and `true` says that it is one that counts. After a
-/// fault the types are as they were. `OutOfMemory` comes only where no system has types yet.
+/// Takes in a record of an event: types lines among them count where this is said, and `true` says that it is
+/// one that counts. After a fault the types are as they were. `OutOfMemory` comes only where no system has
+/// types yet.
 pub fn accept_record(types: &mut Types, counted: bool, line: &[u8]) -> Result<bool, Fault>
     ensures types { IfOk result (λ is_accepted. is_accepted ≡ empties_state counted line.now) }
     ensures good { OnOk result ((if counted then types_fault line.now else None) ≡ None) }

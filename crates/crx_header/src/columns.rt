@@ -10,8 +10,8 @@ use crx_base::limits::NAME_WIDTH;
 use crx_text::columns::{character, end_trimmed, trimmed};
 pub use crx_text::columns::{after_columns, all_blank, padded};
 
-/// The number in three columns from a first one on: digits, with blanks before or after them. Where the first column is known fewer
-/// instructions are left of it, so it has no call of its own.
+/// The number in three columns from a first one on: digits, with blanks before or after them. Where the first
+/// column is known fewer instructions are left of it, so it has no call of its own.
 #[inline(always)]
 pub fn number(line: &[u8], first: usize) -> Option<usize>
     requires from_one { 1 ≤ first }
@@ -57,8 +57,8 @@ pub fn identifier(line: &[u8], first: usize) -> [u8; NAME_WIDTH]
     ]
 }
 
-/// Puts an identifier in place of the bytes from an index on. Three bytes are stored singly: a copy would test whether the two texts
-/// overlap.
+/// Puts an identifier in place of the bytes from an index on. Three bytes are stored singly: a copy would
+/// test whether the two texts overlap.
 #[inline(always)]
 pub fn put_identifier(bytes: &mut [u8], at: usize, name: [u8; NAME_WIDTH])
     requires { at + NAME_WIDTH ≤ length bytes.old }
@@ -70,7 +70,8 @@ pub fn put_identifier(bytes: &mut [u8], at: usize, name: [u8; NAME_WIDTH])
     bytes[at + 2] = name[2];
 }
 
-/// `true` says that two identifiers are the same, and `false` that they aren't: their first two bytes are compared as one number.
+/// `true` says that two identifiers are the same, and `false` that they aren't: their first two bytes are
+/// compared as one number.
 #[inline(always)]
 pub fn is_same_identifier(one: [u8; NAME_WIDTH], other: [u8; NAME_WIDTH]) -> bool
     ensures same { MatchBool result (one ≡ other) (one ≢ other) }

@@ -19,7 +19,8 @@ pub fn begins_epoch(line: &[u8]) -> bool
     matches!(line, [b'>', ..])
 }
 
-/// Whether a line is an event's first one, by its own bytes: it begins with `>` and has a flag from 2 to 6 in column 32.
+/// Whether a line is an event's first one, by its own bytes: it begins with `>` and has a flag from 2 to 6 in
+/// column 32.
 pub fn is_event_line(line: &[u8]) -> bool
     ensures value { result ≡ is_event_line line.now }
 {
@@ -52,8 +53,8 @@ pub fn is_observation_flag(flag: u8) -> bool
     matches!(flag, b'0' | b'1')
 }
 
-/// How many satellites columns 1 to 41 announce, if they are those of an observation epoch: its flag in column 32 is 0, or 1 for a power
-/// failure, and the count in columns 33 to 35 is within the limit.
+/// How many satellites columns 1 to 41 announce, if they are those of an observation epoch: its flag in
+/// column 32 is 0, or 1 for a power failure, and the count in columns 33 to 35 is within the limit.
 pub fn satellites(columns: &[u8]) -> Option<usize>
     ensures value { result ≡ epoch_count columns.now }
     ensures within { IfSome result (λ count. count ≤ SATELLITES_LIMIT) }
@@ -64,7 +65,8 @@ pub fn satellites(columns: &[u8]) -> Option<usize>
     satellites_by_count(columns)
 }
 
-/// How many satellites columns 1 to 41 announce, where they begin with `>` and have the flag of an observation epoch.
+/// How many satellites columns 1 to 41 announce, where they begin with `>` and have the flag of an
+/// observation epoch.
 #[inline(always)]
 pub fn satellites_by_count(columns: &[u8]) -> Option<usize>
     ensures value { result ≡ (if list_all is_kept columns.now then satellites_in columns.now else None) }

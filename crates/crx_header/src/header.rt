@@ -43,7 +43,8 @@ fn is_supported(version: &[u8]) -> bool
     }
 }
 
-/// Whether a line is the one that ends the header, `END OF HEADER` in columns 61 to 80 (RINEX 3.05, table A2).
+/// Whether a line is the one that ends the header, `END OF HEADER` in columns 61 to 80 (RINEX 3.05, table
+/// A2).
 pub fn is_end(line: &[u8]) -> bool
     ensures value { result ≡ is_end_of_header line.now }
 {

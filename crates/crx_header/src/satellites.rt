@@ -9,7 +9,8 @@ ghost use Rattle.crx_header.specs.meaning.Satellites.{is_identifier, types_of_sa
 use crate::types::Types;
 use crx_text::columns::character;
 
-/// How many types the satellite of a line has, where the line begins with an identifier of a system with types.
+/// How many types the satellite of a line has, where the line begins with an identifier of a system with
+/// types.
 #[inline(always)]
 pub fn types_of_satellite(types: &Types, line: &[u8]) -> Option<usize>
     ensures value { result ≡ types_of_satellite types.now line.now }

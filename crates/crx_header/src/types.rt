@@ -26,7 +26,8 @@ const SYSTEMS: usize = 7;
 pub struct Types {
     /// Once a system has types there is room for all systems.
     counts: IndexMap<u8, usize>,
-    /// The count of each letter, 0 where it has none: a satellite line asks for the count of its system by one load.
+    /// The count of each letter, 0 where it has none: a satellite line asks for the count of its system by
+    /// one load.
     by_letter: [u16; LETTERS],
 }
 
@@ -59,8 +60,8 @@ impl Types {
     /// table A2) replaces the count of its system; any other line, a continuation too, changes nothing.
     ///
     /// `BadTypesLine` comes where column 1 of such a line is the letter of no system, or columns 4 to 6 hold
-    /// no count from 1 to the limit; `OutOfMemory` only where such a line was good and no system has types yet:
-    /// room for all systems is asked for at once. After either the types are as they were.
+    /// no count from 1 to the limit; `OutOfMemory` only where such a line was good and no system has types
+    /// yet: room for all systems is asked for at once. After either the types are as they were.
     pub fn accept_line(&mut self, line: &[u8]) -> Result<(), Fault>
         // Types are what the accepted lines declare.
         ensures declared { (lines : List (List ℕ)) → self.old ≡ types_of lines
@@ -124,8 +125,8 @@ impl Types {
     }
 }
 
-/// Replaces the count of a system, or puts it after those of the others. Where no system has types yet, room is asked for, for all systems;
-/// later no more is needed.
+/// Replaces the count of a system, or puts it after those of the others. Where no system has types yet, room
+/// is asked for, for all systems; later no more is needed.
 fn put(counts: &mut IndexMap<u8, usize>, letter: u8, count: usize) -> Result<(), AllocError>
     requires counts { AreCounts counts.old.entries }
     requires system { is_system letter ≡ true }
@@ -146,8 +147,9 @@ fn put(counts: &mut IndexMap<u8, usize>, letter: u8, count: usize) -> Result<(),
     Ok(())
 }
 
-/// Whether a line begins the list of a system's types: its label is `SYS / # / OBS TYPES`, and column 1 isn't blank
-/// (RINEX 3.05, table A2). Where column 1 is blank the line goes on with such a list, and counts nothing.
+/// Whether a line begins the list of a system's types: its label is `SYS / # / OBS TYPES`, and column 1 isn't
+/// blank (RINEX 3.05, table A2). Where column 1 is blank the line goes on with such a list, and counts
+/// nothing.
 pub fn is_types(line: &[u8]) -> bool
     ensures value { result ≡ is_types_line line.now }
 {

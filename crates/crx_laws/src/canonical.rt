@@ -18,7 +18,8 @@ pub fn compact_text_is_canonical()
     ensures law { (one other : List ℕ) (choices : Choices) → IsCanonical one other choices }
 {}
 
-/// What these laws ask for can be met: by a date; and by two files that differ in how a number is written, and have the same normal form.
+/// What these laws ask for can be met: by a date; and by two files that differ in how a number is written,
+/// and have the same normal form.
 pub fn premises()
     ensures date { is_date plain_choices.date ≡ true }
     ensures one { HasNormalForm (lines_text (header ++ epoch_line_at 0 1 ∷ codes "G01        01.000" ∷ [])) }

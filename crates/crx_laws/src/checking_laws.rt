@@ -1,4 +1,5 @@
-//! What a check means line by line, and what `standard yes` means: each law is the contract of a function that does nothing.
+//! What a check means line by line, and what `standard yes` means: each law is the contract of a function
+//! that does nothing.
 
 ghost use Rattle.std.specs.Prelude.{◌≡◌, [], List, ℕ, None, true};
 ghost use Rattle.crx_base.specs.meaning.Lines.{InputLine};
@@ -10,13 +11,14 @@ ghost use Rattle.crx_base.specs.meaning.Lines.{lines_text};
 ghost use Rattle.crx_runs.specs.Lawful.{IsLawful};
 ghost use Rattle.crx_filter.specs.meaning.Standard.{whole_of};
 
-/// A check goes line by line: what it has seen after a line is made of the line and of what it had seen before it, and the fault is that
-/// of the reading of all lines so far.
+/// A check goes line by line: what it has seen after a line is made of the line and of what it had seen
+/// before it, and the fault is that of the reading of all lines so far.
 pub fn check_by_line()
     ensures law { (lines : List InputLine) (line : InputLine) → IsCheckedOn lines line }
 {}
 
-/// At the end of the input the fault is that of the whole reading; and where there is none, what was seen is what there is to find.
+/// At the end of the input the fault is that of the whole reading; and where there is none, what was seen is
+/// what there is to find.
 pub fn check_ends()
     ensures law { (lines : List InputLine) → IsCheckEnded lines }
 {}
@@ -26,8 +28,8 @@ pub fn standard_files_are_named()
     ensures law { (input : List ℕ) → IsNamedWhereNot input }
 {}
 
-/// A file that is read to its good end is reported as standard, with status 0, exactly where the expansion of its compaction gives it
-/// back byte for byte, whatever is chosen on either way.
+/// A file that is read to its good end is reported as standard, with status 0, exactly where the expansion of
+/// its compaction gives it back byte for byte, whatever is chosen on either way.
 pub fn standard_exactly_where_same()
     ensures law { (input : List ℕ) (compacting expanding : Choices)
         → IsStandardExactlyWhereSame input compacting expanding }

@@ -124,7 +124,8 @@ pub fn order_four()
         ∷ epoch_of_one 4 (Some (pos 1015)) ∷ epoch_of_one 5 (Some (pos 1030)) ∷ []) 18 }
 {}
 
-/// An epoch of no satellites has an epoch line and a clock line; where nothing changes, the epoch line is empty.
+/// An epoch of no satellites has an epoch line and a clock line; where nothing changes, the epoch line is
+/// empty.
 pub fn no_satellite()
     ensures written { text_lines no_satellites
         ≡ codes "> 2024 01 01 00 00  0.0000000  0  0" ∷ [] ∷ [] ∷ [] ∷ [] }
@@ -190,8 +191,8 @@ pub fn a_fault_empties()
         (Content (codes "                    1")) ≡ Faulty NotAnEpoch }
 {}
 
-/// The premises of the laws can be met: two epochs of one satellite are whole by the counts of types in force, and their
-/// lines, as they are read, are one for each satellite, with marks that can be printed.
+/// The premises of the laws can be met: two epochs of one satellite are whole by the counts of types in
+/// force, and their lines, as they are read, are one for each satellite, with marks that can be printed.
 pub fn premises_can_be_met()
     ensures counts { AreCounts one_type }
     ensures whole { AreWholeByTypes two_typed }

@@ -11,17 +11,20 @@ ghost use Rattle.crx_compact.specs.meaning.CompactPlaces.{epoch_at};
 ghost use Rattle.crx_compact.specs.OpenEpochs.{epoch_after};
 ghost use Rattle.crx_compact.specs.Tails.{Tail};
 
-/// The compact lines of an epoch read as that epoch, whatever lines follow, and hand on the block for the next one.
+/// The compact lines of an epoch read as that epoch, whatever lines follow, and hand on the block for the
+/// next one.
 pub fn reading_an_epoch()
     ensures law { EachReadsBack }
 {}
 
-/// Reading the compact text of a list of epochs gives these epochs, where the counts of types change only at full ones.
+/// Reading the compact text of a list of epochs gives these epochs, where the counts of types change only at
+/// full ones.
 pub fn reading_epochs()
     ensures law { ReadsBack }
 {}
 
-/// An epoch that was read is what its raw epoch stands for, no satellite has two lines, and each line is counted.
+/// An epoch that was read is what its raw epoch stands for, no satellite has two lines, and each line is
+/// counted.
 pub fn sound_reading()
     ensures law { ReadsSoundly }
 {}
@@ -31,8 +34,8 @@ pub fn next_raw_epoch()
     ensures law { (raw : RawEpoch) (block : List RawEpoch) → HasSingleLines raw → RawByTail raw block }
 {}
 
-/// What is left of the epochs before, or nothing, decides what is at the next lines, each fault too, and what is left
-/// of an epoch that is read there.
+/// What is left of the epochs before, or nothing, decides what is at the next lines, each fault too, and what
+/// is left of an epoch that is read there.
 pub fn tail_decides()
     ensures law { (types : List Count) (older : List RawEpoch) (lines : List ReadLine)
         → TailDecides types older lines }
@@ -67,8 +70,9 @@ pub fn a_full_epoch_forgets()
         → begins_epoch line ≡ true → Forgets types older line lines }
 {}
 
-/// An epoch that is read is whole, by the counts of types that it is read with: identifiers, counts, ranges, and indicators
-/// of characters 32 to 126 other than `&`. So are all epochs that are read one after another, from nothing on.
+/// An epoch that is read is whole, by the counts of types that it is read with: identifiers, counts, ranges,
+/// and indicators of characters 32 to 126 other than `&`. So are all epochs that are read one after another,
+/// from nothing on.
 pub fn epochs_are_whole()
     ensures one { ReadsWholeEpochs }
     ensures list { ReadsWholeLists }
@@ -79,15 +83,15 @@ pub fn one_tail()
     ensures law { OneTail }
 {}
 
-/// The lines of an epoch that was written, read one by one after what was left before it, give the epoch with the last of
-/// them, and leave what the writer has left. A full epoch is read so after anything.
+/// The lines of an epoch that was written, read one by one after what was left before it, give the epoch with
+/// the last of them, and leave what the writer has left. A full epoch is read so after anything.
 pub fn steps_read_back()
     ensures law { StepsReadBack }
 {}
 
-/// What is held of an epoch whose lines have come in part, and what a whole one leaves, is within the limits, whatever was read before:
-/// the text of one epoch, two indicators a type, at most `ORDER_LIMIT` differences and a value a cell, and at most `SATELLITES_LIMIT` satellites of
-/// `TYPES_LIMIT` types each.
+/// What is held of an epoch whose lines have come in part, and what a whole one leaves, is within the limits,
+/// whatever was read before: the text of one epoch, two indicators a type, at most `ORDER_LIMIT` differences
+/// and a value a cell, and at most `SATELLITES_LIMIT` satellites of `TYPES_LIMIT` types each.
 pub fn bounded_reading()
     ensures law { ReadAreBounded }
 {}

@@ -27,8 +27,8 @@ pub fn types_that_change()
         ∷ line_at 1 4 1 ∷ two_types ∷ epoch_line_at 2 1 ∷ observed (codes "3.000          12.500") ∷ []) }
 {}
 
-/// An identifier that is there twice in an epoch ends the run, and nothing of the epoch is written; where faults are skipped, it is a
-/// warning.
+/// An identifier that is there twice in an epoch ends the run, and nothing of the epoch is written; where
+/// faults are skipped, it is a warning.
 pub fn repeated_satellite()
     ensures ends { compaction_of plain_choices (header ++ epoch_line_at 0 2 ∷ observed (codes "1.000")
         ∷ observed (codes "1.000") ∷ []) ≡ failed (first_two ++ header) 6 RepeatedSatellite }
@@ -45,7 +45,8 @@ pub fn no_arc()
         ≡ failed (header ++ epoch_line_at 0 1 ∷ observed (codes "1.000") ∷ []) 11 NoArc }
 {}
 
-/// A new epoch line cuts an epoch off; where faults are skipped, reading goes on at that line. The end of the input cuts it off too.
+/// A new epoch line cuts an epoch off; where faults are skipped, reading goes on at that line. The end of the
+/// input cuts it off too.
 pub fn cut_epochs()
     ensures ends { expansion_of plain_choices (first_two ++ header ++ full_line_at 0 1 (codes "G01")
         ∷ [] ∷ full_line_at 1 1 (codes "G01") ∷ [] ∷ codes "3&1000" ∷ []) ≡ failed header 8 Truncated }
@@ -130,7 +131,8 @@ pub fn bad_indicator()
         ∷ [] ∷ codes "102500" ∷ second_changed 4 ∷ [] ∷ codes "1000" ∷ []) (warning 7 BadFlags) }
 {}
 
-/// What is answered line by line: the compact lines before the header come with its first line, an epoch with its last line.
+/// What is answered line by line: the compact lines before the header come with its first line, an epoch with
+/// its last line.
 pub fn steps_of_a_compaction()
     ensures one { compaction_answers plain_choices (header ++ epoch_line_at 0 1 ∷ codes "G01  20000000.000"
         ∷ []) ≡ (Ready, 3) ∷ (Ready, 1) ∷ (Ready, 1) ∷ (Quiet, 0) ∷ (Ready, 3) ∷ [] }
@@ -138,7 +140,8 @@ pub fn steps_of_a_compaction()
         ∷ epoch_line_at 0 0 ∷ []) ≡ (Ready, 3) ∷ (Ready, 1) ∷ (Ready, 1) ∷ (Ready, 2) ∷ (Ready, 2) ∷ [] }
 {}
 
-/// What an expansion answers line by line: nothing at the first two lines, a header line at once, and an epoch with its last line.
+/// What an expansion answers line by line: nothing at the first two lines, a header line at once, and an
+/// epoch with its last line.
 pub fn steps_of_an_expansion()
     ensures one { expansion_answers plain_choices
         (first_two ++ header ++ full_line_at 0 1 (codes "G01") ∷ [] ∷ codes "3&20000000000" ∷ []) ≡ (Quiet, 0)
@@ -191,7 +194,8 @@ pub fn damaged_blocks()
         (header ++ comment_event ++ epoch_line_at 2 1 ∷ codes "G01  20000202.000" ∷ []) (warning 7 BadClock) }
 {}
 
-/// What isn't noticed: a block whose lines read as other epochs, and a last line that is cut off in mid-number.
+/// What isn't noticed: a block whose lines read as other epochs, and a last line that is cut off in
+/// mid-number.
 pub fn damage_not_noticed()
     ensures other_epochs { expanded (damaged_by other_block) with_skip
         ≡ good (header ++ epoch_line_at 0 1 ∷ codes "G01  20000000.000" ∷ epoch_line_at 1 1

@@ -1,5 +1,6 @@
-//! The laws of lines, of RINEX and Compact RINEX, and of what both filters and the check mean, and worked examples of the definitions. Each is
-//! the contract of a function that does nothing, but for the way back through `Columns`, which reads what was written.
+//! The laws of lines, of RINEX and Compact RINEX, and of what both filters and the check mean, and worked
+//! examples of the definitions. Each is the contract of a function that does nothing, but for the way back
+//! through `Columns`, which reads what was written.
 #![tactic(auto)]
 
 pub mod again;

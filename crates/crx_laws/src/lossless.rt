@@ -1,4 +1,5 @@
-//! Losslessness, by the results of the three calls alone: the law is the contract of a function that does nothing.
+//! Losslessness, by the results of the three calls alone: the law is the contract of a function that does
+//! nothing.
 
 ghost use Rattle.std.specs.Prelude.{◌≡◌, ◌∷◌, ◌++◌, [], true, codes};
 ghost use Rattle.crx_base.specs.meaning.Lines.{lines_text};
@@ -7,8 +8,9 @@ ghost use Rattle.crx_laws.specs.SmallFiles.{header, epoch_line_at, observed, pla
 ghost use Rattle.crx_base.specs.meaning.Choices.{is_date};
 ghost use Rattle.crx_filter.specs.meaning.Standard.{checked};
 
-/// A file that a check passes, with status 0, comes back byte for byte from its compact text, with no message and status 0, whatever is
-/// chosen on either way: how often epochs are in full, whether faults are skipped, and the date.
+/// A file that a check passes, with status 0, comes back byte for byte from its compact text, with no message
+/// and status 0, whatever is chosen on either way: how often epochs are in full, whether faults are skipped,
+/// and the date.
 pub fn what_passes_comes_back()
     ensures law { WhatPassesComesBack }
 {}

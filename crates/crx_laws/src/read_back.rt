@@ -15,18 +15,19 @@ use crx_compact::{Coded, Columns};
 use crx_header::Types;
 use crx_rinex::{Epoch, is_event_line};
 
-/// Whether a line may be one of an observation epoch: it is no longer than a line may be, and begins no event.
+/// Whether a line may be one of an observation epoch: it is no longer than a line may be, and begins no
+/// event.
 fn is_readable(line: &[u8]) -> bool
     ensures { IsTrue result ↔ IsReadable line.now }
 {
     line.len() <= LINE_LIMIT && !is_event_line(line)
 }
 
-/// Reads compact lines that are borrowed one after another, up to the epoch that they make; `None` where more lines are
-/// needed.
+/// Reads compact lines that are borrowed one after another, up to the epoch that they make; `None` where more
+/// lines are needed.
 ///
-/// The faults are those of [`Columns::begin`] and [`Columns::feed`]; `NotAnEpoch` comes at an event's line too, and at one that
-/// is longer than a line may be.
+/// The faults are those of [`Columns::begin`] and [`Columns::feed`]; `NotAnEpoch` comes at an event's line
+/// too, and at one that is longer than a line may be.
 fn read_coded(
     columns: &mut Columns,
     types: &Types,
@@ -57,19 +58,21 @@ fn read_coded(
     Ok(None)
 }
 
-/// Reads the compact lines of an epoch that was coded, by the counts of types that its rows have: gives the epoch back.
+/// Reads the compact lines of an epoch that was coded, by the counts of types that its rows have: gives the
+/// epoch back.
 ///
-/// Where the columns have the history of the epochs before, or the epoch is in full, only `OutOfMemory` can refuse it. Otherwise
-/// the faults are those of [`Columns::begin`] and [`Columns::feed`]. `NotAnEpoch` comes also at an event's line and at
-/// one that is longer than a line may be; where that isn't the first line, the columns stay in the midst of an epoch.
+/// Where the columns have the history of the epochs before, or the epoch is in full, only `OutOfMemory` can
+/// refuse it. Otherwise the faults are those of [`Columns::begin`] and [`Columns::feed`]. `NotAnEpoch` comes
+/// also at an event's line and at one that is longer than a line may be; where that isn't the first line, the
+/// columns stay in the midst of an epoch.
 pub fn read_back(
     columns: &mut Columns,
     types: &Types,
     coded: &mut Coded,
 ) -> Result<Option<Epoch>, Fault>
     requires idle { is_idle columns.old.state ≡ true }
-    // After any epochs at all, written so that they can be read: the lines give the newest of them, and the reader then has the
-    // history that the writer has.
+    // After any epochs at all, written so that they can be read: the lines give the newest of them, and the
+    // reader then has the history that the writer has.
     ensures epoch { (m : Marked) (older : List Marked)
         → AreWhole types.now (since_full (m ∷ older)) → coded.old.lines ≡ compact_epoch (m ∷ older)
         → (m.in_full ≡ false → tail_held columns.old.state ≡ tail_or_nothing older)

@@ -1,4 +1,5 @@
-//! Nothing is lost in silence, no noise is in an epoch's lines, and blocks are short: each law is the contract of a function that does nothing.
+//! Nothing is lost in silence, no noise is in an epoch's lines, and blocks are short: each law is the
+//! contract of a function that does nothing.
 
 ghost use Rattle.std.specs.Prelude.{◌≡◌, ◌<◌, ◌∷◌, ◌++◌, [], ℕ, List, None, Some, codes};
 ghost use Rattle.crx_base.specs.meaning.Choices.{Choices};
@@ -13,9 +14,9 @@ ghost use Rattle.crx_laws.specs.SmallFiles.{damaged_by, epoch_at_second, epoch_l
 ghost use Rattle.crx_laws.specs.SmallStretches.{second_block};
 ghost use Rattle.crx_rinex.specs.meaning.Units.{Observation};
 
-/// Where no fault ends it, a compaction and an expansion account for each line of their input: it was copied, or it is one of an accepted
-/// epoch's, or a warning tells of it; so a status of 0 says that no line was dropped. The lines of an epoch of compact text hold
-/// characters 32 to 126 alone.
+/// Where no fault ends it, a compaction and an expansion account for each line of their input: it was copied,
+/// or it is one of an accepted epoch's, or a warning tells of it; so a status of 0 says that no line was
+/// dropped. The lines of an epoch of compact text hold characters 32 to 126 alone.
 pub fn nothing_is_lost_in_silence()
     ensures compaction { (choices : Choices) (file : List ℕ)
         → AccountsForFile choices file (compacted file choices) }
@@ -27,8 +28,8 @@ pub fn blocks_are_short()
     ensures law { (choices : Choices) (file : List ℕ) → HasShortBlocks choices file (compacted file choices) }
 {}
 
-/// What these laws ask for can be met: by a file and a text of which an epoch is dropped with a warning; and by a block of two epochs where
-/// every second one is in full.
+/// What these laws ask for can be met: by a file and a text of which an epoch is dropped with a warning; and
+/// by a block of two epochs where every second one is in full.
 pub fn premises()
     ensures file { (compacted (lines_text (header ++ epoch_line_at 0 2 ∷ observed (codes "1.000")
         ∷ observed (codes "1.000") ∷ [])) with_skip).fault ≡ None }

@@ -1,4 +1,5 @@
-//! What is saved of compact text that is damaged in stretches, or cut off: each law is the contract of a function that does nothing.
+//! What is saved of compact text that is damaged in stretches, or cut off: each law is the contract of a
+//! function that does nothing.
 
 ghost use Rattle.std.specs.Prelude.{◌≡◌, [], List, ℕ, true};
 ghost use Rattle.crx_base.specs.meaning.Lines.{lines_text};
@@ -10,9 +11,10 @@ ghost use Rattle.crx_filter.specs.meaning.Expanded.{expanded};
 ghost use Rattle.crx_filter.specs.meaning.Standard.{printed_items};
 ghost use Rattle.crx_runs.specs.meaning.Results.{Begins};
 
-/// Damage costs what it touches. Of the compact text of a file, any number of stretches after the header are damaged: in place of the
-/// lines of some units come any bytes, but no event's first line with a count of records, and the units that are kept after a stretch begin with an event or an
-/// epoch in full. Then an expansion that skips faults writes exactly all units before the first stretch, then for each stretch some
+/// Damage costs what it touches. Of the compact text of a file, any number of stretches after the header are
+/// damaged: in place of the lines of some units come any bytes, but no event's first line with a count of
+/// records, and the units that are kept after a stretch begin with an event or an epoch in full. Then an
+/// expansion that skips faults writes exactly all units before the first stretch, then for each stretch some
 /// whole epochs followed by exactly the units that are kept, and no fault ends it.
 pub fn damage_costs_what_it_touches()
     ensures law { (file : List ℕ) (compacting expanding : Choices) (damaged : List ℕ)
@@ -21,17 +23,17 @@ pub fn damage_costs_what_it_touches()
         → KeepsTheRest file compacting damaged damage (expanded damaged expanding) }
 {}
 
-/// Whatever comes after the lines of a file's first units, an expansion writes these units first. So of a text that is cut off, all
-/// units are written that are whole before the cut.
+/// Whatever comes after the lines of a file's first units, an expansion writes these units first. So of a
+/// text that is cut off, all units are written that are whole before the cut.
 pub fn whole_units_are_written()
     ensures law { (file : List ℕ) (compacting expanding : Choices) (text : List ℕ)
         → is_date compacting.date ≡ true → (whole : BeginsWhole file compacting text)
         → Begins (expanded text expanding).output (lines_text (printed_items whole.before)) }
 {}
 
-/// What these laws ask for can be met: two stretches of one file, the first with a line that begins with `>`, and the second the last
-/// block, its first line too, up to the end; an event that is lost with its block, or since its count is damaged; and a text that is cut off
-/// inside a line.
+/// What these laws ask for can be met: two stretches of one file, the first with a line that begins with `>`,
+/// and the second the last block, its first line too, up to the end; an event that is lost with its block, or
+/// since its count is damaged; and a text that is cut off inside a line.
 pub fn premises()
     ensures twice { HasStretches (lines_text (file_of_five [])) in_full_every_second damaged_twice }
     ensures event { HasStretches (lines_text with_event) plain_choices without_event }

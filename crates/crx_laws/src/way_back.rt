@@ -12,9 +12,10 @@ ghost use Rattle.crx_filter.specs.meaning.Standard.{whole_of, IsStandard};
 ghost use Rattle.crx_filter.specs.WayBack.{ComesBack, NormalFormComesBack, StandardComesBack, IsStandardWhereSame};
 ghost use Rattle.crx_filter.specs.meaning.WayBack.{HaveNoReturns};
 
-/// Whatever was compacted comes back: where the compaction isn't ended by a fault, the expansion of its compact text writes each
-/// accepted unit as RINEX prints it, reports nothing, and ends with status 0. Faults may be skipped or not, on both ways, and epochs
-/// may be in full as often as is chosen. No header line, event line or record may have a content that ends in CR.
+/// Whatever was compacted comes back: where the compaction isn't ended by a fault, the expansion of its
+/// compact text writes each accepted unit as RINEX prints it, reports nothing, and ends with status 0. Faults
+/// may be skipped or not, on both ways, and epochs may be in full as often as is chosen. No header line,
+/// event line or record may have a content that ends in CR.
 pub fn what_was_compacted_comes_back()
     ensures law { (input : List ℕ) (compacting expanding : Choices) → ComesBack input compacting expanding }
 {}
@@ -25,22 +26,23 @@ pub fn the_normal_form_comes_back()
         → NormalFormComesBack input compacting expanding }
 {}
 
-/// A standard file comes back byte for byte, whatever is chosen on either way: how often epochs are in full, whether faults are
-/// skipped, and the date.
+/// A standard file comes back byte for byte, whatever is chosen on either way: how often epochs are in full,
+/// whether faults are skipped, and the date.
 pub fn a_standard_file_comes_back()
     ensures law { (input : List ℕ) (compacting expanding : Choices)
         → StandardComesBack input compacting expanding }
 {}
 
-/// The converse: where a file that is read to its good end comes back byte for byte, by any choices, it is standard. One with a header
-/// line, event line or record whose content ends in CR never does, since it comes back with fewer of them.
+/// The converse: where a file that is read to its good end comes back byte for byte, by any choices, it is
+/// standard. One with a header line, event line or record whose content ends in CR never does, since it comes
+/// back with fewer of them.
 pub fn what_comes_back_is_standard()
     ensures law { (input : List ℕ) (compacting expanding : Choices)
         → IsStandardWhereSame input compacting expanding }
 {}
 
-/// What these laws ask for can be met: a date; a standard file; and, where faults are skipped, a file with two warnings, an event and
-/// no line that ends in CR.
+/// What these laws ask for can be met: a date; a standard file; and, where faults are skipped, a file with
+/// two warnings, an event and no line that ends in CR.
 pub fn premises()
     ensures date { is_date (plain_choices.date) ≡ true }
     ensures standard { IsStandard (lines_text (header ++ epoch_line_at 0 1 ∷ observed (codes "1.000") ∷ [])) }

@@ -6,14 +6,15 @@ ghost use Rattle.crx_laws.specs.SmallFiles.{damaged_by, of_other_orders, with_re
 ghost use Rattle.crx_base.specs.meaning.Choices.{Choices};
 ghost use Rattle.crx_filter.specs.meaning.Expanded.{expanded};
 
-/// What an expansion writes, where no fault ends it, is a standard file, unless a line of it ends in CR: whoever wrote the compact text,
-/// whatever was damaged of it, and whether faults were skipped or not. A line ends in CR exactly where one that was copied does.
+/// What an expansion writes, where no fault ends it, is a standard file, unless a line of it ends in CR:
+/// whoever wrote the compact text, whatever was damaged of it, and whether faults were skipped or not. A line
+/// ends in CR exactly where one that was copied does.
 pub fn what_is_expanded_is_standard()
     ensures law { (text : List ℕ) (choices : Choices) → WhatIsExpandedIsStandard text choices }
 {}
 
-/// What this law asks for can be met: by a damaged text where faults are skipped, and by one with arcs of the orders 1 and 0. Of a text with
-/// a copied line that ends in CR, a line of the output does.
+/// What this law asks for can be met: by a damaged text where faults are skipped, and by one with arcs of the
+/// orders 1 and 0. Of a text with a copied line that ends in CR, a line of the output does.
 pub fn premises()
     ensures damaged { (expanded (damaged_by (codes "xyz" ∷ [])) with_skip).fault ≡ None }
     ensures damaged_plain { has_plain_lines

@@ -1,6 +1,6 @@
 -- Reading an input line by line, out of what a reader gives bit by bit.
 use Rattle.std.specs.Prelude.{◌≡◌, ℕ, ◌+◌, ◌-◌, ◌<◌, ◌≤◌, List, [], ◌∷◌, ◌++◌, MatchBool, IsTrue, length, take}
-use Rattle.std.specs.Prelude.{if◌then◌else◌, Option, Some, None, Result, Ok, Err, ◌≢◌, All}
+use Rattle.std.specs.Prelude.{if◌then◌else◌, Option, Some, None, Result, Ok, Err, ◌≢◌, All, true}
 use Rattle.crx_lines.specs.meaning.Devices.{Tally, with_failure}
 use Rattle.crx_lines.specs.Devices.{with_end, tally_after_line}
 use Rattle.crx_base.specs.meaning.Lines.{InputLine, Piece, line_of, is_long}
@@ -87,3 +87,13 @@ AnswersAs shown numbered old given at_end before after (Err at) new =
 abbrev pub ReaderAnswers : ReaderState
     → List ℕ → Type 0 → Tally → Tally → Result (Option Line) At → ReaderState → Type 0
 ReaderAnswers old given at_end before after r new = AnswersAs line_shown line_number old given at_end before after r new
+
+-- what is answered out of the bytes that are held, with no reader: the next line, or that it is too long; or none, where
+-- nothing has changed
+abbrev pub AnswersHeld : {X : Type 0} → (X → InputLine)
+    → (X → ℕ) → ReaderState → Result (Option X) At → ReaderState → Type 0
+AnswersHeld shown numbered old (Ok (Some x)) new =
+    (p : Piece) × (p.is_ended ≡ true) × TakesPiece old [] ⊥ p new × (shown x ≡ line_of p) × (numbered x ≡ new.number)
+AnswersHeld shown numbered old (Ok None) new = new ≡ old
+AnswersHeld shown numbered old (Err at) new = (at.fault ≡ LineTooLong)
+    × (p : Piece) × (p.is_ended ≡ true) × TakesPiece old [] ⊥ p new × IsTrue (is_long (line_of p)) × (at.line ≡ new.number)

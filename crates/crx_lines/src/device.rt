@@ -1,13 +1,14 @@
 //! The devices that bytes come from and go to. Each one counts its failures, so that a contract
 //! can say of a run that none happened, and what became of the bytes where one did. A source also
 //! counts how often it reported its end, so that a read after that shows.
-ghost use Rattle.std.specs.Prelude.{◌≡◌, ℕ, List, [], ◌++◌, ◌<◌, ◌≤◌, length, take, is_ok, true, false, IfOk, OnOk, OnErr};
+ghost use Rattle.std.specs.Prelude.{◌≡◌, ℕ, List, [], ◌++◌, ◌<◌, ◌≤◌, ◌⊎◌, length, take, is_ok, true, false, IfOk, OnOk, OnErr};
 ghost use Rattle.std.specs.Io.KnownBytes.{Appends, Consumes, IsAtEnd};
 ghost use Rattle.std.proofs.KnownBytes.{Appends-nil, Appends-trans, Consumes-nil, Consumes-trans};
 ghost use Rattle.crx_lines.specs.meaning.Devices.{ends_after, one_more};
 
 use crate::uninterrupted::Uninterrupted;
-use std::io::{Read, Write};
+use std::fs::OpenFile;
+use std::io::{ErrorKind, Read, Write};
 use std::rt::Files;
 use std::{fs, io};
 use thiserror::Error;
@@ -35,6 +36,11 @@ pub trait Source {
 
     // How many reads reported the end; the count stops at the greatest value of 64 bits.
     ghost ends: { Self → ℕ };
+
+    /// Whether a read may have to wait for bytes that don't exist yet. What can't be told may wait.
+    fn may_wait(&self) -> bool {
+        true
+    }
 
     /// Gives the next bytes, as many as it likes, into the front of `buffer`, and answers how
     /// many. None into a buffer that isn't empty reports the end. What is in the buffer after
@@ -70,6 +76,12 @@ pub trait Sink {
     // How many flushes were asked for; the count stops at the greatest value of 64 bits.
     ghost flushes: { Self → ℕ };
 
+    // All that was taken was handed on, where that is awaited; or it couldn't be.
+    ghost is_current: { Self → Type 0 };
+
+    // What was taken couldn't be handed on, and no flush will be good.
+    ghost is_broken: { Self → Type 0 };
+
     /// Takes the first of `bytes`, at least one if there is one, and answers how many. They count as
     /// handed on only once a flush said so.
     fn write(&mut self, bytes: &[u8]) -> Result<usize, WriteFailed>
@@ -88,28 +100,54 @@ pub trait Sink {
         ensures flushed { OnOk result (is_flushed self.new) }
         ensures asked { flushes self.new ≡ one_more (flushes self.old) }
         ensures good { OnOk result (failures self.new ≡ failures self.old) }
-        ensures counted { OnErr result (failures self.new ≡ one_more (failures self.old)) };
+        ensures counted { OnErr result (failures self.new ≡ one_more (failures self.old)) }
+        ensures broken { is_broken self.old → is_ok result ≡ false };
+
+    /// From now on what is taken is awaited: it is to be handed on by each [`Sink::hand_on`], which does
+    /// nothing before this call.
+    fn await_output(&mut self)
+        ensures none_taken { took self.old [] self.new }
+        ensures unasked { flushes self.new ≡ flushes self.old }
+        ensures good { failures self.new ≡ failures self.old };
+
+    /// Hands what was taken on, where that is awaited, and answers whether that went well. It takes no byte,
+    /// and counts as no flush. Where it fails, each flush after it fails, and counts the failure.
+    fn hand_on(&mut self) -> bool
+        ensures none_taken { took self.old [] self.new }
+        ensures unasked { flushes self.new ≡ flushes self.old }
+        ensures good { failures self.new ≡ failures self.old }
+        ensures current { is_current self.new }
+        ensures broken { result ≡ false → is_broken self.new };
 
     ghost took_none: { (s : Self) → took s [] s };
 
     ghost took_both: { (a b c : Self) (xs ys : List ℕ) → took a xs b → took b ys c → took a (xs ++ ys) c };
 }
 
-/// A reader or a writer of std as a device. Of a file nothing is known but the counts, and whether it is unread.
+/// A reader or a writer of std as a device. Of a file nothing is known but the counts, and whether it is
+/// unread.
 #[derive(Drop)]
 pub struct Std<D> {
     inner: D,
     failures: u64,
     ends: u64,
+    /// Whether all that was written was handed on by then: a flush or [`Sink::hand_on`] said so.
     flushed: bool,
     flushes: u64,
     /// Whether it is a file that [`open_file`] opened, and nothing was read or written since.
     is_unread: bool,
+    /// Whether a read may have to wait.
+    may_wait: bool,
+    /// Whether what is written is awaited.
+    is_awaited: bool,
+    /// Whether something that was awaited couldn't be handed on.
+    is_broken: bool,
 }
 
-/// Opens the file of a name for reading, as a device that nothing was read of, and that hands on no interruption. No other call answers an
-/// unread device. The mark is a part of the device and not of the file, so it shows how the code goes, and is no promise about what was read
-/// of the file.
+/// Opens the file of a name for reading, as a device that nothing was read of, and that hands on no
+/// interruption. No other call answers an unread device. The mark is a part of the device and not of the
+/// file, so it shows how the code goes, and is no promise about what was read of the file. A folder counts as
+/// a file that can't be opened. Only a regular file is known not to wait.
 pub fn open_file<H: Files>(files: &H, name: &str) -> io::Result<Std<Uninterrupted<H::File>>>
     ensures unread { IfOk result (λ device. device.is_unread ≡ true) }
     ensures failures { IfOk result (λ device. device.failures ≡ 0) }
@@ -118,6 +156,11 @@ pub fn open_file<H: Files>(files: &H, name: &str) -> io::Result<Std<Uninterrupte
     ensures flushes { IfOk result (λ device. device.flushes ≡ 0) }
 {
     let file = fs::open(files, name)?;
+    let may_wait = match file.metadata() {
+        Ok(metadata) if metadata.is_dir() => return Err(ErrorKind::IsADirectory.into()),
+        Ok(metadata) => !metadata.is_file(),
+        Err(_) => true,
+    };
     Ok(Std {
         inner: Uninterrupted::new(file),
         failures: 0,
@@ -125,6 +168,9 @@ pub fn open_file<H: Files>(files: &H, name: &str) -> io::Result<Std<Uninterrupte
         flushed: false,
         flushes: 0,
         is_unread: true,
+        may_wait,
+        is_awaited: false,
+        is_broken: false,
     })
 }
 
@@ -146,7 +192,17 @@ impl<D> Std<D> {
             flushed: false,
             flushes: 0,
             is_unread: false,
+            may_wait: true,
+            is_awaited: false,
+            is_broken: false,
         }
+    }
+
+    /// The same device, where it is known whether its reads may have to wait.
+    pub fn waiting(self, may_wait: bool) -> Std<D>
+        ensures whole { result ≡ record self { may_wait = may_wait } }
+    {
+        Std { may_wait, ..self }
     }
 
     /// The reader or writer itself.
@@ -165,6 +221,7 @@ impl<D> Std<D> {
         ensures asked { self.new.flushes ≡ one_more self.old.flushes }
         ensures inner { self.new.inner ≡ self.old.inner }
         ensures ends { self.new.ends ≡ self.old.ends }
+        ensures broken { self.new.is_broken ≡ self.old.is_broken }
     {
         self.flushed = flushed.is_ok();
         self.flushes = self.flushes.saturating_add(1);
@@ -186,6 +243,10 @@ impl<D: Read> Source for Std<D> {
     ghost failures = { λ s. s.failures };
 
     ghost ends = { λ s. s.ends };
+
+    fn may_wait(&self) -> bool {
+        self.may_wait
+    }
 
     fn read(&mut self, buffer: &mut [u8]) -> Result<usize, ReadFailed> {
         self.is_unread = false;
@@ -216,6 +277,10 @@ impl<D: Write> Sink for Std<D> {
 
     ghost flushes = { λ s. s.flushes };
 
+    ghost is_current = { λ s. (s.is_awaited ≡ false) ⊎ ((s.flushed ≡ true) ⊎ (s.is_broken ≡ true)) };
+
+    ghost is_broken = { λ s. s.is_broken ≡ true };
+
     fn write(&mut self, bytes: &[u8]) -> Result<usize, WriteFailed> {
         self.flushed = false;
         self.is_unread = false;
@@ -234,7 +299,22 @@ impl<D: Write> Sink for Std<D> {
 
     fn flush(&mut self) -> Result<(), WriteFailed> {
         let flushed = self.inner.flush();
+        if self.is_broken {
+            return self.counted(Err(ErrorKind::BrokenPipe.into()));
+        }
         self.counted(flushed)
+    }
+
+    fn await_output(&mut self) {
+        self.is_awaited = true;
+    }
+
+    fn hand_on(&mut self) -> bool {
+        if self.is_awaited && !self.flushed && !self.is_broken {
+            self.flushed = self.inner.flush().is_ok();
+            self.is_broken = !self.flushed;
+        }
+        !self.is_broken
     }
 
     ghost took_none = { λ s. Appends-nil (D.contents s.inner) };

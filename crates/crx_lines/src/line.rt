@@ -86,8 +86,8 @@ impl LineReader {
     ghost use Rattle.std.specs.Borrow.{sem};
     ghost use Rattle.std.specs.Io.BufRead.{Rests};
     ghost use Rattle.crx_lines.specs.contracts.line.LineReader.{the_row};
-    ghost use Rattle.crx_lines.specs.Reading.{ReaderAnswers, ReaderState, line_shown, line_number};
-    ghost use Rattle.crx_lines.specs.Readers.{IsPlace, TakesNextLine, reading};
+    ghost use Rattle.crx_lines.specs.Reading.{AnswersHeld, ReaderAnswers, ReaderState, line_shown, line_number};
+    ghost use Rattle.crx_lines.specs.Readers.{IsPlace, TakesNextLine, part_shown, reading};
 
     /// A reader before its input's first line.
     pub fn new(alloc: Global) -> Result<LineReader, AllocError>
@@ -110,16 +110,18 @@ impl LineReader {
         self.number
     }
 
-    /// Takes the next line. Its content stays in the window, at the place that is answered.
+    /// Takes the next line where its LF is held. Its content stays in the window, at the place that is
+    /// answered. `None` says that no LF is held, and nothing has changed then.
     #[inline(always)]
-    fn advance<R: Source>(&mut self, reader: &mut R) -> Result<Option<Part>, At>
+    fn advance_held(&mut self) -> Result<Option<Part>, At>
         requires { self.old.phase ≡ Phase.Open }
-        ensures answers { TakesNextLine R.Source self.old self.new reader.old reader.new result }
+        ensures answers { AnswersHeld (part_shown self.new.window.value.bytes.items) (λ _. self.new.number)
+            (reading self.old) result (reading self.new) }
         ensures place { IfOk result (λ next. IfSome next IsPlace) }
-        ensures unasked { Contains (kept self.old.window.value) 10 → reader.new ≡ reader.old }
+        ensures none { result ≡ Ok None → Contains (kept self.old.window.value) 10 → ⊥ }
     {
         let Some(len) = feed_from(self.window.as_slice(), 0) else {
-            return self.advance_by_reading(reader);
+            return Ok(None);
         };
         let place = self.window.content(len);
         self.window.skip(len + 1);
@@ -144,6 +146,7 @@ impl LineReader {
         requires { self.old.phase ≡ Phase.Open }
         ensures answers { TakesNextLine R.Source self.old self.new reader.old reader.new result }
         ensures place { IfOk result (λ next. IfSome next IsPlace) }
+        ensures unasked { Contains (kept self.old.window.value) 10 → reader.new ≡ reader.old }
     {
         let room = INPUT_LIMIT - self.passed - self.window.as_slice().len() as u64;
         let found = match seek(&mut self.window, room, reader) {
@@ -193,7 +196,6 @@ impl LineReader {
     /// counts, and the next call goes on after it. `InputTooLong` is the answer where a byte past
     /// `INPUT_LIMIT` was given and no LF before it is left, `ReadFailed` where a read failed. Both
     /// are repeated from then on, as None is after the end, and `reader` isn't asked again.
-    #[inline(always)]
     pub fn next_line<'a, R: Source>(&'a mut self, reader: &mut R) -> Result<Option<Line<'a>>, At>
         ensures open { (reading self.old).phase ≡ Phase.Open → (given : List ℕ) × (new : ReaderState)
             × R.gave reader.old given reader.new
@@ -217,7 +219,35 @@ impl LineReader {
             Phase::Stopped(at) => return Err(at),
             Phase::Open => {}
         }
-        match self.advance(reader)? {
+        match self.advance_by_reading(reader)? {
+            Some(part) => {
+                let number = self.number;
+                Ok(Some(Line {
+                    content: self.window.part(part.from, part.to),
+                    number,
+                    is_plain: part.is_plain,
+                }))
+            }
+            None => Ok(None),
+        }
+    }
+
+    /// Hands out the next line where its LF is held, as [`LineReader::next_line`] does, and `LineTooLong`
+    /// where it is too long. `None` says that a reader has to be asked, or that no line comes any more;
+    /// nothing has changed then.
+    #[inline(always)]
+    pub fn next_held<'a>(&'a mut self) -> Result<Option<Line<'a>>, At>
+        ensures answers { (new : ReaderState) × AnswersHeld line_shown line_number (reading self.old) result new }
+        ensures going { result ≡ Ok None ⊎ ((reading self.old).phase ≡ Phase.Open) }
+        ensures none { result ≡ Ok None → (reading self.old).phase ≡ Phase.Open → Contains (reading self.old).rest 10 → ⊥ }
+        ensures* after_borrow { sem 𝓛 (Rests the_row self.entry (λ new.
+            AnswersHeld line_shown line_number (reading self.old) result (reading new))) }
+    {
+        match self.phase {
+            Phase::Ended | Phase::Stopped(_) => return Ok(None),
+            Phase::Open => {}
+        }
+        match self.advance_held()? {
             Some(part) => {
                 let number = self.number;
                 Ok(Some(Line {

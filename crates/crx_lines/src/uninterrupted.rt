@@ -7,11 +7,12 @@ ghost use Rattle.std.specs.IoError.{error_kind};
 use std::io;
 use std::io::{ErrorKind, Read, Write};
 
-/// How often a call is made that a signal interrupts each time. So each call returns; its error is then that time is out.
+/// How often a call is made that a signal interrupts each time. So each call returns; its error is then that
+/// time is out.
 const MOST_CALLS: u64 = u64::MAX;
 
-/// A reader or a writer of std that hands on no interruption: a read, a write or a flush that a signal interrupted
-/// is made again, until it is done or fails. An interrupted call gave or took no byte.
+/// A reader or a writer of std that hands on no interruption: a read, a write or a flush that a signal
+/// interrupted is made again, until it is done or fails. An interrupted call gave or took no byte.
 ///
 /// A device counts each error as a failure, so the program's streams and files are below this type.
 #[derive(Drop)]

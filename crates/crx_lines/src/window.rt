@@ -12,7 +12,8 @@ use std::alloc::{AllocError, Global};
 /// How many bytes are held at once: some hundreds of lines of common files.
 pub(crate) const SIZE: usize = 65536;
 
-/// How many bytes are set to zero at once: the C library sets more of them by an instruction that repeats itself for each byte.
+/// How many bytes are set to zero at once: the C library sets more of them by an instruction that repeats
+/// itself for each byte.
 const PIECE: usize = 2048;
 
 /// The room that a read finds at least, where something is held: a line's content, CR and LF.

@@ -1,6 +1,6 @@
 -- What the logs of a run's devices are, by what ran between them.
 use Rattle.std.proofs.lemmas.Grind.{common_steps}
-use Rattle.std.proofs.Common.{arith, ◌≡◌, ◌⊎◌, ◌∙◌, ◌<◌, ℕ, Bool, true, List, [], ◌++◌, Option, Some, None}
+use Rattle.std.proofs.Common.{arith, ◌≡◌, ◌⊎◌, ◌∙◌, ◌<◌, ℕ, Bool, true, false, List, [], ◌++◌, Option, Some, None}
 use Rattle.std.{proofs.Common.{ap, inl, inr, is_some, refl}, specs.Io.KnownBytes.{Appends, Consumes, IsAtEnd}}
 use Rattle.crx_lines.specs.declared.device.{Sink.Ghosts as SinkGhosts, Source.Ghosts as SourceGhosts, Std.Std}
 use Rattle.crx_base.specs.meaning.Choices.{Choices}
@@ -29,6 +29,8 @@ std_sink contents = record {
   failures = λ s. s.failures;
   is_flushed = λ s. s.flushed ≡ true;
   flushes = λ s. s.flushes;
+  is_current = λ s. (s.is_awaited ≡ false) ⊎ ((s.flushed ≡ true) ⊎ (s.is_broken ≡ true));
+  is_broken = λ s. s.is_broken ≡ true;
 }
 
 -- and what it says with a log
@@ -48,6 +50,8 @@ logged_sink inner = record {
   failures = λ s. inner.failures s.inner;
   is_flushed = λ s. inner.is_flushed s.inner;
   flushes = λ s. inner.flushes s.inner;
+  is_current = λ s. inner.is_current s.inner;
+  is_broken = λ s. inner.is_broken s.inner;
 }
 
 abbrev pub reader_of : {D : Type 0} → (D → Option (List ℕ)) → SourceGhosts (Logged (Std D))

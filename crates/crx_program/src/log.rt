@@ -1,4 +1,5 @@
-//! Devices that know what went through them, and by which name they were opened. What they know is read by contracts alone.
+//! Devices that know what went through them, and by which name they were opened. What they know is read by
+//! contracts alone.
 ghost use Rattle.std.specs.Prelude.{◌≡◌, ◌<◌, List, ℕ, [], ◌++◌, IfOk, None, Some, true};
 ghost use Rattle.std.specs.Borrow.{ftrue};
 ghost use Rattle.std.proofs.Common.{◌∙◌, refl};
@@ -13,8 +14,8 @@ use std::io::{BufWriter, Write};
 use std::marker::{Model, PhantomData};
 use std::rt::Files;
 
-/// How many bytes of the output are collected before they are written: a system call for each line would cost more than all
-/// other work. The reader of lines itself reads the input in pieces of that size.
+/// How many bytes of the output are collected before they are written: a system call for each line would cost
+/// more than all other work. The reader of lines itself reads the input in pieces of that size.
 pub const OUTPUT_BUFFER: usize = 65536;
 
 /// Bytes that contracts alone read. It takes no memory, and its methods do nothing at run time.
@@ -69,7 +70,8 @@ impl Opening {
     }
 }
 
-/// A device that knows what went through it, and how it was opened. It reads, writes and flushes by the device in it, once for each call.
+/// A device that knows what went through it, and how it was opened. It reads, writes and flushes by the
+/// device in it, once for each call.
 #[derive(Drop)]
 pub struct Logged<S> {
     inner: S,
@@ -78,12 +80,12 @@ pub struct Logged<S> {
     opening: Opening,
 }
 
-/// A file or a stream that is read, or a stream that is written without a buffer, as a device that knows what went through it, and of a file
-/// its name. It hands on no interruption.
+/// A file or a stream that is read, or a stream that is written without a buffer, as a device that knows what
+/// went through it, and of a file its name. It hands on no interruption.
 pub type SourceFile<F> = Logged<Std<Uninterrupted<F>>>;
 
-/// A file or a stream that is written over a buffer, as a device that knows what was written to it, and of a file its name. It hands on no
-/// interruption.
+/// A file or a stream that is written over a buffer, as a device that knows what was written to it, and of a
+/// file its name. It hands on no interruption.
 pub type TargetFile<F> = Logged<Std<BufWriter<UntilFailure<Uninterrupted<F>>>>>;
 
 impl<S> Logged<S> {
@@ -122,6 +124,10 @@ impl<S: Source> Source for Logged<S> {
 
     ghost ends = { λ s. S.ends s.inner };
 
+    fn may_wait(&self) -> bool {
+        self.inner.may_wait()
+    }
+
     fn read(&mut self, buffer: &mut [u8]) -> Result<usize, ReadFailed> {
         let count = self.inner.read(buffer)?;
         self.log.add(&buffer[..count]);
@@ -147,6 +153,10 @@ impl<S: Sink> Sink for Logged<S> {
 
     ghost flushes = { λ s. S.flushes s.inner };
 
+    ghost is_current = { λ s. S.is_current s.inner };
+
+    ghost is_broken = { λ s. S.is_broken s.inner };
+
     fn write(&mut self, bytes: &[u8]) -> Result<usize, WriteFailed> {
         let count = self.inner.write(bytes)?;
         self.log.add(&bytes[..count]);
@@ -155,6 +165,14 @@ impl<S: Sink> Sink for Logged<S> {
 
     fn flush(&mut self) -> Result<(), WriteFailed> {
         self.inner.flush()
+    }
+
+    fn await_output(&mut self) {
+        self.inner.await_output();
+    }
+
+    fn hand_on(&mut self) -> bool {
+        self.inner.hand_on()
     }
 
     ghost took_none = { λ s. (adds_none s.log.bytes, refl, S.took_none s.inner) };
@@ -166,8 +184,8 @@ impl<S: Sink> Sink for Logged<S> {
     ) };
 }
 
-/// Opens the file of a name for reading. This call and [`open_to_write`] alone make a device that has a name: the one that they were given,
-/// and hand on to the machine.
+/// Opens the file of a name for reading. This call and [`open_to_write`] alone make a device that has a name:
+/// the one that they were given, and hand on to the machine.
 pub fn open_to_read<H: Files>(files: &H, name: &str) -> io::Result<SourceFile<H::File>>
     ensures name { IfOk result (λ device. device.opening.name.bytes ≡ name.now) }
     ensures log { IfOk result (λ device. device.log.bytes ≡ []) }

@@ -35,9 +35,9 @@ pub struct Ended<F: Write + Drop> {
     pub target: Option<TargetFile<F>>,
 }
 
-/// Has a buffer hand on what it still holds: no byte more is written. A run that ended since a message couldn't be written hasn't flushed what
-/// it wrote before. After a write that failed nothing is handed on. A run whose output wasn't handed on before has ended with status 1, so a
-/// failure says nothing more.
+/// Has a buffer hand on what it still holds: no byte more is written. A run that ended since a message
+/// couldn't be written hasn't flushed what it wrote before. After a write that failed nothing is handed on. A
+/// run whose output wasn't handed on before has ended with status 1, so a failure says nothing more.
 pub(crate) fn settle<F: Write + Drop>(device: &mut TargetFile<F>)
     ensures { device.new.log.bytes ≡ device.old.log.bytes }
 {
@@ -52,7 +52,8 @@ pub(crate) fn let_go<F: Write + Drop>(device: TargetFile<F>) {
 }
 
 impl<F: Write + Drop> Ended<F> {
-    /// Hands on what the buffer of the output file still holds, closes the files, and answers the exit status.
+    /// Hands on what the buffer of the output file still holds, closes the files, and answers the exit
+    /// status.
     fn close(self) -> u8
         ensures status { result ≡ self.status }
     {
@@ -154,8 +155,9 @@ fn filter_to_file<R: Source, F: Write + Drop, M: Sink>(
     }
 }
 
-/// Runs a filter into the job's target: a file, or `output` where the job names none. A file that exists is overwritten only where the
-/// job says so; else the call that makes the file fails where there is one, with `AlreadyExists`.
+/// Runs a filter into the job's target: a file, or `output` where the job names none. A file that exists is
+/// overwritten only where the job says so; else the call that makes the file fails where there is one, with
+/// `AlreadyExists`.
 fn run_to_target<H: Files, R: Source, W: Sink, M: Sink>(
     rt: &H,
     alloc: Global,
@@ -244,8 +246,9 @@ fn show_help<W: Sink, M: Sink>(text: &Word, output: &mut W, messages: &mut M) ->
     }
 }
 
-/// Does what the arguments ask for, at the moment that the clock gives, and answers the exit status; the arguments come without the
-/// program's name. `input` and `output` stand for standard input and standard output.
+/// Does what the arguments ask for, at the moment that the clock gives, and answers the exit status; the
+/// arguments come without the program's name. `input` and `output` stand for standard input and standard
+/// output.
 ///
 /// A run's status is that of its filter: 0 where no message was written, 1 where an error ended it, and
 /// 2 where there were warnings alone or, for `check`, where the file isn't standard. Help is written to
@@ -255,7 +258,8 @@ fn show_help<W: Sink, M: Sink>(text: &Word, output: &mut W, messages: &mut M) ->
 /// that is fault 22 at line 0, and a help that can't be written is fault 21 at line 0.
 ///
 /// The default date is made first, where one is needed; then the input file is opened, then the output
-/// file is made.
+/// file is made. Where the input may have to wait, as all but regular files may, what is written is handed on
+/// before each read and before each warning.
 pub fn run<H: Files + Clock, R: Source, W: Sink, M: Sink>(
     rt: &H,
     alloc: Global,
@@ -284,8 +288,8 @@ pub fn run<H: Files + Clock, R: Source, W: Sink, M: Sink>(
     run_with_files(rt, alloc, moment, words, input, output, messages).close()
 }
 
-/// Does the same at a moment that is given, and answers the devices of the files that it opened too (see [`run`]). The default date is
-/// that of the moment, and empty where there is none.
+/// Does the same at a moment that is given, and answers the devices of the files that it opened too (see
+/// [`run`]). The default date is that of the moment, and empty where there is none.
 pub fn run_with_files<H: Files, R: Source, W: Sink, M: Sink>(
     rt: &H,
     alloc: Global,

@@ -40,8 +40,8 @@ pub fn report_at_start<M: Sink>(messages: &mut M, fault: Fault) -> u8
     FAILED
 }
 
-/// Reports what is wrong, and a name, as `ERROR: file exists: a.crx`, and answers the exit status. If the system refuses memory
-/// for the line, it reports that.
+/// Reports what is wrong, and a name, as `ERROR: file exists: a.crx`, and answers the exit status. If the
+/// system refuses memory for the line, it reports that.
 pub fn report<M: Sink>(alloc: Global, messages: &mut M, words: &str, name: &str) -> u8
     ensures shown { IsShownOr (span M.Sink messages.old messages.new) (error_line words.now name.now) }
     ensures status { result ≡ 1 }

@@ -1,4 +1,5 @@
-//! A whole run of the program over standard streams that are handed in, which are handed back as devices that know what went through them.
+//! A whole run of the program over standard streams that are handed in, which are handed back as devices that
+//! know what went through them.
 
 ghost use Rattle.std.specs.Prelude.{◌≡◌, [], None, map, string_bytes};
 ghost use Rattle.crx_command.specs.meaning.Planning.{Help, Refusal, Refused, Run, plan_of};
@@ -29,7 +30,8 @@ pub type OutputDevice<O> = TargetFile<O>;
 /// Standard error, as a device that knows what was written to it.
 pub type MessageDevice<E> = SourceFile<E>;
 
-/// A run over standard streams that is over: its exit status, and each device that it read or wrote, with a log of all that went through it.
+/// A run over standard streams that is over: its exit status, and each device that it read or wrote, with a
+/// log of all that went through it.
 #[derive(Drop)]
 pub struct Whole<I, O: Write + Drop, E, F: Write + Drop> {
     /// The exit status.
@@ -72,12 +74,14 @@ pub fn without_memory<I: Read, O: Write + Drop, E: Write, F: Write + Drop>(
     }
 }
 
-/// Does what the arguments ask for, over standard streams (see [`run`](crate::program::run)), and hands these back.
+/// Does what the arguments ask for, over standard streams (see [`run`](crate::program::run)), and hands these
+/// back. `may_wait` says whether standard input may have to wait for more.
 pub fn run_over<H: Files, I: Read, O: Write + Drop, E: Write>(
     rt: &H,
     alloc: Global,
     moment: Option<Timestamp>,
     words: Vec<String>,
+    may_wait: bool,
     stdin: Uninterrupted<I>,
     stdout: BufWriter<UntilFailure<Uninterrupted<O>>>,
     stderr: Uninterrupted<E>,
@@ -107,7 +111,7 @@ pub fn run_over<H: Files, I: Read, O: Write + Drop, E: Write>(
     ensures keeps { (job : Job) → plan_of (map string_bytes words.items) ≡ Run job
         → (result.status ≡ 1 → ⊥) → KeepsItsPromises moment job result }
 {
-    let mut input = Logged::new(Std::new(stdin));
+    let mut input = Logged::new(Std::new(stdin).waiting(may_wait));
     let mut output = Logged::new(Std::new(stdout));
     let mut messages = Logged::new(Std::new(stderr));
     let ended = run_with_files(
@@ -145,7 +149,8 @@ impl<I: Drop, O: Write + Drop, E: Drop, F: Write + Drop> Whole<I, O, E, F> {
         settle(&mut self.output);
     }
 
-    /// Hands on what the buffers of the output still hold, closes the files, and answers the exit status. No byte more is written.
+    /// Hands on what the buffers of the output still hold, closes the files, and answers the exit status. No
+    /// byte more is written.
     pub fn close(mut self) -> u8
         ensures status { result ≡ self.status }
     {

@@ -1,15 +1,16 @@
 -- What follows from how a run ended.
 use Rattle.std.proofs.lemmas.Grind.{common_steps}
 use Rattle.std.proofs.Common.{◌≡◌, ◌⊎◌, inl, inr, ℕ, ◌≤◌, Bool, true, List, [], ◌++◌, length, Option, Some}
-use Rattle.std.proofs.Common.{None, refl, sym, ap, ◌∙◌, arith, append-nil, length-append}
+use Rattle.std.proofs.Common.{None, refl, sym, ap, subst, ◌∙◌, arith, append-nil, length-append}
 use Rattle.crx_lines.{proofs.ProgressLemmas.{HasRead-ended, HasRead-stopped}, specs.Reading.ReaderState}
 use Rattle.crx_lines.specs.{Progress.{HasRead, IsStopped}, declared.phase.Phase.TheVariants.{Open, Ended}}
 use Rattle.crx_base.specs.{declared.fault.Fault.Fault, meaning.Lines.{InputLine, lines_of}}
 use Rattle.crx_base.specs.declared.{limits.TheConstants.INPUT_LIMIT}
 use Rattle.crx_base.specs.declared.fault.{Fault.TheVariants.{ReadFailed, OutOfMemory}, At.At}
 use Rattle.crx_runs.proofs.{Salvaged.{AskedOnce, is-open, none-failed, asked-once}, RunEndings.line-stands}
-use Rattle.crx_runs.proofs.RunEndings.{end-stands, reader-stands, start-stands, flush-stands, StandsAfter}
+use Rattle.crx_runs.proofs.RunEndings.{end-stands, handing-stands, reader-stands, start-stands, flush-stands, StandsAfter}
 use Rattle.crx_runs.proofs.{RunEndings.well-front, DeviceSpans.{Joins, took-still}}
+use Rattle.crx_lines.specs.meaning.Devices.{with_failed_flush}
 use Rattle.crx_runs.specs.{Runs.result_by, Lawful.IsLawful, meaning.Spans.{Device, TookAll, Input}}
 use Rattle.crx_runs.specs.meaning.{Filters.{Filter, with_next}, Interruptions.IsFrontPart, Runs.IsResult}
 use Rattle.crx_runs.specs.meaning.{Runs.{NoneFailed, FaultIs, RunsAs}, Results.{Course, result_of_course}}
@@ -80,6 +81,10 @@ module _ (filter : Filter) (lawful : IsLawful filter) (input : Input)
       → NoneFailed input.start.failures input.counted.failures → ⊥
   stopped-none = grind (arith, common_steps, length-append)
 
+  handing-none : writer1.after ≡ with_failed_flush writer1.before → writer2.after ≡ writer2.before
+      → NoneFailed writer.before.failures writer.after.failures → ⊥
+  handing-none = grind arith
+
   no-fault : (at : At) (fault : Option At) → fault ≡ Some at → fault ≡ None → ⊥
   no-fault at fault is none = cc
 
@@ -108,7 +113,7 @@ module _ (filter : Filter) (lawful : IsLawful filter) (input : Input)
         within rn))
         (grind arith)
         (grind arith)
-    stopped-in-lines lines (inr e) last_is =
+    stopped-in-lines lines (inr (inl e)) last_is =
         let h = e.read in
         interrupted h.given h.lead
         (line-stands filter lawful input w m now last warned halt status fault lines e last_is finished)
@@ -117,6 +122,13 @@ module _ (filter : Filter) (lawful : IsLawful filter) (input : Input)
         status fault
         (λ at bad. ap filter.whole first.1 ∙ lawful.decided _ first.0 at bad) e.ends finished wn mn memory)
         (asked-once h e.going) (λ other. none-failed h e.going)
+    stopped-in-lines lines (inr (inr (is, s))) last_is =
+        let h = s.read in
+        interrupted h.given h.lead
+        (handing-stands filter lawful input w m now last warned halt status fault lines is s last_is finished)
+        (λ rn wn mn memory rest none within. absurd (handing-none s.failed (subst (λ (stop : Halt). Finishes
+        writer2 messages2 last warned (Some stop) status fault) is finished).0.1 wn))
+        (asked-once h s.going) (λ other. none-failed h s.going)
 
     stopped-by-end : StoppedByEnd filter input writer1 messages1 now last halt
         → Comes filter input writer messages has_ended status fault

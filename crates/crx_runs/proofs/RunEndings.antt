@@ -7,9 +7,9 @@ use Rattle.crx_lines.specs.Reading.{ReaderState}
 use Rattle.crx_base.specs.declared.fault.{At.At, Fault.Fault, Fault.TheVariants.OutOfMemory}
 use Rattle.crx_base.specs.meaning.Lines.{InputLine}
 use Rattle.crx_runs.proofs.DeviceSpans.{Joins, all-still, notices-append, part-more, part-still, part-then}
-use Rattle.crx_runs.proofs.{DeviceSpans.took-still, Salvaged.{complete-stopped, all-read, all-of, taken-read}}
-use Rattle.crx_runs.proofs.Salvaged.{begins-itself, begins-taken, first-after-turn, first-before-turn}
-use Rattle.crx_runs.{proofs.Salvaged.first-complete, specs.Endings.{EndsAt, EndsBy, ReaderStopped}}
+use Rattle.crx_runs.proofs.{DeviceSpans.took-still, Salvaged.{complete-stopped, all-read, all-of, all-so-far, taken-read}}
+use Rattle.crx_runs.proofs.Salvaged.{begins-itself, begins-taken, first-after-turn, first-before-turn, first-taken}
+use Rattle.crx_runs.{proofs.Salvaged.first-complete, specs.Endings.{EndsAt, EndsBy, HandingFailed, ReaderStopped}}
 use Rattle.crx_runs.specs.Endings.{StoppedAtStart, StoppedByEnd, WellDone, Finishes, IsReported, IsFlushed}
 use Rattle.crx_runs.specs.{Endings.{FlushFailed, write_failed_at}, Lawful.{IsLawful, is_of_lines}}
 use Rattle.crx_runs.specs.{declared.one_line.Halt.Halt, meaning.Filters.{Filter, with_next}}
@@ -177,6 +177,29 @@ module _ (filter : Filter) (lawful : IsLawful filter) (input : Input)
         record { written = _; wrote = wrote.0; first = first-complete lawful input h.given lines same },
       )
 
+  -- what was written couldn't be handed on before a read
+  pub handing-stands : (now : ReaderState) (last : ℕ) (warned : Bool) (stop : Halt) (status : ℕ)
+      (fault : Option At) (lines : List InputLine) → stop ≡ halt.Unwritten → (s : HandingFailed input writer1
+      messages1 now lines (filter.so_far lines)) → last ≡ now.number → Finishes writer2 messages2 last warned
+      (Some stop) status fault → StandsAfter filter input writer messages s.read.given status fault
+      × IsFrontPart filter input s.read.given writer
+  handing-stands now last warned stop status fault lines halt_is s last_is finishes =
+      let finished : Finishes writer2 messages2 last warned (Some halt.Unwritten) status fault = grind arith in
+      let h = s.read in
+      let taken = taken-read h s.going in
+      let wrote = took-still w _ s.wrote finished.0.0 in (
+        stands-after h.given _ finished.3 finished.2 (inr (inr (inr (record {
+          lines = lines;
+          taken = all-so-far h s.going s.unheld;
+          line = last_is ∙ h.number;
+          good = s.good;
+          wrote = wrote;
+          counted = grind arith;
+          reported = reported _ (write_failed_at last) s.reported finished.1;
+        })))),
+        record { written = _; wrote = wrote; first = first-taken lawful input h.given lines _ taken (begins-itself _) },
+      )
+
   pub start-stands : (last : ℕ) (warned : Bool)
       (stop : Halt) (status : ℕ) (fault : Option At) (s : StoppedAtStart input writer1 messages1 last stop)
       → Finishes writer2 messages2 last warned (Some stop) status fault
@@ -202,7 +225,7 @@ module _ (filter : Filter) (lawful : IsLawful filter) (input : Input)
   flush-stands has_ended now last warned status at done finished =
       let all = all-read done.read done.ended in
       let flushed = finished.0 in
-      stands-after done.read.given _ finished.3 (ap Some finished.2) (inr (inr (record {
+      stands-after done.read.given _ finished.3 (ap Some finished.2) (inr (inr (inl (record {
         all = all-of all;
         line = done.last_is ∙ ap length (sym all.same);
         good = grind arith;
@@ -210,7 +233,7 @@ module _ (filter : Filter) (lawful : IsLawful filter) (input : Input)
         counted = grind arith;
         reported = rw all.same (reported _ (write_failed_at last) done.out.reported
             (subst (IsReported messages2) finished.2 finished.1));
-      })))
+      }))))
 
   pub well-front : (has_ended : List InputLine → Type 0) (now : ReaderState)
       (last : ℕ) (warned : Bool) (done : WellDone filter has_ended input writer1 messages1 now last warned)

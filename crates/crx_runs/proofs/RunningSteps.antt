@@ -2,12 +2,13 @@
 use Rattle.std.proofs.lemmas.Grind.{common_steps}
 use Rattle.std.proofs.Common.{arith, ◌≡◌, ℕ, Bool, ◌||◌, List, []}
 use Rattle.crx_base.specs.meaning.Lines.{InputLine}
-use Rattle.crx_lines.specs.Reading.{ReaderState}
-use Rattle.crx_runs.proofs.{DeviceSpans.Joins, LineEndings.out-more, StepReading.ReadsLine}
-use Rattle.crx_runs.specs.{Endings.{EndEndsRun, EndsBy, LineEndsRun, StoppedByEnd, WellDone}, Engines.Awaited}
+use Rattle.crx_lines.specs.Reading.{HasNoFeed, ReaderState}
+use Rattle.crx_lines.specs.declared.phase.Phase.TheVariants.{Open}
+use Rattle.crx_runs.proofs.{DeviceSpans.{Joins, all-still, took-still}, LineEndings.out-more, StepReading.ReadsLine}
+use Rattle.crx_runs.specs.{Endings.{EndEndsRun, EndsBy, FlushFailed, HandingFailed, LineEndsRun, StoppedByEnd, WellDone}, Engines.Awaited}
 use Rattle.crx_runs.specs.{Running.{ComesToEnd, GoesOnBy, IsRunning}, Taking.IsDone}
 use Rattle.crx_runs.specs.{declared.one_line.Halt.Halt, meaning.Filters.{Filter, with_next}}
-use Rattle.crx_runs.specs.meaning.{Results.are_some, Spans.{Device, Input}}
+use Rattle.crx_runs.specs.meaning.{Results.{Course, are_some}, Spans.{Device, Input, TookAll}}
 
 -- the run goes on
 pub go-on : {filter : Filter} {shows : List InputLine → List Awaited → Type 0} {input : Input}
@@ -49,3 +50,31 @@ module _ {filter : Filter} {input : Input} {now : ReaderState} {lines : List Inp
   pub stopped-end : (halt : Halt) → EndEndsRun filter lines writer2 messages2 halt
       → StoppedByEnd filter input writer messages now last halt
   stopped-end = grind arith
+
+module _ {input : Input} {now : ReaderState} {lines : List InputLine} {course : Course}
+    {writer1 writer2 writer messages : Device} (w : Joins writer1 writer2 writer)
+    (running : IsRunning input writer1 messages now lines course) where
+  -- what was written was handed on
+  pub still-running : TookAll writer2 [] → IsRunning input writer messages now lines course
+  still-running still = record {
+    read = running.read;
+    going = running.going;
+    out = record {
+      good = running.out.good;
+      wrote = all-still w _ running.out.wrote still;
+      reported = running.out.reported;
+    };
+  }
+
+  -- or it couldn't be
+  pub handing-fails : (now.phase ≡ Open → HasNoFeed now.rest) → FlushFailed writer2
+      → HandingFailed input writer messages now lines course
+  handing-fails unheld failed = record {
+    read = running.read;
+    going = running.going;
+    unheld = unheld;
+    good = running.out.good;
+    wrote = took-still w _ running.out.wrote.0 failed.0;
+    failed = grind arith;
+    reported = running.out.reported;
+  }

@@ -2,12 +2,13 @@
 use Rattle.std.proofs.Common.{arith, ◌≡◌, ◌⊎◌, inl, inr, ℕ, ◌≤◌, List, [], ◌++◌, length, take, drop, refl}
 use Rattle.std.proofs.{Common.{sym, ap, subst, ◌∙◌, append-nil, append_assoc}, lemmas.List.take_all}
 use Rattle.std.proofs.lemmas.List.{take-append-drop}
-use Rattle.crx_lines.specs.{Progress.{HasRead, StandsAt, IsOpen, IsStopped}, Reading.ReaderState}
+use Rattle.crx_lines.proofs.ProgressLemmas.{ended_lines-none}
+use Rattle.crx_lines.specs.{Progress.{HasRead, StandsAt, IsOpen, IsStopped}, Reading.{HasNoFeed, ReaderState}}
 use Rattle.crx_lines.specs.{declared.phase.Phase.TheVariants.{Open, Ended}, meaning.Devices.{Tally, one_more}}
 use Rattle.crx_base.specs.declared.fault.Fault.{TheVariants.{InputTooLong, ReadFailed}, Fault}
 use Rattle.crx_base.specs.{declared.limits.TheConstants.INPUT_LIMIT, meaning.AsRead.ended_lines_of}
 use Rattle.crx_base.specs.meaning.Lines.{InputLine, lines_of}
-use Rattle.crx_runs.specs.{Lawful.IsLawful, meaning.Interruptions.{complete_lines, AreAll, AreTaken, IsTurn}}
+use Rattle.crx_runs.specs.{Lawful.IsLawful, meaning.Interruptions.{complete_lines, AreAll, AreAllSoFar, AreTaken, IsTurn}}
 use Rattle.crx_runs.specs.meaning.{Results.{Course, Begins}, Filters.Filter, Spans.Input}
 
 -- ---- what was read
@@ -36,6 +37,18 @@ module _ {input : Input} {now : ReaderState} {lines : List InputLine}
         complete-within h.given o.within ∙ ap ended_lines_of (sym (append-nil h.given)) ∙ o.ended [],
       )
   taken-read (inr e) = inr (all-read e)
+
+  pub all-so-far : (now.phase ≡ Open) ⊎ (now.phase ≡ Ended) → (now.phase ≡ Open → HasNoFeed now.rest)
+      → AreAllSoFar input h.given lines
+  all-so-far (inl e) none =
+      let o = is-open e in
+      inl (
+        complete-within h.given o.within ∙ ap ended_lines_of (sym (append-nil h.given)) ∙ o.ended []
+            ∙ ap (λ (l : List ℕ). lines ++ ended_lines_of l) (append-nil now.rest)
+            ∙ ap (λ (l : List InputLine). lines ++ l) (ended_lines-none now.rest (none e)) ∙ append-nil lines,
+        (o.within, o.counts),
+      )
+  all-so-far (inr e) none = inr (all-read e)
 
   pub none-failed : (now.phase ≡ Open) ⊎ (now.phase ≡ Ended) → input.counted.failures ≡ input.start.failures
   none-failed = grind arith
@@ -74,7 +87,7 @@ module _ {filter : Filter} (lawful : IsLawful filter) (input : Input) (given : L
   IsFirst written = Begins (filter.so_far (complete_lines given)).output written
       ⊎ (input.at_end × Begins (filter.whole (lines_of given)).output written)
 
-  first-taken : (lines : List InputLine) (written : List ℕ)
+  pub first-taken : (lines : List InputLine) (written : List ℕ)
       → AreTaken input given lines → Begins (filter.so_far lines).output written → IsFirst written
   first-taken lines written (inl t) begins = inl (begins-more (grind arith) begins)
   first-taken lines written (inr t) begins = inr (

@@ -1,12 +1,14 @@
 -- What a reader of lines answers, by the lines that were read before.
-use Rattle.std.proofs.Common.{◌≡◌, ◌⊎◌, ⊎_elim, ℕ, ◌+◌, true, List, ◌++◌, length, Option, Some, None}
-use Rattle.std.proofs.Common.{Result, Ok, Err, arith}
+use Rattle.std.proofs.Common.{◌≡◌, ◌⊎◌, ⊎_elim, inl, ℕ, ◌+◌, true, List, [], ◌++◌, length, Option, Some, None}
+use Rattle.std.proofs.Common.{Result, Ok, Err, arith, refl, sym, ◌∙◌, ◌≢◌}
+use Rattle.std.{proofs.lemmas.List.Elements.{All-from_get_or}, specs.List.{Contains}}
 use Rattle.crx_lines.{proofs.ProgressLemmas.HasRead-next, specs.Progress.{AtAnswer, HasRead}}
-use Rattle.crx_lines.specs.Reading.{ReaderState, ReaderAnswers, AnswersFault, line_shown}
+use Rattle.crx_lines.specs.Devices.{tally_after_line}
+use Rattle.crx_lines.specs.Reading.{ReaderState, ReaderAnswers, AnswersFault, AnswersHeld, HasNoFeed, TakesPiece, line_shown}
 use Rattle.crx_lines.specs.{Reading.line_number, declared.line.Line.Line, declared.phase.Phase.Phase}
 use Rattle.crx_lines.specs.{declared.phase.Phase.TheVariants.{Open, Ended, Stopped}, meaning.Devices.Tally}
-use Rattle.crx_base.specs.declared.fault.{At.At, Fault.TheVariants.LineTooLong}
-use Rattle.crx_base.specs.meaning.Lines.{InputLine, is_long}
+use Rattle.crx_base.specs.declared.fault.{At.At, Fault.{Fault, TheVariants.LineTooLong}}
+use Rattle.crx_base.specs.meaning.Lines.{InputLine, Piece, is_long}
 use Rattle.crx_runs.specs.meaning.Filters.{with_next}
 
 -- a line was read: these lines and it
@@ -16,10 +18,10 @@ pub record ReadsLine (gives : List ℕ → Type 0) (at_end : Type 0) (start coun
   pub going : (new.phase ≡ Open) ⊎ (new.phase ≡ Ended)
   pub number_is : number ≡ length lines + 1
 
-some-not-none : (line : Line) → ◌≡◌ {A = Result (Option Line) At} (Ok (Some line)) (Ok None) → ⊥
+pub some-not-none : (line : Line) → ◌≡◌ {A = Result (Option Line) At} (Ok (Some line)) (Ok None) → ⊥
 some-not-none line e = cc
 
-err-not-none : (at : At) → ◌≡◌ {A = Result (Option Line) At} (Err at) (Ok None) → ⊥
+pub err-not-none : (at : At) → ◌≡◌ {A = Result (Option Line) At} (Err at) (Ok None) → ⊥
 err-not-none at e = cc
 
 pub ended-not-open : ◌≡◌ {A = Phase} Ended Open → ⊥
@@ -77,3 +79,37 @@ module _ {step : List ℕ → Type 0} {at_end' : Type 0} {counted counted' : Tal
     end-read is kept = ⊎_elim (λ e.
         let n = next-lines (Ok None) e (grind arith) in
         grind arith) kept asked.going
+
+-- bytes among which there is no LF
+pub has-no-feed : (bytes : List ℕ) → (Contains bytes 10 → ⊥) → HasNoFeed bytes
+has-no-feed bytes none = All-from_get_or (λ b. b ≢ 10) bytes 10 (λ k within is. none (k, within, is))
+
+-- a line that ends with LF is the first one, whether or not the end was reported
+takes-any : {old new : ReaderState} {given : List ℕ} {p : Piece} (at_end : Type 0) → p.is_ended ≡ true
+    → TakesPiece old given ⊥ p new → TakesPiece old given at_end p new
+takes-any = grind arith
+
+held-line : (p : Piece) (tally : Tally) → p.is_ended ≡ true → tally ≡ tally_after_line p.is_ended tally
+held-line = grind arith
+
+held-long : (old new : ReaderState) (at_end : Type 0) (tally : Tally) (at : At) → AnswersHeld line_shown line_number
+    old (Err at) new → (fault : Fault) → fault ≡ at.fault → AnswersFault old [] at_end tally tally at fault new
+held-long old new at_end tally at (is, p, ended, takes, long, line) fault same =
+    rw (same ∙ is) (p, takes-any at_end ended takes, long, line, held-line p tally ended)
+
+held-answers : (old new : ReaderState) (at_end : Type 0) (tally : Tally) (r : Result (Option Line) At)
+    → AnswersHeld line_shown line_number old r new → (r ≡ Ok None → ⊥) → ReaderAnswers old [] at_end tally tally r new
+held-answers old new at_end tally (Ok (Some line)) (p, ended, takes, shown, number) some =
+    (p, takes-any at_end ended takes, shown, number, held-line p tally ended)
+held-answers old new at_end tally (Ok None) same some = absurd (some refl)
+held-answers old new at_end tally (Err at) held some = held-long old new at_end tally at held at.fault refl
+
+-- what is answered out of what is held, as an answer for which the reader gave nothing
+pub held-asked : {step : List ℕ → Type 0} {at_end : Type 0} {tally : Tally} {old new : ReaderState}
+    (r : Result (Option Line) At) → step [] → old.phase ≡ Open → AnswersHeld line_shown line_number old r new
+    → (r ≡ Ok None → ⊥) → HasAsked step at_end tally tally old new r
+held-asked {at_end = at_end} {tally = tally} {old = old} {new = new} r none opened held some = record {
+  going = inl opened;
+  at_open = λ _. ([], none, held-answers old new at_end tally r held some);
+  at_ended = λ ended. absurd (ended-not-open (sym ended ∙ opened));
+}

@@ -6,7 +6,7 @@ use Rattle.crx_base.specs.declared.fault.Fault.TheVariants.{OutOfMemory, WriteFa
 use Rattle.crx_lines.specs.declared.phase.Phase.TheVariants.{Open, Ended, Stopped}
 use Rattle.crx_lines.specs.meaning.Devices.{with_failed_flush, with_flush}
 use Rattle.crx_lines.specs.Progress.{HasRead}
-use Rattle.crx_lines.specs.Reading.{ReaderState}
+use Rattle.crx_lines.specs.Reading.{HasNoFeed, ReaderState}
 use Rattle.crx_runs.specs.declared.one_line.Halt.{Halt}
 use Rattle.crx_runs.specs.declared.one_line.Halt.TheVariants.{Unwritten, Unreported}
 use Rattle.crx_runs.specs.declared.one_line.Halt.TheVariants as halts
@@ -119,11 +119,24 @@ pub record EndsBy (filter : Filter)
   pub ends : EndsAt (filter.memory_after lines line)
       (length lines + 1) writer messages (filter.so_far lines) (filter.so_far (with_next lines line)) halt
 
--- the reader's fault ended it after these lines, or the next line did
+-- what these lines make was written, and couldn't be handed on before more was to be read, as no line with its LF is
+-- held: a flush failed
+pub record HandingFailed (input : Input)
+    (writer messages : Device) (now : ReaderState) (lines : List InputLine) (course : Course) : Type 0 where
+  pub read : HasRead input.gave input.at_end input.start input.counted now lines
+  pub going : (now.phase ≡ Open) ⊎ (now.phase ≡ Ended)
+  pub unheld : now.phase ≡ Open → HasNoFeed now.rest
+  pub good : course.fault ≡ None
+  pub wrote : writer.took course.output
+  pub failed : writer.after ≡ with_failed_flush writer.before
+  pub reported : TookAll messages (notices_text course.warnings)
+
+-- the reader's fault ended it after these lines, or the next line did, or what they make couldn't be handed on
 abbrev pub StopsAt : Filter → Input → Device → Device → ReaderState → List InputLine → Halt → Type 0
 StopsAt filter input writer messages now lines halt =
     ((at : At) × (halt ≡ halts.Fault at) × ReaderStopped input writer messages now lines (filter.so_far lines) at)
-    ⊎ EndsBy filter input writer messages now lines halt
+    ⊎ (EndsBy filter input writer messages now lines halt
+    ⊎ ((halt ≡ Unwritten) × HandingFailed input writer messages now lines (filter.so_far lines)))
 
 -- the same after some lines, and the number of the last line that was read
 pub record StoppedInLines (filter : Filter)

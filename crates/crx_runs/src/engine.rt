@@ -42,8 +42,8 @@ pub enum HandedOut {
     AsItIs,
 }
 
-/// A filter that takes the lines of an input one at a time. The lines that it makes are borrowed from it; a line that is copied it answers as
-/// it is.
+/// A filter that takes the lines of an input one at a time. The lines that it makes are borrowed from it; a
+/// line that is copied it answers as it is.
 pub trait Engine {
     ghost use Rattle.crx_runs.specs.declared.engine.Step.{Step};
 
@@ -65,7 +65,8 @@ pub trait Engine {
     // The end of the input was taken after these lines.
     ghost has_ended: { Self → List InputLine → Type 0 };
 
-    /// Takes a line. `Some` says what is to be written, and that nothing is to be reported; after `None` [`Engine::answer`] says what is.
+    /// Takes a line. `Some` says what is to be written, and that nothing is to be reported; after `None`
+    /// [`Engine::answer`] says what is.
     fn take(&mut self, line: Line<'_>) -> Option<HandedOut>
         requires next { IsNextLine (ready self.old) (taken self.old) (line_number line) }
         ensures stepped { HasStepped (filter self.old) (filter self.new)
@@ -78,7 +79,8 @@ pub trait Engine {
             (lines_handed_out result (line_shown line.entry).content (ready self.new)) lines notices
             (line_shown line.entry) (answer_given result (answer self.new)) };
 
-    /// The answer to the line that [`Engine::take`] took last, where it answered `None`: what is to be reported, or ended the run.
+    /// The answer to the line that [`Engine::take`] took last, where it answered `None`: what is to be
+    /// reported, or ended the run.
     fn answer(&self) -> Result<Step, At>
         ensures value { result ≡ answer self.now };
 
@@ -110,8 +112,8 @@ pub trait Engine {
             (ready new ≡ drop 1 (ready self.old)) × KeepsAllElse (filter self.old) (filter new) (shows self.old) (shows new)
             (has_ended self.old) (has_ended new))) };
 
-    /// Borrows all lines that are ready as one text, each followed by LF, after which none is pending. After `None` they stay as they
-    /// are, and [`Engine::next_line`] gives them.
+    /// Borrows all lines that are ready as one text, each followed by LF, after which none is pending. After
+    /// `None` they stay as they are, and [`Engine::next_line`] gives them.
     fn take_text(&mut self) -> Option<&[u8]>
         ensures value { IfSome result (λ text. text.now ≡ lines_text (ready self.old)) }
         ensures* after_borrow { sem 𝓛 (Rests Self.row self.entry (λ new.

@@ -12,8 +12,8 @@ use crate::work::Work;
 use crx_base::{At, Fault};
 use crx_lines::{Sink, write_all_counted};
 
-/// Reports a fault; a failure ends the message where it comes. Only a writer that failed isn't flushed before: it is there for the contract
-/// alone, so that no message comes before the flush.
+/// Reports a fault; a failure ends the message where it comes. Only a writer that failed isn't flushed
+/// before: it is there for the contract alone, so that no message comes before the flush.
 #[inline(never)]
 fn report<W: Sink, M: Sink>(_writer: &W, messages: &mut M, at: At) -> Outcome
     requires flushed { (at.fault ≡ Fault.WriteFailed) ⊎ ((before : W)
@@ -32,8 +32,9 @@ fn report<W: Sink, M: Sink>(_writer: &W, messages: &mut M, at: At) -> Outcome
     }
 }
 
-/// Finishes a run whose work has ended. A writer that failed isn't flushed; a flush that fails is `WriteFailed` at the
-/// last line that was read, unless there is a fault. Then the fault is reported, but for a warning that couldn't be.
+/// Finishes a run whose work has ended. A writer that failed isn't flushed; a flush that fails is
+/// `WriteFailed` at the last line that was read, unless there is a fault. Then the fault is reported, but for
+/// a warning that couldn't be.
 pub(crate) fn finish<W: Sink, M: Sink>(writer: &mut W, messages: &mut M, work: Work) -> Outcome
     ensures { Finishes
         (span W.Sink writer.old writer.new)

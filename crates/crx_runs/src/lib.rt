@@ -1,5 +1,5 @@
-//! A run of any engine: from a reader of lines to a writer and messages. An engine takes the lines of an input, one after another, and
-//! has lines ready to be written.
+//! A run of any engine: from a reader of lines to a writer and messages. An engine takes the lines of an
+//! input, one after another, and has lines ready to be written.
 #![tactic(auto)]
 
 pub mod engine;
@@ -11,9 +11,11 @@ mod ready_lines;
 pub mod run;
 pub mod start;
 mod step;
+pub mod stepwise;
 pub mod until_failure;
 mod work;
 
 pub use engine::{Engine, HandedOut, Step};
 pub use outcome::Outcome;
+pub use stepwise::Run;
 pub use until_failure::UntilFailure;

@@ -60,8 +60,8 @@ fn put_before(text: &[u8], bytes: &mut [u8; MESSAGE_LIMIT], end: usize) -> usize
     start
 }
 
-/// Writes the line of a fault into a place, so that it ends where the place ends, and returns where it starts. It is written from its end
-/// to its front: so a number's digits are written where they stay.
+/// Writes the line of a fault into a place, so that it ends where the place ends, and returns where it
+/// starts. It is written from its end to its front: so a number's digits are written where they stay.
 #[inline(always)]
 pub(crate) fn put_message(severity: Severity, at: At, bytes: &mut [u8; MESSAGE_LIMIT]) -> usize
     ensures within { result ≤ MESSAGE_LIMIT }

@@ -45,9 +45,21 @@ pub(crate) enum Taken<'a> {
     Overlong(u64),
 }
 
-/// Reports a warning, and answers that there was one. The writer is there for the contract alone: nothing is written to it.
+/// Has what was written handed on, where that is awaited, and reports a warning after it; answers that there
+/// was one. Where handing on fails, that is told before the next read.
+fn warn<W: Sink, M: Sink>(writer: &mut W, messages: &mut M, notice: At) -> Result<bool, Halt>
+    ensures { IsSettled (span W.Sink writer.old writer.new) (span M.Sink messages.old messages.new)
+        (record { output = []; warnings = notice ∷ []; fault = None }) result }
+{
+    writer.hand_on();
+    report_warning(writer, messages, notice)
+}
+
+/// Reports a warning, and answers that there was one. The writer is there for the contract alone: nothing is
+/// written to it. What was written before was handed on, where that is awaited, or couldn't be.
 #[inline(always)]
-fn warn<W: Sink, M: Sink>(_writer: &W, messages: &mut M, notice: At) -> Result<bool, Halt>
+fn report_warning<W: Sink, M: Sink>(_writer: &W, messages: &mut M, notice: At) -> Result<bool, Halt>
+    requires current { W.is_current _writer.now }
     ensures { IsSettled (span W.Sink _writer.now _writer.now) (span M.Sink messages.old messages.new)
         (record { output = []; warnings = notice ∷ []; fault = None }) result }
 {
@@ -113,7 +125,8 @@ fn offer<E: Engine, W: Sink, M: Sink>(
     }
 }
 
-/// Does what an engine answered to a line, which is given a second time where reading goes on at it; whether there was a warning.
+/// Does what an engine answered to a line, which is given a second time where reading goes on at it; whether
+/// there was a warning.
 #[inline(never)]
 fn take_answered<E: Engine, W: Sink, M: Sink>(
     engine: &mut E,
@@ -141,8 +154,8 @@ fn take_answered<E: Engine, W: Sink, M: Sink>(
     }
 }
 
-/// Takes a line of the input: gives it to the engine, a second time where reading goes on at it, writes what it hands
-/// out, and reports its warnings; whether there was one.
+/// Takes a line of the input: gives it to the engine, a second time where reading goes on at it, writes what
+/// it hands out, and reports its warnings; whether there was one.
 #[inline(always)]
 pub fn take_line<E: Engine, W: Sink, M: Sink>(
     engine: &mut E,
@@ -172,8 +185,9 @@ pub fn take_line<E: Engine, W: Sink, M: Sink>(
     }
 }
 
-/// Does what an engine answered to a line with a fault, which is given in its parts. In [`take_line`] the places for the answer and for the
-/// line would be cleared for each line. Mostly it is a warning, after which reading goes on at the next line.
+/// Does what an engine answered to a line with a fault, which is given in its parts. In [`take_line`] the
+/// places for the answer and for the line would be cleared for each line. Mostly it is a warning, after which
+/// reading goes on at the next line.
 #[inline(never)]
 fn take_by_answer<E: Engine, W: Sink, M: Sink>(
     engine: &mut E,
@@ -199,7 +213,8 @@ fn take_by_answer<E: Engine, W: Sink, M: Sink>(
     take_stored_answer(engine, writer, messages, content, number, is_plain)
 }
 
-/// Does the same with each answer. In [`take_by_answer`] the places for it and for the line would be cleared for each warning.
+/// Does the same with each answer. In [`take_by_answer`] the places for it and for the line would be cleared
+/// for each warning.
 #[inline(never)]
 fn take_stored_answer<E: Engine, W: Sink, M: Sink>(
     engine: &mut E,

@@ -9,8 +9,8 @@ ghost use Rattle.crx_runs.specs.meaning.Spans.{TookAll, TookPart, span};
 use crate::engine::{Engine, HandedOut};
 use crx_lines::{Sink, WriteFailed, write_all_counted};
 
-/// Writes the lines that an engine has ready, each with LF: as one text where the engine has them as one, as it mostly has, else one by
-/// one.
+/// Writes the lines that an engine has ready, each with LF: as one text where the engine has them as one, as
+/// it mostly has, else one by one.
 #[inline(always)]
 pub(crate) fn write_ready<E: Engine, W: Sink>(
     engine: &mut E,
@@ -38,7 +38,8 @@ pub(crate) fn write_ready<E: Engine, W: Sink>(
     Ok(())
 }
 
-/// Writes what a line of this content hands out: the lines that are ready, and after them that line itself where it is copied.
+/// Writes what a line of this content hands out: the lines that are ready, and after them that line itself
+/// where it is copied.
 #[inline(never)]
 pub(crate) fn write_handed_out<E: Engine, W: Sink>(
     engine: &mut E,

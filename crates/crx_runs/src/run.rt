@@ -33,7 +33,8 @@ pub(crate) fn no_memory() -> Work
     }
 }
 
-/// Runs an engine over an input: reads its lines, writes what the engine makes ready, reports its warnings, and finishes.
+/// Runs an engine over an input: reads its lines, writes what the engine makes ready, reports its warnings,
+/// and finishes.
 pub fn run<E: Engine, R: Source, W: Sink, M: Sink>(
     alloc: Global,
     engine: &mut E,

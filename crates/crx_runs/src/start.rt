@@ -15,7 +15,8 @@ use crate::run::{no_memory, run};
 use crx_lines::{Sink, Source};
 use std::alloc::{AllocError, Global};
 
-/// Runs an engine over an input where it could be made; where it couldn't, memory ran out before the first line.
+/// Runs an engine over an input where it could be made; where it couldn't, memory ran out before the first
+/// line.
 pub fn start<E: Engine + Drop, R: Source, W: Sink, M: Sink>(
     alloc: Global,
     engine: Result<E, AllocError>,

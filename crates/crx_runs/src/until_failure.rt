@@ -8,12 +8,12 @@ ghost use Rattle.std.specs.IoError.{error_kind};
 use std::io;
 use std::io::{ErrorKind, Write};
 
-/// A writer that isn't called any more once a write or a flush of it has failed: each later one fails too, and
-/// doesn't reach it.
+/// A writer that isn't called any more once a write or a flush of it has failed: each later one fails too,
+/// and doesn't reach it.
 ///
 /// std's buffer keeps the bytes that it couldn't write, and tries them again at its next flush. Above this
-/// writer that flush fails, and nothing is written after a failure. A write that was interrupted took no byte and
-/// doesn't count as failed here, since the buffer repeats it at once.
+/// writer that flush fails, and nothing is written after a failure. A write that was interrupted took no byte
+/// and doesn't count as failed here, since the buffer repeats it at once.
 #[derive(Drop)]
 pub struct UntilFailure<W> {
     inner: W,

@@ -1,4 +1,5 @@
-//! Epochs to compact lines and back by the calls of [`Columns`], one epoch after another as files have them, with memory at hand.
+//! Epochs to compact lines and back by the calls of [`Columns`], one epoch after another as files have them,
+//! with memory at hand.
 
 ghost use Rattle.std.specs.Prelude.{◌≡◌, None};
 ghost use Rattle.crx_compact.specs.OpenEpochs.ColumnsState.{Idle};

@@ -25,7 +25,8 @@ const MOMENTS: &[(i64, i32, &str)] = &[
     (-2_208_988_800, 0, "01-Jan-00 00:00"),
 ];
 
-/// What a clock gives in seconds after 1970 began, or that it gives none, and the date of a run at that moment.
+/// What a clock gives in seconds after 1970 began, or that it gives none, and the date of a run at that
+/// moment.
 const CLOCKS: &[(Option<u64>, &str)] = &[
     (Some(0), "01-Jan-70 00:00"),
     (Some(1_704_067_199), "31-Dec-23 23:59"),
@@ -35,7 +36,8 @@ const CLOCKS: &[(Option<u64>, &str)] = &[
     (None, ""),
 ];
 
-/// Arguments with blanks between them, and the names of the files that the run reads and writes; an empty one for standard streams.
+/// Arguments with blanks between them, and the names of the files that the run reads and writes; an empty one
+/// for standard streams.
 const RUNS: &[(&str, &str, &str)] = &[
     ("crx2rnx abcd0010.24d", "abcd0010.24d", "abcd0010.24o"),
     ("check - a.rnx", "a.rnx", ""),

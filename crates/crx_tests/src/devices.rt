@@ -1,11 +1,14 @@
-//! What a device of std is asked, call by call: `Std` neither tries again nor leaves out a call, nor does `UntilFailure` before a failure.
+//! What a device of std is asked, call by call: `Std` neither tries again nor leaves out a call, nor does
+//! `UntilFailure` before a failure; and that a text and a flush reach the file through all that the program
+//! has above it.
 
 use crate::expecting::expect_at;
 use crx_base::Fault;
-use crx_lines::{Sink, Source, Std};
+use crx_lines::{Sink, Source, Std, Uninterrupted, write_all_counted};
 use crx_runs::UntilFailure;
+use std::alloc::Global;
 use std::io;
-use std::io::{Read, Write};
+use std::io::{BufWriter, Read, Write};
 use std::process::Abort;
 
 /// Counts the calls. The first one of each kind fails, the second write takes nothing, the third read
@@ -142,7 +145,8 @@ impl Write for Noting<'_> {
     }
 }
 
-/// Writes two bytes, of which one is taken, and flushes where that is asked for: how many writes and flushes the inner writer saw.
+/// Writes two bytes, of which one is taken, and flushes where that is asked for: how many writes and flushes
+/// the inner writer saw.
 fn counts_of_calls(rt: &impl Abort, is_flushed: bool) -> (u32, u32) {
     let (mut writes, mut flushes) = (0, 0);
     let mut writer = UntilFailure::new(Noting {
@@ -161,4 +165,55 @@ fn counts_of_calls(rt: &impl Abort, is_flushed: bool) -> (u32, u32) {
 fn each_call_reaches_the_inner_writer_once(rt: HostRuntime) {
     assert!(rt; counts_of_calls(&rt, false) == (1, 0));
     assert!(rt; counts_of_calls(&rt, true) == (1, 1));
+}
+
+/// How many bytes the buffer of a test holds.
+const BUFFER: usize = 16;
+
+/// A text that is longer than that.
+const LONG: &[u8] =
+    b"Usage: rnxcmp rnx2crx [OPTIONS] [FILE]..., and a buffer holds no more than its first sixteen bytes";
+
+/// Keeps what it takes, at most three bytes a call, in a list of the caller's, and counts the flushes.
+#[derive(Drop)]
+struct Keeping<'a> {
+    taken: &'a mut Vec<u8>,
+    flushes: &'a mut u32,
+}
+
+impl Write for Keeping<'_> {
+    fn write(&mut self, bytes: &[u8]) -> io::Result<usize> {
+        let count = bytes.len().min(3);
+        self.taken.extend_from_slice(&bytes[..count])?;
+        Ok(count)
+    }
+
+    fn flush(&mut self) -> io::Result<()> {
+        *self.flushes = self.flushes.saturating_add(1);
+        Ok(())
+    }
+}
+
+/// Writes a text over all that the program has above a file, and flushes once: whether the file got the text
+/// whole, and one flush.
+fn is_handed_on(alloc: Global, text: &[u8]) -> io::Result<bool> {
+    let (mut taken, mut flushes) = (Vec::new(alloc), 0);
+    let file = Keeping {
+        taken: &mut taken,
+        flushes: &mut flushes,
+    };
+    let writer = UntilFailure::new(Uninterrupted::new(file));
+    let mut device = Std::new(BufWriter::with_capacity(alloc, BUFFER, writer)?);
+    let is_done = write_all_counted(&mut device, text).is_ok() && device.flush().is_ok();
+    drop(device);
+    Ok(is_done && taken.as_slice() == text && flushes == 1)
+}
+
+#[test]
+fn a_text_of_each_length_reaches_the_file_below_a_buffer(rt: HostRuntime) -> io::Result<()> {
+    for length in 0..LONG.len() {
+        let is_so = is_handed_on(rt.alloc(), &LONG[..length])?;
+        expect_at(&rt, is_so, "a text of so many bytes:", length);
+    }
+    Ok(())
 }

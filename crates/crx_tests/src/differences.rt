@@ -82,7 +82,8 @@ fn lengths() -> [usize; 135] {
     lengths
 }
 
-/// Whether two texts that differ at one place have this mark there and no other, and the mark gives the new text back.
+/// Whether two texts that differ at one place have this mark there and no other, and the mark gives the new
+/// text back.
 fn is_marked(old: &Text, new: &[u8], place: usize, mark: u8) -> bool {
     let mut marks = Text::new();
     let mut back = Text::new();
@@ -103,7 +104,8 @@ fn is_refused(old: &Text, new: &[u8], may_be_marks: bool) -> bool {
         && patch_text(old, new, &mut out).is_ok() == may_be_marks
 }
 
-/// Characters in place of another one: the mark of each, and those that aren't allowed, with whether they may be marks.
+/// Characters in place of another one: the mark of each, and those that aren't allowed, with whether they may
+/// be marks.
 const MARKED: &[(u8, u8)] = &[(b'#', b'#'), (b' ', b'&')];
 
 const REFUSED: &[(u8, bool)] = &[(b'&', true), (127, false), (31, false)];

@@ -1,4 +1,5 @@
-//! What tests expect. A message is made here alone: where a test makes one itself, the prover goes through that too.
+//! What tests expect. A message is made here alone: where a test makes one itself, the prover goes through
+//! that too.
 
 ghost use Rattle.std.specs.Prelude.{◌≡◌, true};
 

@@ -1,4 +1,5 @@
-//! Whole runs over devices that fail, at each point in turn: what was written, what was reported, and how the run ended.
+//! Whole runs over devices that fail, at each point in turn: what was written, what was reported, and how the
+//! run ended.
 
 ghost use Rattle.std.specs.Prelude.{◌≡◌, ◌<◌};
 
@@ -7,6 +8,7 @@ use crate::texts::text;
 use crx_base::{At, Fault};
 use crx_devices::{FailingSink, FailingSource, Plan, When};
 use crx_filter::{Options, check, compact, expand};
+use crx_lines::{Sink, Source};
 use crx_runs::Outcome;
 use std::alloc::{AllocError, Global};
 use std::process::Abort;
@@ -17,6 +19,7 @@ mod damage;
 mod messages;
 mod reads;
 mod rows;
+mod stepwise;
 mod writes;
 
 /// Which filter runs, or the check.
@@ -36,7 +39,8 @@ struct Case {
     input: &'static str,
     output: &'static str,
     messages: &'static str,
-    /// How many lines are written once none, one, two .. lines of the input were read; what is written at the end alone doesn't count.
+    /// How many lines are written once none, one, two .. lines of the input were read; what is written at the
+    /// end alone doesn't count.
     after: &'static [usize],
     /// The line that gives a warning.
     warned_at: Option<u64>,
@@ -85,7 +89,8 @@ impl Texts {
 /// Room for all that a case writes.
 const ROOM: usize = 4096;
 
-/// How the devices of a run go: how many bytes they give and take a call, how many of these the writer takes, and when they fail.
+/// How the devices of a run go: how many bytes they give and take a call, how many of these the writer takes,
+/// and when they fail.
 #[derive(Clone, Copy)]
 struct Devices {
     at_most: usize,
@@ -118,11 +123,27 @@ struct Left {
     messages: FailingSink,
 }
 
-/// Runs a filter over an input and these devices; it skips faults where that is asked for.
+/// Runs a filter over any devices; it skips faults where that is asked for.
+fn run_over<R: Source, W: Sink, M: Sink>(
+    alloc: Global,
+    tool: Tool,
+    skip: bool,
+    source: &mut R,
+    writer: &mut W,
+    messages: &mut M,
+) -> Result<Outcome, Fail> {
+    let options = Options::new(None, skip, b"D")?;
+    Ok(match tool {
+        Tool::Compact => compact(alloc, source, writer, messages, options),
+        Tool::Expand => expand(alloc, source, writer, messages, options),
+        Tool::Check => check(alloc, source, writer, messages),
+    })
+}
+
+/// Runs a filter over an input and these devices.
 fn run(alloc: Global, tool: Tool, skip: bool, input: &[u8], devices: Devices) -> Result<Left, Fail>
     requires { 0 < devices.at_most }
 {
-    let options = Options::new(None, skip, b"D")?;
     let at_most = devices.at_most;
     let mut source = FailingSource::new(input, at_most, devices.reads);
     let mut writer = FailingSink::new(
@@ -133,11 +154,7 @@ fn run(alloc: Global, tool: Tool, skip: bool, input: &[u8], devices: Devices) ->
         devices.flushes,
     )?;
     let mut messages = FailingSink::new(alloc, ROOM, at_most, devices.reports, Plan::never())?;
-    let outcome = match tool {
-        Tool::Compact => compact(alloc, &mut source, &mut writer, &mut messages, options),
-        Tool::Expand => expand(alloc, &mut source, &mut writer, &mut messages, options),
-        Tool::Check => check(alloc, &mut source, &mut writer, &mut messages),
-    };
+    let outcome = run_over(alloc, tool, skip, &mut source, &mut writer, &mut messages)?;
     Ok(Left {
         outcome,
         writer,
@@ -171,7 +188,8 @@ fn ended(at: At) -> Outcome {
     }
 }
 
-/// The messages of a run that a device ended once so many lines were read: the warning, if it was among them, and the error.
+/// The messages of a run that a device ended once so many lines were read: the warning, if it was among them,
+/// and the error.
 fn messages_until(alloc: Global, case: &Case, lines: u64, at: At) -> Result<Vec<u8>, Fail> {
     let mut messages = match case.warned_at {
         Some(warned) if warned <= lines => text(alloc, case.messages)?,

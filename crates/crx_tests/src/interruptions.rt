@@ -1,5 +1,5 @@
-//! Calls that a signal interrupts: below a device they are made again, each until it is done or fails. A device that is asked without that
-//! counts each of them as a failure (`devices`).
+//! Calls that a signal interrupts: below a device they are made again, each until it is done or fails. A
+//! device that is asked without that counts each of them as a failure (`devices`).
 
 use crate::expecting::expect;
 use crate::texts::text;
@@ -43,7 +43,8 @@ impl Calls {
     }
 }
 
-/// Gives the bytes that it was made with, and stores those that it takes. Every second call fails with an error of one kind.
+/// Gives the bytes that it was made with, and stores those that it takes. Every second call fails with an
+/// error of one kind.
 #[derive(Drop)]
 struct Halting<'a> {
     kind: ErrorKind,

@@ -16,14 +16,16 @@ use std::test::Fail;
 mod compactor;
 mod expander;
 
-/// What is answered to a line, and how many lines are ready then; and the same where the line is to be fed once more.
+/// What is answered to a line, and how many lines are ready then; and the same where the line is to be fed
+/// once more.
 struct Answer {
     step: Step,
     ready: usize,
     again: Option<Step>,
 }
 
-/// A run of an engine: its name, whether it skips, the lines of its input, the answers to them, and the fault of one more line.
+/// A run of an engine: its name, whether it skips, the lines of its input, the answers to them, and the fault
+/// of one more line.
 struct Run {
     name: &'static str,
     skip: bool,

@@ -1,4 +1,5 @@
-//! Texts of whole files, line by line, and the lines that several tests are about: each is here once, under a name.
+//! Texts of whole files, line by line, and the lines that several tests are about: each is here once, under a
+//! name.
 
 use std::alloc::{AllocError, Global};
 
@@ -101,7 +102,8 @@ fn push_lines(text: &mut Vec<u8>, lines: &str) -> Result<(), AllocError> {
     Ok(())
 }
 
-/// The text of lines and of names of lines that are separated by `|`: each line ends with LF, and no lines are no text.
+/// The text of lines and of names of lines that are separated by `|`: each line ends with LF, and no lines
+/// are no text.
 pub fn text(alloc: Global, names: &str) -> Result<Vec<u8>, AllocError> {
     let mut text = Vec::new(alloc);
     if names.is_empty() {

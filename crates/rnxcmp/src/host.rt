@@ -24,18 +24,33 @@ use jiff::Timestamp;
 use std::env::Args;
 use std::fs::File;
 use std::io::{BufWriter, Stderr, Stdin, Stdout};
+use std::os::fd::AsRawFd;
 use std::process::ExitCode;
 use std::{env, fs, io};
 
 /// What can be opened on each machine, and neither read nor written: the folder of all others.
 const NO_STREAM: &str = "/";
 
-/// Does what the arguments of a process ask for, of which the first is the program's name, over the standard streams (see [`run_over`]), and
-/// hands these back. It takes the list and the streams as they come from the machine: the words are all but the first, in order, each once.
+/// The name of standard input as a file.
+const STANDARD_INPUT: &str = "/dev/stdin";
+
+/// Whether standard input may have to wait for more: what isn't a regular file may, and what can't be told.
+fn input_may_wait(rt: &HostRuntime) -> bool {
+    match fs::metadata(rt, STANDARD_INPUT) {
+        Ok(metadata) => !metadata.is_file(),
+        Err(_) => true,
+    }
+}
+
+/// Does what the arguments of a process ask for, of which the first is the program's name, over the standard
+/// streams (see [`run_over`]), and hands these back. It takes the list and the streams as they come from the
+/// machine: the words are all but the first, in order, each once. `waits` says whether standard input may
+/// have to wait for more.
 pub fn run_streams(
     rt: &HostRuntime,
     moment: Option<Timestamp>,
     arguments: Args,
+    waits: bool,
     stdin: Uninterrupted<Stdin>,
     stdout: BufWriter<UntilFailure<Uninterrupted<Stdout>>>,
     stderr: Uninterrupted<Stderr>,
@@ -70,23 +85,24 @@ pub fn run_streams(
         → (result.status ≡ 1 → ⊥) → KeepsItsPromises moment job result }
 {
     match words_given(rt.alloc(), arguments) {
-        Ok(words) => run_over(rt, rt.alloc(), moment, words, stdin, stdout, stderr),
+        Ok(words) => run_over(rt, rt.alloc(), moment, words, waits, stdin, stdout, stderr),
         Err(_) => without_memory(stdin, stdout, stderr),
     }
 }
 
-/// Does what the arguments ask for, over the standard streams, and answers the exit status. The output goes through a buffer.
+/// Does what the arguments ask for, over the standard streams, and answers the exit status. The output goes
+/// through a buffer.
 ///
-/// If the system refuses memory for the arguments or the buffer, that is fault 22 at line 0, status 1. Arguments that aren't text
-/// are refused as such. A standard stream that was closed before the program began stays closed: a file that the arguments name
-/// doesn't take its place.
+/// If the system refuses memory for the arguments or the buffer, that is fault 22 at line 0, status 1.
+/// Arguments that aren't text are refused as such. A standard stream that was closed before the program began
+/// stays closed: a file that the arguments name doesn't take its place.
 pub fn run_host(rt: &HostRuntime) -> ExitCode {
     // The system gives the lowest number that is free, and numbers 0 to 2 are the standard streams.
-    let _places = [
-        fs::open(rt, NO_STREAM),
-        fs::open(rt, NO_STREAM),
-        fs::open(rt, NO_STREAM),
-    ];
+    let place = fs::open(rt, NO_STREAM);
+    let _others = match &place {
+        Ok(file) if file.as_raw_fd() > 2 => None,
+        _ => Some([fs::open(rt, NO_STREAM), fs::open(rt, NO_STREAM)]),
+    };
     let arguments = match env::args(rt) {
         Ok(arguments) => arguments,
         Err(error) => {
@@ -108,6 +124,7 @@ pub fn run_host(rt: &HostRuntime) -> ExitCode {
     let moment = moment_now(rt);
     let stdin = Uninterrupted::new(rt.stdin());
     let stderr = Uninterrupted::new(rt.stderr());
-    let whole = run_streams(rt, moment, arguments, stdin, buffer, stderr);
+    let waits = input_may_wait(rt);
+    let whole = run_streams(rt, moment, arguments, waits, stdin, buffer, stderr);
     ExitCode::from(whole.close())
 }

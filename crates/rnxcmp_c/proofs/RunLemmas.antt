@@ -8,10 +8,14 @@ use Rattle.rnxcmp_c.proofs.Words.{take_all, lines_of, ended_lines_of, code_of_fa
 use Rattle.rnxcmp_c.proofs.Words.{INPUT_LIMIT, ended_lines-come_first, Outcome, Begins, FilterResult}
 use Rattle.rnxcmp_c.proofs.Words.{Device, Answer, AnswersWithin, BothTexts, HasNoMemory}
 use Rattle.rnxcmp_c.proofs.Words.{placed, Task, filter_for, result_for}
-use Rattle.rnxcmp_c.specs.{Collecting.{AnswersRun, IsEmpty}, Counting.Took}
+use Rattle.rnxcmp_c.specs.{Collecting.{AnswersRun, IsEmpty, TakeEnough, taken_of}, Counting.Took}
 use Rattle.rnxcmp_c.specs.{declared.devices.Counted.Counted, meaning.Answers.AnswersAlone}
-use Rattle.crx_runs.specs.meaning.{Interruptions.{IsFrontPart, complete_lines}, Runs.{IsResult, RunsAs}}
+use Rattle.crx_runs.specs.meaning.{Interruptions.{AreReported, IsFrontPart, Stands, complete_lines}, Runs.{IsResult, RunsAs}}
 use Rattle.crx_runs.specs.meaning.Spans.{Input}
+use Rattle.crx_base.specs.declared.fault.Fault.{Fault}
+use Rattle.crx_base.specs.declared.fault.Fault.TheVariants.{InputTooLong, ReadFailed, WriteFailed}
+use Rattle.rnxcmp_c.proofs.Words.{At, Option, None, Some, ◌-◌}
+use Rattle.std.specs.Prelude.{◌^◌}
 use Rattle.crx_lines.specs.meaning.Devices.{tally_of}
 
 -- a text was put into a room as far as it fits, and then all of it
@@ -41,6 +45,44 @@ collects before after = record {
   before = record { failures = before.failures; flushes = before.flushes };
   after = record { failures = after.failures; flushes = after.flushes };
 }
+
+-- whatever ended a run, its sinks take as much as before
+module _ (task : Task) {left rest given : List ℕ} {ends then_ends : ℕ} {outcome : Outcome}
+    {output_before output_after messages_before messages_after : Counted}
+    (runs : RunsAs (result_for task) (filter_for task) (gives left rest ends then_ends) given
+    (collects output_before output_after) (collects messages_before messages_after) outcome.status
+    outcome.fault) where
+  abbrev IsTold : Type 0
+  IsTold = (told : List ℕ) × Took messages_before told messages_after
+
+  reported-told : (warnings : List At) (at : At)
+      → AreReported (collects messages_before messages_after) warnings at → IsTold
+  reported-told warnings at (inl all) = (_, all.0)
+  reported-told warnings at (inr part) = (_, part.took)
+
+  fault-told : (f : Fault) (at : At) → Stands (filter_for task) (gives left rest ends then_ends) given
+      (collects output_before output_after) (collects messages_before messages_after) at f → IsTold
+  fault-told ReadFailed at s = reported-told _ at s.stopped.reported
+  fault-told InputTooLong at s = reported-told _ at s.stopped.reported
+  fault-told OutOfMemory at (inl s) = reported-told [] at s.reported
+  fault-told OutOfMemory at (inr s) = reported-told _ at s.reported
+  fault-told WriteFailed at (inl s) = reported-told _ at s.reported
+  fault-told WriteFailed at (inr (inl s)) = (_, s.reported.took)
+  fault-told WriteFailed at (inr (inr (inl s))) = reported-told _ at s.reported
+  fault-told WriteFailed at (inr (inr (inr s))) = reported-told _ at s.reported
+  fault-told other at s = reported-told _ at s.reported
+
+  told : (fault : Option At) → outcome.fault ≡ fault → IsTold
+  told None is = (_, (runs.good is).5.messages_are)
+  told (Some at) is = fault-told at.fault at (runs.ended at is).1
+
+  pub take-enough : {output_room messages_room counted_most told_most most : ℕ}
+      → IsEmpty output_room counted_most output_before → IsEmpty messages_room told_most messages_before
+      → counted_most ≡ taken_of most → told_most ≡ 2 ^ 64 - 1 → TakeEnough output_after messages_after most
+  take-enough empty none_told counted all = record {
+    output_is = runs.front.wrote.most ∙ empty.most_is ∙ counted;
+    messages_are = (told outcome.fault refl).1.most ∙ none_told.most_is ∙ all;
+  }
 
 -- what a run wrote and reported for a task, to sinks with the rooms of a call
 module _ (task : Task) {left rest given text : List ℕ} {ends then_ends : ℕ} {outcome : Outcome}

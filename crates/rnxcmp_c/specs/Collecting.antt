@@ -1,5 +1,5 @@
 -- What was collected of a run over the caller's input.
-use Rattle.std.specs.Prelude.{◌≡◌, ◌⊎◌, ◌<◌, ◌≤◌, ℕ, true, false, [], length, nat_le, vec_capacity}
+use Rattle.std.specs.Prelude.{◌≡◌, ◌⊎◌, ◌<◌, ◌≤◌, ◌+◌, ◌-◌, ◌^◌, ◌==◌, ℕ, true, false, [], length, min, nat_le, vec_capacity}
 use Rattle.std.specs.Prelude.{if◌then◌else◌}
 use Rattle.crx_base.specs.meaning.Faults.{code_of_fault}
 use Rattle.crx_base.specs.declared.fault.Fault.TheVariants.{OutOfMemory}
@@ -17,6 +17,16 @@ pub record IsEmpty (room most : ℕ) (sink : Counted) : Type 0 where
   pub most_is : sink.most ≡ most
   pub good : sink.failures ≡ 0
   pub kept : sink.lost ≡ false
+
+-- how many bytes a call takes at most of an output that may have so many: one more, by which it shows; all where
+-- there is no limit
+abbrev pub taken_of : ℕ → ℕ
+taken_of most = if most == 0 then 2 ^ 64 - 1 else min (most + 1) (2 ^ 64 - 1)
+
+-- both sinks of a call take what they are to take: of the output as much, and all messages
+pub record TakeEnough (output messages : Counted) (most : ℕ) : Type 0 where
+  pub output_is : output.most ≡ taken_of most
+  pub messages_are : messages.most ≡ 2 ^ 64 - 1
 
 -- a call answered the outcome of a run, whose output isn't longer than it may be, and put what was collected of
 -- both texts into the rooms; memory ran out nowhere

@@ -1,6 +1,8 @@
-//! The devices of a run over memory: what gives the caller's input, and what collects the output or the messages.
+//! The devices of a run over memory: what gives the caller's input, and what collects the output or the
+//! messages.
 
-ghost use Rattle.std.specs.Prelude.{◌≡◌, ◌≢◌, ◌<◌, ◌≤◌, ◌+◌, ◌++◌, [], Some, false, length, take, true, vec_capacity};
+ghost use Rattle.std.specs.Prelude.{⊤, ◌≡◌, ◌≢◌, ◌<◌, ◌≤◌, ◌+◌, ◌-◌, ◌++◌, ℕ, [], Ok, Some, false, length, min, take, true, vec_capacity, IfOk, OnErr, OnOk};
+ghost use Rattle.crx_lines.specs.meaning.Devices.{ends_after, one_more};
 ghost use Rattle.std.proofs.KnownBytes.{Consumes-nil, Consumes-trans};
 
 use crx_lines::{ReadFailed, Sink, Source, WriteFailed};
@@ -34,7 +36,18 @@ impl Source for Given<'_> {
 
     ghost ends = { λ s. s.ends };
 
-    fn read(&mut self, buffer: &mut [u8]) -> Result<usize, ReadFailed> {
+    fn read(&mut self, buffer: &mut [u8]) -> Result<usize, ReadFailed>
+        ensures all { result ≡ Ok (min (length buffer.new) (length self.old.left.now)) }
+        ensures bound { IfOk result (λ n. n ≤ length buffer.new) }
+        ensures bytes { IfOk result (λ n. self.old.left.now ≡ take n buffer.new ++ self.new.left.now) }
+        ensures end { IfOk result (λ n. n ≡ 0 → 0 < length buffer.new → self.new.left.now ≡ []) }
+        ensures ends { IfOk result (λ n. 0 < length buffer.new → self.new.ends ≡ ends_after n self.old.ends) }
+        ensures good { let none : ℕ = 0 in OnOk result (none ≡ none) }
+        ensures unasked { length buffer.new ≡ 0 → self.new.ends ≡ self.old.ends }
+        ensures none_lost { OnErr result (self.old.left.now ≡ [] ++ self.new.left.now) }
+        ensures no_end { OnErr result (self.new.ends ≡ self.old.ends) }
+        ensures counted { let none : ℕ = 0 in OnErr result (none ≡ one_more none) }
+    {
         let count = buffer.len().min(self.left.len());
         buffer[..count].copy_from_slice(&self.left[..count]);
         self.left = &self.left[count..];
@@ -49,8 +62,11 @@ impl Source for Given<'_> {
     ghost gave_both = { λ a b c xs ys p q. Consumes-trans (Some a.left.now) (Some b.left.now) (Some c.left.now) xs ys p q };
 }
 
-/// Collects the first bytes that are written, as many as a room has place for, and counts the others. It fails where memory runs out, and
-/// once it has as many as it may take.
+/// How many bytes a sink takes where there is no limit: all that a number can say.
+pub(crate) const ALL: usize = usize::MAX;
+
+/// Collects the first bytes that are written, as many as a room has place for, and counts the others. It
+/// fails where memory runs out, and once it has as many as it may take.
 #[derive(Drop)]
 pub struct Counted {
     /// What is kept.
@@ -95,7 +111,7 @@ impl Counted {
 }
 
 impl Sink for Counted {
-    ghost use Rattle.rnxcmp_c.specs.Counting.{Took, took-none, took-both};
+    ghost use Rattle.rnxcmp_c.specs.Counting.{CannotTake, Took, took-none, took-both};
 
     ghost took = { Took };
 
@@ -105,7 +121,22 @@ impl Sink for Counted {
 
     ghost flushes = { λ s. s.flushes };
 
-    fn write(&mut self, bytes: &[u8]) -> Result<usize, WriteFailed> {
+    ghost is_current = { λ s. ⊤ };
+
+    ghost is_broken = { λ s. ⊥ };
+
+    fn write(&mut self, bytes: &[u8]) -> Result<usize, WriteFailed>
+        ensures all { IfOk result (λ n. n ≡ min (length bytes.now) (self.old.most - self.old.count)) }
+        ensures asked { OnErr result (CannotTake self.old (length bytes.now)) }
+        ensures bound { IfOk result (λ n. n ≤ length bytes.now) }
+        ensures bytes { IfOk result (λ n. Took self.old (take n bytes.now) self.new) }
+        ensures progress { IfOk result (λ n. 0 < length bytes.now → 0 < n) }
+        ensures unflushed { self.new.flushed ≡ true → ⊥ }
+        ensures unasked { self.new.flushes ≡ self.old.flushes }
+        ensures good { OnOk result (self.new.failures ≡ self.old.failures) }
+        ensures none_taken { OnErr result (Took self.old [] self.new) }
+        ensures counted { OnErr result (self.new.failures ≡ one_more self.old.failures) }
+    {
         self.flushed = false;
         let some = bytes.len().min(self.most - self.count);
         if some > 0 || bytes.is_empty() {
@@ -129,6 +160,12 @@ impl Sink for Counted {
         self.flushed = true;
         self.flushes = self.flushes.saturating_add(1);
         Ok(())
+    }
+
+    fn await_output(&mut self) {}
+
+    fn hand_on(&mut self) -> bool {
+        true
     }
 
     ghost took_none = { took-none };

@@ -1,8 +1,10 @@
-//! What a C program calls. A slice is a pointer and then its length, which may be 0; `alloc` takes no argument in C.
+//! What a C program calls. A slice is a pointer and then its length, which may be 0; `alloc` takes no
+//! argument in C.
 //!
-//! Where memory didn't run out, the input has at most [`INPUT_LIMIT`] bytes and the date isn't refused, output, messages, status, fault
-//! and lengths are those of the defined result of the input, for every choice of options. A text that doesn't fit is in its room as
-//! far as it does. Else, and where the output is longer than it may be, nothing in the caller's rooms is changed.
+//! Where memory didn't run out, the input has at most [`INPUT_LIMIT`] bytes and the date isn't refused,
+//! output, messages, status, fault and lengths are those of the defined result of the input, for every choice
+//! of options. A text that doesn't fit is in its room as far as it does. Else, and where the output is longer
+//! than it may be, nothing in the caller's rooms is changed.
 
 ghost use Rattle.std.specs.Prelude.{◌≡◌, ◌≤◌, length, Some, true, false};
 ghost use Rattle.crx_filter.specs.meaning.ByResults.{CompactionKeeps, ExpansionKeeps};
@@ -20,15 +22,16 @@ ghost use Rattle.rnxcmp_c.specs.meaning.Promises.{CallBringsBackWhatWasCompacted
 ghost use Rattle.rnxcmp_c.specs.meaning.Stretches.{CallKeepsUndamaged, CallWritesWholeUnits};
 
 use crate::answer::{Answer, BAD_DATE, bare, failed};
-use crate::devices::{Counted, Given};
+use crate::devices::{ALL, Counted, Given};
 use crate::runs::{answer_of, taken_at_most};
 use crx_base::Fault;
 use crx_base::limits::INPUT_LIMIT;
 use crx_filter::{Options, check, compact, expand};
 use std::alloc::Global;
 
-/// Compacts RINEX 3.0x: an epoch in full at each that `every` divides (0: only where one must be), with a warning for an epoch with a
-/// fault where `skip` says so, the date of the second line, and at most `max_output` bytes of output (0: no limit).
+/// Compacts RINEX 3.0x: an epoch in full at each that `every` divides (0: only where one must be), with a
+/// warning for an epoch with a fault where `skip` says so, the date of the second line, and at most
+/// `max_output` bytes of output (0: no limit).
 #[unsafe(no_mangle)]
 pub extern "C" fn rnxcmp_c_compact(
     alloc: Global,
@@ -60,7 +63,7 @@ pub extern "C" fn rnxcmp_c_compact(
     }
     let mut reader = Given::new(input);
     let mut written = Counted::new(alloc, output.len(), taken_at_most(max_output));
-    let mut reported = Counted::new(alloc, messages.len(), usize::MAX);
+    let mut reported = Counted::new(alloc, messages.len(), ALL);
     let outcome = compact(alloc, &mut reader, &mut written, &mut reported, options);
     answer_of(outcome, written, reported, max_output, output, messages)
 }
@@ -75,8 +78,8 @@ pub(crate) fn expansion_options(skip: bool) -> Options
     }
 }
 
-/// Expands Compact RINEX 3.0, with a warning for an epoch with a fault where `skip` says so, and at most `max_output` bytes of output
-/// (0: no limit).
+/// Expands Compact RINEX 3.0, with a warning for an epoch with a fault where `skip` says so, and at most
+/// `max_output` bytes of output (0: no limit).
 #[unsafe(no_mangle)]
 pub extern "C" fn rnxcmp_c_expand(
     alloc: Global,
@@ -112,7 +115,7 @@ pub extern "C" fn rnxcmp_c_expand(
     }
     let mut reader = Given::new(input);
     let mut written = Counted::new(alloc, output.len(), taken_at_most(max_output));
-    let mut reported = Counted::new(alloc, messages.len(), usize::MAX);
+    let mut reported = Counted::new(alloc, messages.len(), ALL);
     let outcome = expand(
         alloc,
         &mut reader,
@@ -143,8 +146,8 @@ pub extern "C" fn rnxcmp_c_check(
         return failed(0, Fault::InputTooLong);
     }
     let mut reader = Given::new(input);
-    let mut written = Counted::new(alloc, output.len(), usize::MAX);
-    let mut reported = Counted::new(alloc, messages.len(), usize::MAX);
+    let mut written = Counted::new(alloc, output.len(), ALL);
+    let mut reported = Counted::new(alloc, messages.len(), ALL);
     let outcome = check(alloc, &mut reader, &mut written, &mut reported);
     answer_of(outcome, written, reported, 0, output, messages)
 }

@@ -1,8 +1,9 @@
 //! Handles that a C program holds, and what it calls with them: a run goes on from call to call.
 //!
-//! A handle is closed where it is all zeros. From the call that opens it to the one that closes it only these calls touch it, one at
-//! a time. The bytes that were fed in all have a defined result. What was taken in all, and then what is kept, is what the lines make that
-//! were fed, a prefix of the result's texts, while the run goes on; and after its end the whole of them, unless memory or a limit ended it.
+//! A handle is closed where it is all zeros. From the call that opens it to the one that closes it only these
+//! calls touch it, one at a time. The bytes that were fed in all have a defined result. What was taken in
+//! all, and then what is kept, is what the lines make that were fed, a prefix of the result's texts, while
+//! the run goes on; and after its end the whole of them, unless memory or a limit ended it.
 
 ghost use Rattle.std.specs.Prelude.{◌≡◌, ◌⊎◌, ◌++◌, ℕ, List, [], IfSome, drop, length, take, Some, true, false};
 ghost use Rattle.crx_base.specs.meaning.Choices.{Choices, choices_of, is_date};
@@ -92,8 +93,8 @@ fn open(alloc: Global, handle: &mut Handle, engine: AnyEngine, held: Held) -> An
     }
 }
 
-/// Puts a value on the heap; `None` where there is no memory for it. The type is a parameter, since the size of a reader, which holds whole
-/// lines, takes the prover minutes.
+/// Puts a value on the heap; `None` where there is no memory for it. The type is a parameter, since the size
+/// of a reader, which holds whole lines, takes the prover minutes.
 fn on_heap<T: Drop>(alloc: Global, value: T) -> Option<Box<T>>
     ensures { IfSome result (λ boxed. boxed.value ≡ value) }
 {
@@ -103,7 +104,8 @@ fn on_heap<T: Drop>(alloc: Global, value: T) -> Option<Box<T>>
     }
 }
 
-/// Opens a closed handle for a compaction: with what [`rnxcmp_c_compact`](crate::exports::rnxcmp_c_compact) takes.
+/// Opens a closed handle for a compaction: with what [`rnxcmp_c_compact`](crate::exports::rnxcmp_c_compact)
+/// takes.
 #[unsafe(no_mangle)]
 pub extern "C" fn rnxcmp_c_open_compact(
     alloc: Global,
@@ -182,7 +184,8 @@ pub extern "C" fn rnxcmp_c_open_check(alloc: Global, handle: &mut Handle) -> Ans
     }
 }
 
-/// Takes bytes of the input, which may end anywhere, as long as little enough waits to be taken; `used` becomes how many.
+/// Takes bytes of the input, which may end anywhere, as long as little enough waits to be taken; `used`
+/// becomes how many.
 #[unsafe(no_mangle)]
 pub extern "C" fn rnxcmp_c_feed(
     alloc: Global,
@@ -253,8 +256,8 @@ pub extern "C" fn rnxcmp_c_end(alloc: Global, handle: &mut Handle) -> Answer
     answer
 }
 
-/// Moves what is kept of the output and of the messages into two rooms, as far as it fits, and answers the run's state and how much
-/// is left.
+/// Moves what is kept of the output and of the messages into two rooms, as far as it fits, and answers the
+/// run's state and how much is left.
 #[unsafe(no_mangle)]
 pub extern "C" fn rnxcmp_c_take(
     alloc: Global,

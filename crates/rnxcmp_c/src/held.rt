@@ -73,7 +73,8 @@ impl Held {
         }
     }
 
-    /// Counts the output since a mark; where it is more than there may be, lets go of it and of the messages since, and answers `false`.
+    /// Counts the output since a mark; where it is more than there may be, lets go of it and of the messages
+    /// since, and answers `false`.
     pub(crate) fn count_since(&mut self, mark: Mark) -> bool
         requires { IsMarkWithin mark self.old }
         ensures good { result ≡ true → StaysWithin mark.output self.old self.new }

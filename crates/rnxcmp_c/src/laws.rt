@@ -16,17 +16,20 @@ ghost use Rattle.rnxcmp_c.specs.declared.reader.Reader.{Reader};
 ghost use Rattle.rnxcmp_c.specs.meaning.Answers.{AnswersAlone, AnswersWithin, BothTexts, ExceedsLimit, KeepsToLimit, placed};
 ghost use Rattle.rnxcmp_c.specs.meaning.Handles.{RunHasEnded, RunHasResult, StopsAtLimit, StopsWhenFull, Task, run_for, with_one_more};
 
-/// What a handle holds, in full, and how much that is beside its engine, whatever was fed: one that takes over these parts of another is
-/// that other. So there is no part beside them, in which a record of the past lines could grow.
+/// What a handle holds, in full, and how much that is beside its engine, whatever was fed: one that takes
+/// over these parts of another is that other. So there is no part beside them, in which a record of the past
+/// lines could grow.
 pub fn handle_holds()
     ensures parts { (one other : Reader) → reader_with one other ≡ other }
     ensures bounded { (held : Held) → IsBounded held }
 {}
 
-/// A handle answers as a call over the whole input: where its run has ended with its result, such a call with room enough answers the same
-/// status, code and line, and puts into its rooms all that the handle made; and where the output is longer than its limit, both say so. For
-/// every input whose output is within the limit there are such answers. Of an input that is too long both say the same status, and the same
-/// code unless memory ran out; but a call says so before it reads, at line 0 and without texts, and a handle at the line of the byte too much.
+/// A handle answers as a call over the whole input: where its run has ended with its result, such a call with
+/// room enough answers the same status, code and line, and puts into its rooms all that the handle made; and
+/// where the output is longer than its limit, both say so. For every input whose output is within the limit
+/// there are such answers. Of an input that is too long both say the same status, and the same code unless
+/// memory ran out; but a call says so before it reads, at line 0 and without texts, and a handle at the line
+/// of the byte too much.
 pub fn a_handle_answers_as_a_call()
     ensures same { (task : Task) (fed : List ℕ) (made kept : BothTexts) (answer call : Answer)
         (before after : BothTexts)
@@ -61,8 +64,9 @@ pub fn a_handle_answers_as_a_call()
         × (length ((run_for task).result fed).output ≤ length before.output) }
 {}
 
-/// What some of the first lines make comes first in both texts of the result of all: their output, and their warnings, and after these the
-/// first of those that the next line has, or the end. The lines whose line end was fed are such lines, whatever follows.
+/// What some of the first lines make comes first in both texts of the result of all: their output, and their
+/// warnings, and after these the first of those that the next line has, or the end. The lines whose line end
+/// was fed are such lines, whatever follows.
 pub fn what_lines_make_comes_first()
     ensures begun { (task : Task) (input : List ℕ) (lines others : List InputLine) (notices : List At)
         → lines_of input ≡ lines ++ others

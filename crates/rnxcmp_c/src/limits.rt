@@ -2,8 +2,8 @@
 
 use crx_base::limits::{LINE_LIMIT, SATELLITES_LIMIT};
 
-/// The most bytes that are kept of a line before its LF comes: a content that isn't too long, CR, and one byte more. What has so many
-/// is too long, whatever follows.
+/// The most bytes that are kept of a line before its LF comes: a content that isn't too long, CR, and one
+/// byte more. What has so many is too long, whatever follows.
 pub const LINE_ROOM: usize = LINE_LIMIT + 2;
 
 /// While so many bytes of the output and of the messages together wait to be taken, no line is taken.

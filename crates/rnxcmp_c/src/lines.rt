@@ -37,7 +37,8 @@ fn content_of(bytes: &[u8]) -> (&[u8], bool)
     }
 }
 
-/// Gives a line to an engine, by what is kept of its bytes and whether an LF followed them; whether there was a warning.
+/// Gives a line to an engine, by what is kept of its bytes and whether an LF followed them; whether there was
+/// a warning.
 fn offer_line<E: Engine>(
     engine: &mut E,
     output: &mut Pending,
@@ -68,9 +69,9 @@ fn offer_line<E: Engine>(
     )
 }
 
-/// Counts the output since a mark, whatever the step of a line came to: where it is more than there may be, that ends the run. Keeps in
-/// mind whether there was a warning. Where one of the texts couldn't be kept, memory ran out at the line of this number, and what came of
-/// both since the mark is let go of.
+/// Counts the output since a mark, whatever the step of a line came to: where it is more than there may be,
+/// that ends the run. Keeps in mind whether there was a warning. Where one of the texts couldn't be kept,
+/// memory ran out at the line of this number, and what came of both since the mark is let go of.
 fn counted(held: &mut Held, mark: Mark, number: u64, taken: Result<bool, Halt>) -> Result<(), Stop>
     requires { IsMarkWithin mark held.old }
     ensures limit { held.new.limit ≡ held.old.limit }
@@ -96,8 +97,8 @@ fn counted(held: &mut Held, mark: Mark, number: u64, taken: Result<bool, Halt>) 
     }
 }
 
-/// Takes what is kept of a line as a line, and lets go of it, if the output stays within its limit, also where memory ran out while it was
-/// written.
+/// Takes what is kept of a line as a line, and lets go of it, if the output stays within its limit, also
+/// where memory ran out while it was written.
 fn take_within<E: Engine>(engine: &mut E, held: &mut Held, is_ended: bool) -> Result<(), Stop>
     requires shown { HasShown E.Engine engine.old }
     requires next { held.old.number ≡ E.taken engine.old }
@@ -121,7 +122,8 @@ fn take_within<E: Engine>(engine: &mut E, held: &mut Held, is_ended: bool) -> Re
     counted(held, mark, number, taken)
 }
 
-/// Takes the first of some bytes, up to an LF, with which a line is taken, and answers how many; all, where no LF is among them.
+/// Takes the first of some bytes, up to an LF, with which a line is taken, and answers how many; all, where
+/// no LF is among them.
 fn take_to_line_end<E: Engine>(engine: &mut E, held: &mut Held, bytes: &[u8]) -> Result<usize, Stop>
     requires going { CanBeFed E.Engine engine.old held.old (length bytes.now) }
     ensures keeps { KeepsItsRun E.Engine engine.old engine.new held.old held.new result }
@@ -142,7 +144,8 @@ fn take_to_line_end<E: Engine>(engine: &mut E, held: &mut Held, bytes: &[u8]) ->
     }
 }
 
-/// Takes some bytes, a line's after another's, as long as little enough waits to be taken, and answers how many.
+/// Takes some bytes, a line's after another's, as long as little enough waits to be taken, and answers how
+/// many.
 pub(crate) fn take_bytes<E: Engine>(
     engine: &mut E,
     held: &mut Held,

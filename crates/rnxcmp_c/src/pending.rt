@@ -1,6 +1,6 @@
 //! A text of a handle that its caller takes piece by piece.
 
-ghost use Rattle.std.specs.Prelude.{◌≡◌, ◌<◌, ◌≤◌, ◌+◌, ◌++◌, [], Some, drop, false, length, take, true, IfOk, OnErr, OnOk};
+ghost use Rattle.std.specs.Prelude.{⊤, ◌≡◌, ◌<◌, ◌≤◌, ◌+◌, ◌++◌, [], Some, drop, false, length, take, true, IfOk, OnErr, OnOk};
 ghost use Rattle.std.proofs.KnownBytes.{Appends-nil, Appends-trans};
 ghost use Rattle.crx_lines.specs.meaning.Devices.{one_more};
 ghost use Rattle.rnxcmp_c.specs.declared.limits.TheConstants.{WAITING_LIMIT};
@@ -11,8 +11,8 @@ use crate::limits::WAITING_LIMIT;
 use crx_lines::{Sink, WriteFailed};
 use std::alloc::Global;
 
-/// The bytes that were made and not handed out yet, behind some that were. At most half of all were handed out: so moving the rest to the
-/// front costs no more than handing out did.
+/// The bytes that were made and not handed out yet, behind some that were. At most half of all were handed
+/// out: so moving the rest to the front costs no more than handing out did.
 #[derive(Drop)]
 pub struct Pending {
     bytes: Vec<u8>,
@@ -49,7 +49,8 @@ impl Pending {
         self.bytes.len() - self.passed
     }
 
-    /// Takes a text at its end; `false` says that there was no memory for it, or that more than [`WAITING_LIMIT`] bytes would wait.
+    /// Takes a text at its end; `false` says that there was no memory for it, or that more than
+    /// [`WAITING_LIMIT`] bytes would wait.
     pub(crate) fn add(&mut self, text: &[u8]) -> bool
         ensures taken { result ≡ true → waiting self.new ≡ waiting self.old ++ text.now }
         ensures unchanged { result ≡ false → waiting self.new ≡ waiting self.old }
@@ -127,6 +128,10 @@ impl Sink for Pending {
 
     ghost flushes = { λ s. s.flushes };
 
+    ghost is_current = { λ s. ⊤ };
+
+    ghost is_broken = { λ s. ⊥ };
+
     fn write(&mut self, bytes: &[u8]) -> Result<usize, WriteFailed> {
         self.put(bytes)
     }
@@ -135,6 +140,12 @@ impl Sink for Pending {
         self.flushed = true;
         self.flushes = self.flushes.saturating_add(1);
         Ok(())
+    }
+
+    fn await_output(&mut self) {}
+
+    fn hand_on(&mut self) -> bool {
+        true
     }
 
     ghost took_none = { λ s. Appends-nil (Some (waiting s)) };

@@ -17,7 +17,8 @@ pub struct Piece {
 impl Piece {
     /// No bytes.
     pub(crate) fn new(alloc: Global) -> Result<Piece, AllocError>
-        ensures { IfOk result (λ piece. piece.bytes.items ≡ []) }
+        ensures none { IfOk result (λ piece. piece.bytes.items ≡ []) }
+        ensures room { IfOk result (λ piece. vec_capacity piece.bytes ≡ LINE_ROOM) }
     {
         let bytes = Vec::with_capacity(alloc, LINE_ROOM)?;
         Ok(Piece { bytes })

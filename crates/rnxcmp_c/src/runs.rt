@@ -1,28 +1,28 @@
-//! What a call over a whole input answers: by the run's outcome, and by what was collected of its texts as far as the caller's rooms go.
+//! What a call over a whole input answers: by the run's outcome, and by what was collected of its texts as
+//! far as the caller's rooms go.
 
-ghost use Rattle.std.specs.Prelude.{◌≡◌, ◌+◌, ◌-◌, ◌^◌, ◌<◌};
+ghost use Rattle.std.specs.Prelude.{◌≡◌};
 ghost use Rattle.rnxcmp_c.specs.meaning.Answers.{rooms};
-ghost use Rattle.rnxcmp_c.specs.Collecting.{AnswersRun};
+ghost use Rattle.rnxcmp_c.specs.Collecting.{AnswersRun, TakeEnough, taken_of};
 
 use crate::answer::{Answer, NO_ROOM, OUTPUT_LIMIT, bare, failed, line_and_code, place};
-use crate::devices::Counted;
+use crate::devices::{ALL, Counted};
 use crx_base::Fault;
 use crx_runs::Outcome;
 
 /// How many bytes of an output are taken at most: one more than it may have, by which it shows.
 pub(crate) fn taken_at_most(most: u64) -> usize
-    ensures limited { 0 < most → most < 2 ^ 64 - 1 → result ≡ most + 1 }
-    ensures unlimited { most ≡ 0 → result ≡ 2 ^ 64 - 1 }
-    ensures greatest { most ≡ 2 ^ 64 - 1 → result ≡ 2 ^ 64 - 1 }
+    ensures { result ≡ taken_of most }
 {
     if most == 0 || most == u64::MAX {
-        return usize::MAX;
+        return ALL;
     }
     most as usize + 1
 }
 
-/// Answers what a run came to, and puts what was collected of both texts into the caller's rooms. Where the output is longer than it may
-/// be, or memory ran out in the run or in collecting, the rooms stay as they are.
+/// Answers what a run came to, and puts what was collected of both texts into the caller's rooms. Where the
+/// output is longer than it may be, or memory ran out in the run or in collecting, the rooms stay as they
+/// are.
 pub(crate) fn answer_of(
     outcome: Outcome,
     output: Counted,
@@ -31,6 +31,7 @@ pub(crate) fn answer_of(
     output_room: &mut [u8],
     messages_room: &mut [u8],
 ) -> Answer
+    requires { TakeEnough output messages most }
     ensures { AnswersRun outcome output messages most result
         (rooms output_room.old messages_room.old) (rooms output_room.new messages_room.new) }
 {

@@ -1,12 +1,12 @@
 -- An arc, whoever wrote it: its code gives its newest value, and leaves its tail.
-use Rattle.crx_compact.proofs.Words.{◌≡◌, refl, ℕ, ℤ, List, [], ◌∷◌, Option, Some, None, Ok, ap, sym, ◌∙◌, arith, length, min}
-use Rattle.crx_compact.proofs.Words.{subst, inl, inr, ◌⊎◌, code_at, difference, value_of_code, arc_of_code, differences_of, values_of}
-use Rattle.crx_compact.proofs.Words.{IsWithin, IsMissingOrWithin, ArcTail, Step, Start, in_range, Result, Fault}
+use Rattle.crx_compact.proofs.Words.{◌≡◌, refl, ℕ, ℤ, List, [], ◌∷◌, Option, Some, None, Ok, ap, sym, ◌∙◌, length, min}
+use Rattle.crx_compact.proofs.Words.{subst, inl, inr, difference, value_of_code, arc_of_code, differences_of, values_of}
+use Rattle.crx_compact.proofs.Words.{IsWithin, IsMissingOrWithin, ArcTail, in_range}
 use Rattle.crx_compact.proofs.arcs.Inversion.{numbers_of, value-numbers}
 use Rattle.crx_compact.proofs.arcs.Stepping.{values-by_tail, first-differences}
 use Rattle.crx_compact.proofs.arcs.{Weights.difference-zero, Bounds.within-is}
 use Rattle.crx_compact.specs.ArcSteps.{arc_after_number, value_of_tail}
-use Rattle.crx_compact.specs.meaning.AnyWriter.{Arc, code_now, arc_before, MayFollow}
+use Rattle.crx_compact.specs.meaning.AnyWriter.{Arc, code_now, MayFollow}
 use Rattle.crx_compact.specs.AnyWriter.{value_now, arc_left}
 
 pub record Goes (width : ℕ) (before now : Option Arc) : Type 0 where

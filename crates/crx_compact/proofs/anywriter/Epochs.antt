@@ -1,18 +1,17 @@
 -- The lines of an epoch, whoever wrote them, read as that epoch.
-use Rattle.crx_compact.proofs.Words.{◌≡◌, refl, ℕ, List, [], ◌∷◌, ◌++◌, Bool, true, false, Option, Some, None, Ok, map, length, arith, ap, sym, ◌∙◌, ◌*◌, ◌+◌, ◌<◌, drop, subst}
-use Rattle.crx_compact.proofs.Words.{list_all, AllByRecursion, length-map, option_map, rules, common_steps, unwrap_or, few_kept, if◌then◌else◌}
-use Rattle.crx_compact.proofs.Words.{Count, Row, Epoch, IsWholeEpoch, are_different, epoch_text, columns, at, at-without_end_blanks, without_end_blanks, patched, is_printable}
-use Rattle.crx_compact.proofs.Words.{ReadLine, Content, Done, Place, then_place, RawRow, RawEpoch, ReadRow, ReadEpoch, ReadCell, rows_read, epoch_at, epoch_after, clock_line_read}
-use Rattle.crx_compact.proofs.Words.{Satellite, satellites_of_text, satellites_of_line, begins_epoch, past_of_tail, Past, Tail, RowTail, no_tail, tail_left, tail_for_line}
-use Rattle.crx_compact.proofs.Words.{raw_row_tail_after, raw_tail_after, tail_named, CLOCK_WIDTH, arc_of_code, code_of, ArcTail}
-use Rattle.crx_compact.proofs.{SoundTexts.{patched-trimmed, first-columns}, Identifiers.none-earlier}
+use Rattle.crx_compact.proofs.Words.{◌≡◌, refl, ℕ, List, [], ◌∷◌, ◌++◌, Bool, true, false, Option, Some, Ok, map, length, arith, ap, sym, ◌∙◌, ◌+◌}
+use Rattle.crx_compact.proofs.Words.{list_all, AllByRecursion, length-map, option_map, unwrap_or, if◌then◌else◌}
+use Rattle.crx_compact.proofs.Words.{Count, IsWholeEpoch, epoch_text, at-without_end_blanks, without_end_blanks, patched, is_printable}
+use Rattle.crx_compact.proofs.Words.{ReadLine, Content, Done, Place, RawRow, RawEpoch, ReadRow, rows_read, epoch_at, epoch_after, clock_line_read}
+use Rattle.crx_compact.proofs.Words.{Satellite, satellites_of_line, begins_epoch, past_of_tail, Tail, no_tail, tail_left, tail_for_line}
+use Rattle.crx_compact.proofs.Words.{raw_row_tail_after, raw_tail_after, tail_named, CLOCK_WIDTH}
+use Rattle.crx_compact.proofs.{SoundTexts.{patched-trimmed}}
 use Rattle.crx_compact.proofs.reading.RawTailing.{place-by_tail, left-by_tail}
 use Rattle.crx_compact.proofs.soundness.Soundness.{reads-soundly}
-use Rattle.crx_compact.proofs.wayback.Facts.{IsTypedRow, typed-rows, head-counted, text-kept, text-head, length-text, text-names, names-read, satellites-good, satellites_of_rows}
+use Rattle.crx_compact.proofs.wayback.Facts.{IsTypedRow, typed-rows, text-kept, satellites_of_rows}
 use Rattle.crx_compact.proofs.wayback.Reading.{text-other, text-columns, text-good}
-use Rattle.std.proofs.Common.{drop_of_length-le}
-use Rattle.crx_compact.specs.meaning.AnyWriter.{Arc, WrittenRow, WrittenEpoch, code_now, row_now, epoch_now, goes_on_from, nothing_written, AreRowLines, AreLinesAfter, AreEpochLines}
-use Rattle.crx_compact.specs.AnyWriter.{value_now, arc_left, row_left, epoch_left, RowReads, EpochReads, ReadsAnyEpoch}
+use Rattle.crx_compact.specs.meaning.AnyWriter.{WrittenRow, WrittenEpoch, code_now, row_now, epoch_now, goes_on_from, nothing_written, AreRowLines, AreLinesAfter}
+use Rattle.crx_compact.specs.AnyWriter.{value_now, row_left, epoch_left, EpochReads, ReadsAnyEpoch}
 use Rattle.crx_compact.proofs.anywriter.{Arcs.{Goes, goes}, Rows.{any-row, marks-printable}, Texts.spelled-characters}
 
 -- ---- the satellites' lines

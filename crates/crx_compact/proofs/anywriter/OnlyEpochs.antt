@@ -1,20 +1,20 @@
 -- The lines that are read as an epoch are ones that some writer may write for it.
-use Rattle.crx_compact.proofs.Words.{◌≡◌, refl, ℕ, ℤ, zero, suc, List, [], ◌∷◌, ◌++◌, Bool, true, false, Option, Some, None, Result, Ok, Err, map, length, arith, ap, sym, ◌∙◌, ◌*◌, ◌+◌, ◌-◌, ◌<◌, ◌≤◌, ◌⊎◌, inl, inr, drop, take, subst, rules, common_steps}
-use Rattle.crx_compact.proofs.Words.{list_all, AllByRecursion, length-map, option_map, flat_map, if◌then◌else◌, is_blank, cases_lt, length-append, same_Some, each_place, named, bytes_eq}
-use Rattle.crx_compact.proofs.Words.{ReadLine, Content, Overlong, Place, Done, then_place, first_line, rows_read, epoch_at, epoch_after, epoch_begun, epoch_after_line, epoch_of_rows, clock_line_read, satellite_line_read, cell_read, code_of}
-use Rattle.crx_compact.proofs.Words.{Fault, BadClock, Truncated, NotAnEpoch, Count, Row, Epoch, RawEpoch, ReadRow, ReadEpoch, ReadCell, BegunEpoch, Past, Tail, Satellite, IsWholeEpoch, types_of_satellite}
-use Rattle.crx_compact.proofs.Words.{past_of_tail, tail_for_line, tail_left, satellites_of_line, begins_epoch, epoch_text, columns, at, at-without_end_blanks, at-append, at-append_past, at-drop, without_end_blanks, patched, CLOCK_WIDTH, names_in, and_then, length-columns}
+use Rattle.crx_compact.proofs.Words.{◌≡◌, refl, ℕ, ℤ, zero, suc, List, [], ◌∷◌, ◌++◌, Bool, true, false, Option, Some, None, Result, Ok, Err, map, length, arith, ap, sym, ◌∙◌, ◌*◌, ◌+◌, ◌-◌, ◌<◌, ◌≤◌, ◌⊎◌, inl, inr, drop, take, subst}
+use Rattle.crx_compact.proofs.Words.{list_all, AllByRecursion, option_map, flat_map, if◌then◌else◌, is_blank, cases_lt, length-append, same_Some, each_place, named, bytes_eq}
+use Rattle.crx_compact.proofs.Words.{ReadLine, Content, Overlong, Done, then_place, first_line, rows_read, epoch_begun, epoch_after_line, epoch_of_rows, clock_line_read, satellite_line_read, cell_read, code_of}
+use Rattle.crx_compact.proofs.Words.{Fault, BadClock, Truncated, Count, Row, Epoch, ReadRow, ReadEpoch, ReadCell, BegunEpoch, Satellite, IsWholeEpoch, types_of_satellite}
+use Rattle.crx_compact.proofs.Words.{past_of_tail, tail_for_line, tail_left, satellites_of_line, begins_epoch, epoch_text, columns, at, at-without_end_blanks, at-append, at-append_past, at-drop, without_end_blanks, patched, CLOCK_WIDTH, and_then, length-columns}
 use Rattle.crx_compact.proofs.PlaceByPlace.{at-take, at-padded}
 use Rattle.crx_compact.proofs.wayback.Overlays.{at_past}
 use Rattle.crx_compact.proofs.Words.{each_place-same, by_position, character_of}
-use Rattle.crx_compact.proofs.{Characters.{same_characters, bytes_eq-is}, SoundTexts.patched-trimmed, EpochLines.{LineFacts, line-facts_of, names_of}}
-use Rattle.crx_compact.proofs.soundness.Soundness.{Comes, then-comes, thing_here, read-cell}
+use Rattle.crx_compact.proofs.{Characters.{same_characters, bytes_eq-is}, SoundTexts.patched-trimmed, EpochLines.{line-facts_of, names_of}}
+use Rattle.crx_compact.proofs.soundness.Soundness.{then-comes}
 use Rattle.crx_compact.proofs.reading.RawTailing.{place-by_tail}
 use Rattle.crx_compact.proofs.wayback.Facts.{IsTypedRow, typed-rows}
-use Rattle.crx_compact.specs.meaning.AnyWriter.{Arc, WrittenRow, WrittenEpoch, row_now, epoch_now, code_now, goes_on_from, nothing_written, flags_in, IsRowLine, AreRowLines, AreLinesAfter, AreEpochLines}
-use Rattle.crx_compact.specs.AnyWriter.{value_now, epoch_left}
+use Rattle.crx_compact.specs.meaning.AnyWriter.{WrittenRow, WrittenEpoch, row_now, epoch_now, goes_on_from, nothing_written, flags_in, IsRowLine, AreRowLines, AreLinesAfter}
+use Rattle.crx_compact.specs.AnyWriter.{epoch_left}
 use Rattle.crx_compact.specs.AnyWriter.{row_before}
-use Rattle.crx_compact.specs.AnyWriter.{IsSomebodysEpoch, ReadsSomebodysEpoch}
+use Rattle.crx_compact.specs.AnyWriter.{ReadsSomebodysEpoch}
 use Rattle.crx_compact.proofs.anywriter.{OnlyRows.{only-row, arc-back, blank-past}, Epochs.base-found}
 
 -- ---- a line that was read

@@ -1,17 +1,17 @@
 -- Each line that is read is one that some writer may write.
-use Rattle.crx_compact.proofs.Words.{◌≡◌, refl, ℕ, ℤ, zero, suc, List, [], ◌∷◌, ◌++◌, Bool, true, false, Option, Some, None, Result, Ok, Err, map, length, min, arith, ap, sym, ◌∙◌, ◌*◌, ◌+◌, ◌<◌, ◌≤◌, ◌⊎◌, inl, inr, drop, take, subst}
-use Rattle.crx_compact.proofs.Words.{list_all, common_steps, slice_index_or, if◌then◌else◌, and_then, before_all, cell_read, cells_read, ReadCell, cells_of, after_cells, first_cell, after_cell, is_blank}
-use Rattle.crx_compact.proofs.Words.{OutOfRange, Code, Missing, Start, Step, Fault, BadField, code_of, code_at, difference, value_of_code, in_range, is_within, differences_of, values_of, value_at, ArcTail}
+use Rattle.crx_compact.proofs.Words.{◌≡◌, refl, ℕ, ℤ, zero, suc, List, [], ◌∷◌, ◌++◌, Bool, true, false, Option, Some, None, Result, Ok, Err, map, length, min, arith, ap, sym, ◌∙◌, ◌*◌, ◌+◌, ◌<◌, ◌≤◌, ◌⊎◌, inl, inr, drop, take}
+use Rattle.crx_compact.proofs.Words.{list_all, slice_index_or, if◌then◌else◌, and_then, before_all, cell_read, cells_read, ReadCell, cells_of, after_cells, first_cell, after_cell, is_blank}
+use Rattle.crx_compact.proofs.Words.{OutOfRange, Code, Missing, Start, Step, Fault, BadField, code_of, difference, value_of_code, in_range, is_within, values_of, value_at}
 use Rattle.crx_compact.proofs.Words.{without_end_blanks, before_end_blanks, length-map}
-use Rattle.crx_compact.proofs.arcs.Inversion.{numbers_of, value-numbers}
+use Rattle.crx_compact.proofs.arcs.Inversion.{numbers_of}
 use Rattle.crx_compact.proofs.arcs.Stepping.{values-by_tail, numbers-values}
 use Rattle.crx_compact.specs.ArcSteps.{arc_after_number, value_of_tail}
 use Rattle.crx_compact.specs.meaning.Differences.{newest}
-use Rattle.crx_compact.proofs.Words.{Row, ReadRow, Satellite, Truncated, BadFlags, begins_epoch, are_marks, row_of_cells, past_of_tail, tail_named, cell_of_tail, flags_of_tail, OBSERVATION_WIDTH, columns, is_printable}
+use Rattle.crx_compact.proofs.Words.{Row, ReadRow, Truncated, BadFlags, begins_epoch, are_marks, row_of_cells, past_of_tail, tail_named, cell_of_tail, flags_of_tail, OBSERVATION_WIDTH, columns, is_printable}
 use Rattle.crx_compact.proofs.Words.{at, at-drop, at-without_end_blanks, patched, character_of, by_position, and_parts, cases_lt, ◌-◌, ◌otherwise◌next◌}
 use Rattle.crx_compact.proofs.Characters.{same_characters, at-by_position, list_all-at, at-take_past}
 use Rattle.crx_compact.proofs.{PlaceByPlace.at-take, wayback.Overlays.at_past, CellsRead.cells-same, SoundTexts.{patched-trimmed, held-columns}}
-use Rattle.crx_compact.specs.meaning.AnyWriter.{Arc, WrittenRow, code_now, arc_before, MayFollow, arc_in, flags_in}
+use Rattle.crx_compact.specs.meaning.AnyWriter.{Arc, code_now, MayFollow, arc_in, flags_in}
 use Rattle.crx_compact.specs.AnyWriter.{value_now, arc_left, epoch_left, row_before, ReadsSomebodysRow}
 use Rattle.crx_compact.proofs.anywriter.Rows.{tail-found, cell-found, flags-found, count-same}
 use Rattle.crx_compact.proofs.anywriter.Arcs.{values-back, tail_at}

@@ -1,20 +1,19 @@
 -- Our own writer's epochs are ones that any writer may write.
-use Rattle.crx_compact.proofs.Words.{◌≡◌, ◌≢◌, refl, ℕ, ℤ, zero, suc, List, [], ◌∷◌, ◌++◌, Bool, true, false, Option, Some, None, Ok, map, length, arith, ap, sym, ◌∙◌, ◌*◌, ◌+◌, ◌≤◌, ◌<◌, drop, subst, inl, inr}
-use Rattle.crx_compact.proofs.Words.{list_all, AllByRecursion, length-map, option_map, rules, common_steps, flat_map, if◌then◌else◌, slice_index_or, get_or_past}
+use Rattle.crx_compact.proofs.Words.{◌≡◌, refl, ℕ, ℤ, zero, suc, List, [], ◌∷◌, ◌++◌, Bool, true, false, Option, Some, None, map, length, arith, ap, sym, ◌∙◌, ◌*◌, ◌+◌, ◌≤◌, drop, subst, inr}
+use Rattle.crx_compact.proofs.Words.{list_all, AllByRecursion, option_map, rules, flat_map, if◌then◌else◌, slice_index_or, get_or_past}
 use Rattle.crx_compact.proofs.Words.{Count, Row, Epoch, Marked, AreWhole, IsWholeEpoch, epoch_text, newest_text, since_full, run_of, arc_of, clock_arc, row_named, back_to, stretch, named, value_in, codes_of, indicators_before, satellite_line, epoch_line, compact_epoch}
-use Rattle.crx_compact.proofs.Words.{at, at-without_end_blanks, at-drop, list_all-from_at, without_end_blanks, patched, character_of, by_position, mark_of, text_difference, is_blank, begins_epoch, nat_eq}
+use Rattle.crx_compact.proofs.Words.{at, at-without_end_blanks, at-drop, list_all-from_at, without_end_blanks, patched, mark_of, text_difference, is_blank, begins_epoch}
 use Rattle.crx_compact.proofs.Words.{Code, code_at, code_of, code_text, cell_text, code_of-code_text, IsPrintable, WRITTEN_ORDER, each_place, map-each_place, index-each_place, each_place-same, length-each_place}
 use Rattle.crx_compact.proofs.Characters.{same_characters, at-by_position}
 use Rattle.crx_compact.proofs.Identifiers.{each-own}
-use Rattle.crx_compact.proofs.Words.{and_parts}
-use Rattle.crx_compact.proofs.wayback.Cells.{is_code_character, code-characters}
+use Rattle.crx_compact.proofs.wayback.Cells.{code-characters}
 use Rattle.crx_compact.proofs.wayback.Overlays.{character-mark, at_past}
 use Rattle.crx_compact.proofs.wayback.Runs.{IsUnmarked, marked, rows_before, named-made, begins_full, begins_later}
 use Rattle.crx_compact.proofs.wayback.Rows.{IsRowOf, run-begins, rows-of_run, run-printable, clock-printable, values-again}
 use Rattle.crx_compact.proofs.wayback.Reading.{no-end_blanks}
-use Rattle.crx_compact.proofs.wayback.Facts.{IsTypedRow, typed-rows, unmarked, text-kept, text-begins, at-difference}
+use Rattle.crx_compact.proofs.wayback.Facts.{unmarked, text-kept, text-begins, at-difference}
 use Rattle.crx_compact.specs.AnyWriter.{value_now}
-use Rattle.crx_compact.specs.meaning.AnyWriter.{Arc, WrittenRow, WrittenEpoch, code_now, arc_before, MayFollow, row_now, epoch_now, goes_on_from, nothing_written, arc_in, flags_in, IsRowLine, AreRowLines, AreLinesAfter, AreEpochLines}
+use Rattle.crx_compact.specs.meaning.AnyWriter.{Arc, WrittenRow, WrittenEpoch, code_now, arc_before, MayFollow, row_now, epoch_now, nothing_written, arc_in, flags_in, IsRowLine, AreRowLines, AreLinesAfter, AreEpochLines}
 
 -- ---- arcs
 

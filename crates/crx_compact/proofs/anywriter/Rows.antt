@@ -1,15 +1,15 @@
 -- A satellite's line, whoever wrote it, reads as its row.
-use Rattle.crx_compact.proofs.Words.{◌≡◌, refl, ℕ, ℤ, zero, suc, List, [], ◌∷◌, Bool, true, false, Option, Some, None, Result, Ok, map, length, arith, ap, sym, ◌∙◌, ◌*◌, ◌+◌, ◌<◌, drop, take}
-use Rattle.crx_compact.proofs.Words.{list_all, All, All-head, All-tail, length-map, slice_index_or, option_map, rules, common_steps, take_all, and_parts, and_from}
-use Rattle.crx_compact.proofs.Words.{Code, Missing, Fault, code_of, cells_of, after_cells, cells_read, ReadCell, code_in, IsValue, OBSERVATION_WIDTH}
-use Rattle.crx_compact.proofs.Words.{without_end_blanks, patched, character_of, by_position, at, at-without_end_blanks, at-drop, list_all-from_at, is_blank, is_kept, is_printable, are_marks}
+use Rattle.crx_compact.proofs.Words.{◌≡◌, refl, ℕ, ℤ, zero, suc, List, [], ◌∷◌, true, false, Option, Some, None, Result, Ok, map, length, arith, ap, sym, ◌∙◌, ◌*◌, ◌+◌, drop}
+use Rattle.crx_compact.proofs.Words.{list_all, All, All-head, All-tail, length-map, slice_index_or, option_map, take_all}
+use Rattle.crx_compact.proofs.Words.{Code, Missing, Fault, code_of, cells_of, after_cells, cells_read, ReadCell, IsValue, OBSERVATION_WIDTH}
+use Rattle.crx_compact.proofs.Words.{without_end_blanks, patched, character_of, by_position, at, at-without_end_blanks, at-drop, list_all-from_at, is_blank, is_kept, is_printable}
 use Rattle.crx_compact.proofs.Words.{IsSoundRow, satellite_line_read, row_of_cells, past_of_tail, raw_row_tail_after, tail_named, cell_of_tail, flags_of_tail, flags_held}
 use Rattle.crx_compact.proofs.Words.{value_of_code, arc_of_code, ArcTail, RowTail, named, each_place, begins_epoch, columns, ReadRow}
 use Rattle.crx_compact.proofs.Characters.{same_characters, at-by_position, list_all-at}
 use Rattle.crx_compact.proofs.SoundTexts.{patched-trimmed, first-columns, same-cut}
 use Rattle.crx_compact.proofs.wayback.Runs.{named-made}
-use Rattle.crx_compact.specs.meaning.AnyWriter.{Arc, WrittenRow, WrittenEpoch, code_now, row_now, arc_in, flags_in, IsRowLine, MayFollow}
-use Rattle.crx_compact.specs.AnyWriter.{value_now, arc_left, row_left, epoch_left, RowReads, ReadsAnyRow}
+use Rattle.crx_compact.specs.meaning.AnyWriter.{Arc, WrittenRow, WrittenEpoch, code_now, row_now, arc_in, flags_in, IsRowLine}
+use Rattle.crx_compact.specs.AnyWriter.{value_now, arc_left, row_left, epoch_left, ReadsAnyRow}
 use Rattle.crx_compact.proofs.anywriter.Arcs.{Goes, goes}
 use Rattle.crx_compact.proofs.anywriter.Texts.{AreTexts, spelled-characters, cells-again, marks-again, line-other}
 

@@ -1,24 +1,24 @@
 -- Compact text of a file's units, whoever wrote it, expands to their RINEX text.
 use Rattle.crx_filter.proofs
-use proofs.Words.{common_steps, ℕ, suc, ◌≡◌, ◌+◌, ◌*◌, ◌<◌, Bool, true, false, cond, List, [], ◌∷◌, ◌++◌, map, length, Option, Some, None, Ok}
+use proofs.Words.{common_steps, ℕ, suc, ◌≡◌, ◌+◌, Bool, true, false, cond, List, [], ◌∷◌, ◌++◌, map, length, Option, Some, None, Ok}
 use proofs.Words.{refl, ap, sym, ◌∙◌, subst, arith, length-append, map-append, length-map, append-nil, is_some, lines_of, as_read, ReadLine, Content, Epoch, Place, Done}
 use proofs.Words.{FileUnit, HeaderLine, EventLine, EventRecord, Observation, types_of, Item, Accepted, Warned, Count, RawEpoch, ReadEpoch}
 use proofs.Words.{is_at_start, header_has_ended, records_left, records_count_types, declaring_lines, types_in_force, types_fault, header_line_fault}
-use proofs.Words.{Reading, AtLines, reading_from, ended_reading, fault_at_end, compact_place, compact_epoch_place, event_line, is_event_line, records_in, raws_kept, whole_compact, first_lines}
-use proofs.Words.{printed_unit, IsWholeEpoch, expanded_unit, expanded, printed_items, written_lines, warnings_in, written_well, lines_text, Choices, IsReadForward, unit_place}
+use proofs.Words.{Reading, AtLines, reading_from, ended_reading, compact_place, compact_epoch_place, event_line, is_event_line, records_in, raws_kept, whole_compact, first_lines}
+use proofs.Words.{IsWholeEpoch, expanded_unit, expanded, printed_items, written_lines, warnings_in, lines_text}
 use Rattle.crx_filter.proofs.{Words.{IsInPlace, AreInPlace}, following.Following.body-place}
 use Rattle.crx_filter.proofs.reading.{ForwardCompact.compact-forward, Resuming.resumed, Ending.closes-well}
 use Rattle.crx_filter.proofs.wayback.{Carried.{header-here, record-here, one-unit, at-line}, WayBack.result-well}
 use Rattle.crx_filter.specs.meaning.{Expanded.{rinex_unit, crinex_version, crinex_program, empties_state}, WrittenStandard.rinex_items}
-use Rattle.crx_filter.specs.meaning.UnitsAndText.{as_items, rinex_text}
+use Rattle.crx_filter.specs.meaning.UnitsAndText.{as_items}
 use Rattle.crx_compact.proofs.Words.{epoch_at, epoch_text, at, patched, character_of, by_position, without_end_blanks, at-without_end_blanks, begins_epoch, tail_left, option_map, if◌then◌else◌}
-use Rattle.crx_compact.proofs.Words.{epoch_count, nat_eq, and_parts, Tail, is_observation_flag, is_event_flag, character_at, same_Some}
+use Rattle.crx_compact.proofs.Words.{and_parts, is_observation_flag, is_event_flag, character_at, same_Some}
 use Rattle.crx_compact.proofs.Characters.{at-by_position, if_some}
 use Rattle.crx_compact.proofs.wayback.Facts.{text-head, head-counted}
 use Rattle.crx_compact.specs.meaning.AnyWriter.{WrittenRow, WrittenEpoch, epoch_now, goes_on_from, nothing_written, AreRowLines, AreLinesAfter, AreEpochLines}
-use Rattle.crx_compact.specs.AnyWriter.{epoch_left, EpochReads}
+use Rattle.crx_compact.specs.AnyWriter.{epoch_left}
 use Rattle.crx_filter.specs.meaning.CompactText.{AreLinesOfUnit, AreLinesOf, IsCompactTextOf, AreUnitsInPlace, AreWholeFile}
-use Rattle.crx_filter.specs.CompactText.{ExpandsAnyText, IsOfOneFile, BeginsWithUnits, WritesFirstUnits}
+use Rattle.crx_filter.specs.CompactText.{ExpandsAnyText, IsOfOneFile, WritesFirstUnits}
 use Rattle.crx_filter.proofs.reading.Prefixes.{AreMore, text-more, whole-items}
 use Rattle.crx_filter.proofs.Words.{Begins, FilterResult, whole_reading}
 use Rattle.crx_filter.proofs.wayback.ExpandedStandard.{header-read, start-read, left-read, count-read, declares-read, printed-read}

@@ -1,29 +1,17 @@
 -- A reading of compact text that gave no fault and no warning: its lines are those of the units that it shows.
 use Rattle.crx_filter.proofs
-use proofs.Words.{common_steps, ℕ, zero, suc, ◌≡◌, ◌+◌, ◌-◌, Bool, true, false, cond, not, List, [], ◌∷◌, ◌++◌, map, length, drop, take, max, reverse, Option, Some, None, Result, Ok, Err, refl, ap, sym, ◌∙◌, subst, arith, append_assoc, append-nil, map-append, nat_lt, if◌then◌else◌, ◌&&◌}
-use proofs.Words.{lines_of, as_read, ReadLine, Content, Overlong, At, Fault, BadEpoch, Epoch, Place, Done, FileUnit, HeaderLine, EventLine, EventRecord, Observation, Item, Accepted, Warned, Count, RawEpoch, ReadEpoch, types_of}
-use proofs.Words.{is_at_start, header_has_ended, records_left, records_count_types, declaring_lines, types_in_force, types_fault, header_line_fault, is_event_line, records_in, raws_kept, warnings_in}
-use proofs.Words.{WholeReading, Reading, Stop, Looking, reading_within, ended_reading, ended_with, fault_at_end, after_fault, looked_for, AtLines, AtFault, compact_place, compact_epoch_place, event_line, whole_compact, expanded, Choices, IsWholeEpoch, is_skipped, FilterResult, AreInPlace}
-use Rattle.crx_filter.proofs.wayback.{ExpandedStandard.{read-settled, count-read}, ExpandedWhole.{AreGoodEpochs, marks-printable}, Cut.input-stands}
-use Rattle.crx_filter.proofs.reading.{Types.counts-in_force, KeptThroughout.{IsKept, looked-kept, within-kept}, Resuming.{by_place, within-here, within-wrong, within-wanted}}
-use Rattle.crx_filter.specs.meaning.{Expanded.{rinex_unit, crinex_version, crinex_program, empties_state, as_observation}, WrittenStandard.rinex_items, UnitPlaces.{header_line, event_record, unless_wrong}}
+use proofs.Words.{ℕ, zero, suc, ◌≡◌, ◌+◌, Bool, true, false, List, [], ◌∷◌, ◌++◌, map, length, drop, max, Option, Some, None, refl, ap, sym, ◌∙◌, subst, append_assoc, append-nil, map-append, if◌then◌else◌}
+use proofs.Words.{ReadLine, Content, At, Fault, Epoch, FileUnit, Item, Accepted, Warned, ReadEpoch}
+use proofs.Words.{warnings_in}
+use proofs.Words.{WholeReading, Reading, Stop, Looking, reading_within, ended_reading, ended_with, fault_at_end, after_fault, looked_for, AtLines, AtFault, compact_place, is_skipped}
+use Rattle.crx_filter.proofs.reading.{KeptThroughout.{IsKept, looked-kept, within-kept}, Resuming.{by_place, within-here, within-wrong, within-wanted}}
+use Rattle.crx_filter.specs.meaning.{Expanded.{rinex_unit}, WrittenStandard.rinex_items}
 use Rattle.crx_filter.specs.meaning.UnitsAndText.{as_items}
-use Rattle.crx_filter.specs.{meaning.CompactText.{AreLinesOfUnit, AreLinesOf, IsCompactText, AreUnitsInPlace, AreWholeFile}, CompactText.AcceptsExactly}
-use Rattle.crx_runs.specs.meaning.Results.{are_some, status_after}
-use Rattle.crx_rinex.specs.meaning.Places.{first_line, one_line, Fails, NeedsMore}
-use Rattle.crx_header.proofs.Counts.{types_of-push}
-use Rattle.std.specs.{Str.bytes_eq}
-use Rattle.crx_text.specs.meaning.Columns.{columns, without_blanks}
-use Rattle.crx_header.specs.meaning.Label.{has_label}
-use Rattle.crx_header.specs.declared.crinex.TheConstants.{CRINEX_VERSION, CRINEX_VERSION_LABEL, CRINEX_PROGRAM_LABEL}
-use Rattle.crx_base.specs.declared.fault.Fault.TheVariants.{NotCompact, BadProgLine}
-use Rattle.crx_compact.proofs.soundness.Goodness.{reads-whole}
-use Rattle.crx_compact.proofs.Words.{epoch_at, tail_left, option_map, same_Some}
-use Rattle.std.proofs.{Common.{take-append-drop}, lemmas.List.{reverse-reverse}}
-use Rattle.crx_compact.specs.meaning.AnyWriter.{WrittenEpoch, epoch_now, AreEpochLines}
-use Rattle.crx_compact.specs.AnyWriter.{epoch_left}
-use Rattle.crx_compact.proofs.anywriter.{Epochs.any-epoch, OnlyEpochs.{LineBack, first-back, only-epoch, done-things}}
-use Rattle.crx_filter.proofs.anywriter.OnlyUnits.{Standing, UnitBack, unit-back}
+use Rattle.crx_filter.specs.{meaning.CompactText.{AreLinesOf}}
+use Rattle.crx_runs.specs.meaning.Results.{are_some}
+use Rattle.std.proofs.{Common.{take-append-drop}}
+use Rattle.crx_compact.specs.meaning.AnyWriter.{WrittenEpoch}
+use Rattle.crx_filter.proofs.anywriter.OnlyUnits.{Standing, unit-back}
 
 -- ---- all units
 

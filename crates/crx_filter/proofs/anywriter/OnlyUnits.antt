@@ -1,29 +1,22 @@
 -- A unit that is read at some lines of compact text is one whose lines these are, whoever wrote them.
 use Rattle.crx_filter.proofs
-use proofs.Words.{common_steps, ℕ, zero, suc, ◌≡◌, ◌+◌, ◌-◌, Bool, true, false, cond, not, List, [], ◌∷◌, ◌++◌, map, length, drop, take, max, reverse, Option, Some, None, Result, Ok, Err, refl, ap, sym, ◌∙◌, subst, arith, append_assoc, append-nil, map-append, nat_lt, if◌then◌else◌, ◌&&◌}
-use proofs.Words.{lines_of, as_read, ReadLine, Content, Overlong, At, Fault, BadEpoch, Epoch, Place, Done, FileUnit, HeaderLine, EventLine, EventRecord, Observation, Item, Accepted, Warned, Count, RawEpoch, ReadEpoch, types_of}
-use proofs.Words.{is_at_start, header_has_ended, records_left, records_count_types, declaring_lines, types_in_force, types_fault, header_line_fault, is_event_line, records_in, raws_kept, warnings_in}
-use proofs.Words.{WholeReading, Reading, Stop, Looking, reading_within, ended_reading, ended_with, fault_at_end, after_fault, looked_for, AtLines, AtFault, compact_place, compact_epoch_place, event_line, whole_compact, expanded, Choices, IsWholeEpoch, is_skipped, FilterResult, AreInPlace}
-use Rattle.crx_filter.proofs.wayback.{ExpandedStandard.{read-settled, count-read}, ExpandedWhole.{AreGoodEpochs, marks-printable}, Cut.input-stands}
-use Rattle.crx_filter.proofs.reading.{Types.counts-in_force, KeptThroughout.{IsKept, looked-kept, within-kept}, Resuming.{by_place, within-here, within-wrong, within-wanted}}
-use Rattle.crx_filter.specs.meaning.{Expanded.{rinex_unit, crinex_version, crinex_program, empties_state, as_observation}, WrittenStandard.rinex_items, UnitPlaces.{header_line, event_record, unless_wrong}}
+use proofs.Words.{ℕ, ◌≡◌, ◌+◌, Bool, true, false, not, List, [], ◌∷◌, ◌++◌, map, length, drop, take, Option, Some, None, Ok, Err, refl, ap, sym, ◌∙◌, subst, arith, nat_lt, if◌then◌else◌}
+use proofs.Words.{ReadLine, Content, Overlong, Fault, BadEpoch, Epoch, Place, Done, FileUnit, HeaderLine, EventLine, EventRecord, Observation, Item, Accepted, ReadEpoch, types_of}
+use proofs.Words.{is_at_start, header_has_ended, records_left, records_count_types, declaring_lines, types_in_force, types_fault, header_line_fault, is_event_line, records_in, raws_kept}
+use proofs.Words.{compact_place, compact_epoch_place, event_line, IsWholeEpoch}
+use Rattle.crx_filter.proofs.wayback.{ExpandedStandard.{count-read}, ExpandedWhole.{AreGoodEpochs, marks-printable}}
+use Rattle.crx_filter.proofs.reading.{Types.counts-in_force}
+use Rattle.crx_filter.specs.meaning.{Expanded.{rinex_unit, empties_state, as_observation}, WrittenStandard.rinex_items, UnitPlaces.{header_line, event_record, unless_wrong}}
 use Rattle.crx_filter.specs.meaning.UnitsAndText.{as_items}
-use Rattle.crx_filter.specs.{meaning.CompactText.{AreLinesOfUnit, AreLinesOf, IsCompactText, AreUnitsInPlace, AreWholeFile}, CompactText.AcceptsExactly}
-use Rattle.crx_runs.specs.meaning.Results.{are_some, status_after}
+use Rattle.crx_filter.specs.{meaning.CompactText.{AreLinesOfUnit}}
 use Rattle.crx_rinex.specs.meaning.Places.{first_line, one_line, Fails, NeedsMore}
 use Rattle.crx_header.proofs.Counts.{types_of-push}
-use Rattle.std.specs.{Str.bytes_eq}
-use Rattle.crx_text.specs.meaning.Columns.{columns, without_blanks}
-use Rattle.crx_header.specs.meaning.Label.{has_label}
-use Rattle.crx_header.specs.declared.crinex.TheConstants.{CRINEX_VERSION, CRINEX_VERSION_LABEL, CRINEX_PROGRAM_LABEL}
-use Rattle.crx_base.specs.declared.fault.Fault.TheVariants.{NotCompact, BadProgLine}
 use Rattle.crx_compact.proofs.soundness.Goodness.{reads-whole}
 use Rattle.crx_compact.proofs.Words.{epoch_at, tail_left, option_map, same_Some}
-use Rattle.std.proofs.{Common.{take-append-drop}, lemmas.List.{reverse-reverse}}
-use Rattle.crx_compact.specs.meaning.AnyWriter.{WrittenEpoch, epoch_now, AreEpochLines}
+use Rattle.std.proofs.{Common.{take-append-drop}}
+use Rattle.crx_compact.specs.meaning.AnyWriter.{WrittenEpoch, epoch_now}
 use Rattle.crx_compact.specs.AnyWriter.{epoch_left}
-use Rattle.crx_compact.proofs.anywriter.{Epochs.any-epoch, OnlyEpochs.{LineBack, first-back, only-epoch, done-things}}
-use Rattle.crx_filter.proofs.anywriter.AnyText.{any-text, whole-read}
+use Rattle.crx_compact.proofs.anywriter.{Epochs.any-epoch, OnlyEpochs.{first-back, only-epoch, done-things}}
 
 -- ---- what is known of some items, the units that they show, and the epoch that later lines may go on from
 

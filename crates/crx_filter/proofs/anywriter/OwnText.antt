@@ -1,13 +1,13 @@
 -- Our own compact text is one that any writer may write.
 use Rattle.crx_filter.proofs
-use proofs.Words.{ℕ, ◌≡◌, true, false, Bool, List, [], ◌∷◌, map, Option, Some, None, refl, ap, sym, ◌∙◌, AllByRecursion, if◌then◌else◌}
-use proofs.Words.{lines_of, lines_text, as_read, Content, Epoch, FileUnit, HeaderLine, EventLine, EventRecord, Observation, Choices}
+use proofs.Words.{ℕ, ◌≡◌, true, false, Bool, List, [], ◌∷◌, map, Option, Some, None, refl, ap, ◌∙◌, AllByRecursion, if◌then◌else◌}
+use proofs.Words.{lines_of, lines_text, as_read, Epoch, FileUnit, HeaderLine, EventLine, EventRecord, Observation}
 use proofs.Words.{AreInPlace, records_count_types, types_in_force, is_interrupted, is_in_full, marked_epochs, compact_epoch}
-use proofs.Words.{version_line, program_line, compact_lines, Count}
+use proofs.Words.{version_line, program_line, Count}
 use proofs.wayback.{Carried.started, Cut.{IsClean, lines-cut}, First.{program-clean, program-read, version-clean}}
 use proofs.wayback.{Items.{marked_now, body_unit, not-interrupted, whole-next}, Reading.lines_back, Units.{settled, no-returns}}
 use proofs.wayback.WayBack.{lines-same, lines-clean}
-use Rattle.crx_filter.specs.meaning.{Expanded.empties_state, UnitsAndText.{AreInOrder, MakeAFile, as_items, compact_text}}
+use Rattle.crx_filter.specs.meaning.{Expanded.empties_state, UnitsAndText.{AreInOrder, MakeAFile, as_items}}
 use Rattle.crx_filter.specs.{meaning.CompactText.{AreLinesOfUnit, AreLinesOf, AreUnitsInPlace, AreWholeFile}, CompactText.OwnTextIsOne}
 use Rattle.crx_compact.specs.{Laws.AreWhole, meaning.Compaction.since_full, meaning.AnyWriter.{WrittenEpoch, AreEpochLines}}
 use Rattle.crx_compact.proofs.{wayback.Runs.marked, anywriter.Own.{epoch_written, epoch-same, full-lines, later-lines}}

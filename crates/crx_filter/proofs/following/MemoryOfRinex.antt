@@ -1,7 +1,7 @@
 -- The memory that a compaction and a check take, by what is at their lines.
 use Rattle.crx_filter.proofs
 use proofs.Words.{common_steps, ℕ, suc, ◌≡◌, Bool, true, false, List, [], ◌∷◌, ◌++◌, length, Some, Result}
-use proofs.Words.{refl, ◌+◌, arith, At, none-some, ReadLine, Content, Fault, OpenEpoch, next_row, Epoch, Row}
+use proofs.Words.{refl, arith, At, none-some, ReadLine, Content, Fault, OpenEpoch, next_row, Epoch, Row}
 use proofs.Words.{FileUnit, EpochStep, Faulty, after_row, epoch_step, Choices, Item, compaction_takes}
 use proofs.Words.{memory_allowed, place_takes, rinex_reading, takes_memory, checking, no_choices, totals_of}
 use proofs.Words.{compaction, made_of_epoch_step, Written, compaction_state, rinex_open, written_of}

@@ -1,6 +1,6 @@
 -- What a compaction knows of the lines that it has taken: there is room for each epoch that was accepted.
 use Rattle.crx_filter.proofs
-use proofs.Words.{common_steps, arith, ℕ, ◌≡◌, true, false, List, [], ◌∷◌, map}
+use proofs.Words.{ℕ, ◌≡◌, true, false, List, [], ◌∷◌, map}
 use proofs.Words.{length, Result, Ok, Err, refl, ap, sym, subst, ◌∙◌}
 use proofs.Words.{◌+◌, true≢false, InputLine, Content, as_read, Count, Epoch, Row}
 use proofs.Words.{Observation, Satellite, All-head}

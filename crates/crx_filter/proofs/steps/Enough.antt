@@ -1,16 +1,16 @@
 -- Where each satellite that a line brings was in an epoch before, with as many types, there is room for it.
-use Rattle.crx_filter.proofs.Words.{common_steps, arith, ℕ, ◌≡◌, Bool, true, List, [], ◌∷◌, ◌&&◌, length}
-use Rattle.crx_filter.proofs.Words.{All, All-nil, All-cons, All-head, All-tail, and_parts, by_bool}
-use Rattle.crx_filter.proofs.Words.{false-true, bytes_eq, list_all, Epoch, Satellite, ◌⊎◌}
+use Rattle.crx_filter.proofs.Words.{common_steps, arith, ℕ, ◌≡◌, Bool, true, List, [], ◌∷◌, ◌&&◌}
+use Rattle.crx_filter.proofs.Words.{All, All-head, All-tail, and_parts, by_bool}
+use Rattle.crx_filter.proofs.Words.{false-true, bytes_eq, Epoch, Satellite, ◌⊎◌}
 use Rattle.crx_filter.proofs.Words.{not, Option, ReadLine, At, Item, Reading}
 use Rattle.crx_filter.proofs.Words.{Phase, InHeader, Ended, LookingOn}
 use Rattle.crx_filter.proofs.Words.{phase_in_body, types_in_force}
-use Rattle.crx_filter.proofs.Words.{phase_of, map}
+use Rattle.crx_filter.proofs.Words.{phase_of}
 use Rattle.crx_compact.specs.Placing.{HasRoom, HaveTypesRoom, KeepsRooms}
 use Rattle.crx_filter.specs.{EpochRooms.HaveEpochsRoom, Rooms.do_types_count, Stages.phase_of_stage}
 use Rattle.crx_filter.specs.{declared.stage.Stage.Stage, meaning.Memory.{are_known, are_types_awaited}}
 use Rattle.crx_filter.specs.meaning.Memory.{has_satellite_for, satellites_had}
-use Rattle.std.proofs.lemmas.{Bool.leb-true, List.{Elements.{All-map, All-weaker}}}
+use Rattle.std.proofs.lemmas.{Bool.leb-true, List.{Elements.{All-weaker}}}
 use Rattle.std.proofs.lemmas.List.Sums.{AllPass-from_list_all}
 use Rattle.std.proofs.Common.{get_or}
 use Rattle.std.{proofs.lemmas.Slice.Eq.bytes_eq-Decides, specs.{List.list_any, Prelude.{nat_le, nat_lt}}}

@@ -24,8 +24,7 @@ use Rattle.crx_filter.specs.Rooms.{HasRoomToBegin, may_begin, do_types_count}
 use Rattle.crx_filter.specs.{ExpansionParts.ExpansionState as Expansion}
 use Rattle.crx_filter.specs.declared.compact_reader.CompactReader.{CompactReader}
 use Rattle.crx_compact.specs.Blocks.{PendingLines}
-use Rattle.crx_filter.specs.declared.{stage.Stage.{Stage, TheVariants.Between}}
-use Rattle.crx_filter.specs.{declared.stage.Stage.TheVariants.{Looking}}
+use Rattle.crx_filter.specs.declared.{stage.Stage.{Stage}}
 use Rattle.crx_filter.specs.meaning.Memory.{are_known, are_types_awaited, brought, expansion_outgrows}
 use Rattle.crx_filter.specs.meaning.Memory.{accepted_epochs, satellites_had}
 use Rattle.crx_compact.specs.meaning.CompactPlaces.{BegunEpoch}

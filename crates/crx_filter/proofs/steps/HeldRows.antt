@@ -1,5 +1,5 @@
 -- The rows of the epoch whose compact lines come have room, line by line.
-use Rattle.crx_filter.proofs.Words.{common_steps, arith, ◌≡◌, true, false, Bool, refl, sym, ap, ◌∙◌}
+use Rattle.crx_filter.proofs.Words.{common_steps, arith, ◌≡◌, Bool, refl, sym, ap, ◌∙◌}
 use Rattle.crx_filter.proofs.Words.{subst, ℕ, List, [], ◌∷◌, length, map, Option, Some, None, Result, Ok, Err}
 use Rattle.crx_filter.proofs.Words.{length-map, Fault, Content, Satellite, Tail, All, All-nil, All-cons}
 use Rattle.crx_filter.proofs.Words.{All-head, All-tail, OpenRawEpoch, next_step, RawStep, satellite_line_read}

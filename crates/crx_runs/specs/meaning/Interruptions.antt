@@ -29,6 +29,13 @@ abbrev pub AreTaken : Input → List ℕ → List InputLine → Type 0
 AreTaken input given lines = ((more : List InputLine) × (complete_lines given ≡ lines ++ more))
     ⊎ AreAll input given lines
 
+-- these were read and no line is missing: all whose LF was given, where no read failed and none reported the end; or all of
+-- an input whose end was reported
+abbrev pub AreAllSoFar : Input → List ℕ → List InputLine → Type 0
+AreAllSoFar input given lines =
+    ((complete_lines given ≡ lines) × ((length given ≤ INPUT_LIMIT) × (input.counted ≡ input.start)))
+    ⊎ AreAll input given lines
+
 -- the last thing that was taken was a line: the output before it, the output with it, and its number
 pub record ByLine (filter : Filter) (input : Input) (given : List ℕ) (before after : Course) (last : ℕ) : Type 0 where
   pub lines : List InputLine
@@ -138,6 +145,18 @@ pub record FlushFailedAlone (filter : Filter)
   pub counted : writer.after ≡ with_failed_flush writer.before
   pub reported : AreReported messages (filter.whole (lines_of given)).warnings at
 
+-- the output of all lines that were given was written whole, and couldn't be handed on before more was to be read, which
+-- counts as a flush that failed
+pub record HandingOnFailed (filter : Filter)
+    (input : Input) (given : List ℕ) (writer messages : Device) (at : At) : Type 0 where
+  pub lines : List InputLine
+  pub taken : AreAllSoFar input given lines
+  pub line : at.line ≡ length lines
+  pub good : (filter.so_far lines).fault ≡ None
+  pub wrote : writer.took (filter.so_far lines).output
+  pub counted : writer.after ≡ with_failed_flush writer.before
+  pub reported : AreReported messages (filter.so_far lines).warnings at
+
 -- the filter found a fault in a line, or at the end: the whole output before it was written and reported
 pub record FaultFound (filter : Filter)
     (input : Input) (given : List ℕ) (writer messages : Device) (at : At) : Type 0 where
@@ -156,8 +175,9 @@ Stands filter input given writer messages at InputTooLong = LimitPassed filter i
 Stands filter input given writer messages at OutOfMemory =
     NoMemoryAtStart given writer messages at ⊎ NoMemoryAtLine filter input given writer messages at
 Stands filter input given writer messages at WriteFailed =
-    OutputCut filter input given writer messages at ⊎ (WarningCut
-    filter input given writer messages at ⊎ FlushFailedAlone filter input given writer messages at)
+    OutputCut filter input given writer messages at ⊎ (WarningCut filter input given writer messages at
+    ⊎ (FlushFailedAlone filter input given writer messages at
+    ⊎ HandingOnFailed filter input given writer messages at))
 Stands filter input given writer messages at _ = FaultFound filter input given writer messages at
 
 -- ---- whatever ended the run

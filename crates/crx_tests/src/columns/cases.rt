@@ -8,7 +8,8 @@ pub struct Table {
     pub shows: &'static str,
     /// 0: none of them is asked to be in full; 1: each one is; 2: every second one is, from the first one on.
     pub full: usize,
-    /// Of each epoch the RINEX lines, `=`, and the compact lines that stand for them, or the names of such lines, with `|` between lines.
+    /// Of each epoch the RINEX lines, `=`, and the compact lines that stand for them, or the names of such
+    /// lines, with `|` between lines.
     pub epochs: &'static [&'static str],
 }
 
@@ -181,7 +182,8 @@ pub fn both_forms<'a>(epoch: &'a str) -> (&'a str, &'a str) {
     }
 }
 
-/// Epochs that are written as they are read. One function names the table: the prover goes through it wherever it is named.
+/// Epochs that are written as they are read. One function names the table: the prover goes through it
+/// wherever it is named.
 pub fn both_ways() -> &'static [Table] {
     BOTH_WAYS
 }

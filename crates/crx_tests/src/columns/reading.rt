@@ -37,7 +37,8 @@ fn take(columns: &mut Columns, types: &Types, line: &[u8]) -> Result<Option<Owne
     }
 }
 
-/// Takes lines one after another: the epoch that the last one completes. An epoch before the last line is a fault.
+/// Takes lines one after another: the epoch that the last one completes. An epoch before the last line is a
+/// fault.
 fn take_all(
     columns: &mut Columns,
     types: &Types,
@@ -97,8 +98,9 @@ fn epochs_read(rt: HostRuntime) -> Result<(), Fail> {
     Ok(())
 }
 
-/// Two types with indicators, then one of them, and then both again: the line that declares the types, the compact lines of an epoch, and
-/// its RINEX lines. Past the count of a line, what was kept of cells and indicators is dropped.
+/// Two types with indicators, then one of them, and then both again: the line that declares the types, the
+/// compact lines of an epoch, and its RINEX lines. Past the count of a line, what was kept of cells and
+/// indicators is dropped.
 const OTHER_COUNTS: &[(&[u8], &str, &str)] = &[
     (
         TWO_TYPES,

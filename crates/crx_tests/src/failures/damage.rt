@@ -11,7 +11,8 @@ fn has_written(left: &Left, whole: &[u8], lines: usize) -> bool {
     }
 }
 
-/// Whether a run with ample memory and room ended as runs do: without a message, or with one and another status.
+/// Whether a run with ample memory and room ended as runs do: without a message, or with one and another
+/// status.
 fn has_ended(left: &Left) -> bool {
     if let Some(at) = left.outcome.fault {
         if at.fault == Fault::OutOfMemory || at.fault == Fault::WriteFailed {

@@ -3,8 +3,8 @@
 use super::cases::cases;
 use super::*;
 
-/// Whether a run whose messages failed after so many bytes reported just these, kept the fault of an error, and ended at a warning's line
-/// with a failed write.
+/// Whether a run whose messages failed after so many bytes reported just these, kept the fault of an error,
+/// and ended at a warning's line with a failed write.
 fn is_so(case: &Case, texts: &Texts, left: &Left, taken: usize) -> bool {
     let reported = left.messages.contents();
     if reported.len() != taken || !texts.messages.as_slice().starts_with(reported) {

@@ -16,7 +16,8 @@ fn has_stopped(alloc: Global, case: &Case, left: &Left, lines: u64) -> Result<bo
     Ok(left.outcome == ended(at) && left.messages.contents() == wanted.as_slice())
 }
 
-/// A source that gives one byte a call, and fails after so many: the output is that of the lines whose LF was given.
+/// A source that gives one byte a call, and fails after so many: the output is that of the lines whose LF was
+/// given.
 fn fails_after(alloc: Global, case: &Case, texts: &Texts, given: usize) -> Result<bool, Fail> {
     let devices = Devices {
         reads: Plan::from_then_on(When::AfterBytes(given)),

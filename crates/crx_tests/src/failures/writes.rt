@@ -84,7 +84,8 @@ fn a_few_bytes_a_call(rt: HostRuntime) -> Result<(), Fail> {
     Ok(())
 }
 
-/// A writer that takes no byte, though none of its calls is made to fail: the first write ends the run, and none is tried after it.
+/// A writer that takes no byte, though none of its calls is made to fail: the first write ends the run, and
+/// none is tried after it.
 fn takes_none(alloc: Global, case: &Case, texts: &Texts) -> Result<bool, Fail> {
     let devices = Devices {
         written_at_most: 0,
@@ -111,7 +112,8 @@ fn no_byte_is_taken(rt: HostRuntime) -> Result<(), Fail> {
     Ok(())
 }
 
-/// A flush that fails: all is written, and the failure is reported at the last line, where there is no fault before.
+/// A flush that fails: all is written, and the failure is reported at the last line, where there is no fault
+/// before.
 fn flush_fails(alloc: Global, case: &Case) -> Result<bool, Fail> {
     let texts = Texts::of(alloc, case)?;
     let devices = Devices {

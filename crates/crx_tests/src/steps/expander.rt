@@ -26,8 +26,8 @@ fn take_ready(engine: &mut Expander) -> usize
     4
 }
 
-/// Feeds a line, which has the number after the last one that counts, and takes the lines that are ready: the number of the last line
-/// that counts then.
+/// Feeds a line, which has the number after the last one that counts, and takes the lines that are ready: the
+/// number of the last line that counts then.
 fn feed_one(
     rt: &impl Abort,
     engine: &mut Expander,
@@ -76,8 +76,8 @@ fn feed_last(rt: &impl Abort, engine: &mut Expander, line: Line<'_>, taken: u64,
     expect_at(rt, is_none && is_first && is_second, name, place);
 }
 
-/// Feeds the lines of an input, to an engine that has taken none; where a fault is given, the line after those with answers ends the run
-/// with it.
+/// Feeds the lines of an input, to an engine that has taken none; where a fault is given, the line after
+/// those with answers ends the run with it.
 fn feed_all(
     rt: &impl Abort,
     engine: &mut Expander,

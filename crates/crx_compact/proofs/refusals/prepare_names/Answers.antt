@@ -1,12 +1,19 @@
-use Rattle.crx_compact.proofs.Words.{rules, not, ℕ, List, ap, subst, ◌∙◌, false≢true, same_Some}
+use Rattle.crx_compact.proofs.Words.{rules, not, ℕ, List, ap, subst, ◌∙◌, false≢true, same_Some, inr, refl}
 use Rattle.crx_compact.proofs.refusals.prepare_names.Goals.{in-Some-types_of_satellite+else-is_err}
-use Rattle.crx_compact.proofs.{Words.{types_of_satellite, HasRoom}, Results.by_ok, Naming.names-room-more}
+use Rattle.crx_compact.proofs.{Words.{types_of_satellite, HasRoom}, Results.by_ok, Naming.{names-room, names-room-more}}
 use Rattle.crx_compact.proofs.refusals.prepare_names.Goals.{in_default-types_of_satellite}
 use Rattle.std.proofs.lemmas.Option.{none-some}
 use Rattle.crx_compact.proofs.refusals.prepare_names.Goals as goal
 
-pub returns-then-is_err-clause-known : goal.returns-then-is_err-clause-known
-returns-then-is_err-clause-known c named good has = search (rules, false≢true)
+pub returns-then-is_err-clause-err : goal.returns-then-is_err-clause-err
+returns-then-is_err-clause-err c = record {
+  answer = record { answered = inr refl; memory = λ out. search rules };
+  unasked = λ other name count has. absurd (other refl);
+  wanting = λ named is has.
+      let rooms = c.args.satellites.now.rooms in
+      let have = names-room c.args.types.now c.args.text.now c.args.count named rooms rooms is has (λ n k h. h) in
+      search (rules, false≢true, have);
+}
 
 pub loop-index-preserved : goal.loop-index-preserved
 loop-index-preserved c =

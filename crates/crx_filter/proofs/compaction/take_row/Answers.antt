@@ -25,7 +25,7 @@ pub returns-in-Err-clause-refused : goal.returns-in-Err-clause-refused
 returns-in-Err-clause-refused c =
     let read = c.in_ok-read_row.ensures in
     let encoded = c.in-Err.ensures in
-    row-lost _ _ _ _ _ c.requires.together read.same _ encoded.rooms encoded.forgotten refl refl
+    row-lost _ _ _ _ _ c.requires.together read.same _ encoded.known.rooms encoded.forgotten refl refl
     (λ kept. inr (
       refl,
       read.memory (rw (← rows-there _ _ c.requires.together c.requires.open) encoded.memory),
@@ -37,7 +37,7 @@ returns-in-Row-clause-written c =
     let encoded = c.in-Ok-true.ensures in
     let took = c.take_row.ensures in
     row-written _ _ _ _ _ c.requires.together read.same _ _ _ _ _
-    (encoded.room c.in-Ok-true.field-0-test) encoded.rooms c.requires.open read.ok read.row
+    (encoded.known.room c.in-Ok-true.field-0-test) encoded.known.rooms c.requires.open read.ok read.row
     refl encoded.answer c.in-Ok-true.field-0-test (encoded.written c.in-Ok-true.field-0-test)
     took.takes took.steps took.rows c.in-Row.is
 
@@ -48,7 +48,7 @@ returns c =
     let took = c.take_row.ensures in
     record {
       written = row-written _ _ _ _ _ c.requires.together read.same _ _ _ _ _
-          (encoded.room c.in-Ok-true.field-0-test) encoded.rooms c.requires.open read.ok read.row
+          (encoded.known.room c.in-Ok-true.field-0-test) encoded.known.rooms c.requires.open read.ok read.row
           refl encoded.answer c.in-Ok-true.field-0-test
           (encoded.written c.in-Ok-true.field-0-test) took.takes took.steps took.rows
           (row-or-epoch _ took.steps c.in_default.not-Row);

@@ -1,7 +1,8 @@
 use Rattle.std.specs.Io.Buffered.{writer_contents}
-use Rattle.std.proofs.Common.{◌≡◌, map, string_bytes}
+use Rattle.std.proofs.Common.{◌≡◌, ap, ◌∙◌, map, string_bytes}
 use Rattle.crx_command.specs.declared.job.Job.{Job}
 use Rattle.crx_command.specs.meaning.Planning.{Run, plan_of}
+use Rattle.crx_lines.specs.declared.device.Std.{Std}
 use Rattle.crx_lines.specs.declared.uninterrupted.Uninterrupted.{Uninterrupted}
 use Rattle.crx_runs.specs.declared.until_failure.UntilFailure.{UntilFailure}
 use Rattle.crx_program.proofs.{KeptLemmas.kept-of_exact, StreamLemmas.{fresh, run_over}}
@@ -10,7 +11,10 @@ use Rattle.crx_program.proofs.streams.run_over.Goals as goal
 pub returns : goal.returns
 returns g c =
     let input = fresh _ _ c.new-input.result c.new-input.ensures.inner c.new-input.ensures.log
-    c.new.ensures.inner c.new.ensures.failures c.new.ensures.ends c.new.ensures.flushes in
+    (ap (λ (d : Std (Uninterrupted g.row.I.Denot)). d.inner) c.waiting.ensures.whole ∙ c.new.ensures.inner)
+    (ap (λ (d : Std (Uninterrupted g.row.I.Denot)). d.failures) c.waiting.ensures.whole ∙ c.new.ensures.failures)
+    (ap (λ (d : Std (Uninterrupted g.row.I.Denot)). d.ends) c.waiting.ensures.whole ∙ c.new.ensures.ends)
+    (ap (λ (d : Std (Uninterrupted g.row.I.Denot)). d.flushes) c.waiting.ensures.whole ∙ c.new.ensures.flushes) in
     let output = fresh _ _ c.new-output.result c.new-output.ensures.inner c.new-output.ensures.log
     c.new-2.ensures.inner c.new-2.ensures.failures c.new-2.ensures.ends c.new-2.ensures.flushes in
     let messages = fresh _ _ c.new-messages.result c.new-messages.ensures.inner c.new-messages.ensures.log

@@ -1,7 +1,11 @@
 use Rattle.std.proofs.lemmas.Grind.{common_steps}
-use Rattle.rnxcmp_c.proofs.{RunLemmas.{answers-alone, answers-within}, Words.sym}
+use Rattle.rnxcmp_c.proofs.{RunLemmas.{answers-alone, answers-within, take-enough}, Words.{refl, sym}}
 use Rattle.rnxcmp_c.proofs.Words.{◌∙◌, arith, rooms, Check, what-passes}
 use Rattle.rnxcmp_c.proofs.exports.rnxcmp_c_check.Goals as goal
+
+pub answer_of-requires : goal.answer_of-requires
+answer_of-requires c = take-enough Check c.check-outcome.ensures.runs.2 c.new-written.ensures
+    c.new-reported.ensures refl refl
 
 pub returns-clause-memory : goal.returns-clause-memory
 returns-clause-memory c memory = answers-alone c.answer_of.ensures memory

@@ -1,8 +1,8 @@
 use Rattle.std.proofs.Common.{rules}
-use Rattle.rnxcmp_c.proofs.{EndedLemmas.{KeepsPromises, keeps-promises}, RunLemmas.answers-alone}
+use Rattle.rnxcmp_c.proofs.{EndedLemmas.{KeepsPromises, keeps-promises}, RunLemmas.{answers-alone, take-enough}}
 use Rattle.rnxcmp_c.proofs.Kept.{zero-answered}
 use Rattle.crx_filter.proofs.anywriter.{AnyRun.reads-any, OnlyTexts.only-text}
-use Rattle.rnxcmp_c.proofs.{RunLemmas.answers-within, Words.{◌≤◌, length, map, subst, sym, ◌∙◌}}
+use Rattle.rnxcmp_c.proofs.{RunLemmas.answers-within, Words.{◌≤◌, length, map, refl, subst, sym, ◌∙◌}}
 use Rattle.rnxcmp_c.proofs.Words.{INPUT_LIMIT, lines_of, as_read, whole_compact, FilterResult, AnswersWithin}
 use Rattle.rnxcmp_c.proofs.{Words.{HasNoMemory, rooms, Expand}, exports.rnxcmp_c_expand.Goals.After-answer_of}
 use Rattle.crx_filter.specs.meaning.{ByResults.ExpansionKeeps, Expanded.expanded_unit, Written.result_of}
@@ -21,6 +21,10 @@ promised c within memory =
     keeps-promises (λ (whole : FilterResult). AnswersWithin c.args.max_output whole c.answer_of.result before
     after) _ _ (answers-within (Expand c.expansion_options.result 0) run.2 (sym c.new-reader.ensures ∙ run.1)
     within before after c.new-written.ensures c.new-reported.ensures c.answer_of.ensures memory)
+
+pub answer_of-requires : goal.answer_of-requires
+answer_of-requires c = take-enough (Expand c.expansion_options.result 0) c.expand-outcome.ensures.runs.2 c.new-written.ensures
+    c.new-reported.ensures c.taken_at_most.ensures refl
 
 -- of the choices alone whether faults are skipped counts
 pub returns : goal.returns

@@ -7,7 +7,7 @@ invariant_of-result c =
     let bytes = c.lengthen.ensures.counted in
     let lengths = c.lengthen-2.ensures.counted in
     let memory = c.lengthen.ensures.memory in (
-      none-cut c.lengthen-2.new.items.items c.lengthen.new.items.items 2 16386 (omega (arith, lengths)) (omega (arith, bytes)),
+      none-cut c.lengthen-2.new.items.items c.lengthen.new.items.items 2 6078 (omega (arith, lengths)) (omega (arith, bytes)),
       omega (arith, lengths),
       omega (arith, bytes),
       (omega arith, omega arith),

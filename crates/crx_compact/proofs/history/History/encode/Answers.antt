@@ -14,7 +14,7 @@ use Rattle.crx_compact.proofs.history.History.encode.Goals as goal
 pub loop-row-init : goal.loop-row-init
 loop-row-init c =
     let same : ◌≡◌ {A = Tail} (record {
-      text = c.self.inside.text;
+      text = take c.self.inside.length c.self.inside.text;
       clock = c.self.inside.clock;
       rows = c.prepare_rows.new.satellites.rows;
     }) (tail_of_history c.args.self.now) =
@@ -43,7 +43,7 @@ unwrap-requires c =
     let row : Row = c.in-Some.row.now in
     let rooms = c.loop-row.self.satellites.rooms in
     let here = sym c.in-Some.ensures.value in
-    c.write_row.ensures.known (subst (λ (name : List ℕ). HasRoom name (length c.values.result.now) rooms) (sym
+    c.write_row.ensures.prepared.known (subst (λ (name : List ℕ). HasRoom name (length c.values.result.now) rooms) (sym
     c.name.ensures.value) (subst (λ (values : List (Option ℤ)). HasRoom row.name (length values) rooms)
     (sym c.values.ensures.value) (all-at (λ (r : Row). HasRoom r.name (length r.values) rooms)
     c.args.epoch.now.rows c.loop-row.index row c.loop-row.invariant.room here)))
@@ -78,8 +78,8 @@ loop-row-preserved c =
       written = subst (λ (rs : List Row). AreRowsWritten after rs c.write_row.new.self
           c.write_row.new.lines.lines) ((λ j. so_far ++ parts j ∷ []) ∙ sym (taken_more rows index row here))
           (written.written is_new);
-      room = search (rules, known.room, c.write_row.ensures.rooms);
-      kept = λ name count has. c.write_row.ensures.rooms name count (known.kept name count has);
+      room = search (rules, known.room, c.write_row.ensures.prepared.rooms);
+      kept = λ name count has. c.write_row.ensures.prepared.rooms name count (known.kept name count has);
       left = omega (arith, taken.left, known.left);
       front = taken.front ∙ known.front;
     }

@@ -1,4 +1,4 @@
-use Rattle.crx_compact.proofs.Words.{rules, List, ap, sym, ◌∙◌, arith, slice_get, false≢true}
+use Rattle.crx_compact.proofs.Words.{rules, List, ap, sym, ◌∙◌, arith, slice_get}
 use Rattle.crx_compact.proofs.Words.{option_map, slice_get-map}
 use Rattle.crx_compact.proofs.Words.{IsAwaitedSatellite, OpenHistory, satellite_of, RowTail}
 use Rattle.crx_compact.proofs.{RowByRow.{IsThere, all-at, is-there}, ShownEpochs.row-shown}
@@ -10,16 +10,6 @@ row-requires-clause-sound c = λ old there.
     (satellite_of old) c.requires.announced.satellites
     (search (rules, slice_get-map, satellite_of, option_map, slice_get, c.self.view_is)) in
     (sound.named, sound.counted)
-
--- only memory can be wanted, since the epoch has no row of the satellite
-pub returns-in-Err-clause-err : goal.returns-in-Err-clause-err
-returns-in-Err-clause-err c =
-    let index = c.loop-index.index in
-    let rows : List RowTail = c.self.inside.satellites.rows in
-    let row : IsThere rows index = is-there rows index (omega arith) in
-    let at = row-shown c.args.self.now index row.item c.requires.announced
-    (ap (λ (h : OpenHistory). slice_get h.satellites.rows index) (sym c.self.view_is) ∙ row.there) in
-    search (rules, c.in-Err.ensures.refused, false≢true)
 
 pub loop-index-preserved : goal.loop-index-preserved
 loop-index-preserved c =

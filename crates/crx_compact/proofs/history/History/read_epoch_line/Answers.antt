@@ -1,11 +1,11 @@
 use Rattle.crx_compact.proofs.Words.{◌≡◌, ◌++◌, List, ℕ, Result}
-use Rattle.crx_compact.proofs.Words.{map, ap, refl, subst, sym}
+use Rattle.crx_compact.proofs.Words.{map, ap, refl, subst, sym, arith, length, ◌≤◌}
 use Rattle.crx_compact.proofs.Words.{◌∙◌, rules, err_from_is_err_and}
 use Rattle.crx_compact.proofs.Words.{append-nil, Fault, patched, past_of_tail}
 use Rattle.crx_compact.proofs.Words.{satellites_of_line, satellites_of_text, Satellite, HasRoom}
 use Rattle.crx_compact.proofs.Words.{HaveTypesRoom, OpenHistory, PlacedRows, padded_among, tail_of_history}
 use Rattle.crx_compact.proofs.{Words.{RowTail, and_parts, satellite_of}, Results.{by_ok}}
-use Rattle.crx_compact.proofs.{NamedAgain.named-kept, AnnouncedRows.{announced-rows, line-of_text}}
+use Rattle.crx_compact.proofs.{NamedAgain.named-kept, AnnouncedRows.{announced-rows, line-of_text}, EpochLines.text-few}
 use Rattle.crx_compact.proofs.history.History.read_epoch_line.Goals.{After-bytes-text}
 use Rattle.crx_compact.specs.{Refusals.AnswersRefusal}
 use Rattle.crx_compact.proofs.history.History.read_epoch_line.Goals as goal
@@ -14,7 +14,7 @@ use Rattle.crx_compact.proofs.history.History.read_epoch_line.Goals as goal
 text : (c : After-bytes-text) → c.bytes-text.result.now ≡ patched c.args.self.now.text c.args.line.now
 text c = c.bytes-text.ensures.value
     ∙ by_ok c.patch_bytes.result c.if-is_err.ensures.negation c.patch_bytes.ensures.ok
-    ∙ ap (λ (t : List ℕ). patched t c.args.line.now) (search (rules, c.bytes.ensures.value, c.self.view_is))
+    ∙ ap (λ (h : OpenHistory). patched h.text c.args.line.now) c.self.view_is
 
 -- the line and its text have the same satellites, or the same fault
 same : (c : After-bytes-text)
@@ -22,6 +22,15 @@ same : (c : After-bytes-text)
     ≡ satellites_of_text c.args.types.now c.bytes-text.result.now
 same c = line-of_text c.args.types.now (tail_of_history c.args.self.now) c.args.line.now _ _
     (sym c.patch_bytes.ensures.printable ∙ c.if-is_err.ensures.negation) (text c) refl
+
+-- the text is no longer than an epoch's
+pub put_first-requires : goal.put_first-requires
+put_first-requires c =
+    let at = (goal.at.put_first-requires c).After-bytes-text in
+    let read = c.in_ok-read_satellites.ensures.ok in
+    let few = text-few c.args.types.now (tail_of_history c.args.self.now) c.args.line.now read.satellites (same at ∙ read.read) in
+    let short : length c.bytes-text.result.now ≤ 3038 = omega (arith, few, ap (λ (t : List ℕ). length t) (text at)) in
+    search (rules, short)
 
 -- the rows of the epoch before are awaited
 awaited : (c : After-bytes-text) → c.begin.new.self.rest ≡ c.args.self.now.satellites.rows
@@ -37,38 +46,48 @@ read_satellites-requires-clause-named c both =
     rw (text at, awaited at) (search (rules, named-kept, map, satellite_of, and_parts, c.requires.named))
 
 -- the satellites have the room that they had
-rooms : (c : After-bytes-text) → c.begin.new.self.rooms ≡ c.args.self.now.satellites.rooms
-rooms c = ap (λ (p : PlacedRows). p.rooms) c.begin.ensures.begun
+rooms-before : (c : After-bytes-text) → c.begin.new.self.rooms ≡ c.args.self.now.satellites.rooms
+rooms-before c = ap (λ (p : PlacedRows). p.rooms) c.begin.ensures.begun
     ∙ ap (λ (h : OpenHistory). h.satellites.rooms) c.self.view_is
 
-pub returns-in_err-read_satellites-clause-err : goal.returns-in_err-read_satellites-clause-err
-returns-in_err-read_satellites-clause-err c =
+pub returns-in_err-read_satellites : goal.returns-in_err-read_satellites
+returns-in_err-read_satellites c =
     let p = err_from_is_err_and c.from_residual.result c.from_residual.ensures.1 in
     let refused = c.in_err-read_satellites.ensures.err in
-    let at = (goal.at.returns-in_err-read_satellites-clause-err c).After-bytes-text in
+    let at = (goal.at.returns-in_err-read_satellites c).After-bytes-text in
+    let before = rooms-before at in
     rw (p.1, p.2) (record {
-      answer = subst (λ (made : Result (List Satellite) Fault). AnswersRefusal made
-          c.in_err-read_satellites.field-0.0) (sym (same at)) refused.answer;
-      unasked = λ other name count has. subst (HasRoom name count) (rooms at) (refused.unasked other name count has);
-      wanting = λ satellites is has. refused.wanting satellites (sym (same at) ∙ is)
-          (subst (HaveTypesRoom satellites) (sym (rooms at)) has);
+      ok = search rules;
+      err = record {
+        answer = subst (λ (made : Result (List Satellite) Fault). AnswersRefusal made
+            c.in_err-read_satellites.field-0.0) (sym (same at)) refused.answer;
+        unasked = λ other name count has. subst (HasRoom name count) before (refused.unasked other name count has);
+        wanting = λ satellites is has. refused.wanting satellites (sym (same at) ∙ is)
+            (subst (HaveTypesRoom satellites) (sym before) has);
+      };
+      rooms = λ name count has. c.read_satellites.ensures.rooms name count (subst (HasRoom name count) (sym before) has);
     })
 
-pub returns-clause-ok : goal.returns-clause-ok
-returns-clause-ok c =
-    let at = (goal.at.returns-clause-ok c).After-bytes-text in
+pub returns : goal.returns
+returns c =
+    let at = (goal.at.returns c).After-bytes-text in
     let found = c.in_ok-read_satellites.ensures.ok in
-    let put : c.append.new.text ≡ c.bytes-text.result.now = search (rules, c.append.ensures.appended, c.clear.ensures.emptied) in
+    let put = c.put_first.ensures in
+    let before = rooms-before at in
     let rows = found.rows
     ∙ ap (λ (rest : List RowTail). map (padded_among rest) found.satellites)
     (awaited at) in
     record {
-      satellites = found.satellites;
-      read = same at ∙ found.read;
-      rows = rows;
-      text = put ∙ text at;
-      clock = ap (λ (h : OpenHistory). h.clock) c.self.view_is;
-      announced = announced-rows c.args.types.now (tail_of_history c.args.self.now) c.args.line.now
-          found.satellites _ (same at ∙ found.read) (put ∙ text at) rows found.awaited;
-      room = found.room;
+      ok = record {
+        satellites = found.satellites;
+        read = same at ∙ found.read;
+        rows = rows;
+        text = put ∙ text at;
+        clock = ap (λ (h : OpenHistory). h.clock) c.self.view_is;
+        announced = announced-rows c.args.types.now (tail_of_history c.args.self.now) c.args.line.now
+            found.satellites _ (same at ∙ found.read) (put ∙ text at) rows found.awaited;
+        room = found.room;
+      };
+      err = search rules;
+      rooms = λ name count has. c.read_satellites.ensures.rooms name count (subst (HasRoom name count) (sym before) has);
     }

@@ -16,7 +16,7 @@ returns-in_err-place_or_add-clause-memory c = λ after rows written.
 rooms : (c : After-place_or_add)
     → KeepsRooms c.args.self.now.satellites.rooms c.place_or_add.new.self.rooms
 rooms c = subst (λ (h : OpenHistory). KeepsRooms h.satellites.rooms c.place_or_add.new.self.rooms)
-    c.self.view_is c.place_or_add.ensures.rooms
+    c.self.view_is c.place_or_add.ensures.prepared.rooms
 
 -- whether the row's satellite is new
 answer : (c : In_ok-place_or_add) (after : Tail) (rows : List Row)

@@ -11,9 +11,6 @@ invariant_of-self c =
           c.self.invariant.0,
       omega arith,
       c.self.invariant.2,
-      c.self.invariant.3,
-      c.self.invariant.4,
-      c.self.invariant.5,
     )
 
 pub returns-then-count-self : goal.returns-then-count-self
@@ -40,10 +37,7 @@ invariant_of-self-2 c =
           c.deref_mut.ensures.value)
           (omega (arith, length-take (2 * c.args.count) indicators)) c.self.invariant.0,
       omega arith,
-      omega arith,
-      omega arith,
-      omega arith,
-      c.self.invariant.5,
+      (omega (arith, c.self.invariant.2), omega (arith, c.self.invariant.2), omega (arith, c.self.invariant.2), c.self.invariant.2.3),
     )
 
 pub returns : goal.returns

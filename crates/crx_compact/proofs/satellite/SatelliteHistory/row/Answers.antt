@@ -20,5 +20,5 @@ loop-index-preserved c =
     (c.index.ensures ∙ sym (get_or-take inside.count inside.arcs.items place c.index.result.now less) ∙ ap (λ
     (cs : List (Option ArcTail)). slice_index_or cs place c.index.result.now) own)) many
 
-pub returns-clause-ok : goal.returns-clause-ok
-returns-clause-ok c = grind (arith, common_steps, length-take-le, take-take, row-all, columns-trimmed)
+pub returns : goal.returns
+returns c = record { ok = grind (arith, common_steps, length-take-le, take-take, row-all, columns-trimmed) }

@@ -6,12 +6,12 @@ pub returns-in_err-prepare-clause-err : goal.returns-in_err-prepare-clause-err
 returns-in_err-prepare-clause-err c = on_err c.from_residual.result (c.in_default.ensures.unplaced
     refl).absent
 
-pub returns-in_err-prepare-clause-known : goal.returns-in_err-prepare-clause-known
-returns-in_err-prepare-clause-known c = λ has. absurd ((c.in_default.ensures.unplaced refl).known has)
-
-pub returns-in_err-prepare-clause-rooms : goal.returns-in_err-prepare-clause-rooms
-returns-in_err-prepare-clause-rooms c = λ name count has.
-    c.prepare.ensures.asked.rooms name count (c.place.ensures.rooms.forth name count has)
+pub returns-in_err-prepare-clause-prepared : goal.returns-in_err-prepare-clause-prepared
+returns-in_err-prepare-clause-prepared c = record {
+  known = λ has. absurd ((c.in_default.ensures.unplaced refl).known has);
+  room = search rules;
+  rooms = λ name count has. c.prepare.ensures.asked.rooms name count (c.place.ensures.rooms.forth name count has);
+}
 
 pub unwrap-requires : goal.unwrap-requires
 unwrap-requires c = search (rules, some-otherwise, c.place-2.ensures.unplaced, c.in_ok-prepare.ensures.room)
@@ -20,6 +20,10 @@ unwrap-requires c = search (rules, some-otherwise, c.place-2.ensures.unplaced, c
 pub returns-clause-ok : goal.returns-clause-ok
 returns-clause-ok c = search (rules, placed-asked, from_some)
 
-pub returns-clause-rooms : goal.returns-clause-rooms
-returns-clause-rooms c = λ name count has.
-    search (rules, c.place-2.ensures.rooms.forth, c.prepare.ensures.asked.rooms, c.place.ensures.rooms.forth)
+pub returns-clause-prepared : goal.returns-clause-prepared
+returns-clause-prepared c = record {
+  known = search rules;
+  room = λ new. (returns-clause-ok c).room new;
+  rooms = λ name count has.
+      search (rules, c.place-2.ensures.rooms.forth, c.prepare.ensures.asked.rooms, c.place.ensures.rooms.forth);
+}

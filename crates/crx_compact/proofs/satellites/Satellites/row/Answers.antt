@@ -10,5 +10,5 @@ row-requires c =
     let sound = (rw (← c.self.view_is) at c.requires.sound) _ at.there in
     record { named = sound.0; allowed = sound.1 }
 
-pub returns-clause-ok : goal.returns-clause-ok
-returns-clause-ok c = search (rules, row-at, option_map)
+pub returns : goal.returns
+returns c = record { ok = search (rules, row-at, option_map) }

@@ -16,6 +16,9 @@ returns-in_err-step-clause-reads c =
 pub note-requires-clause-observed : goal.note-requires-clause-observed
 note-requires-clause-observed c = grind (arith, common_steps, row-counting)
 
+pub note-requires-clause-read : goal.note-requires-clause-read
+note-requires-clause-read c is = rw c.bytes.ensures.content at c.in_ok-step.ensures.read
+
 pub invariant_of-self-2 : goal.invariant_of-self-2
 invariant_of-self-2 c =
     let takes = rw c.bytes.ensures.content at (c.in_ok-step.ensures.takes nothing_kept) in

@@ -2,6 +2,7 @@ use Rattle.crx_filter.proofs.steps.CheckerSteps.{given-after, noted-next}
 use Rattle.crx_filter.proofs.steps.CheckerSteps.{nothing_kept, step-counting, step-named, refused-reads}
 use Rattle.crx_filter.proofs.steps.{CheckerSteps.{still-drained, taken-reads}, EngineAnswers.short-line}
 use Rattle.{crx_lines.specs.Reading.{line_shown}, std.proofs.lemmas.Result.err_from_is_err_and}
+use Rattle.std.proofs.Common.{true≢false, sym, ◌∙◌}
 use Rattle.crx_filter.proofs.checking.CheckingDirection.take.Goals as goal
 
 pub returns-in_err-step-clause-reads : goal.returns-in_err-step-clause-reads
@@ -16,6 +17,9 @@ returns-in_err-step-clause-reads c =
 pub note-requires-clause-observed : goal.note-requires-clause-observed
 note-requires-clause-observed c = step-counting _ _ _ _ _ _ c.in_ok-step.ensures.steps
     (c.in_ok-step.ensures.takes nothing_kept)
+
+pub note-requires-clause-read : goal.note-requires-clause-read
+note-requires-clause-read c is = absurd (true≢false (sym is ∙ c.in_ok-step.ensures.steps))
 
 pub invariant_of-self-2 : goal.invariant_of-self-2
 invariant_of-self-2 c =

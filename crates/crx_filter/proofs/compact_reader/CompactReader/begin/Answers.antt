@@ -1,8 +1,7 @@
 use Rattle.crx_compact.specs.OpenEpochs.{tail_held}
-use Rattle.crx_filter.proofs.{CompactSteps.begun-wants, Words.{sym, subst}}
+use Rattle.crx_filter.proofs.{CompactSteps.begun-wants, Words.{rules, sym, subst}}
 use Rattle.crx_compact.specs.{OpenEpochs.ColumnsState, ReadingRooms.HaveCellsRoom}
 use Rattle.crx_filter.specs.EpochRooms.{rows_held}
-use Rattle.crx_filter.proofs.{steps.HeldRows.nothing-held}
 use Rattle.crx_filter.proofs.compact_reader.CompactReader.begin.Goals as goal
 
 pub invariant_of-self-2 : goal.invariant_of-self-2
@@ -13,11 +12,14 @@ invariant_of-self-2 c =
           (tail_held c.deref_mut.result.now.state) c.args.line.now c.begin.new.self.state c.in_ok-begin.ensures.made;
     }
 
-pub returns-clause-held : goal.returns-clause-held
-returns-clause-held c held =
+pub returns-clause-kept : goal.returns-clause-kept
+returns-clause-kept c =
     let made = c.in_ok-begin.ensures.made in
-    subst (λ (s : ColumnsState). HaveCellsRoom (rows_held s) c.begin.new.self.rooms) (sym made.2)
-    (c.in_ok-begin.ensures.room made.0 made.1).room
+    record {
+      rooms = search rules;
+      held = λ held. subst (λ (s : ColumnsState). HaveCellsRoom (rows_held s) c.begin.new.self.rooms) (sym made.2)
+          (c.in_ok-begin.ensures.room made.0 made.1).room;
+    }
 
 pub returns-clause-unprinted : goal.returns-clause-unprinted
 returns-clause-unprinted c block opened = c.begin.ensures.unprinted block

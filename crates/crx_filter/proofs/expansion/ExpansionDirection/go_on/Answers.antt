@@ -19,9 +19,9 @@ returns-clause-knows c =
     (as-read-within (line_shown c.args.line) c.bytes.result.now c.args.line.short c.bytes.ensures.content)
     (c.go_on.ensures.reads.takes choices (length lines) tt) refl
     (room-after old.reader.columns.value new.self.columns.value (compact_epochs choices lines)
-    c.go_on.ensures.rooms c.go_on.ensures.held known))
+    c.go_on.ensures.kept.rooms c.go_on.ensures.kept.held known))
 
 pub returns-clause-stays : goal.returns-clause-stays
 returns-clause-stays c = rw (← c.self.view_is) (λ choices lines known. after-error c.go_on.result
     (room-after c.self.inside.reader.columns.value c.go_on.new.self.columns.value (compact_epochs choices lines)
-    c.go_on.ensures.rooms c.go_on.ensures.held known))
+    c.go_on.ensures.kept.rooms c.go_on.ensures.kept.held known))

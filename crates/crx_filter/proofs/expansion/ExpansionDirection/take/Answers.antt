@@ -28,7 +28,7 @@ pub returns-in_err-read_between-clause-stays : goal.returns-in_err-read_between-
 returns-in_err-read_between-clause-stays c =
     rw (← c.self.view_is) (λ choices lines known. after-error c.from_residual.result
     (room-after c.self.inside.reader.columns.value c.read_between.new.self.columns.value (compact_epochs choices lines)
-    c.read_between.ensures.rooms c.read_between.ensures.held known))
+    c.read_between.ensures.kept.rooms c.read_between.ensures.kept.held known))
 
 pub returns-then-branch-clause-knows : goal.returns-then-branch-clause-knows
 returns-then-branch-clause-knows c =
@@ -41,7 +41,7 @@ returns-then-branch-clause-knows c =
     (as-read-within (line_shown c.args.line) c.bytes.result.now c.args.line.short c.bytes.ensures.content)
     (c.in_ok-read_between.ensures.reads.takes choices (length lines) tt) refl
     (room-after old.reader.columns.value new.columns.value (compact_epochs choices lines)
-    c.read_between.ensures.rooms c.read_between.ensures.held known))
+    c.read_between.ensures.kept.rooms c.read_between.ensures.kept.held known))
 
 pub returns-clause-knows : goal.returns-clause-knows
 returns-clause-knows c =
@@ -54,4 +54,4 @@ returns-clause-knows c =
     (as-read-within (line_shown c.args.line) c.bytes.result.now c.args.line.short c.bytes.ensures.content)
     (c.in_ok-read_between.ensures.reads.takes choices (length lines) tt) refl
     (room-after old.reader.columns.value new.columns.value (compact_epochs choices lines)
-    c.read_between.ensures.rooms c.read_between.ensures.held known))
+    c.read_between.ensures.kept.rooms c.read_between.ensures.kept.held known))

@@ -9,7 +9,7 @@ returns-in_err-part g c =
     rw (p.1, p.2) (
       (refl, (λ _. tt), ((λ _. found), λ closed. absurd (closed c.in-Open.is))),
       record {
-        «open» = λ _. (found.0, reading c.advance.new.self, found.1, found.2);
+        «open» = λ _. (found.0, reading c.advance_by_reading.new.self, found.1, found.2);
         ended = λ e. search (rules, c.in-Open.is, e);
         stopped = λ at e. search (rules, c.in-Open.is, e);
         unasked = c.in_err-part.ensures.unasked;

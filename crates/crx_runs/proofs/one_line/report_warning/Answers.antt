@@ -2,7 +2,7 @@ use Rattle.std.proofs.lemmas.Grind.{common_steps}
 use Rattle.std.proofs.Common.{[], ◌∷◌, refl, ap₂, arith, append-nil}
 use Rattle.crx_lines.specs.Devices.{sink_tally_of}
 use Rattle.crx_runs.specs.meaning.Messages.{warning_text}
-use Rattle.crx_runs.proofs.one_line.warn.Goals as goal
+use Rattle.crx_runs.proofs.one_line.report_warning.Goals as goal
 
 pub returns-in-Ok : goal.returns-in-Ok
 unfolding warning_text

@@ -1,0 +1,21 @@
+use Rattle.std.proofs.{Common.{◌≡◌, inr, refl, Option, None, Result, Ok, Err}, lemmas.Result.err_from_is_err_and}
+use Rattle.crx_base.specs.declared.fault.At.{At}
+use Rattle.crx_lines.specs.{Readers.reading, declared.line.Line.Line}
+use Rattle.crx_lines.proofs.line.LineReader.next_held.Goals as goal
+
+err-not-none : (at : At) → ◌≡◌ {A = Result (Option Line) At} (Err at) (Ok None) → ⊥
+err-not-none at e = cc
+
+pub returns-in_err-part : goal.returns-in_err-part
+returns-in_err-part c =
+    let p = err_from_is_err_and c.from_residual.result c.from_residual.ensures.1 in
+    let found = c.in_err-part.ensures.answers in
+    rw (p.1, p.2) (
+      (refl, (λ _. tt), found),
+      record {
+        answers = (reading c.advance_held.new.self, found);
+        going = inr c.in-Open.is;
+        none = λ is. absurd (err-not-none _ is);
+        after_borrow = tt;
+      },
+    )
