@@ -22,7 +22,8 @@
 # make cluster-test runs the recipes for several machines over 200 files, with Slurm and sshd on this one (tests/cluster; 11 minutes)
 # make debian11-test tries what make dist made in a root of Debian 11, in out/debian11 (tests/debian11)
 # make docs   writes what one reads to know what is claimed, from the sources, into out/docs (docs/READING.md): DEFINITIONS, with the
-#             definitions that the promises stand on, and CONTRACTS, with each public function's clauses, as Markdown and HTML
+#             definitions that the promises stand on, CONTRACTS, with each public function's clauses, and PROOFS, with where each thing is
+#             proved, as Markdown and HTML
 # make numbers puts the limits and other numbers of the sources into the texts that state them, and writes what is listed: faults, options
 #             (completions, page of use, manual), cases
 # make install PREFIX=/usr/local
@@ -41,9 +42,15 @@
 #             5 GB of memory)
 # make mutants-test
 #             plants bugs in copies of the files, one at a time, and shows what sees each (tests/mutants; half an hour)
-# make python does that and makes the package for Python of it, into out/python
-# make dist   makes a release of what make built, in out/dist: an archive with a static program and the library, a Debian package,
-#             a source archive; the first two with the pages of make docs
+# make python makes the package for Python, with the program and the library, into out/python
+# make dist TARGETS='x86-64-v2 x86-64 aarch64 windows'
+#             proves and builds the program and the library for these machines (for x86-64-v2 alone where none is named) and makes a release
+#             of them, in out/dist: archives, Debian packages, wheels, the sources, and SHA256SUMS, signed where KEY= names a key of gpg
+# make machines-test FILES=
+#             does that for all machines, and tries each beside the program that make built, by qemu and Wine, over the sample, damaged copies
+#             of it, and the files that are named (tests/machines)
+# make roots-test
+#             runs the lines of README.md in roots of other systems with what make dist made (tests/machines/roots.py; as root)
 
 SAMPLE := samples/station.rnx
 COMPACT := out/station.crx
@@ -54,12 +61,13 @@ PREFIX ?= /usr/local
 
 .DEFAULT_GOAL := all
 include crates.mk
+include packaging/machines.mk
 
 ARCHIVE := crates/rnxcmp_c/out/librnxcmp_c.a
-# A proof more at a time than there are cores (crates.mk), and 2 GB of memory for each.
-JOBS := $(shell awk -v jobs="$$(($$(nproc) + 1))" '/^MemTotal/ { n = int($$2 / 2e6); print n < 1 ? 1 : n < jobs ? n : jobs }' /proc/meminfo)
+# A proof at a time for each core, and 2 GB of memory for each.
+JOBS := $(shell awk -v jobs="$$(nproc)" '/^MemTotal/ { n = int($$2 / 2e6); print n < 1 ? 1 : n < jobs ? n : jobs }' /proc/meminfo)
 # What crates.mk makes, all at once; where a proof fails, its errors are the last lines that are printed.
-made = @rm -rf out/failed; $(MAKE) --no-print-directory $(if $(findstring jobserver,$(MAKEFLAGS)),,-j$(JOBS)) $(1) || tests/gate.py failures
+made = @rm -rf out/failed; $(MAKE) --no-print-directory $(if $(findstring jobserver,$(MAKEFLAGS)),,-j$(JOBS)) $(1) || tests/prove.py failures
 
 .PHONY: all proofs test quick memory-test memory-random-test instruction-counts archive-test files-test explain-test conformance laws-test cluster-test debian11-test docs numbers install dist
 
@@ -133,6 +141,7 @@ numbers:
 install:
 	@[ -f out/library/librnxcmp.so.2 ] || $(MAKE) --no-print-directory library || echo "the library isn't built"
 	packaging/install.sh "$(DESTDIR)$(PREFIX)" $(PROGRAM) out/library
+	@[ ! -d "$(DESTDIR)$(PREFIX)/lib/rnxcmp" ] || python3 -m compileall -q "$(DESTDIR)$(PREFIX)/lib/rnxcmp" || echo "rnxcmp-file starts slower: Python compiled nothing"
 
 uninstall:
 	packaging/uninstall.sh "$(DESTDIR)$(PREFIX)"
@@ -144,7 +153,7 @@ help:
 clean:
 	rm -rf out crates/*/out
 
-.PHONY: uninstall help clean library library-fuzz library-large mutants-test python
+.PHONY: uninstall help clean library library-fuzz library-large mutants-test python machines-test roots-test
 
 INPUTS := 100000
 
@@ -164,9 +173,18 @@ mutants-test:
 	python3 tests/mutants/run.py $(PROGRAM) $(MUTANTS)
 
 python: library
+	$(call made,machine-x86-64-v2)
 	rm -rf out/python
-	python3 python/build_wheel.py out/library out/python
+	python3 python/build_wheel.py out/library out/python --program out/machines/x86-64-v2/built/rnxcmp
 
-dist: library
-	packaging/dist.sh $(PROGRAM).o out/dist out/library
+dist:
+	$(call made,$(TARGETS:%=machine-%))
+	KEY='$(KEY)' packaging/dist.sh out/dist out/machines $(TARGETS)
 	@cat out/dist/SHA256SUMS
+
+machines-test:
+	$(call made,$(PROGRAM) $(MACHINES:%=machine-%))
+	tests/machines/run.py $(PROGRAM) --files $(FILES)
+
+roots-test:
+	tests/machines/roots.py out/dist out/roots

@@ -1,6 +1,6 @@
 # The crates of crates.txt, each proved and built over those that it stands on, into out/proved: a library with its statements and without its
 # proofs. The program and the static library are built beside their sources. What is newer than what was made of it is made anew, by time.
-# tests/gate.py runs each proof: it says in a line how it went, and shows the errors of one that failed.
+# tests/prove.py runs each proof: it says in a line how it went, and shows the errors of one that failed.
 KIT := $(patsubst %/bin/rt,%,$(realpath $(shell command -v rt)))
 CRATES := $(shell sed -nE 's/^([a-z_]+)[ a-z]*:.*/\1/p' crates.txt)
 LIBRARIES := $(filter-out rnxcmp rnxcmp_c,$(CRATES))
@@ -13,15 +13,12 @@ backward = $(if $(1),$(call backward,$(wordlist 2,99,$(1))) $(firstword $(1)))
 # What is read of one crate, and the toolchain. Folders too: one is newer after a file of it has gone.
 files_of = $(shell find $(wildcard crates/$(1)/src crates/$(1)/specs crates/$(1)/proofs)) $(wildcard $(KIT)/KIT-ID)
 
-# What the longest chain of crates waits for last makes way for it: it is proved at a lower priority, in a job more than there are cores. (A
-# build on 2 cores takes two minutes less.)
-ASIDE := crx_runs crx_command
 # The two largest crates come when there is little else to prove: so each has a job for each core, up to 4, with 2 GB of memory for each.
 # (crx_compact takes 4 minutes on 2 cores so, and 6 by one job.)
 LARGE := crx_compact crx_filter
 CORES := $(shell awk -v n="$$(nproc)" '/^MemTotal/ { m = int($$2 / 2e6); if (m < n) n = m; print n < 1 ? 1 : n < 4 ? n : 4 }' /proc/meminfo)
 
-proof_of = @$(if $(filter $(1),$(ASIDE)),nice) tests/gate.py proof $(1) $(KIT)/bin/rattle build --crate-name $(1) src/$(2).rt --links $(1)= \
+proof_of = @tests/prove.py proof $(1)$(3) $(KIT)/bin/rattle build --crate-name $(1) src/$(2).rt --links $(1)= \
     --jobs $(if $(filter $(1),$(LARGE)),$(CORES),1) \
     $(foreach it,std $(call uses_of,$(1)),--extern $(it)=$(if $(filter $(it),$(CRATES)),$(PROVED),$(KIT)/rlibs)/$(it).rlib) \
     -L dependency=$(KIT)/rlibs -L dependency=$(PROVED) --antt-project $(KIT)/rattle/logic/antt-project.json --logic-built $(KIT)/logic_built
@@ -43,4 +40,4 @@ crates/rnxcmp_c/out/librnxcmp_c.a: $(call files_of,rnxcmp_c) $(call below_of,rnx
 
 .PHONY: toolchain
 toolchain:
-	@tests/gate.py toolchain
+	@tests/prove.py toolchain

@@ -1,6 +1,7 @@
 #!/bin/sh
-# Makes the library for C of the archive that `rt lib` left, in a folder: build.sh crates/rnxcmp_c/out/librnxcmp_c.a FOLDER
-# The folder gets rnxcmp.h, librnxcmp.a, librnxcmp.so.2 with the name librnxcmp.so, rnxcmp.pc, and rnxcmp.f90.
+# Makes the library for C of the archive that rattle made of crates/rnxcmp_c, in a folder: build.sh crates/rnxcmp_c/out/librnxcmp_c.a FOLDER
+# The folder gets rnxcmp.h, librnxcmp.a, librnxcmp.so.2 with the name librnxcmp.so, rnxcmp.pc, and rnxcmp.f90. CC, LD, AR and OBJCOPY name
+# the tools, and CFLAGS has more words for the compiler.
 set -eu
 proved=$1
 folder=$2
@@ -12,7 +13,7 @@ CC=${CC:-cc} LD=${LD:-ld} AR=${AR:-ar} OBJCOPY=${OBJCOPY:-objcopy}
 
 mkdir -p "$folder"
 python3 "$top/library/words.py" "$top/crates/crx_base/src/fault.rt" > "$work/words.inc"
-flags="-std=c11 -O2 -Wall -Wextra -Wpedantic -Werror -fPIC -ffile-prefix-map=$top=. -ffile-prefix-map=$work=."
+flags="-std=c11 -O2 -Wall -Wextra -Wpedantic -Werror -fPIC -ffile-prefix-map=$top=. -ffile-prefix-map=$work=. $("$top/library/hardened.sh" "$CC") ${CFLAGS:-}"
 $CC $flags -c "$top/library/heap.c" -o "$work/heap.o"
 $CC $flags -I "$top/include" -I "$work" -DRNXCMP_VERSION="\"$version\"" -c "$top/library/rnxcmp.c" -o "$work/rnxcmp.o"
 
@@ -26,7 +27,7 @@ $OBJCOPY --keep-global-symbols="$work/names" "$work/all.o" "$work/librnxcmp.o"
 rm -f "$folder/librnxcmp.a"
 $AR rcD "$folder/librnxcmp.a" "$work/librnxcmp.o"
 
-$CC -shared -o "$folder/librnxcmp.so.2" "$work/librnxcmp.o" -Wl,-soname,librnxcmp.so.2 -Wl,--version-script="$top/library/symbols.map" \
+$CC -shared -s -o "$folder/librnxcmp.so.2" "$work/librnxcmp.o" -Wl,-soname,librnxcmp.so.2 -Wl,--version-script="$top/library/symbols.map" \
     -Wl,-z,defs -Wl,-z,text -Wl,-z,noexecstack -Wl,-z,relro -Wl,-z,now
 ln -sf librnxcmp.so.2 "$folder/librnxcmp.so"
 cp "$top/include/rnxcmp.h" "$top/include/rnxcmp.f90" "$folder/"

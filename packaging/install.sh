@@ -1,5 +1,6 @@
 #!/bin/sh
-# Puts the program, its other names, the tool for whole files, the manual pages, the completions and the notices below a folder:
+# Puts the program, its other names, the tool for whole files, the library for C, the manual pages, the completions and the notices below a
+# folder:
 #     packaging/install.sh FOLDER PROGRAM LIBRARY [ZSH]
 # LIBRARY is the folder that library/build.sh made; where the shared library isn't in it, rnxcmp-file, which is Python over it, is left out,
 # and a message says so. ZSH is where below FOLDER zsh looks for completions, if not in share/zsh/site-functions. The lower-case names are
@@ -29,6 +30,9 @@ if [ -f "$library/$shared" ]; then
     page rnxcmp-file rnxcmp-file
 else
     echo "rnxcmp-file is left out: there is no library $library/$shared (make library)" >&2
+fi
+if [ -f "$library/librnxcmp.a" ]; then
+    "$here/install_library.sh" "$prefix" "$library"
 fi
 for name in RNX2CRX rnx2crx; do
     install -m 755 "$here/bin/RNX2CRX" "$prefix/bin/$name"

@@ -7,11 +7,14 @@ here=$(dirname "$0")
 work=$(mktemp -d)
 trap 'rm -rf "$work"' EXIT
 mkdir "$work/library"
-: > "$work/library/librnxcmp.so.2"
+for name in librnxcmp.so.2 librnxcmp.a rnxcmp.h rnxcmp.f90; do
+    : > "$work/library/$name"
+done
 "$here/install.sh" "$work/all" /bin/sh "$work/library"
-(cd "$work/all" && find . -type f) | while IFS= read -r name; do
+(cd "$work/all" && find . ! -type d) | while IFS= read -r name; do
     rm -f "$prefix/$name"
 done
-for folder in lib/rnxcmp/rnxcmp lib/rnxcmp share/doc/rnxcmp; do
+rm -rf "$prefix/lib/rnxcmp/rnxcmp/__pycache__"
+for folder in lib/rnxcmp/rnxcmp lib/rnxcmp lib/cmake/rnxcmp share/doc/rnxcmp; do
     [ ! -d "$prefix/$folder" ] || rmdir "$prefix/$folder" 2> /dev/null || echo "$prefix/$folder has other files, and stays" >&2
 done

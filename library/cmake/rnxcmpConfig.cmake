@@ -1,0 +1,15 @@
+# find_package(rnxcmp): the targets rnxcmp::rnxcmp, the shared library, and rnxcmp::static, the archive. All is found beside this file.
+get_filename_component(_rnxcmp "${CMAKE_CURRENT_LIST_DIR}/../../.." ABSOLUTE)
+if(NOT TARGET rnxcmp::rnxcmp)
+    add_library(rnxcmp::rnxcmp SHARED IMPORTED)
+    add_library(rnxcmp::static STATIC IMPORTED)
+    set_target_properties(rnxcmp::rnxcmp rnxcmp::static PROPERTIES INTERFACE_INCLUDE_DIRECTORIES "${_rnxcmp}/include")
+    set_target_properties(rnxcmp::static PROPERTIES IMPORTED_LOCATION "${_rnxcmp}/lib/librnxcmp.a")
+    if(WIN32)
+        set_target_properties(rnxcmp::rnxcmp PROPERTIES IMPORTED_LOCATION "${_rnxcmp}/bin/librnxcmp-2.dll"
+            IMPORTED_IMPLIB "${_rnxcmp}/lib/librnxcmp.dll.a")
+    else()
+        set_target_properties(rnxcmp::rnxcmp PROPERTIES IMPORTED_LOCATION "${_rnxcmp}/lib/librnxcmp.so.2" IMPORTED_SONAME librnxcmp.so.2)
+    endif()
+endif()
+unset(_rnxcmp)
