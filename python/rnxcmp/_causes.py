@@ -104,7 +104,7 @@ KINDS: Tuple[Kind, ...] = (
     Kind("foreign line", (10, 13), "this line isn't RINEX", "remove it"),
     Kind("cut off", (3, 7, 8, 9, *_LINES), "the file is cut off here", "fetch it again; -s drops the last epoch"),
     # fields
-    Kind("mistyped", (6, 10, *_LINES), "a character of this field is wrong", "correct it; -s drops the epoch"),
+    Kind("mistyped", _LINES, "a character of this field is wrong", "correct it; -s drops the epoch"),
     Kind("tab", (11, 12, 13, 15), "a tab is in place of blanks", "put blanks there"),
     Kind("bad number", (12, 15), "a character of this number is wrong", "correct it, or make the field blank, which is no value"),
     Kind("bad indicator", (18,), "this is no indicator", "make it blank"),
@@ -116,6 +116,7 @@ KINDS: Tuple[Kind, ...] = (
     Kind("compact line lost", _COMPACT, "a line of this block is lost or too many, so this one is read as another", _BLOCK),
     Kind("full epoch lost", (10,), "the epoch that others refer to is lost", "fetch the file again; -s goes on at the next epoch in full"),
     Kind("damaged before", (11, 13, 14, 16, 17), "an earlier line of this block is damaged", _BLOCK),
+    Kind("code broken", (16, 17, 18), "a blank is inside a code of line {line}", _BLOCK),
     Kind("identifiers", (11, 13), "the epoch line counts {count} satellites, and names {names}", "correct the count"),
 )
 
@@ -129,7 +130,7 @@ def tables() -> Dict[str, str]:
         return "\n".join([title, "|" + "---|" * width, *("| " + " | ".join(row) + " |" for row in cells)])
 
     codes = [(str(code), text) for code, text in EXPECTED.items()]
-    causes = [(kind.name, ", ".join(map(str, kind.codes)), plain(kind.words), plain(kind.mend)) for kind in KINDS]
+    causes = [(kind.name, ", ".join(map(str, sorted(kind.codes))), plain(kind.words), plain(kind.mend)) for kind in KINDS]
     found = [
         rows("| Code | What is expected |", codes),
         rows("| Not standard | What is said | Normal form |", list(REASONS)),

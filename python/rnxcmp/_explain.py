@@ -7,11 +7,12 @@ import os
 from dataclasses import dataclass
 from typing import Dict, List, Optional, Tuple, Union
 
+from ._broken import code_broken, line_broken
 from ._calls import RnxcmpError, Stream, bytes_of
 from ._causes import EXPECTED, REASONS
 from ._columns import Place, Rinex, lines_of
 from ._findings import Cause, cause
-from ._in_compact import found_in_compact, line_broken
+from ._in_compact import found_in_compact
 from ._in_header import (
     bad_program_line, bad_types_line, missing_version_line, no_end_of_header, not_an_observation_file, not_compact, unsupported_version,
 )  # fmt: skip
@@ -165,8 +166,10 @@ def _place_and_causes(data: bytes, direction: str, line: int, code: int) -> "Tup
     if direction == RINEX:
         return found_in_rinex(data, text, code, at)
     place, causes = found_in_compact(data, lines, code, at)
-    broken = line_broken(lines, at, _fault_line) if len(causes) > 1 or code != 15 else None
-    return place, (broken, *causes) if broken else causes
+    broken = line_broken(lines, at, _fault_line)
+    if broken:
+        return place, (broken, *causes)
+    return place, (*(code_broken(lines, at, _fault_line) if code in (16, 17, 18) else ()), *causes)
 
 
 def explain_fault(data: bytes, direction: str, line: int, code: int, words: str) -> Explanation:

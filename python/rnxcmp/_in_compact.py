@@ -10,7 +10,7 @@ from ._in_rinex import MANY_NULS, epoch_field
 
 _CODE = re.compile(rb"([0-9]&)?-?[0-9]{1,18}|")
 _CODES = re.compile(rb"([0-9]&)?-?[0-9]+( |\Z)")
-_NONE = Types(0, (), 0)
+NONE = Types(0, (), 0)
 _TEXT = 41  # columns of the epoch text before the identifiers
 
 
@@ -135,7 +135,7 @@ def cells_of(line: bytes, count: int) -> "Tuple[List[Tuple[int, bytes]], int]":
 
 
 def _code_field(fault: Fault, k: int, at: int, code: bytes, column: int) -> Place:
-    types = fault.spot.types.get(fault.spot.name()[:1], _NONE)
+    types = fault.spot.types.get(fault.spot.name()[:1], NONE)
     name = types.names[k] if k < len(types.names) else str(k + 1)
     satellite = fault.spot.name().decode("latin-1")
     return field(fault.number, at + 1, max(at + len(code), column), f"code of {name} of {satellite}", column)
@@ -173,7 +173,7 @@ def _of_code(code: int) -> Tuple[Cause, ...]:
 
 def _first_bad_cell(fault: Fault) -> Optional[Place]:
     """The cell of the fault: by its code, or, for one that has no arc or is out of range, the one that stands out most."""
-    types = fault.spot.types.get(fault.spot.name()[:1], _NONE)
+    types = fault.spot.types.get(fault.spot.name()[:1], NONE)
     found, _ = cells_of(fault.line, types.count)
     for k, (at, code) in enumerate(found):
         if fault.code != 15 or _CODE.fullmatch(code):
@@ -193,23 +193,27 @@ def _first_bad_cell(fault: Fault) -> Optional[Place]:
     return _code_field(fault, k, at, code, at + 1 + _place_in_code(fault.code, code))
 
 
+def line_of(text: Compact, at: int, name: bytes) -> Optional[int]:
+    """The line of a satellite in the epoch of another line."""
+    epoch = text.spot_of(at)
+    found = next((k for k in range(_TEXT, len(epoch.text), 3) if epoch.text[k : k + 3] == name), None)
+    return None if found is None or epoch.role < 0 else epoch.first + 2 + (found - _TEXT) // 3
+
+
 def _cells_known(fault: Fault) -> "set[int]":
     """Which cells of the satellite had a code in the epoch before, in this block."""
-    spot, name = fault.spot, fault.spot.name()
-    if spot.first == spot.block:
+    spot = fault.spot
+    before = line_of(fault.text, spot.first - 1, spot.name()) if spot.first != spot.block else None
+    if before is None:
         return set()
-    before = fault.text.spot_of(spot.first - 1)
-    at = next((k for k in range(_TEXT, len(before.text), 3) if before.text[k : k + 3] == name), None)
-    if at is None:
-        return set()
-    types = spot.types.get(name[:1], _NONE)
-    found, _ = cells_of(fault.text.line(before.first + 2 + (at - _TEXT) // 3), types.count)
+    types = spot.types.get(spot.name()[:1], NONE)
+    found, _ = cells_of(fault.text.line(before), types.count)
     return {k for k, (_, code) in enumerate(found) if code}
 
 
 def _types_counted(fault: Fault) -> Tuple[Cause, ...]:
     letter = fault.spot.name()[:1]
-    counted = count_of_types(letter, fault.spot.types.get(letter, _NONE))
+    counted = count_of_types(letter, fault.spot.types.get(letter, NONE))
     return (counted,) if counted else ()
 
 
@@ -248,9 +252,9 @@ def bad_epoch_line(fault: Fault) -> Found:
         return field(number, 33, 35, "count of records"), (cause("mistyped"),)
     strange = next((at for at, byte in enumerate(line) if not 32 <= byte <= 126), None)
     if strange is not None:
-        return _column_of_text(number, strange + 1), (*fault.lost(), cause("mistyped"))
+        return column_of_text(number, strange + 1), (*fault.lost(), cause("mistyped"))
     column, _ = _wrong_in_text(spot.text) if spot.text[:1] == b">" else (1, "")
-    place = _column_of_text(number, column)
+    place = column_of_text(number, column)
     if fault.is_cut():
         return place, (cause("cut off"),)
     if fault.lost():
@@ -269,7 +273,7 @@ def _behind_identifiers(line: bytes, column: int) -> "Optional[Callable[[int], C
     return lambda number: replacing(number, 1, line[: column - 1], line[column:])
 
 
-def _column_of_text(number: int, column: int) -> Place:
+def column_of_text(number: int, column: int) -> Place:
     if column <= _TEXT:
         return epoch_field(number, column)
     first = column - (column - _TEXT - 1) % 3
@@ -331,7 +335,7 @@ def _wrong_in_name(name: bytes, types: Dict[bytes, Types]) -> int:
 
 def bad_mark(fault: Fault) -> Found:
     """Code 18."""
-    types = fault.spot.types.get(fault.spot.name()[:1], _NONE)
+    types = fault.spot.types.get(fault.spot.name()[:1], NONE)
     _, begin = cells_of(fault.line, types.count)
     end = begin + 2 * types.count
     marks = enumerate(fault.line[begin:], begin)
@@ -372,41 +376,3 @@ def found_in_compact(data: bytes, lines: List[bytes], code: int, at: int) -> Fou
     if fault.line.count(b"\0") >= MANY_NULS:
         return field(at + 1, fault.line.find(b"\0") + 1, fault.line.rfind(b"\0") + 1, "NULs"), (cause("NULs"),)
     return CODES[code](fault) if code in CODES else (None, ())
-
-
-# ---- a line end inside a line
-
-_NEAR = 40  # lines before a fault of which one may be broken
-_BEHIND = 60  # lines behind it that have to be good once two are joined
-_WORK = 1 << 25  # bytes that are read for that at most
-
-
-def line_broken(lines: List[bytes], at: int, fault_of: Callable[[bytes], Optional[int]]) -> Optional[Cause]:
-    """Whether a line near a fault and the next one are one, with a line end between in a character's place: where they are joined, the block is
-    good up to well behind the fault. `fault_of` gives the line of a text's fault."""
-    text = Compact(lines)
-    block = text.spot_of(at).block
-    if block < 0 or at >= len(lines):
-        return None
-    head, last = lines[: text.body], min(len(lines), at + 2 * _BEHIND)
-    work = (sum(map(len, lines[block:last])) + last - block) * 5 * _NEAR
-    if work > _WORK:
-        return None
-    for first in range(at, max(block, at - _NEAR) - 1, -1):
-        for between in (b"0", b" ", b"&", b"-", b">"):
-            whole = b"".join((lines[first], between, *lines[first + 1 : first + 2]))
-            trial = [*head, *lines[block:first], whole, *lines[first + 2 : last]]
-            fault = fault_of(b"".join(line + b"\n" for line in trial))
-            if fault is None or fault > min(len(trial), len(head) + at - block + _BEHIND):
-                length = len(lines[first])
-                return cause("line broken", _broken_place(text, first, length), replacing(first + 1, 2, whole))
-    return None
-
-
-def _broken_place(text: Compact, at: int, length: int) -> Place:
-    """The field of a line in which it ends too early."""
-    spot = text.spot_of(at)
-    if spot.role == 0:
-        return _column_of_text(at + 1, length + 1)
-    begin = text.line(at).rfind(b" ") + 1
-    return field(at + 1, begin + 1, length + 1, "code", length + 1)

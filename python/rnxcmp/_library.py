@@ -13,7 +13,7 @@ GOOD, FAULT, WARNINGS, NO_ROOM, BAD_DATE, BAD_PROCESSOR, MISUSED, OUTPUT_LIMIT =
 INPUT_TOO_LONG, OUT_OF_MEMORY = 2, 22
 INTERFACE, READY = 2, 65536
 
-_NAME = f"librnxcmp.so.{INTERFACE}"
+_NAME = f"librnxcmp-{INTERFACE}.dll" if os.name == "nt" else f"librnxcmp.so.{INTERFACE}"
 
 
 class Options(ctypes.Structure):

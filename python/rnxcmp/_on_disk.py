@@ -4,6 +4,9 @@ import os
 from pathlib import Path
 from typing import Optional, Union
 
+if os.name == "nt":
+    raise ImportError("whole files need POSIX, which Windows isn't: compress and decompress give bytes")
+
 from ._calls import warn
 from ._files import ensure_known, is_compact, is_observation
 from ._names import is_named_as_input, other_name, unpacked_name

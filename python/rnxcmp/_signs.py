@@ -61,7 +61,11 @@ def _differences(one: bytes, other: bytes) -> "List[int]":
 
 
 def other_label(line: bytes, number: int, wanted: bytes) -> Optional[Cause]:
-    """Whether a line has a label in other columns, or one that is spelled otherwise."""
+    """Whether a line has a label in other columns, or one that is spelled otherwise, or another line behind its own."""
+    start = line.rfind(wanted) - 60
+    if start > 60:
+        end = start if start <= 80 and line[start - 1 : start] == b" " else start - 1
+        return cause("line end lost", field(number, end + 1, end + 1, "line end"), replacing(number, 1, line[:end], line[start:]))
     if label(line) in _RULED_LABELS:
         return None
     if len(line) > 81 and line[60:].startswith(wanted):

@@ -43,8 +43,8 @@ def explain_files(names: List[str], as_json: bool, line: Callable[[str], None], 
     for name in names:
         try:
             found = explain(name)
-        except (RnxcmpError, OSError) as error:
-            say(name, f"ERROR: {getattr(error, 'strerror', None) or error}")
+        except (RnxcmpError, OSError, MemoryError) as error:
+            say(name, f"ERROR: {getattr(error, 'strerror', None) or str(error) or 'out of memory'}")
             statuses.append(1)
             continue
         statuses.append(_STATUSES.get(found.state, 1) if found else 0)

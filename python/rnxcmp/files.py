@@ -11,6 +11,9 @@ import os
 import re
 import sys
 
+if os.name == "nt":  # which has neither the links nor the locks that its promise stands on
+    sys.exit("rnxcmp-file: ERROR: whole files need POSIX, which Windows isn't: rnxcmp.exe does a file, and the package rnxcmp bytes and streams")
+
 from ._calls import RnxcmpError, version
 from ._names import is_packed, quoted
 from ._parts import Changed, NoLinks, Part, identity_of, remove_left_beside
@@ -236,6 +239,7 @@ class Printer:
         self._always = found.more is not None
         self._shows = self._count > 1 and os.isatty(2)
         self._number = 0
+        self._counts = dict.fromkeys((MADE, REPLACED, THERE, "error", EXACT, NORMAL_FORM, "", "skipped"), 0)
         self.failed = False
 
     def begin(self, name: str) -> None:
@@ -270,6 +274,8 @@ class Printer:
 
     def file(self, name: str, done: Optional[Done], failure: Optional[Failure]) -> None:
         """What was done with a file, or why nothing was."""
+        for what in (done.state, done.verified, "skipped" if done.skipped else "") if done else ("error",):
+            self._counts[what] += 1
         if self._json:
             self.line(_as_json(name, done, failure))
         elif done and not self._quiet:
@@ -278,15 +284,14 @@ class Printer:
             said += f", not verified: {done.skipped} warnings" if done.skipped else ""
             self.line(f"{quoted(name)}: {said}")
 
-    def summary(self, found: "List[Optional[Done]]") -> None:
+    def summary(self) -> None:
+        """How many files were done in which way; of each file no more is kept than that, since there may be many."""
         if self._json or (self._count < 2 and not self._always):
             return
-        done = [one for one in found if one]
-        words = {MADE: "made", REPLACED: "replaced", THERE: "there already"}
-        counts = ", ".join(f"{sum(one.state == state for one in done)} {said}" for state, said in words.items())
-        verified = ", ".join(f"{sum(one.verified == how for one in done)} {how}" for how in (EXACT, NORMAL_FORM))
-        skipped = sum(one.skipped > 0 for one in done)
-        self.line(f"{len(found)} files: {counts}, {len(found) - len(done)} errors; verified: {verified}; with skipped epochs: {skipped}")
+        counts, words = self._counts, {MADE: "made", REPLACED: "replaced", THERE: "there already", "error": "errors"}
+        done = ", ".join(f"{counts[state]} {said}" for state, said in words.items())
+        verified = ", ".join(f"{counts[how]} {how}" for how in (EXACT, NORMAL_FORM))
+        self.line(f"{self._number} files: {done}; verified: {verified}; with skipped epochs: {counts['skipped']}")
 
 
 class Warnings:
@@ -358,7 +363,7 @@ class VerifiedList:
     def put(self) -> int:
         """Puts the list into place: how many inputs changed meanwhile, and aren't in it."""
         try:
-            for name in list(self._still_as_verified()):
+            for name in dict.fromkeys(self._still_as_verified()):
                 self._part.write(os.fsencode(name) + b"\0")
             self._part.finish_as_it_is()
             self._part.put(None, False)
@@ -403,8 +408,8 @@ class Run:
         self._patience = Patience(self._printer.say)
         self._verified = None if found.list is None else VerifiedList(found.list, found.normal_form, found.accept_cut)
 
-    def _do(self, name: str) -> Optional[Done]:
-        """Does one file, and says so."""
+    def _do(self, name: str) -> int:
+        """Does one file, and says so: the status."""
         printer, warnings = self._printer, Warnings(self._printer, name, self._found.v)
         printer.begin(name)
         result = _done_by(lambda: Whole(name, self._choices, self._found.output, warnings.tell, self._patience), self._verified)
@@ -413,13 +418,13 @@ class Run:
             result = self._with_cause(name, result)
             printer.say(name, result.text)
             printer.file(name, None, result)
-            return None
+            return FAILED
         if self._choices.verify and not result.verified:
             printer.say(name, "WARNING: not verified, since epochs were skipped")
         if self._verified:
             self._verified.add(name, result)
         printer.file(name, result, None)
-        return result
+        return SKIPPED if result.skipped else GOOD
 
     def _with_cause(self, name: str, failure: Failure) -> Failure:
         """What failed, with the likely cause of a fault of the input in parentheses."""
@@ -431,12 +436,12 @@ class Run:
 
     def _do_all(self) -> int:
         """Does one file after another: the status."""
-        results = [self._do(name) for name in self._found.inputs]
+        statuses = {self._do(name) for name in self._found.inputs}
         self._printer.clear()
-        self._printer.summary(results)
-        if None in results or self._printer.failed:
+        self._printer.summary()
+        if FAILED in statuses or self._printer.failed:
             return FAILED
-        return SKIPPED if any(one and one.skipped for one in results) else GOOD
+        return SKIPPED if SKIPPED in statuses else GOOD
 
     def run(self) -> int:
         """Does all files, and puts the list into place: the status."""
