@@ -37,6 +37,7 @@ CHOICES = {
     "epochs": "a line between two epochs that begins none is an error, an empty one too",
     "events": "cycle slip records are an event; a count of blanks is 0; what is wrong among records ends the run",
     "arcs": "the clock has arcs as cells have; orders from 0 to 9 are read, `-0` and leading zeros too; events don't end an arc",
+    "in full": "with -e N every N-th epoch is in full, counted from the first one",
     "damage": "compact text that is damaged is refused where its rules are broken",
     "skipping": "with -s an epoch with a fault is dropped, and a warning says so; the status is 2",
 }
@@ -165,7 +166,7 @@ class Reader:
 
     def expand(self, data: bytes) -> bytes:
         lines = contents(data)
-        if len(lines) < 3 or label(lines[0]) != b"CRINEX VERS   / TYPE" or lines[0][:20].strip(b" ") != b"3.0" or label(lines[1]) != b"CRINEX PROG / DATE":
+        if len(lines) < 2 or label(lines[0]) != b"CRINEX VERS   / TYPE" or lines[0][:20].strip(b" ") != b"3.0" or label(lines[1]) != b"CRINEX PROG / DATE":
             raise Malformed("the first lines aren't those of Compact RINEX 3.0")
         return b"".join(line + b"\n" for line in self._rinex(lines))
 

@@ -335,6 +335,7 @@ def damaged_case(rng, text):
         return None
     lines[at + more] = wrong
     case = {"about": about, "do": "compact", "input": "", "expands_to": "", "faults": [[at + more + 1, code]], "status": 1}
+    case = {**case, "choices": ["characters"]} if code == 18 else case
     return {**case, "input": shown(lines), "expands_to": shown(before)}
 
 

@@ -14,8 +14,9 @@ print, and as it is installed (tests/commands). Reads, writes and flushes of it 
 (tests/memory); its instructions are counted (tests/instructions). The tool for whole files is tried over all that may be under an output's
 name, at once, ended by signals and with failing calls (tests/files), what it explains of damaged files (tests/explain), and the suite for other
 programs over this one (tests/conformance). The library for C and Python is called beside it (tests/library), a release is made (tests/release),
-and the documents are compared with the sources (tests/documents). What needs a tool or a right that isn't there is listed at the end. The last
-line is `N passed, M failed`, of all. The exit status is 0 where nothing failed.
+and the documents are compared with the sources (tests/documents). What needs a tool or a right that isn't there is listed at the end, and so
+are the programs for other machines, which `make machines-test` alone runs. The last line is `N passed, M failed`, of all. The exit status is 0
+where nothing failed.
 """
 
 import argparse
@@ -27,7 +28,7 @@ from pathlib import Path
 HERE = Path(__file__).resolve().parent
 TOP = HERE.parent
 sys.path.insert(0, str(HERE))
-import gate  # noqa: E402
+import prove  # noqa: E402
 from checking import LIKED, left_out, tally  # noqa: E402
 
 # What is run of the built program: the word that its lines begin with, and the folder of its checks.py. The library is made by its own tests,
@@ -67,6 +68,7 @@ def print_left_out():
         print(f"not found here: {', '.join(lacking)}; what needs them was left out")
     if left_out:
         print(f"{len(left_out)} left out:", *left_out, sep="\n    ")
+    print("the programs for other machines are tried by `make machines-test`")
 
 
 def main():
@@ -78,10 +80,10 @@ def main():
     program = arguments.program.resolve()
     counts = []
     if arguments.gate:
-        if gate.toolchain():
+        if prove.toolchain():
             print("0 passed, 1 failed")
             return 1
-        counts = [gate.ci(program)]
+        counts = [prove.ci(program)]
     if program.exists():
         counts += [tally(kind, checks_of(name, program)) for kind, name in KINDS if not arguments.only or kind in arguments.only]
     else:
@@ -89,7 +91,7 @@ def main():
         counts.append((0, 1))
     passed, failed = (sum(column) for column in zip(*counts))
     if arguments.gate:
-        gate.failures()
+        prove.failures()
     print_left_out()
     print(f"{passed} passed, {failed} failed")
     return 1 if failed else 0

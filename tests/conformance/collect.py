@@ -26,7 +26,7 @@ CHOICES = {
     "types_line_in_an_event_empties_the_state": ["events", "damage"], "clock_of_order_nine": ["arcs"], "leading_zeros_of_a_code": ["arcs"],
     "first_differences_and_a_mark_that_gives_a_blank": ["arcs"], "second_differences": ["arcs"], "fourth_differences": ["arcs"], "nineteen_digits": ["limits"],
     "sixteen_digits_out_of_range": ["damage"], "values_in_place_of_differences": ["arcs"], "order_of_an_arc": ["arcs"], "order_of_two_digits": ["damage"],
-    "header_alone": [], "empty_input": [], "unknown_flag": [],
+    "bad_indicator": ["characters"], "bad_indicator_skipped": ["characters"], "header_alone": [], "empty_input": [], "unknown_flag": [],
 }  # fmt: skip
 
 
@@ -70,7 +70,7 @@ def of_file(module, path):
         options = [word for part in every for word in part] + (["-s"] if skips else [])
         made |= {"options": options} if options else {}
         made |= {"faults": faults_of(case.messages), "status": case.status} if case.status else {}
-        choices = sorted({*CHOICES.get(path.stem, CHOICES.get(path.parent.name, [])), *(["skipping"] if skips else [])})
+        choices = sorted({*CHOICES.get(path.stem, CHOICES.get(path.parent.name, [])), *(["skipping"] if skips else []), *(["in full"] if every else [])})
         yield {**made, **({"choices": choices} if choices else {})}
 
 

@@ -12,8 +12,9 @@ from pathlib import Path
 
 TOP = Path(__file__).resolve().parents[2]
 sys.path.insert(0, str(TOP / "docs"))
+import proved  # noqa: E402
 from chapters import CHAPTERS, Book, is_definition  # noqa: E402
-from sources import crates, functions_in, public_functions  # noqa: E402
+from sources import crates, fault_names, functions_in, public_functions  # noqa: E402
 from stated import WRITTEN, faults, typed_in, wrong_in  # noqa: E402
 
 CRATE_PAGES = tuple(f"crates/{crate}/README.md" for crate in crates())
@@ -36,11 +37,11 @@ def made_pages():
     """What is wrong with the pages that `make docs` makes: a link to nothing, a definition that isn't there once, or one that isn't to be
     believed and that a chapter of others has."""
     with tempfile.TemporaryDirectory() as folder:
-        run = subprocess.run([TOP / "docs/pages.py", folder], capture_output=True, text=True, timeout=60)
+        run = subprocess.run([TOP / "docs/pages.py", folder], capture_output=True, text=True, timeout=300)
         if run.returncode or run.stderr:
             return [run.stdout + run.stderr]
         texts = {path.name: path.read_text(encoding="utf-8") for path in sorted(Path(folder).iterdir())}
-    wrong = [] if len(texts) == 5 else [f"pages {', '.join(texts)}"]
+    wrong = [] if len(texts) == 7 else [f"pages {', '.join(texts)}"]
     places = {name: re.findall(r'id="([^"]*)"', text) for name, text in texts.items()}
     for name, text in texts.items():
         links = re.findall(r'href="([\w.]*)#([^"]*)"' if name.endswith(".html") else r"\]\(([\w.]*)#([^)]*)\)", text)
@@ -56,6 +57,16 @@ def chapters():
     wrong = [] if listed == [chapter.title for chapter in CHAPTERS] else [f"other chapters than {', '.join(listed)}"]
     counts = [(chapter, sum(map(is_definition, content.items))) for chapter, content in zip(CHAPTERS, book().contents)]
     return wrong + [f"{chapter.title} has {count} definitions" for chapter, count in counts if chapter.most and count > chapter.most]
+
+
+def proofs_placed():
+    """The folders of proofs that the page of proofs gives to no function, and the faults without a definition or a function there."""
+    wrong = []
+    for crate in crates():
+        folders = proved.folders_of(crate)
+        given = {proved.folder_of(folders, module, function) for module, function, _ in proved.code_of(crate)}
+        wrong += [f"{crate}: no function has proofs/{folder}" for folder in sorted({"/".join(parts) for parts in folders} - given)]
+    return wrong + [f"fault {row[0]}: {row}" for row in proved.faults(fault_names()) if not row[2] or not row[3]]
 
 
 def clauses_found():
@@ -131,6 +142,14 @@ def names_named(page, words):
     return [f"{page}: no source has {name}" for name in sorted((names - words) | files)]
 
 
+def calls_shown(page, words):
+    """The calls in the lines of use that the page of a crate shows, and that no source has."""
+    shown = "\n".join(re.findall(r"^    (?!rt )(.*)$", (TOP / page).read_text(encoding="utf-8"), re.M))
+    names = {part for name in re.findall(r"([\w:]+)\(", re.sub(r"//.*|/\*.*", "", shown)) for part in name.split("::")}
+    header = set(re.findall(r"\w+", (TOP / "include/rnxcmp.h").read_text(encoding="utf-8")))
+    return [f"{page}: no source has {name}" for name in sorted(names - words - header)]
+
+
 def modules_named(page):
     """The modules of a crate's src that its page has no row for, the rows of modules that are gone, and the files of specs and proofs that the
     page names and no crate has."""
@@ -149,17 +168,64 @@ def targets_named(page):
     return [f"{page}: make has no target {it}" for it in {a or b for a, b in named} - targets]
 
 
-def example(program):
-    """Whether the epochs of docs/pictures/epoch.txt are a standard file, and its compact lines those that the program makes of it."""
+def lines_drawn(name):
+    """The lines of RINEX and of compact text that a picture shows."""
     lines = {"RINEX": [], "compact": []}
-    for kind, line in re.findall(r"^type \S+ (\w+) \|(.*)$", (TOP / "docs/pictures/epoch.txt").read_text(encoding="utf-8"), re.M):
+    for kind, line in re.findall(r"^type \S+ (\w+) \|(.*)$", (TOP / f"docs/pictures/{name}.txt").read_text(encoding="utf-8"), re.M):
         lines[kind].append(re.sub(r"\{\w+:([^}]*)\}", r"\1", line))
-    labels = (("     3.05           OBSERVATION DATA    M", "RINEX VERSION / TYPE"), ("G    2 C1C L1C", "SYS / # / OBS TYPES"), ("", "END OF HEADER"))
-    header = [text.ljust(60) + label for text, label in labels]
-    rinex, compact = ("\n".join(some + [""]) for some in (header + lines["RINEX"], header + lines["compact"]))
-    made = subprocess.run([program, "rnx2crx"], input=rinex, capture_output=True, text=True, timeout=60).stdout
+    return lines
+
+
+def header_of(*types):
+    """The lines of a header, for GPS with these types."""
+    labels = (
+        ("     3.05           OBSERVATION DATA    M", "RINEX VERSION / TYPE"),
+        (f"G    {len(types)} {' '.join(types)}", "SYS / # / OBS TYPES"),
+        ("", "END OF HEADER"),
+    )
+    return [text.ljust(60) + label for text, label in labels]
+
+
+def ran(program, text, *words):
+    """What the program makes of a text: the output, and the messages."""
+    run = subprocess.run([program, *words], input=text, capture_output=True, text=True, timeout=60)
+    return run.stdout, run.stderr
+
+
+def example(program):
+    """Whether the epochs of docs/pictures/epoch.txt are a standard file, its compact lines those that the program makes of it, and the lines that
+    README.md shows among both."""
+    lines, header = lines_drawn("epoch"), header_of("C1C", "L1C")
+    shown = re.findall(r"^    (RINEX|compact) +(\S.*)$", (TOP / "README.md").read_text(encoding="utf-8"), re.M)
+    rinex, compact = ("\n".join([*header, *lines[kind], ""]) for kind in ("RINEX", "compact"))
+    made, _ = ran(program, rinex, "rnx2crx")
     wrong = [] if made.split("\n", 2)[2:] == [compact] else ["the program makes other compact lines"]
-    return wrong + ([] if subprocess.run([program, "crx2rnx"], input=made, capture_output=True, text=True, timeout=60).stdout == rinex else ["they don't come back"])
+    wrong += [] if shown and all(line in lines[kind] for kind, line in shown) else ["README.md shows other lines"]
+    return wrong + ([] if ran(program, made, "crx2rnx")[0] == rinex else ["they don't come back"])
+
+
+def damage_drawn(program):
+    """Whether the compact text of docs/pictures/damage.txt is what the program makes, but for the byte in a frame, and comes back as it is shown."""
+    source = (TOP / "docs/pictures/damage.txt").read_text(encoding="utf-8")
+    lines, header = lines_drawn("damage"), header_of("C1C")
+    compact, rinex = ("\n".join([*header, *lines[kind], ""]) for kind in ("compact", "RINEX"))
+    before, after = re.search(r"a (\w) became a (\w) by one flipped bit", source).groups()
+    wrong = [] if bin(ord(before) ^ ord(after)).count("1") == 1 and compact.count(f"\n{after}") == 1 else ["it isn't one flipped bit"]
+    whole = compact.replace(f"\n{after}", f"\n{before}")
+    first = "\n".join(ran(program, "\n".join([*header, ""]), "rnx2crx")[0].split("\n")[:2]) + "\n"
+    made, _ = ran(program, ran(program, first + whole, "crx2rnx")[0], "rnx2crx", "-e", "3")
+    wrong += [] if made.split("\n", 2)[2:] == [whole] else ["the program makes other compact lines"]
+    output, messages = ran(program, first + compact, "crx2rnx", "-s")
+    return wrong + ([] if output == rinex and messages.strip() in source and messages else [f"it writes {output!r}, {messages!r}"])
+
+
+def promise_shown():
+    """Whether the clause and the definitions that README.md shows are those of the sources."""
+    text = (TOP / "README.md").read_text(encoding="utf-8").partition("as it is written")[2].partition("\n## ")[0]
+    files = [*(TOP / "crates/crx_filter/src").glob("*.rt"), *(TOP / "crates/crx_filter/specs").rglob("*.antt")]
+    sources = [re.sub(r"\s+", " ", path.read_text(encoding="utf-8")) for path in files]
+    shown = [re.sub(r"\s+", " ", block).strip() for block in re.findall(r"(?:^    .*\n)+", text, re.M)]
+    return [] if len(shown) == 3 and all(any(block in source for source in sources) for block in shown) else [f"no source has one of {shown}"]
 
 
 def figures():
@@ -198,6 +264,14 @@ def options(program):
     return wrong
 
 
+def python_names():
+    """The names of the Python package that docs/LIBRARY.md doesn't have."""
+    package = (TOP / "python/rnxcmp/__init__.py").read_text(encoding="utf-8")
+    page = (TOP / "docs/LIBRARY.md").read_text(encoding="utf-8")
+    names = re.findall(r'"(\w+)"', re.search(r"__all__ = \[(.*?)\]", package, re.S)[1])
+    return [f"docs/LIBRARY.md has no {name}" for name in names if not re.search(rf"`[^`\n]*\b{name}\b", page)]
+
+
 def modules():
     """The names that two modules of tests and pages have, but for `check`, `checks` and `run`: all kinds of tests are read into one process, where
     the module that is read first would stand for both."""
@@ -210,13 +284,17 @@ def modules():
 
 def checks(program):
     yield "modules of tests", modules
+    yield "docs/LIBRARY.md: names of the package", python_names
     yield "made pages", made_pages
+    yield "places of proofs", proofs_placed
     yield "clauses of the sources", clauses_found
     yield "clauses of public functions", clauses_without_names
     yield "chapters", chapters
     yield "docs/pictures", pictures
     yield "docs/pictures/epoch.txt", lambda: example(program)
+    yield "docs/pictures/damage.txt", lambda: damage_drawn(program)
     yield "docs/pictures/speed.txt", figures
+    yield "README.md: the promise that it shows", promise_shown
     yield "faults", faults_listed
     yield "options", lambda: options(program)
     for file in WRITTEN:
@@ -231,7 +309,9 @@ def checks(program):
     for page in CRATE_PAGES:
         yield f"{page}: modules", lambda page=page: modules_named(page)
     words = sources()
-    for page in ("docs/DESIGN.md", "docs/DECISIONS.md", "docs/FORMATS.md", "docs/GUARANTEES.md") + CRATE_PAGES:
+    for page in CRATE_PAGES:
+        yield f"{page}: calls", lambda page=page: calls_shown(page, words)
+    for page in ("docs/DESIGN.md", "docs/DECISIONS.md", "docs/FORMATS.md", "docs/GUARANTEES.md", "docs/CALLS.md") + CRATE_PAGES:
         if (TOP / page).exists():
             yield f"{page}: names", lambda page=page: names_named(page, words)
     for page in ("README.md", "docs/GUARANTEES.md"):

@@ -72,7 +72,9 @@ def cut(number, column):
     return lines(lambda found: found[: number - 1] + [found[number - 1][:column]])
 
 
+COMPACT = b"3.0                 COMPACT RINEX FORMAT                    CRINEX VERS   / TYPE\n" + b" " * 60 + b"CRINEX PROG / DATE\n"
 WEB = b"<!DOCTYPE html>\n<html><head><title>401 Unauthorized</title></head><body>Please log in.</body></html>\n"
+EVENT = b"> 2024 01 01 00 10  0.0000000  %d%3d\n"
 FIRST = "     3.05           OBSERVATION DATA    M                   RINEX VERSION / TYPE"
 
 
@@ -84,6 +86,7 @@ def first_line(start, kind):
 OF_RINEX = (
     Kind("gzip", lambda text: gzip.compress(text, mtime=0), 1, 3, ("gzip",)),
     Kind("bzip2", lambda text: b"BZh91AY&SY" + text[:100], 1, 3, ("packed",)),
+    Kind("Compact RINEX", lambda text: COMPACT + text, 1, 3, ("compact",)),
     Kind("BOM", lambda text: b"\xef\xbb\xbf" + text, 1, 3, ("BOM",)),
     Kind("UTF-16", lambda text: text.decode("ascii").encode("utf-16"), 1, 3, ("UTF-16",)),
     Kind("UTF-16 without a mark", lambda text: text.decode("ascii").encode("utf-16-be"), 1, 3, ("UTF-16",)),
@@ -102,6 +105,8 @@ OF_RINEX = (
     Kind("a count one too many", with_text(32, 33, b"  8"), 40, 19, ("count too great", "line lost")),
     Kind("a count one too many in the last epoch", with_text(184, 33, b"  8"), 192, 19, ("cut off", "count too great")),
     Kind("a count one too few", with_text(32, 33, b"  6"), 39, 10, ("count too small", "line more")),
+    Kind("a count of records one too many", lambda text: text + EVENT % (6, 2) + b"a record\n", 194, 19, ("cut off", "event count")),
+    Kind("a count of records one too few", before(40, EVENT % (4, 0) + b"a record\n"), 41, 10, ("event count",)),
     Kind("a satellite's line lost", without(35), 39, 19, ("count too great", "line lost")),
     Kind("an epoch's line lost", without(40), 40, 10, ("epoch line lost",)),
     Kind("the first epoch's line lost", without(32), 32, 10, ("epoch line lost",)),
@@ -122,11 +127,13 @@ OF_RINEX = (
     Kind("a cut in an epoch's line", cut(40, 20), 40, 11, ("cut off",)),
     Kind("a cut in an identifier", cut(43, 1), 43, 13, ("cut off",)),
     Kind("a cut behind a value", cut(191, 33), 191, None, ("cut off",)),
+    Kind("a cut before the last line end", lambda text: text[:-1], 191, None, ("cut off",)),
     Kind("a cut between lines", without(*range(44, 192)), 44, 19, ("cut off", "count too great")),
     Kind("a cut between epochs", without(*range(40, 192))),
     Kind("a cut in the header", without(*range(20, 192)), 20, 7, ("cut off",)),
     Kind("no END OF HEADER", without(31), 191, 7, ("no END OF HEADER",)),
     Kind("a letter in a number", with_text(33, 10, b"O"), 33, 15, ("bad number",), 10),
+    Kind("two letters in a number", with_text(33, 9, b"xO"), 33, 15, ("bad number",), 9),
     Kind("a comma in a number", with_text(33, 14, b","), 33, 15, ("bad number",), 14),
     Kind("a tab in a number", with_text(33, 4, b"\t"), 33, 15, ("tab", "bad number"), 4),
     Kind("a digit lost", lines(lambda found: found.__setitem__(32, found[32][:8] + found[32][9:])), 33, 15, ("line shifted", "bad number")),
@@ -175,6 +182,7 @@ OF_COMPACT = (
     Kind("RINEX 2 inside", with_text(3, 1, b"     2.11"), 3, 4, ("other version", "version mistyped")),
     Kind("no END OF HEADER", without(33), 213, 7, ("no END OF HEADER",)),
     Kind("a cut inside a line", cut(46, 3), 47, 19, ("cut off",)),
+    Kind("a cut before the last line end", lambda text: text[:-1], 213, None, ("cut off",)),
     Kind("a cut between lines", without(*range(48, 214)), 48, 19, ("cut off", "compact line lost")),
     Kind("a cut between epochs", without(*range(43, 214))),
     Kind("a satellite's line lost", without(39), 43, 11, ("compact line lost",)),
@@ -183,6 +191,9 @@ OF_COMPACT = (
     Kind("an epoch twice", lines(lambda found: found[:51] + found[42:])),
     Kind("a block twice", lines(lambda found: found + found[33:])),
     Kind("a letter in a code", with_text(36, 5, b"x"), 36, 15, ("mistyped",), 5),
+    Kind("a blank in a code", with_text(37, 2, b" "), 37, 16, ("code broken", "compact line lost", "damaged before", "mistyped"), 1),
+    Kind("a blank in a code, noticed in the next epoch", with_text(55, 1, b" "), 64, 16, ("code broken", "compact line lost", "damaged before", "mistyped"), 2),
+    Kind("a line end in a code", with_text(46, 4, b"\n"), 50, 16, ("line broken", "compact line lost", "damaged before", "mistyped"), 34),
     Kind("a start's mark lost", with_text(36, 2, b"8"), 36, 16, ("compact line lost", "damaged before", "mistyped"), 2),
     Kind("an unknown system", with_text(34, 42, b"X"), 34, 13, ("mistyped", "damaged before"), 42),
     Kind("a satellite twice", with_text(34, 45, b"G02"), 34, 14, ("mistyped", "damaged before"), 45),

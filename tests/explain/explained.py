@@ -6,7 +6,7 @@ import sys
 from pathlib import Path
 
 TOP = Path(__file__).resolve().parents[2]
-LIBRARY = TOP / "out/library/librnxcmp.so.2"
+LIBRARY = Path(os.environ.get("RNXCMP_LIBRARY", TOP / "out/library/librnxcmp.so.2"))
 DATE = "01-Jan-24 00:00"
 ENVIRONMENT = {**os.environ, "PYTHONPATH": str(TOP / "python"), "RNXCMP_LIBRARY": str(LIBRARY), "PYTHONDONTWRITEBYTECODE": "1", "LC_ALL": "C.UTF-8"}
 TOOL = (sys.executable, "-S", "-m", "rnxcmp.files")

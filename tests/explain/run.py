@@ -5,7 +5,7 @@ The status is 0 where the figures are those that tests/explain/checks.py asks fo
 import sys
 
 import onebyte
-from checks import FIELDS, compacted, sample, wrong_in
+from checks import compacted, sample, wrong_in
 
 
 def main():
@@ -15,7 +15,7 @@ def main():
         counts = onebyte.run(program, text, direction, count // 2, seed)
         print(f"{direction}: {counts.files} files, {counts.noticed} noticed, of {counts.typed} in numbers, codes and identifiers", end=" ")
         print(f"the field of {counts.fields}, the column of {counts.columns}; {counts.good} of {counts.mended} mends mend")
-        wrong += wrong_in(counts, FIELDS[direction])
+        wrong += wrong_in(counts)
     print("\n".join(wrong))
     return 1 if wrong else 0
 

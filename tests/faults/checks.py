@@ -126,9 +126,9 @@ def interrupted(program, call, stream):
 
 
 def opened_files(program):
-    """After the root folder, three times (docs/DECISIONS.md), a run opens the file that is read and then the one that is written, each once and as
-    the options say, and no other; it removes, renames and links none. Where the first can't be opened, the second isn't."""
-    wrong, places = [], [("/", "O_RDONLY")] * 3
+    """After the root folder (docs/DECISIONS.md), once where no standard stream is closed, a run opens the file that is read and then the one that is
+    written, each once and as the options say, and no other; it removes, renames and links none. Where the first can't be opened, the second isn't."""
+    wrong, places = [], [("/", "O_RDONLY")]
     calls = "open,openat,openat2,creat,unlink,unlinkat,rename,renameat,renameat2,link,linkat,symlink,symlinkat,mkdir,mkdirat,truncate,chmod,fchmodat"
     read, made, emptied = "O_RDONLY", "O_WRONLY|O_CREAT|O_EXCL", "O_WRONLY|O_CREAT|O_TRUNC"
     for words, wanted in (

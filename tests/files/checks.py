@@ -10,7 +10,7 @@ sys.path.insert(0, str(Path(__file__).parent))
 from outcomes import outcomes_of  # noqa: E402
 from place import lacking  # noqa: E402
 
-MODULES = ("matrix", "options", "others", "meanwhile", "races", "signals", "faults", "resources", "neighbour_disks", "neighbour_looks", "neighbour_machines", "neighbour")
+MODULES = ("matrix", "options", "others", "meanwhile", "races", "signals", "faults", "resources", "unusual", "neighbour_disks", "neighbour_looks", "neighbour_machines", "neighbour")
 AT_ONCE = 3  # modules that are tried side by side, since most of the time is spent waiting
 
 

@@ -14,7 +14,7 @@ import time
 
 from meanwhile import at_work
 from place import ENVIRONMENT, GOOD, SECONDS, Place, Promise, marked
-from signals import BATCH, after_its_end, command_of, prepared
+from signals import BATCH, after_its_end, command_of, lines_up_to_a_moment, prepared
 
 SHUTDOWN = 0x8004587D  # EXT4_IOC_SHUTDOWN
 NO_FLUSH = (2).to_bytes(4, sys.byteorder)  # what the journal holds isn't written any more
@@ -82,8 +82,7 @@ def one_cut(texts, disk, mends, way, dice):
         call("sync", "-f", place.work)
         command = command_of(way, promises)
         run = subprocess.Popen(command, cwd=place.work, env=ENVIRONMENT, stdout=subprocess.PIPE, stderr=subprocess.DEVNULL, text=True)
-        said = [run.stdout.readline()] if dice.random() < 0.9 else []
-        time.sleep(dice.random() * 0.3)
+        said = lines_up_to_a_moment(run, dice)
         at_work = run.poll() is None
         disk.cut()
         run.kill()

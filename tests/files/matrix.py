@@ -6,7 +6,7 @@ import re
 
 from place import DIRECTIONS, GOOD, KINDS, TOP, Place, Promise, marked
 
-OPTIONS = {"no option": (), "`-f`": ("-f",), "`--verify`": ("--verify",), "`-s`": ("-s",)}
+OPTIONS = {"no option": (), "`-s`": ("-s",), "`-f`": ("-f",), "`--verify`": ("--verify",)}
 CELL = re.compile(r'(?P<done>[a-z ]+?)(?: and verified|(?P<also> and verified))?(?:: "(?P<said>[^"]*)")?, (?P<status>\d)')
 
 
@@ -15,9 +15,10 @@ def table():
     page = (TOP / "docs/FILES.md").read_text()
     rows = [[cell.strip() for cell in line.strip("|").split("|")] for line in page[page.index("| Under the output's name") :].split("\n\n")[0].splitlines()]
     for there, *cells in rows[2:]:
-        for option, cell in zip(rows[0][1:], cells):
+        for options, cell in zip(rows[0][1:], cells):
             found = CELL.fullmatch(cell)
-            yield there, option, {"done": found["done"], "verified": "verified" in cell, "said": found["said"] or "", "status": int(found["status"])}
+            for option in options.split(", or "):
+                yield there, option, {"done": found["done"], "verified": "verified" in cell, "said": found["said"] or "", "status": int(found["status"])}
 
 
 def output_of(texts, direction, content, skip):

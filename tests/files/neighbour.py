@@ -10,7 +10,7 @@ is one thing, whatever was done:
 - nothing but the tool's own parts is removed or changed: each other file and folder is under the name, and as it was, that it last had;
 - what a line calls verified was this input's output, under its name, when the tool looked there last; nothing of weight is between that
   look and the line;
-- what is listed was so when the tool looked after the last file, and only the writing of the list comes after that look;
+- what is listed was so when the tool looked after the last file, and between that look and the list's name is only the writing of the list;
 - the run comes to its end.
 """
 
@@ -37,7 +37,8 @@ PARTS = f".rnxcmp-file.{os.geteuid()}"
 DIRECTIONS = {"rnx2crx": ("rnx", "crx"), "crx2rnx": ("crx", "rnx")}
 THERE = ("nothing", "its output", "another file")
 BATCH = 20  # rounds that are prepared at once, since a file that has just been made has to settle
-NAMING = ("link", "linkat", "renameat", "renameat2", "rename", "fsync")  # calls that give a name, or after which one is looked at
+GIVING = ("link", "linkat", "rename", "renameat", "renameat2")  # calls that give a name
+NAMING = (*GIVING, "fsync")  # and after which one is looked at
 REMOVES_FOLDER = 0x200  # of unlinkat
 LIGHT = {"close", "fcntl", "flock", "getcwd", "ioctl", "lseek", "exit_group", "clock_nanosleep", "nanosleep", "clock_gettime"}  # calls that change no file
 
@@ -190,7 +191,7 @@ class Claims:
         self.outputs = scene.names()
         self.paths = {str(work / name): name for names in self.outputs.items() for name in names}
         self.seen = {}  # by a name: the number of the last look, and what was there
-        self.number = self.last_line = 0
+        self.number = self.last_line = self.last_name = 0
         self.heavy = []  # the numbers and names of calls that may change a file
         self.wrong = []
         self.count = 0  # lines that say verified, and listed names
@@ -206,6 +207,7 @@ class Claims:
             self.line(said)
         elif call.name not in LIGHT and not (call.name == "write" and call.arguments[0] == 2):
             self.heavy.append((self.number, call.name, path))
+            self.last_name = self.number if call.name in GIVING else self.last_name
 
     def content(self, name):
         """The text of a regular file, unpacked, or nothing."""
@@ -253,7 +255,7 @@ class Claims:
                 self.wrong.append(f"listed {name}, and it wasn't so")
             if self.looked(name) < self.last_line:
                 self.wrong.append(f"listed {name}, and nobody looked after the last file")
-            after = sorted({call for number, call, path in self.heavy if number > self.looked(name)} - {"write", "fsync", "linkat", "unlinkat", "newfstatat", "fstat", "openat"})
+            after = sorted({call for number, call, _ in self.heavy if self.looked(name) < number < self.last_name} - {"write", "fsync", "newfstatat", "fstat", "openat"})
             if after:
                 self.wrong.append(f"listed {name}, and after the look came {after}")
 

@@ -15,7 +15,7 @@ from place import become_the_tool, loaded_main
 TRACE_ME, GO_ON, OPTIONS, INFORMATION = 0, 24, 0x4200, 0x420E  # requests of ptrace
 MARKED, ENDS_WITH_US = 1, 1 << 20  # its options
 MARK = signal.SIGTRAP | 0x80  # how a call is told from a signal
-SECONDS, PERIODS = 15, 10  # a run makes a call in so many seconds, whatever else the machine does, and ends in so many times as long
+SECONDS, CALLS = 15, 100000  # a run doesn't sleep for so long in one call, and makes fewer calls than so many
 NAMES = {  # the calls that are told apart, by their numbers on x86-64
     0: "read", 1: "write", 2: "open", 3: "close", 4: "stat", 5: "fstat", 6: "lstat", 8: "lseek", 16: "ioctl", 17: "pread64", 32: "dup", 33: "dup2", 35: "nanosleep", 39: "getpid",
     72: "fcntl", 73: "flock", 74: "fsync", 75: "fdatasync", 77: "ftruncate", 79: "getcwd", 80: "chdir", 82: "rename", 83: "mkdir", 84: "rmdir", 86: "link", 87: "unlink", 91: "fchmod",
@@ -97,21 +97,28 @@ def _started(main, work, words, out):
             os.kill(os.getpid(), signal.SIGSTOP)
         except BaseException:
             os._exit(99)
-        become_the_tool(main, work, words, out, out)
+        become_the_tool(main, work, words, out, out, 0)
     os.waitpid(child, 0)
     ptrace(OPTIONS, child, 0, MARKED | ENDS_WITH_US)
     return child
 
 
 class Clock:
-    """Raises an error where a run makes no call for long, or doesn't end."""
+    """Raises an error where a run sleeps in a call for long; one that lacks a processor doesn't sleep."""
 
-    def __init__(self):
-        self.calls = self._seen = self._periods = 0
+    def __init__(self, child):
+        self._child = child
+        self.calls = self._seen = 0
+
+    def _sleeps(self):
+        try:
+            with open(f"/proc/{self._child}/stat", encoding="utf-8", errors="replace") as file:
+                return file.read().rpartition(")")[2].split()[0] in "SD"
+        except OSError:  # it has come to its end
+            return False
 
     def _rings(self, *_):
-        self._periods += 1
-        if self.calls == self._seen or self._periods > PERIODS:
+        if self.calls == self._seen and self._sleeps():
             raise Late
         self._seen = self.calls
 
@@ -131,10 +138,12 @@ def calls(work, words, out):
     child = _started(loaded_main(), work, words, out)
     found, sign, is_entry = Information(), 0, False
     place, length = ctypes.addressof(found), ctypes.sizeof(found)
-    with Clock().running() as clock:
+    with Clock(child).running() as clock:
         try:
             while True:
                 clock.calls += 1
+                if clock.calls > CALLS:
+                    raise Late
                 ptrace(GO_ON, child, 0, sign)
                 status = os.waitpid(child, 0)[1]
                 if not os.WIFSTOPPED(status):

@@ -332,9 +332,12 @@ def modes(texts):
 
 def no_memory(texts):
     """Where Python's own memory runs out the message says so."""
-    script = "import rnxcmp.files as it\ndef whole(*_): raise MemoryError\nit.Whole = whole\nit.main(['rnx2crx', 'a.rnx'])"
-    run = subprocess.run([sys.executable, "-S", "-c", script], env=ENVIRONMENT, capture_output=True, text=True, timeout=SECONDS)
-    return [] if run.stderr == "a.rnx: ERROR: out of memory\n" else [f"{run}"]
+    script = "import rnxcmp.files, rnxcmp._told\ndef none(*_): raise MemoryError\nrnxcmp.files.Whole = rnxcmp._told.explain = none\nsys.exit(rnxcmp.files.main(sys.argv[1:]))"
+    wrong = []
+    for word in ("rnx2crx", "explain"):
+        run = subprocess.run([sys.executable, "-S", "-c", f"import sys\n{script}", word, "a.rnx"], env=ENVIRONMENT, capture_output=True, text=True, timeout=SECONDS)
+        wrong += [] if run.returncode == 1 and run.stderr == "a.rnx: ERROR: out of memory\n" else [f"{run}"]
+    return wrong
 
 
 INTERRUPTED = """

@@ -99,10 +99,10 @@ def list_on_the_disk(texts):
         return [] if run.returncode == 0 and re.search(steps, calls) else [f"{run}, {calls[-1500:]}"]
 
 
-# A clock by which the input was changed a hundredth of a second ago, and which goes on only while the run sleeps.
+# A clock by which the input was changed so many seconds ago, and which goes on only while the run sleeps.
 JUST_CHANGED = """
 import time
-now = [os.stat("a.rnx").st_ctime + 0.01]
+now = [os.stat("a.rnx").st_ctime + {}]
 def sleeping(seconds):
     now[0] += seconds + 0.001
     print(f"slept {seconds:.2f} seconds", flush=True)
@@ -111,11 +111,14 @@ time.time, time.sleep = lambda: now[0], sleeping
 
 
 def settled_times(texts):
-    """An input that has just been changed isn't read before another change would have another time."""
-    with Place() as place:
-        place.write("a.rnx", GOOD)
-        run = changed(place, JUST_CHANGED, "rnx2crx", "a.rnx")
-        return [] if run.returncode == 0 and run.stdout.startswith("slept 0.04 seconds\n") and run.stdout.endswith("made a.crx\n") else [f"{run}"]
+    """An input that has just been changed isn't read before another change would have another time, be it by a clock that is ahead."""
+    wrong = []
+    for seconds, slept in (("0.01", "0.04"), ("-0.01", "0.05"), ("-90000", "0.05")):
+        with Place() as place:
+            place.write("a.rnx", GOOD)
+            run = changed(place, JUST_CHANGED.replace("{}", seconds), "rnx2crx", "a.rnx")
+            wrong += [] if run.returncode == 0 and run.stdout.startswith(f"slept {slept} seconds\n") and run.stdout.endswith("made a.crx\n") else [f"{seconds}: {run}"]
+    return wrong
 
 
 def closed_parts(texts):

@@ -18,6 +18,8 @@ from place import ENVIRONMENT, GOOD, SECONDS, TOOL, Place, Promise, Texts, marke
 
 SIGNALS = (signal.SIGKILL, signal.SIGKILL, signal.SIGTERM, signal.SIGINT, signal.SIGHUP)
 BATCH = 20  # files in a call
+QUICK = 60  # files in the gate
+MOMENT = 0.02  # seconds that a file takes
 CALL = """
 import sys, rnxcmp
 for name in sys.argv[2:]:
@@ -45,6 +47,14 @@ def command_of(way, promises):
     return [*TOOL, "rnx2crx", "-f", "--verified-to", "list", *names]
 
 
+def lines_up_to_a_moment(run, dice):
+    """The lines of a run up to a moment in one of its files; or to one before the first, when Python may not have come to the tool."""
+    begun = dice.random() < 0.9
+    said = [run.stdout.readline() for _ in range(dice.randrange(BATCH))] if begun else []
+    time.sleep(dice.random() * (MOMENT if begun else 0.2))
+    return said
+
+
 def after_its_end(place, promises, command, said):
     """What is wrong after a call that was ended, and said these lines; and after the same, begun again, has come to its end."""
     wrong = []
@@ -66,11 +76,10 @@ def one_batch(texts, dice, way):
         command = command_of(way, promises)
         sign = dice.choice(SIGNALS)
         with subprocess.Popen(command, cwd=place.work, env=ENVIRONMENT, stdout=subprocess.PIPE, stderr=subprocess.DEVNULL, text=True) as run:
-            began = dice.random() < 0.9 and run.stdout.readline()  # else Python may not have come to the tool
-            time.sleep(dice.random() * 0.15)
+            said = lines_up_to_a_moment(run, dice)
             at_work = run.poll() is None
             run.send_signal(sign)
-            said = run.communicate(timeout=SECONDS)[0].splitlines()
+            began, said = said, said + run.communicate(timeout=SECONDS)[0].splitlines()
         wrong = []
         if began and at_work and sign != signal.SIGKILL and way != "Python":
             wrong += [f"status {run.returncode}, not that of {sign.name}"] if run.returncode not in (-sign, 0) else []
@@ -82,10 +91,13 @@ def check(texts, files, way, seed):
     dice = random.Random(seed)
     ended = [one_batch(texts, dice, way) for _ in range(-(-files // BATCH))]
     wrong = [line for lines, _ in ended for line in lines]
-    return wrong[:6] + ([] if any(at_work for _, at_work in ended) else ["no run was at work when its signal came"])
+    at_work = sum(at_work for _, at_work in ended)
+    if files > QUICK:
+        print(f"    {way}: {len(ended)} signals, {at_work} while the run was at work, {len(ended) * BATCH} files", flush=True)
+    return wrong[:6] + ([] if at_work else ["no run was at work when its signal came"])
 
 
-def checks(texts, files=60):
+def checks(texts, files=QUICK):
     for way in ("command", "Python"):
         yield f"signals: {way}", lambda way=way: check(texts, files, way, 1)
 

@@ -31,13 +31,19 @@ def made(name):
     return subprocess.run([sys.executable, BENCH / script, *words], capture_output=True, check=True, timeout=SECONDS).stdout
 
 
+def instructions_of(command, given):
+    """How many instructions a command takes over what it is given by standard input."""
+    with tempfile.NamedTemporaryFile() as counts:
+        counting = ["valgrind", "--tool=callgrind", f"--callgrind-out-file={counts.name}"]
+        run = [*counting, *map(str, command)]
+        subprocess.run(run, input=given, stdout=subprocess.DEVNULL, stderr=subprocess.DEVNULL, check=True, timeout=SECONDS)
+        return next(int(line.split()[1]) for line in Path(counts.name).read_text().splitlines() if line.startswith(("summary:", "totals:")))
+
+
 def counted(program, tool, rinex):
     """How many instructions a tool takes over a file of RINEX, or over its compact text."""
     given = rinex if tool != "crx2rnx" else subprocess.run([program, *TOOLS["rnx2crx"]], input=rinex, capture_output=True, check=True).stdout
-    with tempfile.NamedTemporaryFile() as counts:
-        command = ["valgrind", "--tool=callgrind", f"--callgrind-out-file={counts.name}", program, *TOOLS[tool]]
-        subprocess.run(command, input=given, stdout=subprocess.DEVNULL, stderr=subprocess.DEVNULL, check=True, timeout=SECONDS)
-        return next(int(line.split()[1]) for line in Path(counts.name).read_text().splitlines() if line.startswith(("summary:", "totals:")))
+    return instructions_of([program, *TOOLS[tool]], given)
 
 
 def stored():

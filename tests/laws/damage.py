@@ -13,9 +13,10 @@ are kept; no fault. A stretch has all lines of each event and of each epoch that
 together, on lines of their own, and if it follows one that is kept, or is an event or an epoch in full. Of two kinds of damage nothing is
 said, and both have to be reached: a line of a stretch reads as an event's first one, or an event that changes types is lost.
 
-Nothing is lost in silence: with status 0 each line after the two first ones was copied or is one of an epoch's that came out; with status 2
-a warning tells of at least one line that wasn't, and each of another. Noise is noticed: where all damage is one byte of an epoch's lines that
-isn't one of the characters 32 to 126, nor LF, nor CR before LF, the status is 2. The last line is `N passed, M failed`.
+Nothing is lost in silence: with status 0 each line after the two first ones was copied or is one of an epoch's that came out, and those hold
+characters 32 to 126 alone; with status 2 a warning tells of at least one line that wasn't, and each of another. Noise is noticed: where all
+damage is one byte of an epoch's lines that isn't one of the characters 32 to 126, nor LF, nor CR before LF or at the end, the status is 2;
+such an end of a line has to be reached too. The last line is `N passed, M failed`.
 """
 
 from __future__ import annotations
@@ -40,7 +41,8 @@ from runs import Runs  # noqa: E402
 LF, CR, LONGEST = 10, 13, LIMITS["LINE_LIMIT"]
 DAMAGES_OF_A_FILE = 40
 EVENT_LINE, TYPES_LOST = "a line of a stretch reads as an event's first one", "an event that changes types is lost"
-EXCEPTIONS = (EVENT_LINE, TYPES_LOST)
+LINE_END = "LF, or CR before LF or at the end, in an epoch's line"  # alone: no noise
+EXCEPTIONS = {"flips": (EVENT_LINE, TYPES_LOST), "damages": (EVENT_LINE, TYPES_LOST, LINE_END)}  # of a flip no such end comes
 OF_RECORDS = (b" code 1: ", b" code 6: ", b" code 19: ")  # the faults of an event's records
 
 
@@ -218,7 +220,7 @@ class Damaged:
             self.put(at - 1, at, pick.choice([b"", b"\x0b", b" ", b"\r"]))
 
     def damage(self, pick: random.Random) -> None:
-        kind, at = pick.randrange(11), self.place(pick)
+        kind, at = pick.randrange(12), self.place(pick)
         first, last = self.line(pick)
         if kind in (0, 1) and at < len(self.data):
             self.flip(pick, at)
@@ -236,7 +238,9 @@ class Damaged:
             self.put(first, last, self.random_text(pick) + b"\n" * pick.randint(0, 1))
         elif kind == 8:
             self.put(at, at, self.random_text(pick))
-        elif kind > 8:
+        elif kind == 9 and at < len(self.data):
+            self.put(at, at + 1, pick.choice([b"\n", b"\n", b"\r", b"\0", b"\t", b"\x7f", b"\xff"]))
+        elif kind > 9:
             self.damage_beginning(pick)
 
 
@@ -323,34 +327,43 @@ def is_saved(output: bytes, before: list[bytes], stretches: list[Stretch]) -> bo
     return matches(len(before), 0)
 
 
-def units_of(output: bytes) -> tuple[int, int]:
-    """How many lines an output has, and how many epochs."""
+def units_of(output: bytes) -> tuple[list[bytes], list[tuple[bool, int]]]:
+    """The lines of an output, and its units, the header as one: whether its lines are copied, and how many it has."""
     lines = output.split(b"\n")[:-1]
     at = lines.index(labelled("", "END OF HEADER")) + 1
-    epochs = 0
+    found = [(True, at)]
     while at < len(lines):
-        epochs += not begins_event(lines[at])
-        at += 1 + int(lines[at][32:35].strip() or b"0")
-    return len(lines), epochs
+        found.append((begins_event(lines[at]), 1 + int(lines[at][32:35].strip() or b"0")))
+        at += found[-1][1]
+    return lines, found
 
 
 def is_accounted_for(data: bytes, output: bytes, warnings: int) -> bool:
-    """Whether each line was copied, or is one of an epoch's, which has one more in compact text; or warnings tell of it."""
-    given = data.count(b"\n") + (data[-1:] != b"\n") - 2
-    lines, epochs = units_of(output)
-    lost = given - lines - epochs
-    return lost >= warnings if warnings else lost == 0
+    """Whether each line was copied, or is one of an epoch's, which has one more in compact text and holds characters 32 to 126 alone; or
+    warnings tell of it."""
+    given = [line.removesuffix(b"\r") for line in data.split(b"\n")][2 : None if data[-1:] != b"\n" else -1]
+    lines, found = units_of(output)
+    lost = len(given) - sum(size + (not copied) for copied, size in found)
+    if warnings or lost:
+        return warnings > 0 and lost >= warnings
+    at = there = 0
+    for copied, size in found:
+        own = given[there : there + size + (not copied)]
+        if not (own == lines[at : at + size] if copied else all(32 <= byte <= 126 for line in own for byte in line)):
+            return False
+        at, there = at + size, there + size + (not copied)
+    return True
 
 
-def is_noise(file: File, text: Damaged) -> bool:
-    """Whether all damage is one byte of an epoch's lines that no line of an epoch holds."""
+def noise_in(file: File, text: Damaged) -> str:
+    """Whether all damage is one byte of an epoch's lines that no line of an epoch holds: noise, or an end of a line."""
+    if len(text.data) != len(file.compact):
+        return ""
     changed = [at for at, before in enumerate(text.origin) if before != at]
-    if len(text.data) != len(file.compact) or len(changed) != 1:
-        return False
-    at = changed[0]
-    byte, ends = text.data[at], text.data[at + 1 : at + 2] == b"\n"
-    printable = 32 <= byte <= 126 or byte == LF or (byte == CR and ends)
-    return not printable and any(group.start <= at < group.end and not group.is_event for group in file.groups)
+    if len(changed) != 1 or 32 <= text.data[changed[0]] <= 126 or not any(g.start <= changed[0] < g.end and not g.is_event for g in file.groups):
+        return ""
+    at, byte = changed[0], text.data[changed[0]]
+    return LINE_END if byte == LF or (byte == CR and text.data[at + 1 : at + 2] in (b"", b"\n")) else "noise"
 
 
 def judge(runs: Runs, file: File, text: Damaged) -> tuple[Counter, str]:
@@ -370,10 +383,11 @@ def judge(runs: Runs, file: File, text: Damaged) -> tuple[Counter, str]:
     asked["noticed" if warned else "unnoticed"] += 1
     if not is_accounted_for(data, output, len(warned)):
         return asked, f"lines were lost in silence, or gained: {messages!r}"
-    if is_noise(file, text):
-        asked["noise"] += 1
-        if not warned:
-            return asked, "noise wasn't noticed"
+    noise = noise_in(file, text)
+    if noise:
+        asked[noise] += 1
+    if noise == "noise" and not warned:
+        return asked, "noise wasn't noticed"
     if not isinstance(parts, str):
         asked["costs"] += 1
         if not is_saved(output, *parts):
@@ -426,7 +440,7 @@ def tried(program: Path, counts: dict[str, int], seed: int = 1) -> tuple[dict[st
             asked[kind].update(more)
             wrong += failures
     for kind, count in asked.items():
-        wrong += [f"{kind}: never reached: {name}" for name in (*EXCEPTIONS, "costs", "noise", "noticed", "unnoticed") if not count[name]]
+        wrong += [f"{kind}: never reached: {name}" for name in (*EXCEPTIONS[kind], "costs", "noise", "noticed", "unnoticed") if not count[name]]
     return asked, wrong
 
 

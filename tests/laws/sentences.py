@@ -24,12 +24,15 @@ from pathlib import Path
 
 sys.path[:0] = [str(Path(__file__).resolve().parent), str(Path(__file__).resolve().parents[2] / "conformance")]
 from damage import begins_event  # noqa: E402
+from relation import Relation  # noqa: E402
 from runs import Runs  # noqa: E402
 from generate import Copied, compact, damaged, generator, header, rinex, types_line, units  # noqa: E402
 
 TOP = Path(__file__).resolve().parents[2]
 SAMPLE = TOP / "samples/station.rnx"
 END = b" " * 60 + b"END OF HEADER"
+PATCHED = Relation().patched
+TWO_RETURNS, RETURNS = "left out: a copied line ends in two CRs", "left out: a line of what was expanded ends in CR"  # both are to be reached
 
 
 def ends_in_two_returns(file):
@@ -54,23 +57,26 @@ def spelled(rng, file):
     return whole[:-1] if rng.random() < 0.2 and not whole.endswith((b"\n\n", b"\r\n")) else whole
 
 
-def parts_of(output, text):
-    """The units of an output with their lines of compact text: whether each is an event, and whether its first line begins with >."""
-    lines, compact_lines = output.split(b"\n")[:-1], text.split(b"\n")[:-1]
-    at = next(k for k, line in enumerate(lines) if line[60:80].rstrip() == b"END OF HEADER") + 1
-    there, found = at + 2, []
+def parts_of(text):
+    """The units behind the header of compact text that the program wrote: whether each is an event, whether its first line begins with >,
+    and how many lines it has in RINEX; and how many lines the header has."""
+    lines, epoch, found = text.split(b"\n")[:-1], b"", []
+    header = next(k for k, line in enumerate(lines) if line[60:80].rstrip(b" ") == b"END OF HEADER") - 1
+    at = header + 2
     while at < len(lines):
-        size = 1 + int(lines[at][32:35].strip() or b"0")
-        event = begins_event(lines[at])
-        found.append((event, compact_lines[there][:1] == b">"))
-        at, there = at + size, there + size + (not event)
-    return found
+        line, event = lines[at], begins_event(lines[at])
+        if not event:
+            epoch = line if line[:1] == b">" else PATCHED(epoch, line)
+        size = 1 + int((line if event else epoch)[32:35].strip() or b"0")
+        found.append((event, line[:1] == b">", size))
+        at += size + (not event)
+    return found, header
 
 
 def longest_block(parts):
     """How many epochs the longest block has."""
     longest = length = 0
-    for event, first in parts:
+    for event, first, _ in parts:
         length = 0 if event else 1 if first else length + 1
         longest = max(longest, length)
     return longest
@@ -106,20 +112,23 @@ def ask_file(asked, runs, rng, file):
         asked.ask("what passes a check comes back", came_back and status == 0, file)
     if checked[0] in (0, 2):
         asked.ask("exactly what comes back is standard", (back[1] == file) == (checked[0] == 0), file)
-    plain = not ends_in_two_returns(file)
-    if checked[0] in (0, 2) and plain:
+    if checked[0] in (0, 2) and ends_in_two_returns(file):  # of a line that is copied: others have no CR
+        asked.counts[TWO_RETURNS] += 1
+    elif checked[0] in (0, 2):
         asked.ask("the normal form comes back", back[0] == 0 and runs.of(["check"], back[1])[0] == 0, file)
         asked.ask("the normal form compacts the same", runs.all_of(["rnx2crx", *options], back[1]) == (status, text, messages), file)
-    if status in (0, 2) and plain and back[0] == 0:
-        lost = file.count(b"\n") + (bool(file) and not file.endswith(b"\n")) - back[1].count(b"\n")
+    if status in (0, 2):
+        parts, header = parts_of(text)
+        lost = file.count(b"\n") + (not file.endswith(b"\n")) - header - sum(size for _, _, size in parts)
         warnings = messages.count(b"\n")
         asked.ask("no line is lost in silence" if status == 0 else "warnings tell of lost lines", lost >= warnings if warnings else lost == 0, file)
-        asked.ask("blocks are short", longest_block(parts_of(back[1], text)) <= every, file)
+        asked.ask("blocks are short", longest_block(parts) <= every, file)
 
 
 def ask_text(asked, runs, rng, text):
     """The sentences about compact text of any bytes."""
     status, output = runs.of(["crx2rnx", *(["-s"] * rng.randrange(2))], text)
+    asked.counts[RETURNS] += status in (0, 2) and b"\r\n" in output
     if status in (0, 2) and b"\r\n" not in output:
         other = runs.of(["rnx2crx", *options_of(rng)[1]], output)
         asked.ask("what was expanded is expanded again", other[0] == 0 and runs.of(["crx2rnx"], other[1]) == (0, output), text)
@@ -174,7 +183,7 @@ def try_files(job):
 SENTENCES = (
     "what passes a check comes back", "exactly what comes back is standard", "the normal form comes back", "the normal form compacts the same",
     "files of one normal form are compacted alike", "no line is lost in silence", "warnings tell of lost lines", "blocks are short",
-    "what was expanded is expanded again", "hours make a day",
+    "what was expanded is expanded again", "hours make a day", TWO_RETURNS, RETURNS,
 )
 
 

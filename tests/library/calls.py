@@ -17,7 +17,7 @@ from datetime import datetime, timezone
 from pathlib import Path
 
 import rnxcmp
-from inputs import header_and_epochs
+from inputs import header_and_epochs, parts_of
 
 PROGRAM, SAMPLE = sys.argv[1], Path(sys.argv[2])
 VERSION = Path(__file__).resolve().parents[2] / "VERSION"
@@ -265,6 +265,12 @@ def check_streams(data, compact):
         expect("a check in pieces", stream.feed(data[:1000]) + stream.feed(data[1000:]) + stream.end(), rnxcmp.check(data).text.encode())
 
 
+def check_in_time(data):
+    """An epoch comes back from its compact text before the next one is fed, to either run."""
+    with rnxcmp.Stream.compacting(date=DATE) as forth, rnxcmp.Stream.expanding() as back:
+        expect("each epoch in time", [back.feed(forth.feed(part)) for part in parts_of(data)], parts_of(data))
+
+
 def check_many_warnings(data):
     """200 warnings, and then a fault that ends the run though faults are skipped."""
     header, epochs = header_and_epochs(data)
@@ -434,6 +440,7 @@ def main():
     check_cut_content(data, compact)
     check_damaged_gzip(data)
     check_streams(data, compact)
+    check_in_time(data)
     check_many_warnings(data)
     expect("the version", (rnxcmp.version(), rnxcmp.__version__), (VERSION.read_text().strip(),) * 2)
     with tempfile.TemporaryDirectory() as folder:

@@ -30,13 +30,16 @@ sys.path[:0] = [str(HERE), str(TOP / "tests")]
 import quick  # noqa: E402
 from answers import KINDS, Call, answers_of_cases, run_program  # noqa: E402
 from checking import tally  # noqa: E402
+from streams_in_time import check_in_time  # noqa: E402
 from inputs import SAMPLE, header_and_epochs, random_call, random_limit, texts_to_damage, widest_compact, widest_header, with_strange_epochs  # noqa: E402
+from lengths import LONGEST, check_each_length, check_instructions, check_many_messages  # noqa: E402
 from servers import COUNTED, FAULT, OUT_OF_MEMORY, OUTPUT_LIMIT, Calls, Handles, built, is_dated, wrong_call, wrong_run  # noqa: E402
 
 MADE = Path(os.environ.get("LIBRARY_TOP", TOP)).resolve()
 LIBRARY = MADE / "out/library"
 PROVED = MADE / "crates/rnxcmp_c/out/librnxcmp_c.a"
 WHEELS = TOP / "out/python"
+PROGRAM = TOP / "out/machines/x86-64-v2/built/rnxcmp"
 INPUTS = 2000
 SECONDS = 4  # of a processor, in which a hostile input is to be done with
 # how long pieces and rooms are
@@ -331,8 +334,9 @@ def python_in(folder, wheels):
 
 
 def wheel_in(b, name):
-    """The path of a wheel that is made anew."""
-    command = [sys.executable, TOP / "python/build_wheel.py", b.library, b.work / name]
+    """The path of a wheel that is made anew, as `make python` makes it."""
+    program = ["--program", PROGRAM] if PROGRAM.exists() and MADE == TOP else []
+    command = [sys.executable, TOP / "python/build_wheel.py", b.library, b.work / name, *program]
     return Path(subprocess.run(command, capture_output=True, text=True, timeout=60, check=True).stdout.strip())
 
 
@@ -439,6 +443,10 @@ def checks(program, count=INPUTS):
         yield f"{len(answers)} runs of tests/cases through handles", lambda: quick.served(b, "handles", Handles, check_cases_in_pieces, answers)
         yield "the loop of the header", lambda: check_loop(b, answers)
         yield f"{count} random and damaged inputs, {count // 10} with refusals", lambda: with_both(b, lambda *given: check_random(*given, count))
+        yield "outputs in time", lambda: check_in_time(b)
+        yield f"lines of each length up to {LONGEST}", lambda: with_both(b, check_each_length, sanitizers=[])
+        yield "a megabyte of messages", lambda: with_both(b, check_many_messages)
+        yield "instructions of calls and handles", lambda: check_instructions(b)
         yield "hostile inputs", lambda: with_both(b, check_hostile, 10**9, sanitizers=[])
         yield "a handle over 20,000 lines", lambda: check_growths(b)
         yield "an input over the limit", lambda: check_limit(b)

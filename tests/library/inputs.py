@@ -26,6 +26,12 @@ def header_and_epochs(data):
     return data[:end], data[end:]
 
 
+def parts_of(data):
+    """The header of RINEX, and each epoch."""
+    header, epochs = header_and_epochs(data)
+    return [header, *[b">" + epoch for epoch in epochs.split(b">")[1:]]]
+
+
 def widest_header(is_compact):
     """A header in which each system has as many types as there may be."""
     lines = ["3.0                 COMPACT RINEX FORMAT                    CRINEX VERS   / TYPE", " " * 60 + "CRINEX PROG / DATE"] if is_compact else []

@@ -23,8 +23,8 @@ from inputs import SAMPLE, sample_calls, with_strange_epochs  # noqa: E402
 from servers import COUNTED, OUT_OF_MEMORY, Calls, Handles, built, check_refusals, titled, wrong_call, wrong_run  # noqa: E402
 
 SECONDS = 100  # in which each program is to end
-# what the library calls of the C library: it opens no file, prints nothing, and doesn't end the process
-CALLED = set("malloc realloc free memcpy memmove memset memcmp memchr bcmp strlen".split())
+# what the library calls of the C library: it opens no file, prints nothing, and doesn't end the process, but where its stack was overwritten
+CALLED = set("malloc realloc free memcpy memmove memset memcmp memchr bcmp strlen __stack_chk_fail".split())
 VERSION = (HERE.parents[1] / "VERSION").read_text().strip()
 
 

@@ -23,7 +23,7 @@ class Case:
     status: int = 0
     after: dict = field(default_factory=dict)  # files that are new or changed
     through: str = ""  # what the shell pipes the output through
-    open_files: int = 0  # how many files the system lets it have open, where that is limited; the three streams and three places count
+    open_files: int = 0  # how many files the system lets it have open, where that is limited; the three streams and one place count
 
 
 def text(*lines):
@@ -117,8 +117,8 @@ CASES = [
     Case("the date of the run", ["rnx2crx"], text(*H), stdout=is_dated_by_the_moment),
     refused("a date with a TAB", [*EACH[:-1], "a\tb"], "ERROR: bad date"),
     # Files.
-    refused("an output that can't be made, without -f", [*DATED, "a.rnx"], "ERROR: cannot create a.crx", {"a.rnx": FIVE}, open_files=7),
-    refused("an output that can't be made, backwards", ["crx2rnx", "a.crx"], "ERROR: cannot create a.rnx", {"a.crx": COMPACT_FIVE}, open_files=7),
+    refused("an output that can't be made, without -f", [*DATED, "a.rnx"], "ERROR: cannot create a.crx", {"a.rnx": FIVE}, open_files=5),
+    refused("an output that can't be made, backwards", ["crx2rnx", "a.crx"], "ERROR: cannot create a.rnx", {"a.crx": COMPACT_FIVE}, open_files=5),
     # Words that are refused.
     Case("no subcommand", [], stderr=is_refusal, status=1),
     Case("another subcommand", ["compact"], stderr=is_refusal, status=1),

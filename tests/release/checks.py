@@ -1,5 +1,5 @@
-"""What `make dist` makes: the same bytes twice, packages that unpack into an empty folder, a static program that works there; and the
-version, which stands in VERSION alone (see tests/run.py)."""
+"""What `make dist` makes: the same bytes twice, packages that unpack into an empty folder, a static program that works there, a library that
+compilers find; and the version, which stands in VERSION alone (see tests/run.py)."""
 
 import json
 import os
@@ -13,16 +13,20 @@ from pathlib import Path
 
 sys.path.insert(0, str(Path(__file__).parent))
 from empty_root import check_archive_in_empty_root, check_in_empty_root  # noqa: E402
+from found import check_found, check_lintian, check_sums, check_wheel  # noqa: E402
 
 TOP = Path(__file__).resolve().parents[2]
 SAMPLE = TOP / "samples/station.rnx"
-LIBRARY = TOP / "out/library"  # which the archive has too, where make library made it
+PROVED = TOP / "crates/rnxcmp_c/out/librnxcmp_c.a"
+MACHINES = TOP / "out/machines"  # what was made for others (packaging/machines.mk)
+OBJECTS = {"x86-64": ("x86-64/rnxcmp.o", "x86-64/librnxcmp_c.a"), "aarch64": ("aarch64/rnxcmp.o", "aarch64/librnxcmp_c.a"), "windows": ("x86-64/rnxcmp.bc", "x86-64/rnxcmp_c.bc")}
+TYPE, SHARED = 16, 3  # where an ELF file says what it is, and that it may stand at any address
 VERSION = (TOP / "VERSION").read_text().strip()
 DEBIAN = VERSION.replace("-", "~")  # as Debian writes it
-SECONDS = 100  # in which each step is to end
+SECONDS = 600  # in which each step is to end, on a busy machine too
 INTERPRETER = 3  # what says in a program's table that it needs the system's loader
 FILES = ("bin/rnxcmp", "bin/RNX2CRX", "bin/crx2rnx", "share/man/man1/rnxcmp.1")
-DOCUMENTS = ["NOTICES", "LGPL-2.1.txt", "CHANGELOG.md", "USE.md", "ARCHIVES.md", "GUARANTEES.md"]
+DOCUMENTS = ["LIBRARY.md", "examples/compact.c", "NOTICES", "LGPL-2.1.txt", "CHANGELOG.md", "USE.md", "ARCHIVES.md", "GUARANTEES.md"]
 PAGES = ["READING.md", "DEFINITIONS.md", "DEFINITIONS.html", "CONTRACTS.md", "CONTRACTS.html"]  # those of make docs
 
 
@@ -35,33 +39,79 @@ def lacking(program):
         return "this is no checkout of git"
     if not Path(f"{program}.o").exists():
         return f"there is no object file {program.name}.o beside the program"
+    if not PROVED.exists():
+        return "there is no library: make library"
     static = subprocess.run(["gcc", "-static", "-x", "c", "-o", "/dev/null", "-"], input=b"int main(void) { return 0; }", capture_output=True)
     return "there is no static C library" if static.returncode else None
 
 
-def made(program, folder, top=TOP):
-    """Makes a release: what went wrong, as lines."""
-    library = [LIBRARY] if (LIBRARY / "librnxcmp.a").exists() else []
-    run = subprocess.run([top / "packaging/dist.sh", f"{program}.o", folder, *library], capture_output=True, text=True, timeout=SECONDS)
-    said = run.stderr if library else ""  # without the library a line says what is left out
-    return [] if run.returncode == 0 and not said else [f"status {run.returncode}, {run.stderr!r}"]
+def others():
+    """The machines beside x86-64-v2 for which a release was made here."""
+    return [name for name in OBJECTS if (MACHINES / name / "made").exists()]
+
+
+def made(program, folder, top=TOP, there=(), again=(), **environment):
+    """Makes a release of the program, and of other machines, of what is there or made again for them: what went wrong, as lines."""
+    built = folder.with_name(f"{folder.name}-machines")
+    built.mkdir()
+    for name in there:
+        (built / name).symlink_to(MACHINES / name)
+    objects = {"x86-64-v2": (f"{program}.o", PROVED), **{name: [MACHINES / path for path in OBJECTS[name]] for name in again}}
+    runs = [[top / "packaging/machine.sh", name, *paths, built / name / "built"] for name, paths in objects.items()]
+    for words in (*runs, [top / "packaging/dist.sh", folder, built, *objects, *there]):
+        run = subprocess.run(words, env={**os.environ, **environment}, capture_output=True, text=True, timeout=SECONDS)
+        if run.returncode or run.stderr:
+            return [f"{words[0].name}: status {run.returncode}, {run.stderr[-600:]!r}"]
+    return []
+
+
+def wanted(more):
+    """The names of a release's files."""
+    archive, wheel = f"rnxcmp-{VERSION}", f"rnxcmp-{VERSION.replace('-dev', '.dev0')}-py3-none"
+    names = {
+        "x86-64-v2": [f"{archive}-linux-x86_64.tar.gz", f"rnxcmp_{DEBIAN}_amd64.deb", f"{wheel}-manylinux2014_x86_64.whl", f"{wheel}-musllinux_1_2_x86_64.whl"],
+        "x86-64": [f"{archive}-linux-x86_64-v1.tar.gz"],
+        "aarch64": [f"{archive}-linux-aarch64.tar.gz", f"rnxcmp_{DEBIAN}_arm64.deb", f"{wheel}-manylinux2014_aarch64.whl"],
+        "windows": [f"{archive}-windows-x86_64.zip", f"{wheel}-win_amd64.whl"],
+    }
+    return sorted([f"{archive}.tar.gz", "SHA256SUMS", *(name for machine in ("x86-64-v2", *more) for name in names[machine])])
+
+
+def key_in(folder):
+    """The environment of gpg with a new key, or none where there is no gpg."""
+    if not shutil.which("gpg"):
+        return {}
+    folder.mkdir(mode=0o700)
+    own = {"GNUPGHOME": str(folder)}
+    command = ["gpg", "--batch", "--quiet", "--pinentry-mode", "loopback", "--passphrase", "", "--quick-generate-key", "release@example.org", "ed25519", "sign", "never"]
+    run = subprocess.run(command, env={**os.environ, **own}, capture_output=True, timeout=SECONDS)
+    return {**own, "KEY": "release@example.org"} if run.returncode == 0 else {}
 
 
 def check_twice(program, one, two):
-    wrong = made(program, one) + made(program, two)
+    """The same bytes twice, of all machines that are made here; the second time signed, where there is gpg."""
+    signing = key_in(two.with_name("keys"))
+    wrong = made(program, one, there=others(), KEY="") + made(program, two, again=others(), **{"KEY": "", **signing})
     if wrong:
         return wrong
     names = sorted(path.name for path in one.iterdir())
-    wanted = sorted([f"rnxcmp-{VERSION}-linux-x86_64.tar.gz", f"rnxcmp-{VERSION}.tar.gz", f"rnxcmp_{DEBIAN}_amd64.deb", "SHA256SUMS"])
-    wrong += [] if names == wanted else [f"files {names}"]
+    wrong += [] if names == wanted(others()) else [f"files {names}"]
     wrong += [f"{name} differs" for name in names if (one / name).read_bytes() != (two / name).read_bytes()]
     sums = subprocess.run(["sha256sum", "-c", "SHA256SUMS"], cwd=one, capture_output=True, text=True, timeout=SECONDS)
-    return wrong + ([] if sums.returncode == 0 else [sums.stdout])
+    summed = {line.split("  ", 1)[1] for line in (one / "SHA256SUMS").read_text().splitlines()}
+    wrong += [] if sums.returncode == 0 and summed == set(names) - {"SHA256SUMS"} else [sums.stdout, f"{summed}"]
+    if signing:
+        verified = subprocess.run(["gpg", "--verify", two / "SHA256SUMS.asc", two / "SHA256SUMS"], env={**os.environ, **signing}, capture_output=True, timeout=SECONDS)
+        wrong += [] if verified.returncode == 0 else [f"the signature: {verified.stderr.decode()}"]
+        subprocess.run(["gpgconf", "--kill", "all"], env={**os.environ, **signing}, capture_output=True, timeout=SECONDS)
+    return wrong
 
 
 def needs_loader(program):
-    """Whether an ELF file of 64 bits asks for the system's loader, and so for shared libraries."""
+    """Whether an ELF file of 64 bits asks for the system's loader, and so for shared libraries, or stands at one address alone."""
     content = program.read_bytes()
+    if struct.unpack_from("<H", content, TYPE)[0] != SHARED:
+        return True
     start, size, count = struct.unpack_from("<Q", content, 32)[0], *struct.unpack_from("<HH", content, 54)
     return any(struct.unpack_from("<I", content, start + size * k)[0] == INTERPRETER for k in range(count))
 
@@ -85,12 +135,12 @@ def check_unpacked(prefix, doc):
     if wrong:
         return wrong
     program = prefix / "bin/rnxcmp"
-    wrong += ["the program isn't static"] if needs_loader(program) else []
+    wrong += ["the program isn't static, or can't be moved"] if needs_loader(program) else []
     compact = subprocess.run([program, "rnx2crx"], stdin=SAMPLE.open(), capture_output=True, timeout=SECONDS)
     back = subprocess.run([program, "crx2rnx"], input=compact.stdout, capture_output=True, timeout=SECONDS)
     if (compact.returncode, back.returncode, back.stdout) != (0, 0, SAMPLE.read_bytes()):
         wrong.append(f"the sample doesn't come back: {compact.stderr!r}, {back.stderr!r}")
-    wrong += check_tool(prefix) if (LIBRARY / "librnxcmp.so.2").exists() else []
+    wrong += check_tool(prefix)
     parts = json.loads((prefix / "share/doc/rnxcmp/parts.spdx.json").read_text())
     found = {part["name"]: part["versionInfo"] for part in parts["packages"]}
     return wrong + ([] if found.get("rnxcmp") == VERSION and found.get("glibc") else [f"parts {found}"])
@@ -100,20 +150,7 @@ def check_archive(made_in, folder):
     folder.mkdir()
     name = f"rnxcmp-{VERSION}-linux-x86_64"
     subprocess.run(["tar", "-xzf", made_in / f"{name}.tar.gz", "-C", folder], check=True, timeout=SECONDS)
-    return check_unpacked(folder / name, ["LICENSE-MIT", "LICENSE-APACHE", "conformance/conform.py", "conformance/cases.json", *DOCUMENTS, *PAGES])
-
-
-def check_library(folder):
-    """The archive's example in C, compiled with the archive's library, linked both ways."""
-    lib = folder / f"rnxcmp-{VERSION}-linux-x86_64/lib"
-    if not lib.exists():
-        return "there is no library: make library"
-    wrong, example = [], lib.parent / "share/doc/rnxcmp/examples/compact.c"
-    for linked in ([lib / "librnxcmp.a"], [f"-L{lib}", "-lrnxcmp", f"-Wl,-rpath,{lib}"]):
-        built = subprocess.run(["gcc", example, "-I", lib, *linked, "-o", folder / "compact"], capture_output=True, text=True, timeout=SECONDS)
-        run = built.returncode or subprocess.run([folder / "compact", SAMPLE], capture_output=True, timeout=SECONDS).returncode
-        wrong += [f"{linked}: {built.stderr[-300:]!r}, status {run}"] if run else []
-    return wrong
+    return check_sums(folder / name) + check_unpacked(folder / name, ["LICENSE-MIT", "LICENSE-APACHE", "conformance/conform.py", "conformance/cases.json", *DOCUMENTS, *PAGES])
 
 
 def check_static(folder):
@@ -132,8 +169,9 @@ def check_package(made_in, folder):
     subprocess.run(["dpkg-deb", "-e", package, folder / "DEBIAN"], check=True, timeout=SECONDS)
     sums = subprocess.run(["md5sum", "--quiet", "-c", "DEBIAN/md5sums"], cwd=folder, capture_output=True, text=True, timeout=SECONDS)
     named = {line.split("  ", 1)[1] for line in (folder / "DEBIAN/md5sums").read_text().splitlines()}
-    files = {str(path.relative_to(folder)) for path in (folder / "usr").rglob("*") if path.is_file()}
+    files = {str(path.relative_to(folder)) for path in (folder / "usr").rglob("*") if path.is_file() and not path.is_symlink()}
     wrong += [] if sums.returncode == 0 and named == files else [f"md5sums: {sums.stdout}{sums.stderr}, {sorted(named ^ files)}"]
+    wrong += check_sums(folder, folder / "usr/share/doc/rnxcmp")
     return wrong + check_unpacked(folder / "usr", ["copyright", "LICENSE-APACHE", "changelog.gz", *PAGES])
 
 
@@ -142,9 +180,8 @@ def check_printed(made_in, folder):
     shutil.copytree(made_in, folder)
     page = (TOP / "docs/USE.md").read_text()
     lines = re.findall(r"^    (.*)$", page[page.index("## Install a release") : page.index("## Arguments")], re.M)
-    tool = ["rnxcmp-file"] if (LIBRARY / "librnxcmp.so.2").exists() else []
-    more = [f"command -v {name}" for name in ("rnxcmp", *tool, "RNX2CRX", "crx2rnx")]
-    more += [f"man -w {name}" for name in ("rnxcmp", *tool, "CRX2RNX")] if shutil.which("man") else []
+    more = [f"command -v {name}" for name in ("rnxcmp", "rnxcmp-file", "RNX2CRX", "crx2rnx")]
+    more += [f"man -w {name}" for name in ("rnxcmp", "rnxcmp-file", "CRX2RNX")] if shutil.which("man") else []
     run = subprocess.run(["sh", "-ec", "\n".join([*lines, *more])], cwd=folder, capture_output=True, text=True, timeout=SECONDS)
     found = [line for line in run.stdout.splitlines() if line.startswith(f"{folder}/rnxcmp-{VERSION}-linux-x86_64/")]
     return [] if run.returncode == 0 and not run.stderr and len(lines) == 4 and len(found) == len(more) else [f"{run}"]
@@ -225,9 +262,11 @@ def checks(program):
         for title, check in (
             ("made twice", lambda: check_twice(program, one, folder / "two")),
             ("the archive", lambda: check_archive(one, folder / "archive")),
-            ("the archive's library", lambda: check_library(folder / "archive")),
+            ("the archive's library, as compilers find it", lambda: check_found(folder / f"archive/rnxcmp-{VERSION}-linux-x86_64", folder / "usr")),
+            ("the wheels", lambda: check_wheel(one, folder / "environment")),
             ("the archive's program", lambda: check_static(folder / "archive")),
             ("the package", lambda: check_package(one, folder / "package")),
+            ("the package, as lintian sees it", lambda: check_lintian(one / f"rnxcmp_{DEBIAN}_amd64.deb")),
             ("the archive in an empty root", lambda: check_archive_in_empty_root(one / f"rnxcmp-{VERSION}-linux-x86_64.tar.gz", folder / "empty_too")),
             ("the printed commands", lambda: check_printed(one, folder / "printed")),
             ("the package in an empty root", lambda: check_in_empty_root(one / f"rnxcmp_{DEBIAN}_amd64.deb", folder / "empty")),

@@ -25,16 +25,20 @@ import options  # noqa: E402
 import others  # noqa: E402
 import resources  # noqa: E402
 import signals  # noqa: E402
+import unusual  # noqa: E402
 from place import Texts  # noqa: E402
 
+# those that take the least come first
+MODULES = (neighbour_looks, neighbour_disks, unusual, options, others, resources, meanwhile, faults, matrix, signals, neighbour_machines, neighbour)
 NOT_KNOWN = 3  # the status where a check didn't end in time, and no other has seen anything
 ABOUT = {  # words in the names of the checks that are about a file
     "_rights.py": ("access", "modes", "order", "owner"),
-    "_parts.py": ("among others", "order", "modes", "old parts", "parts in use", "close", "that comes", "others", "a link", "links", "fsync"),
-    "_whole.py": ("among others", "the input", "another", "damaged", "a folder", "output is", "changed", "part that", "in use", "nothing", "shorter"),
-    "_packed.py": ("packs", "output names"),
+    "_parts.py": ("among others", "order", "modes", "old parts", "parts in use", "close", "that comes", "others", "a link", "links", "fsync", "descriptors", "read from", "on the disk", "network disks"),
+    "_whole.py": ("among others", "the input", "another", "damaged", "a folder", "output is", "changed", "part that", "in use", "nothing", "shorter", "read from", "settled", "changes", "unusual: links"),
+    "_packed.py": ("packs", "output names", "little memory"),
     "_names.py": ("quoting", "output names", "names"),
     "_on_disk.py": ("from python", "unreadable"),
+    "_told.py": ("memory",),
     "files.py": ("lists", "lines", "refusals", "asked", "progress", "names", "list"),
 }
 
@@ -45,7 +49,7 @@ def is_about(name):
 
 def main():
     texts, late = Texts(PROGRAM), ""
-    checks = [check for module in (options, others, meanwhile, resources, matrix, faults, signals, neighbour_disks, neighbour_looks, neighbour_machines, neighbour) for check in module.checks(texts)]
+    checks = [check for module in MODULES for check in module.checks(texts)]
     for name, check in sorted(checks, key=lambda check: not is_about(check[0])):
         try:
             wrong = check()

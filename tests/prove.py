@@ -1,9 +1,9 @@
 #!/usr/bin/env python3
 """The prover at work, a line a crate; where a proof failed, its errors: each with its file, its line and the goal.
 
-    tests/gate.py toolchain          says what is missing of the toolchain
-    tests/gate.py proof NAME WORDS   runs WORDS, which prove a crate, in its folder (crates.mk)
-    tests/gate.py failures           shows once more what failed since the last `make` began
+    tests/prove.py toolchain          says what is missing of the toolchain
+    tests/prove.py proof NAME WORDS   runs WORDS, which prove a crate, in its folder (crates.mk); the name may go on with `@` and a machine
+    tests/prove.py failures           shows once more what failed since the last `make` began
 
 What the prover prints goes into out/logs. tests/run.py uses the same for the gate, whose prints go into out/logs/gate.
 """
@@ -99,13 +99,14 @@ def temporary():
 
 
 def proof(crate, command):
-    """Runs a command that proves and builds a crate, in its folder: the exit status."""
+    """Runs a command that proves and builds a crate, in its folder: the exit status. The name may go on with `@` and a machine."""
     (FAILED / crate).unlink(missing_ok=True)
     PROVED.mkdir(parents=True, exist_ok=True)
-    (CRATES / crate / "out").mkdir(exist_ok=True)
+    place = CRATES / crate.partition("@")[0]
+    (place / "out").mkdir(exist_ok=True)
     lines, began = [], time.monotonic()
     with temporary() as folder:
-        status = followed(command, CRATES / crate, LOGS / crate, lines.append, folder)
+        status = followed(command, place, LOGS / crate, lines.append, folder)
     minutes = (time.monotonic() - began) / 60
     functions = next((found[1] for line in lines if (found := re.match(r"logic=proved functions=(\d+)", line))), "")
     if status:

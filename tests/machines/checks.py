@@ -1,0 +1,84 @@
+"""The programs and libraries of a release's machines, beside the program that make built (see tests/run.py): the machines whose compiler and
+emulator are there. `make machines-test` asks for all of them (run.py)."""
+
+import shutil
+import sys
+import tempfile
+from importlib import util
+from pathlib import Path
+
+HERE = Path(__file__).resolve().parent
+TOP = HERE.parents[1]
+sys.path[:0] = [str(HERE), str(TOP / "tests")]
+from libraries import check_library  # noqa: E402
+from machines import MACHINES, emulator, make, script  # noqa: E402
+from same import check_files, check_same  # noqa: E402
+
+COMPARISONS = 280  # of which there are to be so many at least
+
+
+def module_of(kind):
+    """The checks of tests/KIND/checks.py, as a module of its own."""
+    spec = util.spec_from_file_location(f"{kind}_on_machines", TOP / "tests" / kind / "checks.py")
+    module = util.module_from_spec(spec)
+    spec.loader.exec_module(module)
+    return module
+
+
+def failing(found):
+    """The names of the checks that fail, with what is wrong."""
+    wrong = []
+    for name, check in found:
+        lines = check()
+        wrong += [f"{name}: {line}" for line in lines[:6]] if not isinstance(lines, str) else []
+    return wrong[:40]
+
+
+def check_cases(machine, command):
+    """tests/cases. The emulator limits the stack where it can, so that its own isn't limited; Wine reads no sockets."""
+    cases = module_of("cases")
+    cases.small_stack = lambda: None
+    if machine.is_windows:
+        cases.PIECES = ()
+    return failing((path.stem, lambda path=path: cases.run_file(command, path)) for path in cases.cases())
+
+
+def check_arguments(command):
+    """tests/arguments, but for those over a clock, which is a library that is put before the program's."""
+    return failing((name, check) for name, check in module_of("arguments").checks(command) if "clock" not in name)
+
+
+def check_many(program, command, files):
+    count, wrong = check_same(program, command, files)
+    return wrong[:40] + ([] if count >= COMPARISONS else [f"there were {count} comparisons"])
+
+
+def of_machine(machine, program, files=()):
+    """The checks of a machine whose program is made."""
+    with emulator(machine) as words, tempfile.TemporaryDirectory() as name:
+        path = script(Path(name) / "program", [*words, machine.built / machine.program])
+        if not machine.target:  # it has a program of its own
+            yield "same answers", lambda: check_many(program, [path], files)
+            yield "same files", lambda: check_files(program, [path], machine.is_windows)
+            yield "cases", lambda: check_cases(machine, path)
+            yield "arguments", lambda: check_arguments(path)
+        yield "library", lambda: check_library(machine, words, program)
+
+
+def reason_for(machine):
+    lacking = machine.lacking()
+    return f"not found here: {', '.join(lacking)}" if lacking else ""
+
+
+def tried(machines, program, files=()):
+    """The checks of machines, once all are made."""
+    yield "made", lambda: make(machines)
+    for machine in machines:
+        if (machine.built / machine.program).exists():
+            yield from ((f"{machine.name}, {title}", check) for title, check in of_machine(machine, program, files))
+
+
+def checks(program):
+    reasons = {machine: reason_for(machine) or ("" if shutil.which("rt") else "there is no rt to prove it") for machine in MACHINES}
+    yield from ((machine.name, lambda reason=reason: reason) for machine, reason in reasons.items() if reason)
+    yield from tried([machine for machine, reason in reasons.items() if not reason], program)

@@ -1,0 +1,84 @@
+"""The library of a machine, linked both ways with calls.c, and run by its emulator beside the program; and what the header promises."""
+
+import shutil
+import subprocess
+import tempfile
+from pathlib import Path
+
+from same import DATE, Compared, damaged, texts
+
+TOP = Path(__file__).resolve().parents[2]
+HERE = Path(__file__).resolve().parent
+SECONDS = 100
+EACH = 3  # of the damaged inputs each third is taken
+COUNTED = "-Wl,--wrap=malloc,--wrap=realloc,--wrap=free"  # tests/library/counted.h
+
+
+def compiled(machine, library, source, target, linked):
+    """Compiles a program of C with a machine's compiler: what went wrong, as lines."""
+    command = [machine.compiler, "-std=gnu11", "-O1", "-I", library, source, *linked, "-o", target, "-pthread"]
+    run = subprocess.run([str(word) for word in command], capture_output=True, text=True, timeout=SECONDS)
+    return [] if run.returncode == 0 else [f"{source.name}: {line}" for line in run.stderr.splitlines()[-8:]]
+
+
+def linked_ways(machine, library):
+    """How a program is linked with a library: with its archive, all in one file, and with the shared one."""
+    yield "static", [library / "librnxcmp.a", "-static"]
+    shared = [library / "librnxcmp.dll.a"] if machine.is_windows else ["-L", library, "-lrnxcmp", f"-Wl,-rpath,{library}"]
+    yield "shared", shared
+
+
+def finds_shared(machine, words):
+    """The emulator's words by which a program finds the C library of its machine."""
+    return [words[0], "-L", "/usr/aarch64-linux-gnu", *words[1:]] if machine.name == "aarch64" else words
+
+
+class OverLibrary(Compared):
+    """Runs of the program beside those of calls.c."""
+
+    def both_ways(self, name, text):
+        for way in ("whole", "pieces"):
+            self.call(name, "check", way, "0", text)
+            for skip in "01":
+                compact = self.call(name, "rnx2crx", way, skip, text)
+                self.call(f"compact text of {name}", "crx2rnx", way, skip, compact)
+                self.call(f"damaged compact text of {name}", "crx2rnx", way, skip, damaged(compact, 3) if compact else b"")
+
+    def call(self, name, kind, way, skip, data):
+        ours = [kind, *(DATE if kind == "rnx2crx" else ()), *(["-s"] if skip == "1" and kind != "check" else ())]
+        return self.compare(name, ours, [kind, way, skip], data)
+
+
+def over_texts(program, command):
+    """What differs between the program and calls.c."""
+    runs = OverLibrary(program, command)
+    for number, (name, text) in enumerate(texts().items()):
+        if number % EACH == 0:
+            runs.both_ways(name, text)
+    return runs.wrong[:20]
+
+
+def check_promises(machine, words, library, folder):
+    """The promises of the header, by tests/library/promises.c, which counts memory as glibc does."""
+    target = folder / "promises"
+    wrong = compiled(machine, library, TOP / "tests/library/promises.c", target, [library / "librnxcmp.a", "-static", COUNTED])
+    if wrong:
+        return wrong
+    run = subprocess.run([str(word) for word in (*words, target)], capture_output=True, text=True, timeout=SECONDS)
+    return [] if run.returncode == 0 else [f"promises.c: status {run.returncode}", *run.stdout.splitlines()[-20:], *run.stderr.splitlines()[-5:]]
+
+
+def check_library(machine, words, program):
+    """What is wrong with the library of a machine."""
+    library, wrong = machine.built / "library", []
+    with tempfile.TemporaryDirectory() as name:
+        folder = Path(name)
+        if machine.is_windows:
+            shutil.copy(library / machine.shared, folder)
+        else:
+            wrong += check_promises(machine, words, library, folder)
+        for way, linked in linked_ways(machine, library):
+            target = folder / (way + ".exe" if machine.is_windows else way)
+            lines = compiled(machine, library, HERE / "calls.c", target, linked) or over_texts(program, [*finds_shared(machine, words), target])
+            wrong += [f"{way}: {line}" for line in lines]
+    return wrong

@@ -1,0 +1,84 @@
+"""The machines that a release is made for, and what runs their programs here: nothing, qemu's user emulation, or Wine."""
+
+import os
+import shutil
+import subprocess
+import tempfile
+from contextlib import contextmanager
+from dataclasses import dataclass
+from pathlib import Path
+
+TOP = Path(__file__).resolve().parents[2]
+MADE = TOP / "out/machines"  # by packaging/machines.mk
+STACK = 128 * 1024  # bytes of stack that each run has, where the emulator can limit them
+SECONDS = 1800  # in which a machine's program and library are to be made
+
+
+@dataclass(frozen=True)
+class Machine:
+    name: str  # as TARGETS has it
+    what: str
+    emulator: tuple = ()  # the command that runs a program of it, and its words
+    compiler: str = "gcc"
+    program: str = "rnxcmp"
+    shared: str = "librnxcmp.so.2"
+    target: str = ""  # what it is made by, where that has another name
+
+    @property
+    def made_by(self):
+        return self.target or self.name
+
+    @property
+    def built(self):
+        return MADE / self.made_by / "built"
+
+    def lacking(self):
+        """The commands that this machine lacks to make and to run its programs."""
+        tools = [self.compiler, *self.emulator[:1], *(("wine",) if self.is_windows else ())]
+        return [tool for tool in dict.fromkeys(tools) if not shutil.which(tool)]
+
+    @property
+    def is_windows(self):
+        return self.program.endswith(".exe")
+
+
+MACHINES = (
+    Machine("x86-64-v2", "Linux on x86-64 of 2009 and later"),
+    Machine("musl", "the same with the C library musl", compiler="musl-gcc", target="x86-64-v2"),
+    Machine("x86-64", "Linux on any x86-64", ("qemu-x86_64", "-cpu", "Opteron_G1", "-s", str(STACK))),
+    Machine("aarch64", "Linux on 64-bit ARM", ("qemu-aarch64", "-s", str(STACK)), "aarch64-linux-gnu-gcc"),
+    Machine("windows", "Windows on x86-64", ("wine",), "x86_64-w64-mingw32-gcc", "rnxcmp.exe", "librnxcmp-2.dll"),
+)
+
+
+def make(machines):
+    """Makes the programs and the libraries of machines, or takes those that are newer than their sources: what went wrong, as lines."""
+    command = ["make", "--no-print-directory", f"-j{os.cpu_count()}", *sorted({f"machine-{it.made_by}" for it in machines})]
+    run = subprocess.run(command, cwd=TOP, capture_output=True, text=True, timeout=SECONDS)
+    return [] if run.returncode == 0 else [f"{' '.join(command)}: status {run.returncode}", *(run.stdout + run.stderr).splitlines()[-14:]]
+
+
+def script(path, words):
+    """A command of one word, which runs these and hands its own on."""
+    path.write_text("#!/bin/sh\nexec " + " ".join(f"'{word}'" for word in words) + ' "$@"\n')
+    path.chmod(0o755)
+    return path
+
+
+@contextmanager
+def emulator(machine):
+    """The words before a program of a machine that run it here. Wine has a folder of its own for its files, and its server ends with it."""
+    if not machine.is_windows:
+        yield list(machine.emulator)
+        return
+    folder = tempfile.mkdtemp(prefix="wine-")
+    own = {"WINEPREFIX": folder, "WINEDEBUG": "-all", "WINEDLLOVERRIDES": "mscoree,mshtml="}
+    words = ["env", *(f"{name}={value}" for name, value in own.items())]
+    quiet = {"stdin": subprocess.DEVNULL, "stdout": subprocess.DEVNULL, "stderr": subprocess.DEVNULL}
+    subprocess.run([*words, "wineserver", "-p"], **quiet, timeout=60, check=True)  # it stays from run to run, which takes less time
+    subprocess.run([*words, "wineboot", "--init"], **quiet, timeout=300, check=True)
+    try:
+        yield [*words, *machine.emulator]
+    finally:
+        subprocess.run([*words, "wineserver", "-k"], **quiet, timeout=60)
+        shutil.rmtree(folder, ignore_errors=True)
