@@ -4,16 +4,17 @@
     docs/pages.py FOLDER
 
 DEFINITIONS has the definitions that the promises stand on, in chapters, from the top down; CONTRACTS has each public function with its
-clauses. READING.md, which says how to read them, is put beside them.
+clauses; PROOFS where each thing is proved. READING.md, which says how to read them, is put beside them.
 """
 
 import shutil
 import sys
 from pathlib import Path
 
+import proved
 from chapters import CHAPTERS, Book, is_definition, lines_of
 from markup import Code, Heading, Rows, Words, html_page, markdown
-from sources import CRATES, TOP, crate_of, crates, public_functions
+from sources import CRATES, TOP, crate_of, crates, fault_names, public_functions
 
 
 def count(number, one):
@@ -132,7 +133,12 @@ def main(folder):
         raise ValueError("definitions outside the folders meaning: " + ", ".join(where(item) for item in outside))
     places = Places(book)
     folder.mkdir(parents=True, exist_ok=True)
-    for name, title, parts in (("DEFINITIONS", "Definitions", definitions(book, places)), ("CONTRACTS", "Contracts", contracts(places))):
+    pages = (
+        ("DEFINITIONS", "Definitions", definitions(book, places)),
+        ("CONTRACTS", "Contracts", contracts(places)),
+        ("PROOFS", "Proofs", proved.parts(fault_names())),
+    )
+    for name, title, parts in pages:
         parts = list(parts)
         (folder / f"{name}.md").write_text(markdown(title, parts), encoding="utf-8")
         (folder / f"{name}.html").write_text(html_page(title, parts), encoding="utf-8")

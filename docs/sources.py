@@ -14,8 +14,9 @@ TOKEN = re.compile(r'(?:--|//).*|"[^"\n]*"|\.[a-z_]\w*|([A-Za-z_]\w*)')
 Item = namedtuple("Item", "path line name comment text")
 # what a caller has to meet (requires) or what is promised (ensures): as it stands there, with the comment above it, and the statement
 Clause = namedtuple("Clause", "kind name text statement")
-# a function: the first sentence of its documentation, its signature with its clauses as they stand there, and the clauses
-Function = namedtuple("Function", "path line name words text clauses")
+# a function: the first sentence of its documentation, its signature with its clauses as they stand there, the clauses, and the name that its
+# type has in the folders of proofs: that of the trait is behind it, where it is one of a trait
+Function = namedtuple("Function", "path line name words text clauses owner")
 
 
 def crates():
@@ -27,6 +28,13 @@ def crates():
 def crate_of(path):
     """The name of the crate that a file is of."""
     return re.match(r".*/([^/]+)/(?:specs|src)/", str(path))[1]
+
+
+def fault_names():
+    """The faults by their names in the code: their numbers and words."""
+    source = (CRATES / "crx_base/src/fault.rt").read_text(encoding="utf-8")
+    words = dict(re.findall(r'Fault::(\w+) => "([^"]*)",', source))
+    return {name: (int(number), words[name]) for name, number in re.findall(r"Fault::(\w+) => (\d+),", source)}
 
 
 # ---- items
@@ -106,19 +114,20 @@ def contract(text):
 def functions_in(path):
     """The functions of a file, and whether each is public: `pub`, or of a public trait."""
     lines = path.read_text(encoding="utf-8").split("\n")
-    owner, is_trait, words = "", False, []
+    owner, of_trait, is_trait, words = "", "", False, []
     for at, line in enumerate(lines):
-        block = re.match(r"(pub(?:\([^)]*\))? )?(impl|trait)\b(?:<[^{]*?>)?\s*(?:(\w+)(?:<[^{]*?>)?\s+for\s+)?(\w+)", line)
+        block = re.match(r"(pub(?:\([^)]*\))? )?(impl|trait)\b(?:<[^{]*?>)?\s*(?:(?:\w+::)*(\w+)(?:<[^{]*?>)?\s+for\s+)?(\w+)", line)
         function = re.match(r"\s*(pub(?:\([^)]*\))? )?(?:const )?(?:unsafe )?(?:extern \"C\" )?fn (\w+)", line)
         if block:
-            owner, is_trait = block[4] + "::", block[2] == "trait" and bool(block[1])
+            owner, of_trait, is_trait = block[4] + "::", block[3] or "", block[2] == "trait" and bool(block[1])
         elif line.startswith("}"):
-            owner, is_trait = "", False
+            owner, of_trait, is_trait = "", "", False
         elif line.strip().startswith("///"):
             words.append(line)
         elif function:
             text, clauses = contract("\n".join(lines[at:]))
-            yield Function(path, at + 1, owner + function[2], first_sentence(words), text, clauses), function[1] == "pub " or is_trait
+            found = Function(path, at + 1, owner + function[2], first_sentence(words), text, clauses, owner[:-2] + of_trait)
+            yield found, function[1] == "pub " or is_trait
         if not re.match(r"\s*(///|#\[)", line):
             words = []
 

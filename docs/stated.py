@@ -18,6 +18,7 @@ from importlib import util
 from pathlib import Path
 
 from chapters import Book, is_definition
+from sources import fault_names
 
 TOP = Path(__file__).resolve().parents[1]
 SOURCES = TOP / "crates/crx_base/src"
@@ -27,8 +28,8 @@ HELP = {"rnx2crx": "help_of_a_compaction", "crx2rnx": "help_of_an_expansion", "c
 # Texts that have one of these numbers: the file, and phrases with the name in place of the number.
 STATED = {
     "README.md": (
-        "keep its rules, C_LINES lines of C", "The DEFINITIONS definitions of what RINEX", "on FIRST_DEFINITIONS definitions",
-        "in some USUAL_MEMORY MB of memory",
+        "In the library C_LINES lines of C", "the DEFINITIONS definitions of what RINEX", "on FIRST_DEFINITIONS definitions",
+        "takes some USUAL_MEMORY MB of memory", "at most INPUT_LIMIT bytes",
     ),
     "docs/FORMATS.md": (
         "content of more than LINE_LIMIT bytes is fault 1", "| a content of more than LINE_LIMIT bytes |", "input of more than INPUT_LIMIT bytes",
@@ -38,15 +39,17 @@ STATED = {
     "docs/DECISIONS.md": ("`-e` is from 1 to EVERY.", "less than READY_LIMIT bytes, and then", "bytes?** Those are READY_LIMIT bytes"),
     "docs/ARCHIVES.md": ("plants TOOL_BUGS bugs in the tool",),
     "docs/GUARANTEES.md": (
-        "has the FIRST_DEFINITIONS definitions", "stops after INPUT_LIMIT bytes", "has at most INPUT_LIMIT bytes",
-        "some USUAL_MEMORY MB over usual files, and some GREATEST_MEMORY MB at the limits", "at most PRINTED_ENDED times as long as its input",
-        "row of PRINTED_ENDED bytes", "unless READY_LIMIT are ready",
+        "has the FIRST_DEFINITIONS definitions", "stops after INPUT_LIMIT bytes", "has at most INPUT_LIMIT",
+        "Some USUAL_MEMORY MB over usual files, and some GREATEST_MEMORY MB at the limits", "at most PRINTED_ENDED times as many bytes",
+        "row of PRINTED_ENDED bytes",
     ),
     "docs/LIBRARY.md": (
-        "if the input has at most INPUT_LIMIT bytes and memory", "at most PRINTED_ENDED times as long as its input",
-        "While READY_LIMIT bytes are ready", "goes on and READY_LIMIT are ready", "is less than READY_LIMIT bytes",
-        "bytes wait, WAITING_MEMORY MB", "over that has some GREATEST_MEMORY MB", "parts of at most READY_LIMIT bytes",
+        "at most PRINTED_ENDED times as long as its input", "over that has some GREATEST_MEMORY MB", "parts of at most READY_LIMIT bytes",
         "plants LIBRARY_BUGS bugs in the C",
+    ),
+    "docs/CALLS.md": (
+        "if the input has at most INPUT_LIMIT bytes and memory", "While READY_LIMIT bytes are ready", "goes on and READY_LIMIT are ready",
+        "is less than READY_LIMIT bytes", "bytes wait, WAITING_MEMORY MB",
     ),
     "docs/PLANNING.md": ("has some USUAL_MEMORY MB over usual files", "has some GREATEST_MEMORY MB (bench"),
     "docs/USE.md": ("N is from 1 to EVERY", "at most DATE_LIMIT bytes"),
@@ -75,9 +78,7 @@ SPACE = r"\s+(?://[/!] |\* )?"
 
 def faults():
     """The words of the faults by their numbers."""
-    source = (SOURCES / "fault.rt").read_text(encoding="utf-8")
-    words = dict(re.findall(r'Fault::(\w+) => "([^"]*)",', source))
-    return {int(number): words[name] for name, number in re.findall(r"Fault::(\w+) => (\d+),", source)}
+    return dict(fault_names().values())
 
 
 @cache
