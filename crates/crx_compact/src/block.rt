@@ -208,7 +208,6 @@ impl Block {
     /// Borrows the next pending line, without its line end; `None` once none is pending.
     pub fn next_line(&mut self) -> Option<&[u8]>
         ensures value { option_copied result ≡ slice_get self.old.lines 0 }
-        // That line is no longer pending.
         ensures* after_borrow { sem 𝓛 (Rests the_row self.entry (λ new.
             new ≡ record self.old { lines = drop 1 self.old.lines })) }
     {
@@ -225,7 +224,6 @@ impl Block {
     /// Borrows the text of all lines that are pending, each followed by LF. From then on none is pending.
     pub fn take_text(&mut self) -> &[u8]
         ensures value { result.now ≡ lines_text self.old.lines }
-        // No line is pending.
         ensures* after_borrow { sem 𝓛 (Rests the_row self.entry (λ new.
             new ≡ record self.old { lines = [] })) }
     {

@@ -30,7 +30,6 @@ impl Coded {
     /// Borrows the next pending line, without its line end; `None` once none is pending.
     pub fn next_line(&mut self) -> Option<&[u8]>
         ensures value { option_copied result ≡ slice_get self.old.lines 0 }
-        // That line is no longer pending.
         ensures* after_borrow { sem 𝓛 (Rests the_row self.entry
             (λ new. new ≡ record self.old { lines = drop 1 self.old.lines })) }
     {

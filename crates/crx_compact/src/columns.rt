@@ -135,10 +135,8 @@ impl Columns {
             ≡ Idle (Some (tail_after (tail_written_after full (tail_held self.old.state)) epoch))) }
         ensures refused { IfErr result (λ refused. (refused.0 ≡ epoch) × (refused.1 ≡ Fault.OutOfMemory)) }
         ensures err { OnErr result (self.new.state ≡ self.old.state) }
-        // No satellite has less room than before, after a refusal too.
         ensures rooms { KeepsRooms self.old.rooms self.new.rooms }
-        // After any epochs at all, the lines are those of their compact text, and the columns have their
-        // tail.
+        // By these two the compact text of a file comes epoch by epoch: `epochs` are those so far, newest first.
         ensures left { (epochs : List Marked) → tail_held self.old.state ≡ tail_or_nothing epochs
             → OnOk result (self.new.state ≡ Idle
             (tail_or_nothing (record { in_full = full; epoch = epoch } ∷ epochs))) }
@@ -179,27 +177,21 @@ impl Columns {
         ensures refused { IfErr result (λ fault. (first_step types.now (tail_held self.old.state) (Content line.now)
             ≡ Faulty fault) ⊎ (fault ≡ Fault.OutOfMemory)) }
         ensures emptied { OnErr result (self.new.state ≡ Idle None) }
-        // Memory runs out only at a line without a fault.
         ensures memory { IfErr result (λ fault. fault ≡ Fault.OutOfMemory
             → is_faulty (first_step types.now (tail_held self.old.state) (Content line.now)) ≡ false) }
-        // At a line with a fault none was asked for: there is no more room than before.
         ensures unasked { IfErr result (λ fault. (fault ≡ Fault.OutOfMemory → ⊥)
             → KeepsRooms self.new.rooms self.old.rooms) }
-        // After the raw epochs accepted since everything was last forgotten, the line makes what it makes by
-        // them.
+        // `older` are the epochs that were accepted since everything was last forgotten, newest first.
         ensures block { (older : List RawEpoch) → tail_held self.old.state ≡ tail_left older
             → OnOk result (IsReading types.now older (Content line.now ∷ []) self.new.state) }
         ensures block_fault { (older : List RawEpoch) → tail_held self.old.state ≡ tail_left older
             → IfErr result (λ fault. (epoch_at types.now older (Content line.now ∷ []) ≡ Fails 0 fault)
             ⊎ (fault ≡ Fault.OutOfMemory)) }
-        // Where there is room for the epoch's satellites, the answer isn't for want of memory. After `Ok`
-        // there is.
         ensures room { (begun : OpenRawEpoch)
             → first_step types.now (tail_held self.old.state) (Content line.now) ≡ Going begun
             → AnswersWithRoom begun self.old.rooms self.new.rooms result }
-        // There is never less than before, after a refusal too.
         ensures kept { KeepsRooms self.old.rooms self.new.rooms }
-        // No line of the epoch is printed yet.
+        // Whatever a block holds from the epoch before is dropped with this epoch's first printed line.
         ensures unprinted { (block : PendingLines) → ArePrinted self.new.state block }
     {
         let is_named = self.is_named & !begins_epoch(line);
@@ -241,18 +233,15 @@ impl Columns {
         ensures made { IfOk result (λ given. HasMade (step_in self.old.state (Content line.now)) self.new.state given) }
         ensures refused { IfErr result
             (λ fault. (step_in self.old.state (Content line.now) ≡ Faulty fault) ⊎ (fault ≡ Fault.OutOfMemory)) }
-        // Memory runs out only at the line of an epoch's last satellite, and only where it has no fault.
         ensures memory { IfErr result (λ fault. fault ≡ Fault.OutOfMemory
             → (begins_epoch line.now ≡ false) × (awaits_row self.old.state ≡ true)
             × (makes_epoch (step_in self.old.state (Content line.now)) ≡ true)) }
         ensures emptied { OnErr result (self.new.state ≡ Idle None) }
-        // After the raw epochs accepted since everything was last forgotten, and the lines of the epoch so
-        // far, the line makes what it makes by them: the epoch that is given is the one that is at these
-        // lines.
+        // `older` are the epochs that were accepted since everything was last forgotten, newest first, and
+        // `lines` those of the open one so far.
         ensures block { (types : List Count) (older : List RawEpoch) (lines : List ReadLine)
             → IsReading types older lines self.old.state
             → AnswersLine types older lines (Content line.now) self.new.state result }
-        // There is never less room than before.
         ensures kept { KeepsRooms self.old.rooms self.new.rooms }
     {
         match take_line(

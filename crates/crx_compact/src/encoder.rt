@@ -158,7 +158,6 @@ impl Encoder {
         ensures repeated { IfOk result (λ is_new. is_new ≡ false → self.new ≡ self.old) }
         ensures memory { OnErr result (has_satellite row.now.name self.old.rows ≡ false) }
         ensures forgotten { OnErr result (self.new ≡ record (forgotten self.old []) { rooms = self.new.rooms }) }
-        // Where there is room for the row, the answer isn't for want of memory; once it is written there is.
         ensures known { PreparesRow row.now.name (length row.now.values) self.old.rooms self.new.rooms result }
     {
         match self.history.write_row(
@@ -211,7 +210,6 @@ impl Encoder {
     /// Borrows the next of the lines that are ready, without its line end; `None` once none is pending.
     pub fn next_line(&mut self) -> Option<&[u8]>
         ensures value { option_copied result ≡ slice_get self.old.pending 0 }
-        // That line is no longer pending, and nothing else changes.
         ensures* after_borrow { sem 𝓛 (Rests the_row self.entry
             (λ new. new ≡ record self.old { pending = drop 1 self.old.pending })) }
     {
