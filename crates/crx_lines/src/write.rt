@@ -17,7 +17,6 @@ pub fn write_all_counted<W: Sink>(writer: &mut W, bytes: &[u8]) -> Result<(), (u
     ensures short { IfErr result (λ e. e.0 < length bytes.now) }
     ensures part { IfErr result (λ e. W.took writer.old (take e.0 bytes.now) writer.new) }
     ensures counted { OnErr result (W.failures writer.new ≡ one_more (W.failures writer.old)) }
-    // It asks for no flush.
     ensures unasked { W.flushes writer.new ≡ W.flushes writer.old }
 {
     let mut written = 0;

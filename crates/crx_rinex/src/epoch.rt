@@ -66,7 +66,7 @@ impl Epoch {
             ((refused.1 ≡ Fault.RepeatedSatellite) × (has_satellite row.name self.old.rows ≡ true))
             ⊎ ((refused.1 ≡ Fault.OutOfMemory) × (has_satellite row.name self.old.rows ≡ false))) }
         ensures err { OnErr result (self.new ≡ self.old) }
-        // Memory is asked for at the first row alone, for as many as the line announces.
+        // The first row asks for the memory of as many rows as the line announces.
         ensures asked { IfErr result (λ refused. refused.1 ≡ Fault.OutOfMemory → self.old.rows ≡ []) }
     {
         if self.names.contains(&row.name()) {

@@ -58,7 +58,6 @@ impl Printed {
     /// Hands out the next line, without its line end; `None` once none is pending.
     pub fn next_line(&mut self) -> Option<&[u8]>
         ensures value { option_copied result ≡ slice_get self.old 0 }
-        // That line is no longer pending.
         ensures* after_borrow { sem 𝓛 (Rests the_row self.entry (λ new. new ≡ drop 1 self.old)) }
     {
         if print_line(&self.epoch, self.next, &mut self.text) {
