@@ -74,7 +74,6 @@ fn take_row(reader: &mut RinexReader, encoder: &mut Encoder, line: &[u8]) -> Res
         (λ is_last. HasWrittenRow reader.old encoder.old line.now is_last reader.new encoder.new) }
     ensures refused { IfErr result
         (λ fault. HasRefusedRow reader.old encoder.old line.now fault reader.new encoder.new) }
-    // Where there is room for the row, memory doesn't run out.
     ensures known { HasRoomForRow reader.old.types line.now encoder.old.rooms
         → IfErr result (λ fault. fault ≡ Fault.OutOfMemory → ⊥) }
 {

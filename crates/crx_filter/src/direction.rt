@@ -113,10 +113,8 @@ pub trait Direction: Drop {
         ensures counted { CountsOneAtMost result (counted self.old) (counted self.new) }
         ensures knows { KnowsNext by_line chosen state_after_lines (parts self.old) (knows self.old)
             (knows self.new) (line_number line.entry) (line_shown line.entry) result }
-        // After a fault it has noted of the lines before what it had noted.
         ensures stays { (choices : Choices) (lines : List InputLine) → knows self.old choices lines
             → OnErr result (knows self.new choices lines) }
-        // Where there is room for the line, the answer isn't for want of memory.
         ensures known { has_room self.old (line_shown line.entry).content
             → IfErr result (λ fault. fault ≡ Fault.OutOfMemory → ⊥) };
 

@@ -238,11 +238,9 @@ impl<D: Direction> Engine<D> {
     pub(crate) fn end(&mut self) -> Result<Step, At>
         requires drained { engine_ready D.Direction self.old ≡ [] }
         ensures stops { EngineEnds D.Direction self.old result self.new }
-        // After the lines that it has taken, the answer is what its direction makes of them all.
         ensures concludes { (lines : List InputLine) → engine_took D.Direction self.old lines []
             → Concludes (D.filter (engine_state D.Direction self.old).choices) (engine_ready D.Direction self.new) lines result }
         ensures by_seen { ConcludesBySeen D.Direction self.old result (engine_ready D.Direction self.new) }
-        // After a good end it has found in them what is to be found.
         ensures found { (lines : List InputLine) → engine_took D.Direction self.old lines []
             → IfOk result (λ step. D.has_found self.new.direction lines) }
         ensures repeated { (at : At) → (engine_state D.Direction self.old).phase ≡ Ended at → result ≡ Err at }
@@ -262,8 +260,7 @@ impl<D: Direction> Engine<D> {
     /// Borrows the next of the lines that are ready, without its line end; `None` once none is pending.
     pub(crate) fn next_line(&mut self) -> Option<&[u8]>
         ensures value { option_copied result ≡ slice_get (engine_ready D.Direction self.old) 0 }
-        // That line is no longer pending; all else of the engine is the same, and of its direction what is
-        // seen, known and found.
+        // The direction itself changes: it counts the lines that it has handed out.
         ensures* after_borrow { sem 𝓛 (Rests (the_row D.row D.Direction) self.entry (λ new. (engine_ready D.Direction new
             ≡ drop 1 (engine_ready D.Direction self.old)) × (engine_state D.Direction new ≡ engine_state D.Direction self.old)
             × ((choices : Choices) (lines : List InputLine) → D.knows self.old.direction choices lines

@@ -106,7 +106,6 @@ impl<D: Direction> Lender<D> {
             → lender_took D.Direction self.old lines notices → IsAwaited notices line → is_long line ≡ true
             → EngineAnswers (D.filter (lender_state D.Direction self.old).choices)
             (lender_took D.Direction self.new) (lender_ready D.Direction self.new) lines notices line result }
-        // The same after any lines that leave what is seen of it.
         ensures by_seen { (line : InputLine) → is_long line ≡ true → AnswersBySeen D.Direction self.old.engine
             line result (lender_ready D.Direction self.new) self.new.engine }
         ensures repeated { (at : At) → (lender_state D.Direction self.old).phase ≡ Ended at → result ≡ Err at }
@@ -122,14 +121,10 @@ impl<D: Direction> Lender<D> {
     pub fn end(&mut self) -> Result<Step, At>
         requires drained { lender_ready D.Direction self.old ≡ [] }
         ensures stops { LenderEnds D.Direction self.old result self.new }
-        // After the lines that it has taken, the answer is what its direction makes of them all.
         ensures concludes { (lines : List InputLine) → lender_took D.Direction self.old lines []
             → Concludes (D.filter (lender_state D.Direction self.old).choices) (lender_ready D.Direction self.new) lines result }
-        // The same after any lines that leave what is seen of it, where a good end hands out what is to be
-        // handed out after them. A compaction and an expansion hand out nothing at the end.
         ensures by_seen { ConcludesBySeen D.Direction self.old.engine result
             (lender_ready D.Direction self.new) }
-        // After a good end it has found in them what is to be found.
         ensures found { (lines : List InputLine) → lender_took D.Direction self.old lines []
             → IfOk result (λ step. D.has_found self.new.engine.direction lines) }
         ensures repeated { (at : At) → (lender_state D.Direction self.old).phase ≡ Ended at → result ≡ Err at }
@@ -152,22 +147,16 @@ impl<D: Direction> Lender<D> {
         ensures ended { IfErr result (λ at. (lender_state D.Direction self.new).phase ≡ Ended at) }
         ensures nothing { OnErr result (lender_ready D.Direction self.new ≡ []) }
         ensures choices { (lender_state D.Direction self.new).choices ≡ (lender_state D.Direction self.old).choices }
-        // After the lines that it has taken, the answer, and the lines that are ready, are what its direction
-        // makes of these and the next one.
         ensures answers { (lines : List InputLine) (notices : List Awaited)
             → lender_took D.Direction self.old lines notices → IsAwaited notices (line_shown line.entry)
             → EngineAnswers (D.filter (lender_state D.Direction self.old).choices) (lender_took D.Direction self.new)
             (lender_ready D.Direction self.new) lines notices (line_shown line.entry) result }
-        // The same after any lines that leave what is seen of it, unless memory runs out.
         ensures by_seen { IfErr result (λ at. at.fault ≡ OutOfMemory → ⊥)
             → AnswersBySeen D.Direction self.old.engine (line_shown line.entry) result
             (lender_ready D.Direction self.new) self.new.engine }
         ensures repeated { (at : At) → (lender_state D.Direction self.old).phase ≡ Ended at → result ≡ Err at }
-        // Where its direction has room for the line, the answer isn't for want of memory, unless such a one
-        // has ended the run before.
         ensures known { D.has_room self.old.engine.direction (line_shown line.entry).content
             → RanOutBefore D.Direction self.old.engine result }
-        // After a fault it has noted of the lines before what it had noted.
         ensures stays { EngineKeepsNotes D.Direction self.old.engine result self.new.engine }
     {
         let handed_out = self.engine.take_line(line);
@@ -185,8 +174,7 @@ impl<D: Direction> Lender<D> {
     /// Borrows the next of the lines that are ready, without its line end; `None` once none is pending.
     pub fn next_line(&mut self) -> Option<&[u8]>
         ensures value { option_copied result ≡ slice_get (lender_ready D.Direction self.old) 0 }
-        // That line is no longer pending; all else of the engine is the same, and of its direction what is
-        // seen, known and found.
+        // The direction itself changes: it counts the lines that it has handed out.
         ensures* after_borrow { sem 𝓛 (Rests (the_row D.row D.Direction) self.entry (λ new. (lender_ready D.Direction new
             ≡ drop 1 (lender_ready D.Direction self.old)) × (lender_state D.Direction new ≡ lender_state D.Direction self.old)
             × ((choices : Choices) (lines : List InputLine) → D.knows self.old.engine.direction choices lines
