@@ -137,7 +137,7 @@ int rnxcmp_expand(const void *input, size_t input_length, const rnxcmp_options *
                   size_t messages_room, rnxcmp_answer *answer);
 
 /*
- * Checks RINEX 3.0x, in the same way. The output is a report of six lines, as
+ * Checks RINEX 3.0x, in the same way. The output is a report, as
  *
  *     format 3.05
  *     systems G 20 R 16

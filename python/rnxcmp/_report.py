@@ -17,7 +17,7 @@ if TYPE_CHECKING:
 class Report:
     """What a check found.
 
-    :ivar text: the report, six lines.
+    :ivar text: the report as the program writes it.
     :ivar is_standard: whether the file comes back byte for byte from its compact form.
     :ivar format: the version of its header.
     :ivar systems: the letters of its systems and their counts of observation types.

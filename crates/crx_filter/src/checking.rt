@@ -58,8 +58,8 @@ pub struct Checking {
 }
 
 /// Checks a RINEX file, whose lines it takes one at a time, and skips no fault, whatever its options are;
-/// once the whole input was accepted, the six lines of the report are borrowed from it. The faults are those
-/// of a [`Compactor`](crate::Compactor).
+/// once the whole input was accepted, the lines of the report are borrowed from it. The faults are those of
+/// a [`Compactor`](crate::Compactor).
 pub type Checker = Lender<Checking>;
 
 impl Model for Checking {

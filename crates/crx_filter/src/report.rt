@@ -1,4 +1,4 @@
-//! The report of a check: six lines.
+//! The report of a check, line by line.
 
 ghost use Rattle.std.specs.Prelude.{◌≡◌, ◌+◌, ◌≤◌, ◌++◌, None, Some, MatchBool, codes, decimal, length, slice_get};
 ghost use Rattle.std.specs.List.{flat_map};

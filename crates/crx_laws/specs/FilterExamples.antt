@@ -73,7 +73,7 @@ notice number fault again = Notice (record { line = number; fault = fault }) aga
 abbrev pub report : List (List ℕ) → FilterResult
 report lines = checked (lines_text lines)
 
--- a file whose lines are given, with what the report says of it in its six lines
+-- a file whose lines are given, with what the report says of it
 abbrev pub reported : List ℕ → List ℕ → List ℕ → List ℕ → List ℕ → ℕ → FilterResult
 reported systems epochs events observations standard status = record {
   output = lines_text (codes "format 3.04" ∷ systems ∷ epochs ∷ events ∷ observations ∷ standard ∷ []);

@@ -76,7 +76,7 @@ SavesAllElse expanding writer messages status fault damaged =
 
 -- a check said whether a file is standard
 pub record IsJudged (writer : Device) (status : ℕ) (file : List ℕ) : Type 0 where
-  -- the six lines of its report were written, and the last one says yes exactly where the status is 0
+  -- the lines of its report were written, and the last one says yes exactly where the status is 0
   pub found : Findings
   pub report : writer.took (lines_text (report_lines found))
   pub says_yes : (status ≡ 0) ↔ (found.not_standard ≡ None)

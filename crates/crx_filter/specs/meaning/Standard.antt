@@ -120,7 +120,7 @@ findings_of lines =
       not_standard = first_not_standard 1 lines (printed_items items);
     }
 
--- the six lines of a report
+-- the lines of a report
 abbrev pub report_lines : Findings → List (List ℕ)
 report_lines found =
     (codes "format " ++ found.version)
