@@ -225,8 +225,17 @@ def _clear(home: int, name: str) -> None:
 # ---- a part
 
 
+def _new_name() -> str:
+    """A name that no other part has."""
+    return f"part.{_HOST}.{os.getpid()}.{int(time.time()) & 0xFFFFFFFF:08x}{os.urandom(4).hex()}"
+
+
 def _made_part(folder: int, name: str) -> int:
-    """A new file in the folder, which is open and locked; or -1 where another run took it for an old part."""
+    """A new file in the folder, which is open and locked.
+
+    Another run may look at it before it is locked, whether it was left, and may take it for an old part: -1, and no
+    file. That run may remove the name later, so no other part can have it.
+    """
     made = os.open(name, os.O_RDWR | os.O_CREAT | os.O_EXCL | os.O_NOFOLLOW | os.O_CLOEXEC, 0o600, dir_fd=folder)
     try:
         if lock(made, fcntl.LOCK_EX, 0) and os.fstat(made).st_nlink:
@@ -236,6 +245,7 @@ def _made_part(folder: int, name: str) -> int:
         os.unlink(name, dir_fd=folder)
         raise
     os.close(made)
+    _quietly(os.unlink, name, dir_fd=folder)
     return -1
 
 
@@ -257,7 +267,7 @@ class Part:
     def __init__(self, place: str) -> None:
         self._head, self._place = os.path.split(place)
         self._folder_name = _usual_folder()
-        self._name = f"part.{_HOST}.{os.getpid()}.{int(time.time()) & 0xFFFFFFFF:08x}{os.urandom(4).hex()}"
+        self._name = _new_name()
         self._home = self._folder = self._made = self._file = self._there = self._old = -1
         self._own: List[os.stat_result] = []  # the files that may be removed under the part's name
 
@@ -270,7 +280,7 @@ class Part:
             self._file = os.open(self._name, os.O_WRONLY | os.O_NOFOLLOW | os.O_CLOEXEC, dir_fd=self._folder)
 
     def _make(self) -> None:
-        """Makes the folder and the part; again, where other runs removed the one or the other meanwhile."""
+        """Makes the folder and the part; again, where other runs removed the one or looked at the other meanwhile."""
         for _ in range(_TRIES):
             try:
                 self._enter_a_folder()
@@ -280,7 +290,7 @@ class Part:
                     raise
             if self._made >= 0:
                 return
-            self._folder = _closed(self._folder)
+            self._folder, self._name = _closed(self._folder), _new_name()
         raise OSError(errno.EBUSY, "other runs remove the folder of parts again and again", self._folder_name)
 
     def _enter_a_folder(self) -> None:

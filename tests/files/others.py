@@ -152,6 +152,45 @@ def taken_folder(texts):
     return wrong
 
 
+# As soon as a part is made another run looks whether it was left, for which that run locks it for a moment. Where it
+# takes the part for an old one it removes the name, at once or later.
+LOOKED_AT = """
+import fcntl
+lock, write, made = rnxcmp._parts.lock, rnxcmp._parts.Part.write, []
+def remove():
+    for name in filter(os.path.exists, made[:1]):
+        os.remove(name)
+def locking(part, kind, seconds):
+    made.append(os.readlink(f"/proc/self/fd/{part}"))
+    if len(made) > 1:
+        return lock(part, kind, seconds)
+    another = os.open(made[0], os.O_RDWR)
+    fcntl.flock(another, fcntl.LOCK_EX)
+    found = lock(part, kind, seconds)
+    AT_ONCE
+    os.close(another)
+    return found
+def writing(part, data):
+    LATER
+    write(part, data)
+rnxcmp._parts.lock, rnxcmp._parts.Part.write = locking, writing
+"""
+
+
+def part_that_is_looked_at(texts):
+    """Where another run looks at a part that was just made another part is made, with another name, and none is left."""
+    wrong = []
+    for at_once, later in (("pass", "pass"), ("pass", "remove()"), ("remove()", "pass"), ("remove(); found = True", "pass")):
+        with Place() as place:
+            place.write("a.rnx", GOOD)
+            script = LOOKED_AT.replace("AT_ONCE", at_once).replace("LATER", later)
+            run = changed(place, script, "rnx2crx", "--verify", "a.rnx")
+            lines = differs(run, 0, ["made a.crx, verified exact"])
+            lines += [f"left: {place.parts()}"] if place.parts() else []
+            wrong += [f"{at_once}, {later}: {line}" for line in lines]
+    return wrong
+
+
 # ---- what is verified
 
 # Once the folder is on the disk, and so the output has its name, something is done.
@@ -376,7 +415,8 @@ def locked_inputs(texts):
 
 
 CHECKS = (
-    left_parts, killed_parts, taken_folder, output_that_loses_its_name, output_that_changes_later, number_that_comes_again,
+    left_parts, killed_parts, part_that_is_looked_at, taken_folder,
+    output_that_loses_its_name, output_that_changes_later, number_that_comes_again,
     file_that_comes_before_it_is_replaced, access_lists, pipe_that_comes, locked_inputs,
 )  # fmt: skip
 OF_ROOT = (old_parts_of_readable_inputs, of_another_user)
