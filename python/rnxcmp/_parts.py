@@ -3,6 +3,9 @@
 A part is a file that is being made. It is in a folder of mode 0700 beside the place that it is made for, so that nobody else can read it or
 put anything in its stead, and it is locked as long as its run is at work. Where a run was killed, a later run removes the part. It removes
 nothing but parts: by their names, their owner and their locks.
+
+A folder is one of parts by its name, its owner, its mode and what is in it. Who made it can't be known: the call
+that makes a folder opens none, and one that a killed run left is as any other.
 """
 
 from __future__ import annotations
@@ -180,7 +183,11 @@ def _made_folder(home: int, name: str) -> int:
 
 
 def _remove_folder(home: int, folder: int, name: str) -> None:
-    """Removes an open folder that is empty, if it has the name still."""
+    """Removes an open folder that is empty, if it has the name still.
+
+    Another one that takes the name right after the look goes in its stead, but only if it is empty: no call removes
+    a folder by more than its name. To move it to a secret name first would move one that isn't empty too.
+    """
     if os.path.samestat(os.fstat(folder), os.stat(name, dir_fd=home, follow_symlinks=False)):
         os.rmdir(name, dir_fd=home)
 

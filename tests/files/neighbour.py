@@ -117,12 +117,19 @@ def snapshot(work):
     return found
 
 
+def is_folder_of_parts(status):
+    """Whether a folder has the form of the tool's own."""
+    return stat.S_ISDIR(status.st_mode) and status.st_uid == os.geteuid() and stat.S_IMODE(status.st_mode) == 0o700
+
+
 class Own:
-    """What the tool makes for itself, as its calls say: folders and parts."""
+    """What the tool makes for itself, as its calls say: folders and parts; and what folders it may remove."""
 
     def __init__(self):
         self.folders, self.parts = set(), set()
         self.begun = None  # a folder that the last call makes
+        self.seen = None  # the name of a folder of parts that the last call looked at
+        self.may_go = set()  # the numbers of empty folders that the tool may have removed
 
     def after_the_last(self):
         """Takes note of what the last call made."""
@@ -131,15 +138,27 @@ class Own:
         self.begun = None
 
     def before(self, call):
-        path = call.path
+        path, seen, self.seen = call.path, self.seen, None
         if path is None:
             return
-        if call.name == "mkdirat" and not os.path.lexists(path):
+        status = os.lstat(path) if os.path.lexists(path) else None
+        if call.name == "mkdirat" and not status:
             self.begun = path
         elif call.name == "openat" and call.arguments[2] & os.O_CREAT:
             self.parts.add(os.path.basename(path))
-        elif call.name == "unlinkat" and call.arguments[2] == REMOVES_FOLDER and os.path.lexists(path):
-            self.folders.discard(os.lstat(path).st_ino)
+        elif call.name == "unlinkat" and call.arguments[2] == REMOVES_FOLDER and status:
+            self.removed(path, status, seen == path)
+        elif call.name in neighbour_trace.LOOKS and status and is_folder_of_parts(status):
+            self.seen = path
+
+    def removed(self, path, status, was_seen):
+        """An empty folder may go that has the form of the tool's own, whoever made it: no run can tell it from one
+        that a killed run left. So may any that took the name right after the tool had seen such a folder there: no
+        call removes a folder by more than its name.
+        """
+        if (is_folder_of_parts(status) or was_seen) and stat.S_ISDIR(status.st_mode) and not os.listdir(path):
+            self.may_go.add(status.st_ino)
+        self.folders.discard(status.st_ino)
 
     def has(self, name, state):
         return os.path.basename(name) in self.parts or (stat.S_ISDIR(state[1]) and state[0] in self.folders)
@@ -163,8 +182,8 @@ class Others:
     def is_lost(self, name, state, now):
         if (name, state[0]) in self.may_go and not stat.S_ISDIR(state[1]):
             return False
-        if stat.S_ISDIR(state[1]) and name == PARTS and name not in now:
-            return any(other.startswith(f"{name}/") for other in self.known)  # an empty folder under the name of the tool's own may go
+        if stat.S_ISDIR(state[1]) and state[0] in self.own.may_go:
+            return False
         return now.get(name) != state
 
     def lost(self):
@@ -176,6 +195,7 @@ class Others:
         """Does what a neighbour does: what of others is gone before, as lines; from then on what is there is known anew."""
         wrong = self.lost()
         act()
+        self.own.may_go.clear()  # what is there from now on has other numbers, or the same ones anew
         self.known = {name: state for name, state in snapshot(self.work).items() if not self.own.has(name, state)}
         return wrong
 

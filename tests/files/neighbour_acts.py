@@ -139,6 +139,12 @@ def empty_folder(neighbour, target):
     neighbour.path(target).chmod(0o755)
 
 
+def private_folder(neighbour, target):
+    """A folder takes the name that has the form of the tool's own."""
+    neighbour.moved(target)
+    neighbour.path(target).mkdir(0o700)
+
+
 def lock(neighbour, target):
     """Locks what is there for a while."""
     try:
@@ -183,6 +189,7 @@ ACTS = {
     "pipe": Act(pipe, ANYTHING),
     "own folder": Act(own_folder, ("parts",)),
     "empty folder": Act(empty_folder, ("parts",)),
+    "private folder": Act(private_folder, ("parts",)),
     "lock": Act(lock, (*ANYTHING, "part")),
     "change": Act(change, (*FILES, "part")),
 }

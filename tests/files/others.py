@@ -191,6 +191,35 @@ def part_that_is_looked_at(texts):
     return wrong
 
 
+# Before the folder of parts is removed another one takes its name.
+BEFORE_IT_IS_REMOVED = """
+remove = rnxcmp._parts._remove_folder
+def removing(home, folder, name):
+    if not os.path.exists("moved"):
+        os.rename(name, "moved")
+        os.mkdir(name)
+        os.chmod(name, {})
+    remove(home, folder, name)
+rnxcmp._parts._remove_folder = removing
+"""
+
+
+def folder_that_takes_the_name(texts):
+    """An empty folder that takes the name of the folder of parts stays as it is; one that has the form of that folder is used, and goes."""
+    wrong = []
+    for mode, stays in ((0o755, True), (0o700, False)):
+        with Place() as place:
+            place.write("a.rnx", GOOD)
+            place.write("b.rnx", GOOD)
+            run = changed(place, BEFORE_IT_IS_REMOVED.replace("{}", str(mode)), "rnx2crx", "--verified-to", "list", "a.rnx", "b.rnx")
+            lines = differs(run, 0, ["made a.crx, verified exact", "made b.crx, verified exact"])
+            there = stat.S_IMODE(os.stat(place.work / PARTS).st_mode) if (place.work / PARTS).exists() else None
+            lines += [] if there == (mode if stays else None) else [f"the folder's mode is {there}"]
+            lines += [] if place.names() == {"a.rnx", "a.crx", "b.rnx", "b.crx", "list", "moved"} and not list(place.work.glob(f"{PARTS}.*")) else [f"files {os.listdir(place.work)}"]
+            wrong += [f"{mode:o}: {line}" for line in lines]
+    return wrong
+
+
 # ---- what is verified
 
 # Once the folder is on the disk, and so the output has its name, something is done.
@@ -415,7 +444,7 @@ def locked_inputs(texts):
 
 
 CHECKS = (
-    left_parts, killed_parts, part_that_is_looked_at, taken_folder,
+    left_parts, killed_parts, part_that_is_looked_at, taken_folder, folder_that_takes_the_name,
     output_that_loses_its_name, output_that_changes_later, number_that_comes_again,
     file_that_comes_before_it_is_replaced, access_lists, pipe_that_comes, locked_inputs,
 )  # fmt: skip
