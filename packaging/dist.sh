@@ -13,7 +13,10 @@ machines=$2
 shift 2
 top=$(cd "$(dirname "$0")/.." && pwd)
 for machine; do
-    [ -d "$machines/$machine/built" ] || { echo "nothing was made for $machine in $machines: make dist TARGETS=$machine" >&2; exit 1; }
+    [ -d "$machines/$machine/built" ] && continue
+    name=$("$top/packaging/quoted.sh" "$machine")
+    printf 'nothing was made for %s in %s: make dist TARGETS=%s\n' "$name" "$("$top/packaging/quoted.sh" "$machines")" "$name" >&2
+    exit 1
 done
 for tool in dpkg-deb python3 gzip tar sha256sum; do
     command -v "$tool" > /dev/null || { echo "there is no $tool, which a release needs" >&2; exit 1; }

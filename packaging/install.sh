@@ -14,7 +14,7 @@ zsh=${4:-share/zsh/site-functions}
 shared=librnxcmp.so.2
 here=$(dirname "$0")
 version=$(cat "$here/../VERSION")
-[ -x "$program" ] || { echo "no program $program: run make first" >&2; exit 1; }
+[ -x "$program" ] || { printf 'no program %s: run make first\n' "$("$here/quoted.sh" "$program")" >&2; exit 1; }
 install -d "$prefix/bin" "$prefix/share/man/man1" "$prefix/share/bash-completion/completions" "$prefix/$zsh" \
     "$prefix/share/fish/vendor_completions.d" "$prefix/share/doc/rnxcmp"
 page() { # page SOURCE NAME: a manual page, with the version in it
@@ -29,7 +29,7 @@ if [ -f "$library/$shared" ]; then
     install -m 755 "$here/bin/rnxcmp-file" "$prefix/bin/rnxcmp-file"
     page rnxcmp-file rnxcmp-file
 else
-    echo "rnxcmp-file is left out: there is no library $library/$shared (make library)" >&2
+    printf 'rnxcmp-file is left out: there is no library %s (make library)\n' "$("$here/quoted.sh" "$library/$shared")" >&2
 fi
 if [ -f "$library/librnxcmp.a" ]; then
     "$here/install_library.sh" "$prefix" "$library"

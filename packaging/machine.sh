@@ -79,7 +79,7 @@ aarch64)
     ;;
 windows) windows ;;
 *)
-    echo "machine.sh: there is no machine $machine" >&2
+    printf 'machine.sh: there is no machine %s\n' "$("$top/packaging/quoted.sh" "$machine")" >&2
     exit 1
     ;;
 esac

@@ -16,5 +16,6 @@ done
 done
 rm -rf "$prefix/lib/rnxcmp/rnxcmp/__pycache__"
 for folder in lib/rnxcmp/rnxcmp lib/rnxcmp lib/cmake/rnxcmp share/doc/rnxcmp; do
-    [ ! -d "$prefix/$folder" ] || rmdir "$prefix/$folder" 2> /dev/null || echo "$prefix/$folder has other files, and stays" >&2
+    [ ! -d "$prefix/$folder" ] || rmdir "$prefix/$folder" 2> /dev/null ||
+        printf '%s has other files, and stays\n' "$("$here/quoted.sh" "$prefix/$folder")" >&2
 done

@@ -14,6 +14,7 @@ from pathlib import Path
 sys.path.insert(0, str(Path(__file__).parent))
 from empty_root import check_archive_in_empty_root, check_in_empty_root  # noqa: E402
 from found import check_found, check_lintian, check_sums, check_wheel  # noqa: E402
+from names import check_names, check_quoted  # noqa: E402
 
 TOP = Path(__file__).resolve().parents[2]
 SAMPLE = TOP / "samples/station.rnx"
@@ -255,6 +256,8 @@ def checks(program):
     yield "the version", lambda: check_version(program)
     yield "versions that don't fit the list of changes", check_wrong_changes
     yield "the notices", check_notices
+    yield "names that scripts print", check_quoted
+    yield "names as a shell reads them", check_names
     with tempfile.TemporaryDirectory() as name:
         folder = Path(name)
         reason = lacking(program)

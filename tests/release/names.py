@@ -1,0 +1,44 @@
+"""What the scripts of a release print of names that have control characters: one line, in which no terminal finds a command."""
+
+import subprocess
+import tempfile
+from pathlib import Path
+
+TOP = Path(__file__).resolve().parents[2]
+SECONDS = 60  # in which each run is to end
+ODD = "odd\x1b[31m\n"  # a name that would turn a terminal red, and goes on in a second line
+ITS_LINE = r"'odd'$'\033''[31m'$'\n'"  # as ls writes it
+
+
+def rows(folder):
+    """Of each script that prints a name: the words of a run, and its message."""
+    packaging, odd, line = TOP / "packaging", folder / ODD, f"'{folder}/{ITS_LINE[1:]}"
+    yield [packaging / "install.sh", folder / "root", odd / "lost", folder], 1, f"no program {line}'/lost': run make first\n"
+    yield [packaging / "install.sh", folder / "root", "/bin/sh", odd], 0, f"rnxcmp-file is left out: there is no library {line}'/librnxcmp.so.2' (make library)\n"
+    yield [packaging / "uninstall.sh", odd], 0, f"{line}'/lib/rnxcmp' has other files, and stays\n"
+    yield [packaging / "machine.sh", ODD, "object", "archive", folder / "made"], 1, f"machine.sh: there is no machine {ITS_LINE}\n"
+    yield [packaging / "dist.sh", folder / "dist", odd, ODD], 1, f"nothing was made for {ITS_LINE} in {line}: make dist TARGETS={ITS_LINE}\n"
+
+
+def check_quoted():
+    """What the scripts of a release print of odd names."""
+    wrong = []
+    with tempfile.TemporaryDirectory() as name:
+        folder = Path(name)
+        (folder / ODD / "lib/rnxcmp/other").mkdir(parents=True)
+        for words, status, message in rows(folder):
+            run = subprocess.run(words, capture_output=True, text=True, timeout=SECONDS)
+            found = f"status {run.returncode}, {run.stderr!r}, not {message!r}"
+            wrong += [] if (run.returncode, run.stderr) == (status, message) else [f"{Path(words[0]).name}: {found}"]
+    return wrong
+
+
+def check_names():
+    """A shell reads from what quoted.sh prints the name that it was given; it has no control characters, whatever printf there is."""
+    names = ["plain", "a b", "it's", "$HOME `x`", ODD, "größer — 観測", "-n", "a\\nb", "\x7f\x01", "*", "~"]
+    wrong = []
+    for name in names:
+        line = subprocess.run([TOP / "packaging/quoted.sh", name], capture_output=True, text=True, timeout=SECONDS).stdout
+        read = subprocess.run(["bash", "-c", f"printf %s {line}"], capture_output=True, text=True, timeout=SECONDS).stdout
+        wrong += [] if read == name and line.count("\n") == 1 else [f"{name!r}: {line!r}, which is read as {read!r}"]
+    return wrong
