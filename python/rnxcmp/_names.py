@@ -60,4 +60,4 @@ def quoted(name: str) -> str:
     for printable, run in groupby(name, str.isprintable):
         piece = "".join(run)
         text += piece.replace("'", "'\\''") if printable else f"'$'{_escaped(piece)}''"
-    return text[:-1] if not name[-1].isprintable() else text + "'"
+    return text[:-1] if name and not name[-1].isprintable() else text + "'"

@@ -127,7 +127,9 @@ def _is_date(text: str) -> bool:
 
 def _arguments(words: Sequence[str]) -> argparse.Namespace:
     """The arguments; refuses what doesn't go together."""
-    found = _parser().parse_intermixed_args(words)
+    found, unknown = _parser().parse_known_intermixed_args(words)
+    if unknown:
+        _refuse(f"unrecognized arguments: {' '.join(map(quoted, unknown))}")
     if found.help or found.version:
         return found
     if found.delete or found.d:

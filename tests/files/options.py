@@ -66,14 +66,14 @@ def refusals(texts):
     """What is refused: status 1, a message, and nothing is made."""
     wrong = []
     for words, said in (
-        ((), "rnx2crx or crx2rnx is missing"), (("pack", "a.rnx"), "neither rnx2crx nor crx2rnx"), (("rnx2crx",), "the input is missing"),
+        ((), "rnx2crx or crx2rnx is missing"), (("pack", "a.rnx"), "neither rnx2crx nor crx2rnx"), (("pa\nck", "a.rnx"), r"explain: 'pa'$'\n''ck'"), (("rnx2crx",), "the input is missing"),
         (("rnx2crx", ""), "an empty name"), (("rnx2crx", "a.rnx", "-o", ""), "an empty name"), (("rnx2crx", "a.rnx", "-o", "-"), "no file is written to standard output"),
         (("rnx2crx", "a.rnx", "--verified-to", "-"), "no file is written to standard output"), (("rnx2crx", "a.rnx", "b.rnx", "-o", "c"), "-o names one output"),
         (("crx2rnx", "a.rnx", "-e", "2"), "belong to rnx2crx"), (("crx2rnx", "a.rnx", "--date", "x"), "belong to rnx2crx"),
         (("rnx2crx", "a.rnx", "-e", "0"), "from 1 to 1000000"), (("rnx2crx", "a.rnx", "-e", "1000001"), "from 1 to 1000000"), (("rnx2crx", "a.rnx", "-e", "x"), "from 1"),
         (("rnx2crx", "a.rnx", "-e", "9" * 5000), "from 1 to 1000000"),
         (("rnx2crx", "a.rnx", "--date", "x" * 21), "bad date"), (("rnx2crx", "a.rnx", "--date", "\u00e9"), "bad date"),
-        (("rnx2crx", "a.rnx", "--gzip", "--no-gzip"), "not allowed"), (("rnx2crx", "a.rnx", "--ver"), "unrecognized"), (("rnx2crx", "a.rnx", "--normal-form"), "belongs to --verified-to"),
+        (("rnx2crx", "a.rnx", "--gzip", "--no-gzip"), "not allowed"), (("rnx2crx", "a.rnx", "--ver"), "unrecognized arguments: --ver;"), (("rnx2crx", "a.rnx", "--\x1b[31m", "--x'y"), r"""unrecognized arguments: '--'$'\033''[31m' "--x'y";"""), (("rnx2crx", "a.rnx", "--normal-form"), "belongs to --verified-to"),
         (("rnx2crx", "a.rnx", "--accept-cut"), "belongs to --verified-to"), *((("rnx2crx", "a.rnx", "--max-output", size), "the size of --max-output") for size in ("0", "x", "1m", "-1", "9" * 20)),
         (("rnx2crx", "a.rnx", "--delete"), "ERROR: --delete is no longer an option: no input is ever removed"), (("rnx2crx", "-d", "a.rnx"), "ERROR: -d is no longer an option: no input is ever removed"), (("rnx2crx", "."), "this is a folder, not a file"), (("rnx2crx", "folder.rnx"), "this is a folder, not a file"), (("rnx2crx", "a.txt"), "no output name"),
         (("rnx2crx", ".", "-o", "b"), "this is a folder"), (("rnx2crx", "a.rnx", "-o", "b.24o.gz"), "named as an input"), (("crx2rnx", "a.crx", "-o", "sub/.CRX"), "named as an input"), (("rnx2crx", "fifo.rnx"), "no regular file"), (("rnx2crx", "none.rnx"), "No such file"), (("rnx2crx", "a.rnx", "-o", "no/b"), "cannot write beside no/b: No such file"), (("rnx2crx", "a.rnx", "-o", "a.rnx/b"), "cannot look at a.rnx/b: Not a directory"),
@@ -577,7 +577,7 @@ def quoting(texts):
 
     dice = random.Random(1)
     alphabet = "ab '\"$`\\!\n\t\x01\udcff\u00e9~#={}[]*?()&;<>|^@-%+,:.\x7f_"
-    every = ["".join(dice.choice(alphabet) for _ in range(dice.randint(1, 7))) for _ in range(2000)]
+    every = ["".join(dice.choice(alphabet) for _ in range(dice.randint(0, 7))) for _ in range(2000)]
     script = b"printf '%s\\0' " + b" ".join(os.fsencode(quoted(name)) for name in every)
     read = subprocess.run(["bash", "-c", script], capture_output=True).stdout.split(b"\0")[:-1]
     return [f"{name!r}: {quoted(name)}" for name, found in zip(every, read) if os.fsencode(name) != found or "\n" in quoted(name)][:5] + ([] if len(read) == len(every) else ["not all were read"])

@@ -8,6 +8,8 @@ import stat
 import struct
 import subprocess
 import sys
+from contextlib import contextmanager
+from pathlib import Path
 
 from options import ANOTHER_USER, compressed, differs
 from place import ENVIRONMENT, GOOD, SECONDS, Place, marked
@@ -427,9 +429,21 @@ atexit.register(lambda: print(f"slept {slept[0]:.0f} seconds"))
 """
 
 
+@contextmanager
+def called(name):
+    """Gives this process another name for a while."""
+    path = Path(f"/proc/{os.getpid()}/comm")
+    before = path.read_text().rstrip("\n")
+    path.write_text(name)
+    try:
+        yield
+    finally:
+        path.write_text(before)
+
+
 def locked_inputs(texts):
-    """Where another process has locks on inputs, the call waits once, and says for whom."""
-    with Place() as place:
+    """Where another process has locks on inputs, the call waits once, and says for whom, whatever that is called."""
+    with Place() as place, called("odd\x1b[31m"):
         names = [f"{number}.rnx" for number in range(4)]
         files = [open(place.write(name, GOOD), "rb") for name in names]
         for file in files:
@@ -437,7 +451,7 @@ def locked_inputs(texts):
         run = changed(place, OWN_CLOCK, "rnx2crx", *names)
         for file in files:
             file.close()
-        holder = f"process {os.getpid()} ("
+        holder = f"process {os.getpid()} ('odd'$'\\033''[31m')"
         wrong = differs(run, 1, errors=[f"0.rnx: waits for {holder}", *(f"{name}: ERROR: {holder}" for name in names)])
         wrong += [] if run.stderr.count("waits for") == 1 else ["it is said again and again"]
         return wrong + ([] if run.stdout.endswith("slept 11 seconds\n") else [f"{run.stdout}"])
