@@ -13,5 +13,7 @@ trap 'rm -rf "$work"' EXIT
 # (No guard of the stack, for which each program over the archive would need a library more.)
 "$top/library/archive.sh" "$work" "$folder" "$top/library/rnxcmp.c" "$heap" "$calls"
 { echo EXPORTS && cat "$work/names"; } > "$work/librnxcmp.def"
+# (The linker would choose an address by the name of the folder.)
 $CC -shared -s -static -o "$folder/librnxcmp-2.dll" "$work/librnxcmp.o" "$work/librnxcmp.def" \
-    -Wl,--no-insert-timestamp,--dynamicbase,--high-entropy-va,--nxcompat -Wl,--out-implib,"$folder/librnxcmp.dll.a"
+    -Wl,--no-insert-timestamp,--disable-auto-image-base,--dynamicbase,--high-entropy-va,--nxcompat \
+    -Wl,--out-implib,"$folder/librnxcmp.dll.a"
