@@ -25,13 +25,14 @@ linked() {
     "$compiler" -static-pie -s -Wl,--build-id=none -Wl,-z,relro,-z,now,-z,noexecstack -o "$folder/rnxcmp" "$@"
 }
 
-# compiled COMPILER FILE..: each file of C, as an object for a program
+# compiled COMPILER WORDS FILE..: each file of C, as an object for a program, by a compiler with more words
 compiled() {
     compiler=$1
-    shift
+    more="$2 $("$top/library/hardened.sh" "$compiler")"
+    shift 2
     for file; do
-        # shellcheck disable=SC2046,SC2086
-        "$compiler" $c -fPIE $("$top/library/hardened.sh" "$compiler") -c "$top/$file.c" -o "$work/$(basename "$file").o"
+        # shellcheck disable=SC2086
+        "$compiler" $c $more -c "$top/$file.c" -o "$work/$(basename "$file").o"
     done
 }
 
@@ -53,12 +54,11 @@ windows() {
     for_windows "$work/heap.bc" heap
     for_windows "$object" program
     for_windows "$archive" calls
-    guards=$("$top/library/hardened.sh" $mingw-gcc)
-    # shellcheck disable=SC2086
-    $mingw-gcc $c $guards -municode -c "$top/packaging/windows.c" -o "$work/windows.o"
-    # shellcheck disable=SC2086
-    $mingw-gcc $guards -static -s -municode -Wl,--no-insert-timestamp,--dynamicbase,--high-entropy-va,--nxcompat -o "$folder/rnxcmp.exe" \
-        "$work/program.o" "$work/windows.o" "$work/heap.o"
+    compiled $mingw-gcc -municode packaging/windows packaging/os
+    # shellcheck disable=SC2046
+    $mingw-gcc $("$top/library/hardened.sh" $mingw-gcc) -static -s -municode \
+        -Wl,--no-insert-timestamp,--dynamicbase,--high-entropy-va,--nxcompat -o "$folder/rnxcmp.exe" \
+        "$work/program.o" "$work/windows.o" "$work/os.o" "$work/heap.o"
     CC=$mingw-gcc LD=$mingw-ld AR=$mingw-ar OBJCOPY=$mingw-objcopy CFLAGS=-DRNXCMP_PROCESSOR_IS_GOOD=1 "$top/library/build_windows.sh" "$work/calls.o" "$work/heap.o" "$folder/library"
 }
 
@@ -73,7 +73,7 @@ x86-64)
     ;;
 aarch64)
     tool=aarch64-linux-gnu
-    compiled $tool-gcc packaging/os library/heap
+    compiled $tool-gcc -fPIE packaging/os library/heap
     linked $tool-gcc "$object" "$work/os.o" "$work/heap.o"
     CC=$tool-gcc LD=$tool-ld AR=$tool-ar OBJCOPY=$tool-objcopy "$top/library/build.sh" "$archive" "$folder/library"
     ;;

@@ -1,5 +1,5 @@
-/* What the program asks of the kit's C of the system, which is there for x86-64 alone: its arguments and errno. On another machine this file
-   stands in its place, beside library/heap.c. */
+/* What the program asks of the kit's C of the system, which is there for Linux on x86-64 alone: its arguments and
+   errno. On another machine this file stands in its place, beside library/heap.c, and on Windows beside windows.c. */
 #include <errno.h>
 #include <stddef.h>
 #include <stdint.h>
@@ -8,8 +8,11 @@
 static size_t count;
 static char **words;
 
-/* glibc hands the arguments to what runs before main. */
-__attribute__((constructor)) static void keep(int argc, char **argv) {
+/* Keeps the arguments. glibc hands them to what runs before main; on Windows wmain does, in UTF-8. */
+#ifndef _WIN32
+__attribute__((constructor))
+#endif
+void rnxcmp_keep(int argc, char **argv) {
     count = (size_t)argc;
     words = argv;
 }

@@ -1,11 +1,11 @@
-/* What the program asks of Linux, by Windows' own C library: packaging/retarget.py gives the program's calls the names that stand here.
+/* What the program asks of Linux, by Windows' own C library: packaging/retarget.py gives the program's calls the
+   names that stand here, and os.c has what it asks of the kit.
    Names of files are UTF-8 inside the program, and UTF-16 at the system, whatever the code page is. Standard streams are binary. */
 #include <errno.h>
 #include <fcntl.h>
 #include <io.h>
 #include <stdint.h>
 #include <stdlib.h>
-#include <string.h>
 #include <sys/stat.h>
 #include <windows.h>
 
@@ -20,9 +20,7 @@ enum { TICKS = 10000000 };
 int _dowildcard = 0; /* each argument is handed over as it is */
 
 int rnxcmp_main(void);
-
-static size_t count;
-static char **words;
+void rnxcmp_keep(int argc, char **argv);
 
 /* A text in UTF-8, in memory of its own; NULL where there is none. */
 static char *in_utf8(const wchar_t *text) {
@@ -35,39 +33,21 @@ static char *in_utf8(const wchar_t *text) {
 }
 
 int wmain(int argc, wchar_t **argv) {
-    count = (size_t)argc;
-    words = calloc(count + 1, sizeof *words);
+    char **words = calloc((size_t)argc + 1, sizeof *words);
     if (words == NULL) {
         return 1;
     }
-    for (size_t k = 0; k < count; k++) {
+    for (int k = 0; k < argc; k++) {
         words[k] = in_utf8(argv[k]);
         if (words[k] == NULL) {
             return 1;
         }
     }
+    rnxcmp_keep(argc, words);
     for (int stream = 0; stream < 3; stream++) {
         _setmode(stream, _O_BINARY);
     }
     return rnxcmp_main();
-}
-
-/* The bytes of an argument; -1 where there is none, and -2 where it is longer than its place. */
-intptr_t rattle_arg(size_t index, char *place, size_t length) {
-    if (index >= count) {
-        return -1;
-    }
-    size_t whole = strlen(words[index]);
-    memcpy(place, words[index], whole < length ? whole : length);
-    return whole <= length ? (intptr_t)whole : -2;
-}
-
-int rattle_errno(void) {
-    return errno;
-}
-
-void rattle_set_errno(int error) {
-    errno = error;
 }
 
 int rnxcmp_open(const char *path, int flags, ...) {
