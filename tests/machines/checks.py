@@ -12,7 +12,8 @@ TOP = HERE.parents[1]
 sys.path[:0] = [str(HERE), str(TOP / "tests")]
 from libraries import check_library  # noqa: E402
 from machines import MACHINES, emulator, make, script  # noqa: E402
-from same import check_files, check_same  # noqa: E402
+from retargeting import check_retargeting  # noqa: E402
+from same import check_clock, check_files, check_same  # noqa: E402
 
 COMPARISONS = 280  # of which there are to be so many at least
 
@@ -60,6 +61,7 @@ def of_machine(machine, program, files=()):
         if not machine.target:  # it has a program of its own
             yield "same answers", lambda: check_many(program, [path], files)
             yield "same files", lambda: check_files(program, [path], machine.is_windows)
+            yield "clock", lambda: check_clock([path])
             yield "cases", lambda: check_cases(machine, path)
             yield "arguments", lambda: check_arguments(path)
         yield "library", lambda: check_library(machine, words, program)
@@ -72,6 +74,7 @@ def reason_for(machine):
 
 def tried(machines, program, files=()):
     """The checks of machines, once all are made."""
+    yield "modules for Windows", check_retargeting
     yield "made", lambda: make(machines)
     for machine in machines:
         if (machine.built / machine.program).exists():

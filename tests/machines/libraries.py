@@ -1,5 +1,6 @@
 """The library of a machine, linked both ways with calls.c, and run by its emulator beside the program; and what the header promises."""
 
+import re
 import shutil
 import subprocess
 import tempfile
@@ -68,9 +69,24 @@ def check_promises(machine, words, library, folder):
     return [] if run.returncode == 0 else [f"promises.c: status {run.returncode}", *run.stdout.splitlines()[-20:], *run.stderr.splitlines()[-5:]]
 
 
+def check_names(machine, library):
+    """The archive, and what programs are linked with for the shared library, have the header's names and no others."""
+    wanted = set(re.findall(r"^ *(rnxcmp_[a-z_]*);$", (TOP / "library/symbols.map").read_text(), re.M))
+    tool = machine.compiler.removesuffix("gcc").removesuffix("musl-") + "nm"
+    shared = ["librnxcmp.dll.a"] if machine.is_windows else ["--dynamic", machine.shared]
+    wrong = []
+    for words in (["librnxcmp.a"], shared):
+        command = [tool, "--extern-only", "--defined-only", *words]
+        run = subprocess.run(command, cwd=library, capture_output=True, text=True, timeout=SECONDS)
+        found = set(re.findall(r"^[0-9a-f]+ [TDBR] ([^@\n]+)", run.stdout, re.M))
+        wrong += [] if found == wanted else [f"{words[-1]}: {sorted(found ^ wanted)[:6]}"]
+    return wrong
+
+
 def check_library(machine, words, program):
     """What is wrong with the library of a machine."""
-    library, wrong = machine.built / "library", []
+    library = machine.built / "library"
+    wrong = check_names(machine, library)
     with tempfile.TemporaryDirectory() as name:
         folder = Path(name)
         if machine.is_windows:

@@ -1,9 +1,11 @@
 """The same runs by the program of a machine and by the one that make built: output, messages, status and files."""
 
+import calendar
 import random
 import shutil
 import subprocess
 import tempfile
+import time
 from pathlib import Path
 
 TOP = Path(__file__).resolve().parents[2]
@@ -96,6 +98,7 @@ def check_same(program, command, files=()):
 # Names and files: each row has the files that stand there before, and the words of runs one after the other.
 ROWS = (
     ({"a.rnx": SAMPLE}, (["rnx2crx", *DATE, "a.rnx"], ["rnx2crx", *DATE, "a.rnx"], ["rnx2crx", "-f", *DATE, "-e", "1", "a.rnx"])),
+    ({"a.rnx": SAMPLE}, (["rnx2crx", *DATE, "-e", "1", "a.rnx"], ["rnx2crx", "-f", *DATE, "a.rnx"])),
     ({"a.rnx": SAMPLE}, (["rnx2crx", *DATE, "-", "a.rnx"], ["check", "a.rnx"], ["check", "b.rnx"], ["crx2rnx", "a.rnx"])),
     ({"ABCD0010.24O": SAMPLE}, (["rnx2crx", *DATE, "ABCD0010.24O"], ["crx2rnx", "-f", "ABCD0010.24D"])),
     ({"ein Name, größer — 観測.rnx": SAMPLE}, (["rnx2crx", *DATE, "ein Name, größer — 観測.rnx"], ["crx2rnx", "-f", "ein Name, größer — 観測.crx"])),
@@ -103,7 +106,7 @@ ROWS = (
     ({"[a]*.rnx": SAMPLE}, (["rnx2crx", *DATE, "[a]*.rnx"],)),
     ({"of/there.rnx": SAMPLE}, (["rnx2crx", *DATE, "of/there.rnx"], ["rnx2crx", *DATE, "lost/there.rnx"], ["check", "of/there.rnx"])),
 )
-ROWS_OF_LINUX = {5}  # a name that Windows doesn't take
+ROWS_OF_LINUX = {6}  # a name that Windows doesn't take
 
 
 def files_below(folder):
@@ -135,3 +138,14 @@ def check_files(program, command, is_windows):
             wrong += difference(words, one[:3], other[:3])
             wrong += [] if one[3] == other[3] else [f"{' '.join(words)}: files {sorted(one[3])}, not {sorted(other[3])}, or what is in them"]
     return wrong
+
+
+def check_clock(command):
+    """Without `--date` the second line has the time of the run, in UTC, to a minute."""
+    begun = time.time() // 60 * 60
+    output, messages, status = answer([str(word) for word in command], ["rnx2crx"], SAMPLE.read_bytes())
+    if status:
+        return [f"status {status}, {messages!r}"]
+    date = output.split(b"\n")[1][40:60].decode().strip()
+    moment = calendar.timegm(time.strptime(date, "%d-%b-%y %H:%M"))
+    return [] if begun <= moment <= time.time() else [f"{date} isn't the time of the run"]
