@@ -13,10 +13,11 @@ The program runs over whole texts (tests/cases), by tables of arguments (tests/a
 print, and as it is installed (tests/commands). Reads, writes and flushes of it are made to fail (tests/faults), and growths of its memory
 (tests/memory); its instructions are counted (tests/instructions). The tool for whole files is tried over all that may be under an output's
 name, at once, ended by signals and with failing calls (tests/files), what it explains of damaged files (tests/explain), and the suite for other
-programs over this one (tests/conformance). The library for C and Python is called beside it (tests/library), a release is made (tests/release),
-and the documents are compared with the sources (tests/documents). What needs a tool or a right that isn't there is listed at the end, and so
-are the programs for other machines, which `make machines-test` alone runs. The last line is `N passed, M failed`, of all. The exit status is 0
-where nothing failed.
+programs over this one (tests/conformance). The library for C and Python is called beside it (tests/library), the
+programs of other machines run beside it where they are proved and their emulator is there (tests/machines), a release
+is made (tests/release), and the documents are compared with the sources (tests/documents). What needs a tool or a
+right that isn't there is listed at the end, and so are the machines that weren't tried. The last line is
+`N passed, M failed`, of all. The exit status is 0 where nothing failed.
 """
 
 import argparse
@@ -38,6 +39,7 @@ KINDS = (
     ("argument", "arguments"),
     ("process", "process"),
     ("library", "library"),
+    ("machine", "machines"),
     ("recipe", "archives"),
     ("command", "commands"),
     ("fault", "faults"),
@@ -68,7 +70,6 @@ def print_left_out():
         print(f"not found here: {', '.join(lacking)}; what needs them was left out")
     if left_out:
         print(f"{len(left_out)} left out:", *left_out, sep="\n    ")
-    print("the programs for other machines are tried by `make machines-test`")
 
 
 def main():

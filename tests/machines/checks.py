@@ -1,5 +1,6 @@
-"""The programs and libraries of a release's machines, beside the program that make built (see tests/run.py): the machines whose compiler and
-emulator are there. `make machines-test` asks for all of them (run.py)."""
+"""The programs and libraries of a release's machines, beside the program that make built (see tests/run.py): the
+machines whose compiler and emulator are there, and for which `make machines-test` or `make dist` has proved these
+sources. So the gate proves nothing a second time, and names the others. `make machines-test` asks for all (run.py)."""
 
 import shutil
 import sys
@@ -11,7 +12,7 @@ HERE = Path(__file__).resolve().parent
 TOP = HERE.parents[1]
 sys.path[:0] = [str(HERE), str(TOP / "tests")]
 from libraries import check_library  # noqa: E402
-from machines import MACHINES, emulator, make, script  # noqa: E402
+from machines import MACHINES, emulator, make, script, take_over  # noqa: E402
 from retargeting import check_retargeting  # noqa: E402
 from same import check_clock, check_files, check_same  # noqa: E402
 
@@ -82,6 +83,8 @@ def tried(machines, program, files=()):
 
 
 def checks(program):
-    reasons = {machine: reason_for(machine) or ("" if shutil.which("rt") else "there is no rt to prove it") for machine in MACHINES}
+    no_rt = "" if shutil.which("rt") else "there is no rt"
+    reasons = {machine: reason_for(machine) or no_rt for machine in MACHINES}
+    reasons.update(take_over([machine for machine, reason in reasons.items() if not reason]))
     yield from ((machine.name, lambda reason=reason: reason) for machine, reason in reasons.items() if reason)
     yield from tried([machine for machine, reason in reasons.items() if not reason], program)

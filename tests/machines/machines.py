@@ -32,6 +32,12 @@ class Machine:
     def built(self):
         return MADE / self.made_by / "built"
 
+    @property
+    def proved(self):
+        """What has to be proved for this machine, beside what make proves."""
+        folder = MADE / ("x86-64" if self.is_windows else self.made_by)
+        return [] if self.made_by == "x86-64-v2" else [folder / name for name in ("rnxcmp.o", "librnxcmp_c.a")]
+
     def lacking(self):
         """The commands that this machine lacks to make and to run its programs."""
         tools = [self.compiler, *self.emulator[:1], *(("wine",) if self.is_windows else ())]
@@ -49,6 +55,24 @@ MACHINES = (
     Machine("aarch64", "Linux on 64-bit ARM", ("qemu-aarch64", "-s", str(STACK)), "aarch64-linux-gnu-gcc"),
     Machine("windows", "Windows on x86-64", ("wine",), "x86_64-w64-mingw32-gcc", "rnxcmp.exe", "librnxcmp-2.dll"),
 )
+
+
+def sum_of_sources():
+    """The sum of all that programs are proved of, as packaging/machines.mk leaves it beside them."""
+    return subprocess.run([TOP / "packaging/sources.sh"], capture_output=True, text=True, timeout=SECONDS).stdout
+
+
+def take_over(machines):
+    """Lets make, which goes by time, take what is proved for machines by its sum. Why something can't be taken."""
+    found, missing = sum_of_sources(), {}
+    for machine in machines:
+        sums = [path.with_name(path.name.removeprefix("lib").split(".")[0] + ".sum") for path in machine.proved]
+        if any(not path.exists() or not found or path.read_text() != found for path in sums):
+            missing[machine] = "nothing is proved for it of these sources (make machines-test)"
+            continue
+        for path in machine.proved:
+            path.touch()
+    return missing
 
 
 def make(machines):
