@@ -1,8 +1,9 @@
 #!/bin/sh
 # Makes what every machine has of the library for C: archive.sh WORK FOLDER FILE..
-# Each FILE that ends in .c is compiled, and all others are words for the linker. FOLDER gets the archive librnxcmp.a,
-# rnxcmp.h and rnxcmp.pc. WORK gets librnxcmp.o, the archive's one object, in which the header's names alone are
-# global, and `names`, which lists them. CC, LD, AR and OBJCOPY name the tools, and CFLAGS has more words for CC.
+# Each FILE that ends in .c is compiled, and all others are words for the linker. FOLDER gets the archive
+# librnxcmp.a, rnxcmp.h and rnxcmp.pc. WORK gets librnxcmp.o, the archive's one object, in which the header's names
+# alone are global, and `names`, which lists them. CC, LD, AR and OBJCOPY name the tools, and CFLAGS has more words
+# for CC.
 set -eu
 work=$1
 folder=$2
@@ -18,8 +19,8 @@ for file; do
     *.c)
         object=$work/$(basename "$file" .c).o
         # shellcheck disable=SC2086
-        $CC -std=c11 -O2 -Wall -Wextra -Wpedantic -Werror -ffile-prefix-map="$top=." -ffile-prefix-map="$work=." ${CFLAGS:-} \
-            -I "$top/include" -I "$work" -DRNXCMP_VERSION="\"$version\"" -c "$file" -o "$object"
+        $CC -std=c11 -O2 -Wall -Wextra -Wpedantic -Werror -ffile-prefix-map="$top=." -ffile-prefix-map="$work=." \
+            ${CFLAGS:-} -I "$top/include" -I "$work" -DRNXCMP_VERSION="\"$version\"" -c "$file" -o "$object"
         set -- "$@" "$object"
         ;;
     *) set -- "$@" "$file" ;;

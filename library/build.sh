@@ -11,7 +11,8 @@ trap 'rm -rf "$work"' EXIT
 export CC="${CC:-cc}" LD="${LD:-ld}" AR="${AR:-ar}" OBJCOPY="${OBJCOPY:-objcopy}"
 
 CFLAGS="-fPIC $("$top/library/hardened.sh" "$CC") ${CFLAGS:-}" \
-    "$top/library/archive.sh" "$work" "$folder" "$top/library/rnxcmp.c" "$top/library/heap.c" --whole-archive "$proved" --no-whole-archive
+    "$top/library/archive.sh" "$work" "$folder" "$top/library/rnxcmp.c" "$top/library/heap.c" \
+    --whole-archive "$proved" --no-whole-archive
 $CC -shared -s -o "$folder/librnxcmp.so.2" "$work/librnxcmp.o" -Wl,-soname,librnxcmp.so.2 -Wl,--version-script="$top/library/symbols.map" \
     -Wl,-z,defs -Wl,-z,text -Wl,-z,noexecstack -Wl,-z,relro -Wl,-z,now
 ln -sf librnxcmp.so.2 "$folder/librnxcmp.so"

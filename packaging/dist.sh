@@ -15,7 +15,8 @@ top=$(cd "$(dirname "$0")/.." && pwd)
 for machine; do
     [ -d "$machines/$machine/built" ] && continue
     name=$("$top/packaging/quoted.sh" "$machine")
-    printf 'nothing was made for %s in %s: make dist TARGETS=%s\n' "$name" "$("$top/packaging/quoted.sh" "$machines")" "$name" >&2
+    folder=$("$top/packaging/quoted.sh" "$machines")
+    printf 'nothing was made for %s in %s: make dist TARGETS=%s\n' "$name" "$folder" "$name" >&2
     exit 1
 done
 for tool in dpkg-deb python3 gzip tar sha256sum; do

@@ -29,7 +29,8 @@ if [ -f "$library/$shared" ]; then
     install -m 755 "$here/bin/rnxcmp-file" "$prefix/bin/rnxcmp-file"
     page rnxcmp-file rnxcmp-file
 else
-    printf 'rnxcmp-file is left out: there is no library %s (make library)\n' "$("$here/quoted.sh" "$library/$shared")" >&2
+    name=$("$here/quoted.sh" "$library/$shared")
+    printf 'rnxcmp-file is left out: there is no library %s (make library)\n' "$name" >&2
 fi
 if [ -f "$library/librnxcmp.a" ]; then
     "$here/install_library.sh" "$prefix" "$library"

@@ -1,5 +1,6 @@
-/* What the program asks of the kit's C of the system, which is there for Linux on x86-64 alone: its arguments and
-   errno. On another machine this file stands in its place, beside library/heap.c, and on Windows beside windows.c. */
+/* What the program asks of the kit's C of the system, which is there for Linux on x86-64 alone: its arguments
+   and errno. On another machine this file stands in its place, beside library/heap.c, and on Windows beside
+   windows.c too. */
 #include <errno.h>
 #include <stddef.h>
 #include <stdint.h>

@@ -1,5 +1,5 @@
-/* What the program asks of Linux, by Windows' own C library: packaging/retarget.py gives the program's calls the
-   names that stand here, and os.c has what it asks of the kit.
+/* What the program asks of Linux, by Windows' own C library: packaging/retarget.py gives the program's calls
+   the names that stand here, and os.c has what it asks of the kit.
    Names of files are UTF-8 inside the program, and UTF-16 at the system, whatever the code page is. Standard streams are binary. */
 #include <errno.h>
 #include <fcntl.h>

@@ -442,7 +442,7 @@ def called(name):
 
 
 def locked_inputs(texts):
-    """Where another process has locks on inputs, the call waits once, and says for whom, whatever that is called."""
+    """Where another process has locks on inputs, the call waits once, and says for whom, whatever its name is."""
     with Place() as place, called("odd\x1b[31m"):
         names = [f"{number}.rnx" for number in range(4)]
         files = [open(place.write(name, GOOD), "rb") for name in names]
