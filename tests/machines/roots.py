@@ -6,7 +6,9 @@
 DIST is what `make dist` makes, for x86-64-v2, aarch64 and windows. ROOTS is a folder for roots of Debian 11, Debian 12 and Debian 12 on 64-bit
 ARM: where one isn't there, debootstrap makes it, from a mirror of Debian's packages, and later runs take it as it is. The other roots
 are made here: busybox alone, an empty environment of Python, and Wine's folder. All is done in copies. What a system lacks is said, with the
-lines that need it. It needs root. The last line is `N passed, M failed`.
+lines that need it. Wheels are installed by pip. There is no Python of musl or Windows here: so this machine's pip unpacks
+the wheels of those, and their programs and libraries are used without Python. It needs root. The last line is
+`N passed, M failed`.
 """
 
 import argparse
@@ -22,14 +24,17 @@ HERE = Path(__file__).resolve().parent
 TOP = HERE.parents[1]
 sys.path[:0] = [str(HERE), str(TOP / "tests")]
 from checking import tally  # noqa: E402
+from libraries import compiled  # noqa: E402
 from machines import MACHINES, emulator  # noqa: E402
+from same import answer, difference  # noqa: E402
 
 VERSION = (TOP / "VERSION").read_text().strip()
 SAMPLE = TOP / "samples/station.rnx"
 SECONDS = 1200  # in which each step is to end
 SUITES = {"debian11": ("bullseye", "amd64"), "debian12": ("bookworm", "amd64"), "arm64": ("bookworm", "arm64")}
-PACKAGES = "python3,less,gzip"
+PACKAGES = "python3,python3-venv,less,gzip"
 PATH = "/usr/local/sbin:/usr/local/bin:/usr/sbin:/usr/bin:/sbin:/bin"
+QUIETLY = "--no-index --quiet --disable-pip-version-check"  # words for pip
 WINE_NAMES = ("rnxcmp",)  # the commands that a line for Windows may begin with
 
 
@@ -64,6 +69,11 @@ def using():
     return shell, [block for block in found if is_python(block)]
 
 
+def as_scripts(blocks_of_python):
+    """Lines for a shell that run blocks of Python, each as a file."""
+    return [line for block in blocks_of_python for line in (["cat > called.py << 'END'", *block, "END", "python3 -I called.py"])]
+
+
 def prepare(folder, program):
     """The files that the lines name, in a folder: a day of RINEX, a packed compact file, an archive."""
     shutil.copy(SAMPLE, folder / "abcd0010.24o")
@@ -86,8 +96,10 @@ def left(folder):
 
 def make_root(root, suite, architecture, mirror):
     """Makes a root where it isn't there; what went wrong, as lines. One of another machine is unpacked alone, without its own scripts."""
-    if (root / "usr/bin/python3").exists():
+    listed = root / "packages"  # the last that is written
+    if listed.exists() and listed.read_text() == PACKAGES:
         return []
+    shutil.rmtree(root, ignore_errors=True)
     part = root.with_name(root.name + ".part")
     shutil.rmtree(part, ignore_errors=True)
     part.parent.mkdir(parents=True, exist_ok=True)
@@ -98,6 +110,7 @@ def make_root(root, suite, architecture, mirror):
         return [f"debootstrap: status {run.returncode}", *(run.stdout + run.stderr).splitlines()[-5:]]
     for package in sorted((part / "var/cache/apt/archives").glob("*.deb")) if foreign else ():
         subprocess.run(["dpkg-deb", "-x", package, part], check=True, timeout=SECONDS)
+    (part / "packages").write_text(PACKAGES)
     part.rename(root)
     return []
 
@@ -135,7 +148,7 @@ def check_lines(root, words, dist, program, pattern, has_python=True):
     prepare(home, program)
     install, more = ([line.replace("linux-x86_64", pattern) for line in lines] for lines in installing())
     shell, python = using()
-    scripts = [line for block in python for line in (["cat > called.py << 'END'", *block, "END", "python3 -I called.py"])] if has_python else []
+    scripts = as_scripts(python) if has_python else []
     # (the archive has the module in lib/rnxcmp, which a wheel puts where Python looks)
     scripts = [line.replace("python3 -I", f"PYTHONPATH=$(echo $PWD/rnxcmp-*-{pattern}/lib/rnxcmp) python3") for line in scripts]
     return run_in(words, [*install, *more, *left_out(shell, has_python), *scripts]) or left(home)
@@ -146,13 +159,28 @@ def check_debian(root, dist, program, name):
     return check_lines(root, entered(root, architecture), dist, program, "linux-aarch64" if architecture == "arm64" else "linux-x86_64")
 
 
-def check_package(root, dist, name):
+USED = ("cp abcd0010.24o x.rnx", "rnxcmp-file rnx2crx --verify x.rnx", "CRX2RNX - x.crx > y.rnx", "cmp x.rnx y.rnx", "rm x.rnx x.crx y.rnx")
+
+
+def check_package(root, name):
     """The Debian package: installed, used by its plain names, and its module found by Python."""
-    if SUITES[name][1] != "amd64":
-        return "dpkg of another machine isn't set up"
-    lines = [f"dpkg -i rnxcmp_{VERSION.replace('-', '~')}_amd64.deb", "cp abcd0010.24o x.rnx", "rnxcmp-file rnx2crx --verify x.rnx", "CRX2RNX - x.crx > y.rnx",
-             "cmp x.rnx y.rnx", "python3 -I -c 'import rnxcmp; print(rnxcmp.version())'"]  # fmt: skip
-    return run_in(entered(root, "amd64"), lines)
+    architecture = SUITES[name][1]
+    for records in ("updates", "info", "triggers"):  # which a root has that ran no scripts of its packages
+        (root / "var/lib/dpkg" / records).mkdir(parents=True, exist_ok=True)
+    for records in ("status", "available"):
+        (root / "var/lib/dpkg" / records).touch()
+    lines = [f"dpkg -i rnxcmp_{VERSION.replace('-', '~')}_{architecture}.deb", *USED, "python3 -I -c 'import rnxcmp; print(rnxcmp.version())'"]
+    return run_in(entered(root, architecture), lines)
+
+
+def check_wheel(root, name):
+    """The wheel of a root's machine in an environment of its Python: commands, and README's lines for Python."""
+    architecture = SUITES[name][1]
+    tag = "manylinux2014_aarch64" if architecture == "arm64" else "manylinux2014_x86_64"
+    lines = ["python3 -m venv environment", 'PATH="$PWD/environment/bin:$PATH"']
+    lines += [f"pip install {QUIETLY} rnxcmp-*-{tag}.whl", "cd environment", "cp ../abcd0010.24o ../a.crx.gz ."]
+    lines += ["rnxcmp check abcd0010.24o", *USED]
+    return run_in(entered(root, architecture), [*lines, *as_scripts(using()[1])])
 
 
 def check_busybox(folder, dist, program):
@@ -176,31 +204,81 @@ def check_venv(folder, dist, program):
     prepare(home, program)
     wheel = next(dist.glob("*-manylinux2014_x86_64.whl"))
     shell, python = using()
-    scripts = [line for block in python for line in (["cat > called.py << 'END'", *block, "END", "python3 -I called.py"])]
-    lines = [f'PATH="{place}/bin:$PATH"', f"pip install --no-index --quiet --disable-pip-version-check '{wheel}'", *shell, *scripts]
+    scripts = as_scripts(python)
+    lines = [f'PATH="{place}/bin:$PATH"', f"pip install {QUIETLY} '{wheel}'", *shell, *scripts]
     return run_in([], lines, cwd=home) or left(home)
 
 
+def in_cmd(words, place, line, home):
+    """A line by Windows' own shell, where a folder's programs are found."""
+    command = f"set PATH=Z:{place};%PATH%&& {line}"
+    return subprocess.run([*words, "cmd", "/d", "/c", command], cwd=home, stdin=subprocess.DEVNULL, capture_output=True, timeout=SECONDS)
+
+
+def check_in_wine(words, place, home):
+    """Windows, as far as Wine is it: a folder's program runs README's lines that name it, also by its other names."""
+    wrong = []
+    for line in using()[0]:
+        command = line.partition("#")[0].strip().replace("| less", "> shown.txt")
+        if not command.startswith(WINE_NAMES) or command.startswith("rnxcmp-file"):
+            print(f"    left out, on Windows: {command}")
+            continue
+        run = in_cmd(words, place, command, home)
+        wrong += [] if run.returncode == 0 else [f"{command}: status {run.returncode}, {run.stdout[-300:]!r}, {run.stderr[-300:]!r}"]
+    named = in_cmd(words, place, "CRX2RNX.cmd - abcd0010.24d", home)
+    wrong += [] if named.stdout == SAMPLE.read_bytes() else [f"CRX2RNX.cmd: {named.stdout[-200:]!r}, {named.stderr[-300:]!r}"]
+    return wrong + ([] if (home / "abcd0010.24d").exists() else ["there is no abcd0010.24d"])
+
+
 def check_wine(folder, dist, program):
-    """Windows, as far as Wine is it: the archive's program runs README's lines that name it, by cmd; and its library is there."""
+    """The archive for Windows."""
     home = folder / "wine"
     home.mkdir()
     subprocess.run(["unzip", "-q", next(dist.glob("*-windows-x86_64.zip")), "-d", home], check=True, timeout=SECONDS)
     prepare(home, program)
-    shell, wrong = using()[0], []
-    place = next(home.glob("rnxcmp-*-windows-x86_64/bin"))
     with emulator(MACHINES[-1]) as words:
-        for line in shell:
-            command = line.partition("#")[0].strip()
-            if not command.startswith(WINE_NAMES) or command.startswith("rnxcmp-file"):
-                print(f"    left out, on Windows: {command}")
-                continue
-            command = command.replace("| less", "> shown.txt")
-            run = subprocess.run([*words, "cmd", "/d", "/c", f"set PATH=Z:{place};%PATH%&& {command}".replace("/", "\\", 0)], cwd=home, capture_output=True, timeout=SECONDS)
-            wrong += [] if run.returncode == 0 else [f"{command}: status {run.returncode}, {run.stdout[-300:]!r}, {run.stderr[-300:]!r}"]
-        named = subprocess.run([*words, "cmd", "/d", "/c", str(place / "CRX2RNX.cmd").replace("/", "\\"), "-", "abcd0010.24d"], cwd=home, capture_output=True, timeout=SECONDS)
-        wrong += [] if named.stdout == SAMPLE.read_bytes() else [f"CRX2RNX.cmd: {named.stdout[-200:]!r}, {named.stderr[-300:]!r}"]
-    return wrong + ([] if (home / "abcd0010.24d").exists() else ["there is no abcd0010.24d"])
+        return check_in_wine(words, next(home.glob("rnxcmp-*-windows-x86_64/bin")), home)
+
+
+def unpacked_wheel(folder, dist, tag):
+    """The wheel of a tag, as this machine's pip installs it for that: its place, or what went wrong."""
+    place = folder / tag
+    words = [*QUIETLY.split(), "--no-deps", "--only-binary=:all:", f"--platform={tag}", f"--target={place}"]
+    command = [sys.executable, "-m", "pip", "install", *words, next(dist.glob(f"*-{tag}.whl"))]
+    run = subprocess.run(command, capture_output=True, text=True, timeout=SECONDS)
+    return place, [] if run.returncode == 0 else [f"pip: status {run.returncode}, {run.stderr[-500:]!r}"]
+
+
+def check_calls(machine, words, place, folder, program):
+    """A program of C, linked with a wheel's library by the machine's compiler, answers what the program does."""
+    target = place / "rnxcmp" / ("calls.exe" if machine.is_windows else "calls")  # beside the library, where Windows looks for it
+    headers = next(folder.glob("rnxcmp-*-linux-x86_64/include"))
+    linked = [place / "rnxcmp" / machine.shared, f"-Wl,-rpath,{place / 'rnxcmp'}"][: 1 if machine.is_windows else 2]
+    wrong = compiled(machine, headers, HERE / "calls.c", target, linked)
+    if wrong:
+        return wrong
+    wanted = answer([program], ["check"], SAMPLE.read_bytes())
+    return difference(["calls"], answer([*words, target], ["check", "whole", "0"], SAMPLE.read_bytes()), wanted)
+
+
+def check_musl_wheel(folder, dist, program):
+    """The wheel for musl: its program runs README's lines, and its library is called through musl."""
+    place, wrong = unpacked_wheel(folder, dist, "musllinux_1_2_x86_64")
+    home = place / "home"
+    home.mkdir(parents=True)
+    prepare(home, program)
+    lines = [f'PATH="{place}/bin:$PATH"', *(line for line in using()[0] if "rnxcmp-file" not in line)]
+    return wrong or run_in([], lines, cwd=home) or left(home) or check_calls(MACHINES[1], [], place, folder, program)
+
+
+def check_windows_wheel(folder, dist, program):
+    """The wheel for Windows: its program runs README's lines, and its library is called, by Wine."""
+    place, wrong = unpacked_wheel(folder, dist, "win_amd64")
+    home = place / "home"
+    home.mkdir(parents=True)
+    prepare(home, program)
+    with emulator(MACHINES[-1]) as words:
+        return wrong or check_in_wine(words, place / "bin", home) or check_calls(MACHINES[-1], words, place, folder, program)
 
 
 def lacking(tools):
@@ -222,7 +300,8 @@ def of_suite(name, roots, folder, dist, program, mirror):
     if not wrong:
         root = copy_of(roots / name, folder)
         yield f"{name}: the printed lines", lambda: check_debian(root, dist, program, name)
-        yield f"{name}: the package", lambda: check_package(root, dist, name)
+        yield f"{name}: the package", lambda: check_package(root, name)
+        yield f"{name}: the wheel", lambda: check_wheel(root, name)
 
 
 def checks(dist, roots, folder, mirror, only):
@@ -231,15 +310,19 @@ def checks(dist, roots, folder, mirror, only):
     for name in SUITES:
         if name in only:
             yield from of_suite(name, roots, folder, dist, program, mirror)
-    others = {"busybox": (check_busybox, ("busybox", "unshare")), "venv": (check_venv, ()), "wine": (check_wine, ("wine", "unzip"))}
-    for name, (check, tools) in others.items():
+    others = (
+        ("busybox", "the printed lines", check_busybox, ("busybox", "unshare")), ("venv", "the printed lines", check_venv, ()),
+        ("musl", "the wheel", check_musl_wheel, ("musl-gcc",)), ("wine", "the printed lines", check_wine, ("wine", "unzip")),
+        ("wine", "the wheel", check_windows_wheel, ("wine", MACHINES[-1].compiler)),
+    )  # fmt: skip
+    for name, title, check, tools in others:
         if name in only:
-            yield f"{name}: the printed lines", lambda check=check, tools=tools: lacking(tools) or check(folder, dist, program)
+            yield f"{name}: {title}", lambda check=check, tools=tools: lacking(tools) or check(folder, dist, program)
 
 
 def main():
     parser = argparse.ArgumentParser(description=__doc__, formatter_class=argparse.RawDescriptionHelpFormatter)
-    names = [*SUITES, "busybox", "venv", "wine"]
+    names = [*SUITES, "busybox", "venv", "musl", "wine"]
     parser.add_argument("dist", type=Path)
     parser.add_argument("roots", type=Path)
     parser.add_argument("--only", nargs="+", choices=names, default=names)
