@@ -32,6 +32,7 @@ TOP = Path(__file__).resolve().parents[2]
 SAMPLE = TOP / "samples/station.rnx"
 END = b" " * 60 + b"END OF HEADER"
 PATCHED = Relation().patched
+SIGNALS = (signal.SIGTERM, signal.SIGKILL, signal.SIGINT, signal.SIGHUP)
 TWO_RETURNS, RETURNS = "left out: a copied line ends in two CRs", "left out: a line of what was expanded ends in CR"  # both are to be reached
 
 
@@ -210,17 +211,25 @@ def hours_of_sample(program):
     return [] if (done.returncode, done.stdout, done.stderr) == (0, b"".join(lines), b"") else [f"status {done.returncode}, {done.stderr!r}"]
 
 
+def heed():
+    """Undoes in a new process that signals are ignored, as nohup and a shell have it of what they begin in the background."""
+    for number in SIGNALS:
+        if number != signal.SIGKILL:
+            signal.signal(number, signal.SIG_DFL)
+
+
 def killed(program, words, whole, wanted, rng, pieces=40):
     """A run that is fed in pieces, and may be ended by a signal meanwhile: how it ended, and whether what it wrote is right."""
     last, size = rng.choice((rng.randrange(pieces), pieces)), -(-len(whole) // pieces)
     with tempfile.TemporaryFile() as output:
-        with subprocess.Popen([program, *words], stdin=subprocess.PIPE, stdout=output, stderr=subprocess.DEVNULL) as run:
+        streams = {"stdin": subprocess.PIPE, "stdout": output, "stderr": subprocess.DEVNULL}
+        with subprocess.Popen([program, *words], preexec_fn=heed, **streams) as run:
             for at in range(last):
                 run.stdin.write(whole[at * size : (at + 1) * size])
                 run.stdin.flush()
             if last < pieces or rng.random() < 0.3:
                 time.sleep(rng.random() * 0.004)
-                run.send_signal(rng.choice((signal.SIGTERM, signal.SIGKILL, signal.SIGINT, signal.SIGHUP)))
+                run.send_signal(rng.choice(SIGNALS))
         output.seek(0)
         written = output.read()
     if run.returncode in (0, 2):
