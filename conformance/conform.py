@@ -351,6 +351,11 @@ def judged(case: Dict, commands: Dict[str, List[str]]) -> List[Difference]:
     return found + (wrong or differences(case["expands_to"].encode("latin-1"), text))
 
 
+def shown(path: Path) -> str:
+    """A name in one line: as it is, or quoted as in Python where it has control characters."""
+    return str(path) if str(path).isprintable() else repr(str(path))
+
+
 def cases_of_files(folder: Path) -> Iterator[Dict]:
     """Cases of somebody's own files: what they stand for is found by the reader of this file."""
     for path in sorted(path for path in folder.rglob("*") if path.is_file()):
@@ -362,9 +367,9 @@ def cases_of_files(folder: Path) -> Iterator[Dict]:
                 raise Malformed("neither RINEX nor Compact RINEX")
             wanted = Reader().expand(data) if is_compact else normal_form(data)
         except (Malformed, ValueError, AssertionError) as error:
-            print(f"{path} is left out: {error}", file=sys.stderr)
+            print(f"{shown(path)} is left out: {error}", file=sys.stderr)
             continue
-        yield {"name": str(path), "do": "expand" if is_compact else "compact", "input": data.decode("latin-1"), "expands_to": wanted.decode("latin-1")}
+        yield {"name": shown(path), "do": "expand" if is_compact else "compact", "input": data.decode("latin-1"), "expands_to": wanted.decode("latin-1")}
 
 
 # ---- the report

@@ -54,6 +54,16 @@ def the_program(program):
     return [] if run.returncode == 0 else [run.stdout[:3000] + run.stderr]
 
 
+def odd_names():
+    """A name with control characters is printed quoted: of a file that is left out, and of one that differs."""
+    with tempfile.TemporaryDirectory() as folder:
+        (Path(folder) / "no\x1b[31m\nrinex").write_bytes(b"neither\n")
+        (Path(folder) / "odd\x1b[31m\udcff").write_bytes((TOP / "samples/station.rnx").read_bytes())
+        run = conformed("true", "true", "--files", folder)
+    wrong = [] if run.stderr == f"'{folder}/no\\x1b[31m\\nrinex' is left out: neither RINEX nor Compact RINEX\n" else [run.stderr]
+    return wrong + ([] if f"\n'{folder}/odd\\x1b[31m\\udcff', compact\n" in run.stdout else [run.stdout[:600]])
+
+
 class Planted:
     """The runner over copies of the program with a bug: what the program itself answers to a case is asked once."""
 
@@ -123,6 +133,7 @@ def checks(program):
     yield "the choices", page
     yield "seeds", same_seed
     yield "the program itself", lambda: the_program(program)
+    yield "odd names", odd_names
     copies = Planted(program)
     for bug in BUGS:
         yield f"planted: {bug}", lambda bug=bug: copies.wrong(bug)
