@@ -41,7 +41,8 @@
 #             compares a file of a gigabyte through C with the built program, and measures handles that are fed as much (ten minutes, and
 #             5 GB of memory)
 # make mutants-test
-#             plants bugs in copies of the files, one at a time, and shows what sees each (tests/mutants; half an hour)
+#             plants bugs in copies of the files, one at a time, and shows what sees each (tests/mutants; half an hour);
+#             those of a release need what make machines-test needs, and what it proved
 # make python makes the package for Python, with the program and the library, into out/python
 # make dist TARGETS='x86-64-v2 x86-64 aarch64 windows'
 #             proves and builds the program and the library for these machines (for x86-64-v2 alone where none is named) and makes a release
