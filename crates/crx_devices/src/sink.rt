@@ -102,7 +102,9 @@ impl Sink for FailingSink {
 
     ghost is_current = { λ s. ⊤ };
 
-    ghost is_broken = { λ s. ⊥ };
+    ghost is_awaited = { λ s. true };
+
+    ghost is_broken = { λ s. false };
 
     fn write(&mut self, bytes: &[u8]) -> Result<usize, WriteFailed>
         ensures bound { IfOk result (λ n. n ≤ length bytes.now) }

@@ -1,5 +1,5 @@
 //! A source over memory that fails where its plan says.
-ghost use Rattle.std.specs.Prelude.{◌≡◌, [], ◌++◌, ◌+◌, ◌^◌, ◌-◌, ◌<◌, ◌≤◌, length, take, min, is_err, IfOk, OnOk, OnErr};
+ghost use Rattle.std.specs.Prelude.{◌≡◌, [], ◌++◌, ◌+◌, ◌^◌, ◌-◌, ◌<◌, ◌≤◌, length, take, min, is_err, true, IfOk, OnOk, OnErr};
 ghost use Rattle.crx_devices.specs.Joining.{given_both};
 ghost use Rattle.crx_lines.specs.meaning.Devices.{ends_after, one_more};
 
@@ -81,6 +81,12 @@ impl Source for FailingSource<'_> {
     ghost failures = { λ s. s.failures };
 
     ghost ends = { λ s. s.ends };
+
+    ghost waits = { λ s. true };
+
+    fn may_wait(&self) -> bool {
+        true
+    }
 
     fn read(&mut self, buffer: &mut [u8]) -> Result<usize, ReadFailed>
         ensures bound { IfOk result (λ n. n ≤ length buffer.new) }

@@ -1,7 +1,7 @@
 //! The devices that bytes come from and go to. Each one counts its failures, so that a contract
 //! can say of a run that none happened, and what became of the bytes where one did. A source also
 //! counts how often it reported its end, so that a read after that shows.
-ghost use Rattle.std.specs.Prelude.{◌≡◌, ℕ, List, [], ◌++◌, ◌<◌, ◌≤◌, ◌⊎◌, length, take, is_ok, true, false, IfOk, OnOk, OnErr};
+ghost use Rattle.std.specs.Prelude.{◌≡◌, ℕ, List, [], ◌++◌, ◌<◌, ◌≤◌, length, take, is_ok, true, false, not, Bool, IfOk, OnOk, OnErr};
 ghost use Rattle.std.specs.Io.KnownBytes.{Appends, Consumes, IsAtEnd};
 ghost use Rattle.std.proofs.KnownBytes.{Appends-nil, Appends-trans, Consumes-nil, Consumes-trans};
 ghost use Rattle.crx_lines.specs.meaning.Devices.{ends_after, one_more};
@@ -37,10 +37,12 @@ pub trait Source {
     // How many reads reported the end; the count stops at the greatest value of 64 bits.
     ghost ends: { Self → ℕ };
 
+    // Whether a read may have to wait for bytes that don't exist yet.
+    ghost waits: { Self → Bool };
+
     /// Whether a read may have to wait for bytes that don't exist yet. What can't be told may wait.
-    fn may_wait(&self) -> bool {
-        true
-    }
+    fn may_wait(&self) -> bool
+        ensures value { result ≡ waits self.now };
 
     /// Gives the next bytes, as many as it likes, into the front of `buffer`, and answers how
     /// many. None into a buffer that isn't empty reports the end. What is in the buffer after
@@ -55,7 +57,8 @@ pub trait Source {
         ensures unasked { length buffer.new ≡ 0 → ends self.new ≡ ends self.old }
         ensures none_lost { OnErr result (gave self.old [] self.new) }
         ensures no_end { OnErr result (ends self.new ≡ ends self.old) }
-        ensures counted { OnErr result (failures self.new ≡ one_more (failures self.old)) };
+        ensures counted { OnErr result (failures self.new ≡ one_more (failures self.old)) }
+        ensures waits { waits self.new ≡ waits self.old };
 
     ghost gave_none: { (s : Self) → gave s [] s };
 
@@ -76,11 +79,14 @@ pub trait Sink {
     // How many flushes were asked for; the count stops at the greatest value of 64 bits.
     ghost flushes: { Self → ℕ };
 
-    // All that was taken was handed on, where that is awaited; or it couldn't be.
+    // All that was taken was handed on, by a flush or otherwise.
     ghost is_current: { Self → Type 0 };
 
-    // What was taken couldn't be handed on, and no flush will be good.
-    ghost is_broken: { Self → Type 0 };
+    // Whether what is taken is awaited, so that it is to be handed on when that is asked for.
+    ghost is_awaited: { Self → Bool };
+
+    // Whether something couldn't be handed on when that was asked for. No flush will be good.
+    ghost is_broken: { Self → Bool };
 
     /// Takes the first of `bytes`, at least one if there is one, and answers how many. They count as
     /// handed on only once a flush said so.
@@ -92,7 +98,9 @@ pub trait Sink {
         ensures unasked { flushes self.new ≡ flushes self.old }
         ensures good { OnOk result (failures self.new ≡ failures self.old) }
         ensures none_taken { OnErr result (took self.old [] self.new) }
-        ensures counted { OnErr result (failures self.new ≡ one_more (failures self.old)) };
+        ensures counted { OnErr result (failures self.new ≡ one_more (failures self.old)) }
+        ensures awaited { is_awaited self.new ≡ is_awaited self.old }
+        ensures unbroken { is_broken self.new ≡ is_broken self.old };
 
     /// Hands what was taken on to where it is kept. It takes no byte.
     fn flush(&mut self) -> Result<(), WriteFailed>
@@ -101,14 +109,20 @@ pub trait Sink {
         ensures asked { flushes self.new ≡ one_more (flushes self.old) }
         ensures good { OnOk result (failures self.new ≡ failures self.old) }
         ensures counted { OnErr result (failures self.new ≡ one_more (failures self.old)) }
-        ensures broken { is_broken self.old → is_ok result ≡ false };
+        ensures broken { is_broken self.old ≡ true → is_ok result ≡ false }
+        ensures awaited { is_awaited self.new ≡ is_awaited self.old }
+        ensures unbroken { is_broken self.new ≡ is_broken self.old };
 
     /// From now on what is taken is awaited: it is to be handed on by each [`Sink::hand_on`], which does
-    /// nothing before this call.
+    /// nothing before this call. Nothing is handed on here.
     fn await_output(&mut self)
         ensures none_taken { took self.old [] self.new }
         ensures unasked { flushes self.new ≡ flushes self.old }
-        ensures good { failures self.new ≡ failures self.old };
+        ensures good { failures self.new ≡ failures self.old }
+        ensures awaited { is_awaited self.new ≡ true }
+        ensures unbroken { is_broken self.new ≡ is_broken self.old }
+        ensures flushed { is_flushed self.new → is_flushed self.old }
+        ensures current { is_current self.new → is_current self.old };
 
     /// Hands what was taken on, where that is awaited, and answers whether that went well. It takes no byte,
     /// and counts as no flush. Where it fails, each flush after it fails, and counts the failure.
@@ -116,8 +130,11 @@ pub trait Sink {
         ensures none_taken { took self.old [] self.new }
         ensures unasked { flushes self.new ≡ flushes self.old }
         ensures good { failures self.new ≡ failures self.old }
-        ensures current { is_current self.new }
-        ensures broken { result ≡ false → is_broken self.new };
+        ensures awaited { is_awaited self.new ≡ is_awaited self.old }
+        ensures current { result ≡ true → is_awaited self.new ≡ true → is_current self.new }
+        ensures broken { is_broken self.new ≡ not result }
+        ensures still_broken { is_broken self.old ≡ true → is_broken self.new ≡ true }
+        ensures left_alone { is_awaited self.old ≡ false → self.new ≡ self.old };
 
     ghost took_none: { (s : Self) → took s [] s };
 
@@ -154,6 +171,8 @@ pub fn open_file<H: Files>(files: &H, name: &str) -> io::Result<Std<Uninterrupte
     ensures ends { IfOk result (λ device. device.ends ≡ 0) }
     ensures flushed { IfOk result (λ device. device.flushed ≡ false) }
     ensures flushes { IfOk result (λ device. device.flushes ≡ 0) }
+    ensures awaited { IfOk result (λ device. device.is_awaited ≡ false) }
+    ensures broken { IfOk result (λ device. device.is_broken ≡ false) }
 {
     let file = fs::open(files, name)?;
     let may_wait = match file.metadata() {
@@ -176,7 +195,7 @@ pub fn open_file<H: Files>(files: &H, name: &str) -> io::Result<Std<Uninterrupte
 
 impl<D> Std<D> {
     /// The device, none of whose reads, writes and flushes failed or reported the end yet. It isn't flushed
-    /// yet. What was read of it before isn't known.
+    /// yet. What was read of it before isn't known. Its reads may have to wait.
     pub fn new(inner: D) -> Std<D>
         ensures inner { result.inner ≡ inner }
         ensures failures { result.failures ≡ 0 }
@@ -184,6 +203,9 @@ impl<D> Std<D> {
         ensures flushed { result.flushed ≡ false }
         ensures flushes { result.flushes ≡ 0 }
         ensures unread { result.is_unread ≡ false }
+        ensures waits { result.may_wait ≡ true }
+        ensures awaited { result.is_awaited ≡ false }
+        ensures broken { result.is_broken ≡ false }
     {
         Std {
             inner,
@@ -221,6 +243,7 @@ impl<D> Std<D> {
         ensures asked { self.new.flushes ≡ one_more self.old.flushes }
         ensures inner { self.new.inner ≡ self.old.inner }
         ensures ends { self.new.ends ≡ self.old.ends }
+        ensures awaited { self.new.is_awaited ≡ self.old.is_awaited }
         ensures broken { self.new.is_broken ≡ self.old.is_broken }
     {
         self.flushed = flushed.is_ok();
@@ -244,11 +267,27 @@ impl<D: Read> Source for Std<D> {
 
     ghost ends = { λ s. s.ends };
 
+    ghost waits = { λ s. s.may_wait };
+
     fn may_wait(&self) -> bool {
         self.may_wait
     }
 
-    fn read(&mut self, buffer: &mut [u8]) -> Result<usize, ReadFailed> {
+    fn read(&mut self, buffer: &mut [u8]) -> Result<usize, ReadFailed>
+        ensures bound { IfOk result (λ n. n ≤ length buffer.new) }
+        ensures bytes { IfOk result (λ n.
+            Consumes (D.remaining self.old.inner) (D.remaining self.new.inner) (take n buffer.new)) }
+        ensures end { IfOk result (λ n. n ≡ 0 → 0 < length buffer.new → IsAtEnd (D.remaining self.new.inner)) }
+        ensures good { OnOk result (self.new.failures ≡ self.old.failures) }
+        ensures ends { IfOk result (λ n. 0 < length buffer.new
+            → self.new.ends ≡ ends_after n self.old.ends) }
+        ensures unasked { length buffer.new ≡ 0 → self.new.ends ≡ self.old.ends }
+        ensures none_lost { OnErr result (Consumes (D.remaining self.old.inner) (D.remaining self.new.inner) []) }
+        ensures no_end { OnErr result (self.new.ends ≡ self.old.ends) }
+        ensures counted { OnErr result (self.new.failures ≡ one_more self.old.failures) }
+        ensures waits { self.new.may_wait ≡ self.old.may_wait }
+        ensures unread { self.new.is_unread ≡ false }
+    {
         self.is_unread = false;
         match self.inner.read(buffer) {
             Ok(0) if !buffer.is_empty() => {
@@ -277,11 +316,26 @@ impl<D: Write> Sink for Std<D> {
 
     ghost flushes = { λ s. s.flushes };
 
-    ghost is_current = { λ s. (s.is_awaited ≡ false) ⊎ ((s.flushed ≡ true) ⊎ (s.is_broken ≡ true)) };
+    ghost is_current = { λ s. s.flushed ≡ true };
 
-    ghost is_broken = { λ s. s.is_broken ≡ true };
+    ghost is_awaited = { λ s. s.is_awaited };
 
-    fn write(&mut self, bytes: &[u8]) -> Result<usize, WriteFailed> {
+    ghost is_broken = { λ s. s.is_broken };
+
+    fn write(&mut self, bytes: &[u8]) -> Result<usize, WriteFailed>
+        ensures bound { IfOk result (λ n. n ≤ length bytes.now) }
+        ensures bytes { IfOk result (λ n.
+            Appends (D.contents self.old.inner) (D.contents self.new.inner) (take n bytes.now)) }
+        ensures progress { IfOk result (λ n. 0 < length bytes.now → 0 < n) }
+        ensures unflushed { self.new.flushed ≡ true → ⊥ }
+        ensures unasked { self.new.flushes ≡ self.old.flushes }
+        ensures good { OnOk result (self.new.failures ≡ self.old.failures) }
+        ensures none_taken { OnErr result (Appends (D.contents self.old.inner) (D.contents self.new.inner) []) }
+        ensures counted { OnErr result (self.new.failures ≡ one_more self.old.failures) }
+        ensures awaited { self.new.is_awaited ≡ self.old.is_awaited }
+        ensures unbroken { self.new.is_broken ≡ self.old.is_broken }
+        ensures unread { self.new.is_unread ≡ false }
+    {
         self.flushed = false;
         self.is_unread = false;
         match self.inner.write(bytes) {

@@ -18,6 +18,8 @@ pub fn write_all_counted<W: Sink>(writer: &mut W, bytes: &[u8]) -> Result<(), (u
     ensures part { IfErr result (λ e. W.took writer.old (take e.0 bytes.now) writer.new) }
     ensures counted { OnErr result (W.failures writer.new ≡ one_more (W.failures writer.old)) }
     ensures unasked { W.flushes writer.new ≡ W.flushes writer.old }
+    ensures awaited { W.is_awaited writer.new ≡ W.is_awaited writer.old }
+    ensures unbroken { W.is_broken writer.new ≡ W.is_broken writer.old }
 {
     let mut written = 0;
     while written < bytes.len() {

@@ -21,6 +21,7 @@ std_source remaining = record {
   at_end = λ s. IsAtEnd (remaining s.inner);
   failures = λ s. s.failures;
   ends = λ s. s.ends;
+  waits = λ s. s.may_wait;
 }
 
 abbrev pub std_sink : {D : Type 0} → (D → Option (List ℕ)) → SinkGhosts (Std D)
@@ -29,8 +30,9 @@ std_sink contents = record {
   failures = λ s. s.failures;
   is_flushed = λ s. s.flushed ≡ true;
   flushes = λ s. s.flushes;
-  is_current = λ s. (s.is_awaited ≡ false) ⊎ ((s.flushed ≡ true) ⊎ (s.is_broken ≡ true));
-  is_broken = λ s. s.is_broken ≡ true;
+  is_current = λ s. s.flushed ≡ true;
+  is_awaited = λ s. s.is_awaited;
+  is_broken = λ s. s.is_broken;
 }
 
 -- and what it says with a log
@@ -41,6 +43,7 @@ logged_source inner = record {
   at_end = λ s. inner.at_end s.inner × (0 < inner.ends s.inner);
   failures = λ s. inner.failures s.inner;
   ends = λ s. inner.ends s.inner;
+  waits = λ s. inner.waits s.inner;
 }
 
 abbrev pub logged_sink : {D : Type 0} → SinkGhosts D → SinkGhosts (Logged D)
@@ -51,6 +54,7 @@ logged_sink inner = record {
   is_flushed = λ s. inner.is_flushed s.inner;
   flushes = λ s. inner.flushes s.inner;
   is_current = λ s. inner.is_current s.inner;
+  is_awaited = λ s. inner.is_awaited s.inner;
   is_broken = λ s. inner.is_broken s.inner;
 }
 
@@ -207,5 +211,5 @@ module _ {F G I O E : Type 0} (file : F → Option (List ℕ)) (made : G → Opt
 -- a new device over a new one of std is unused
 pub fresh : {D : Type 0} (stream : D) (inner : Std D) (device : Logged (Std D)) → device.inner ≡ inner
     → device.log.bytes ≡ [] → inner.inner ≡ stream → inner.failures ≡ 0 → inner.ends ≡ 0 → inner.flushes ≡ 0
-    → IsUnused stream device
+    → inner.is_broken ≡ false → IsUnused stream device
 fresh = grind arith

@@ -124,6 +124,8 @@ impl<S: Source> Source for Logged<S> {
 
     ghost ends = { λ s. S.ends s.inner };
 
+    ghost waits = { λ s. S.waits s.inner };
+
     fn may_wait(&self) -> bool {
         self.inner.may_wait()
     }
@@ -154,6 +156,8 @@ impl<S: Sink> Sink for Logged<S> {
     ghost flushes = { λ s. S.flushes s.inner };
 
     ghost is_current = { λ s. S.is_current s.inner };
+
+    ghost is_awaited = { λ s. S.is_awaited s.inner };
 
     ghost is_broken = { λ s. S.is_broken s.inner };
 

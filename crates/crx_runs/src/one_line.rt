@@ -1,6 +1,6 @@
 //! One line of the input, through an engine to the writer and the messages.
 
-ghost use Rattle.std.specs.Prelude.{◌≡◌, ◌≤◌, List, [], ◌∷◌, None, IfOk, IfErr, OnOk, true};
+ghost use Rattle.std.specs.Prelude.{◌≡◌, ◌⊎◌, ◌≤◌, List, [], ◌∷◌, None, IfOk, IfErr, OnOk, true};
 ghost use Rattle.crx_base.specs.meaning.Lines.{InputLine, is_long};
 ghost use Rattle.crx_lines.specs.Reading.{line_shown, line_number};
 ghost use Rattle.crx_base.specs.declared.fault.At.{At};
@@ -59,7 +59,8 @@ fn warn<W: Sink, M: Sink>(writer: &mut W, messages: &mut M, notice: At) -> Resul
 /// written to it. What was written before was handed on, where that is awaited, or couldn't be.
 #[inline(always)]
 fn report_warning<W: Sink, M: Sink>(_writer: &W, messages: &mut M, notice: At) -> Result<bool, Halt>
-    requires current { W.is_current _writer.now }
+    requires current { (W.is_awaited _writer.now ≡ true → W.is_current _writer.now)
+        ⊎ (W.is_broken _writer.now ≡ true) }
     ensures { IsSettled (span W.Sink _writer.now _writer.now) (span M.Sink messages.old messages.new)
         (record { output = []; warnings = notice ∷ []; fault = None }) result }
 {

@@ -1,6 +1,6 @@
 //! One step of a run: the next line of the input, or its end.
 
-ghost use Rattle.std.specs.Prelude.{◌≡◌, ◌⊎◌, List, [], Contains, IfErr, IfOk, IfSome, OnOk, ◌<◌, ◌≤◌};
+ghost use Rattle.std.specs.Prelude.{◌≡◌, ◌⊎◌, List, [], Contains, IfErr, IfOk, IfSome, OnOk, ◌<◌, ◌≤◌, true, false};
 ghost use Rattle.crx_base.specs.meaning.Lines.{InputLine};
 ghost use Rattle.crx_lines.specs.Readers.{reading};
 ghost use Rattle.crx_base.specs.declared.limits.TheConstants.{INPUT_LIMIT};
@@ -42,6 +42,8 @@ pub(crate) fn step<E: Engine, R: Source, W: Sink, M: Sink>(
         → StepGoes (E.filter engine.old) (E.shows engine.new) (reader_span R.Source r0 reader.new)
         (span W.Sink w0 writer.new) (span M.Sink m0 messages.new) (reading input.new) lines result }
     ensures unasked { Contains (reading input.old).rest 10 → reader.new ≡ reader.old }
+    ensures handed_on { (reader.new ≡ reader.old)
+        ⊎ (R.waits reader.old ≡ true → (then : W) × W.took writer.old [] then × W.is_current then) }
 {
     match input.next_held() {
         Ok(Some(line)) => Ok(Some(take_line(engine, writer, messages, line)?)),
@@ -55,7 +57,9 @@ pub(crate) fn step<E: Engine, R: Source, W: Sink, M: Sink>(
 
 /// Tells the writer that what it takes is awaited, where a read may have to wait.
 fn await_output<R: Source, W: Sink>(reader: &R, writer: &mut W)
-    ensures { TookAll (span W.Sink writer.old writer.new) [] }
+    ensures still { TookAll (span W.Sink writer.old writer.new) [] }
+    ensures awaited { R.waits reader.now ≡ true → W.is_awaited writer.new ≡ true }
+    ensures left_alone { R.waits reader.now ≡ false → writer.new ≡ writer.old }
 {
     if reader.may_wait() {
         writer.await_output();
@@ -67,7 +71,9 @@ fn await_output<R: Source, W: Sink>(reader: &R, writer: &mut W)
 #[inline(never)]
 fn hand_on<R: Source, W: Sink>(reader: &R, writer: &mut W) -> Result<(), Halt>
     ensures still { OnOk result (TookAll (span W.Sink writer.old writer.new) []) }
-    ensures current { OnOk result (W.is_current writer.new) }
+    ensures current { OnOk result (R.waits reader.now ≡ true → W.is_current writer.new) }
+    ensures left_alone { R.waits reader.now ≡ false → W.is_awaited writer.old ≡ false
+        → OnOk result (writer.new ≡ writer.old) }
     ensures failed { IfErr result (λ halt. (halt ≡ Halt.Unwritten) × FlushFailed (span W.Sink writer.old writer.new)) }
 {
     await_output(reader, writer);
@@ -89,7 +95,7 @@ fn read_step<E: Engine, R: Source, W: Sink, M: Sink>(
     writer: &mut W,
     messages: &mut M,
 ) -> Result<Option<bool>, Halt>
-    requires current { W.is_current writer.old }
+    requires current { R.waits reader.old ≡ true → W.is_current writer.old }
     requires drained { E.ready engine.old ≡ [] }
     requires going { ((reading input.old).phase ≡ Phase.Open) ⊎ ((reading input.old).phase ≡ Phase.Ended) }
     requires next { (reading input.old).number ≡ E.taken engine.old }

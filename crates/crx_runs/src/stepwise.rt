@@ -1,6 +1,6 @@
 //! A run that its caller takes from step to step.
 
-ghost use Rattle.std.specs.Prelude.{◌≡◌, ◌⊎◌, ◌<◌, ◌≤◌, List, [], Contains, IfErr, IfOk, IfSome, OnOk};
+ghost use Rattle.std.specs.Prelude.{◌≡◌, ◌⊎◌, ◌<◌, ◌≤◌, List, [], Contains, IfErr, IfOk, IfSome, OnOk, true};
 ghost use Rattle.crx_base.specs.declared.limits.TheConstants.{INPUT_LIMIT};
 ghost use Rattle.crx_base.specs.meaning.Lines.{InputLine};
 ghost use Rattle.crx_lines.specs.Readers.{reading};
@@ -69,6 +69,8 @@ impl<E: Engine + Drop> Run<E> {
             → StepGoes (E.filter self.old.engine) (E.shows self.new.engine) (reader_span R.Source r0 reader.new)
             (span W.Sink w0 writer.new) (span M.Sink m0 messages.new) (reading self.new.input) lines result }
         ensures unasked { Contains (reading self.old.input).rest 10 → reader.new ≡ reader.old }
+        ensures handed_on { (reader.new ≡ reader.old)
+            ⊎ (R.waits reader.old ≡ true → (then : W) × W.took writer.old [] then × W.is_current then) }
     {
         step(&mut self.engine, &mut self.input, reader, writer, messages)
     }

@@ -36,6 +36,12 @@ impl Source for Given<'_> {
 
     ghost ends = { λ s. s.ends };
 
+    ghost waits = { λ s. true };
+
+    fn may_wait(&self) -> bool {
+        true
+    }
+
     fn read(&mut self, buffer: &mut [u8]) -> Result<usize, ReadFailed>
         ensures all { result ≡ Ok (min (length buffer.new) (length self.old.left.now)) }
         ensures bound { IfOk result (λ n. n ≤ length buffer.new) }
@@ -123,7 +129,9 @@ impl Sink for Counted {
 
     ghost is_current = { λ s. ⊤ };
 
-    ghost is_broken = { λ s. ⊥ };
+    ghost is_awaited = { λ s. true };
+
+    ghost is_broken = { λ s. false };
 
     fn write(&mut self, bytes: &[u8]) -> Result<usize, WriteFailed>
         ensures all { IfOk result (λ n. n ≡ min (length bytes.now) (self.old.most - self.old.count)) }

@@ -130,7 +130,9 @@ impl Sink for Pending {
 
     ghost is_current = { λ s. ⊤ };
 
-    ghost is_broken = { λ s. ⊥ };
+    ghost is_awaited = { λ s. true };
+
+    ghost is_broken = { λ s. false };
 
     fn write(&mut self, bytes: &[u8]) -> Result<usize, WriteFailed> {
         self.put(bytes)

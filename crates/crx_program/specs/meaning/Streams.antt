@@ -1,5 +1,5 @@
 -- What a run over standard streams read, wrote and reported, by the logs of its devices.
-use Rattle.std.specs.Prelude.{◌≡◌, ◌⊎◌, ◌<◌, ℕ, Bool, true, List, [], Option, Some, None}
+use Rattle.std.specs.Prelude.{◌≡◌, ◌⊎◌, ◌<◌, ℕ, Bool, true, false, List, [], Option, Some, None}
 use Rattle.crx_base.specs.meaning.Lines.{lines_of}
 use Rattle.crx_lines.specs.declared.device.Std.{Std}
 use Rattle.crx_base.specs.meaning.Choices.{Choices}
@@ -74,10 +74,10 @@ IsPrefix moment job whole =
 
 -- ---- where the devices began
 
--- a device of this stream through which nothing went yet, and of which nothing was counted
+-- a device of this stream through which nothing went yet, and of which nothing was counted; a flush of it can be good
 abbrev pub IsUnused : {D : Type 0} → D → Logged (Std D) → Type 0
 IsUnused stream device = (device.inner.inner ≡ stream) × (device.log.bytes ≡ []) × (device.inner.failures ≡ 0)
-    × (device.inner.ends ≡ 0) × (device.inner.flushes ≡ 0)
+    × (device.inner.ends ≡ 0) × (device.inner.flushes ≡ 0) × (device.inner.is_broken ≡ false)
 
 -- this holds of an unused device of this stream, from which a run led to the one that it handed back
 abbrev pub FromUnused : {D : Type 0} → D → (Logged (Std D) → Type 0) → Type 0

@@ -25,6 +25,8 @@ loop-written-preserved g c =
           (g.met.W.Sink.took_both old now new _ _ before.1 c.in-Ok.ensures.bytes),
       c.in-Ok.ensures.good ∙ before.2,
       c.in-Ok.ensures.unasked ∙ before.3,
+      c.in-Ok.ensures.awaited ∙ before.4,
+      c.in-Ok.ensures.unbroken ∙ before.5,
     )
 
 pub returns-in-Err-clause-part : goal.returns-in-Err-clause-part

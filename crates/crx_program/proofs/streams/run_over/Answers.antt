@@ -14,11 +14,14 @@ returns g c =
     (ap (λ (d : Std (Uninterrupted g.row.I.Denot)). d.inner) c.waiting.ensures.whole ∙ c.new.ensures.inner)
     (ap (λ (d : Std (Uninterrupted g.row.I.Denot)). d.failures) c.waiting.ensures.whole ∙ c.new.ensures.failures)
     (ap (λ (d : Std (Uninterrupted g.row.I.Denot)). d.ends) c.waiting.ensures.whole ∙ c.new.ensures.ends)
-    (ap (λ (d : Std (Uninterrupted g.row.I.Denot)). d.flushes) c.waiting.ensures.whole ∙ c.new.ensures.flushes) in
+    (ap (λ (d : Std (Uninterrupted g.row.I.Denot)). d.flushes) c.waiting.ensures.whole ∙ c.new.ensures.flushes)
+    (ap (λ (d : Std (Uninterrupted g.row.I.Denot)). d.is_broken) c.waiting.ensures.whole ∙ c.new.ensures.broken) in
     let output = fresh _ _ c.new-output.result c.new-output.ensures.inner c.new-output.ensures.log
-    c.new-2.ensures.inner c.new-2.ensures.failures c.new-2.ensures.ends c.new-2.ensures.flushes in
+    c.new-2.ensures.inner c.new-2.ensures.failures c.new-2.ensures.ends c.new-2.ensures.flushes
+    c.new-2.ensures.broken in
     let messages = fresh _ _ c.new-messages.result c.new-messages.ensures.inner c.new-messages.ensures.log
-    c.new-3.ensures.inner c.new-3.ensures.failures c.new-3.ensures.ends c.new-3.ensures.flushes in
+    c.new-3.ensures.inner c.new-3.ensures.failures c.new-3.ensures.ends c.new-3.ensures.flushes
+    c.new-3.ensures.broken in
     let ended = c.run_with_files-ended.ensures in
     let run = λ (job : Job) (e : plan_of (map string_bytes c.args.words.items) ≡ Run job). run_over
     (λ (r : Uninterrupted g.row.H-File.Denot). g.H.File.Read.remaining r.inner)

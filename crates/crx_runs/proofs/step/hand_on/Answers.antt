@@ -4,8 +4,8 @@ use Rattle.crx_runs.proofs.step.hand_on.Goals as goal
 
 pub returns-then-hand_on-clause-still : goal.returns-then-hand_on-clause-still
 returns-then-hand_on-clause-still g c = (
-  g.met.W.Sink.took_both _ _ _ [] [] c.await_output.ensures.0 c.hand_on.ensures.none_taken,
-  ap₂ sink_tally_of c.hand_on.ensures.good c.hand_on.ensures.unasked ∙ c.await_output.ensures.1,
+  g.met.W.Sink.took_both _ _ _ [] [] c.await_output.ensures.still.0 c.hand_on.ensures.none_taken,
+  ap₂ sink_tally_of c.hand_on.ensures.good c.hand_on.ensures.unasked ∙ c.await_output.ensures.still.1,
 )
 
 pub returns-clause-failed : goal.returns-clause-failed
@@ -14,9 +14,9 @@ returns-clause-failed g c =
     let flushed = c.in-Err.ensures in (
       refl,
       (
-        g.met.W.Sink.took_both _ _ _ [] [] c.await_output.ensures.0
+        g.met.W.Sink.took_both _ _ _ [] [] c.await_output.ensures.still.0
             (g.met.W.Sink.took_both _ _ _ [] [] handed.none_taken flushed.none_taken),
         ap₂ sink_tally_of (flushed.counted ∙ ap one_more handed.good) (flushed.asked ∙ ap one_more handed.unasked)
-            ∙ ap (λ (t : SinkTally). with_failed_flush t) c.await_output.ensures.1,
+            ∙ ap (λ (t : SinkTally). with_failed_flush t) c.await_output.ensures.still.1,
       ),
     )
