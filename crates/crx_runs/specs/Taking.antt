@@ -1,9 +1,10 @@
 -- What becomes of one line of the input.
-use Rattle.std.specs.Prelude.{◌≡◌, ◌≤◌, ℕ, ⊤, Bool, true, List, [], ◌∷◌, length, None, Result, Ok, Err, IfOk, IfErr, OnOk}
+use Rattle.std.specs.Prelude.{◌≡◌, ◌⊎◌, ◌≤◌, ℕ, ⊤, Bool, true, List, [], ◌∷◌, length, None, Result, Ok, Err, IfOk, IfErr, OnOk}
 use Rattle.crx_base.specs.meaning.Lines.{InputLine, is_long, lines_text}
 use Rattle.crx_lines.specs.Reading.{line_shown, line_number}
 use Rattle.crx_base.specs.declared.fault.At.{At}
 use Rattle.crx_base.specs.declared.limits.TheConstants.{LINE_LIMIT}
+use Rattle.crx_lines.specs.declared.device.Sink.{Ghosts as SinkGhosts}
 use Rattle.crx_runs.specs.declared.engine.Engine.{Ghosts as EngineGhosts}
 use Rattle.crx_runs.specs.declared.engine.Step.{Step}
 use Rattle.crx_runs.specs.declared.engine.Step.TheVariants.{Quiet, Ready, Warned}
@@ -73,6 +74,17 @@ abbrev pub IsTouchedBy : {E : Type 0} → Step → E → E → Type 0
 IsTouchedBy Ready before now = ⊤
 IsTouchedBy Quiet before now = now ≡ before
 IsTouchedBy (Warned notice again) before now = now ≡ before
+
+-- all that a writer had taken was handed on before it took more, where that is awaited; or it couldn't be
+abbrev pub HandsOnFirst : {W : Type 0} → SinkGhosts W → W → Type 0
+HandsOnFirst {W = W} writer before = (then : W) × writer.took before [] then
+    × ((writer.is_awaited then ≡ true → writer.is_current then) ⊎ (writer.is_broken then ≡ true))
+
+-- only a step that warns reports, once all that was written before was handed on
+abbrev pub ReportsLast : {W M : Type 0} → SinkGhosts W → Step → W → M → M → Type 0
+ReportsLast writer Quiet at before after = after ≡ before
+ReportsLast writer Ready at before after = after ≡ before
+ReportsLast writer (Warned notice again) at before after = HandsOnFirst writer at
 
 -- what a step makes: its lines, or its warning
 abbrev pub made_by : List (List ℕ) → Step → Course

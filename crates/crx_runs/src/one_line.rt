@@ -8,7 +8,7 @@ ghost use Rattle.crx_base.specs.declared.limits.TheConstants.{INPUT_LIMIT};
 ghost use Rattle.crx_runs.specs.Endings.{EndEndsRun};
 ghost use Rattle.crx_runs.specs.Engines.{IsDrainedAfter};
 ghost use Rattle.crx_runs.specs.declared.one_line.Halt.TheVariants as halts;
-ghost use Rattle.crx_runs.specs.Taking.{AnswerIsDone, HasAnswered, HoldsAnswer, IsAnswered, IsDone, IsSettled, IsTouchedBy, KeepsLines, LineIsTaken, MayTake, TakenIs, made_by, number_taken};
+ghost use Rattle.crx_runs.specs.Taking.{AnswerIsDone, HandsOnFirst, HasAnswered, HoldsAnswer, IsAnswered, IsDone, IsSettled, IsTouchedBy, KeepsLines, LineIsTaken, MayTake, ReportsLast, TakenIs, made_by, number_taken};
 ghost use Rattle.crx_runs.specs.meaning.Spans.{span};
 
 use crate::engine::{Engine, HandedOut, Step};
@@ -48,8 +48,9 @@ pub(crate) enum Taken<'a> {
 /// Has what was written handed on, where that is awaited, and reports a warning after it; answers that there
 /// was one. Where handing on fails, that is told before the next read.
 fn warn<W: Sink, M: Sink>(writer: &mut W, messages: &mut M, notice: At) -> Result<bool, Halt>
-    ensures { IsSettled (span W.Sink writer.old writer.new) (span M.Sink messages.old messages.new)
+    ensures settled { IsSettled (span W.Sink writer.old writer.new) (span M.Sink messages.old messages.new)
         (record { output = []; warnings = notice ∷ []; fault = None }) result }
+    ensures told { HandsOnFirst W.Sink writer.old }
 {
     writer.hand_on();
     report_warning(writer, messages, notice)
@@ -86,6 +87,7 @@ fn carry_out<E: Engine, W: Sink, M: Sink>(
     ensures touched { IsTouchedBy step engine.old engine.new }
     ensures settled { IsSettled (span W.Sink writer.old writer.new)
         (span M.Sink messages.old messages.new) (made_by (E.ready engine.old) step) result }
+    ensures told { ReportsLast W.Sink step writer.old messages.old messages.new }
 {
     match step {
         Step::Quiet => Ok(false),
@@ -105,8 +107,9 @@ fn offer<E: Engine, W: Sink, M: Sink>(
     taken: Taken<'_>,
 ) -> Result<bool, Halt>
     requires { MayTake E.Engine engine.old (number_taken taken) }
-    ensures { IsAnswered E.Engine engine.old engine.new (TakenIs taken.entry)
+    ensures answered { IsAnswered E.Engine engine.old engine.new (TakenIs taken.entry)
         (span W.Sink writer.old writer.new) (span M.Sink messages.old messages.new) result }
+    ensures told { (messages.new ≡ messages.old) ⊎ HandsOnFirst W.Sink writer.old }
 {
     match taken {
         Taken::Line(line) => match engine.take(line) {
@@ -138,9 +141,11 @@ fn take_answered<E: Engine, W: Sink, M: Sink>(
 ) -> Result<bool, Halt>
     requires { (before : E) × MayTake E.Engine before (number_taken taken)
         × HasAnswered E.Engine before engine.old (TakenIs taken) (E.ready engine.old) answer }
-    ensures { (before : E) → HasAnswered E.Engine before engine.old (TakenIs taken.entry) (E.ready engine.old) answer
+    ensures taken { (before : E)
+        → HasAnswered E.Engine before engine.old (TakenIs taken.entry) (E.ready engine.old) answer
         → LineIsTaken E.Engine before engine.new (TakenIs taken.entry)
         (span W.Sink writer.old writer.new) (span M.Sink messages.old messages.new) result }
+    ensures told { (messages.new ≡ messages.old) ⊎ HandsOnFirst W.Sink writer.old }
 {
     let step = answer?;
     let warned = carry_out(engine, writer, messages, step)?;
@@ -168,6 +173,7 @@ pub fn take_line<E: Engine, W: Sink, M: Sink>(
     ensures taken { LineIsTaken E.Engine engine.old engine.new (λ l. l ≡ line_shown line.entry)
         (span W.Sink writer.old writer.new)
         (span M.Sink messages.old messages.new) result }
+    ensures told { (messages.new ≡ messages.old) ⊎ HandsOnFirst W.Sink writer.old }
 {
     match engine.take(line) {
         Some(HandedOut::Nothing) => Ok(false),
@@ -199,8 +205,9 @@ fn take_by_answer<E: Engine, W: Sink, M: Sink>(
     is_plain: bool,
 ) -> Result<bool, Halt>
     requires { HoldsAnswer E.Engine engine.old content.now number is_plain }
-    ensures { AnswerIsDone E.Engine engine.old engine.new content.now is_plain
+    ensures done { AnswerIsDone E.Engine engine.old engine.new content.now is_plain
         (span W.Sink writer.old writer.new) (span M.Sink messages.old messages.new) result }
+    ensures told { (messages.new ≡ messages.old) ⊎ HandsOnFirst W.Sink writer.old }
 {
     if let Ok(
         Step::Warned {
@@ -226,8 +233,9 @@ fn take_stored_answer<E: Engine, W: Sink, M: Sink>(
     is_plain: bool,
 ) -> Result<bool, Halt>
     requires { HoldsAnswer E.Engine engine.old content.now number is_plain }
-    ensures { AnswerIsDone E.Engine engine.old engine.new content.now is_plain
+    ensures done { AnswerIsDone E.Engine engine.old engine.new content.now is_plain
         (span W.Sink writer.old writer.new) (span M.Sink messages.old messages.new) result }
+    ensures told { (messages.new ≡ messages.old) ⊎ HandsOnFirst W.Sink writer.old }
 {
     let answer = engine.answer();
     let line = Line::of(content, number, is_plain);
@@ -244,6 +252,7 @@ pub fn take_overlong<E: Engine, W: Sink, M: Sink>(
     requires may_take { MayTake E.Engine engine.old number }
     ensures taken { LineIsTaken E.Engine engine.old engine.new (λ l. is_long l ≡ true)
         (span W.Sink writer.old writer.new) (span M.Sink messages.old messages.new) result }
+    ensures told { (messages.new ≡ messages.old) ⊎ HandsOnFirst W.Sink writer.old }
 {
     let answer = engine.overlong(number);
     take_answered(engine, writer, messages, Taken::Overlong(number), answer)
@@ -265,6 +274,7 @@ pub fn take_end<E: Engine, W: Sink, M: Sink>(
     ensures cut { (lines : List InputLine) → E.shows engine.old lines []
         → IfErr result (EndEndsRun (E.filter engine.old) lines
         (span W.Sink writer.old writer.new) (span M.Sink messages.old messages.new)) }
+    ensures told { (messages.new ≡ messages.old) ⊎ HandsOnFirst W.Sink writer.old }
 {
     let step = engine.end()?;
     carry_out(engine, writer, messages, step)

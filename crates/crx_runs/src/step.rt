@@ -6,6 +6,7 @@ ghost use Rattle.crx_lines.specs.Readers.{reading};
 ghost use Rattle.crx_base.specs.declared.limits.TheConstants.{INPUT_LIMIT};
 ghost use Rattle.crx_runs.specs.Endings.{FlushFailed};
 ghost use Rattle.crx_runs.specs.Running.{IsWithinLimit, IsRunning, StepGoes};
+ghost use Rattle.crx_runs.specs.Taking.{HandsOnFirst};
 ghost use Rattle.crx_runs.specs.meaning.Spans.{reader_span};
 ghost use Rattle.crx_runs.specs.meaning.Spans.{TookAll, span};
 
@@ -44,6 +45,7 @@ pub(crate) fn step<E: Engine, R: Source, W: Sink, M: Sink>(
     ensures unasked { Contains (reading input.old).rest 10 → reader.new ≡ reader.old }
     ensures handed_on { (reader.new ≡ reader.old)
         ⊎ (R.waits reader.old ≡ true → (then : W) × W.took writer.old [] then × W.is_current then) }
+    ensures told { (messages.new ≡ messages.old) ⊎ HandsOnFirst W.Sink writer.old }
 {
     match input.next_held() {
         Ok(Some(line)) => Ok(Some(take_line(engine, writer, messages, line)?)),
@@ -113,6 +115,7 @@ fn read_step<E: Engine, R: Source, W: Sink, M: Sink>(
         → StepGoes (E.filter engine.old) (E.shows engine.new) (reader_span R.Source r0 reader.new)
         (span W.Sink w0 writer.new) (span M.Sink m0 messages.new) (reading input.new) lines result }
     ensures unasked { Contains (reading input.old).rest 10 → reader.new ≡ reader.old }
+    ensures told { (messages.new ≡ messages.old) ⊎ HandsOnFirst W.Sink writer.old }
 {
     match input.next_line(reader) {
         Ok(Some(line)) => Ok(Some(take_line(engine, writer, messages, line)?)),

@@ -6,7 +6,7 @@ ghost use Rattle.crx_base.specs.meaning.Lines.{InputLine};
 ghost use Rattle.crx_lines.specs.Readers.{reading};
 ghost use Rattle.crx_runs.specs.Endings.{EndEndsRun};
 ghost use Rattle.crx_runs.specs.Running.{IsRunning, IsWithinLimit, StepGoes};
-ghost use Rattle.crx_runs.specs.Taking.{IsDone};
+ghost use Rattle.crx_runs.specs.Taking.{HandsOnFirst, IsDone};
 ghost use Rattle.crx_runs.specs.meaning.Spans.{reader_span, span};
 
 use crate::engine::Engine;
@@ -71,6 +71,7 @@ impl<E: Engine + Drop> Run<E> {
         ensures unasked { Contains (reading self.old.input).rest 10 → reader.new ≡ reader.old }
         ensures handed_on { (reader.new ≡ reader.old)
             ⊎ (R.waits reader.old ≡ true → (then : W) × W.took writer.old [] then × W.is_current then) }
+        ensures told { (messages.new ≡ messages.old) ⊎ HandsOnFirst W.Sink writer.old }
     {
         step(&mut self.engine, &mut self.input, reader, writer, messages)
     }
@@ -88,6 +89,7 @@ impl<E: Engine + Drop> Run<E> {
         ensures cut { (lines : List InputLine) → E.shows self.old.engine lines []
             → IfErr result (EndEndsRun (E.filter self.old.engine) lines
             (span W.Sink writer.old writer.new) (span M.Sink messages.old messages.new)) }
+        ensures told { (messages.new ≡ messages.old) ⊎ HandsOnFirst W.Sink writer.old }
     {
         take_end(&mut self.engine, writer, messages)
     }

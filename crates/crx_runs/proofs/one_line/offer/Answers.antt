@@ -22,8 +22,8 @@ answered g c = rw (c.in-Line.is) (record {
       (rw (← is) awaited));
 })
 
-pub returns-in-Err : goal.returns-in-Err
-returns-in-Err g c =
+pub returns-in-Err-clause-answered : goal.returns-in-Err-clause-answered
+returns-in-Err-clause-answered g c =
     let then = c.take.new.self in
     let stored = g.E.Engine.answer then in
     let content = (line_shown c.in-Line.line).content in
@@ -35,24 +35,24 @@ returns-in-Err g c =
       answered = then;
       handed_out = ready;
       answer = answer_given out stored;
-      answers = rw (c.in-Some.is) at (answered g (goal.at.returns-in-Err g c).After-take);
+      answers = rw (c.in-Some.is) at (answered g (goal.at.returns-in-Err-clause-answered g c).After-take);
       carried_out = written-out g.E.Engine ready c.in-Some.handed_out stored c.write_handed_out.new.engine
           wrote told (Err Unwritten) c.write_handed_out.ensures.kept tt (ready-cut wrote told ready
           (rw (c.bytes.ensures.content) at c.in-Err.ensures.part) (g.met.M.Sink.took_none _, refl));
     }
 
-pub returns-in_ok-step-in-None : goal.returns-in_ok-step-in-None
-returns-in_ok-step-in-None g c = record {
+pub returns-in_ok-step-in-None-clause-answered : goal.returns-in_ok-step-in-None-clause-answered
+returns-in_ok-step-in-None-clause-answered g c = record {
   answered = c.take.new.self;
   handed_out = g.E.Engine.ready c.take.new.self;
   answer = Ok c.in_ok-step-in-None.step;
   answers = rw (sym c.in_ok-step-in-None.was ∙ c.answer.ensures.value) (rw c.in-None.is at
-      (answered g (goal.at.returns-in_ok-step-in-None g c).After-take));
+      (answered g (goal.at.returns-in_ok-step-in-None-clause-answered g c).After-take));
   carried_out = (c.carry_out.ensures.kept, c.carry_out.ensures.drained, c.carry_out.ensures.settled);
 }
 
-pub returns-in_ok-step-in-Overlong : goal.returns-in_ok-step-in-Overlong
-returns-in_ok-step-in-Overlong g c = record {
+pub returns-in_ok-step-in-Overlong-clause-answered : goal.returns-in_ok-step-in-Overlong-clause-answered
+returns-in_ok-step-in-Overlong-clause-answered g c = record {
   answered = c.overlong.new.self;
   handed_out = g.E.Engine.ready c.overlong.new.self;
   answer = Ok c.in_ok-step-in-Overlong.step;

@@ -9,14 +9,14 @@ use Rattle.crx_runs.specs.Taking.{HasAnswered, LineIsTaken, TakenIs}
 use Rattle.crx_runs.proofs.one_line.take_answered.Goals.{After-offer, In_ok-warned}
 use Rattle.crx_runs.proofs.one_line.take_answered.Goals as goal
 
-pub returns-in_err-step : goal.returns-in_err-step
-returns-in_err-step g c = λ before a.
+pub returns-in_err-step-clause-taken : goal.returns-in_err-step-clause-taken
+returns-in_err-step-clause-taken g c = λ before a.
     let p = err_from_is_err_and c.from_residual.result c.from_residual.ensures.1 in
     rw (p.1, p.2) (line-refused _ {handed_out = g.E.Engine.ready c.args.engine.now} _ _ _
     (rw (← c.in_err-step.was) a) (g.met.W.Sink.took_none _, refl) (g.met.M.Sink.took_none _, refl))
 
-pub returns-in_err-warned : goal.returns-in_err-warned
-returns-in_err-warned g c = λ before a.
+pub returns-in_err-warned-clause-taken : goal.returns-in_err-warned-clause-taken
+returns-in_err-warned-clause-taken g c = λ before a.
     let p = err_from_is_err_and c.from_residual-in_err-warned.result c.from_residual-in_err-warned.ensures.1
     in
     rw (p.1, p.2) (line-failed _ {handed_out = g.E.Engine.ready c.args.engine.now} _ _ _ _ _
@@ -31,13 +31,13 @@ twice : (g : Over) (c : After-offer g) (before : g.row.E.Denot) → HasAnswered 
     (then_of c.in_ok-warned.warned c.offer.result)
 twice g c before a = again-answered _ (c.in-Warned.is ∙ ap (Warned c.in-Warned.notice) c.if-again.true)
     (rw (← c.in_ok-step.was) a) c.carry_out.ensures.kept (span-joins g.W.Sink g.met.W.Sink.took_both)
-    (span-joins g.M.Sink g.met.M.Sink.took_both) _ c.in_ok-warned.ensures.settled _ c.offer.ensures
+    (span-joins g.M.Sink g.met.M.Sink.took_both) _ c.in_ok-warned.ensures.settled _ c.offer.ensures.answered
 
-pub returns-in_err-offer-in-Warned : goal.returns-in_err-offer-in-Warned
-returns-in_err-offer-in-Warned = grind (arith, common_steps, err_from_is_err_and, twice)
+pub returns-in_err-offer-in-Warned-clause-taken : goal.returns-in_err-offer-in-Warned-clause-taken
+returns-in_err-offer-in-Warned-clause-taken = grind (arith, common_steps, err_from_is_err_and, twice)
 
-pub returns-in_ok-offer-in-Warned : goal.returns-in_ok-offer-in-Warned
-returns-in_ok-offer-in-Warned = grind (arith, common_steps, twice)
+pub returns-in_ok-offer-in-Warned-clause-taken : goal.returns-in_ok-offer-in-Warned-clause-taken
+returns-in_ok-offer-in-Warned-clause-taken = grind (arith, common_steps, twice)
 
 -- A line that doesn't come a second time.
 once : (g : Over) (c : In_ok-warned g) → Stays c.in_ok-step.step → (before : g.row.E.Denot) → HasAnswered
@@ -48,8 +48,8 @@ once : (g : Over) (c : In_ok-warned g) → Stays c.in_ok-step.step → (before :
 once g c stays before a = line-settled _ _ _ _ _ _ (rw (← c.in_ok-step.was) a) stays c.carry_out.ensures.kept
     c.in_ok-warned.ensures.drained c.in_ok-warned.ensures.settled
 
-pub returns-in-Quiet : goal.returns-in-Quiet
-returns-in-Quiet = grind (arith, common_steps, once, ⊎_elim)
+pub returns-in-Quiet-clause-taken : goal.returns-in-Quiet-clause-taken
+returns-in-Quiet-clause-taken = grind (arith, common_steps, once, ⊎_elim)
 
-pub returns-else-again : goal.returns-else-again
-returns-else-again = grind (arith, common_steps, once)
+pub returns-else-again-clause-taken : goal.returns-else-again-clause-taken
+returns-else-again-clause-taken = grind (arith, common_steps, once)

@@ -5,8 +5,8 @@ use Rattle.crx_runs.specs.Taking.{HasAnswered, IsLine, KeepsLines}
 use Rattle.crx_runs.specs.declared.engine.Step.TheVariants.{Warned}
 use Rattle.crx_runs.proofs.one_line.take_by_answer.Goals as goal
 
-pub returns-in-Ok-Warned-default-false : goal.returns-in-Ok-Warned-default-false
-returns-in-Ok-Warned-default-false g c = λ before answered.
+pub returns-in-Ok-Warned-default-false-clause-done : goal.returns-in-Ok-Warned-default-false-clause-done
+returns-in-Ok-Warned-default-false-clause-done g c = λ before answered.
     let now = c.args.engine.now in
     let notice = c.in-Ok-Warned-default-false.notice in
     let is : g.E.Engine.answer now ≡ Ok (Warned notice false) = grind (arith, common_steps) in
@@ -15,4 +15,4 @@ returns-in-Ok-Warned-default-false g c = λ before answered.
     subst (HasAnswered g.E.Engine before now _ _) is answered in
     let kept : KeepsLines g.E.Engine now now = search in
     line-settled g.E.Engine (Warned notice false) now _ _ c.warn.result a tt kept (grind arith)
-    (rw (a.drained) c.warn.ensures)
+    (rw (a.drained) c.warn.ensures.settled)

@@ -23,8 +23,8 @@ answered g c = record {
       (rw (← is) awaited));
 }
 
-pub returns-in-Err : goal.returns-in-Err
-returns-in-Err g c =
+pub returns-in-Err-clause-taken : goal.returns-in-Err-clause-taken
+returns-in-Err-clause-taken g c =
     let then = c.take.new.self in
     let stored = g.E.Engine.answer then in
     let ready = lines_handed_out (Some c.in-Some.handed_out) (line_shown c.args.line).content
@@ -32,27 +32,23 @@ returns-in-Err g c =
     let new = c.write_handed_out.new.engine in
     let wrote = span g.W.Sink c.args.writer.now c.write_handed_out.new.writer in
     let told = span g.M.Sink c.args.messages.now c.args.messages.now in
-    record {
-      taken = line-handed g.E.Engine c.in-Some.handed_out stored new wrote told (Err Unwritten)
-          (rw c.in-Some.is at (answered g (goal.at.returns-in-Err g c).After-take))
-          (written-out g.E.Engine ready c.in-Some.handed_out stored new wrote told (Err Unwritten)
-          c.write_handed_out.ensures.kept tt (ready-cut wrote told ready (rw (c.bytes.ensures.content) at
-          c.in-Err.ensures.part) (g.met.M.Sink.took_none _, refl)));
-    }
+    line-handed g.E.Engine c.in-Some.handed_out stored new wrote told (Err Unwritten)
+    (rw c.in-Some.is at (answered g (goal.at.returns-in-Err-clause-taken g c).After-take))
+    (written-out g.E.Engine ready c.in-Some.handed_out stored new wrote told (Err Unwritten)
+    c.write_handed_out.ensures.kept tt (ready-cut wrote told ready (rw (c.bytes.ensures.content) at
+    c.in-Err.ensures.part) (g.met.M.Sink.took_none _, refl)))
 
 shown-is : (shown : InputLine) (content : List ℕ) (plain : Bool) → content ≡ shown.content → plain ≡
     shown.is_plain → record { content = content; is_plain = plain } ≡ shown
 shown-is = grind arith
 
-pub returns-in-None : goal.returns-in-None
-returns-in-None g c =
-    let a = rw c.in-None.is at (answered g (goal.at.returns-in-None g c).After-take) in
+pub returns-in-None-clause-taken : goal.returns-in-None-clause-taken
+returns-in-None-clause-taken g c =
+    let a = rw c.in-None.is at (answered g (goal.at.returns-in-None-clause-taken g c).After-take) in
     let same = shown-is (line_shown c.args.line) _ _ c.bytes-in-None.ensures.content c.plain.ensures.value in
-    record {
-      taken = subst (λ (s : InputLine). LineIsTaken g.E.Engine c.args.engine.now c.take_by_answer.new.engine
-          (λ l. l ≡ s) (span g.W.Sink c.args.writer.now c.take_by_answer.new.writer)
-          (span g.M.Sink c.args.messages.now c.take_by_answer.new.messages) c.take_by_answer.result) same
-          (c.take_by_answer.ensures _ (subst (λ (s : InputLine). HasAnswered g.E.Engine c.args.engine.now
-          c.take.new.self (λ l. l ≡ s) (g.E.Engine.ready c.take.new.self)
-          (g.E.Engine.answer c.take.new.self)) (sym same) a));
-    }
+    subst (λ (s : InputLine). LineIsTaken g.E.Engine c.args.engine.now c.take_by_answer.new.engine
+    (λ l. l ≡ s) (span g.W.Sink c.args.writer.now c.take_by_answer.new.writer)
+    (span g.M.Sink c.args.messages.now c.take_by_answer.new.messages) c.take_by_answer.result) same
+    (c.take_by_answer.ensures.done _ (subst (λ (s : InputLine). HasAnswered g.E.Engine c.args.engine.now
+    c.take.new.self (λ l. l ≡ s) (g.E.Engine.ready c.take.new.self)
+    (g.E.Engine.answer c.take.new.self)) (sym same) a))

@@ -1,4 +1,4 @@
-use Rattle.std.proofs.{lemmas.Result.err_from_is_err_and, Common.{◌≡◌, ⊎_elim, inl, inr, Ok, None, refl, sym, ap, ◌∙◌, subst}}
+use Rattle.std.proofs.{lemmas.Result.err_from_is_err_and, Common.{◌≡◌, ⊎_elim, inl, inr, [], Ok, None, refl, sym, ap, ◌∙◌, subst}}
 use Rattle.crx_base.specs.declared.fault.Fault.TheVariants.{LineTooLong}
 use Rattle.crx_lines.specs.{Readers.reading, Reading.{AnswersHeld, HasNoFeed, line_number, line_shown}, Reading.ReaderState}
 use Rattle.crx_lines.specs.declared.phase.Phase.TheVariants.{Open}
@@ -84,3 +84,10 @@ returns-in_err-hand_on-in-Ok-None-clause-goes g c = λ r0 w0 m0 lines shown runn
           (subst (λ (state : ReaderState). state.phase ≡ Open → HasNoFeed state.rest) (sym same)
           (λ opened. has-no-feed _ (c.next_held.ensures.none is opened))) failed.1,
     )))
+
+pub returns-in_ok-hand_on-in-Ok-None-clause-told : goal.returns-in_ok-hand_on-in-Ok-None-clause-told
+returns-in_ok-hand_on-in-Ok-None-clause-told g c = ⊎_elim inl (λ told. inr (
+  told.0,
+  g.met.W.Sink.took_both _ _ _ [] [] c.in_ok-hand_on-in-Ok-None.ensures.still.0 told.1,
+  told.2,
+)) c.read_step.ensures.told
