@@ -51,6 +51,7 @@ fn warn<W: Sink, M: Sink>(writer: &mut W, messages: &mut M, notice: At) -> Resul
     ensures settled { IsSettled (span W.Sink writer.old writer.new) (span M.Sink messages.old messages.new)
         (record { output = []; warnings = notice ∷ []; fault = None }) result }
     ensures told { HandsOnFirst W.Sink writer.old }
+    ensures awaited { W.is_awaited writer.new ≡ W.is_awaited writer.old }
 {
     writer.hand_on();
     report_warning(writer, messages, notice)
@@ -88,6 +89,7 @@ fn carry_out<E: Engine, W: Sink, M: Sink>(
     ensures settled { IsSettled (span W.Sink writer.old writer.new)
         (span M.Sink messages.old messages.new) (made_by (E.ready engine.old) step) result }
     ensures told { ReportsLast W.Sink step writer.old messages.old messages.new }
+    ensures awaited { W.is_awaited writer.new ≡ W.is_awaited writer.old }
 {
     match step {
         Step::Quiet => Ok(false),
@@ -110,6 +112,7 @@ fn offer<E: Engine, W: Sink, M: Sink>(
     ensures answered { IsAnswered E.Engine engine.old engine.new (TakenIs taken.entry)
         (span W.Sink writer.old writer.new) (span M.Sink messages.old messages.new) result }
     ensures told { (messages.new ≡ messages.old) ⊎ HandsOnFirst W.Sink writer.old }
+    ensures awaited { W.is_awaited writer.new ≡ W.is_awaited writer.old }
 {
     match taken {
         Taken::Line(line) => match engine.take(line) {
@@ -146,6 +149,7 @@ fn take_answered<E: Engine, W: Sink, M: Sink>(
         → LineIsTaken E.Engine before engine.new (TakenIs taken.entry)
         (span W.Sink writer.old writer.new) (span M.Sink messages.old messages.new) result }
     ensures told { (messages.new ≡ messages.old) ⊎ HandsOnFirst W.Sink writer.old }
+    ensures awaited { W.is_awaited writer.new ≡ W.is_awaited writer.old }
 {
     let step = answer?;
     let warned = carry_out(engine, writer, messages, step)?;
@@ -174,6 +178,7 @@ pub fn take_line<E: Engine, W: Sink, M: Sink>(
         (span W.Sink writer.old writer.new)
         (span M.Sink messages.old messages.new) result }
     ensures told { (messages.new ≡ messages.old) ⊎ HandsOnFirst W.Sink writer.old }
+    ensures awaited { W.is_awaited writer.new ≡ W.is_awaited writer.old }
 {
     match engine.take(line) {
         Some(HandedOut::Nothing) => Ok(false),
@@ -208,6 +213,7 @@ fn take_by_answer<E: Engine, W: Sink, M: Sink>(
     ensures done { AnswerIsDone E.Engine engine.old engine.new content.now is_plain
         (span W.Sink writer.old writer.new) (span M.Sink messages.old messages.new) result }
     ensures told { (messages.new ≡ messages.old) ⊎ HandsOnFirst W.Sink writer.old }
+    ensures awaited { W.is_awaited writer.new ≡ W.is_awaited writer.old }
 {
     if let Ok(
         Step::Warned {
@@ -236,6 +242,7 @@ fn take_stored_answer<E: Engine, W: Sink, M: Sink>(
     ensures done { AnswerIsDone E.Engine engine.old engine.new content.now is_plain
         (span W.Sink writer.old writer.new) (span M.Sink messages.old messages.new) result }
     ensures told { (messages.new ≡ messages.old) ⊎ HandsOnFirst W.Sink writer.old }
+    ensures awaited { W.is_awaited writer.new ≡ W.is_awaited writer.old }
 {
     let answer = engine.answer();
     let line = Line::of(content, number, is_plain);
@@ -253,6 +260,7 @@ pub fn take_overlong<E: Engine, W: Sink, M: Sink>(
     ensures taken { LineIsTaken E.Engine engine.old engine.new (λ l. is_long l ≡ true)
         (span W.Sink writer.old writer.new) (span M.Sink messages.old messages.new) result }
     ensures told { (messages.new ≡ messages.old) ⊎ HandsOnFirst W.Sink writer.old }
+    ensures awaited { W.is_awaited writer.new ≡ W.is_awaited writer.old }
 {
     let answer = engine.overlong(number);
     take_answered(engine, writer, messages, Taken::Overlong(number), answer)
@@ -275,6 +283,7 @@ pub fn take_end<E: Engine, W: Sink, M: Sink>(
         → IfErr result (EndEndsRun (E.filter engine.old) lines
         (span W.Sink writer.old writer.new) (span M.Sink messages.old messages.new)) }
     ensures told { (messages.new ≡ messages.old) ⊎ HandsOnFirst W.Sink writer.old }
+    ensures awaited { W.is_awaited writer.new ≡ W.is_awaited writer.old }
 {
     let step = engine.end()?;
     carry_out(engine, writer, messages, step)

@@ -20,6 +20,7 @@ pub(crate) fn write_ready<E: Engine, W: Sink>(
     ensures kept { KeepsLines E.Engine engine.old engine.new }
     ensures all { OnOk result (TookAll (span W.Sink writer.old writer.new) (lines_text (E.ready engine.old))) }
     ensures part { OnErr result (TookPart (span W.Sink writer.old writer.new) (lines_text (E.ready engine.old))) }
+    ensures awaited { W.is_awaited writer.new ≡ W.is_awaited writer.old }
 {
     if let Some(text) = engine.take_text() {
         return match write_all_counted(writer, text) {
@@ -53,6 +54,7 @@ pub(crate) fn write_handed_out<E: Engine, W: Sink>(
         (lines_text (lines_handed_out (Some handed_out) content.now (E.ready engine.old)))) }
     ensures part { OnErr result (TookPart (span W.Sink writer.old writer.new)
         (lines_text (lines_handed_out (Some handed_out) content.now (E.ready engine.old)))) }
+    ensures awaited { W.is_awaited writer.new ≡ W.is_awaited writer.old }
 {
     write_ready(engine, writer)?;
     if let HandedOut::AsItIs = handed_out {

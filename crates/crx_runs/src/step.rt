@@ -46,6 +46,7 @@ pub(crate) fn step<E: Engine, R: Source, W: Sink, M: Sink>(
     ensures handed_on { (reader.new ≡ reader.old)
         ⊎ (R.waits reader.old ≡ true → (then : W) × W.took writer.old [] then × W.is_current then) }
     ensures told { (messages.new ≡ messages.old) ⊎ HandsOnFirst W.Sink writer.old }
+    ensures awaited { R.waits reader.old ≡ false → W.is_awaited writer.new ≡ W.is_awaited writer.old }
 {
     match input.next_held() {
         Ok(Some(line)) => Ok(Some(take_line(engine, writer, messages, line)?)),
@@ -73,9 +74,11 @@ fn await_output<R: Source, W: Sink>(reader: &R, writer: &mut W)
 #[inline(never)]
 fn hand_on<R: Source, W: Sink>(reader: &R, writer: &mut W) -> Result<(), Halt>
     ensures still { OnOk result (TookAll (span W.Sink writer.old writer.new) []) }
-    ensures current { OnOk result (R.waits reader.now ≡ true → W.is_current writer.new) }
+    ensures waited { OnOk result (R.waits reader.now ≡ true → W.is_awaited writer.new ≡ true) }
+    ensures current { OnOk result (W.is_awaited writer.new ≡ true → W.is_current writer.new) }
     ensures left_alone { R.waits reader.now ≡ false → W.is_awaited writer.old ≡ false
         → OnOk result (writer.new ≡ writer.old) }
+    ensures awaited { R.waits reader.now ≡ false → W.is_awaited writer.new ≡ W.is_awaited writer.old }
     ensures failed { IfErr result (λ halt. (halt ≡ Halt.Unwritten) × FlushFailed (span W.Sink writer.old writer.new)) }
 {
     await_output(reader, writer);
@@ -97,7 +100,8 @@ fn read_step<E: Engine, R: Source, W: Sink, M: Sink>(
     writer: &mut W,
     messages: &mut M,
 ) -> Result<Option<bool>, Halt>
-    requires current { R.waits reader.old ≡ true → W.is_current writer.old }
+    requires waited { R.waits reader.old ≡ true → W.is_awaited writer.old ≡ true }
+    requires current { W.is_awaited writer.old ≡ true → W.is_current writer.old }
     requires drained { E.ready engine.old ≡ [] }
     requires going { ((reading input.old).phase ≡ Phase.Open) ⊎ ((reading input.old).phase ≡ Phase.Ended) }
     requires next { (reading input.old).number ≡ E.taken engine.old }
@@ -116,6 +120,7 @@ fn read_step<E: Engine, R: Source, W: Sink, M: Sink>(
         (span W.Sink w0 writer.new) (span M.Sink m0 messages.new) (reading input.new) lines result }
     ensures unasked { Contains (reading input.old).rest 10 → reader.new ≡ reader.old }
     ensures told { (messages.new ≡ messages.old) ⊎ HandsOnFirst W.Sink writer.old }
+    ensures awaited { W.is_awaited writer.new ≡ W.is_awaited writer.old }
 {
     match input.next_line(reader) {
         Ok(Some(line)) => Ok(Some(take_line(engine, writer, messages, line)?)),

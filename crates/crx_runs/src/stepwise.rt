@@ -1,6 +1,6 @@
 //! A run that its caller takes from step to step.
 
-ghost use Rattle.std.specs.Prelude.{◌≡◌, ◌⊎◌, ◌<◌, ◌≤◌, List, [], Contains, IfErr, IfOk, IfSome, OnOk, true};
+ghost use Rattle.std.specs.Prelude.{◌≡◌, ◌⊎◌, ◌<◌, ◌≤◌, List, [], Contains, IfErr, IfOk, IfSome, OnOk, true, false};
 ghost use Rattle.crx_base.specs.declared.limits.TheConstants.{INPUT_LIMIT};
 ghost use Rattle.crx_base.specs.meaning.Lines.{InputLine};
 ghost use Rattle.crx_lines.specs.Readers.{reading};
@@ -72,6 +72,7 @@ impl<E: Engine + Drop> Run<E> {
         ensures handed_on { (reader.new ≡ reader.old)
             ⊎ (R.waits reader.old ≡ true → (then : W) × W.took writer.old [] then × W.is_current then) }
         ensures told { (messages.new ≡ messages.old) ⊎ HandsOnFirst W.Sink writer.old }
+        ensures awaited { R.waits reader.old ≡ false → W.is_awaited writer.new ≡ W.is_awaited writer.old }
     {
         step(&mut self.engine, &mut self.input, reader, writer, messages)
     }
@@ -90,6 +91,7 @@ impl<E: Engine + Drop> Run<E> {
             → IfErr result (EndEndsRun (E.filter self.old.engine) lines
             (span W.Sink writer.old writer.new) (span M.Sink messages.old messages.new)) }
         ensures told { (messages.new ≡ messages.old) ⊎ HandsOnFirst W.Sink writer.old }
+        ensures awaited { W.is_awaited writer.new ≡ W.is_awaited writer.old }
     {
         take_end(&mut self.engine, writer, messages)
     }

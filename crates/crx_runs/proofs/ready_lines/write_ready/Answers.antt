@@ -65,4 +65,5 @@ loop-line-preserved g c =
         shows = λ ls notices h. kept.1.shows ls notices (i.1.shows ls notices h);
         ended = λ ls h. kept.1.ended ls (i.1.ended ls h);
       },
+      e.awaited ∙ d.awaited ∙ i.2,
     )
