@@ -33,10 +33,8 @@ fn take_steps<E: AnyEngine + Drop, R: Source, W: Sink, M: Sink>(
         match run.step(reader, writer, messages) {
             Ok(Some(_)) => {}
             Ok(None) => {
-                return Ok(match run.end(writer, messages) {
-                    Ok(_) => Ok(run.into_engine().next_line().is_none()),
-                    Err(halt) => Err(halt),
-                });
+                let ended = run.end(writer, messages);
+                return Ok(ended.map(move |_| run.into_engine().next_line().is_none()));
             }
             Err(halt) => return Ok(Err(halt)),
         }

@@ -13,10 +13,10 @@ goes : (g : Over) (c : After-step g) → StepGoes (g.E.Engine.filter c.in_ok-run
     (reading c.step.new.self.input) c.steps.invariant.0.0 c.step.result
 goes = grind arith
 
-pub end-requires-clause-within : goal.end-requires-clause-within
-end-requires-clause-within g c =
+pub end-ended-requires-clause-within : goal.end-ended-requires-clause-within
+end-ended-requires-clause-within g c =
     let comes = rw (c.in-Ok-None.is, c.in-Ok-None.field-0-is) at
-    (goes g (goal.at.end-requires-clause-within g c).After-step) in
+    (goes g (goal.at.end-ended-requires-clause-within g c).After-step) in
     let counted = c.in-Ok-None.ensures.counted in
     omega (arith, g.met.E.Engine.counted _ _ _ comes.shown, comes.running.read.number)
 
