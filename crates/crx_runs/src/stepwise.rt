@@ -45,7 +45,8 @@ impl<E: Engine + Drop> Run<E> {
 
     /// Takes the next line: writes what it makes, and reports its warnings, whether there was one; `None` at
     /// the end of the input. Before the reader is asked for more, the output and the warnings of all lines
-    /// that it gave so far are written, in the order of the lines.
+    /// that it gave so far are written, in the order of the lines. Where the reader may have to wait, the
+    /// writer hands on first what it took, and so it does before a warning where output is awaited.
     pub fn step<R: Source, W: Sink, M: Sink>(
         &mut self,
         reader: &mut R,
