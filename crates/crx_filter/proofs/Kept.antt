@@ -3,7 +3,7 @@ use Rattle.crx_filter.proofs.Words.{common_steps, arith, ℕ, ◌≡◌, List, �
 use Rattle.crx_filter.proofs.Words.{lines_of, At, Choices, compacted, expanded, FilterResult, findings_of}
 use Rattle.crx_filter.proofs.{Words.{checked_by, checked, Device, IsResult}, damage.DamageStays.saved-lines}
 use Rattle.crx_filter.proofs.standard.CheckStandard.{named-where_not, standard-exactly_where_same}
-use Rattle.crx_filter.proofs.wayback.{Standard.{normal-comes_back, standard-comes_back}, WayBack.comes-back}
+use Rattle.crx_filter.proofs.anywriter.ComesBack.{normal-comes_back, standard-comes_back, comes-back}
 use Rattle.crx_filter.specs.meaning.Lossless.{WritesOutputOf}
 use Rattle.crx_filter.specs.meaning.Promises.{Keeps, BringsBackWhatWasCompacted, SavesAllElse}
 use Rattle.crx_filter.specs.meaning.{Promises.JudgesStandard, Standard.{Findings, report_status}}

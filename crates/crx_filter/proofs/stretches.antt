@@ -1,7 +1,8 @@
 -- What is saved of text that is damaged in stretches.
 pub mod OpenReading
-pub mod KeptReading
+pub mod KeptUnits
 pub mod StretchesRead
 pub mod StretchesCut
 pub mod StretchesSaved
+pub mod OwnStretches
 pub mod StretchesKept

@@ -1,13 +1,11 @@
 -- Beside meaning/CompactText: the laws of compact text, whoever wrote it.
-use Rattle.std.specs.Prelude.{◌≡◌, ◌↔◌, ℕ, true, List, ◌∷◌, ◌++◌, map, Option, Ok}
-use Rattle.crx_base.specs.meaning.AsRead.{ReadLine, Content, as_read}
+use Rattle.std.specs.Prelude.{◌≡◌, ◌↔◌, ℕ, true, List}
 use Rattle.crx_base.specs.meaning.Choices.{Choices, is_date}
-use Rattle.crx_base.specs.meaning.Lines.{lines_of}
-use Rattle.crx_compact.specs.meaning.AnyWriter.{WrittenEpoch}
 use Rattle.crx_rinex.specs.meaning.Observations.{Epoch}
 use Rattle.crx_rinex.specs.meaning.Units.{Unit as FileUnit}
-use Rattle.crx_filter.specs.meaning.CompactText.{AreLinesOf, IsCompactTextOf, AreUnitsInPlace, AreWholeFile, IsCompactText, ReadsAnyText}
-use Rattle.crx_filter.specs.meaning.Expanded.{crinex_version, crinex_program, expanded}
+use Rattle.crx_filter.specs.meaning.CompactText.{IsCompactTextOf, AreUnitsInPlace, AreWholeFile, IsCompactText, ReadsAnyText}
+use Rattle.crx_filter.specs.meaning.Expanded.{expanded}
+use Rattle.crx_filter.specs.meaning.Stretches.{BeginsWithUnits}
 use Rattle.crx_filter.specs.meaning.UnitsAndText.{MakeAFile, compact_text, rinex_text}
 use Rattle.crx_runs.specs.meaning.Results.{Begins}
 
@@ -31,19 +29,7 @@ OwnTextIsOne = (units : List (FileUnit Epoch)) (choices : Choices) → is_date c
 
 -- ---- text that is cut off, or bad from some place on
 
--- a text that begins with the lines of some units, whole, whoever wrote them and whatever comes after them
-pub record BeginsWithUnits (units : List (FileUnit Epoch)) (text : List ℕ) : Type 0 where
-  pub version : List ℕ
-  pub program : List ℕ
-  pub lines : List (List ℕ)
-  pub more : List ReadLine
-  pub last : Option WrittenEpoch
-  pub cut : map as_read (lines_of text) ≡ map Content (version ∷ program ∷ lines) ++ more
-  pub first : crinex_version version ≡ Ok version
-  pub second : crinex_program program ≡ Ok program
-  pub written : AreLinesOf units lines last
-
--- their RINEX text is written first, with -s or without
+-- the RINEX text of the units that a text begins with, whole, is written first, with -s or without
 abbrev pub WritesFirstUnits : Type 0
 WritesFirstUnits = (units : List (FileUnit Epoch)) (text : List ℕ) (choices : Choices) → AreUnitsInPlace units
     → BeginsWithUnits units text → Begins (expanded text choices).output (rinex_text units)

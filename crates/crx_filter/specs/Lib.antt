@@ -15,6 +15,7 @@ pub mod Damage
 pub mod Laws
 pub mod WayBack
 pub mod CompactText
+pub mod OwnStretches
 pub mod EngineSteps
 pub mod CompactionParts
 pub mod CompactorState

@@ -7,12 +7,12 @@ use Words.{is_date, expanded, Item, Accepted, Warned, header_has_ended, records_
 use Words.{compact_lines, compact_unit, lines_after, is_interrupted, BeginsAnew, WholeReading, printed_items}
 use Words.{whole_of, HasNormalForm, warnings_in, written_well, is_in_full}
 use Rattle.std.proofs.lemmas.List.{append_cancel_left}
-use Rattle.crx_filter.specs.meaning.Stretches.{read_of_file, IsReadWhole}
+use Rattle.crx_filter.specs.OwnStretches.{read_of_file, IsReadWhole}
 use Rattle.crx_filter.proofs.damage.DamagedText.{text-append}
-use Rattle.crx_filter.proofs.stretches.StretchesSaved.{file-settled}
+use Rattle.crx_filter.proofs.stretches.OwnStretches.{file-settled}
 use Rattle.crx_filter.proofs.wayback.{NormalForm.whole-none, Standard.same-reading}
-use Rattle.crx_laws.proofs.blockwise.PieceBack.{piece-back}
-use Rattle.crx_laws.specs.{Again.{EndWithHeader, Follows, MakeADay}, Blocks.IsPieceAfter}
+use Rattle.crx_laws.proofs.blockwise.PieceBack.{own-piece}
+use Rattle.crx_laws.specs.{Again.{EndWithHeader, Follows, MakeADay}, Blocks.IsOwnPieceAfter}
 
 -- ---- a header
 
@@ -104,7 +104,7 @@ make-a_day first second header later rest compacting expanding dated h e =
     let written : lines_text (compact_lines compacting (later ++ header)) ≡ lines_text
     (compact_lines compacting header) ++ rest = ap (λ (is : List (Item Epoch)).
     lines_text (compact_lines compacting is)) (sym items) ∙ e in
-    let piece : IsPieceAfter second first compacting ((compacted first compacting).output ++ rest) = record {
+    let piece : IsOwnPieceAfter second first compacting ((compacted first compacting).output ++ rest) = record {
       file_good = whole;
       front_good = read-whole first compacting h.first_good;
       before = header;
@@ -118,6 +118,6 @@ make-a_day first second header later rest compacting expanding dated h e =
       text_is = ap (λ (t : List ℕ). (compacted first compacting).output ++ t)
           (text-behind compacting later header rest written);
     } in
-    piece-back second first compacting expanding ((compacted first compacting).output ++ rest) dated piece
+    own-piece second first compacting expanding ((compacted first compacting).output ++ rest) dated piece
     ∙ ap (λ (w : WholeReading Epoch). written_well (lines_text (printed_items w.items ++ printed_items later))) one
     ∙ ap written_well (text-append (printed_items (whole_of first).items) (printed_items later))

@@ -8,3 +8,4 @@ pub mod blockwise
 pub mod Weights
 pub mod OnceMore
 pub mod HoursMakeADay
+pub mod Wild

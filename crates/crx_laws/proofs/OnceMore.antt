@@ -1,7 +1,7 @@
 -- What is compacted or expanded again is the same.
 use Rattle.crx_filter.proofs.Words.{ℕ, List, ap, ◌∙◌, Choices, compacted, expanded, FilterResult}
 use Rattle.crx_filter.proofs.wayback.{Canonical.as-normal, ExpandedStandard.expanded-standard}
-use Rattle.crx_filter.proofs.wayback.Standard.{normal-comes_back, standard-comes_back}
+use Rattle.crx_filter.proofs.anywriter.ComesBack.{normal-comes_back, standard-comes_back}
 use Rattle.crx_laws.specs.Again.{IsTheSameAgain, ExpandsTheSameAgain}
 
 pub same-again : (file : List ℕ) (compacting expanding : Choices) → IsTheSameAgain file compacting expanding

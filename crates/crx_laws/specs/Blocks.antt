@@ -4,14 +4,19 @@ use Rattle.std.specs.Prelude.{ℕ, ◌≡◌, Bool, true, List, ◌++◌, Option
 use Rattle.std.specs.List.{list_all}
 use Rattle.std.specs.Option.{option_map}
 use Rattle.crx_base.specs.meaning.Lines.{Piece, pieces_of, lines_of, lines_text}
-use Rattle.crx_base.specs.meaning.AsRead.{as_read}
+use Rattle.crx_base.specs.meaning.AsRead.{Content, as_read}
 use Rattle.crx_base.specs.declared.fault.At.{At}
 use Rattle.crx_base.specs.declared.fault.Fault.{Fault}
 use Rattle.crx_filter.specs.Anew.{starts_anew}
-use Rattle.crx_filter.specs.meaning.Stretches.{read_of_file, IsReadWhole}
+use Rattle.crx_filter.specs.OwnStretches.{read_of_file, IsReadWhole}
 use Rattle.crx_compact.specs.meaning.CompactPlaces.{ReadEpoch}
 use Rattle.crx_base.specs.meaning.Choices.{Choices}
 use Rattle.crx_rinex.specs.meaning.Observations.{Epoch}
+use Rattle.crx_rinex.specs.meaning.Units.{Unit as FileUnit}
+use Rattle.crx_compact.specs.meaning.AnyWriter.{WrittenEpoch}
+use Rattle.crx_filter.specs.meaning.CompactText.{AreUnitsInPlace, AreWholeFile}
+use Rattle.crx_filter.specs.meaning.Stretches.{AreLinesOn, BeginsWithUnits}
+use Rattle.crx_filter.specs.meaning.UnitsAndText.{as_items}
 use Rattle.crx_filter.specs.meaning.Compacted.{compacted}
 use Rattle.crx_filter.specs.meaning.Damage.{BeginsAnew, lines_after}
 use Rattle.crx_filter.specs.meaning.Expanded.{whole_compact, expanded}
@@ -55,11 +60,29 @@ StandAlone more one other choices =
     CanGoOn one choices → CanGoOn other choices → HaveSameTypes one other choices
     → starts_anew 0 (map as_read (lines_of more)) ≡ true → GoOnWith more one other choices
 
+-- ---- a piece of a file, whoever wrote it
+
+-- the compact text of a file, as of its header alone, and after it the lines of units that come after other units
+-- and go on from no epoch, so that the first epoch among them is in full: where the file leaves the observation types
+-- that are in force before these units
+pub record IsPieceAfter (front before piece : List (FileUnit Epoch)) (text : List ℕ) : Type 0 where
+  pub file : AreWholeFile front
+  pub in_place : AreUnitsInPlace (piece ++ before)
+  pub header : header_has_ended (as_items before) ≡ true
+  pub begins : records_left (as_items before) ≡ 0
+  pub ends : records_left (as_items (piece ++ before)) ≡ 0
+  pub types : types_in_force (as_items front) ≡ types_in_force (as_items before)
+  pub begun : BeginsWithUnits front text
+  pub lines : List (List ℕ)
+  pub last : Option WrittenEpoch
+  pub written : AreLinesOn before None piece lines last
+  pub rest : begun.more ≡ map Content lines
+
 -- ---- blocks that a compaction wrote
 
 -- some units of a file, from an event or an epoch in full on, whose compact text comes after that of another
 -- file, as the header alone, which leaves the types that are in force before these units
-pub record IsPieceAfter (file front : List ℕ) (choices : Choices) (text : List ℕ) : Type 0 where
+pub record IsOwnPieceAfter (file front : List ℕ) (choices : Choices) (text : List ℕ) : Type 0 where
   pub file_good : IsReadWhole file choices
   pub front_good : IsReadWhole front choices
   pub before : List (Item Epoch)

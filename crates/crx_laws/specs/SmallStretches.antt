@@ -4,7 +4,7 @@ use Rattle.crx_base.specs.meaning.Lines.{lines_text}
 use Rattle.crx_rinex.specs.meaning.Observations.{Epoch}
 use Rattle.crx_rinex.specs.meaning.Units.{EventLine, EventRecord, Observation}
 use Rattle.crx_filter.specs.meaning.Items.{Item, Accepted}
-use Rattle.crx_filter.specs.meaning.Stretches.{Stretch}
+use Rattle.crx_filter.specs.OwnStretches.{OwnStretch}
 use Rattle.crx_laws.specs.SmallFiles.{blanks, header, first_two, line_at, full_line_at, second_changed}
 use Rattle.crx_laws.specs.SmallFiles.{epoch_at_second}
 use Rattle.crx_laws.specs.SmallFiles.{header_items}
@@ -43,7 +43,7 @@ five_epochs_text =
 
 -- in place of the second epoch's lines two others, of which the first begins with >; and in place of the
 -- third block, its first line too, a part of that line without LF at its end
-abbrev pub two_stretches : List Stretch
+abbrev pub two_stretches : List OwnStretch
 two_stretches =
     record {
       lost = Accepted (Observation (epoch_at_second 1 20000100500)) ∷ [];
@@ -68,7 +68,7 @@ cut_off = first_epoch_text ++ lines_text (second_changed 1 ∷ [] ∷ codes "100
 -- ---- a file with an event after its first block
 
 -- the first two epochs and the event are lost, and with them their lines
-abbrev pub event_lost : List Stretch
+abbrev pub event_lost : List OwnStretch
 event_lost =
     record {
       lost = Accepted (EventRecord (blanks 60 ++ codes "COMMENT")) ∷ Accepted (EventLine (line_at 2 4 1))
@@ -87,7 +87,7 @@ without_event =
 abbrev pub without_count : List ℕ
 without_count = lines_text (codes "> 2024 01 01 00 00  2.0000000  4  x" ∷ (blanks 60 ++ codes "COMMENT") ∷ [])
 
-abbrev pub count_lost : List Stretch
+abbrev pub count_lost : List OwnStretch
 count_lost =
     record {
       lost = Accepted (EventRecord (blanks 60 ++ codes "COMMENT")) ∷ Accepted (EventLine (line_at 2 4 1)) ∷ [];

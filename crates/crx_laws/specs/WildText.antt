@@ -1,6 +1,8 @@
 -- A small file and a compact text of it that no writer known here would write.
 use Rattle.std.specs.Prelude.{ℕ, ◌+◌, List, [], ◌∷◌, ◌++◌, codes, replicate, pos}
+use Rattle.crx_base.specs.meaning.AsRead.{Content}
 use Rattle.crx_base.specs.meaning.Lines.{lines_text}
+use Rattle.crx_filter.specs.meaning.Stretches.{Stretch}
 use Rattle.crx_rinex.specs.meaning.Observations.{Epoch}
 use Rattle.crx_rinex.specs.meaning.Units.{Unit as FileUnit, HeaderLine, EventLine, EventRecord, Observation}
 use Rattle.std.specs.Prelude.{Some, None}
@@ -66,3 +68,37 @@ body = version ∷ types_line ∷ end_line ∷ first_lines_of ++ second_lines ++
 -- its first line ends with CR LF
 abbrev pub wild_text : List ℕ
 wild_text = first_line ++ 13 ∷ 10 ∷ lines_text (second_line ∷ body)
+
+-- ---- another text of the units, damaged
+
+-- the units of the header, those before the stretch, and their lines
+abbrev pub wild_header : List (FileUnit Epoch)
+wild_header = HeaderLine end_line ∷ HeaderLine types_line ∷ HeaderLine version ∷ []
+
+abbrev pub wild_before : List (FileUnit Epoch)
+wild_before = epoch_at_second 0 20000000000 ∷ wild_header
+
+abbrev pub lines_before : List (List ℕ)
+lines_before = version ∷ types_line ∷ end_line ∷ first_lines_of
+
+-- in place of the second epoch's lines come two, the first of which begins with >; then the event, and an epoch
+-- in full of order 7 with zeros in front
+abbrev pub full_lines : List (List ℕ)
+full_lines = (head_at 2 ++ blanks 6 ++ codes "G01 ") ∷ [] ∷ codes "7&0020000202000  " ∷ []
+
+abbrev pub wild_stretch : Stretch
+wild_stretch = record {
+  lost = epoch_at_second 1 20000100500 ∷ [];
+  instead = Content (codes ">") ∷ Content (codes "xyz") ∷ [];
+  kept = epoch_at_second 2 20000202000 ∷ EventRecord comment ∷ EventLine event ∷ [];
+  lines = event ∷ comment ∷ full_lines;
+}
+
+abbrev pub wild_damaged : List ℕ
+wild_damaged = first_line ++ 13 ∷ 10 ∷ lines_text (second_line ∷ lines_before ++ codes ">" ∷ codes "xyz" ∷ event ∷ comment
+    ∷ full_lines)
+
+-- what is kept, after the header alone
+abbrev pub wild_piece : List ℕ
+wild_piece =
+    first_line ++ 13 ∷ 10 ∷ lines_text (second_line ∷ version ∷ types_line ∷ end_line ∷ event ∷ comment ∷ full_lines)

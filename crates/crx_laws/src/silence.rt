@@ -9,7 +9,7 @@ ghost use Rattle.crx_filter.specs.meaning.Compacted.{compacted};
 ghost use Rattle.crx_filter.specs.meaning.Damage.{AreContinued, with_epochs};
 ghost use Rattle.crx_filter.specs.meaning.Expanded.{expanded};
 ghost use Rattle.crx_filter.specs.meaning.Items.{Accepted};
-ghost use Rattle.crx_filter.specs.meaning.Stretches.{read_of_file};
+ghost use Rattle.crx_filter.specs.OwnStretches.{read_of_file};
 ghost use Rattle.crx_laws.specs.SmallFiles.{damaged_by, epoch_at_second, epoch_line_at, file_of_five, header, header_items, in_full_every_second, observed, with_skip};
 ghost use Rattle.crx_laws.specs.SmallStretches.{second_block};
 ghost use Rattle.crx_rinex.specs.meaning.Units.{Observation};

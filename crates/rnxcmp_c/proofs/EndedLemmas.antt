@@ -11,9 +11,9 @@ use Rattle.rnxcmp_c.specs.meaning.Stretches.{CallKeepsUndamaged, CallWritesWhole
 use Rattle.crx_filter.proofs.accounts.ByResults.{compaction-keeps, expansion-keeps}
 use Rattle.crx_filter.specs.meaning.ByResults.{ExpansionKeeps}
 use Rattle.rnxcmp_c.specs.meaning.Kept.{TaskKeeps}
-use Rattle.crx_filter.proofs.stretches.StretchesSaved.{rest-kept, whole-first}
+use Rattle.crx_filter.proofs.stretches.StretchesSaved.{rest-kept}
 use Rattle.rnxcmp_c.proofs.Words.{sym, ap, ◌∙◌}
-use Rattle.crx_filter.proofs.anywriter.{AnyRun.reads-any, OnlyTexts.only-text}
+use Rattle.crx_filter.proofs.anywriter.{AnyRun.reads-any, AnyText.first-units, OnlyTexts.only-text}
 
 -- what holds of the result of an expansion holds of what it brings back, saves and keeps
 pub record KeepsPromises (holds : FilterResult → Type 0) (choices : Choices) (text : List ℕ) : Type 0 where
@@ -28,7 +28,7 @@ pub record KeepsPromises (holds : FilterResult → Type 0) (choices : Choices) (
 pub keeps-promises : (holds : FilterResult → Type 0) (choices : Choices) (text : List ℕ)
     → holds (expanded text choices) → KeepsPromises holds choices text
 keeps-promises holds choices text whole =
-    search (rules, brings-back_passed, brings-back, saves-all_else, rest-kept, whole-first, expansion-keeps)
+    search (rules, brings-back_passed, brings-back, saves-all_else, rest-kept, first-units, expansion-keeps)
 
 pub task-keeps : (task : Task) (holds : FilterResult → Type 0) (input : List ℕ)
     → holds ((run_for task).result input) → TaskKeeps task holds input

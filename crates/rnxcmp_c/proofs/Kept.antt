@@ -7,7 +7,7 @@ use Rattle.rnxcmp_c.specs.{meaning.Answers.ExceedsLimit, declared.answer.TheCons
 use Rattle.{std.proofs.Common.if◌then◌else◌, std.specs.Prelude.nat_le, crx_compact.proofs.Words.cases_lt}
 use Rattle.rnxcmp_c.specs.meaning.Promises.{CallJudgesStandard}
 use Rattle.crx_filter.proofs.{damage.DamageStays.saved-lines, standard.CheckStandard.named-where_not}
-use Rattle.crx_filter.proofs.wayback.{Standard.{normal-comes_back, standard-comes_back}, WayBack.comes-back}
+use Rattle.crx_filter.proofs.anywriter.ComesBack.{normal-comes_back, standard-comes_back, comes-back}
 
 -- ---- the way back
 

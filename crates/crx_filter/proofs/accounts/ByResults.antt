@@ -6,7 +6,7 @@ use Words.{whole_rinex, whole_compact, FilterResult, IsResult, WholeReading, war
 use Rattle.crx_filter.proofs.accounts.{OfFile.file-accounted, OfText.text-accounted, Shortness.short-blocks}
 use Rattle.crx_filter.proofs.anywriter.{AnyRun.reads-any, OnlyTexts.only-text}
 use Rattle.crx_filter.proofs.wayback.{Canonical.same-compaction, ExpandedStandard.expanded-standard}
-use Rattle.crx_filter.proofs.wayback.Units.{texts-of_units}
+use Rattle.crx_filter.proofs.anywriter.ComesBack.{texts-of_units}
 use Rattle.crx_filter.proofs.standard.{CheckStandard.named-where_not, Lossless.what-passes}
 use Rattle.crx_filter.specs.meaning.Accounts.{AccountsForFile, AccountsForText, HasShortBlocks}
 use Rattle.crx_filter.specs.meaning.ByResults.{CompactionKeeps, ExpansionKeeps, CheckKeeps}

@@ -1,27 +1,30 @@
 -- Compact text of a file's units, whoever wrote it, expands to their RINEX text.
 use Rattle.crx_filter.proofs
-use proofs.Words.{common_steps, ℕ, suc, ◌≡◌, ◌+◌, Bool, true, false, cond, List, [], ◌∷◌, ◌++◌, map, length, Option, Some, None, Ok}
+use proofs.Words.{common_steps, ℕ, suc, ◌≡◌, ◌+◌, ◌-◌, ◌<◌, Bool, true, false, cond, List, [], ◌∷◌, ◌++◌, map, length, Option, Some, None, Ok}
 use proofs.Words.{refl, ap, sym, ◌∙◌, subst, arith, length-append, map-append, length-map, append-nil, is_some, lines_of, as_read, ReadLine, Content, Epoch, Place, Done}
 use proofs.Words.{FileUnit, HeaderLine, EventLine, EventRecord, Observation, types_of, Item, Accepted, Warned, Count, RawEpoch, ReadEpoch}
 use proofs.Words.{is_at_start, header_has_ended, records_left, records_count_types, declaring_lines, types_in_force, types_fault, header_line_fault}
 use proofs.Words.{Reading, AtLines, reading_from, ended_reading, compact_place, compact_epoch_place, event_line, is_event_line, records_in, raws_kept, whole_compact, first_lines}
-use proofs.Words.{IsWholeEpoch, expanded_unit, expanded, printed_items, written_lines, warnings_in, lines_text}
+use proofs.Words.{IsWholeEpoch, expanded_unit, expanded, printed_items, written_lines, warnings_in, lines_text, result_of, written_well}
 use Rattle.crx_filter.proofs.{Words.{IsInPlace, AreInPlace}, following.Following.body-place}
 use Rattle.crx_filter.proofs.reading.{ForwardCompact.compact-forward, Resuming.resumed, Ending.closes-well}
 use Rattle.crx_filter.proofs.wayback.{Carried.{header-here, record-here, one-unit, at-line}, WayBack.result-well}
 use Rattle.crx_filter.specs.meaning.{Expanded.{rinex_unit, crinex_version, crinex_program, empties_state}, WrittenStandard.rinex_items}
-use Rattle.crx_filter.specs.meaning.UnitsAndText.{as_items}
+use Rattle.crx_filter.specs.meaning.UnitsAndText.{as_items, rinex_text}
 use Rattle.crx_compact.proofs.Words.{epoch_at, epoch_text, at, patched, character_of, by_position, without_end_blanks, at-without_end_blanks, begins_epoch, tail_left, option_map, if◌then◌else◌}
 use Rattle.crx_compact.proofs.Words.{and_parts, is_observation_flag, is_event_flag, character_at, same_Some}
 use Rattle.crx_compact.proofs.Characters.{at-by_position, if_some}
 use Rattle.crx_compact.proofs.wayback.Facts.{text-head, head-counted}
 use Rattle.crx_compact.specs.meaning.AnyWriter.{WrittenRow, WrittenEpoch, epoch_now, goes_on_from, nothing_written, AreRowLines, AreLinesAfter, AreEpochLines}
-use Rattle.crx_compact.specs.AnyWriter.{epoch_left}
+use Rattle.crx_compact.specs.AnyWriter.{epoch_left, EpochReads}
+use Rattle.crx_compact.proofs.{Words.{block_of, tail_of_block, Tail}, reading.Forgetting.forgets}
+use Rattle.crx_header.{proofs.Counts.types_of-push, specs.ObservationTypes.with_line}
+use Rattle.crx_filter.specs.meaning.Stretches.{AreLinesOn, BeginsWithUnits}
 use Rattle.crx_filter.specs.meaning.CompactText.{AreLinesOfUnit, AreLinesOf, IsCompactTextOf, AreUnitsInPlace, AreWholeFile}
 use Rattle.crx_filter.specs.CompactText.{ExpandsAnyText, IsOfOneFile, WritesFirstUnits}
 use Rattle.crx_filter.proofs.reading.Prefixes.{AreMore, text-more, whole-items}
 use Rattle.crx_filter.proofs.Words.{Begins, FilterResult, whole_reading}
-use Rattle.crx_filter.proofs.wayback.ExpandedStandard.{header-read, start-read, left-read, count-read, declares-read, printed-read}
+use Rattle.crx_filter.proofs.wayback.ExpandedStandard.{printed-read}
 use Rattle.crx_filter.proofs.wayback.Units.{none-warned, units_in}
 use Rattle.crx_filter.specs.meaning.Reading.{WholeReading}
 use Rattle.crx_compact.proofs.anywriter.Epochs.{any-epoch}
@@ -67,6 +70,100 @@ no-event types before base now line clock lines whole found h = pick (begins_epo
         ap (λ b. patched (epoch_text (epoch_now b)) line) (sym start) ∙ h.marked in
         rw (e, full-no_event types (epoch_now now) line whole made) refl
 
+-- later lines may go on from this epoch, if there is one
+abbrev pub IsLeft : Option WrittenEpoch → List RawEpoch → Type 0
+IsLeft before raws = (b : WrittenEpoch) → before ≡ Some b → tail_left raws ≡ Some (epoch_left b)
+
+pub none-left : (raws : List RawEpoch) → IsLeft None raws
+none-left raws b e = absurd (cc e)
+
+-- an epoch's lines, where what is before them may be anything if they begin with >
+full-epoch : (types : List Count) (raws : List RawEpoch) (now : WrittenEpoch) (line : List ℕ) (lines : List (List ℕ))
+    → begins_epoch line ≡ true → EpochReads types [] now (line ∷ lines) → EpochReads types raws now (line ∷ lines)
+full-epoch types raws now line lines begins r =
+    let there : (rest : List ReadLine) → epoch_at types raws (map Content (line ∷ lines) ++ rest)
+    ≡ Done (record { raw = r.raw; epoch = epoch_now now }) (2 + length now.rows) =
+    λ rest. (forgets types raws line (map Content lines ++ rest) begins).place ∙ r.reads rest in
+    let block : (older : List RawEpoch) → epoch_at types older (map Content (line ∷ lines) ++ [])
+    ≡ Done (record { raw = r.raw; epoch = epoch_now now }) (2 + length now.rows) → block_of (r.raw ∷ older) ≡ r.raw ∷ [] =
+    λ older e. (forgets types older line (map Content lines ++ []) begins).block
+    (record { raw = r.raw; epoch = epoch_now now }) (2 + length now.rows) e in
+    record {
+      raw = r.raw;
+      reads = there;
+      leaves = ap {B = Option Tail} (λ b. Some (tail_of_block b)) (block raws (there []) ∙ sym (block [] (r.reads []))) ∙ r.leaves;
+    }
+
+epoch-reads : (types : List Count) (before : Option WrittenEpoch) (raws : List RawEpoch) (now : WrittenEpoch)
+    (lines : List (List ℕ)) → IsLeft before raws → IsWholeEpoch types (epoch_now now) → AreEpochLines before now lines
+    → EpochReads types raws now lines
+epoch-reads types before raws now [] left whole h = absurd h
+epoch-reads types before raws now (line ∷ []) left whole h = absurd h
+epoch-reads types before raws now (line ∷ clock ∷ lines) left whole h = pick (begins_epoch line) refl h.1
+  where
+    pick : (b : Bool) → begins_epoch line ≡ b → (if b then Some nothing_written else before) ≡ Some h.0
+        → EpochReads types raws now (line ∷ clock ∷ lines)
+    pick true e found = full-epoch types raws now line (clock ∷ lines) e
+        (any-epoch types None [] now (line ∷ clock ∷ lines) refl whole (h.0, rw e found, h.2))
+    pick false e found = any-epoch types (Some h.0) raws now (line ∷ clock ∷ lines) (left h.0 found) whole
+        (h.0, rw e refl, h.2)
+
+-- ---- items that leave what some units do
+
+-- the same header, the same records to come, and the same types
+pub record IsLike (items : List (Item ReadEpoch)) (units : List (FileUnit Epoch)) : Type 0 where
+  pub header : header_has_ended items ≡ header_has_ended (as_items units)
+  pub start : is_at_start items ≡ is_at_start (as_items units)
+  pub left : records_left items ≡ records_left (as_items units)
+  pub counts : 0 < records_left items → records_count_types items ≡ records_count_types (as_items units)
+  pub types : types_in_force items ≡ types_in_force (as_items units)
+
+types-pushed : (items : List (Item ReadEpoch)) (units : List (FileUnit Epoch)) (line : List ℕ)
+    → types_in_force items ≡ types_in_force (as_items units) → types_of (declaring_lines items ++ line ∷ [])
+    ≡ types_of (declaring_lines (as_items units) ++ line ∷ [])
+types-pushed items units line h = types_of-push (declaring_lines items) line ∙ ap (λ t. with_line t line) h
+    ∙ sym (types_of-push (declaring_lines (as_items units)) line)
+
+types-recorded : (items : List (Item ReadEpoch)) (units : List (FileUnit Epoch)) (line : List ℕ)
+    → records_count_types items ≡ records_count_types (as_items units)
+    → types_in_force items ≡ types_in_force (as_items units)
+    → types_in_force (Accepted (EventRecord line) ∷ items) ≡ types_in_force (as_items (EventRecord line ∷ units))
+types-recorded items units line e h = pick (records_count_types (as_items units)) refl
+  where
+    pick : (b : Bool) → records_count_types (as_items units) ≡ b
+        → types_in_force (Accepted (EventRecord line) ∷ items) ≡ types_in_force (as_items (EventRecord line ∷ units))
+    pick true k = rw (e, k) (types-pushed items units line h)
+    pick false k = rw (e, k) h
+
+like-unit : (items : List (Item ReadEpoch)) (units : List (FileUnit Epoch)) (unit : FileUnit ReadEpoch)
+    → IsLike items units → IsInPlace (as_items units) (rinex_unit unit)
+    → IsLike (Accepted unit ∷ items) (rinex_unit unit ∷ units)
+like-unit items units (HeaderLine line) k h = record {
+  header = cc k.header;
+  start = refl;
+  left = refl;
+  counts = λ some. absurd (omega (arith, some));
+  types = types-pushed items units line k.types;
+}
+like-unit items units (EventLine line) k h =
+    record { header = k.header; start = refl; left = refl; counts = λ some. refl; types = k.types }
+like-unit items units (EventRecord line) k h =
+    let counts = k.counts (subst (λ n. 0 < n) (sym k.left) h.1) in
+    record {
+      header = k.header;
+      start = refl;
+      left = ap (λ n. n - 1) k.left;
+      counts = λ some. counts;
+      types = types-recorded items units line counts k.types;
+    }
+like-unit items units (Observation read) k h = record {
+  header = k.header;
+  start = refl;
+  left = refl;
+  counts = λ some. absurd (omega (arith, some));
+  types = k.types;
+}
+
 -- ---- a unit's lines
 
 -- a unit that is read at its lines, and what it leaves
@@ -74,7 +171,7 @@ record UnitRead (items : List (Item ReadEpoch)) (unit : FileUnit Epoch) (lines :
   read : FileUnit ReadEpoch
   place : compact_place items (map Content lines) ≡ Done read (length lines)
   same : rinex_unit read ≡ unit
-  left : tail_left (raws_kept (Accepted read ∷ items)) ≡ option_map epoch_left now
+  left : IsLeft now (raws_kept (Accepted read ∷ items))
 
 event-here : (line : List ℕ) (o : Option ℕ)
     → records_in line ≡ o → is_some o ≡ true → event_line {E = ReadEpoch} line ≡ Ok (EventLine line)
@@ -89,82 +186,68 @@ abbrev beginning : List (Item ReadEpoch) → List ReadLine → Place (FileUnit R
 beginning items lines = compact_epoch_place (types_in_force items) (raws_kept items) lines
 
 module _ (items : List (Item ReadEpoch)) (units : List (FileUnit Epoch)) (before : Option WrittenEpoch)
-    (known : rinex_items items ≡ as_items units) (left : tail_left (raws_kept items) ≡ option_map epoch_left before) where
-  header-same : header_has_ended items ≡ header_has_ended (as_items units)
-  header-same = sym (header-read items) ∙ ap header_has_ended known
-
-  start-same : is_at_start items ≡ is_at_start (as_items units)
-  start-same = sym (start-read items) ∙ ap is_at_start known
-
-  left-same : records_left items ≡ records_left (as_items units)
-  left-same = sym (left-read items) ∙ ap records_left known
-
-  count-same : records_count_types items ≡ records_count_types (as_items units)
-  count-same = sym (count-read items) ∙ ap records_count_types known
-
-  types-same : types_in_force items ≡ types_in_force (as_items units)
-  types-same = ap types_of (sym (declares-read items) ∙ ap declaring_lines known)
-
+    (k : IsLike items units) (left : IsLeft before (raws_kept items)) where
   header-unit : (line : List ℕ) → IsInPlace (as_items units) (HeaderLine line) → UnitRead items (HeaderLine line) (line ∷ []) None
   header-unit line h = record {
     read = HeaderLine line;
-    place = header-here beginning items line (header-same ∙ h.0) (ap (λ b. header_line_fault b line) start-same ∙ h.1);
+    place = header-here beginning items line (k.header ∙ h.0) (ap (λ b. header_line_fault b line) k.start ∙ h.1);
     same = refl;
-    left = refl;
+    left = none-left [];
   }
 
   event-unit : (line : List ℕ) → IsInPlace (as_items units) (EventLine line) → UnitRead items (EventLine line) (line ∷ []) before
   event-unit line h = record {
     read = EventLine line;
-    place = body-place beginning items (Content line ∷ []) (header-same ∙ h.0) (left-same ∙ h.1)
+    place = body-place beginning items (Content line ∷ []) (k.header ∙ h.0) (k.left ∙ h.1)
         ∙ event-begins (types_in_force items) (raws_kept items) line h.2 h.3;
     same = refl;
     left = left;
   }
 
   record-left : (line : List ℕ) (b : Bool) → records_count_types items ≡ b
-      → tail_left (raws_kept (Accepted (EventRecord line) ∷ items))
-      ≡ option_map epoch_left (if empties_state b line then None else before)
+      → IsLeft (if empties_state b line then None else before) (raws_kept (Accepted (EventRecord line) ∷ items))
   record-left line b e = pick (empties_state b line) (ap (λ c. empties_state c line) e)
     where
       pick : (c : Bool) → empties_state (records_count_types items) line ≡ c
-          → tail_left (raws_kept (Accepted (EventRecord line) ∷ items)) ≡ option_map epoch_left (if c then None else before)
-      pick true f = rw f refl
+          → IsLeft (if c then None else before) (raws_kept (Accepted (EventRecord line) ∷ items))
+      pick true f = none-left (raws_kept (Accepted (EventRecord line) ∷ items))
       pick false f = rw f left
 
   record-unit : (line : List ℕ) → IsInPlace (as_items units) (EventRecord line) → UnitRead items (EventRecord line) (line ∷ [])
       (if empties_state (records_count_types (as_items units)) line then None else before)
-  record-unit line h = record {
-    read = EventRecord line;
-    place = record-here beginning items line (records_left (as_items units)) (header-same ∙ h.0) left-same h.1
-        (ap (λ b. cond b (types_fault line) None) count-same ∙ h.2);
-    same = refl;
-    left = record-left line (records_count_types (as_items units)) count-same;
-  }
+  record-unit line h =
+      let counts = k.counts (subst (λ n. 0 < n) (sym k.left) h.1) in
+      record {
+        read = EventRecord line;
+        place = record-here beginning items line (records_left (as_items units)) (k.header ∙ h.0) k.left h.1
+            (ap (λ b. cond b (types_fault line) None) counts ∙ h.2);
+        same = refl;
+        left = record-left line (records_count_types (as_items units)) counts;
+      }
 
   epoch-unit : (now : WrittenEpoch) (lines : List (List ℕ)) → IsInPlace (as_items units) (Observation (epoch_now now))
       → AreEpochLines before now lines → UnitRead items (Observation (epoch_now now)) lines (Some now)
-  epoch-unit now [] h k = absurd k
-  epoch-unit now (line ∷ []) h k = absurd k
-  epoch-unit now (line ∷ clock ∷ lines) h k =
+  epoch-unit now [] h lines = absurd lines
+  epoch-unit now (line ∷ []) h lines = absurd lines
+  epoch-unit now (line ∷ clock ∷ rows) h lines =
       let whole : IsWholeEpoch (types_in_force items) (epoch_now now) =
-      subst (λ t. IsWholeEpoch t (epoch_now now)) (sym types-same) h.2 in
-      let reads = any-epoch (types_in_force items) before (raws_kept items) now (line ∷ clock ∷ lines) left whole k in
+      subst (λ t. IsWholeEpoch t (epoch_now now)) (sym k.types) h.2 in
+      let reads = epoch-reads (types_in_force items) before (raws_kept items) now (line ∷ clock ∷ rows) left whole lines in
       let here = ap (λ ls. epoch_at (types_in_force items) (raws_kept items) ls)
-      (sym (append-nil (map Content (line ∷ clock ∷ lines)))) ∙ reads.reads [] in
-      let other = no-event (types_in_force items) before k.0 now line clock lines whole k.1 k.2 in
-      let count : 2 + length now.rows ≡ length (line ∷ clock ∷ lines) = omega (arith, rows-many k.0 now.rows lines k.2.satellites) in
+      (sym (append-nil (map Content (line ∷ clock ∷ rows)))) ∙ reads.reads [] in
+      let other = no-event (types_in_force items) before lines.0 now line clock rows whole lines.1 lines.2 in
+      let count : 2 + length now.rows ≡ length (line ∷ clock ∷ rows) = omega (arith, rows-many lines.0 now.rows rows lines.2.satellites) in
       record {
         read = Observation (record { raw = reads.raw; epoch = epoch_now now });
-        place = body-place beginning items (map Content (line ∷ clock ∷ lines)) (header-same ∙ h.0) (left-same ∙ h.1)
+        place = body-place beginning items (map Content (line ∷ clock ∷ rows)) (k.header ∙ h.0) (k.left ∙ h.1)
             ∙ rw (other, here, count) refl;
         same = refl;
-        left = reads.leaves;
+        left = λ b e. reads.leaves ∙ ap {B = Option Tail} (λ w. Some (epoch_left w)) (same_Some now b e);
       }
 
 unit-read : (items : List (Item ReadEpoch)) (units : List (FileUnit Epoch)) (before now : Option WrittenEpoch)
-    (unit : FileUnit Epoch) (lines : List (List ℕ)) → rinex_items items ≡ as_items units
-    → tail_left (raws_kept items) ≡ option_map epoch_left before → IsInPlace (as_items units) unit
+    (unit : FileUnit Epoch) (lines : List (List ℕ)) → IsLike items units
+    → IsLeft before (raws_kept items) → IsInPlace (as_items units) unit
     → AreLinesOfUnit (as_items units) before unit lines now → UnitRead items unit lines now
 unit-read items units before now (HeaderLine line) lines known left h k =
     subst (λ ls. UnitRead items (HeaderLine line) ls now) (sym k.0)
@@ -180,45 +263,88 @@ unit-read items units before now (Observation epoch) lines known left h k =
     (subst (λ e. UnitRead items (Observation e) lines (Some k.0)) k.1 (epoch-unit items units before known left k.0 lines
     (subst (λ e. IsInPlace (as_items units) (Observation e)) (sym k.1) h) k.3))
 
--- ---- all units
+-- ---- some units after others
 
-record AreRead (skip : Bool) (number : ℕ) (units : List (FileUnit Epoch)) (lines : List (List ℕ)) (last : Option WrittenEpoch)
-    : Type 0 where
-  items : List (Item ReadEpoch)
-  reads : reading_from compact_place skip [] number (map Content lines)
-      ≡ record { items = items; stop = AtLines (number + length lines) [] }
-  known : rinex_items items ≡ as_items units
-  left : tail_left (raws_kept items) ≡ option_map epoch_left last
+pub record AreReadOn (skip : Bool) (items : List (Item ReadEpoch)) (number : ℕ) (block units : List (FileUnit Epoch))
+    (lines : List (List ℕ)) (last : Option WrittenEpoch) : Type 0 where
+  pub more : List (Item ReadEpoch)
+  pub reads : reading_from compact_place skip items number (map Content lines)
+      ≡ record { items = more ++ items; stop = AtLines (number + length lines) [] }
+  pub known : rinex_items more ≡ as_items units
+  pub like : IsLike (more ++ items) (units ++ block)
+  pub left : IsLeft last (raws_kept (more ++ items))
 
-none-read : (skip : Bool) (number : ℕ) → reading_from compact_place skip [] number []
-    ≡ record { items = []; stop = AtLines (number + 0) [] }
-none-read skip number = grind arith
+none-read : (skip : Bool) (items : List (Item ReadEpoch)) (number : ℕ) → reading_from compact_place skip items number []
+    ≡ record { items = items; stop = AtLines (number + 0) [] }
+none-read skip items number = grind arith
 
-read-more : (skip : Bool) (number : ℕ) (units : List (FileUnit Epoch)) (unit : FileUnit Epoch) (first more : List (List ℕ))
-    (before now : Option WrittenEpoch) → (r : AreRead skip number units first before)
-    → UnitRead r.items unit more now → AreRead skip number (unit ∷ units) (first ++ more) now
-read-more skip number units unit first more before now r u =
+read-more : (skip : Bool) (items : List (Item ReadEpoch)) (number : ℕ) (block units : List (FileUnit Epoch))
+    (unit : FileUnit Epoch) (first more : List (List ℕ)) (before now : Option WrittenEpoch)
+    → (r : AreReadOn skip items number block units first before) → IsInPlace (as_items (units ++ block)) unit
+    → UnitRead (r.more ++ items) unit more now → AreReadOn skip items number block (unit ∷ units) (first ++ more) now
+read-more skip items number block units unit first more before now r h u =
     let same = length-map more Content in
     record {
-      items = Accepted u.read ∷ r.items;
+      more = Accepted u.read ∷ r.more;
       reads = rw (map-append Content first more, resumed compact_place compact-forward) (rw r.reads
-          (one-unit compact_place compact-forward skip r.items (number + length first) (map Content more) u.read
+          (one-unit compact_place compact-forward skip (r.more ++ items) (number + length first) (map Content more) u.read
           (u.place ∙ ap (λ n. Done u.read n) (sym same))
           ∙ at-line _ _ _ (omega (arith, same, length-append first more))));
       known = cc (u.same, r.known);
+      like = subst (λ v. IsLike (Accepted u.read ∷ (r.more ++ items)) (v ∷ (units ++ block))) u.same
+          (like-unit (r.more ++ items) (units ++ block) u.read r.like
+          (subst (λ v. IsInPlace (as_items (units ++ block)) v) (sym u.same) h));
       left = u.left;
     }
 
-all-read : (skip : Bool) (number : ℕ) (units : List (FileUnit Epoch)) (lines : List (List ℕ)) (last : Option WrittenEpoch)
-    → AreInPlace (as_items units) → AreLinesOf units lines last → AreRead skip number units lines last
-all-read skip number [] lines last h k =
-    subst (λ ls. AreRead skip number [] ls last) (sym k.0) (subst (λ n. AreRead skip number [] [] n) (sym k.1)
-    (record { items = []; reads = none-read skip number; known = refl; left = refl }))
-all-read skip number (unit ∷ units) lines last h k =
-    let r = all-read skip number units k.1 k.0 h.1 k.3 in
-    let u = unit-read r.items units k.0 last unit k.2 r.known r.left h.0 k.5 in
-    subst (λ ls. AreRead skip number (unit ∷ units) ls last) (sym k.4)
-    (read-more skip number units unit k.1 k.2 k.0 last r u)
+pub read-on : (skip : Bool) (items : List (Item ReadEpoch)) (number : ℕ) (block units : List (FileUnit Epoch))
+    (lines : List (List ℕ)) (start last : Option WrittenEpoch) → IsLike items block → IsLeft start (raws_kept items)
+    → AreInPlace (as_items (units ++ block)) → AreLinesOn block start units lines last
+    → AreReadOn skip items number block units lines last
+read-on skip items number block [] lines start last like left h k =
+    subst (λ ls. AreReadOn skip items number block [] ls last) (sym k.0)
+    (subst (λ n. AreReadOn skip items number block [] [] n) (sym k.1)
+    (record { more = []; reads = none-read skip items number; known = refl; like = like; left = left }))
+read-on skip items number block (unit ∷ units) lines start last like left h k =
+    let r = read-on skip items number block units k.1 start k.0 like left h.1 k.3 in
+    let u = unit-read (r.more ++ items) (units ++ block) k.0 last unit k.2 r.like r.left h.0 k.5 in
+    subst (λ ls. AreReadOn skip items number block (unit ∷ units) ls last) (sym k.4)
+    (read-more skip items number block units unit k.1 k.2 k.0 last r h.0 u)
+
+-- ---- all units
+
+of-lines : (units : List (FileUnit Epoch)) (lines : List (List ℕ)) (last : Option WrittenEpoch)
+    → AreLinesOf units lines last → AreLinesOn [] None units lines last
+of-lines [] lines last k = k
+of-lines (unit ∷ units) lines last k = (
+  k.0,
+  k.1,
+  k.2,
+  of-lines units k.1 k.0 k.3,
+  k.4,
+  subst (λ us. AreLinesOfUnit (as_items us) k.0 unit k.2 last) (sym (append-nil units)) k.5,
+)
+
+pub record AreRead (skip : Bool) (number : ℕ) (units : List (FileUnit Epoch)) (lines : List (List ℕ)) : Type 0 where
+  pub items : List (Item ReadEpoch)
+  pub reads : reading_from compact_place skip [] number (map Content lines)
+      ≡ record { items = items; stop = AtLines (number + length lines) [] }
+  pub known : rinex_items items ≡ as_items units
+  pub like : IsLike items units
+
+pub all-read : (skip : Bool) (number : ℕ) (units : List (FileUnit Epoch)) (lines : List (List ℕ)) (last : Option WrittenEpoch)
+    → AreInPlace (as_items units) → AreLinesOf units lines last → AreRead skip number units lines
+all-read skip number units lines last h k =
+    let r = read-on skip [] number [] units lines None last
+    (record { header = refl; start = refl; left = refl; counts = λ some. refl; types = refl }) (none-left [])
+    (subst (λ us. AreInPlace (as_items us)) (sym (append-nil units)) h) (of-lines units lines last k) in
+    record {
+      items = r.more;
+      reads = r.reads ∙ ap {B = Reading ReadEpoch} (λ is. record { items = is; stop = AtLines (number + length lines) [] })
+          (append-nil r.more);
+      known = r.known;
+      like = subst (λ is. IsLike is units) (append-nil r.more) (subst (λ us. IsLike (r.more ++ []) us) (append-nil units) r.like);
+    }
 
 -- ---- the text
 
@@ -236,6 +362,16 @@ ends-well : (skip : Bool) (items : List (Item ReadEpoch)) (number : ℕ) → hea
     → ended_reading skip (record { items = items; stop = AtLines number [] }) ≡ record { items = items; fault = None }
 ends-well skip items number e f = rw (closes-well items e f) refl
 
+-- a reading that ends after these units is good
+pub units-well : (skip : Bool) (items : List (Item ReadEpoch)) (number : ℕ) (units : List (FileUnit Epoch))
+    → header_has_ended items ≡ true → records_left items ≡ 0 → rinex_items items ≡ as_items units
+    → result_of expanded_unit (ended_reading skip (record { items = items; stop = AtLines number [] }))
+    ≡ written_well (rinex_text units)
+units-well skip items number units header left known =
+    ap (result_of expanded_unit) (ends-well skip items number header left)
+    ∙ result-well items (printed_items (as_items units)) (printed-read items ∙ ap printed_items known)
+    (sym (warned-read items) ∙ ap warnings_in known ∙ none-warned units)
+
 -- how compact text of some units is read
 record TextRead (skip : Bool) (units : List (FileUnit Epoch)) (text : List ℕ) : Type 0 where
   items : List (Item ReadEpoch)
@@ -250,8 +386,8 @@ text-read : (skip : Bool) (units : List (FileUnit Epoch)) (text : List ℕ) → 
     → TextRead skip units text
 text-read skip units text file h =
     let r = all-read skip 3 units h.lines h.last (in-place units file.in_place) h.written in
-    let header : header_has_ended r.items ≡ true = sym (header-read r.items) ∙ ap header_has_ended r.known ∙ file.header in
-    let none : records_left r.items ≡ 0 = sym (left-read r.items) ∙ ap records_left r.known ∙ file.complete in
+    let header : header_has_ended r.items ≡ true = r.like.header ∙ file.header in
+    let none : records_left r.items ≡ 0 = r.like.left ∙ file.complete in
     record {
       items = r.items;
       reads = rw (h.cut) (rw (whole-read skip h.version h.program (map Content h.lines) h.first h.second)
@@ -261,11 +397,11 @@ text-read skip units text file h =
 
 pub any-text : ExpandsAnyText
 any-text text choices units file h =
-    let r = text-read choices.skip units text file h in
-    let printed : written_lines expanded_unit r.items ≡ printed_items (as_items units) =
-    printed-read r.items ∙ ap printed_items r.known in
-    let silent : warnings_in r.items ≡ [] = sym (warned-read r.items) ∙ ap warnings_in r.known ∙ none-warned units in
-    rw (r.reads) (result-well r.items (printed_items (as_items units)) printed silent)
+    let skip = choices.skip in
+    let r = all-read skip 3 units h.lines h.last (in-place units file.in_place) h.written in
+    rw (h.cut) (rw (whole-read skip h.version h.program (map Content h.lines) h.first h.second)
+    (rw (r.reads) (units-well skip r.items (3 + length h.lines) units ((r.like).header ∙ file.header)
+    ((r.like).left ∙ file.complete) r.known)))
 
 pub units-again : (units : List (FileUnit Epoch)) → units_in (as_items units) ≡ units
 units-again [] = refl

@@ -1,78 +1,157 @@
--- Our own compact text is one that any writer may write.
+-- Compact text that is compacted here is text that any writer may write.
 use Rattle.crx_filter.proofs
-use proofs.Words.{ℕ, ◌≡◌, true, false, Bool, List, [], ◌∷◌, map, Option, Some, None, refl, ap, ◌∙◌, AllByRecursion, if◌then◌else◌}
-use proofs.Words.{lines_of, lines_text, as_read, Epoch, FileUnit, HeaderLine, EventLine, EventRecord, Observation}
-use proofs.Words.{AreInPlace, records_count_types, types_in_force, is_interrupted, is_in_full, marked_epochs, compact_epoch}
-use proofs.Words.{version_line, program_line, Count}
-use proofs.wayback.{Carried.started, Cut.{IsClean, lines-cut}, First.{program-clean, program-read, version-clean}}
-use proofs.wayback.{Items.{marked_now, body_unit, not-interrupted, whole-next}, Reading.lines_back, Units.{settled, no-returns}}
-use proofs.wayback.WayBack.{lines-same, lines-clean}
+use proofs.Words.{ℕ, ◌≡◌, ◌⊎◌, inl, inr, true, false, Bool, List, [], ◌∷◌, ◌++◌, map, Option, Some, None, refl, ap, sym, ◌∙◌, subst}
+use proofs.Words.{AllByRecursion, append-nil, if◌then◌else◌, lines_of, lines_text, as_read, Epoch, FileUnit, HeaderLine, EventLine}
+use proofs.Words.{EventRecord, Observation, Count, Choices, is_date, Item, Accepted, Warned, header_has_ended, records_left}
+use proofs.Words.{records_count_types, types_in_force, is_interrupted, is_in_full, marked_epochs, compact_epoch, compact_lines}
+use proofs.Words.{version_line, program_line, AreInPlace, IsInPlace, BeginsAnew, HaveNoReturns, whole_of, WholeReading, printed_items}
+use proofs.damage.TextAfter.{lines_on, written-on, begins-rest}
+use proofs.wayback.{Carried.{carried, started, header-same, left-same, count-same}, Cut.{IsClean, lines-cut}}
+use proofs.wayback.First.{program-clean, program-read, version-clean}
+use proofs.wayback.Items.{marked_now, body_unit, not-interrupted, whole-next}
+use proofs.wayback.{NormalForm.{printed-again, settled-standard}, Reading.lines_back}
+use proofs.wayback.Units.{settled, no-returns, read-units, units_in}
+use proofs.wayback.WayBack.{IsSettled, lines-same, lines-clean}
+use proofs.anywriter.AnyText.{units-again}
 use Rattle.crx_filter.specs.meaning.{Expanded.empties_state, UnitsAndText.{AreInOrder, MakeAFile, as_items}}
-use Rattle.crx_filter.specs.{meaning.CompactText.{AreLinesOfUnit, AreLinesOf, AreUnitsInPlace, AreWholeFile}, CompactText.OwnTextIsOne}
+use Rattle.crx_filter.specs.meaning.{CompactText.{AreLinesOfUnit, AreLinesOf, IsCompactTextOf, AreUnitsInPlace, AreWholeFile}, Stretches.AreLinesOn}
+use Rattle.crx_filter.specs.CompactText.{OwnTextIsOne}
 use Rattle.crx_compact.specs.{Laws.AreWhole, meaning.Compaction.since_full, meaning.AnyWriter.{WrittenEpoch, AreEpochLines}}
 use Rattle.crx_compact.proofs.{wayback.Runs.marked, anywriter.Own.{epoch_written, epoch-same, full-lines, later-lines}}
 
--- the epoch that the lines after some units may go on from
-own_state : Option ℕ → List (FileUnit Epoch) → Option WrittenEpoch
-own_state every [] = None
-own_state every (HeaderLine line ∷ before) = None
-own_state every (EventLine line ∷ before) = own_state every before
-own_state every (EventRecord line ∷ before) =
-    if empties_state (records_count_types (as_items before)) line then None else own_state every before
-own_state every (Observation epoch ∷ before) =
-    Some (epoch_written (marked_now every (as_items before) epoch) (marked_epochs every (as_items before)))
+-- ---- the units among some items
 
-later : (types : List Count) (every : Option ℕ) (epoch : Epoch) (before : List (FileUnit Epoch))
-    → is_interrupted (as_items before) ≡ false
-    → AreWhole types (since_full (marked false epoch ∷ marked_epochs every (as_items before)))
-    → AreEpochLines (own_state every before) (epoch_written (marked false epoch) (marked_epochs every (as_items before)))
-    (compact_epoch (marked false epoch ∷ marked_epochs every (as_items before)))
-unfolding own_state
-later types every epoch (Observation last ∷ before) e h =
-    later-lines types epoch (marked_now every (as_items before) last) (marked_epochs every (as_items before)) h
-later types every epoch [] e h = absurd (cc e)
-later types every epoch (HeaderLine line ∷ before) e h = absurd (cc e)
-later types every epoch (EventLine line ∷ before) e h = absurd (cc e)
-later types every epoch (EventRecord line ∷ before) e h = absurd (cc e)
+pub units-carried : (items : List (Item Epoch)) → carried (λ before epoch. epoch) items ≡ as_items (units_in items)
+units-carried [] = refl
+units-carried (Accepted (HeaderLine line) ∷ before) = cc (units-carried before)
+units-carried (Accepted (EventLine line) ∷ before) = cc (units-carried before)
+units-carried (Accepted (EventRecord line) ∷ before) = cc (units-carried before)
+units-carried (Accepted (Observation epoch) ∷ before) = cc (units-carried before)
+units-carried (Warned at ∷ before) = units-carried before
 
-own-epoch : (types : List Count) (every : Option ℕ) (epoch : Epoch) (before : List (FileUnit Epoch)) (full : Bool)
-    → is_in_full every (as_items before) ≡ full
-    → AreWhole types (since_full (marked full epoch ∷ marked_epochs every (as_items before)))
-    → AreEpochLines (own_state every before) (epoch_written (marked full epoch) (marked_epochs every (as_items before)))
-    (compact_epoch (marked full epoch ∷ marked_epochs every (as_items before)))
-own-epoch types every epoch before true e h =
-    full-lines types epoch (marked_epochs every (as_items before)) (own_state every before) h
-own-epoch types every epoch before false e h =
-    later types every epoch before (not-interrupted every (as_items before) e) h
+pub units-append : (later before : List (Item Epoch)) → units_in (later ++ before) ≡ units_in later ++ units_in before
+units-append [] before = refl
+units-append (Accepted unit ∷ later) before = ap (λ us. unit ∷ us) (units-append later before)
+units-append (Warned at ∷ later) before = units-append later before
 
-own-unit : (every : Option ℕ) (before : List (FileUnit Epoch)) (unit : FileUnit Epoch) → AreInPlace (as_items (unit ∷ before))
-    → AreLinesOfUnit (as_items before) (own_state every before) unit (body_unit every (as_items before) unit)
-    (own_state every (unit ∷ before))
-unfolding own_state
-own-unit every before (HeaderLine line) h = (refl, refl)
-own-unit every before (EventLine line) h = (refl, refl)
-own-unit every before (EventRecord line) h = (refl, refl)
-own-unit every before (Observation epoch) h =
-    let items = as_items before in
-    let whole = whole-next every items epoch h in (
-      epoch_written (marked_now every items epoch) (marked_epochs every items),
-      epoch-same (types_in_force items) (is_in_full every items) epoch (marked_epochs every items) whole.0,
+pub units-printed : (items : List (Item Epoch)) → printed_items (as_items (units_in items)) ≡ printed_items items
+units-printed [] = refl
+units-printed (Accepted unit ∷ before) = cc (units-printed before)
+units-printed (Warned at ∷ before) = units-printed before
+
+-- ---- the epoch that the lines after some items may go on from, of those after a block
+
+abbrev pub state_on : Option ℕ → List (Item Epoch) → List (Item Epoch) → Option WrittenEpoch
+state_on every block [] = None
+state_on every block (Accepted (HeaderLine line) ∷ later) = None
+state_on every block (Accepted (EventLine line) ∷ later) = state_on every block later
+state_on every block (Accepted (EventRecord line) ∷ later) =
+    if empties_state (records_count_types (later ++ block)) line then None else state_on every block later
+state_on every block (Accepted (Observation epoch) ∷ later) =
+    Some (epoch_written (marked_now every (later ++ block) epoch) (marked_epochs every (later ++ block)))
+state_on every block (Warned at ∷ later) = state_on every block later
+
+-- the first epoch after a block is in full
+abbrev pub GoAnew : Choices → List (Item Epoch) → List (Item Epoch) → Type 0
+GoAnew choices block items = (block ≡ []) ⊎ BeginsAnew choices block items
+
+rest-anew : (choices : Choices) (block : List (Item Epoch)) (item : Item Epoch) (later : List (Item Epoch))
+    → GoAnew choices block (item ∷ later) → GoAnew choices block later
+rest-anew choices block item later (inl none) = inl none
+rest-anew choices block item later (inr anew) = inr (begins-rest choices block item later anew)
+
+none-interrupted : (choices : Choices) (block : List (Item Epoch)) (epoch : Epoch)
+    → GoAnew choices block (Accepted (Observation epoch) ∷ []) → is_in_full choices.every block ≡ true
+none-interrupted choices block epoch (inl none) = rw none refl
+none-interrupted choices block epoch (inr anew) = anew
+
+later : (types : List Count) (choices : Choices) (epoch : Epoch) (block items : List (Item Epoch))
+    → GoAnew choices block (Accepted (Observation epoch) ∷ items) → is_in_full choices.every (items ++ block) ≡ false
+    → AreWhole types (since_full (marked false epoch ∷ marked_epochs choices.every (items ++ block)))
+    → AreEpochLines (state_on choices.every block items)
+    (epoch_written (marked false epoch) (marked_epochs choices.every (items ++ block)))
+    (compact_epoch (marked false epoch ∷ marked_epochs choices.every (items ++ block)))
+later types choices epoch block [] anew e h =
+    let never = sym (none-interrupted choices block epoch anew) ∙ e in absurd (cc never)
+later types choices epoch block (Accepted (Observation last) ∷ items) anew e h = later-lines types epoch
+    (marked_now choices.every (items ++ block) last) (marked_epochs choices.every (items ++ block)) h
+later types choices epoch block (item ∷ items) anew e h =
+    let never = not-interrupted choices.every (item ∷ (items ++ block)) e in absurd (cc never)
+
+own-epoch : (types : List Count) (choices : Choices) (epoch : Epoch) (block items : List (Item Epoch)) (full : Bool)
+    → GoAnew choices block (Accepted (Observation epoch) ∷ items) → is_in_full choices.every (items ++ block) ≡ full
+    → AreWhole types (since_full (marked full epoch ∷ marked_epochs choices.every (items ++ block)))
+    → AreEpochLines (state_on choices.every block items)
+    (epoch_written (marked full epoch) (marked_epochs choices.every (items ++ block)))
+    (compact_epoch (marked full epoch ∷ marked_epochs choices.every (items ++ block)))
+own-epoch types choices epoch block items true anew e h =
+    full-lines types epoch (marked_epochs choices.every (items ++ block)) (state_on choices.every block items) h
+own-epoch types choices epoch block items false anew e h = later types choices epoch block items anew e h
+
+units-count : (items : List (Item Epoch)) (line : List ℕ) → AreInPlace (Accepted (EventRecord line) ∷ items)
+    → records_count_types (as_items (units_in items)) ≡ records_count_types items
+units-count items line h = ap records_count_types (sym (units-carried items))
+    ∙ count-same (λ before epoch. epoch) items h.1 (h.0).1
+
+own-unit : (choices : Choices) (block items : List (Item Epoch)) (unit : FileUnit Epoch)
+    → AreInPlace (Accepted unit ∷ (items ++ block)) → GoAnew choices block (Accepted unit ∷ items)
+    → AreLinesOfUnit (as_items (units_in (items ++ block))) (state_on choices.every block items) unit
+    (body_unit choices.every (items ++ block) unit) (state_on choices.every block (Accepted unit ∷ items))
+own-unit choices block items (HeaderLine line) h anew = (refl, refl)
+own-unit choices block items (EventLine line) h anew = (refl, refl)
+own-unit choices block items (EventRecord line) h anew = (
+  refl,
+  ap (λ b. if empties_state b line then None else state_on choices.every block items)
+      (sym (units-count (items ++ block) line h)),
+)
+own-unit choices block items (Observation epoch) h anew =
+    let all = items ++ block in
+    let whole = whole-next choices.every all epoch h in (
+      epoch_written (marked_now choices.every all epoch) (marked_epochs choices.every all),
+      epoch-same (types_in_force all) (is_in_full choices.every all) epoch (marked_epochs choices.every all) whole.0,
       refl,
-      own-epoch (types_in_force items) every epoch before (is_in_full every items) refl whole,
+      own-epoch (types_in_force all) choices epoch block items (is_in_full choices.every all) anew refl whole,
     )
 
-own-all : (every : Option ℕ) (units : List (FileUnit Epoch)) → AreInPlace (as_items units)
-    → AreLinesOf units (lines_back every (as_items units)) (own_state every units)
-unfolding own_state
-own-all every [] h = (refl, refl)
-own-all every (unit ∷ before) h = (
-  own_state every before,
-  lines_back every (as_items before),
-  body_unit every (as_items before) unit,
-  own-all every before h.1,
+-- the lines of some items after a block
+pub own-on : (choices : Choices) (block items : List (Item Epoch)) → AreInPlace (items ++ block) → GoAnew choices block items
+    → AreLinesOn (units_in block) None (units_in items) (lines_on choices.every items block) (state_on choices.every block items)
+own-on choices block [] h anew = (refl, refl)
+own-on choices block (Warned at ∷ items) h anew =
+    own-on choices block items h.1 (rest-anew choices block (Warned at) items anew)
+own-on choices block (Accepted unit ∷ items) h anew = (
+  state_on choices.every block items,
+  lines_on choices.every items block,
+  body_unit choices.every (items ++ block) unit,
+  own-on choices block items h.1 (rest-anew choices block (Accepted unit) items anew),
   refl,
-  own-unit every before unit h,
+  subst (λ us. AreLinesOfUnit (as_items us) (state_on choices.every block items) unit
+      (body_unit choices.every (items ++ block) unit) (state_on choices.every block (Accepted unit ∷ items)))
+      (units-append items block) (own-unit choices block items unit h anew),
 )
+
+-- ---- all items
+
+on-nothing : (units : List (FileUnit Epoch)) (lines : List (List ℕ)) (last : Option WrittenEpoch)
+    → AreLinesOn [] None units lines last → AreLinesOf units lines last
+on-nothing [] lines last k = k
+on-nothing (unit ∷ units) lines last k = (
+  k.0,
+  k.1,
+  k.2,
+  on-nothing units k.1 k.0 k.3,
+  k.4,
+  subst (λ us. AreLinesOfUnit (as_items us) k.0 unit k.2 last) (append-nil units) k.5,
+)
+
+pub own-lines : (choices : Choices) (items : List (Item Epoch)) → AreInPlace items
+    → AreLinesOf (units_in items) (lines_back choices.every items) (state_on choices.every [] items)
+own-lines choices items h =
+    let same : lines_on choices.every items [] ≡ lines_back choices.every items =
+    sym (written-on choices.every items []) ∙ ap (lines_back choices.every) (append-nil items) in
+    subst (λ ls. AreLinesOf (units_in items) ls (state_on choices.every [] items)) same
+    (on-nothing (units_in items) (lines_on choices.every items []) (state_on choices.every [] items)
+    (own-on choices [] items (subst AreInPlace (sym (append-nil items)) h) (inl refl)))
 
 in-place : (units : List (FileUnit Epoch)) → AreInOrder units → AreUnitsInPlace units
 in-place [] h = tt
@@ -81,25 +160,39 @@ in-place (unit ∷ before) h = (h.0, in-place before h.2)
 pub whole-file : (units : List (FileUnit Epoch)) → MakeAFile units → AreWholeFile units
 whole-file units h = record { in_place = in-place units h.in_order; header = h.header; complete = h.complete }
 
-pub own-text : OwnTextIsOne
-own-text units choices dated file =
-    let h = settled units file in
-    let lines = lines_back choices.every (as_items units) in
+-- the units of a file that is read to its good end make a file
+pub whole-items : (items : List (Item Epoch)) → IsSettled items → HaveNoReturns items → AreWholeFile (units_in items)
+whole-items items h none =
+    let text = lines_text (printed_items items) in
+    let same : units_in (WholeReading.items (whole_of text)) ≡ units_in items =
+    ap (λ w. units_in (WholeReading.items w)) (printed-again items h none) ∙ ap units_in (units-carried items)
+    ∙ units-again (units_in items) in
+    subst AreWholeFile same (whole-file (units_in (WholeReading.items (whole_of text)))
+    (read-units text (settled-standard items h none)))
+
+pub own-items : (choices : Choices) (items : List (Item Epoch)) → is_date choices.date ≡ true → IsSettled items
+    → HaveNoReturns items → IsCompactTextOf (units_in items) (lines_text (compact_lines choices items))
+own-items choices items dated h none =
+    let lines = lines_back choices.every items in
     let clean : AllByRecursion IsClean (version_line ∷ program_line choices.date ∷ lines) = (
       version-clean,
-      (program-clean choices.date dated, lines-clean choices.every (as_items units) h.in_place h.copied (no-returns units file)),
-    ) in (
-      whole-file units file,
-      record {
-        version = version_line;
-        program = program_line choices.date;
-        lines = lines;
-        last = own_state choices.every units;
-        cut = ap (λ ls. map as_read (lines_of (lines_text ls)))
-            (lines-same choices (as_items units) h.in_place (started (as_items units) h.header))
-            ∙ lines-cut (version_line ∷ program_line choices.date ∷ lines) clean;
-        first = refl;
-        second = program-read choices.date;
-        written = own-all choices.every units h.in_place;
-      },
-    )
+      (program-clean choices.date dated, lines-clean choices.every items h.in_place h.copied none),
+    ) in
+    record {
+      version = version_line;
+      program = program_line choices.date;
+      lines = lines;
+      last = state_on choices.every [] items;
+      cut = ap (λ ls. map as_read (lines_of (lines_text ls))) (lines-same choices items h.in_place (started items h.header))
+          ∙ lines-cut (version_line ∷ program_line choices.date ∷ lines) clean;
+      first = refl;
+      second = program-read choices.date;
+      written = own-lines choices items h.in_place;
+    }
+
+pub own-text : OwnTextIsOne
+own-text units choices dated file = (
+  whole-file units file,
+  subst (λ us. IsCompactTextOf us (lines_text (compact_lines choices (as_items units)))) (units-again units)
+      (own-items choices (as_items units) dated (settled units file) (no-returns units file)),
+)

@@ -57,7 +57,7 @@ has_observation (Accepted (Observation epoch) ∷ before) = true
 has_observation (Warned at ∷ before) = has_observation before
 has_observation (Accepted unit ∷ before) = has_observation before
 
-begins-rest : (choices : Choices) (block : List (Item Epoch)) (item : Item Epoch) (items : List (Item Epoch))
+pub begins-rest : (choices : Choices) (block : List (Item Epoch)) (item : Item Epoch) (items : List (Item Epoch))
     → BeginsAnew choices block (item ∷ items) → BeginsAnew choices block items
 begins-rest choices block item items h = grind (arith, common_steps)
 

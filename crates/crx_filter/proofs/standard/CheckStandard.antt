@@ -3,7 +3,7 @@ use Rattle.crx_filter.proofs.Words.{ℕ, ◌≡◌, ◌+◌, Bool, true, List, [
 use Rattle.crx_filter.proofs.Words.{arith, list_all, bytes_eq, none-some, and_parts, InputLine, Choices}
 use Rattle.crx_filter.proofs.{Words.{is_standard_line, first_not_standard, by_bool}, reading.Each.contents}
 use Rattle.crx_filter.proofs.{standard.CheckEnded.whole-many, wayback.ReturnsLost.standard-where_same}
-use Rattle.crx_filter.{proofs.wayback.Standard.standard-comes_back, specs.CheckingLaws.IsNamedWhereNot}
+use Rattle.crx_filter.{proofs.anywriter.ComesBack.standard-comes_back, specs.CheckingLaws.IsNamedWhereNot}
 use Rattle.crx_filter.specs.{CheckingLaws.IsStandardExactlyWhereSame, meaning.Standard.report_status}
 use Rattle.crx_compact.proofs.Characters.{bytes_eq-same, bytes_eq-is}
 

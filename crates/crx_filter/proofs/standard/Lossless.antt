@@ -3,7 +3,7 @@ use Rattle.crx_filter.proofs.Words
 use Words.{ℕ, ◌≡◌, List, Option, Some, None, refl, ap, sym, ◌∙◌, lines_of, At, Choices, expanded, whole_of}
 use Words.{findings_of, checked_by, checked, FilterResult, IsResult, Device}
 use Rattle.crx_filter.proofs.standard.CheckStandard.{named-where_not, none-where_0}
-use Rattle.crx_filter.{proofs.wayback.Standard.standard-comes_back, specs.meaning.Standard.Findings}
+use Rattle.crx_filter.{proofs.anywriter.ComesBack.standard-comes_back, specs.meaning.Standard.Findings}
 use Rattle.crx_filter.specs.meaning.Lossless.{WhatPassesComesBack, SaysThatItComesBack, BringsBackWhatPasses}
 
 -- a check answers 0 only where no fault ended it, and no line was named

@@ -2,8 +2,8 @@
 use Rattle.crx_filter.proofs.Words.{ℕ, ◌≡◌, List, None, map, ap, sym, ◌∙◌, Option, lines_of, as_read, At}
 use Rattle.crx_filter.proofs.Words.{Choices, compact_unit, compacted, expanded, normal_form, whole_of}
 use Rattle.crx_filter.proofs.Words.{HasNormalForm, result_of, FilterResult, IsResult, Device}
-use Rattle.crx_filter.proofs.wayback.{NormalForm.read-as_normal, Standard.{same-reading, normal-comes_back}}
-use Rattle.crx_filter.specs.meaning.Canonical.{CompactsAsNormal, IsCanonical, DependsOnNormalForm}
+use Rattle.crx_filter.proofs.wayback.{NormalForm.read-as_normal, Standard.same-reading}
+use Rattle.crx_filter.specs.meaning.Canonical.{CompactsAsNormal, DependsOnNormalForm}
 
 -- a compaction is what the reading makes of it that skips nothing, where that has no fault
 pub compacted-by : (file : List ℕ) (choices : Choices) → (whole_of file).fault ≡ None
@@ -16,14 +16,6 @@ as-normal file choices h = search (read-as_normal, compacted-by)
 pub same-compaction : (one other : List ℕ) (choices : Choices) → HasNormalForm one → HasNormalForm other
     → normal_form one ≡ normal_form other → compacted one choices ≡ compacted other choices
 same-compaction one other choices h k same = cc (as-normal one choices h, same, as-normal other choices k)
-
-pub canonical : (one other : List ℕ) (choices : Choices) → IsCanonical one other choices
-canonical one other choices dated h k = (
-  λ same. ap (λ (r : FilterResult). r.output)
-      (sym (normal-comes_back one choices choices dated h.good h.no_returns) ∙ ap (λ t. expanded t choices)
-      same ∙ normal-comes_back other choices choices dated k.good k.no_returns),
-  λ same. ap (λ (r : FilterResult). r.output) (same-compaction one other choices h k same),
-)
 
 -- ---- in runs
 

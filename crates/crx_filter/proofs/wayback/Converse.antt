@@ -15,7 +15,6 @@ use Rattle.{crx_text.specs.meaning.Numbers.IsValue, std.proofs.Common.{pos, negs
 use Rattle.std.{proofs.Math.Nat.pow-le-pow_right, specs.{Char.is_ascii_digit, Str.all_ascii_digits}}
 use proofs.{reading.Each.{all-append, all-from, contents}, wayback.Cut.{CanStand, return-kept, first-cut}}
 use proofs.wayback.First.{append-printable, take-printable, printable-no_feed, printable-no_return}
-use proofs.wayback.{Standard.normal-comes_back, WayBack.whole-settled}
 
 -- a line that is plain wherever it is written
 pub record IsPlainLine (line : List ℕ) : Type 0 where
@@ -124,20 +123,3 @@ all-plain (line ∷ lines) = all-plain lines
 pub contents-plain : (lines : List (List ℕ)) → contents (map plain lines) ≡ lines
 contents-plain [] = refl
 contents-plain (line ∷ lines) = ap (λ ls. line ∷ ls) (contents-plain lines)
-
--- a file without copied lines that end in CR
-pub standard-where_kept : (input : List ℕ) (compacting expanding : Choices)
-    → is_date compacting.date ≡ true → (whole_of input).fault ≡ None → HaveNoReturns (whole_of input).items
-    → (expanded (compacted input compacting).output expanding).output ≡ input → IsStandard input
-standard-where_kept input compacting expanding dated good none same =
-    let items = WholeReading.items (whole_of input) in
-    let h = whole-settled false input good in
-    let back = sym (ap (λ (r : FilterResult). r.output) (normal-comes_back input compacting expanding dated
-    good none)) ∙ same in
-    let cut = ap lines_of (sym back) ∙ lines-plain (printed_items items) (printed-plain items h.in_place
-    h.copied none) in
-    record {
-      good = good;
-      plain = cc (cut, all-plain (printed_items items));
-      given_back = cc (cut, contents-plain (printed_items items));
-    }

@@ -10,7 +10,7 @@ use proofs.Words.{FilterResult, marked_epochs, compact_lines, version_line, prog
 use proofs.Words.{first_lines, whole_compact, expanded, expanded_lines, AreInPlace, OfCopiedLines}
 use proofs.Words.{HaveNoReturns}
 use proofs.reading.{Each.{all-append, all-from}, Resuming.by_place, WhatWasRead.{items-read, of-ended}}
-use proofs.wayback.{Converse.{epoch-printable, standard-where_kept}, Items.{marked_now, epoch-stands}}
+use proofs.{anywriter.ComesBack.standard-where_kept, wayback.{Converse.epoch-printable, Items.{marked_now, epoch-stands}}}
 use proofs.wayback.{Standard.same-reading, Reading.lines_back, ExpandedWhole.{AreGoodEpochs, epochs-good}}
 use proofs.wayback.{WayBack.{IsSettled, whole-settled, lines-same}, Cut.{IsClean, CanStand}, Carried.started}
 use proofs.wayback.Returns.{returns, returns-kept, returns-fewer, returns_in, total-append, in-text}

@@ -8,8 +8,7 @@ use Words.{is_long, ReadLine, as_read, Fault, At, Place, FileUnit, Choices, Item
 use Words.{after_fault, reading_within, fault_at_end, ended_with, ended_reading, lines_text, rinex_place}
 use Words.{whole_rinex, rinex_reading, OfCopiedLines, written_well, not-true, by_bool}
 use Rattle.crx_filter.proofs.{reading.Resuming.by_place, reading.WhatWasRead.of-ended, wayback.Cut.OfContent}
-use Rattle.crx_filter.proofs.wayback.{Cut.return-kept, Reading.items-copied, WayBack.comes-back}
-use Rattle.crx_filter.specs.WayBack.{NormalFormComesBack, StandardComesBack}
+use Rattle.crx_filter.proofs.wayback.{Cut.return-kept, Reading.items-copied}
 use Rattle.crx_lines.proofs.PieceLemmas.{EachEnded}
 
 -- ---- where nothing is wrong, nothing is skipped
@@ -91,18 +90,3 @@ plain-contents (p ∷ ps) e =
 pub plain-text : (input : List ℕ) → list_all (λ (line : InputLine). line.is_plain) (lines_of input) ≡ true
     → lines_text (map (λ (line : InputLine). line.content) (lines_of input)) ≡ input
 plain-text input e = ap lines_text (plain-contents _ e) ∙ pieces-text input (plain-ended _ e)
-
--- ---- a file read to its good end, and a standard file
-
-pub normal-comes_back : (input : List ℕ) (compacting expanding : Choices)
-    → NormalFormComesBack input compacting expanding
-normal-comes_back input compacting expanding dated good none =
-    grind (arith, common_steps, same-reading, comes-back)
-
-pub standard-comes_back : (input : List ℕ) (compacting expanding : Choices)
-    → StandardComesBack input compacting expanding
-standard-comes_back input compacting expanding dated standard =
-    let none = whole-copied NoReturn false (map as_read (lines_of input)) (plain-no_return (pieces_of input)
-    standard.plain) in
-    normal-comes_back input compacting expanding dated standard.good none ∙ ap (λ ls. written_well
-    (lines_text ls)) (sym standard.given_back) ∙ ap written_well (plain-text input standard.plain)

@@ -6,7 +6,7 @@ use Words.{WholeReading, printed_items, whole_of, IsStandard, OfCopiedLines, Hav
 use Words.{written_well, warnings_in, expanded, IsResult, Device, AreInPlace}
 use Rattle.crx_filter.proofs.wayback.NormalForm.{printed-again, accepted-all, whole-none, settled-standard}
 use Rattle.crx_filter.proofs.wayback.Standard.{whole-copied, plain-no_return, plain-text, NoReturn}
-use Rattle.crx_filter.proofs.wayback.{Canonical.compacted-by, WayBack.{IsSettled, whole-settled, items-back}}
+use Rattle.crx_filter.proofs.wayback.{Canonical.compacted-by, WayBack.{IsSettled, whole-settled}}
 use Rattle.crx_filter.{proofs.wayback.Cut.CanStand, specs.meaning.UnitsAndText.{CanBeCopied, as_items}}
 use Rattle.crx_filter.specs.meaning.UnitsAndText.{AreInOrder, MakeAFile, rinex_text, compact_text}
 use Rattle.crx_filter.specs.meaning.UnitsAndText.{TextsOfUnits, WritesUnits, ReadsUnits, IsStandardByUnits}
@@ -44,13 +44,9 @@ whole-text : (units : List (FileUnit Epoch)) → MakeAFile units
     → whole_of (rinex_text units) ≡ record { items = as_items units; fault = None }
 whole-text units h = search (printed-again, settled, no-returns, accepted-all, none-warned)
 
-compacts : (units : List (FileUnit Epoch)) (choices : Choices) → MakeAFile units
+pub compacts : (units : List (FileUnit Epoch)) (choices : Choices) → MakeAFile units
     → compacted (rinex_text units) choices ≡ written_well (compact_text choices units)
 compacts units choices h = search (whole-text, compacted-by, none-warned)
-
-pub texts-of_units : (units : List (FileUnit Epoch)) (compacting expanding : Choices)
-    → TextsOfUnits units compacting expanding
-texts-of_units units compacting expanding h = search (compacts, items-back, settled, no-returns)
 
 -- ---- in runs
 
@@ -58,12 +54,6 @@ pub writes-units : (choices : Choices) (writer messages : Device) (status : ℕ)
     (fault : Option At) (file : List ℕ) → IsResult (compacted file choices) writer messages status fault
     → WritesUnits choices writer messages status fault file
 writes-units choices writer messages status fault file ran units h same = grind (arith, compacts)
-
-pub reads-units : (expanding : Choices) (writer messages : Device) (status : ℕ)
-    (fault : Option At) (text : List ℕ) → IsResult (expanded text expanding) writer messages status fault
-    → ReadsUnits writer messages status fault text
-reads-units expanding writer messages status fault text ran units compacting dated h same =
-    grind (arith, items-back, settled, no-returns)
 
 -- ---- a standard file is the text of its units
 

@@ -138,23 +138,3 @@ pub whole-after : (skip : Bool) (date : List ℕ) (rest : List ReadLine)
     → whole_compact skip (Content version_line
     ∷ Content (program_line date) ∷ rest) ≡ ended_reading skip (reading_from compact_place skip [] 3 rest)
 whole-after skip date rest = rw (first-lines_read date rest, whole_compact) refl
-
--- what was accepted comes back from its compact text
-pub items-back : (items : List (Item Epoch)) (compacting expanding : Choices) → is_date compacting.date ≡ true
-    → IsSettled items → HaveNoReturns items → expanded (lines_text (compact_lines compacting items)) expanding
-    ≡ written_well (lines_text (printed_items items))
-items-back items compacting expanding dated h none =
-    let lines = version_line ∷ program_line compacting.date ∷ lines_back compacting.every items in
-    let clean : AllByRecursion IsClean lines = (
-      version-clean,
-      (program-clean compacting.date dated, lines-clean compacting.every items h.in_place h.copied none),
-    ) in
-    rw (lines-same compacting items h.in_place (started items h.header), lines-cut lines clean)
-    (rw (whole-after expanding.skip compacting.date (map Content (lines_back compacting.every items)))
-    (rw (whole-again compact_place (known_back compacting.every) (body_unit compacting.every) compact-forward
-    (unit-here compacting.every) expanding.skip 3 items h.in_place h.header h.none) (result-well
-    (read_back compacting.every items) _ (printed-same compacting.every items)
-    (no-warnings compacting.every items))))
-
-pub comes-back : (input : List ℕ) (compacting expanding : Choices) → ComesBack input compacting expanding
-comes-back input compacting expanding dated f none = search (items-back, whole-settled)

@@ -1,90 +1,93 @@
--- What a compaction wrote of some units, read after other units that leave the same types.
-use Rattle.crx_filter.proofs.Words.{ℕ, ◌≡◌, ◌+◌, true, List, [], ◌∷◌, ◌++◌, map, length, Option, None, ap}
-use Rattle.crx_filter.proofs.Words.{sym, ◌∙◌, subst, lines_of, lines_text, Content, as_read, version_line}
-use Rattle.crx_filter.proofs.Words.{program_line, ReadEpoch, Choices, is_date, Epoch, Item, header_has_ended}
-use Rattle.crx_filter.proofs.Words.{records_left, Reading, AtLines, reading_from, ended_with, ended_reading}
-use Rattle.crx_filter.proofs.Words.{compact_lines, compact_place, expanded_unit, whole_compact, expanded}
-use Rattle.crx_filter.proofs.Words.{printed_items, written_well, warnings_in, result_of, IsBetweenUnits}
-use Rattle.crx_filter.proofs.Words.{GoOnAlike, expanded_lines, continued_reading}
-use Rattle.std.proofs.lemmas.List.{append_cancel_right}
-use Rattle.crx_filter.specs.meaning.Stretches.{read_of_file}
-use Rattle.crx_filter.proofs.reading.Anew.{depends-on_types}
-use Rattle.crx_filter.proofs.reading.Ending.{closes-well}
-use Rattle.crx_filter.proofs.reading.ForwardCompact.{compact-forward}
-use Rattle.crx_filter.proofs.reading.Resuming.{resumed}
-use Rattle.crx_filter.proofs.wayback.Carried.{started, left-same, types-same}
-use Rattle.crx_filter.proofs.wayback.Cut.{lines-cut}
-use Rattle.crx_filter.proofs.wayback.Items.{known_back, read_back}
-use Rattle.crx_filter.proofs.wayback.Reading.{lines_back}
-use Rattle.crx_filter.proofs.wayback.WayBack.{IsSettled, printed-same, no-warnings, result-well, whole-after}
-use Rattle.crx_filter.proofs.damage.BlockSaved.{back-between, rest-in_place}
-use Rattle.crx_filter.proofs.damage.SavedText.{lines-append, warnings-append, none-first, left-append}
-use Rattle.crx_filter.proofs.damage.TextAfter.{lines_on, reads-on, text-anew}
-use Rattle.crx_filter.proofs.stretches.KeptReading.{back_on, back-parts, back-printed}
-use Rattle.crx_filter.proofs.stretches.StretchesCut.{AreGood, good-before, kept-lines, kept-clean}
-use Rattle.crx_filter.proofs.stretches.StretchesSaved.{file-settled, file-good, front-state, front-read}
-use Rattle.crx_laws.specs.Blocks.{IsPieceAfter}
-use Rattle.crx_filter.proofs.reading.Each.{header-append}
+-- The lines of some units, read after other units that leave the same types.
+use Rattle.crx_filter.proofs.Words.{ℕ, ◌≡◌, ◌+◌, true, List, [], ◌∷◌, ◌++◌, map, length, Option, None, refl, ap, arith}
+use Rattle.crx_filter.proofs.Words.{sym, ◌∙◌, subst, append_assoc, append-nil, map-append, lines_of, lines_text, ReadLine}
+use Rattle.crx_filter.proofs.Words.{Content, as_read, Epoch, FileUnit, ReadEpoch, Choices, is_date, Item, Accepted, Warned}
+use Rattle.crx_filter.proofs.Words.{is_at_start, Reading, AtLines, reading_from, ended_reading, compact_lines, compact_place}
+use Rattle.crx_filter.proofs.Words.{expanded_unit, whole_compact, expanded, printed_items, written_well, warnings_in, result_of}
+use Rattle.crx_filter.proofs.Words.{continued_reading, raws_kept, inr, records_left}
+use Rattle.crx_filter.specs.meaning.{UnitsAndText.{as_items, rinex_text}, WrittenStandard.rinex_items}
+use Rattle.crx_filter.specs.OwnStretches.{read_of_file}
+use Rattle.crx_filter.proofs.anywriter.AnyText.{AreRead, AreReadOn, all-read, read-on, in-place, none-left, units-well, whole-read}
+use Rattle.crx_filter.proofs.anywriter.OwnText.{own-on, state_on, units-append, units-printed}
+use Rattle.crx_filter.proofs.damage.{BlockSaved.rest-in_place, TextAfter.lines_on}
+use Rattle.crx_filter.proofs.reading.{ForwardCompact.compact-forward, Resuming.resumed}
+use Rattle.crx_filter.proofs.stretches.{KeptUnits.{CanGoOnAs, like-block}, StretchesCut.{AreGood, good-before, kept-lines, kept-clean}}
+use Rattle.crx_filter.proofs.stretches.OwnStretches.{begins-own, file-good, file-settled, file-whole, units-before, units-header}
+use Rattle.crx_filter.proofs.stretches.{OwnStretches.{units-left, units-types}, StretchesRead.header-on}
+use Rattle.crx_filter.specs.meaning.CompactText.{AreUnitsInPlace}
+use Rattle.crx_filter.proofs.wayback.{Carried.started, Cut.lines-cut, Units.units_in, WayBack.IsSettled}
+use Rattle.crx_laws.specs.Blocks.{IsPieceAfter, IsOwnPieceAfter}
 
-pub piece-back : (file front : List ℕ) (choices expanding : Choices) (text : List ℕ)
-    → is_date choices.date ≡ true → (h : IsPieceAfter file front choices text) → expanded text expanding
-    ≡ written_well (lines_text (printed_items (read_of_file front choices).items ++ printed_items h.piece))
-piece-back file front choices expanding text dated h =
-    let every : Option ℕ = choices.every in
+rinex-append : (later before : List (Item ReadEpoch)) → rinex_items (later ++ before) ≡ rinex_items later ++ rinex_items before
+rinex-append [] before = refl
+rinex-append (Accepted unit ∷ later) before = cc (rinex-append later before)
+rinex-append (Warned at ∷ later) before = cc (rinex-append later before)
+
+pub piece-alone : (front before piece : List (FileUnit Epoch)) (text : List ℕ) (expanding : Choices)
+    → IsPieceAfter front before piece text → expanded text expanding ≡ written_well (rinex_text (piece ++ front))
+piece-alone front before piece text expanding h =
     let skip = expanding.skip in
+    let t = h.begun in
+    let f : AreRead skip 3 front t.lines = all-read skip 3 front t.lines t.last (in-place front (h.file).in_place) t.written in
+    let number : ℕ = 3 + length t.lines in
+    let can : CanGoOnAs before f.items = record {
+      header = h.header;
+      left = h.begins;
+      between = record { header = (f.like).header ∙ (h.file).header; none = (f.like).left ∙ (h.file).complete };
+      types = (f.like).types ∙ h.types;
+    } in
+    let o : AreReadOn skip f.items number before piece h.lines h.last = read-on skip f.items number before piece h.lines None
+    h.last (like-block before f.items can) (none-left (raws_kept f.items)) (in-place (piece ++ before) h.in_place) h.written in
+    let all : List (Item ReadEpoch) = o.more ++ f.items in
+    let last : ℕ = number + length h.lines in
+    let lines : List ReadLine = map Content t.lines ++ map Content h.lines in
+    let cut : map as_read (lines_of text) ≡ Content t.version ∷ Content t.program ∷ lines =
+    t.cut ∙ ap (λ ls. Content t.version ∷ Content t.program ∷ (map Content t.lines ++ ls)) h.rest in
+    let read : reading_from compact_place skip [] 3 lines ≡ record { items = all; stop = AtLines last [] } =
+    resumed compact_place compact-forward skip [] 3 (map Content t.lines) (map Content h.lines)
+    ∙ ap (λ r. continued_reading compact_place skip r (map Content h.lines)) f.reads ∙ o.reads in
+    let known : rinex_items all ≡ as_items (piece ++ front) = rinex-append o.more f.items
+    ∙ ap (λ is. is ++ rinex_items f.items) o.known ∙ ap (λ is. as_items piece ++ is) f.known ∙ sym (map-append Accepted piece front) in
+    ap (result_of expanded_unit) (ap (whole_compact skip) cut ∙ whole-read skip t.version t.program lines t.first t.second
+    ∙ ap (ended_reading skip) read) ∙ units-well skip all last (piece ++ front) ((o.like).header ∙ header-on piece before h.header)
+    ((o.like).left ∙ h.ends) known
+
+-- ---- of a compaction
+
+printed-append : (later before : List (Item Epoch)) → printed_items (later ++ before) ≡ printed_items before ++ printed_items later
+printed-append [] before = sym (append-nil (printed_items before))
+printed-append (Accepted unit ∷ later) before = search (printed-append later before, append_assoc)
+printed-append (Warned at ∷ later) before = printed-append later before
+
+pub own-piece : (file front : List ℕ) (choices expanding : Choices) (text : List ℕ)
+    → is_date choices.date ≡ true → (h : IsOwnPieceAfter file front choices text) → expanded text expanding
+    ≡ written_well (lines_text (printed_items (read_of_file front choices).items ++ printed_items h.piece))
+own-piece file front choices expanding text dated h =
     let first : List (Item Epoch) = (read_of_file front choices).items in
     let settled : IsSettled first = file-settled front choices h.front_good in
     let good : AreGood (h.piece ++ h.before) =
     good-before h.later (h.piece ++ h.before) (subst AreGood h.parts (file-good file choices h.file_good)) in
     let placed = rest-in_place h.piece h.before good.in_place in
-    let x : List (Item ReadEpoch) = read_back every first in
-    let y : List (Item ReadEpoch) = read_back every h.before in
-    let more : List (Item ReadEpoch) = back_on every h.piece h.before in
-    let lines : List (List ℕ) = lines_on every h.piece h.before in
-    let old : List (List ℕ) = lines_back every first in
-    let n : ℕ = 3 + length old in
-    let last : ℕ = n + length lines in
-    let one : IsBetweenUnits x = back-between every first settled.in_place settled.header settled.none in
-    let two : IsBetweenUnits y = back-between every h.before placed h.header h.whole.0 in
-    let alike : GoOnAlike x y (reading_from compact_place skip x n (map Content lines))
-    (reading_from compact_place skip y n (map Content lines)) =
-    depends-on_types skip x y n (map Content lines) one two
-    (types-same (known_back every) first settled.in_place ∙ h.types
-    ∙ sym (types-same (known_back every) h.before placed))
-    (text-anew choices h.before h.piece h.header h.whole.0 good.in_place h.anew) in
-    let both : ◌≡◌ {A = Reading ReadEpoch} (record { items = alike.more ++ y; stop = alike.stop })
-    (record { items = read_back every (h.piece ++ h.before); stop = AtLines last [] }) =
-    sym alike.second ∙ reads-on every skip n h.piece h.before good.in_place in
-    let same : alike.more ≡ more = append_cancel_right alike.more more y
-    (ap (λ (r : Reading ReadEpoch). r.items) both ∙ back-parts every h.piece h.before) in
-    let read : reading_from compact_place skip x n (map Content lines)
-    ≡ record { items = more ++ x; stop = AtLines last [] } =
-    alike.first ∙ ap (λ (r : Reading ReadEpoch). record { items = alike.more ++ x; stop = r.stop }) both
-    ∙ ap (λ (m : List (Item ReadEpoch)). record { items = m ++ x; stop = AtLines last [] }) same in
-    let header : header_has_ended (more ++ x) ≡ true = header-append more x one.header in
-    let left : records_left (more ++ x) ≡ 0 = left-append more x y (one.none ∙ sym two.none)
-    ∙ ap records_left (sym (back-parts every h.piece h.before))
-    ∙ left-same (known_back every) (h.piece ++ h.before) good.in_place ∙ h.whole.1 in
-    let cut : map as_read (lines_of text) ≡ Content version_line ∷ Content (program_line choices.date)
-    ∷ (map Content old ++ map Content lines) = ap (λ t. map as_read (lines_of t)) h.text_is
-    ∙ ap (λ ls. map as_read (lines_of (lines_text (compact_lines choices first) ++ lines_text ls)))
-    (kept-lines choices h.piece h.before good.in_place h.header)
-    ∙ front-state choices first (lines_text lines) dated (file-good front choices h.front_good)
-    (started first settled.header)
-    ∙ ap (λ ls. Content version_line ∷ Content (program_line choices.date) ∷ (map Content old ++ ls))
-    (lines-cut lines (kept-clean choices h.piece h.before good)) in
-    let whole : whole_compact skip (map as_read (lines_of text)) ≡ record { items = more ++ x; fault = None }
-    =
-    ap (whole_compact skip) cut ∙ whole-after skip choices.date (map Content old ++ map Content lines)
-    ∙ ap (ended_reading skip) (resumed compact_place compact-forward skip [] 3 (map Content old)
-    (map Content lines) ∙ ap (λ r. continued_reading compact_place skip r (map Content lines))
-    (front-read skip every first settled.in_place) ∙ read)
-    ∙ ap (ended_with skip (more ++ x) (last + 0)) (closes-well (more ++ x) header left) in
-    let none : warnings_in more ≡ [] = none-first (warnings_in more) (warnings_in y)
-    (sym (warnings-append more y) ∙ ap warnings_in (sym (back-parts every h.piece h.before))
-    ∙ no-warnings every (h.piece ++ h.before)) in
-    ap (result_of expanded_unit) whole
-    ∙ result-well (more ++ x) (printed_items first ++ printed_items h.piece)
-    (lines-append more x ∙ ap (λ ls. ls ++ expanded_lines more) (printed-same every first)
-    ∙ ap (λ ls. printed_items first ++ ls) (back-printed every h.piece h.before))
-    (warnings-append more x ∙ ap (λ w. w ++ warnings_in x) none ∙ no-warnings every first)
+    let lines : List (List ℕ) = lines_on choices.every h.piece h.before in
+    let units = units-append h.piece h.before in
+    let text_is : text ≡ lines_text (compact_lines choices first) ++ lines_text lines = h.text_is
+    ∙ ap (λ ls. lines_text (compact_lines choices first) ++ lines_text ls) (kept-lines choices h.piece h.before good.in_place h.header) in
+    let begun = begins-own choices first (lines_text lines) dated (file-good front choices h.front_good) (started first settled.header) in
+    let same = ap (λ us. printed_items (as_items us)) (sym (units-append h.piece first)) ∙ units-printed (h.piece ++ first)
+    ∙ printed-append h.piece first in
+    ap (λ t. expanded t expanding) text_is ∙ piece-alone (units_in first) (units_in h.before) (units_in h.piece)
+    (lines_text (compact_lines choices first) ++ lines_text lines) expanding (record {
+      file = file-whole front choices h.front_good;
+      in_place = subst AreUnitsInPlace units (units-before (units_in h.later) (units_in (h.piece ++ h.before))
+          (subst AreUnitsInPlace (ap units_in h.parts ∙ units-append h.later (h.piece ++ h.before))
+          (file-whole file choices h.file_good).in_place));
+      header = units-header h.before ∙ h.header;
+      begins = units-left h.before placed ∙ (h.whole).0;
+      ends = ap (λ us. records_left (as_items us)) (sym units) ∙ units-left (h.piece ++ h.before) good.in_place ∙ (h.whole).1;
+      types = units-types first settled.in_place ∙ h.types ∙ sym (units-types h.before placed);
+      begun = begun;
+      lines = lines;
+      last = state_on choices.every h.before h.piece;
+      written = own-on choices h.before h.piece good.in_place (inr h.anew);
+      rest = lines-cut lines (kept-clean choices h.piece h.before good);
+    }) ∙ ap (λ ls. written_well (lines_text ls)) same

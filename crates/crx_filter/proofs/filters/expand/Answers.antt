@@ -5,7 +5,7 @@ use Rattle.crx_filter.proofs.anywriter.AnyRun.{reads-any, reads-no_other}
 use Rattle.crx_filter.proofs.{Kept.{kept, writes-output, brings-back, saves-all_else}, following.Lawful.expansion-lawful}
 use Rattle.crx_filter.proofs.{standard.Lossless.brings-back_passed, wayback.ExpandedStandard.wrote-standard}
 use Rattle.crx_filter.proofs.accounts.ByResults.{text-ends}
-use Rattle.crx_filter.{proofs.wayback.Units.reads-units, specs.DirectionParts.EngineParts}
+use Rattle.crx_filter.{proofs.anywriter.ComesBack.reads-units, specs.DirectionParts.EngineParts}
 use Rattle.crx_filter.specs.{ExpanderState.expanding_state, ExpansionParts.ExpansionState as Expansion}
 use Rattle.crx_runs.specs.meaning.{Runs.Runs, Spans.{Input, reader_span, span}}
 use Rattle.std.proofs.lemmas.Result.{IfOk-weaker}

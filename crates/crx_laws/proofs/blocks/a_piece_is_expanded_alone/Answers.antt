@@ -1,5 +1,5 @@
-use Rattle.crx_laws.proofs.blockwise.PieceBack.{piece-back}
+use Rattle.crx_laws.proofs.blockwise.PieceBack.{piece-alone}
 use Rattle.crx_laws.proofs.blocks.a_piece_is_expanded_alone.Goals as goal
 
 pub returns : goal.returns
-returns c = record { law = piece-back }
+returns c = record { law = piece-alone }

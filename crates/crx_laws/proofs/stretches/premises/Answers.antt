@@ -1,9 +1,14 @@
 -- by computation
-use Rattle.crx_filter.proofs.Words.{refl, [], ◌∷◌, ◌++◌, inl, inr, lines_text, Accepted, Observation}
+use Rattle.crx_filter.proofs.Words.{refl, [], ◌∷◌, ◌++◌, inl, inr, Some, None, Content, map, lines_text, Accepted, Observation}
 use Rattle.std.proofs.Common.{codes}
 use Rattle.std.specs.Fmt.{digits}
 use Rattle.crx_text.specs.meaning.Codes.{coded_number}
-use Rattle.crx_filter.specs.meaning.Stretches.{IsReadWhole, HasStretches, BeginsWhole}
+use Rattle.crx_filter.proofs.anywriter.OwnText.{whole-file}
+use Rattle.crx_filter.specs.meaning.Stretches.{HasStretches}
+use Rattle.crx_filter.specs.OwnStretches.{IsReadWhole, HasOwnStretches, BeginsWithOwn}
+use Rattle.crx_laws.proofs.Wild.{make-file, arc_one, full_arc, epoch_with, lines-before, kept-lines}
+use Rattle.crx_laws.specs.WildText.{wild_units, wild_before, wild_stretch, wild_damaged, lines_before, full_lines, first_line, second_line, comment}
+use Rattle.crx_laws.specs.WildText.{event as wild_event}
 use Rattle.crx_laws.specs.SmallFiles.{file_of_five, with_event, plain_choices, in_full_every_second}
 use Rattle.crx_laws.specs.SmallFiles.{header_items, epoch_at_second}
 use Rattle.crx_laws.specs.SmallStretches.{first_epoch, second_block, two_stretches, event_lost, damaged_twice}
@@ -15,7 +20,7 @@ five : IsReadWhole (lines_text (file_of_five [])) in_full_every_second
 unfolding digits coded_number size_of number_of number_text
 five = record { good = refl; no_returns = (tt, (tt, (tt, (tt, (tt, (refl, (refl, (refl, tt)))))))) }
 
-twice : HasStretches (lines_text (file_of_five [])) in_full_every_second damaged_twice
+twice : HasOwnStretches (lines_text (file_of_five [])) in_full_every_second damaged_twice
 unfolding digits coded_number size_of number_of number_text
 twice = record {
   file_good = five;
@@ -30,7 +35,7 @@ twice = record {
   text = refl;
 }
 
-event : HasStretches (lines_text with_event) plain_choices without_event
+event : HasOwnStretches (lines_text with_event) plain_choices without_event
 unfolding digits coded_number size_of number_of number_text
 event = record {
   file_good = record {
@@ -45,7 +50,7 @@ event = record {
   text = refl;
 }
 
-count : HasStretches (lines_text with_event) plain_choices with_lost_count
+count : HasOwnStretches (lines_text with_event) plain_choices with_lost_count
 unfolding digits coded_number size_of number_of number_text
 count = record {
   file_good = record {
@@ -60,7 +65,7 @@ count = record {
   text = refl;
 }
 
-cut : BeginsWhole (lines_text (file_of_five [])) in_full_every_second cut_off
+cut : BeginsWithOwn (lines_text (file_of_five [])) in_full_every_second cut_off
 unfolding digits coded_number size_of number_of number_text
 cut = record {
   file_good = five;
@@ -71,5 +76,36 @@ cut = record {
   text_is = refl;
 }
 
+-- ---- a text that no writer known here writes
+
+wild : HasStretches wild_before (wild_stretch ∷ []) wild_damaged
+wild = record {
+  file = whole-file wild_units make-file;
+  header = refl;
+  text = record {
+    version = first_line;
+    program = second_line;
+    lines = lines_before;
+    more = Content (codes ">") ∷ Content (codes "xyz") ∷ Content wild_event ∷ Content comment ∷ map Content full_lines;
+    last = Some (epoch_with 0 arc_one);
+    cut = refl;
+    first = refl;
+    second = refl;
+    written = lines-before;
+  };
+  each = (
+    record {
+      begins = refl;
+      ends = refl;
+      types = refl;
+      allowed = refl;
+      last = Some (epoch_with 2 full_arc);
+      written = kept-lines;
+    },
+    tt,
+  );
+  rest = refl;
+}
+
 pub returns : goal.returns
-returns c = record { twice = twice; event = event; count = count; cut = cut }
+returns c = record { wild = wild; twice = twice; event = event; count = count; cut = cut }

@@ -1,4 +1,4 @@
-use Rattle.crx_filter.proofs.wayback.Standard.{standard-comes_back}
+use Rattle.crx_filter.proofs.anywriter.ComesBack.{standard-comes_back}
 use Rattle.crx_laws.proofs.way_back.a_standard_file_comes_back.Goals as goal
 
 pub returns : goal.returns

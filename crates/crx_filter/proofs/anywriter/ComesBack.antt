@@ -1,0 +1,73 @@
+-- What was compacted comes back: its compact text is one that any writer may write.
+use Rattle.crx_filter.proofs
+use proofs.Words.{common_steps, arith, ℕ, ◌≡◌, true, List, [], map, Option, None, refl, ap, sym, ◌∙◌, lines_of, lines_text}
+use proofs.Words.{pieces_of, as_read, At, Epoch, FileUnit, Choices, is_date, compacted, expanded, Item, WholeReading}
+use proofs.Words.{FilterResult, IsResult, Device, compact_lines, printed_items, whole_of, IsStandard, HaveNoReturns, written_well}
+use proofs.anywriter.{AnyText.any-text, OwnText.{own-items, units-printed, whole-items}}
+use proofs.wayback.{Canonical.same-compaction, Converse.{lines-plain, printed-plain, all-plain, contents-plain}, Units.{compacts, settled, no-returns, units_in}}
+use proofs.wayback.{Standard.{NoReturn, plain-no_return, plain-text, same-reading, whole-copied}, WayBack.{IsSettled, whole-settled}}
+use Rattle.crx_filter.specs.{meaning.{Canonical.IsCanonical, UnitsAndText.{TextsOfUnits, ReadsUnits}}, WayBack.{ComesBack, NormalFormComesBack, StandardComesBack}}
+
+-- what was accepted comes back from its compact text
+pub items-back : (items : List (Item Epoch)) (compacting expanding : Choices) → is_date compacting.date ≡ true
+    → IsSettled items → HaveNoReturns items → expanded (lines_text (compact_lines compacting items)) expanding
+    ≡ written_well (lines_text (printed_items items))
+items-back items compacting expanding dated h none =
+    any-text (lines_text (compact_lines compacting items)) expanding (units_in items) (whole-items items h none)
+    (own-items compacting items dated h none) ∙ ap (λ ls. written_well (lines_text ls)) (units-printed items)
+
+pub comes-back : (input : List ℕ) (compacting expanding : Choices) → ComesBack input compacting expanding
+comes-back input compacting expanding dated f none = search (items-back, whole-settled)
+
+-- ---- a file read to its good end, and a standard file
+
+pub normal-comes_back : (input : List ℕ) (compacting expanding : Choices)
+    → NormalFormComesBack input compacting expanding
+normal-comes_back input compacting expanding dated good none =
+    grind (arith, common_steps, same-reading, comes-back)
+
+pub standard-comes_back : (input : List ℕ) (compacting expanding : Choices)
+    → StandardComesBack input compacting expanding
+standard-comes_back input compacting expanding dated standard =
+    let none = whole-copied NoReturn false (map as_read (lines_of input)) (plain-no_return (pieces_of input)
+    standard.plain) in
+    normal-comes_back input compacting expanding dated standard.good none ∙ ap (λ ls. written_well
+    (lines_text ls)) (sym standard.given_back) ∙ ap written_well (plain-text input standard.plain)
+
+-- a file without copied lines that end in CR
+pub standard-where_kept : (input : List ℕ) (compacting expanding : Choices)
+    → is_date compacting.date ≡ true → (whole_of input).fault ≡ None → HaveNoReturns (whole_of input).items
+    → (expanded (compacted input compacting).output expanding).output ≡ input → IsStandard input
+standard-where_kept input compacting expanding dated good none same =
+    let items = WholeReading.items (whole_of input) in
+    let h = whole-settled false input good in
+    let back = sym (ap (λ (r : FilterResult). r.output) (normal-comes_back input compacting expanding dated
+    good none)) ∙ same in
+    let cut = ap lines_of (sym back) ∙ lines-plain (printed_items items) (printed-plain items h.in_place
+    h.copied none) in
+    record {
+      good = good;
+      plain = cc (cut, all-plain (printed_items items));
+      given_back = cc (cut, contents-plain (printed_items items));
+    }
+
+-- two files have the same compact text exactly where they have the same normal form
+pub canonical : (one other : List ℕ) (choices : Choices) → IsCanonical one other choices
+canonical one other choices dated h k = (
+  λ same. ap (λ (r : FilterResult). r.output)
+      (sym (normal-comes_back one choices choices dated h.good h.no_returns) ∙ ap (λ t. expanded t choices)
+      same ∙ normal-comes_back other choices choices dated k.good k.no_returns),
+  λ same. ap (λ (r : FilterResult). r.output) (same-compaction one other choices h k same),
+)
+
+-- ---- the two texts of units that make a file
+
+pub texts-of_units : (units : List (FileUnit Epoch)) (compacting expanding : Choices)
+    → TextsOfUnits units compacting expanding
+texts-of_units units compacting expanding h = search (compacts, items-back, settled, no-returns)
+
+pub reads-units : (expanding : Choices) (writer messages : Device) (status : ℕ)
+    (fault : Option At) (text : List ℕ) → IsResult (expanded text expanding) writer messages status fault
+    → ReadsUnits writer messages status fault text
+reads-units expanding writer messages status fault text ran units compacting dated h same =
+    grind (arith, items-back, settled, no-returns)

@@ -1,0 +1,124 @@
+-- Units that are kept after a damaged stretch, whoever wrote them: they are read as themselves, whatever was read
+-- of the stretch.
+use Rattle.crx_filter.proofs
+use proofs.Words.{ℕ, ◌≡◌, ◌+◌, Bool, true, false, List, [], ◌∷◌, ◌++◌, map, length, Option, Some, None, refl, ap, sym, ◌∙◌}
+use proofs.Words.{subst, arith, append-nil, inl, and_parts, if◌then◌else◌, ReadLine, Content, Epoch, FileUnit, HeaderLine}
+use proofs.Words.{EventLine, EventRecord, Observation, begins_epoch, is_event_line, ReadEpoch, Item, header_has_ended}
+use proofs.Words.{records_left, types_in_force, Reading, reading_from, compact_place, continued_reading, raws_kept}
+use proofs.Words.{IsBetweenUnits, AreInPlace, IsInPlace}
+use proofs.anywriter.AnyText.{IsLike, none-left, AreReadOn, read-on}
+use proofs.{reading.{ForwardCompact.compact-forward, Resuming.resumed}, wayback.Carried.started}
+use proofs.stretches.OpenReading.{AreEpochs, IsOpen, GoesOnAfter, open-continued, epochs-between, epochs-types}
+use Rattle.crx_compact.specs.meaning.AnyWriter.{WrittenEpoch, nothing_written, AreEpochLines}
+use Rattle.crx_filter.specs.meaning.{CompactText.AreLinesOfUnit, Stretches.AreLinesOn, UnitsAndText.as_items}
+use Rattle.crx_filter.specs.meaning.WrittenStandard.{rinex_items}
+
+-- ---- their first line begins with >
+
+record BeginWithMark (lines : List (List ℕ)) : Type 0 where
+  line : List ℕ
+  others : List (List ℕ)
+  is : lines ≡ line ∷ others
+  begins : begins_epoch line ≡ true
+
+epoch-begins : (now : WrittenEpoch) (lines : List (List ℕ)) → AreEpochLines None now lines → BeginWithMark lines
+epoch-begins now [] h = absurd h
+epoch-begins now (line ∷ []) h = absurd h
+epoch-begins now (line ∷ clock ∷ rows) h =
+    record { line = line; others = clock ∷ rows; is = refl; begins = full (begins_epoch line) h.1 }
+  where
+    full : (b : Bool) → (if b then Some nothing_written else None) ≡ Some h.0 → b ≡ true
+    full true e = refl
+    full false e = absurd (cc e)
+
+unit-begins : (block : List (FileUnit Epoch)) (unit : FileUnit Epoch) (lines : List (List ℕ)) (now : Option WrittenEpoch)
+    → IsInPlace (as_items block) unit → header_has_ended (as_items block) ≡ true → records_left (as_items block) ≡ 0
+    → AreLinesOfUnit (as_items block) None unit lines now → BeginWithMark lines
+unit-begins block (HeaderLine line) lines now h header left k = let never = sym h.0 ∙ header in absurd (cc never)
+unit-begins block (EventLine line) lines now h header left k =
+    record { line = line; others = []; is = k.0; begins = (and_parts (begins_epoch line) _ h.2).0 }
+unit-begins block (EventRecord line) lines now h header left k = absurd (omega (arith, h.1, left))
+unit-begins block (Observation epoch) lines now h header left k = epoch-begins k.0 lines k.3
+
+units-begin : (block units : List (FileUnit Epoch)) (unit : FileUnit Epoch) (lines : List (List ℕ)) (now : Option WrittenEpoch)
+    → AreInPlace (as_items (unit ∷ (units ++ block))) → header_has_ended (as_items block) ≡ true
+    → records_left (as_items block) ≡ 0 → AreLinesOn block None (unit ∷ units) lines now → BeginWithMark lines
+units-begin block [] unit lines now h header left k =
+    let b = unit-begins block unit k.2 now h.0 header left
+    (subst (λ n. AreLinesOfUnit (as_items block) n unit k.2 now) (k.3).1 k.5) in
+    record { line = b.line; others = b.others; is = k.4 ∙ ap (λ ls. ls ++ k.2) (k.3).0 ∙ b.is; begins = b.begins }
+units-begin block (next ∷ units) unit lines now h header left k =
+    let b = units-begin block units next k.1 k.0 h.1 header left k.3 in
+    record { line = b.line; others = b.others ++ k.2; is = k.4 ∙ ap (λ ls. ls ++ k.2) b.is; begins = b.begins }
+
+-- ---- the reading
+
+pub record AreKeptRead (block kept : List (FileUnit Epoch)) (items : List (Item ReadEpoch)) (r : Reading ReadEpoch)
+    : Type 0 where
+  pub news : List (Item ReadEpoch)
+  pub epochs : AreEpochs news
+  pub more : List (Item ReadEpoch)
+  pub known : rinex_items more ≡ as_items kept
+  pub like : IsLike (more ++ (news ++ items)) (kept ++ block)
+  pub stops : IsOpen (more ++ (news ++ items)) r
+
+-- what is known of the units before, and of what was read in their place
+pub record CanGoOnAs (block : List (FileUnit Epoch)) (items : List (Item ReadEpoch)) : Type 0 where
+  pub header : header_has_ended (as_items block) ≡ true
+  pub left : records_left (as_items block) ≡ 0
+  pub between : IsBetweenUnits items
+  pub types : types_in_force items ≡ types_in_force (as_items block)
+
+pub like-block : (block : List (FileUnit Epoch)) (items : List (Item ReadEpoch)) → CanGoOnAs block items → IsLike items block
+like-block block items h = record {
+  header = (h.between).header ∙ sym h.header;
+  start = started items (h.between).header ∙ sym (started (as_items block) h.header);
+  left = (h.between).none ∙ sym h.left;
+  counts = λ some. absurd (omega (arith, some, (h.between).none));
+  types = h.types;
+}
+
+pub units-kept : (block kept : List (FileUnit Epoch)) (lines : List (List ℕ)) (last : Option WrittenEpoch)
+    (items : List (Item ReadEpoch)) (so_far : List ReadLine) → CanGoOnAs block items → AreInPlace (as_items (kept ++ block))
+    → AreLinesOn block None kept lines last → IsOpen items (reading_from compact_place true [] 3 so_far)
+    → AreKeptRead block kept items (reading_from compact_place true [] 3 (so_far ++ map Content lines))
+units-kept block [] lines last items so_far h placed k stops = record {
+  news = [];
+  epochs = tt;
+  more = [];
+  known = refl;
+  like = like-block block items h;
+  stops = subst (λ ls. IsOpen items (reading_from compact_place true [] 3 ls))
+      (sym (ap (λ ls. so_far ++ map Content ls) k.0 ∙ append-nil so_far)) stops;
+}
+units-kept block (unit ∷ kept) lines last items so_far h placed k stops =
+    let b = units-begin block kept unit lines last placed h.header h.left k in
+    let r : Reading ReadEpoch = reading_from compact_place true [] 3 so_far in
+    let g : GoesOnAfter items (Content b.line ∷ map Content b.others) (continued_reading compact_place true r
+    (Content b.line ∷ map Content b.others)) =
+    open-continued items r b.line (map Content b.others) h.between stops b.begins in
+    let x : List (Item ReadEpoch) = g.news ++ items in
+    let can : CanGoOnAs block x = record {
+      header = h.header;
+      left = h.left;
+      between = epochs-between g.news items g.epochs h.between;
+      types = epochs-types g.news items g.epochs ∙ h.types;
+    } in
+    let o : AreReadOn true x g.number block (unit ∷ kept) lines last = read-on true x g.number block (unit ∷ kept) lines None
+    last (like-block block x can) (none-left (raws_kept x)) placed k in
+    record {
+      news = g.news;
+      epochs = g.epochs;
+      more = o.more;
+      known = o.known;
+      like = o.like;
+      stops = inl (
+        g.number + length lines,
+        [],
+        tt,
+        compact-forward.wants (o.more ++ x),
+        resumed compact_place compact-forward true [] 3 so_far (map Content lines)
+            ∙ ap (λ ls. continued_reading compact_place true r (map Content ls)) b.is ∙ g.same
+            ∙ ap (λ ls. reading_from compact_place true x g.number (map Content ls)) (sym b.is) ∙ o.reads,
+      );
+    }

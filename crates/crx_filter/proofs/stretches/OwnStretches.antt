@@ -1,0 +1,224 @@
+-- The compact text of a file that is compacted here, damaged in stretches or cut off, is such a text as any writer's.
+use Rattle.crx_filter.proofs
+use proofs.Words.{common_steps, ℕ, ◌≡◌, ◌⊎◌, inl, inr, true, false, List, [], ◌∷◌, ◌++◌, map, Option, None, refl, ap, sym, ◌∙◌}
+use proofs.Words.{subst, arith, AllByRecursion, flat_map, printed_epoch, list_all, and_parts, not-true, by_bool, InputLine, is_long, lines_of, lines_text}
+use proofs.Words.{ReadLine, Content, as_read, version_line, program_line, Epoch, FileUnit, IsWholeEpoch, EventLine, Observation}
+use proofs.Words.{Choices, is_date, Item, Accepted, Warned, is_at_start, header_has_ended, records_left, types_in_force}
+use proofs.Words.{compact_lines, printed_items, expanded, Begins, AreInPlace, BeginsAnew, Stretch, with_stretches, IsStretch, AreStretches}
+use Rattle.crx_filter.specs.meaning.{CompactText.{AreUnitsInPlace, AreWholeFile}, Stretches.{AreLinesOn, BeginsWithUnits}}
+use Rattle.crx_filter.specs.meaning.{Stretches.{HasStretches, Saves, begins_no_event, stretches_lines}, UnitsAndText.as_items}
+use Rattle.crx_filter.specs.OwnStretches.{read_of_file, IsReadWhole, OwnStretch, up_to_own_end, up_to_own_next, with_own, own_text}
+use Rattle.crx_filter.specs.OwnStretches.{may_come_instead, AreOwnStretches, HasOwnStretches, SavesOwn, KeepsOwnRest, BeginsWithOwn}
+use proofs.anywriter.{AnyText.first-units, OwnText.{units-carried, units-append, units-printed, state_on, own-on, own-lines, whole-items}}
+use proofs.damage.{BlockSaved.rest-in_place, DamagedText.front-cut, TextAfter.lines_on}
+use proofs.reading.Each.{header-append}
+use proofs.stretches.StretchesCut.{AreGood, good-before, good-up_to, as_stretch, as_stretches, stretches-cut}
+use proofs.stretches.StretchesSaved.{rest-kept}
+use proofs.wayback.{Carried.{started, header-same, left-same, types-same}, First.{version-clean, program-clean, program-read}}
+use proofs.wayback.{Reading.lines_back, Units.units_in, WayBack.{IsSettled, whole-settled, lines-same, lines-clean}}
+
+-- ---- the file
+
+pub file-settled : (file : List ℕ) (choices : Choices) → IsReadWhole file choices
+    → IsSettled (read_of_file file choices).items
+file-settled file choices h = whole-settled choices.skip file h.good
+
+pub file-good : (file : List ℕ) (choices : Choices) → IsReadWhole file choices
+    → AreGood (read_of_file file choices).items
+file-good file choices h = grind (arith, file-settled)
+
+-- its units are a whole file's
+pub file-whole : (file : List ℕ) (choices : Choices) → IsReadWhole file choices
+    → AreWholeFile (units_in (read_of_file file choices).items)
+file-whole file choices h = whole-items (read_of_file file choices).items (file-settled file choices h) h.no_returns
+
+-- ---- its units leave what its items do
+
+pub units-header : (items : List (Item Epoch)) → header_has_ended (as_items (units_in items)) ≡ header_has_ended items
+units-header items = ap header_has_ended (sym (units-carried items)) ∙ header-same (λ before epoch. epoch) items
+
+pub units-left : (items : List (Item Epoch)) → AreInPlace items → records_left (as_items (units_in items)) ≡ records_left items
+units-left items h = ap records_left (sym (units-carried items)) ∙ left-same (λ before epoch. epoch) items h
+
+pub units-types : (items : List (Item Epoch)) → AreInPlace items
+    → types_in_force (as_items (units_in items)) ≡ types_in_force items
+units-types items h = ap types_in_force (sym (units-carried items)) ∙ types-same (λ before epoch. epoch) items h
+
+-- ---- text that begins with the lines of its first units
+
+pub own-cut : (choices : Choices) (before : List (Item Epoch)) (more : List ℕ) → is_date choices.date ≡ true → AreGood before
+    → is_at_start before ≡ false → map as_read (lines_of (lines_text (compact_lines choices before) ++ more))
+    ≡ map Content (version_line ∷ program_line choices.date ∷ lines_back choices.every before) ++ map as_read (lines_of more)
+own-cut choices before more dated h begun =
+    grind (arith, lines-same, front-cut, version-clean, program-clean, lines-clean)
+
+abbrev pub begins-own : (choices : Choices) (before : List (Item Epoch)) (more : List ℕ) → is_date choices.date ≡ true → AreGood before
+    → is_at_start before ≡ false → BeginsWithUnits (units_in before) (lines_text (compact_lines choices before) ++ more)
+begins-own choices before more dated h begun = record {
+  version = version_line;
+  program = program_line choices.date;
+  lines = lines_back choices.every before;
+  more = map as_read (lines_of more);
+  last = state_on choices.every [] before;
+  cut = own-cut choices before more dated h begun;
+  first = refl;
+  second = program-read choices.date;
+  written = own-lines choices before h.in_place;
+}
+
+pub units-before : (later before : List (FileUnit Epoch)) → AreUnitsInPlace (later ++ before) → AreUnitsInPlace before
+units-before [] before h = h
+units-before (unit ∷ later) before h = units-before later before h.1
+
+pub whole-first : (file : List ℕ) (choices expanding : Choices) (text : List ℕ)
+    → is_date choices.date ≡ true → (h : BeginsWithOwn file choices text)
+    → Begins (expanded text expanding).output (lines_text (printed_items h.before))
+whole-first file choices expanding text dated h = by_units h.before
+    (good-before h.after h.before (rw (← h.parts) (file-good file choices h.file_good)))
+    (units-before (units_in h.after) (units_in h.before) (subst AreUnitsInPlace
+    (ap units_in h.parts ∙ units-append h.after h.before) (file-whole file choices h.file_good).in_place)) h.text_is
+  where
+    by_units : (before : List (Item Epoch)) → AreGood before → AreUnitsInPlace (units_in before)
+        → text ≡ lines_text (compact_lines choices before) ++ h.more
+        → Begins (expanded text expanding).output (lines_text (printed_items before))
+    by_units [] good placed e = record { rest = (expanded text expanding).output; same = refl }
+    by_units (item ∷ before) good placed e =
+        subst (λ ls. Begins (expanded text expanding).output (lines_text ls)) (units-printed (item ∷ before))
+        (first-units (units_in (item ∷ before)) text expanding placed
+        (subst (BeginsWithUnits (units_in (item ∷ before))) (sym e) (begins-own choices (item ∷ before) h.more dated good refl)))
+
+-- ---- its stretches
+
+-- where what is kept begins anew, it comes after whole units
+anew-between : (choices : Choices) (kept block : List (Item Epoch)) → AreInPlace (kept ++ block)
+    → BeginsAnew choices block kept → (kept ≡ []) ⊎ (records_left block ≡ 0)
+anew-between choices [] block h anew = inl refl
+anew-between choices (Warned at ∷ []) block h anew = absurd anew
+anew-between choices (Accepted (EventLine line) ∷ []) block h anew = inr (h.0).1
+anew-between choices (Accepted (Observation epoch) ∷ []) block h anew = inr (h.0).1
+anew-between choices (newest ∷ item ∷ items) block h anew =
+    let before = anew-between choices (item ∷ items) block
+    (rest-in_place (newest ∷ []) ((item ∷ items) ++ block) h) (grind (arith, common_steps)) in
+    inr (grind (arith, common_steps, before))
+anew-between choices (Accepted unit ∷ []) block h anew = absurd anew
+
+lines-allowed : (lines : List InputLine) → list_all may_come_instead lines ≡ true
+    → list_all begins_no_event (map as_read lines) ≡ true
+lines-allowed [] e = refl
+lines-allowed (line ∷ lines) e =
+    let both = and_parts (may_come_instead line) (list_all may_come_instead lines) e in
+    grind (arith, by_bool, lines-allowed lines both.1)
+
+-- its units up to the next stretch, or the end, are whole
+next-closed : (choices : Choices) (next : List (Item Epoch)) (later : List OwnStretch)
+    → AreOwnStretches choices next later → records_left (with_own next later) ≡ 0 → records_left next ≡ 0
+next-closed choices next [] h closed = closed
+next-closed choices next (s ∷ later) h closed = (h.0).between
+
+-- the units up to the next stretch, as those of a text
+units-next : (before : List (Item Epoch)) (s : OwnStretch)
+    → units_in (up_to_own_next before s) ≡ units_in s.kept ++ (units_in s.lost ++ units_in before)
+units-next before s = units-append s.kept (up_to_own_end before s) ∙ ap (λ us. units_in s.kept ++ us) (units-append s.lost before)
+
+units-with : (every : Option ℕ) (before : List (Item Epoch)) (stretches : List OwnStretch)
+    → with_stretches (units_in before) (as_stretches every before stretches) ≡ units_in (with_own before stretches)
+units-with every before [] = refl
+units-with every before (s ∷ later) =
+    ap (λ us. with_stretches us (as_stretches every (up_to_own_next before s) later)) (sym (units-next before s))
+    ∙ units-with every (up_to_own_next before s) later
+
+one-stretch : (choices : Choices) (before : List (Item Epoch)) (s : OwnStretch) (later : List OwnStretch)
+    → AreOwnStretches choices before (s ∷ later) → AreInPlace (up_to_own_next before s)
+    → records_left (with_own (up_to_own_next before s) later) ≡ 0
+    → IsStretch (units_in before) (as_stretch choices.every before s)
+one-stretch choices before s later h placed closed =
+    let block : List (Item Epoch) = up_to_own_end before s in
+    let up_to : AreInPlace block = rest-in_place s.kept block placed in
+    let first : AreInPlace before = rest-in_place s.lost before up_to in
+    let same : units_in block ≡ units_in s.lost ++ units_in before = units-append s.lost before in
+    let ends : records_left block ≡ 0 = whole block s.kept (anew-between choices s.kept block placed (h.0).anew)
+    (next-closed choices (up_to_own_next before s) later h.1 closed) in
+    record {
+      begins = units-left before first ∙ (h.0).between;
+      ends = ap (λ us. records_left (as_items us)) (sym same) ∙ units-left block up_to ∙ ends;
+      types = ap (λ us. types_in_force (as_items us)) (sym same) ∙ units-types block up_to ∙ (h.0).types
+          ∙ sym (units-types before first);
+      allowed = lines-allowed (lines_of s.instead) (h.0).allowed;
+      last = state_on choices.every block s.kept;
+      written = subst (λ us. AreLinesOn us None (units_in s.kept) (lines_on choices.every s.kept block)
+          (state_on choices.every block s.kept)) same (own-on choices block s.kept placed (inr (h.0).anew));
+    }
+  where
+    whole : (block kept : List (Item Epoch)) → (kept ≡ []) ⊎ (records_left block ≡ 0) → records_left (kept ++ block) ≡ 0
+        → records_left block ≡ 0
+    whole block kept (inl none) closed = rw none at closed
+    whole block kept (inr left) closed = left
+
+all-stretches : (choices : Choices) (before : List (Item Epoch)) (stretches : List OwnStretch)
+    → AreOwnStretches choices before stretches → AreInPlace (with_own before stretches)
+    → records_left (with_own before stretches) ≡ 0
+    → AreStretches (units_in before) (as_stretches choices.every before stretches)
+all-stretches choices before [] h placed closed = tt
+all-stretches choices before (s ∷ later) h placed closed = (
+  one-stretch choices before s later h (up_to (up_to_own_next before s) later placed) closed,
+  subst (λ us. AreStretches us (as_stretches choices.every (up_to_own_next before s) later)) (units-next before s)
+      (all-stretches choices (up_to_own_next before s) later h.1 placed closed),
+)
+  where
+    up_to : (next : List (Item Epoch)) (others : List OwnStretch) → AreInPlace (with_own next others) → AreInPlace next
+    up_to next [] h = h
+    up_to next (t ∷ others) h = rest-in_place t.lost next (rest-in_place t.kept (up_to_own_end next t)
+        (up_to (up_to_own_next next t) others h))
+
+-- ---- what is saved of it
+
+saves-own : (every : Option ℕ) (before : List (Item Epoch)) (stretches : List OwnStretch) (lines : List (List ℕ))
+    → AreInPlace (with_own before stretches) → Saves (units_in before) (as_stretches every before stretches) lines
+    → SavesOwn before stretches lines
+saves-own every before [] lines placed h = h
+saves-own every before (s ∷ later) lines placed h = (
+  h.0,
+  h.1,
+  subst (λ types. AllByRecursion (IsWholeEpoch types) h.0) (units-types before (first before (s ∷ later) placed)) h.2,
+  h.3 ∙ ap (λ ls. flat_map printed_epoch h.0 ++ (ls ++ h.1)) (units-printed s.kept),
+  saves-own every (up_to_own_next before s) later h.1 placed
+      (subst (λ us. Saves us (as_stretches every (up_to_own_next before s) later) h.1) (sym (units-next before s)) h.4),
+)
+  where
+    first : (next : List (Item Epoch)) (others : List OwnStretch) → AreInPlace (with_own next others) → AreInPlace next
+    first next [] h = h
+    first next (t ∷ others) h = rest-in_place t.lost next (rest-in_place t.kept (up_to_own_end next t)
+        (first (up_to_own_next next t) others h))
+
+own-damage : (file : List ℕ) (choices : Choices) (damaged : List ℕ) → is_date choices.date ≡ true
+    → (d : HasOwnStretches file choices damaged)
+    → HasStretches (units_in d.before) (as_stretches choices.every d.before d.stretches) damaged
+own-damage file choices damaged dated d =
+    let settled : IsSettled (with_own d.before d.stretches) = subst IsSettled d.parts (file-settled file choices d.file_good) in
+    let good : AreGood (with_own d.before d.stretches) = subst AreGood d.parts (file-good file choices d.file_good) in
+    let front : AreGood d.before = good-up_to d.before d.stretches good in
+    subst (HasStretches (units_in d.before) (as_stretches choices.every d.before d.stretches)) (sym d.text) (record {
+      file = subst AreWholeFile (ap units_in d.parts ∙ sym (units-with choices.every d.before d.stretches))
+          (file-whole file choices d.file_good);
+      header = units-header d.before ∙ d.header;
+      text = begins-own choices d.before (own_text choices d.before d.stretches) dated front (started d.before d.header);
+      each = all-stretches choices d.before d.stretches d.each settled.in_place settled.none;
+      rest = stretches-cut choices d.before d.stretches d.each good d.header;
+    })
+
+pub own-rest : (file : List ℕ) (choices expanding : Choices) (damaged : List ℕ)
+    → is_date choices.date ≡ true → expanding.skip ≡ true → (d : HasOwnStretches file choices damaged)
+    → KeepsOwnRest file choices damaged d (expanded damaged expanding)
+own-rest file choices expanding damaged dated skips d =
+    let k = rest-kept (units_in d.before) (as_stretches choices.every d.before d.stretches) damaged expanding skips
+    (own-damage file choices damaged dated d) in
+    record {
+      lines = k.lines;
+      saves = saves-own choices.every d.before d.stretches k.lines
+          (subst AreInPlace d.parts (file-settled file choices d.file_good).in_place) k.saves;
+      warnings = k.warnings;
+      output = k.output ∙ ap (λ ls. lines_text (ls ++ k.lines)) (units-printed d.before);
+      messages = k.messages;
+      status = k.status;
+      fault = k.fault;
+    }

@@ -1,0 +1,110 @@
+-- What is known of the wild text's units and of its first epoch, by computation.
+use Rattle.crx_compact.proofs.Words.{◌≡◌, refl, ℕ, zero, suc, List, [], ◌∷◌, ◌++◌, Some, None, inl, pos}
+use Rattle.std.specs.Prelude.{codes}
+use Rattle.std.specs.Fmt.{digits}
+use Rattle.crx_base.specs.meaning.Lines.{lines_text}
+use Rattle.crx_text.specs.meaning.Codes.{coded_number}
+use Rattle.crx_text.specs.meaning.Numbers.{size_of, number_of, number_text}
+use Rattle.crx_filter.specs.meaning.Standard.{IsStandard}
+use Rattle.crx_filter.specs.meaning.UnitsAndText.{MakeAFile}
+use Rattle.crx_filter.proofs.wayback.Units.{read-units}
+use Rattle.crx_compact.specs.meaning.AnyWriter.{Arc, WrittenRow, WrittenEpoch, nothing_written, IsRowLine, MayFollow, arc_in, AreEpochLines}
+use Rattle.crx_filter.specs.meaning.{CompactText.AreLinesOf, Stretches.{AreLinesOn, up_to_end}}
+use Rattle.crx_laws.specs.WildText.{wild_stretch, full_lines, event, comment, wild_header}
+use Rattle.crx_laws.specs.WildText.{wild_units, wild_before, file, blanks, head_at, lines_before, first_lines_of, version, types_line, end_line}
+
+standard : IsStandard (lines_text file)
+unfolding digits size_of number_of number_text
+standard = record { good = refl; plain = refl; given_back = refl }
+
+pub make-file : MakeAFile wild_units
+unfolding digits size_of number_of number_text
+make-file = read-units (lines_text file) standard
+
+abbrev pub arc_one : Arc
+arc_one = record { order = 9; newest = pos 20000000000; older = [] }
+
+abbrev pub row_with : Arc → WrittenRow
+row_with arc = record { name = codes "G01"; arcs = Some arc ∷ []; flags = codes "  " }
+
+abbrev pub epoch_with : ℕ → Arc → WrittenEpoch
+epoch_with s arc = record { head = head_at s ++ blanks 6; clock = None; rows = row_with arc ∷ [] }
+
+first-follows : (place : ℕ) → MayFollow (arc_in None place) (arc_in (Some (row_with arc_one)) place)
+first-follows zero = inl refl
+first-follows (suc place) = tt
+
+pub first-row : IsRowLine None (row_with arc_one) (codes "9&0020000000000")
+unfolding coded_number digits
+first-row = record {
+  texts = codes "9&0020000000000" ∷ [];
+  marks = [];
+  spelled = refl;
+  written = refl;
+  marked = refl;
+  no_more = refl;
+  follows = first-follows;
+}
+
+pub first-epoch : AreEpochLines None (epoch_with 0 arc_one) first_lines_of
+first-epoch = (nothing_written, refl, record { marked = refl; spelled = refl; follows = tt; satellites = (first-row, tt) })
+
+abbrev pub header_lines : List (List ℕ)
+header_lines = version ∷ types_line ∷ end_line ∷ []
+
+-- the lines of the header, and with the first epoch
+pub lines-of_header : AreLinesOf wild_header header_lines None
+lines-of_header = (
+  None,
+  version ∷ types_line ∷ [],
+  end_line ∷ [],
+  (
+    None,
+    version ∷ [],
+    types_line ∷ [],
+    (None, [], version ∷ [], (refl, refl), refl, (refl, refl)),
+    refl,
+    (refl, refl),
+  ),
+  refl,
+  (refl, refl),
+)
+
+pub lines-before : AreLinesOf wild_before lines_before (Some (epoch_with 0 arc_one))
+lines-before =
+    (None, header_lines, first_lines_of, lines-of_header, refl, (epoch_with 0 arc_one, refl, refl, first-epoch))
+
+-- ---- the lines that are kept
+
+abbrev pub full_arc : Arc
+full_arc = record { order = 7; newest = pos 20000202000; older = [] }
+
+full-follows : (place : ℕ) → MayFollow (arc_in None place) (arc_in (Some (row_with full_arc)) place)
+full-follows zero = inl refl
+full-follows (suc place) = tt
+
+full-row : IsRowLine None (row_with full_arc) (codes "7&0020000202000  ")
+unfolding coded_number digits
+full-row = record {
+  texts = codes "7&0020000202000" ∷ [];
+  marks = [];
+  spelled = refl;
+  written = refl;
+  marked = refl;
+  no_more = refl;
+  follows = full-follows;
+}
+
+full-epoch : AreEpochLines None (epoch_with 2 full_arc) full_lines
+full-epoch = (nothing_written, refl, record { marked = refl; spelled = refl; follows = tt; satellites = (full-row, tt) })
+
+pub kept-lines : AreLinesOn (up_to_end wild_before wild_stretch) None wild_stretch.kept wild_stretch.lines
+    (Some (epoch_with 2 full_arc))
+kept-lines = (
+  None,
+  event ∷ comment ∷ [],
+  full_lines,
+  (None, event ∷ [], comment ∷ [], (None, [], event ∷ [], (refl, refl), refl, (refl, refl)), refl, (refl, refl)),
+  refl,
+  (epoch_with 2 full_arc, refl, refl, full-epoch),
+)
