@@ -6,6 +6,7 @@ import ctypes
 import os
 import sys
 import time
+from io import BytesIO
 
 from ._library import (
     BAD_DATE,
@@ -34,6 +35,9 @@ _MONTHS = "Jan Feb Mar Apr May Jun Jul Aug Sep Oct Nov Dec".split()
 
 # bytes of a message room at first: a fault and some warnings
 _LINES = 4096
+
+# bytes of a room for compact text at first, beside half of its input's: a header and some events, which are copied
+_ROOM = 65536
 
 CUT_OFF = "the last line has no line end: the file may be cut off"
 
@@ -97,28 +101,31 @@ def _view_of(data: BytesLike) -> memoryview:
     return memoryview(data if isinstance(data, (bytearray, memoryview)) else bytes_of(data))
 
 
+def _place_of(room: bytearray) -> object:
+    """Where a room begins. (A type of the room's whole length would be made anew for each length, which takes longer than a call.)"""
+    return ctypes.byref(ctypes.c_char.from_buffer(room)) if room else None
+
+
 class _Rooms:
-    """Two rooms for a call, and its answer."""
+    """Two rooms for calls, and the answer of the last one."""
 
     def __init__(self, output: int, messages: int) -> None:
         self.output = bytearray(output)
         self.messages = bytearray(messages)
         self.answer = Answer()
+        self._places = (_place_of(self.output), output, _place_of(self.messages), messages)
 
-    def arguments(self) -> List[object]:
+    def arguments(self) -> Tuple[object, ...]:
         """The last arguments of each call."""
-        places: List[object] = []
-        for room in (self.output, self.messages):
-            places += [(ctypes.c_char * len(room)).from_buffer(room) if room else None, len(room)]
-        return [*places, ctypes.byref(self.answer)]
+        return (*self._places, self.answer)
 
     def fit(self) -> bool:
         """Whether both texts are there whole."""
         return bool(self.answer.output_length <= len(self.output) and self.answer.messages_length <= len(self.messages))
 
-    def texts(self, output: int, messages: int) -> Tuple[bytes, bytes]:
-        """So many bytes of both texts."""
-        return bytes(memoryview(self.output)[:output]), bytes(memoryview(self.messages)[:messages])
+    def texts(self, output: int, messages: int) -> Tuple[memoryview, bytes]:
+        """So many bytes of both texts; those of the output until the next call."""
+        return memoryview(self.output)[:output], bytes(memoryview(self.messages)[:messages])
 
 
 def filled(call: Callable[..., int], arguments: List[object], output: int) -> _Rooms:
@@ -151,7 +158,7 @@ def warn(text: str) -> None:
 
 def _warn_of(lines: bytes, tell: Callable[[str], None] = warn) -> None:
     """Tells the warnings among whole lines of messages."""
-    for line in lines.decode("ascii").splitlines():
+    for line in lines.decode("ascii").splitlines() if lines else ():
         if line.startswith("WARNING "):
             tell(line[len("WARNING ") :])
 
@@ -176,7 +183,8 @@ def _error_of(answer: Answer, output: bytes) -> Optional[Exception]:
 
 def output_of(rooms: _Rooms) -> bytes:
     """The output; raises the error and issues the warnings of a call."""
-    output, lines = rooms.texts(rooms.answer.output_length, rooms.answer.messages_length)
+    view, lines = rooms.texts(rooms.answer.output_length, rooms.answer.messages_length)
+    output = bytes(view)
     _warn_of(lines)
     error = _error_of(rooms.answer, output)
     if error is not None:
@@ -251,8 +259,8 @@ def rnx2crx(
     """
     content = content_of(data)
     options = _options_of(skip_strange_epochs, max_length, reinit_every_nth, _dated(date))
-    arguments = [content, len(content), ctypes.byref(options)]
-    return output_of(filled(LIBRARY.rnxcmp_compact, arguments, _room_for(len(content) + 4096, max_length)))
+    arguments = [content, len(content), options]
+    return output_of(filled(LIBRARY.rnxcmp_compact, arguments, _room_for(_ROOM + len(content) // 2, max_length)))
 
 
 def crx2rnx(data: Content, *, skip_strange_epochs: bool = False, max_length: Optional[int] = USUAL) -> bytes:
@@ -269,15 +277,10 @@ def crx2rnx(data: Content, *, skip_strange_epochs: bool = False, max_length: Opt
     limit = limit_for(len(content), max_length)
     with Stream.expanding(skip_strange_epochs=skip_strange_epochs, max_length=limit) as stream:
         try:
-            return _joined(_all_outputs(stream, content))
+            return _joined(stream._made_in_all(content))
         except OutputLimitError as error:
             error.output = b""
             raise
-
-
-def _all_outputs(stream: Stream, content: bytes) -> Iterator[bytes]:
-    yield from stream.outputs(content)
-    yield from stream.last_outputs()
 
 
 class Stream:
@@ -306,7 +309,7 @@ class Stream:
         self._is_given = True  # whether all outputs that were asked for are given
         self.on_warning: Callable[[str], None] = warn  # what is called with each warning
         answer = Answer()
-        opening(ctypes.byref(self._handle), *arguments, ctypes.byref(answer))
+        opening(self._handle, *arguments, answer)
         error = _error_of(answer, b"")
         if error is not None:
             raise error
@@ -322,61 +325,92 @@ class Stream:
     ) -> "Stream":
         """Compacts, with the choices of :func:`rnx2crx`."""
         options = _options_of(skip_strange_epochs, max_length, reinit_every_nth, _dated(date))
-        return cls(LIBRARY.rnxcmp_open_compact, [ctypes.byref(options)])
+        return cls(LIBRARY.rnxcmp_open_compact, [options])
 
     @classmethod
     def expanding(cls, *, skip_strange_epochs: bool = False, max_length: Optional[int] = None) -> "Stream":
         """Expands, with the choices of :func:`crx2rnx`."""
         options = _options_of(skip_strange_epochs, max_length)
-        return cls(LIBRARY.rnxcmp_open_expand, [ctypes.byref(options)])
+        return cls(LIBRARY.rnxcmp_open_expand, [options])
 
     @classmethod
     def checking(cls) -> "Stream":
         """Checks: the output is the text of the report, after the end."""
         return cls(LIBRARY.rnxcmp_open_check, [])
 
-    def _fed(self, piece: bytes) -> Tuple[int, Answer]:
-        """Feeds bytes: how many were taken, and the answer."""
+    def _fed(self, piece: Optional[Union[bytes, int]], length: int) -> Tuple[int, Answer]:
+        """Feeds so many bytes, which are given or where they begin: how many were taken, and the answer."""
         used, answer = ctypes.c_size_t(), Answer()
-        LIBRARY.rnxcmp_feed(ctypes.byref(self._handle), piece, len(piece), ctypes.byref(used), ctypes.byref(answer))
+        LIBRARY.rnxcmp_feed(self._handle, piece, length, used, answer)
         return used.value, answer
 
     def _demand_open(self) -> None:
         """Raises an error where no more can be fed."""
-        error = _error_of(self._fed(b"")[1], b"")
+        error = _error_of(self._fed(None, 0)[1], b"")
         if error is not None:
             raise error
         if not self._is_given:
             raise ValueError("the outputs of an earlier call weren't taken to their end")
 
-    def _taken(self, answer: Answer) -> Iterator[bytes]:
-        """What is ready, a room at a time; then raises the error of the answer, and issues warnings as they come."""
+    def _taken(self, answer: Answer) -> Iterator[memoryview]:
+        """What is ready, a room at a time, each until the next; then raises the error of the answer, and issues warnings as they come."""
         rooms, ready = self._rooms, answer
         while ready.output_length or ready.messages_length:
             rooms.answer = Answer()
-            LIBRARY.rnxcmp_take(ctypes.byref(self._handle), *rooms.arguments())
+            LIBRARY.rnxcmp_take(self._handle, *rooms.arguments())
             if rooms.answer.status == MISUSED:
                 raise ValueError("the run was closed before all outputs were taken")
             output, lines = rooms.texts(
                 ready.output_length - rooms.answer.output_length, ready.messages_length - rooms.answer.messages_length
             )
             ready = rooms.answer
-            whole, end, self._line = (self._line + lines).rpartition(b"\n")
-            _warn_of(whole + end, self.on_warning)
+            if lines:
+                whole, end, self._line = (self._line + lines).rpartition(b"\n")
+                _warn_of(whole + end, self.on_warning)
             if output:
                 yield output
         error = _error_of(answer, b"")
         if error is not None:
             raise error
 
-    def _outputs(self, view: memoryview) -> Iterator[bytes]:
-        """Feeds bytes, and gives what they make."""
-        at = 0
-        while at < len(view):
-            used, answer = self._fed(bytes(view[at : at + READY]))
+    def _made(self, view: memoryview) -> Iterator[memoryview]:
+        """Feeds bytes, and gives what they make, each part until the next."""
+        at, length, source = 0, len(view), view.obj
+        # Bytes that can't change are fed where they are.
+        held = ctypes.c_char_p(source) if isinstance(source, bytes) and len(source) == length else None
+        place = ctypes.cast(held, ctypes.c_void_p).value
+        while at < length:
+            if place is None:
+                piece = bytes(view[at : at + READY])
+                used, answer = self._fed(piece, len(piece))
+            else:
+                used, answer = self._fed(place + at, length - at)
             at += used
             yield from self._taken(answer)
         self._is_given = True
+
+    def _ended(self) -> Answer:
+        """Takes the end of the input: the answer."""
+        answer = Answer()
+        LIBRARY.rnxcmp_end(self._handle, answer)
+        return answer
+
+    def _made_in_all(self, content: bytes) -> Iterator[memoryview]:
+        """Feeds a whole input to a run that was opened for it, and gives what it makes, each part until the next."""
+        yield from self._made(memoryview(content))
+        yield from self._taken(self._ended())
+
+    def _begun(self, data: BytesLike) -> Iterator[memoryview]:
+        """What :meth:`outputs` gives, each part until the next."""
+        view = _view_of(data)
+        self._demand_open()
+        self._is_given = False
+        return self._made(view)
+
+    def _begun_last(self) -> Iterator[memoryview]:
+        """What :meth:`last_outputs` gives, each part until the next."""
+        self._demand_open()
+        return self._taken(self._ended())
 
     def outputs(self, data: BytesLike) -> Iterator[bytes]:
         """Takes bytes of the input, which may end anywhere, and gives what is ready of the output in parts of at most 65536 bytes.
@@ -384,29 +418,24 @@ class Stream:
         It feeds as much as the parts need that are asked for, and keeps no more. Before the next call all of them have to be taken;
         else that call raises a ``ValueError``. The bytes mustn't change until then.
         """
-        view = _view_of(data)
-        self._demand_open()
-        self._is_given = False
-        return self._outputs(view)
+        return map(bytes, self._begun(data))
 
     def last_outputs(self) -> Iterator[bytes]:
         """Takes the end of the input, and gives the rest of the output in parts of at most 65536 bytes."""
-        self._demand_open()
-        answer = Answer()
-        LIBRARY.rnxcmp_end(ctypes.byref(self._handle), ctypes.byref(answer))
-        return self._taken(answer)
+        return map(bytes, self._begun_last())
 
     def feed(self, data: BytesLike) -> bytes:
         """Takes bytes of the input, which may end anywhere; gives what is ready of the output."""
-        return _joined(self.outputs(data))
+        return _joined(self._begun(data))
 
     def end(self) -> bytes:
         """Takes the end of the input; gives the rest of the output."""
-        return _joined(self.last_outputs())
+        return _joined(self._begun_last())
 
     def close(self) -> None:
         """Frees what it holds."""
-        LIBRARY.rnxcmp_close(ctypes.byref(self._handle))
+        if self._handle.is_open:
+            LIBRARY.rnxcmp_close(self._handle)
 
     def __enter__(self) -> "Stream":
         return self
@@ -419,16 +448,16 @@ class Stream:
             self.close()
 
 
-def _joined(parts: Iterator[bytes]) -> bytes:
+def _joined(parts: Iterator[memoryview]) -> bytes:
     """All parts of an output; an error among them has those before it."""
-    output: List[bytes] = []
+    output = BytesIO()  # which makes no second copy of what it gives
     try:
         for part in parts:
-            output.append(part)
+            output.write(part)
     except RnxcmpError as error:
-        error.output = b"".join(output)
+        error.output = output.getvalue()
         raise
-    return b"".join(output)
+    return output.getvalue()
 
 
 def version() -> str:

@@ -55,7 +55,7 @@ def _opened() -> ctypes.CDLL:
     beside = os.path.join(os.path.dirname(os.path.realpath(__file__)), _NAME)
     library = ctypes.CDLL(named or (beside if os.path.exists(beside) else _NAME))
     room: List[Any] = [ctypes.c_void_p, ctypes.c_size_t]
-    content: List[Any] = [ctypes.c_char_p, ctypes.c_size_t]
+    content: List[Any] = [ctypes.c_void_p, ctypes.c_size_t]
     options, answer, handle = ctypes.POINTER(Options), ctypes.POINTER(Answer), ctypes.POINTER(Handle)
     calls: List[Tuple[Any, List[Any]]] = [
         (library.rnxcmp_compact, [*content, options, *room, *room, answer]),
