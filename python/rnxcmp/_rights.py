@@ -8,16 +8,53 @@ import stat
 
 TYPE_CHECKING = False
 if TYPE_CHECKING:
-    from typing import Optional
+    from typing import Any, Optional
 
 _LIST = "system.posix_acl_access"
+_LONGEST = 65536  # bytes that an attribute has at most
 _NO_LIST = (errno.ENODATA, errno.EOPNOTSUPP, errno.ENOSYS)
+
+
+class _Calls:
+    """The calls for attributes of open files, by the C library. Pythons that were made with musl may have none."""
+
+    def __init__(self) -> None:
+        import ctypes
+
+        self._ctypes, self._library = ctypes, ctypes.CDLL(None, use_errno=True)
+
+    def _done(self, name: str, *words: Any) -> int:
+        call = getattr(self._library, name, None)
+        if call is None:
+            raise OSError(errno.ENOSYS, os.strerror(errno.ENOSYS))
+        call.restype = self._ctypes.c_ssize_t if name == "fgetxattr" else self._ctypes.c_int
+        size = call(*words)
+        if size < 0:
+            raise OSError(self._ctypes.get_errno(), os.strerror(self._ctypes.get_errno()))
+        return int(size)
+
+    def getxattr(self, file: int, name: str) -> bytes:
+        room = self._ctypes.create_string_buffer(_LONGEST)
+        size = self._done("fgetxattr", file, name.encode(), room, self._ctypes.c_size_t(_LONGEST))
+        return bytes(room.raw[:size])
+
+    def setxattr(self, file: int, name: str, value: bytes) -> None:
+        self._done("fsetxattr", file, name.encode(), value, self._ctypes.c_size_t(len(value)), 0)
+
+    def removexattr(self, file: int, name: str) -> None:
+        self._done("fremovexattr", file, name.encode())
+
+
+def _calls() -> Any:
+    """What has the calls for attributes: Python itself, or else the C library."""
+    return os if hasattr(os, "getxattr") else _Calls()
 
 
 def list_of(file: int) -> Optional[bytes]:
     """The access control list of an open file, if it has one; no bytes where it has one that can't be read."""
     try:
-        return os.getxattr(file, _LIST)
+        found: bytes = _calls().getxattr(file, _LIST)
+        return found
     except OSError as error:
         return None if error.errno in _NO_LIST else b""
 
@@ -28,9 +65,9 @@ def _is_set(file: int, rights: Optional[bytes]) -> bool:
         return False
     try:
         if rights is not None:
-            os.setxattr(file, _LIST, rights)
+            _calls().setxattr(file, _LIST, rights)
         elif list_of(file) is not None:
-            os.removexattr(file, _LIST)
+            _calls().removexattr(file, _LIST)
     except OSError:
         return False
     return True

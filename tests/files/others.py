@@ -355,6 +355,10 @@ OF_A_USER = access_list((1, 6, NOBODY), (2, 4, 12345), (4, 0, NOBODY), (16, 4, N
 WIDE = access_list((1, 7, NOBODY), (2, 6, 12345), (4, 6, NOBODY), (16, 6, NOBODY), (32, 4, NOBODY))
 
 
+# A Python that was made with musl has no calls for lists.
+NO_CALLS = "del os.getxattr, os.setxattr, os.removexattr"
+
+
 def list_of(path):
     try:
         return os.getxattr(path, ACCESS)
@@ -366,7 +370,7 @@ def access_lists(texts):
     """An output has the list of its input; where it can't have it, its owner alone has rights. It has none of its folder's."""
     wrong = []
     refused = "def refuse(*_):\n    raise OSError(95, 'x')\nos.setxattr = refuse"
-    for script, wanted, mode in (("", OF_A_USER, 0o640), (refused, None, 0o600)):
+    for script, wanted, mode in (("", OF_A_USER, 0o640), (NO_CALLS, OF_A_USER, 0o640), (refused, None, 0o600)):
         with Place() as place:
             source = place.write("a.rnx", GOOD)
             source.chmod(0o600)
@@ -377,6 +381,11 @@ def access_lists(texts):
             run = changed(place, script, "rnx2crx", "a.rnx")
             output = place.work / "a.crx"
             wrong += differs(run, 0) + ([] if (list_of(output), stat.S_IMODE(output.stat().st_mode)) == (wanted, mode) else [f"{list_of(output)}, {output.stat()}"])
+    return wrong + inherited_list("") + inherited_list(NO_CALLS)
+
+
+def inherited_list(script):
+    """An output has no list of its folder's."""
     with Place() as place:
         os.setxattr(place.work, INHERITED, WIDE)
         source = place.work / "a.rnx"
@@ -384,10 +393,10 @@ def access_lists(texts):
         if list_of(source):
             os.removexattr(source, ACCESS)
         source.chmod(0o640)
-        run = place.run_in_child("rnx2crx", "a.rnx")
+        run = changed(place, script, "rnx2crx", "a.rnx")
         output = place.work / "a.crx"
-        wrong += differs(run, 0) + ([] if (list_of(output), stat.S_IMODE(output.stat().st_mode)) == (None, 0o640) else [f"inherited: {list_of(output)}, {output.stat()}"])
-    return wrong
+        found = list_of(output), stat.S_IMODE(output.stat().st_mode)
+        return differs(run, 0) + ([] if found == (None, 0o640) else [f"inherited: {found}"])
 
 
 # ---- waiting
