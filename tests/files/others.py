@@ -125,7 +125,9 @@ def foreign_folders():
         yield "another owner", lambda path: folder(path, 0o700, 65534, (f"part.{HOST}.{GONE}.{NUMBER}",))
     yield "a file", lambda path: path.write_bytes(b"file")
     yield "a pipe", os.mkfifo
-    yield "a link", lambda path: ((path.parent / "elsewhere").mkdir(), path.symlink_to("elsewhere"))
+    yield "a link", lambda path: (
+        folder(path.parent / "elsewhere", 0o700, names=(f"part.{HOST}.{GONE}.{NUMBER}",)), path.symlink_to("elsewhere")
+    )  # fmt: skip
 
 
 def states(path):
