@@ -1,14 +1,14 @@
 #!/usr/bin/env python3
 """The lines of README.md and of docs/USE.md that install a release and use it, in roots of other systems, as they are printed:
 
-    tests/machines/roots.py DIST ROOTS [--only NAME ..] [--mirror URL]
+    tests/machines/roots.py DIST ROOTS [--only NAME ..] [--mirror URL] [--musl-python PYTHON]
 
 DIST is what `make dist` makes, for x86-64-v2, aarch64 and windows. ROOTS is a folder for roots of Debian 11, Debian 12 and Debian 12 on 64-bit
 ARM: where one isn't there, debootstrap makes it, from a mirror of Debian's packages, and later runs take it as it is. The other roots
 are made here: busybox alone, an empty environment of Python, and Wine's folder. All is done in copies. What a system lacks is said, with the
 lines that need it. Wheels are installed by pip. There is no Python of musl or Windows here: so this machine's pip unpacks
-the wheels of those, and their programs and libraries are used without Python. It needs root. The last line is
-`N passed, M failed`.
+the wheels of those, and their programs and libraries are used without Python. Where there is a Python that was made with
+musl, its path can be given: the wheel is then installed there too. It needs root. The last line is `N passed, M failed`.
 """
 
 import argparse
@@ -209,6 +209,21 @@ def check_venv(folder, dist, program):
     return run_in([], lines, cwd=home) or left(home)
 
 
+def check_musl_python(python, folder, dist, program):
+    """The wheel for musl in an environment of a Python that was made with musl; this machine's pip installs it."""
+    if not python:
+        return "--musl-python names no Python"
+    place = folder / "musl-environment"
+    home = place / "home"
+    wheel = next(dist.glob("*-musllinux_1_2_x86_64.whl"))
+    subprocess.run([python, "-m", "venv", "--without-pip", place], check=True, capture_output=True, timeout=SECONDS)
+    home.mkdir()
+    prepare(home, program)
+    shell, blocks_of_python = using()
+    installs = f"'{sys.executable}' -m pip --python '{place}/bin/python' install {QUIETLY} '{wheel}'"
+    return run_in([], [installs, f'PATH="{place}/bin:$PATH"', *shell, *as_scripts(blocks_of_python)], cwd=home) or left(home)
+
+
 def in_cmd(words, place, line, home):
     """A line by Windows' own shell, where a folder's programs are found."""
     command = f"set PATH=Z:{place};%PATH%&& {line}"
@@ -304,7 +319,7 @@ def of_suite(name, roots, folder, dist, program, mirror):
         yield f"{name}: the wheel", lambda: check_wheel(root, name)
 
 
-def checks(dist, roots, folder, mirror, only):
+def checks(dist, roots, folder, mirror, only, musl_python):
     subprocess.run(["tar", "-xzf", dist / f"rnxcmp-{VERSION}-linux-x86_64.tar.gz", "-C", folder], check=True, timeout=SECONDS)
     program = folder / f"rnxcmp-{VERSION}-linux-x86_64/bin/rnxcmp"
     for name in SUITES:
@@ -315,6 +330,8 @@ def checks(dist, roots, folder, mirror, only):
         ("musl", "the wheel", check_musl_wheel, ("musl-gcc",)), ("wine", "the printed lines", check_wine, ("wine", "unzip")),
         ("wine", "the wheel", check_windows_wheel, ("wine", MACHINES[-1].compiler)),
     )  # fmt: skip
+    if "musl" in only:
+        yield "musl: the wheel, in a Python of musl", lambda: check_musl_python(musl_python, folder, dist, program)
     for name, title, check, tools in others:
         if name in only:
             yield f"{name}: {title}", lambda check=check, tools=tools: lacking(tools) or check(folder, dist, program)
@@ -327,12 +344,14 @@ def main():
     parser.add_argument("roots", type=Path)
     parser.add_argument("--only", nargs="+", choices=names, default=names)
     parser.add_argument("--mirror", default="http://deb.debian.org/debian", help="where Debian's packages are (%(default)s)")
+    parser.add_argument("--musl-python", help="a Python that was made with musl")
     arguments = parser.parse_args()
     if os.geteuid():
         print("only root may make a root of another system")
         return 1
     with tempfile.TemporaryDirectory(prefix="roots-") as name:
-        passed, failed = tally("root", checks(arguments.dist.resolve(), arguments.roots.resolve(), Path(name), arguments.mirror, arguments.only))
+        places = arguments.dist.resolve(), arguments.roots.resolve(), Path(name)
+        passed, failed = tally("root", checks(*places, arguments.mirror, arguments.only, arguments.musl_python))
     print(f"{passed} passed, {failed} failed")
     return 1 if failed else 0
 

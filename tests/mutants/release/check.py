@@ -49,13 +49,13 @@ def made_twice(folder):
 
 def of_machine(machine, folder):
     """A machine's program and library, made by the copy's scripts, beside the program that make built."""
-    name = machine.name
+    name, place = machine.name, folder / "one-machines"  # where release.made makes them too
     objects = [made / "out/machines" / path for path in release.OBJECTS[name]]
-    words = [copy / "packaging/machine.sh", name, *objects, folder / name / "built"]
-    run = subprocess.run(words, capture_output=True, text=True, timeout=release.SECONDS)
-    if run.returncode:
+    words = [copy / "packaging/machine.sh", name, *objects, place / name / "built"]
+    run = None if (place / name).exists() else subprocess.run(words, capture_output=True, text=True, timeout=release.SECONDS)
+    if run and run.returncode:
         raise RuntimeError(run.stderr.strip())
-    machines.MADE, of_machines.COMPARISONS = folder, 0
+    machines.MADE, of_machines.COMPARISONS = place, 0
     for title, check in of_machines.of_machine(machine, program):
         if title != "cases" and not title.startswith("arguments"):
             yield f"{name}, {title}", check
