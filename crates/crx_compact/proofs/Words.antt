@@ -27,7 +27,7 @@ pub use Rattle.crx_compact.specs.Placing.{IsRowRead, OpenHistory, tail_of_histor
 pub use Rattle.crx_compact.specs.Placing.{PlacedRows, row_or_blank, HasRoom, HaveTypesRoom, HaveRoom, HasCome}
 pub use Rattle.crx_compact.specs.Placing.{row_of_parts, padded_among, KeepsRooms, padded, empty_row}
 pub use Rattle.crx_compact.specs.PrintedBlocks.{lines_to}
-pub use Rattle.crx_compact.specs.ReadingLaws.{HasSingleLines, raw_row, raw_of, raws_of, Forgets, is_wanted}
+pub use Rattle.crx_compact.specs.ReadingLaws.{HasSingleLines, Forgets, is_wanted}
 pub use Rattle.crx_compact.specs.ReadingRooms.{HeldColumns}
 pub use Rattle.crx_compact.specs.RowsSoFar.{AreAnnounced, AreRowsSoFar, NamesSatellites}
 pub use Rattle.crx_compact.specs.ShownRows.{shown_epoch, shown_row}

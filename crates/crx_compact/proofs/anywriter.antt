@@ -4,5 +4,6 @@ pub mod Texts
 pub mod Rows
 pub mod Epochs
 pub mod Own
+pub mod OwnReading
 pub mod OnlyRows
 pub mod OnlyEpochs

@@ -60,17 +60,21 @@ ReadsAnyRow = (before : WrittenEpoch) (now : WrittenRow) (line : List ℕ)
 -- ---- an epoch
 
 -- the lines of an epoch are read as that epoch, whatever lines follow and whatever raw epochs are before, where these left what the
--- epoch before does; and the epoch leaves its tail
+-- epoch before does, if the lines go on from one; and the epoch leaves its tail
 pub record EpochReads (types : List Count) (raws : List RawEpoch) (now : WrittenEpoch) (lines : List (List ℕ)) : Type 0 where
   pub raw : RawEpoch
   pub reads : (rest : List ReadLine) → epoch_at types raws (map Content lines ++ rest)
       ≡ Done (record { raw = raw; epoch = epoch_now now }) (2 + length now.rows)
   pub leaves : tail_left (raw ∷ raws) ≡ Some (epoch_left now)
 
+-- a tail is that of the epoch that lines may go on from, if there is one; where there is none, it may be any
+abbrev pub IsLeft : Option WrittenEpoch → Option Tail → Type 0
+IsLeft before tail = (b : WrittenEpoch) → before ≡ Some b → tail ≡ Some (epoch_left b)
+
 abbrev pub ReadsAnyEpoch : Type 0
 ReadsAnyEpoch = (types : List Count) (before : Option WrittenEpoch) (raws : List RawEpoch) (now : WrittenEpoch) (lines : List (List ℕ))
-    → tail_left raws ≡ option_map epoch_left before
-    → IsWholeEpoch types (epoch_now now) → AreEpochLines before now lines → EpochReads types raws now lines
+    → IsLeft before (tail_left raws) → IsWholeEpoch types (epoch_now now) → AreEpochLines before now lines
+    → EpochReads types raws now lines
 
 -- ---- the converse: each line that is read is one that some writer may write
 

@@ -3,18 +3,15 @@ use Rattle.std.specs.Prelude.{◌≡◌, ℕ, ◌+◌, Bool, true, false, ◌||�
 use Rattle.std.specs.Prelude.{IfSome, Ok, ⊤}
 use Rattle.std.specs.List.{list_all, AllByRecursion}
 use Rattle.std.specs.Option.{is_some}
-use Rattle.crx_text.specs.meaning.Texts.{text_difference}
 use Rattle.crx_base.specs.meaning.Lines.{is_printable}
 use Rattle.crx_base.specs.meaning.AsRead.{ReadLine, Content}
-use Rattle.crx_rinex.specs.meaning.Observations.{Row}
 use Rattle.crx_header.specs.meaning.ObservationTypes.{Count}
 use Rattle.crx_header.specs.ObservationTypes.{AreCounts}
 use Rattle.crx_rinex.specs.meaning.Places.{Place, Done, Fails, NeedsMore, then_place}
-use Rattle.crx_base.specs.declared.limits.TheConstants.{WRITTEN_ORDER, ORDER_LIMIT}
+use Rattle.crx_base.specs.declared.limits.TheConstants.{ORDER_LIMIT}
 use Rattle.crx_rinex.specs.meaning.Epochs.{IsWholeEpoch}
-use Rattle.crx_compact.specs.meaning.Differences.{code_at}
-use Rattle.crx_compact.specs.meaning.Compaction.{Marked, since_full, run_of, clock_arc, codes_of, indicators_before}
-use Rattle.crx_compact.specs.meaning.Compaction.{epoch_line, compact_epoch}
+use Rattle.crx_compact.specs.meaning.Compaction.{Marked, since_full}
+use Rattle.crx_compact.specs.meaning.Compaction.{compact_epoch}
 use Rattle.crx_compact.specs.meaning.Expansion.{RawRow, RawEpoch, block_of, raw_row_named}
 use Rattle.crx_compact.specs.Expansion.{epoch_from}
 use Rattle.crx_compact.specs.meaning.CompactPlaces.{ReadEpoch, epoch_at}
@@ -27,49 +24,24 @@ use Rattle.crx_compact.specs.Laws.{AreWhole}
 
 -- ---- reading what was written
 
--- how the line of a satellite reads: its codes and marks
-abbrev pub raw_row : List Row → Row → RawRow
-raw_row run row =
-    record {
-      name = row.name;
-      codes = codes_of (length row.values) run;
-      marks = text_difference (indicators_before run) row.flags;
-    }
-
--- how the compact lines of the newest epoch read
-abbrev pub raw_of : Marked → List Marked → RawEpoch
-raw_of m older =
-    record {
-      line = epoch_line m older;
-      clock = code_at WRITTEN_ORDER (clock_arc (m ∷ older));
-      rows = map (λ (r : Row). raw_row (run_of r.name (m ∷ older)) r) m.epoch.rows;
-    }
-
-abbrev pub raws_of : List Marked → List RawEpoch
-raws_of [] = []
-raws_of (m ∷ older) = raw_of m older ∷ raws_of older
-
--- how an epoch that was written is read
-abbrev pub read_of : Marked → List Marked → ReadEpoch
-read_of m older = record { raw = raw_of m older; epoch = m.epoch }
-
 -- the compact lines of an epoch, as a reader of lines gives them
 abbrev pub lines_of_epoch : List Marked → List ReadLine
 lines_of_epoch epochs = map Content (compact_epoch epochs)
 
--- the compact lines of an epoch read as that epoch, whatever lines follow, and the reader's block is then that of the
--- epochs written so far; where the epochs since the latest full one are whole by the counts of types in force, and the
--- reader's block is that of the epochs before. Before an epoch in full the reader's block may be any
+-- the compact lines of an epoch read as that epoch, whatever lines follow, and leave the tail that the writer
+-- has; where the epochs since the latest full one are whole by the counts of types in force, and the raw
+-- epochs before leave the tail of the epochs before. Before an epoch in full the raw epochs may be any
 pub record EpochReadsBack (types : List Count) (m : Marked) (older : List Marked) (raws : List RawEpoch) : Type 0 where
-  pub reads : (rest : List ReadLine)
-      → epoch_at types raws (lines_of_epoch (m ∷ older) ++ rest) ≡ Done (read_of m older) (2 + length m.epoch.rows)
-  pub block : block_of (raw_of m older ∷ raws) ≡ block_of (raws_of (m ∷ older))
+  pub raw : RawEpoch
+  pub reads : (rest : List ReadLine) → epoch_at types raws (lines_of_epoch (m ∷ older) ++ rest)
+      ≡ Done (record { raw = raw; epoch = m.epoch }) (2 + length m.epoch.rows)
+  pub tail : tail_left (raw ∷ raws) ≡ Some (tail_of (m ∷ older))
 
 abbrev pub EachReadsBack : Type 0
 EachReadsBack =
     (types : List Count) (m : Marked) (older : List Marked) (raws : List RawEpoch)
     → AreWhole types (since_full (m ∷ older))
-    → (m.in_full ≡ false → block_of raws ≡ block_of (raws_of older)) → EpochReadsBack types m older raws
+    → (m.in_full ≡ false → tail_left raws ≡ tail_or_nothing older) → EpochReadsBack types m older raws
 
 -- the compact text of some epochs, the oldest one's lines first
 abbrev pub text_lines : List Marked → List (List ℕ)
@@ -101,17 +73,16 @@ abbrev pub AreWholeByTypes : List TypedEpoch → Type 0
 AreWholeByTypes [] = ⊤
 AreWholeByTypes (t ∷ older) = AreWhole t.types (since_full (marked_of (t ∷ older))) × AreWholeByTypes older
 
--- how some epochs read, each after those before it
-abbrev pub reads_of : List Marked → List ReadEpoch
-reads_of [] = []
-reads_of (m ∷ older) = read_of m older ∷ reads_of older
+-- reading the compact text of a list of epochs gives these epochs, and leaves the tail that the writer has
+pub record EpochsReadBack (epochs : List TypedEpoch) : Type 0 where
+  pub reads : List ReadEpoch
+  pub all : (rest : List ReadLine) → epochs_at (counts_of epochs) (map Content (text_lines (marked_of epochs)) ++ rest)
+      ≡ Done reads (length (text_lines (marked_of epochs)))
+  pub epochs_are : map (λ (r : ReadEpoch). r.epoch) reads ≡ map (λ (m : Marked). m.epoch) (marked_of epochs)
+  pub tail : tail_left (map (λ (r : ReadEpoch). r.raw) reads) ≡ tail_or_nothing (marked_of epochs)
 
--- reading the compact text of a list of epochs gives these epochs
 abbrev pub ReadsBack : Type 0
-ReadsBack =
-    (epochs : List TypedEpoch) (rest : List ReadLine) → AreWholeByTypes epochs
-    → epochs_at (counts_of epochs) (map Content (text_lines (marked_of epochs)) ++ rest)
-    ≡ Done (reads_of (marked_of epochs)) (length (text_lines (marked_of epochs)))
+ReadsBack = (epochs : List TypedEpoch) → AreWholeByTypes epochs → EpochsReadBack epochs
 
 -- ---- what is read
 
@@ -179,11 +150,14 @@ pub record Forgets (types : List Count) (older : List RawEpoch) (line : List ℕ
   pub block : (read : ReadEpoch) (count : ℕ) → epoch_at types older (Content line ∷ lines) ≡ Done read count
       → block_of (read.raw ∷ older) ≡ read.raw ∷ []
 
--- the tail of what was written is the tail of its block as it is read
+-- the tail of what was written is what its lines leave, wherever they are read
 abbrev pub OneTail : Type 0
 OneTail =
-    (types : List Count) (m : Marked) (older : List Marked) → AreWhole types (since_full (m ∷ older))
-    → tail_left (raws_of (m ∷ older)) ≡ tail_or_nothing (m ∷ older)
+    (types : List Count) (m : Marked) (older : List Marked) (raws : List RawEpoch) (rest : List ReadLine)
+    (read : ReadEpoch) (count : ℕ) → AreWhole types (since_full (m ∷ older))
+    → (m.in_full ≡ false → tail_left raws ≡ tail_or_nothing older)
+    → epoch_at types raws (lines_of_epoch (m ∷ older) ++ rest) ≡ Done read count
+    → tail_left (read.raw ∷ raws) ≡ Some (tail_of (m ∷ older))
 
 -- ---- line by line
 

@@ -1,7 +1,7 @@
 -- What runs bring back, save and judge follows from what they are, by the laws.
 use Rattle.crx_filter.proofs.Words.{common_steps, arith, ℕ, ◌≡◌, List, ◌++◌, Option, None, sym, subst, ◌∙◌}
 use Rattle.crx_filter.proofs.Words.{lines_of, At, Choices, compacted, expanded, FilterResult, findings_of}
-use Rattle.crx_filter.proofs.{Words.{checked_by, checked, Device, IsResult}, damage.DamageStays.saved-lines}
+use Rattle.crx_filter.proofs.{Words.{checked_by, checked, Device, IsResult}, damage.DamageStays.all-saved}
 use Rattle.crx_filter.proofs.standard.CheckStandard.{named-where_not, standard-exactly_where_same}
 use Rattle.crx_filter.proofs.anywriter.ComesBack.{normal-comes_back, standard-comes_back, comes-back}
 use Rattle.crx_filter.specs.meaning.Lossless.{WritesOutputOf}
@@ -44,8 +44,8 @@ brings-back expanding writer messages status fault text ran file compacting date
 pub saves-all_else : (expanding : Choices) (writer messages : Device) (status : ℕ) (fault : Option At)
     (damaged : List ℕ) → IsResult (expanded damaged expanding) writer messages status fault → SavesAllElse
     expanding writer messages status fault damaged
-saves-all_else expanding writer messages status fault damaged ran file compacting dated skips damage =
-    (expanded damaged expanding, saved-lines file compacting expanding damaged dated skips damage, ran)
+saves-all_else expanding writer messages status fault damaged ran before s skips damage =
+    (expanded damaged expanding, all-saved before s damaged expanding skips damage, ran)
 
 -- ---- standard files
 

@@ -64,8 +64,8 @@ pub use Rattle.crx_filter.specs.declared.rinex_reader.RinexStep.TheVariants.{Not
 pub use Rattle.crx_filter.specs.declared.stage.Stage.{Stage, TheVariants.Open}
 pub use Rattle.crx_filter.specs.meaning.Compacted.{compact_unit, rinex_place, epochs_accepted, is_at_every}
 pub use Rattle.crx_filter.specs.meaning.Compacted.{is_in_full, marked_epochs, whole_rinex, compact_lines}
-pub use Rattle.crx_filter.specs.meaning.{Compacted.{compacted, is_interrupted}, Damage.BeginsAnew}
-pub use Rattle.crx_filter.specs.meaning.Damage.{lines_of_epochs, with_epochs, IsDamaged, lines_after}
+pub use Rattle.crx_filter.specs.{meaning.{Compacted.{compacted, is_interrupted}, Accounts.with_epochs}, Damage.BeginsAnew}
+pub use Rattle.crx_filter.specs.Damage.{lines_of_epochs, lines_after}
 pub use Rattle.crx_filter.specs.meaning.Directions.{rinex_reading, compact_reading, compaction_filter}
 pub use Rattle.crx_filter.specs.meaning.Directions.{expansion_filter, compact_memory, course_so_far}
 pub use Rattle.crx_filter.specs.meaning.{Directions.check_filter, Expanded.{expanded_unit, whole_compact}}

@@ -3,7 +3,9 @@ pub mod CutOff
 pub mod BlockReading
 pub mod GoingOn
 pub mod TextAfter
+pub mod ItemTexts
 pub mod DamagedText
 pub mod SavedText
 pub mod BlockSaved
 pub mod DamageStays
+pub mod OwnBlock

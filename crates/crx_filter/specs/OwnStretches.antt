@@ -1,5 +1,5 @@
--- Beside meaning/Stretches: the compact text of a file that is compacted here, damaged in stretches or cut off.
--- Lists of items have the newest first.
+-- Beside meaning/Stretches: the compact text of a file that is compacted here, damaged in stretches or cut
+-- off. Lists of items have the newest first.
 use Rattle.std.specs.Prelude.{ℕ, ◌≡◌, ◌⊎◌, Bool, true, not, ◌||◌, ⊤, List, [], ◌∷◌, ◌++◌, None, map}
 use Rattle.std.specs.List.{AllByRecursion, list_all, flat_map}
 use Rattle.crx_base.specs.meaning.Lines.{Piece, InputLine, pieces_of, lines_of, is_long, lines_text}
@@ -12,7 +12,7 @@ use Rattle.crx_base.specs.meaning.Choices.{Choices}
 use Rattle.crx_filter.specs.meaning.Items.{Item, header_has_ended, records_left, types_in_force}
 use Rattle.crx_filter.specs.meaning.Reading.{WholeReading}
 use Rattle.crx_filter.specs.meaning.Compacted.{compact_lines, whole_rinex}
-use Rattle.crx_filter.specs.meaning.Damage.{BeginsAnew, lines_after}
+use Rattle.crx_filter.specs.Damage.{BeginsAnew, lines_after}
 use Rattle.crx_filter.specs.meaning.Standard.{printed_items}
 use Rattle.crx_filter.specs.meaning.Stretches.{announces_records}
 use Rattle.crx_filter.specs.meaning.WayBack.{HaveNoReturns}

@@ -1,18 +1,18 @@
 -- The compact text of a file, and what comes after the header in that of the next, expand to both.
 use Rattle.crx_filter.proofs.Words
-use Words.{common_steps, arith, [], ℕ, ◌≡◌, ◌<◌, true, false, List, ◌∷◌, ◌++◌, map, drop, length, Option}
-use Words.{None, refl, ap, sym, ◌∙◌, subst, append-nil, append_assoc, drop-append_seam, false≢true, lines_of}
+use Words.{common_steps, arith, [], ℕ, ◌≡◌, true, List, ◌∷◌, ◌++◌, map, drop, length}
+use Words.{refl, ap, sym, ◌∙◌, subst, append-nil, append_assoc, drop-append_seam, false≢true, lines_of}
 use Words.{lines_text, as_read, Epoch, HeaderLine, EventLine, EventRecord, Observation, Choices, compacted}
-use Words.{is_date, expanded, Item, Accepted, Warned, header_has_ended, records_left, types_in_force, AreInPlace}
+use Words.{Item, Accepted, Warned, header_has_ended, records_left, types_in_force, AreInPlace}
 use Words.{compact_lines, compact_unit, lines_after, is_interrupted, BeginsAnew, WholeReading, printed_items}
-use Words.{whole_of, HasNormalForm, warnings_in, written_well, is_in_full}
+use Words.{whole_of, HasNormalForm, warnings_in, written_well}
 use Rattle.std.proofs.lemmas.List.{append_cancel_left}
 use Rattle.crx_filter.specs.OwnStretches.{read_of_file, IsReadWhole}
 use Rattle.crx_filter.proofs.damage.DamagedText.{text-append}
 use Rattle.crx_filter.proofs.stretches.OwnStretches.{file-settled}
 use Rattle.crx_filter.proofs.wayback.{NormalForm.whole-none, Standard.same-reading}
 use Rattle.crx_laws.proofs.blockwise.PieceBack.{own-piece}
-use Rattle.crx_laws.specs.{Again.{EndWithHeader, Follows, MakeADay}, Blocks.IsOwnPieceAfter}
+use Rattle.crx_laws.specs.{Again.{EndWithHeader, MakeADay}, Blocks.IsOwnPieceAfter}
 
 -- ---- a header
 

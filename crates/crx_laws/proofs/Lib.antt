@@ -1,6 +1,5 @@
 pub mod reading
 pub mod soundness
-pub mod wayback
 pub mod output
 pub mod ExpandedReadyToHandOut
 pub mod OpenSound

@@ -1,5 +1,5 @@
 -- What is known of the wild text's units and of its first epoch, by computation.
-use Rattle.crx_compact.proofs.Words.{◌≡◌, refl, ℕ, zero, suc, List, [], ◌∷◌, ◌++◌, Some, None, inl, pos}
+use Rattle.crx_compact.proofs.Words.{refl, ℕ, zero, suc, List, [], ◌∷◌, ◌++◌, Some, None, inl, pos}
 use Rattle.std.specs.Prelude.{codes}
 use Rattle.std.specs.Fmt.{digits}
 use Rattle.crx_base.specs.meaning.Lines.{lines_text}

@@ -18,7 +18,7 @@ use Rattle.crx_filter.specs.meaning.CompactText.{AreUnitsInPlace, AreWholeFile}
 use Rattle.crx_filter.specs.meaning.Stretches.{AreLinesOn, BeginsWithUnits}
 use Rattle.crx_filter.specs.meaning.UnitsAndText.{as_items}
 use Rattle.crx_filter.specs.meaning.Compacted.{compacted}
-use Rattle.crx_filter.specs.meaning.Damage.{BeginsAnew, lines_after}
+use Rattle.crx_filter.specs.Damage.{BeginsAnew, lines_after}
 use Rattle.crx_filter.specs.meaning.Expanded.{whole_compact, expanded}
 use Rattle.crx_filter.specs.meaning.Items.{Item, header_has_ended, records_left, types_in_force}
 use Rattle.crx_filter.specs.meaning.Reading.{WholeReading}
@@ -62,9 +62,9 @@ StandAlone more one other choices =
 
 -- ---- a piece of a file, whoever wrote it
 
--- the compact text of a file, as of its header alone, and after it the lines of units that come after other units
--- and go on from no epoch, so that the first epoch among them is in full: where the file leaves the observation types
--- that are in force before these units
+-- the compact text of a file, as of its header alone, and after it the lines of units that come after other
+-- units and go on from no epoch, so that the first epoch among them is in full: where the file leaves the
+-- observation types that are in force before these units
 pub record IsPieceAfter (front before piece : List (FileUnit Epoch)) (text : List ℕ) : Type 0 where
   pub file : AreWholeFile front
   pub in_place : AreUnitsInPlace (piece ++ before)

@@ -2,7 +2,10 @@
 use Rattle.std.specs.Prelude.{ℕ, ◌+◌, ℤ, pos, neg_ℤ, true, false, List, [], ◌∷◌, ◌++◌, map, reverse, Option, Some, None}
 use Rattle.std.specs.Prelude.{codes}
 use Rattle.crx_rinex.specs.meaning.Observations.{Row, Epoch}
+use Rattle.crx_text.specs.declared.code.Code.{Code}
+use Rattle.crx_text.specs.declared.code.Code.TheVariants.{Missing, Start, Step}
 use Rattle.crx_compact.specs.meaning.Compaction.{Marked}
+use Rattle.crx_compact.specs.meaning.Expansion.{RawEpoch, RawRow}
 use Rattle.crx_header.specs.meaning.ObservationTypes.{Count}
 use Rattle.crx_laws.specs.Examples.{one_type}
 use Rattle.crx_rinex.specs.meaning.Places.{Place}
@@ -138,3 +141,13 @@ two_epochs = later (epoch_of_one 1 (Some (pos 2000))) ∷ full (epoch_of_one 0 (
 -- the same with the counts of types in force
 abbrev pub two_typed : List TypedEpoch
 two_typed = map (λ (m : Marked). record { types = one_type; marked = m }) two_epochs
+
+-- how their lines read
+abbrev pub row_read : Code → RawRow
+row_read code = record { name = codes "G01"; codes = code ∷ []; marks = [] }
+
+abbrev pub two_raws : List RawEpoch
+two_raws =
+    record { line = codes "                    1"; clock = Missing; rows = row_read (Step (pos 1000)) ∷ [] }
+    ∷ record { line = full_line 0 1 (codes "G01"); clock = Missing; rows = row_read (Start 3 (pos 1000)) ∷ [] }
+    ∷ []

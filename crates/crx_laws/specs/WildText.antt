@@ -81,8 +81,8 @@ wild_before = epoch_at_second 0 20000000000 ∷ wild_header
 abbrev pub lines_before : List (List ℕ)
 lines_before = version ∷ types_line ∷ end_line ∷ first_lines_of
 
--- in place of the second epoch's lines come two, the first of which begins with >; then the event, and an epoch
--- in full of order 7 with zeros in front
+-- in place of the second epoch's lines come two, the first of which begins with >; then the event, and an
+-- epoch in full of order 7 with zeros in front
 abbrev pub full_lines : List (List ℕ)
 full_lines = (head_at 2 ++ blanks 6 ++ codes "G01 ") ∷ [] ∷ codes "7&0020000202000  " ∷ []
 
@@ -95,10 +95,27 @@ wild_stretch = record {
 }
 
 abbrev pub wild_damaged : List ℕ
-wild_damaged = first_line ++ 13 ∷ 10 ∷ lines_text (second_line ∷ lines_before ++ codes ">" ∷ codes "xyz" ∷ event ∷ comment
-    ∷ full_lines)
+wild_damaged = first_line ++ 13 ∷ 10 ∷ lines_text
+    (second_line ∷ lines_before ++ codes ">" ∷ codes "xyz" ∷ event ∷ comment ∷ full_lines)
 
 -- what is kept, after the header alone
 abbrev pub wild_piece : List ℕ
 wild_piece =
     first_line ++ 13 ∷ 10 ∷ lines_text (second_line ∷ version ∷ types_line ∷ end_line ∷ event ∷ comment ∷ full_lines)
+
+-- ---- a block of another text, its second line lost
+
+-- the second epoch goes on from the first, and the line of its clock is lost; then the event, and an epoch in
+-- full
+abbrev pub wild_block : Stretch
+wild_block = record {
+  lost = epoch_at_second 1 20000100500 ∷ [];
+  instead = Content (blanks 9 ++ codes "&0" ++ blanks 9 ++ codes "1   ") ∷ Content (codes "000000000000100500 &&") ∷ [];
+  kept = epoch_at_second 2 20000202000 ∷ EventRecord comment ∷ EventLine event ∷ [];
+  lines = event ∷ comment ∷ full_lines;
+}
+
+abbrev pub wild_shortened : List ℕ
+wild_shortened = first_line ++ 13 ∷ 10 ∷ lines_text (second_line ∷ lines_before
+    ++ (blanks 9 ++ codes "&0" ++ blanks 9 ++ codes "1   ") ∷ codes "000000000000100500 &&" ∷ event ∷ comment
+    ∷ full_lines)

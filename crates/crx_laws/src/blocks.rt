@@ -28,10 +28,10 @@ pub fn blocks_stand_alone()
     ensures law { (more one other : List ℕ) (choices : Choices) → StandAlone more one other choices }
 {}
 
-/// A piece of compact text can be expanded alone, whoever wrote it. The lines of some units of a file, of which
-/// the first epoch is in full, come after the compact text of another file that leaves the same types in force, as
-/// that of the header alone. Then they expand to these units after that file, with no message and status 0, and
-/// with any choice.
+/// A piece of compact text can be expanded alone, whoever wrote it. The lines of some units of a file, of
+/// which the first epoch is in full, come after the compact text of another file that leaves the same types
+/// in force, as that of the header alone. Then they expand to these units after that file, with no message
+/// and status 0, and with any choice.
 pub fn a_piece_is_expanded_alone()
     ensures law { (front before piece : List (FileUnit Epoch)) (text : List ℕ) (expanding : Choices)
         → IsPieceAfter front before piece text
@@ -47,8 +47,8 @@ pub fn an_own_piece_is_expanded_alone()
 {}
 
 /// What the laws ask for can be met: a header with an epoch, the header alone, and a block that comes after
-/// either; and that block in a file of which the header alone is another. Also by an event and an epoch with an arc
-/// of order 7, which no writer known here would write.
+/// either; and that block in a file of which the header alone is another. Also by an event and an epoch with
+/// an arc of order 7, which no writer known here would write.
 pub fn premises()
     ensures wild { IsPieceAfter wild_header (up_to_end wild_before wild_stretch) wild_stretch.kept wild_piece }
     ensures one { CanGoOn first_epoch_text plain_choices }

@@ -4,13 +4,13 @@ ghost use Rattle.std.specs.Prelude.{◌≡◌, ◌∷◌, ◌++◌, [], pos, neg
 ghost use Rattle.std.specs.List.{AllByRecursion};
 ghost use Rattle.crx_base.specs.declared.fault.Fault.TheVariants.{LineTooLong, NotAnEpoch, BadEpoch, BadClock, BadSatellite, RepeatedSatellite, NoArc, OutOfRange, BadField, BadFlags, Truncated};
 ghost use Rattle.crx_laws.specs.Examples.{one_type};
-ghost use Rattle.crx_laws.specs.CompactExamples.{head_at, full_line, epoch_of_one, five_epochs, five_epochs_restarted, one_missing, one_away, ending, clocks, extremes, no_satellites, two_systems, e05, epoch_of_systems, epochs_read, epochs_in, half_open_raw, two_epochs, two_typed};
+ghost use Rattle.crx_laws.specs.CompactExamples.{head_at, full_line, epoch_of_one, five_epochs, five_epochs_restarted, one_missing, one_away, ending, clocks, extremes, no_satellites, two_systems, e05, epoch_of_systems, epochs_read, epochs_in, half_open_raw, two_raws, two_typed};
 ghost use Rattle.crx_base.specs.meaning.AsRead.{Content, Overlong};
 ghost use Rattle.crx_rinex.specs.meaning.Places.{Done, Fails, NeedsMore};
 ghost use Rattle.crx_header.specs.ObservationTypes.{AreCounts};
 ghost use Rattle.crx_compact.specs.OpenEpochs.{open_raw_with, first_step, state_after, tail_held};
 ghost use Rattle.crx_compact.specs.OpenEpochs.RawStep.{Faulty};
-ghost use Rattle.crx_compact.specs.ReadingLaws.{text_lines, raws_of, AreWholeByTypes, HasSingleLines, HasPrintableMarks};
+ghost use Rattle.crx_compact.specs.ReadingLaws.{text_lines, AreWholeByTypes, HasSingleLines, HasPrintableMarks};
 
 /// Up to the fourth value the differences of order 1 and 2 are written, from then on those of order 3.
 pub fn five_values()
@@ -196,6 +196,6 @@ pub fn a_fault_empties()
 pub fn premises_can_be_met()
     ensures counts { AreCounts one_type }
     ensures whole { AreWholeByTypes two_typed }
-    ensures single { AllByRecursion HasSingleLines (raws_of two_epochs) }
-    ensures marks { AllByRecursion HasPrintableMarks (raws_of two_epochs) }
+    ensures single { AllByRecursion HasSingleLines two_raws }
+    ensures marks { AllByRecursion HasPrintableMarks two_raws }
 {}

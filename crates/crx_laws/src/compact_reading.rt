@@ -11,14 +11,14 @@ ghost use Rattle.crx_compact.specs.meaning.CompactPlaces.{epoch_at};
 ghost use Rattle.crx_compact.specs.OpenEpochs.{epoch_after};
 ghost use Rattle.crx_compact.specs.Tails.{Tail};
 
-/// The compact lines of an epoch read as that epoch, whatever lines follow, and hand on the block for the
-/// next one.
+/// The compact lines of an epoch read as that epoch, whatever lines follow, and leave to the next lines what
+/// the writer has left.
 pub fn reading_an_epoch()
     ensures law { EachReadsBack }
 {}
 
-/// Reading the compact text of a list of epochs gives these epochs, where the counts of types change only at
-/// full ones.
+/// Reading the compact text of a list of epochs gives these epochs, and leaves what the writer has left,
+/// where the counts of types change only at full ones.
 pub fn reading_epochs()
     ensures law { ReadsBack }
 {}

@@ -4,7 +4,7 @@ ghost use Rattle.std.specs.Prelude.{◌≡◌, ◌∷◌, ◌++◌, [], take, dr
 ghost use Rattle.crx_base.specs.declared.fault.Fault.TheVariants.{MissingVersion, NoEndOfHeader, NotCompact, BadProgLine, RepeatedSatellite, NoArc, BadClock, BadFlags, Truncated, NotAnEpoch, BadEpoch};
 ghost use Rattle.crx_laws.specs.FilterExamples.{two_types, good, failed, warned, warning, compaction_of, expansion_of, compaction_answers, expansion_answers, notice, report, reported};
 ghost use Rattle.crx_laws.specs.SmallFiles.{comment_event, damaged_before_event, damaged_by, other_block, last_damaged_by, blanks, header, first_two, epoch_line_at, line_at, full_line_at, second_changed, one_type_line, observed, plain_choices, with_skip, in_full_every_second, returned_text};
-ghost use Rattle.crx_filter.specs.meaning.Damage.{IsDamaged, IsSalvaged};
+ghost use Rattle.crx_filter.specs.Damage.{IsOwnDamaged, IsOwnSalvaged};
 ghost use Rattle.crx_filter.specs.meaning.Expanded.{expanded};
 ghost use Rattle.crx_filter.specs.meaning.Standard.{checked};
 ghost use Rattle.crx_base.specs.meaning.Lines.{lines_text};
@@ -227,10 +227,10 @@ pub fn every_second_epoch()
 
 /// A block of which the first line alone is left: the units before it are saved, with one warning.
 pub fn a_block_cut_off()
-    ensures salvaged { (damage : IsDamaged
+    ensures salvaged { (damage : IsOwnDamaged
         (lines_text (header ++ epoch_line_at 0 1 ∷ observed (codes "1.000") ∷ [])) plain_choices
         (lines_text (first_two ++ header ++ full_line_at 0 1 (codes "G01") ∷ [])))
-        × IsSalvaged (lines_text (header ++ epoch_line_at 0 1 ∷ observed (codes "1.000") ∷ [])) plain_choices
+        × IsOwnSalvaged (lines_text (header ++ epoch_line_at 0 1 ∷ observed (codes "1.000") ∷ [])) plain_choices
         (lines_text (first_two ++ header ++ full_line_at 0 1 (codes "G01") ∷ [])) damage
         (expansion_of with_skip (first_two ++ header ++ full_line_at 0 1 (codes "G01") ∷ [])) }
 {}

@@ -6,7 +6,7 @@ ghost use Rattle.crx_base.specs.meaning.Choices.{Choices};
 ghost use Rattle.crx_base.specs.meaning.Lines.{lines_text};
 ghost use Rattle.crx_filter.specs.meaning.Accounts.{AccountsForFile, AccountsForText, HasShortBlocks};
 ghost use Rattle.crx_filter.specs.meaning.Compacted.{compacted};
-ghost use Rattle.crx_filter.specs.meaning.Damage.{AreContinued, with_epochs};
+ghost use Rattle.crx_filter.specs.meaning.Accounts.{AreContinued, with_epochs};
 ghost use Rattle.crx_filter.specs.meaning.Expanded.{expanded};
 ghost use Rattle.crx_filter.specs.meaning.Items.{Accepted};
 ghost use Rattle.crx_filter.specs.OwnStretches.{read_of_file};

@@ -15,19 +15,21 @@ ghost use Rattle.crx_filter.specs.meaning.Expanded.{expanded};
 ghost use Rattle.crx_filter.specs.meaning.Standard.{printed_items};
 ghost use Rattle.crx_runs.specs.meaning.Results.{Begins};
 
-/// Damage costs what it touches, whoever wrote the text. Of the compact text of a file, any number of stretches
-/// after the header are damaged: in place of the lines of some units come any others, but no event's first line
-/// with a count of records, and the first epoch that is kept after a stretch is in full. Then an expansion that
-/// skips faults writes exactly all units before the first stretch, then for each stretch some whole epochs
-/// followed by exactly the units that are kept, and no fault ends it.
+/// Damage costs what it touches, whoever wrote the text. Of the compact text of a file, any number of
+/// stretches after the header are damaged: in place of the lines of some units come any others, but no
+/// event's first line with a count of records. No stretch begins or ends inside an event, or loses a change
+/// of types, and the first epoch that is kept after one is in full. Then an expansion that skips faults
+/// writes exactly all units before the first stretch, then for each stretch some whole epochs followed by
+/// exactly the units that are kept, and no fault ends it.
 pub fn damage_costs_what_it_touches()
     ensures law { (before : List (FileUnit Epoch)) (stretches : List Stretch) (damaged : List ℕ) (expanding : Choices)
         → expanding.skip ≡ true → HasStretches before stretches damaged
         → KeepsTheRest before stretches (expanded damaged expanding) }
 {}
 
-/// So it is of text that a compaction wrote, whether it skipped faults or not: the bytes of some units' lines are
-/// replaced, and the units that are kept after a stretch begin with an event or an epoch in full.
+/// So it is of text that a compaction wrote, whether it skipped faults or not, if no fault ended it and no
+/// copied line ends in CR: the bytes of some units' lines are replaced, and the units that are kept after a
+/// stretch begin with an event or an epoch in full.
 pub fn damage_of_own_text()
     ensures law { (file : List ℕ) (compacting expanding : Choices) (damaged : List ℕ)
         → is_date compacting.date ≡ true → expanding.skip ≡ true
@@ -35,8 +37,8 @@ pub fn damage_of_own_text()
         → KeepsOwnRest file compacting damaged damage (expanded damaged expanding) }
 {}
 
-/// Whatever comes after the lines of a file's first units, an expansion writes these units first. So of a
-/// text that is cut off, all units are written that are whole before the cut.
+/// Whatever comes after what a compaction wrote of a file's first units, an expansion writes these units
+/// first. So of a text that is cut off, all units are written that are whole before the cut.
 pub fn whole_units_are_written()
     ensures law { (file : List ℕ) (compacting expanding : Choices) (text : List ℕ)
         → is_date compacting.date ≡ true → (whole : BeginsWithOwn file compacting text)
@@ -45,8 +47,8 @@ pub fn whole_units_are_written()
 
 /// What these laws ask for can be met: two stretches of one file, the first with a line that begins with `>`,
 /// and the second the last block, its first line too, up to the end; an event that is lost with its block, or
-/// since its count is damaged; and a text that is cut off inside a line. And by a text that no writer known here
-/// writes, with arcs of order 9 and 7 and an event after the stretch.
+/// since its count is damaged; and a text that is cut off inside a line. And by a text that no writer known
+/// here writes, with arcs of order 9 and 7 and an event after the stretch.
 pub fn premises()
     ensures wild { HasStretches wild_before (wild_stretch ∷ []) wild_damaged }
     ensures twice { HasOwnStretches (lines_text (file_of_five [])) in_full_every_second damaged_twice }

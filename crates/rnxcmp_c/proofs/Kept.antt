@@ -6,7 +6,7 @@ use Rattle.rnxcmp_c.proofs.Words.{◌<◌, ◌≤◌, ◌⊎◌, inl, inr, lengt
 use Rattle.rnxcmp_c.specs.{meaning.Answers.ExceedsLimit, declared.answer.TheConstants.NO_ROOM}
 use Rattle.{std.proofs.Common.if◌then◌else◌, std.specs.Prelude.nat_le, crx_compact.proofs.Words.cases_lt}
 use Rattle.rnxcmp_c.specs.meaning.Promises.{CallJudgesStandard}
-use Rattle.crx_filter.proofs.{damage.DamageStays.saved-lines, standard.CheckStandard.named-where_not}
+use Rattle.crx_filter.proofs.{damage.DamageStays.all-saved, standard.CheckStandard.named-where_not}
 use Rattle.crx_filter.proofs.anywriter.ComesBack.{normal-comes_back, standard-comes_back, comes-back}
 
 -- ---- the way back
@@ -20,8 +20,8 @@ brings-back holds expanding text answered file compacting dated same =
 
 pub saves-all_else : (holds : FilterResult → Type 0) (expanding : Choices) (damaged : List ℕ)
     → expanding.skip ≡ true → holds (expanded damaged expanding) → CallSavesAllElse holds damaged
-saves-all_else holds expanding damaged skips answered file compacting dated damage =
-    (expanded damaged expanding, saved-lines file _ expanding damaged dated skips damage, answered)
+saves-all_else holds expanding damaged skips answered before s damage =
+    (expanded damaged expanding, all-saved before s damaged expanding skips damage, answered)
 
 -- ---- standard files
 

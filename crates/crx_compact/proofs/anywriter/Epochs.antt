@@ -10,8 +10,10 @@ use Rattle.crx_compact.proofs.reading.RawTailing.{place-by_tail, left-by_tail}
 use Rattle.crx_compact.proofs.soundness.Soundness.{reads-soundly}
 use Rattle.crx_compact.proofs.wayback.Facts.{IsTypedRow, typed-rows, text-kept, satellites_of_rows}
 use Rattle.crx_compact.proofs.wayback.Reading.{text-other, text-columns, text-good}
+use Rattle.crx_compact.proofs.Words.{append-nil}
+use Rattle.crx_compact.specs.OpenEpochs.{HeldEpoch, held_after, placed_as}
 use Rattle.crx_compact.specs.meaning.AnyWriter.{WrittenRow, WrittenEpoch, code_now, row_now, epoch_now, goes_on_from, nothing_written, AreRowLines, AreLinesAfter}
-use Rattle.crx_compact.specs.AnyWriter.{value_now, row_left, epoch_left, EpochReads, ReadsAnyEpoch}
+use Rattle.crx_compact.specs.AnyWriter.{value_now, row_left, epoch_left, EpochReads, IsLeft, ReadsAnyEpoch}
 use Rattle.crx_compact.proofs.anywriter.{Arcs.{Goes, goes}, Rows.{any-row, marks-printable}, Texts.spelled-characters}
 
 -- ---- the satellites' lines
@@ -109,13 +111,36 @@ module _ (types : List Count) (base now : WrittenEpoch) (line clock : List ℕ) 
   tail-next : raw_tail_after (epoch_left base) raw ≡ epoch_left now
   tail-next = cc (text-made, clock-goes.leaves, rows-good.leaves)
 
+  -- read after a tail, line by line or at once
+  pub held-reads : (tail : Option Tail) → tail_for_line tail line ≡ Some (epoch_left base)
+      → placed_as (held_after tail) (epoch_after types tail (map Content (line ∷ clock ∷ lines)))
+      ≡ Done (record { epoch = epoch_now now; tail = epoch_left now }) (2 + length now.rows)
+  held-reads tail e =
+      let held : held_after tail (record { raw = raw; epoch = epoch_now now })
+      ≡ record { epoch = epoch_now now; tail = epoch_left now } =
+      ap {B = HeldEpoch} (λ t. record { epoch = epoch_now now; tail = raw_tail_after (unwrap_or t no_tail) raw }) e
+      ∙ ap {B = HeldEpoch} (λ t. record { epoch = epoch_now now; tail = t }) tail-next in
+      ap (λ ls. placed_as (held_after tail) (epoch_after types tail ls)) (sym (append-nil (map Content (line ∷ clock ∷ lines))))
+      ∙ ap (placed_as (held_after tail)) (epoch-reads tail [] e)
+      ∙ ap {B = Place HeldEpoch} (λ h. Done h (2 + length now.rows)) held
+
+-- the tail that a line goes on from is that of the epoch which it goes on from
+pub tail-for : (before : Option WrittenEpoch) (tail : Option Tail) (line : List ℕ) (base : WrittenEpoch)
+    → IsLeft before tail → goes_on_from before line ≡ Some base → tail_for_line tail line ≡ Some (epoch_left base)
+tail-for before tail line base left found = pick (begins_epoch line) found
+  where
+    pick : (b : Bool) → (if b then Some nothing_written else before) ≡ Some base
+        → (if b then Some no_tail else tail) ≡ Some (epoch_left base)
+    pick true e = ap (option_map epoch_left) e
+    pick false e = left base e
+
 by_parts : (types : List Count) (before : Option WrittenEpoch) (raws : List RawEpoch) (base now : WrittenEpoch)
-    (line clock : List ℕ) (lines : List (List ℕ)) → tail_left raws ≡ option_map epoch_left before
+    (line clock : List ℕ) (lines : List (List ℕ)) → IsLeft before (tail_left raws)
     → IsWholeEpoch types (epoch_now now) → goes_on_from before line ≡ Some base → AreLinesAfter base now line clock lines
     → EpochReads types raws now (line ∷ clock ∷ lines)
 by_parts types before raws base now line clock lines left whole found h =
     let e : tail_for_line (tail_left raws) line ≡ Some (epoch_left base) =
-    ap (λ t. tail_for_line t line) left ∙ base-found before line ∙ ap (option_map epoch_left) found in
+    tail-for before (tail_left raws) line base left found in
     let here : (rest : List ReadLine) → epoch_at types raws (map Content (line ∷ clock ∷ lines) ++ rest)
     ≡ Done (record { raw = raw types base now line clock lines whole h; epoch = epoch_now now }) (2 + length now.rows) =
     λ rest. place-by_tail types raws (map Content (line ∷ clock ∷ lines) ++ rest)

@@ -1,9 +1,9 @@
--- The texts of codes hold no blank and no >, so the cells of a satellite line are read back from it.
-use Rattle.crx_compact.proofs.Words.{◌≡◌, [], ◌∷◌, map, Bool, not, ◌&&◌, ◌==◌, pos, Step}
-use Rattle.crx_compact.proofs.Words.{refl, after_cells, IsPrintable, append_assoc, common_steps}
-use Rattle.crx_compact.proofs.Words.{ℕ, list_all, code_text, cell_text, cells_of, decimal, is_blank, flat_map}
+-- The texts of codes hold no blank and no >.
+use Rattle.crx_compact.proofs.Words.{◌≡◌, [], ◌∷◌, Bool, not, ◌&&◌, ◌==◌, pos, Step}
+use Rattle.crx_compact.proofs.Words.{refl, IsPrintable, append_assoc, common_steps}
+use Rattle.crx_compact.proofs.Words.{ℕ, list_all, code_text, cell_text, decimal, is_blank, flat_map}
 use Rattle.crx_compact.proofs.Words.{true, List, ◌++◌, arith, Code, ℤ, negsuc, Missing, Start, IsShort}
-use Rattle.crx_compact.proofs.Words.{length, AllByRecursion, without_end_blanks, signed_decimal, is_printable}
+use Rattle.crx_compact.proofs.Words.{AllByRecursion, without_end_blanks, signed_decimal, is_printable}
 use Rattle.crx_compact.proofs.Words.{first_cell, after_cell, all_ascii_digits}
 use Rattle.std.proofs.lemmas.Fmt.{decimal_digit}
 use Rattle.crx_text.proofs.ReadBack.{decimal_is_digits}
@@ -41,16 +41,6 @@ after_cell-trimmed (c ∷ cs) = grind (arith, after_cell-trimmed cs)
 
 -- ---- the cells of written codes
 
-first_cell-text : (text rest : List ℕ) → list_all is_code_character text ≡ true
-    → first_cell (text ++ 32 ∷ rest) ≡ text
-first_cell-text [] rest h = refl
-first_cell-text (c ∷ cs) rest h = grind (arith, first_cell-text cs rest)
-
-after_cell-text : (text rest : List ℕ) → list_all is_code_character text ≡ true
-    → after_cell (text ++ 32 ∷ rest) ≡ rest
-after_cell-text [] rest h = refl
-after_cell-text (c ∷ cs) rest h = grind (arith, after_cell-text cs rest)
-
 -- the texts of codes hold no blanks
 abbrev pub AreWritten : List Code → Type 0
 AreWritten codes = AllByRecursion (λ (c : Code). list_all is_code_character (code_text c) ≡ true) codes
@@ -58,16 +48,3 @@ AreWritten codes = AllByRecursion (λ (c : Code). list_all is_code_character (co
 pub one_cell : (c : Code) (cs : List Code) (marks : List ℕ)
     → flat_map cell_text (c ∷ cs) ++ marks ≡ code_text c ++ 32 ∷ (flat_map cell_text cs ++ marks)
 one_cell c cs marks = grind (arith, common_steps, append_assoc, code_text, flat_map, cell_text)
-
-pub cells-written : (codes : List Code) (marks : List ℕ) → AreWritten codes
-    → cells_of (length codes) (without_end_blanks (flat_map cell_text codes ++ marks)) ≡ map code_text codes
-cells-written [] marks h = refl
-cells-written (c ∷ cs) marks h =
-    let rest = cells-written cs marks h.1 in
-    grind (arith, first_cell-trimmed, one_cell, first_cell-text, after_cell-trimmed, after_cell-text)
-
-pub marks-written : (codes : List Code) (marks : List ℕ) → AreWritten codes → after_cells
-    (length codes) (without_end_blanks (flat_map cell_text codes ++ marks)) ≡ without_end_blanks marks
-marks-written [] marks h = refl
-marks-written (c ∷ cs) marks h =
-    grind (arith, after_cell-trimmed, one_cell, after_cell-text, marks-written cs marks h.1)

@@ -9,7 +9,7 @@ use Rattle.crx_rinex.specs.meaning.Observations.{Epoch}
 use Rattle.crx_rinex.specs.meaning.Units.{Observation}
 use Rattle.crx_filter.specs.meaning.Items.{Item, Accepted}
 use Rattle.crx_filter.specs.meaning.Compacted.{epochs_accepted, is_at_every}
-use Rattle.crx_filter.specs.meaning.Damage.{AreContinued}
+use Rattle.crx_filter.specs.meaning.Accounts.{AreContinued}
 use Rattle.crx_filter.specs.meaning.Accounts.{HasShortBlocks}
 use Rattle.crx_filter.specs.meaning.Compacted.{compacted}
 

@@ -5,21 +5,21 @@ use proofs.Words.{refl, ap, sym, ◌∙◌, subst, arith, length-append, map-app
 use proofs.Words.{FileUnit, HeaderLine, EventLine, EventRecord, Observation, types_of, Item, Accepted, Warned, Count, RawEpoch, ReadEpoch}
 use proofs.Words.{is_at_start, header_has_ended, records_left, records_count_types, declaring_lines, types_in_force, types_fault, header_line_fault}
 use proofs.Words.{Reading, AtLines, reading_from, ended_reading, compact_place, compact_epoch_place, event_line, is_event_line, records_in, raws_kept, whole_compact, first_lines}
-use proofs.Words.{IsWholeEpoch, expanded_unit, expanded, printed_items, written_lines, warnings_in, lines_text, result_of, written_well}
+use proofs.Words.{IsWholeEpoch, expanded_unit, expanded, printed_items, warnings_in, lines_text, result_of, written_well}
 use Rattle.crx_filter.proofs.{Words.{IsInPlace, AreInPlace}, following.Following.body-place}
 use Rattle.crx_filter.proofs.reading.{ForwardCompact.compact-forward, Resuming.resumed, Ending.closes-well}
 use Rattle.crx_filter.proofs.wayback.{Carried.{header-here, record-here, one-unit, at-line}, WayBack.result-well}
 use Rattle.crx_filter.specs.meaning.{Expanded.{rinex_unit, crinex_version, crinex_program, empties_state}, WrittenStandard.rinex_items}
 use Rattle.crx_filter.specs.meaning.UnitsAndText.{as_items, rinex_text}
-use Rattle.crx_compact.proofs.Words.{epoch_at, epoch_text, at, patched, character_of, by_position, without_end_blanks, at-without_end_blanks, begins_epoch, tail_left, option_map, if◌then◌else◌}
+use Rattle.crx_compact.proofs.Words.{epoch_at, epoch_text, at, patched, character_of, by_position, without_end_blanks, at-without_end_blanks, begins_epoch, tail_left, if◌then◌else◌}
 use Rattle.crx_compact.proofs.Words.{and_parts, is_observation_flag, is_event_flag, character_at, same_Some}
 use Rattle.crx_compact.proofs.Characters.{at-by_position, if_some}
 use Rattle.crx_compact.proofs.wayback.Facts.{text-head, head-counted}
 use Rattle.crx_compact.specs.meaning.AnyWriter.{WrittenRow, WrittenEpoch, epoch_now, goes_on_from, nothing_written, AreRowLines, AreLinesAfter, AreEpochLines}
-use Rattle.crx_compact.specs.AnyWriter.{epoch_left, EpochReads}
-use Rattle.crx_compact.proofs.{Words.{block_of, tail_of_block, Tail}, reading.Forgetting.forgets}
+use Rattle.crx_compact.specs.AnyWriter.{epoch_left, IsLeft}
+use Rattle.crx_compact.proofs.Words.{Tail}
 use Rattle.crx_header.{proofs.Counts.types_of-push, specs.ObservationTypes.with_line}
-use Rattle.crx_filter.specs.meaning.Stretches.{AreLinesOn, BeginsWithUnits}
+use Rattle.crx_filter.specs.meaning.Stretches.{AreLinesOn}
 use Rattle.crx_filter.specs.meaning.CompactText.{AreLinesOfUnit, AreLinesOf, IsCompactTextOf, AreUnitsInPlace, AreWholeFile}
 use Rattle.crx_filter.specs.CompactText.{ExpandsAnyText, IsOfOneFile, WritesFirstUnits}
 use Rattle.crx_filter.proofs.reading.Prefixes.{AreMore, text-more, whole-items}
@@ -70,43 +70,8 @@ no-event types before base now line clock lines whole found h = pick (begins_epo
         ap (λ b. patched (epoch_text (epoch_now b)) line) (sym start) ∙ h.marked in
         rw (e, full-no_event types (epoch_now now) line whole made) refl
 
--- later lines may go on from this epoch, if there is one
-abbrev pub IsLeft : Option WrittenEpoch → List RawEpoch → Type 0
-IsLeft before raws = (b : WrittenEpoch) → before ≡ Some b → tail_left raws ≡ Some (epoch_left b)
-
-pub none-left : (raws : List RawEpoch) → IsLeft None raws
-none-left raws b e = absurd (cc e)
-
--- an epoch's lines, where what is before them may be anything if they begin with >
-full-epoch : (types : List Count) (raws : List RawEpoch) (now : WrittenEpoch) (line : List ℕ) (lines : List (List ℕ))
-    → begins_epoch line ≡ true → EpochReads types [] now (line ∷ lines) → EpochReads types raws now (line ∷ lines)
-full-epoch types raws now line lines begins r =
-    let there : (rest : List ReadLine) → epoch_at types raws (map Content (line ∷ lines) ++ rest)
-    ≡ Done (record { raw = r.raw; epoch = epoch_now now }) (2 + length now.rows) =
-    λ rest. (forgets types raws line (map Content lines ++ rest) begins).place ∙ r.reads rest in
-    let block : (older : List RawEpoch) → epoch_at types older (map Content (line ∷ lines) ++ [])
-    ≡ Done (record { raw = r.raw; epoch = epoch_now now }) (2 + length now.rows) → block_of (r.raw ∷ older) ≡ r.raw ∷ [] =
-    λ older e. (forgets types older line (map Content lines ++ []) begins).block
-    (record { raw = r.raw; epoch = epoch_now now }) (2 + length now.rows) e in
-    record {
-      raw = r.raw;
-      reads = there;
-      leaves = ap {B = Option Tail} (λ b. Some (tail_of_block b)) (block raws (there []) ∙ sym (block [] (r.reads []))) ∙ r.leaves;
-    }
-
-epoch-reads : (types : List Count) (before : Option WrittenEpoch) (raws : List RawEpoch) (now : WrittenEpoch)
-    (lines : List (List ℕ)) → IsLeft before raws → IsWholeEpoch types (epoch_now now) → AreEpochLines before now lines
-    → EpochReads types raws now lines
-epoch-reads types before raws now [] left whole h = absurd h
-epoch-reads types before raws now (line ∷ []) left whole h = absurd h
-epoch-reads types before raws now (line ∷ clock ∷ lines) left whole h = pick (begins_epoch line) refl h.1
-  where
-    pick : (b : Bool) → begins_epoch line ≡ b → (if b then Some nothing_written else before) ≡ Some h.0
-        → EpochReads types raws now (line ∷ clock ∷ lines)
-    pick true e found = full-epoch types raws now line (clock ∷ lines) e
-        (any-epoch types None [] now (line ∷ clock ∷ lines) refl whole (h.0, rw e found, h.2))
-    pick false e found = any-epoch types (Some h.0) raws now (line ∷ clock ∷ lines) (left h.0 found) whole
-        (h.0, rw e refl, h.2)
+pub none-left : (tail : Option Tail) → IsLeft None tail
+none-left tail b e = absurd (cc e)
 
 -- ---- items that leave what some units do
 
@@ -171,7 +136,7 @@ record UnitRead (items : List (Item ReadEpoch)) (unit : FileUnit Epoch) (lines :
   read : FileUnit ReadEpoch
   place : compact_place items (map Content lines) ≡ Done read (length lines)
   same : rinex_unit read ≡ unit
-  left : IsLeft now (raws_kept (Accepted read ∷ items))
+  left : IsLeft now (tail_left (raws_kept (Accepted read ∷ items)))
 
 event-here : (line : List ℕ) (o : Option ℕ)
     → records_in line ≡ o → is_some o ≡ true → event_line {E = ReadEpoch} line ≡ Ok (EventLine line)
@@ -186,13 +151,13 @@ abbrev beginning : List (Item ReadEpoch) → List ReadLine → Place (FileUnit R
 beginning items lines = compact_epoch_place (types_in_force items) (raws_kept items) lines
 
 module _ (items : List (Item ReadEpoch)) (units : List (FileUnit Epoch)) (before : Option WrittenEpoch)
-    (k : IsLike items units) (left : IsLeft before (raws_kept items)) where
+    (k : IsLike items units) (left : IsLeft before (tail_left (raws_kept items))) where
   header-unit : (line : List ℕ) → IsInPlace (as_items units) (HeaderLine line) → UnitRead items (HeaderLine line) (line ∷ []) None
   header-unit line h = record {
     read = HeaderLine line;
     place = header-here beginning items line (k.header ∙ h.0) (ap (λ b. header_line_fault b line) k.start ∙ h.1);
     same = refl;
-    left = none-left [];
+    left = none-left None;
   }
 
   event-unit : (line : List ℕ) → IsInPlace (as_items units) (EventLine line) → UnitRead items (EventLine line) (line ∷ []) before
@@ -205,12 +170,13 @@ module _ (items : List (Item ReadEpoch)) (units : List (FileUnit Epoch)) (before
   }
 
   record-left : (line : List ℕ) (b : Bool) → records_count_types items ≡ b
-      → IsLeft (if empties_state b line then None else before) (raws_kept (Accepted (EventRecord line) ∷ items))
+      → IsLeft (if empties_state b line then None else before)
+      (tail_left (raws_kept (Accepted (EventRecord line) ∷ items)))
   record-left line b e = pick (empties_state b line) (ap (λ c. empties_state c line) e)
     where
       pick : (c : Bool) → empties_state (records_count_types items) line ≡ c
-          → IsLeft (if c then None else before) (raws_kept (Accepted (EventRecord line) ∷ items))
-      pick true f = none-left (raws_kept (Accepted (EventRecord line) ∷ items))
+          → IsLeft (if c then None else before) (tail_left (raws_kept (Accepted (EventRecord line) ∷ items)))
+      pick true f = none-left (tail_left (raws_kept (Accepted (EventRecord line) ∷ items)))
       pick false f = rw f left
 
   record-unit : (line : List ℕ) → IsInPlace (as_items units) (EventRecord line) → UnitRead items (EventRecord line) (line ∷ [])
@@ -232,7 +198,7 @@ module _ (items : List (Item ReadEpoch)) (units : List (FileUnit Epoch)) (before
   epoch-unit now (line ∷ clock ∷ rows) h lines =
       let whole : IsWholeEpoch (types_in_force items) (epoch_now now) =
       subst (λ t. IsWholeEpoch t (epoch_now now)) (sym k.types) h.2 in
-      let reads = epoch-reads (types_in_force items) before (raws_kept items) now (line ∷ clock ∷ rows) left whole lines in
+      let reads = any-epoch (types_in_force items) before (raws_kept items) now (line ∷ clock ∷ rows) left whole lines in
       let here = ap (λ ls. epoch_at (types_in_force items) (raws_kept items) ls)
       (sym (append-nil (map Content (line ∷ clock ∷ rows)))) ∙ reads.reads [] in
       let other = no-event (types_in_force items) before lines.0 now line clock rows whole lines.1 lines.2 in
@@ -247,7 +213,7 @@ module _ (items : List (Item ReadEpoch)) (units : List (FileUnit Epoch)) (before
 
 unit-read : (items : List (Item ReadEpoch)) (units : List (FileUnit Epoch)) (before now : Option WrittenEpoch)
     (unit : FileUnit Epoch) (lines : List (List ℕ)) → IsLike items units
-    → IsLeft before (raws_kept items) → IsInPlace (as_items units) unit
+    → IsLeft before (tail_left (raws_kept items)) → IsInPlace (as_items units) unit
     → AreLinesOfUnit (as_items units) before unit lines now → UnitRead items unit lines now
 unit-read items units before now (HeaderLine line) lines known left h k =
     subst (λ ls. UnitRead items (HeaderLine line) ls now) (sym k.0)
@@ -272,7 +238,7 @@ pub record AreReadOn (skip : Bool) (items : List (Item ReadEpoch)) (number : ℕ
       ≡ record { items = more ++ items; stop = AtLines (number + length lines) [] }
   pub known : rinex_items more ≡ as_items units
   pub like : IsLike (more ++ items) (units ++ block)
-  pub left : IsLeft last (raws_kept (more ++ items))
+  pub left : IsLeft last (tail_left (raws_kept (more ++ items)))
 
 none-read : (skip : Bool) (items : List (Item ReadEpoch)) (number : ℕ) → reading_from compact_place skip items number []
     ≡ record { items = items; stop = AtLines (number + 0) [] }
@@ -298,7 +264,7 @@ read-more skip items number block units unit first more before now r h u =
     }
 
 pub read-on : (skip : Bool) (items : List (Item ReadEpoch)) (number : ℕ) (block units : List (FileUnit Epoch))
-    (lines : List (List ℕ)) (start last : Option WrittenEpoch) → IsLike items block → IsLeft start (raws_kept items)
+    (lines : List (List ℕ)) (start last : Option WrittenEpoch) → IsLike items block → IsLeft start (tail_left (raws_kept items))
     → AreInPlace (as_items (units ++ block)) → AreLinesOn block start units lines last
     → AreReadOn skip items number block units lines last
 read-on skip items number block [] lines start last like left h k =
@@ -325,18 +291,20 @@ of-lines (unit ∷ units) lines last k = (
   subst (λ us. AreLinesOfUnit (as_items us) k.0 unit k.2 last) (sym (append-nil units)) k.5,
 )
 
-pub record AreRead (skip : Bool) (number : ℕ) (units : List (FileUnit Epoch)) (lines : List (List ℕ)) : Type 0 where
+pub record AreRead (skip : Bool) (number : ℕ) (units : List (FileUnit Epoch)) (lines : List (List ℕ)) (last : Option WrittenEpoch)
+    : Type 0 where
   pub items : List (Item ReadEpoch)
   pub reads : reading_from compact_place skip [] number (map Content lines)
       ≡ record { items = items; stop = AtLines (number + length lines) [] }
   pub known : rinex_items items ≡ as_items units
   pub like : IsLike items units
+  pub left : IsLeft last (tail_left (raws_kept items))
 
 pub all-read : (skip : Bool) (number : ℕ) (units : List (FileUnit Epoch)) (lines : List (List ℕ)) (last : Option WrittenEpoch)
-    → AreInPlace (as_items units) → AreLinesOf units lines last → AreRead skip number units lines
+    → AreInPlace (as_items units) → AreLinesOf units lines last → AreRead skip number units lines last
 all-read skip number units lines last h k =
     let r = read-on skip [] number [] units lines None last
-    (record { header = refl; start = refl; left = refl; counts = λ some. refl; types = refl }) (none-left [])
+    (record { header = refl; start = refl; left = refl; counts = λ some. refl; types = refl }) (none-left None)
     (subst (λ us. AreInPlace (as_items us)) (sym (append-nil units)) h) (of-lines units lines last k) in
     record {
       items = r.more;
@@ -344,6 +312,7 @@ all-read skip number units lines last h k =
           (append-nil r.more);
       known = r.known;
       like = subst (λ is. IsLike is units) (append-nil r.more) (subst (λ us. IsLike (r.more ++ []) us) (append-nil units) r.like);
+      left = subst (λ is. IsLeft last (tail_left (raws_kept is))) (append-nil r.more) r.left;
     }
 
 -- ---- the text
@@ -362,6 +331,11 @@ ends-well : (skip : Bool) (items : List (Item ReadEpoch)) (number : ℕ) → hea
     → ended_reading skip (record { items = items; stop = AtLines number [] }) ≡ record { items = items; fault = None }
 ends-well skip items number e f = rw (closes-well items e f) refl
 
+-- where units are read, there is no warning
+pub units-silent : (items : List (Item ReadEpoch)) (units : List (FileUnit Epoch)) → rinex_items items ≡ as_items units
+    → warnings_in items ≡ []
+units-silent items units known = sym (warned-read items) ∙ ap warnings_in known ∙ none-warned units
+
 -- a reading that ends after these units is good
 pub units-well : (skip : Bool) (items : List (Item ReadEpoch)) (number : ℕ) (units : List (FileUnit Epoch))
     → header_has_ended items ≡ true → records_left items ≡ 0 → rinex_items items ≡ as_items units
@@ -370,7 +344,7 @@ pub units-well : (skip : Bool) (items : List (Item ReadEpoch)) (number : ℕ) (u
 units-well skip items number units header left known =
     ap (result_of expanded_unit) (ends-well skip items number header left)
     ∙ result-well items (printed_items (as_items units)) (printed-read items ∙ ap printed_items known)
-    (sym (warned-read items) ∙ ap warnings_in known ∙ none-warned units)
+    (units-silent items units known)
 
 -- how compact text of some units is read
 record TextRead (skip : Bool) (units : List (FileUnit Epoch)) (text : List ℕ) : Type 0 where

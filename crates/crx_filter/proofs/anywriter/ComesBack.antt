@@ -1,6 +1,6 @@
 -- What was compacted comes back: its compact text is one that any writer may write.
 use Rattle.crx_filter.proofs
-use proofs.Words.{common_steps, arith, ℕ, ◌≡◌, true, List, [], map, Option, None, refl, ap, sym, ◌∙◌, lines_of, lines_text}
+use proofs.Words.{common_steps, arith, ℕ, ◌≡◌, true, false, List, map, Option, None, ap, sym, ◌∙◌, lines_of, lines_text}
 use proofs.Words.{pieces_of, as_read, At, Epoch, FileUnit, Choices, is_date, compacted, expanded, Item, WholeReading}
 use proofs.Words.{FilterResult, IsResult, Device, compact_lines, printed_items, whole_of, IsStandard, HaveNoReturns, written_well}
 use proofs.anywriter.{AnyText.any-text, OwnText.{own-items, units-printed, whole-items}}

@@ -105,7 +105,7 @@ module _ (items : List (Item ReadEpoch)) (units : List (FileUnit Epoch)) (before
       let found = only-epoch types before raws lines read count s.left s.whole e in
       let good = reads-whole types raws lines read count (counts-in_force items) (marks-printable items s.good) e in
       let whole : IsWholeEpoch types (epoch_now found.now) = subst (λ q. IsWholeEpoch types q) (sym found.epoch) good.whole in
-      let any = any-epoch types before raws found.now found.own s.left whole found.written in
+      let any = any-epoch types before raws found.now found.own (λ b e. s.left ∙ ap (option_map epoch_left) e) whole found.written in
       let split : map Content found.own ++ drop count lines ≡ lines =
       ap (λ ls. ls ++ drop count lines) (sym found.cut) ∙ take-append-drop count lines in
       let same : record { raw = any.raw; epoch = epoch_now found.now } ≡ read =

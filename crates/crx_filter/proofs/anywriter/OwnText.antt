@@ -1,12 +1,12 @@
 -- Compact text that is compacted here is text that any writer may write.
 use Rattle.crx_filter.proofs
 use proofs.Words.{ℕ, ◌≡◌, ◌⊎◌, inl, inr, true, false, Bool, List, [], ◌∷◌, ◌++◌, map, Option, Some, None, refl, ap, sym, ◌∙◌, subst}
-use proofs.Words.{AllByRecursion, append-nil, if◌then◌else◌, lines_of, lines_text, as_read, Epoch, FileUnit, HeaderLine, EventLine}
-use proofs.Words.{EventRecord, Observation, Count, Choices, is_date, Item, Accepted, Warned, header_has_ended, records_left}
-use proofs.Words.{records_count_types, types_in_force, is_interrupted, is_in_full, marked_epochs, compact_epoch, compact_lines}
-use proofs.Words.{version_line, program_line, AreInPlace, IsInPlace, BeginsAnew, HaveNoReturns, whole_of, WholeReading, printed_items}
+use proofs.Words.{AllByRecursion, append-nil, append_assoc, if◌then◌else◌, lines_of, lines_text, as_read, Epoch, FileUnit, HeaderLine, EventLine}
+use proofs.Words.{EventRecord, Observation, Count, Marked, Choices, is_date, Item, Accepted, Warned}
+use proofs.Words.{records_count_types, types_in_force, is_in_full, marked_epochs, compact_epoch, compact_lines}
+use proofs.Words.{version_line, program_line, AreInPlace, BeginsAnew, HaveNoReturns, whole_of, WholeReading, printed_items}
 use proofs.damage.TextAfter.{lines_on, written-on, begins-rest}
-use proofs.wayback.{Carried.{carried, started, header-same, left-same, count-same}, Cut.{IsClean, lines-cut}}
+use proofs.wayback.{Carried.{carried, started, count-same}, Cut.{IsClean, lines-cut}}
 use proofs.wayback.First.{program-clean, program-read, version-clean}
 use proofs.wayback.Items.{marked_now, body_unit, not-interrupted, whole-next}
 use proofs.wayback.{NormalForm.{printed-again, settled-standard}, Reading.lines_back}
@@ -39,17 +39,23 @@ units-printed [] = refl
 units-printed (Accepted unit ∷ before) = cc (units-printed before)
 units-printed (Warned at ∷ before) = units-printed before
 
--- ---- the epoch that the lines after some items may go on from, of those after a block
+pub printed-append : (later before : List (Item Epoch))
+    → printed_items (later ++ before) ≡ printed_items before ++ printed_items later
+printed-append [] before = sym (append-nil (printed_items before))
+printed-append (Accepted unit ∷ later) before = search (printed-append later before, append_assoc)
+printed-append (Warned at ∷ later) before = printed-append later before
 
-abbrev pub state_on : Option ℕ → List (Item Epoch) → List (Item Epoch) → Option WrittenEpoch
-state_on every block [] = None
-state_on every block (Accepted (HeaderLine line) ∷ later) = None
-state_on every block (Accepted (EventLine line) ∷ later) = state_on every block later
-state_on every block (Accepted (EventRecord line) ∷ later) =
-    if empties_state (records_count_types (later ++ block)) line then None else state_on every block later
-state_on every block (Accepted (Observation epoch) ∷ later) =
+-- ---- the epoch that the lines after some items may go on from, where those after a block go on from the first
+
+abbrev pub state_on : Option WrittenEpoch → Option ℕ → List (Item Epoch) → List (Item Epoch) → Option WrittenEpoch
+state_on start every block [] = start
+state_on start every block (Accepted (HeaderLine line) ∷ later) = None
+state_on start every block (Accepted (EventLine line) ∷ later) = state_on start every block later
+state_on start every block (Accepted (EventRecord line) ∷ later) =
+    if empties_state (records_count_types (later ++ block)) line then None else state_on start every block later
+state_on start every block (Accepted (Observation epoch) ∷ later) =
     Some (epoch_written (marked_now every (later ++ block) epoch) (marked_epochs every (later ++ block)))
-state_on every block (Warned at ∷ later) = state_on every block later
+state_on start every block (Warned at ∷ later) = state_on start every block later
 
 -- the first epoch after a block is in full
 abbrev pub GoAnew : Choices → List (Item Epoch) → List (Item Epoch) → Type 0
@@ -65,70 +71,72 @@ none-interrupted : (choices : Choices) (block : List (Item Epoch)) (epoch : Epoc
 none-interrupted choices block epoch (inl none) = rw none refl
 none-interrupted choices block epoch (inr anew) = anew
 
-later : (types : List Count) (choices : Choices) (epoch : Epoch) (block items : List (Item Epoch))
-    → GoAnew choices block (Accepted (Observation epoch) ∷ items) → is_in_full choices.every (items ++ block) ≡ false
-    → AreWhole types (since_full (marked false epoch ∷ marked_epochs choices.every (items ++ block)))
-    → AreEpochLines (state_on choices.every block items)
-    (epoch_written (marked false epoch) (marked_epochs choices.every (items ++ block)))
-    (compact_epoch (marked false epoch ∷ marked_epochs choices.every (items ++ block)))
-later types choices epoch block [] anew e h =
-    let never = sym (none-interrupted choices block epoch anew) ∙ e in absurd (cc never)
-later types choices epoch block (Accepted (Observation last) ∷ items) anew e h = later-lines types epoch
-    (marked_now choices.every (items ++ block) last) (marked_epochs choices.every (items ++ block)) h
-later types choices epoch block (item ∷ items) anew e h =
-    let never = not-interrupted choices.every (item ∷ (items ++ block)) e in absurd (cc never)
-
-own-epoch : (types : List Count) (choices : Choices) (epoch : Epoch) (block items : List (Item Epoch)) (full : Bool)
-    → GoAnew choices block (Accepted (Observation epoch) ∷ items) → is_in_full choices.every (items ++ block) ≡ full
-    → AreWhole types (since_full (marked full epoch ∷ marked_epochs choices.every (items ++ block)))
-    → AreEpochLines (state_on choices.every block items)
-    (epoch_written (marked full epoch) (marked_epochs choices.every (items ++ block)))
-    (compact_epoch (marked full epoch ∷ marked_epochs choices.every (items ++ block)))
-own-epoch types choices epoch block items true anew e h =
-    full-lines types epoch (marked_epochs choices.every (items ++ block)) (state_on choices.every block items) h
-own-epoch types choices epoch block items false anew e h = later types choices epoch block items anew e h
-
 units-count : (items : List (Item Epoch)) (line : List ℕ) → AreInPlace (Accepted (EventRecord line) ∷ items)
     → records_count_types (as_items (units_in items)) ≡ records_count_types items
 units-count items line h = ap records_count_types (sym (units-carried items))
     ∙ count-same (λ before epoch. epoch) items h.1 (h.0).1
 
-own-unit : (choices : Choices) (block items : List (Item Epoch)) (unit : FileUnit Epoch)
-    → AreInPlace (Accepted unit ∷ (items ++ block)) → GoAnew choices block (Accepted unit ∷ items)
-    → AreLinesOfUnit (as_items (units_in (items ++ block))) (state_on choices.every block items) unit
-    (body_unit choices.every (items ++ block) unit) (state_on choices.every block (Accepted unit ∷ items))
-own-unit choices block items (HeaderLine line) h anew = (refl, refl)
-own-unit choices block items (EventLine line) h anew = (refl, refl)
-own-unit choices block items (EventRecord line) h anew = (
-  refl,
-  ap (λ b. if empties_state b line then None else state_on choices.every block items)
-      (sym (units-count (items ++ block) line h)),
-)
-own-unit choices block items (Observation epoch) h anew =
-    let all = items ++ block in
-    let whole = whole-next choices.every all epoch h in (
-      epoch_written (marked_now choices.every all epoch) (marked_epochs choices.every all),
-      epoch-same (types_in_force all) (is_in_full choices.every all) epoch (marked_epochs choices.every all) whole.0,
-      refl,
-      own-epoch (types_in_force all) choices epoch block items (is_in_full choices.every all) anew refl whole,
-    )
+module _ (start : Option WrittenEpoch) (choices : Choices) (block : List (Item Epoch)) where
+  abbrev before_all : List (Item Epoch) → Option WrittenEpoch
+  before_all items = state_on start choices.every block items
 
--- the lines of some items after a block
-pub own-on : (choices : Choices) (block items : List (Item Epoch)) → AreInPlace (items ++ block) → GoAnew choices block items
-    → AreLinesOn (units_in block) None (units_in items) (lines_on choices.every items block) (state_on choices.every block items)
-own-on choices block [] h anew = (refl, refl)
-own-on choices block (Warned at ∷ items) h anew =
-    own-on choices block items h.1 (rest-anew choices block (Warned at) items anew)
-own-on choices block (Accepted unit ∷ items) h anew = (
-  state_on choices.every block items,
-  lines_on choices.every items block,
-  body_unit choices.every (items ++ block) unit,
-  own-on choices block items h.1 (rest-anew choices block (Accepted unit) items anew),
-  refl,
-  subst (λ us. AreLinesOfUnit (as_items us) (state_on choices.every block items) unit
-      (body_unit choices.every (items ++ block) unit) (state_on choices.every block (Accepted unit ∷ items)))
-      (units-append items block) (own-unit choices block items unit h anew),
-)
+  abbrev epoch_of : Marked → List (Item Epoch) → WrittenEpoch
+  epoch_of m items = epoch_written m (marked_epochs choices.every (items ++ block))
+
+  abbrev IsWholeAfter : List Count → Marked → List (Item Epoch) → Type 0
+  IsWholeAfter types m items = AreWhole types (since_full (m ∷ marked_epochs choices.every (items ++ block)))
+
+  later : (types : List Count) (epoch : Epoch) (items : List (Item Epoch))
+      → GoAnew choices block (Accepted (Observation epoch) ∷ items) → is_in_full choices.every (items ++ block) ≡ false
+      → IsWholeAfter types (marked false epoch) items → AreEpochLines (before_all items) (epoch_of (marked false epoch) items)
+      (compact_epoch (marked false epoch ∷ marked_epochs choices.every (items ++ block)))
+  later types epoch [] anew e h = let never = sym (none-interrupted choices block epoch anew) ∙ e in absurd (cc never)
+  later types epoch (Accepted (Observation last) ∷ items) anew e h = later-lines types epoch
+      (marked_now choices.every (items ++ block) last) (marked_epochs choices.every (items ++ block)) h
+  later types epoch (item ∷ items) anew e h =
+      let never = not-interrupted choices.every (item ∷ (items ++ block)) e in absurd (cc never)
+
+  own-epoch : (types : List Count) (epoch : Epoch) (items : List (Item Epoch)) (full : Bool)
+      → GoAnew choices block (Accepted (Observation epoch) ∷ items) → is_in_full choices.every (items ++ block) ≡ full
+      → IsWholeAfter types (marked full epoch) items → AreEpochLines (before_all items) (epoch_of (marked full epoch) items)
+      (compact_epoch (marked full epoch ∷ marked_epochs choices.every (items ++ block)))
+  own-epoch types epoch items true anew e h =
+      full-lines types epoch (marked_epochs choices.every (items ++ block)) (before_all items) h
+  own-epoch types epoch items false anew e h = later types epoch items anew e h
+
+  own-unit : (items : List (Item Epoch)) (unit : FileUnit Epoch) → AreInPlace (Accepted unit ∷ (items ++ block))
+      → GoAnew choices block (Accepted unit ∷ items) → AreLinesOfUnit (as_items (units_in (items ++ block)))
+      (before_all items) unit (body_unit choices.every (items ++ block) unit) (before_all (Accepted unit ∷ items))
+  own-unit items (HeaderLine line) h anew = (refl, refl)
+  own-unit items (EventLine line) h anew = (refl, refl)
+  own-unit items (EventRecord line) h anew = (
+    refl,
+    ap (λ b. if empties_state b line then None else before_all items) (sym (units-count (items ++ block) line h)),
+  )
+  own-unit items (Observation epoch) h anew =
+      let all = items ++ block in
+      let whole = whole-next choices.every all epoch h in (
+        epoch_of (marked_now choices.every all epoch) items,
+        epoch-same (types_in_force all) (is_in_full choices.every all) epoch (marked_epochs choices.every all) whole.0,
+        refl,
+        own-epoch (types_in_force all) epoch items (is_in_full choices.every all) anew refl whole,
+      )
+
+  -- the lines of some items after a block
+  pub own-on : (items : List (Item Epoch)) → AreInPlace (items ++ block) → GoAnew choices block items
+      → AreLinesOn (units_in block) start (units_in items) (lines_on choices.every items block) (before_all items)
+  own-on [] h anew = (refl, refl)
+  own-on (Warned at ∷ items) h anew = own-on items h.1 (rest-anew choices block (Warned at) items anew)
+  own-on (Accepted unit ∷ items) h anew = (
+    before_all items,
+    lines_on choices.every items block,
+    body_unit choices.every (items ++ block) unit,
+    own-on items h.1 (rest-anew choices block (Accepted unit) items anew),
+    refl,
+    subst (λ us. AreLinesOfUnit (as_items us) (before_all items) unit
+        (body_unit choices.every (items ++ block) unit) (before_all (Accepted unit ∷ items)))
+        (units-append items block) (own-unit items unit h anew),
+  )
 
 -- ---- all items
 
@@ -144,14 +152,18 @@ on-nothing (unit ∷ units) lines last k = (
   subst (λ us. AreLinesOfUnit (as_items us) k.0 unit k.2 last) (append-nil units) k.5,
 )
 
+-- the epoch that the lines after some items may go on from
+abbrev pub state_after : Option ℕ → List (Item Epoch) → Option WrittenEpoch
+state_after every items = state_on None every [] items
+
 pub own-lines : (choices : Choices) (items : List (Item Epoch)) → AreInPlace items
-    → AreLinesOf (units_in items) (lines_back choices.every items) (state_on choices.every [] items)
+    → AreLinesOf (units_in items) (lines_back choices.every items) (state_after choices.every items)
 own-lines choices items h =
     let same : lines_on choices.every items [] ≡ lines_back choices.every items =
     sym (written-on choices.every items []) ∙ ap (lines_back choices.every) (append-nil items) in
-    subst (λ ls. AreLinesOf (units_in items) ls (state_on choices.every [] items)) same
-    (on-nothing (units_in items) (lines_on choices.every items []) (state_on choices.every [] items)
-    (own-on choices [] items (subst AreInPlace (sym (append-nil items)) h) (inl refl)))
+    subst (λ ls. AreLinesOf (units_in items) ls (state_after choices.every items)) same
+    (on-nothing (units_in items) (lines_on choices.every items []) (state_after choices.every items)
+    (own-on None choices [] items (subst AreInPlace (sym (append-nil items)) h) (inl refl)))
 
 in-place : (units : List (FileUnit Epoch)) → AreInOrder units → AreUnitsInPlace units
 in-place [] h = tt
@@ -182,7 +194,7 @@ own-items choices items dated h none =
       version = version_line;
       program = program_line choices.date;
       lines = lines;
-      last = state_on choices.every [] items;
+      last = state_after choices.every items;
       cut = ap (λ ls. map as_read (lines_of (lines_text ls))) (lines-same choices items h.in_place (started items h.header))
           ∙ lines-cut (version_line ∷ program_line choices.date ∷ lines) clean;
       first = refl;

@@ -1,267 +1,169 @@
--- Damage to compact text stays in its block: what an expansion writes and reports, from the lines of the
--- damaged text on.
+-- Damage to compact text stays in its block, whoever wrote the text: what an expansion writes and reports.
 use Rattle.crx_filter.proofs
-use proofs.Words.{common_steps, arith, ℕ, suc, ◌≡◌, ◌+◌, ◌⊎◌, true, List, [], ◌∷◌, ◌++◌, map, length, drop}
-use proofs.Words.{take, reverse, Option, None, refl, ap, sym, ◌∙◌, subst, append_assoc, append-nil}
-use proofs.Words.{AllByRecursion, flat_map, list_all, map-append, drop-append_seam, Piece, pieces_of}
-use proofs.Words.{lines_of, ReadLine, Content, as_read, At, Epoch, IsWholeEpoch, printed_epoch, lines_text}
-use proofs.Words.{Observation, epoch_line, ReadEpoch, Choices, is_date, Item, Accepted, header_has_ended}
-use proofs.Words.{records_left, types_in_force, Reading, reading_from, notices_text}
-use proofs.Words.{warnings_in, result_of, marked_epochs, compact_unit, compact_lines, version_line}
-use proofs.Words.{program_line, compact_place, expanded_unit, whole_compact, expanded, expanded_lines}
-use proofs.Words.{printed_items, AreInPlace, IsBetweenUnits, lines_of_epochs, with_epochs, lines_after}
-use proofs.Words.{IsDamaged}
-use Rattle.crx_filter.specs.{Damage.IsOfCompaction, meaning.Damage.IsSalvaged}
+use proofs.Words.{ℕ, ◌≡◌, ◌+◌, true, List, [], ◌∷◌, ◌++◌, map, length, reverse, Option, None, refl, ap, sym, ◌∙◌, subst}
+use proofs.Words.{append_assoc, append-nil, AllByRecursion, flat_map, list_all, and_parts, not-true, lines_of, lines_text}
+use proofs.Words.{ReadLine, Content, Overlong, as_read, Epoch, FileUnit, IsWholeEpoch, printed_epoch, ReadEpoch, Choices, Item}
+use proofs.Words.{records_left, types_in_force, Reading, reading_from, continued_reading, ended_reading, notices_text}
+use proofs.Words.{warnings_in, result_of, compact_place, expanded_unit, whole_compact, expanded, expanded_lines, printed_items}
+use proofs.Words.{AreInPlace, IsBetweenUnits, ItemsAreRead, Stretch, up_to_end, up_to_next, IsStretch}
+use Rattle.crx_filter.specs.meaning.{CompactText.AreUnitsInPlace, Stretches.AreLinesOn, UnitsAndText.as_items}
+use Rattle.crx_filter.specs.meaning.Damage.{is_inside, AreBlockLines, IsDamaged, epochs_among, IsSalvaged}
+use Rattle.crx_compact.specs.meaning.AnyWriter.{WrittenEpoch}
 use Rattle.crx_runs.specs.meaning.Results.{status_after}
-use Rattle.std.proofs.lemmas.List.{append_cancel_left, take-append-drop}
-use proofs.damage.BlockReading.{IsInside, IsBlockText, IsBlockRead, inside-text, with_reads, block-read}
-use proofs.damage.BlockSaved.{epochs-append, epochs-in_place, rest-in_place, epochs-header, epochs-left}
-use proofs.damage.BlockSaved.{epochs-types, epochs-lines, back-between, up_to, IsUndamaged, tail-saved}
-use proofs.damage.{BlockSaved.{IsPlaced, placed, text-parts}, DamagedText.{damaged-cut, instead-inside}}
-use proofs.damage.{DamagedText.text-append, GoingOn.with_warnings, SavedText.{epochs_in, lines-append}}
-use proofs.damage.SavedText.{lines-warned, lines-read, warnings-append, warnings-with, warnings-read}
-use proofs.damage.SavedText.{none-first, few-reversed, whole-block, epochs_of, epochs-ended, epochs-back}
-use proofs.damage.TextAfter.{lines_on, written-on, one-more, text-anew}
-use proofs.reading.{Each.{all-append, all-parts, contents}, WhatWasRead.items-read}
-use proofs.wayback.{Carried.{started, types-same}, Cut.IsClean, First.{version-clean, program-clean}}
-use proofs.wayback.{Items.{marked_now, read_back, epoch-stands}, Reading.lines_back, Standard.same-reading}
-use proofs.wayback.WayBack.{lines-same, lines-clean, printed-same, no-warnings, whole-after}
+use Rattle.std.proofs.lemmas.List.{append_cancel_left}
+use proofs.anywriter.AnyText.{AreRead, AreReadOn, all-read, read-on, in-place, units-silent, whole-read}
+use proofs.damage.BlockReading.{IsInside, IsBlockText, IsBlockRead, inside-text, with_reads, reads-between, reads-types, block-read}
+use proofs.damage.{BlockSaved.{IsSaved, kept-saved}, GoingOn.with_warnings, SavedText.{epochs_in, lines-append, lines-warned}}
+use proofs.damage.SavedText.{lines-read, warnings-append, warnings-with, warnings-read, few-reversed, whole-block}
+use proofs.damage.SavedText.{epochs_of, epochs-ended, epochs-append, epochs-known}
+use proofs.reading.{Each.all-parts, ForwardCompact.compact-forward, Resuming.resumed, WhatWasRead.items-read}
+use proofs.stretches.StretchesRead.{header-on, placed-up_to}
+use proofs.wayback.ExpandedStandard.{printed-read}
 
--- ---- the parts of a damaged text
+-- ---- the lines of a block
 
-module _ {choices : Choices} {before : List (Item Epoch)} {first : Epoch} {others : List Epoch}
-    {after : List (Item Epoch)} (p : IsPlaced choices before first others after) where
-  abbrev block : List (Item Epoch)
-  block = with_epochs before (first ∷ others)
+insides : (lines : List ReadLine) → list_all is_inside lines ≡ true → AllByRecursion IsInside lines
+insides [] e = tt
+insides (Overlong ∷ lines) e = let both = and_parts (is_inside Overlong) (list_all is_inside lines) e in absurd (cc both.0)
+insides (Content line ∷ lines) e =
+    let both = and_parts (is_inside (Content line)) (list_all is_inside lines) e in
+    (not-true _ both.0, insides lines both.1)
 
-  -- the first line of the block
-  abbrev full : List ℕ
-  full = epoch_line (marked_now choices.every before first) (marked_epochs choices.every before)
+block-text : (lines : List ReadLine) → AreBlockLines lines → IsBlockText lines
+block-text [] h = tt
+block-text (Overlong ∷ lines) h = absurd h
+block-text (Content line ∷ lines) h = (h.0, insides lines h.1)
 
-  -- the lines before the block, and its first
-  abbrev front : List (List ℕ)
-  front = version_line ∷ program_line choices.date ∷ (lines_back choices.every before ++ full ∷ [])
+-- what is left of them after some lines are such lines too
+rest-text : (lines : List (List ℕ)) (rest : List ReadLine) → IsBlockText (map Content lines ++ rest) → IsBlockText rest
+rest-text [] rest h = h
+rest-text (line ∷ lines) rest h = inside-text rest (all-parts IsInside (map Content lines) rest h.1).1
+
+-- ---- a damaged text
+
+module _ (before : List (FileUnit Epoch)) (s : Stretch) (damaged : List ℕ) (d : IsDamaged before s damaged) where
+  one : IsStretch before s
+  one = ((d.stretch).each).0
+
+  placed : AreInPlace (as_items (up_to_next before s))
+  placed = in-place (up_to_next before s) ((d.stretch).file).in_place
+
+  -- how the lines before the block are read
+  pub front : AreRead true 3 before ((d.stretch).text).lines ((d.stretch).text).last
+  front = all-read true 3 before ((d.stretch).text).lines ((d.stretch).text).last (placed-up_to before (s ∷ []) placed)
+      ((d.stretch).text).written
+
+  abbrev start : List (Item ReadEpoch)
+  start = front.items
+
+  abbrev number : ℕ
+  number = 3 + length ((d.stretch).text).lines
 
   -- what is read of some lines after those before the block
   abbrev reads_on : List ReadLine → Reading ReadEpoch
-  reads_on lines = reading_from compact_place true (read_back choices.every before)
-      (3 + length (lines_back choices.every before)) lines
+  reads_on lines = reading_from compact_place true start number lines
 
-  block-in_place : AreInPlace block
-  block-in_place = rest-in_place after block p.settled.in_place
+  front-between : IsBetweenUnits start
+  front-between = record { header = (front.like).header ∙ (d.stretch).header; none = (front.like).left ∙ one.begins }
 
-  first-in_place : AreInPlace (Accepted (Observation first) ∷ before)
-  first-in_place = epochs-in_place (Accepted (Observation first) ∷ before) others block-in_place
+  after-front : (lines : List ReadLine)
+      → reading_from compact_place true [] 3 (map Content ((d.stretch).text).lines ++ lines) ≡ reads_on lines
+  after-front lines = resumed compact_place compact-forward true [] 3 (map Content ((d.stretch).text).lines) lines
+      ∙ ap (λ r. continued_reading compact_place true r lines) front.reads
 
-  before-header : header_has_ended before ≡ true
-  before-header = (first-in_place.0).0
+  pub found : IsBlockRead start (reads_on s.instead)
+  found = block-read start number s.instead front-between (block-text s.instead d.block)
 
-  before-left : records_left before ≡ 0
-  before-left = (first-in_place.0).1
+  abbrev items : List (Item ReadEpoch)
+  items = with_reads start found.reads
 
-  block-header : header_has_ended block ≡ true
-  block-header = epochs-header before (first ∷ others) before-header
+  pub saved : IsSaved s.kept items (ended_reading true (reads_on (s.instead ++ map Content s.lines)))
+  saved = kept-saved (up_to_end before s) s.kept s.lines one.last start number s.instead found front-between (record {
+    header = header-on s.lost before (d.stretch).header;
+    left = one.ends;
+    between = reads-between start found.reads front-between;
+    types = reads-types start found.reads ∙ (front.like).types ∙ sym one.types;
+  }) placed ((d.stretch).file).complete one.written
 
-  pub before-between : IsBetweenUnits (read_back choices.every before)
-  before-between = back-between choices.every before first-in_place.1 before-header before-left
+  abbrev all : List (Item ReadEpoch)
+  all = saved.more ++ with_warnings saved.warnings items
 
-  pub undamaged : IsUndamaged choices.every after block
-  undamaged = grind (arith, common_steps, block-header, epochs-left, before-left)
+  pub whole-damaged : whole_compact true (map as_read (lines_of damaged)) ≡ record { items = all; fault = None }
+  whole-damaged =
+      let t = (d.stretch).text in
+      let lines = map Content t.lines ++ (s.instead ++ map Content s.lines) in
+      ap (whole_compact true) (t.cut ∙ ap (λ ls. Content t.version ∷ Content t.program ∷ (map Content t.lines ++ ls))
+      ((d.stretch).rest ∙ append-nil (s.instead ++ map Content s.lines)))
+      ∙ whole-read true t.version t.program lines t.first t.second
+      ∙ ap (ended_reading true) (after-front (s.instead ++ map Content s.lines)) ∙ saved.same
 
-  pub block_text : (lines : List ReadLine) → AllByRecursion IsInside lines
-      → IsBlockText (Content full ∷ lines)
-  block_text lines inside = ((epoch-stands choices.every before first first-in_place).no_event.0, inside)
+  -- ---- what is written and reported
 
-  before-types : types_in_force (read_back choices.every before) ≡ types_in_force before
-  before-types = types-same _ before first-in_place.1
+  pub text-written : expanded_lines all ≡ printed_items (as_items before)
+      ++ (flat_map printed_epoch (epochs_in found.reads) ++ printed_items (as_items s.kept))
+  text-written = lines-append saved.more (with_warnings saved.warnings items)
+      ∙ ap (λ ls. ls ++ expanded_lines saved.more) (lines-warned saved.warnings items ∙ lines-read start found.reads
+      ∙ ap (λ ls. ls ++ flat_map printed_epoch (epochs_in found.reads)) (printed-read start ∙ ap printed_items front.known))
+      ∙ ap (λ ls. (printed_items (as_items before) ++ flat_map printed_epoch (epochs_in found.reads)) ++ ls)
+      (printed-read saved.more ∙ ap printed_items saved.known)
+      ∙ append_assoc (printed_items (as_items before)) (flat_map printed_epoch (epochs_in found.reads))
+      (printed_items (as_items s.kept))
 
-  all-clean : AllByRecursion IsClean (lines_back choices.every block) × AllByRecursion IsClean
-      (lines_on choices.every after block)
-  all-clean = all-parts _ _ _ (rw (← written-on choices.every after block) (lines-clean choices.every
-      (after ++ block) p.settled.in_place p.settled.copied p.no_returns))
+  pub warned : warnings_in all ≡ saved.warnings
+  warned = warnings-append saved.more (with_warnings saved.warnings items)
+      ∙ ap (λ w. w ++ warnings_in (with_warnings saved.warnings items)) (units-silent saved.more s.kept saved.known)
+      ∙ warnings-with saved.warnings items ∙ ap (λ w. saved.warnings ++ w) (warnings-read start found.reads
+      ∙ units-silent start before front.known) ∙ append-nil saved.warnings
 
-  block-clean : AllByRecursion IsClean (lines_back choices.every before)
-      × AllByRecursion IsClean (lines_of_epochs choices before (first ∷ others))
-  block-clean = all-parts _ _ (lines_of_epochs choices before
-      (first ∷ others)) (rw (← epochs-lines choices before (first ∷ others)) all-clean.0)
+  pub epochs-whole : AllByRecursion (IsWholeEpoch (types_in_force (as_items before))) (epochs_in found.reads)
+  epochs-whole = subst (λ types. AllByRecursion (IsWholeEpoch types) (epochs_in found.reads)) (front.like).types
+      (whole-block start found.reads (reads_on s.instead) found.ends (subst (λ (r : Reading ReadEpoch).
+      ItemsAreRead compact_place r.items) (after-front s.instead)
+      (items-read compact_place true 3 (map Content ((d.stretch).text).lines ++ s.instead))))
 
-  front-clean : is_date choices.date ≡ true → AllByRecursion IsClean front
-  front-clean dated = (
-    version-clean,
-    (program-clean _ dated, all-append _ _ _ block-clean.0 ((block-clean.1).0, tt)),
-  )
+  -- ---- the epochs whose lines stand at the block's beginning
 
-  front-same : compact_lines choices before ++ take 1 (compact_unit choices before (Observation first))
-      ≡ front
-  front-same = cc (lines-same choices before first-in_place.1 (started before before-header))
-
-  pub lines-parts : compact_lines choices (after ++ block) ≡ compact_lines choices block ++ lines_on
-      choices.every after block
-  lines-parts = text-parts choices after _ p.settled.in_place p.settled.header block-header
-
-  pub after-same : lines_after choices block (after ++ block) ≡ lines_on choices.every after block
-  after-same = search (lines-parts, drop-append_seam)
-
-  pub block-parts : compact_lines choices block ≡ compact_lines choices before ++ lines_of_epochs choices
-      before (first ∷ others)
-  block-parts = rw (lines-same choices block block-in_place (started block block-header))
-      (rw (lines-same choices
-      before first-in_place.1 (started before before-header)) (rw (epochs-lines choices before
-      (first ∷ others)) refl))
-
-  none-after : (bytes : List ℕ) → (after ≡ []) ⊎ (list_all (λ (piece : Piece). piece.is_ended)
-      (pieces_of bytes) ≡ true) → (lines_on choices.every after block ≡ [])
-      ⊎ (list_all (λ (piece : Piece). piece.is_ended) (pieces_of bytes) ≡ true)
-  none-after bytes v1 = grind (arith)
-
-  -- the lines of the damaged text, as they are read
-  pub lines-cut : (instead : List ℕ) → is_date choices.date ≡ true
-      → (after ≡ []) ⊎ (list_all (λ (piece : Piece). piece.is_ended) (pieces_of instead) ≡ true)
-      → map as_read (lines_of (lines_text (compact_lines choices before ++ take 1 (compact_unit choices before
-      (Observation first))) ++ instead ++ lines_text (lines_after choices block (after ++ block))))
-      ≡ map Content front ++ (map as_read (lines_of instead) ++ map Content (lines_on choices.every after
-      block))
-  lines-cut instead dated ends = rw (append_assoc, front-same, after-same) (damaged-cut front instead
-      (lines_on choices.every after block) (front-clean dated) all-clean.1 (none-after instead ends))
-
-  -- the reading of the block's lines up to its end is that of the lines before and these
-  pub block-reading : (lines : List ReadLine) → reading_from compact_place true [] 3
-      (map Content (lines_back choices.every before) ++ lines) ≡ reads_on lines
-  block-reading lines = up_to choices.every before lines first-in_place.1
-
-  pub types-kept : types_in_force (read_back choices.every before) ≡ types_in_force block
-  types-kept = before-types ∙ sym (epochs-types before (first ∷ others))
-
-  -- the epochs that are read of the block are whole
-  pub epochs-whole : (lines : List ReadLine) (b : IsBlockRead (read_back choices.every before)
-      (reads_on lines)) → AllByRecursion (IsWholeEpoch (types_in_force before)) (epochs_in b.reads)
-  epochs-whole lines b = rw before-types at (whole-block (read_back choices.every before) b.reads
-      (reads_on lines) b.ends (rw (← block-reading lines) (items-read compact_place true 3
-      (map Content (lines_back choices.every before) ++ lines))))
-
-  -- ---- the block's own epochs
-
-  -- the epochs of a block up to one of them are in place
-  own-in_place : (count : ℕ) → AreInPlace (with_epochs before (take (suc count) (first ∷ others)))
-  own-in_place count = epochs-in_place _ (drop (suc count) (first ∷ others))
-      (rw (← epochs-append before (take (suc count) (first ∷ others)) (drop (suc count) (first ∷ others)))
-      (rw (take-append-drop (suc count) (first ∷ others)) block-in_place))
-
-  -- where the lines begin with those of some of its epochs, what is read goes on after these
-  own-reading : (lines rest : List (List ℕ)) (count : ℕ) → lines ≡ drop 1 (lines_of_epochs choices before
-      (take (suc count) (first ∷ others))) ++ rest → reads_on (Content full ∷ map Content lines)
-      ≡ reading_from compact_place true (read_back choices.every (with_epochs before (take (suc count)
-      (first ∷ others)))) (3 + length (lines_back choices.every (with_epochs before (take (suc count)
-      (first ∷ others))))) (map Content rest)
-  own-reading lines rest count e =
-      let own = take (suc count) (first ∷ others) in
-      let own_lines = lines_of_epochs choices before own in
-      let old = lines_back choices.every before in
-      let same : Content full ∷ map Content lines ≡ map Content own_lines ++
-      map Content rest = cc (e, map-append Content (drop 1 own_lines) rest) in
-      sym (block-reading (Content full ∷ map Content lines)) ∙ rw same
-      (rw (← append_assoc (map Content old) (map Content own_lines) (map Content rest))
-      (rw (← map-append Content old own_lines) (rw (← epochs-lines choices before own)
-      (up_to choices.every (with_epochs before own) (map Content rest) (own-in_place count)))))
-
-  pub own-epochs : (lines : List (List ℕ)) (b : IsBlockRead (read_back choices.every before)
-      (reads_on (Content full ∷ map Content lines))) → AllByRecursion IsInside (map Content lines)
-      → (count : ℕ) (rest : List (List ℕ)) → lines ≡ drop 1 (lines_of_epochs choices before (take (suc count)
-      (first ∷ others))) ++ rest → (more : List Epoch) × (epochs_in b.reads ≡ take (suc count)
-      (first ∷ others) ++ more)
-  own-epochs lines b inside count rest e =
-      let own = take (suc count) (first ∷ others) in
-      let start = read_back choices.every before in
-      let then_items = read_back choices.every (with_epochs before own) in
-      let number = 3 + length (lines_back choices.every (with_epochs before own)) in
-      let left_inside : AllByRecursion IsInside (map Content rest) = (all-parts _ (map Content
-      (drop 1 (lines_of_epochs choices before own))) _ (subst (AllByRecursion IsInside) (ap (map Content) e
-      ∙ map-append Content (drop 1 (lines_of_epochs choices before own)) rest) inside)).1 in
-      let later = block-read _ number (map Content rest) (back-between choices.every (with_epochs before own)
-      (own-in_place count) (epochs-header before own before-header) (epochs-left before own before-left))
-      (inside-text (map Content rest) left_inside) in
-      let same = sym (epochs-ended start _ (reads_on (Content full ∷ map Content lines)) b.ends)
-      ∙ ap (λ (s : Reading ReadEpoch). epochs_of s.items) (own-reading lines rest count e) ∙ epochs-ended
-      then_items later.reads (reading_from compact_place true then_items number (map Content rest)) later.ends
-      ∙ ap (λ es. es ++ epochs_in later.reads) (epochs-back choices.every before own)
-      ∙ append_assoc (epochs_of start) own (epochs_in later.reads) in (
-        epochs_in later.reads,
-        append_cancel_left _ _ _ same,
-      )
-
--- ---- what is written and reported
-
--- what the undamaged text gives after its block
-output-same : (every : Option ℕ) (before block all : List (Item Epoch)) (reads : List ReadEpoch)
-    (warnings : List At) (more : List (Item ReadEpoch)) → more ++ read_back every block ≡ read_back every all
-    → expanded_lines (more ++ with_warnings warnings (with_reads (read_back every before) reads))
-    ≡ (printed_items before ++ flat_map printed_epoch (epochs_in reads))
-    ++ drop (length (printed_items block)) (printed_items all)
-output-same every before block all reads warnings more rest =
-    grind (arith, common_steps, printed-same, lines-append, drop-append_seam, lines-warned, lines-read)
-
-warnings-same : (every : Option ℕ) (before block all : List (Item Epoch)) (reads : List ReadEpoch)
-    (warnings : List At) (more : List (Item ReadEpoch)) → more ++ read_back every block ≡ read_back every all
-    → warnings_in (more ++ with_warnings warnings (with_reads (read_back every before) reads)) ≡ warnings
-warnings-same every before block all reads warnings more rest =
-    let none = none-first (warnings_in more) (warnings_in (read_back every block))
-    (cc (warnings-append more (read_back every block), rest, no-warnings every all)) in
-    rw (warnings-append, none, warnings-with, warnings-read, no-warnings every before, append-nil) refl
+  pub own-epochs : (units : List (FileUnit Epoch)) (lines : List (List ℕ)) (last : Option WrittenEpoch) (rest : List ReadLine)
+      → AreUnitsInPlace (units ++ before) → records_left (as_items (units ++ before)) ≡ 0
+      → AreLinesOn before ((d.stretch).text).last units lines last → s.instead ≡ map Content lines ++ rest
+      → (more : List Epoch) × (epochs_in found.reads ≡ epochs_among units ++ more)
+  own-epochs units lines last rest placed closed k e =
+      let o : AreReadOn true start number before units lines last = read-on true start number before units lines
+      ((d.stretch).text).last last front.like front.left (in-place (units ++ before) placed) k in
+      let next : List (Item ReadEpoch) = o.more ++ start in
+      let n : ℕ = number + length lines in
+      let between : IsBetweenUnits next = record {
+        header = (o.like).header ∙ header-on units before (d.stretch).header;
+        none = (o.like).left ∙ closed;
+      } in
+      let later = block-read next n rest between (rest-text lines rest (subst IsBlockText e (block-text s.instead d.block))) in
+      let reads : reads_on s.instead ≡ reading_from compact_place true next n rest = ap reads_on e
+      ∙ resumed compact_place compact-forward true start number (map Content lines) rest
+      ∙ ap (λ r. continued_reading compact_place true r rest) o.reads in
+      let known : epochs_of next ≡ epochs_of start ++ epochs_among units =
+      epochs-append o.more start ∙ ap (λ es. epochs_of start ++ es) (epochs-known o.more units o.known) in
+      let same = sym (epochs-ended start found.reads (reads_on s.instead) found.ends)
+      ∙ ap (λ (r : Reading ReadEpoch). epochs_of r.items) reads
+      ∙ epochs-ended next later.reads (reading_from compact_place true next n rest) later.ends
+      ∙ ap (λ es. es ++ epochs_in later.reads) known ∙ append_assoc (epochs_of start) (epochs_among units) (epochs_in later.reads) in
+      (epochs_in later.reads, append_cancel_left (epochs_of start) _ _ same)
 
 -- ---- the law
 
--- what is saved of the lines of a damaged text
-pub saved-lines : (input : List ℕ) (choices expanding : Choices) (damaged : List ℕ)
-    → is_date choices.date ≡ true → expanding.skip ≡ true
-    → (d : IsDamaged input choices damaged) → IsSalvaged input choices damaged d (expanded damaged expanding)
-saved-lines input choices expanding damaged dated skips d =
-    let p = placed input _ _ d in
-    let block = block p in
-    let whole_items = d.after ++ block in
-    let cs = contents (lines_of d.instead) in
-    let inside = instead-inside (lines_of d.instead) d.allowed in
-    let start = read_back choices.every d.before in
-    let old = lines_back choices.every d.before in
-    let number = 3 + length old in
-    let full = full p in
-    let lines = Content full ∷ map Content cs in
-    let tail = map _ _ in
-    let known = undamaged p in
-    let between = before-between p in
-    let b = block-read start number lines between
-    (block_text p (map Content cs) inside.1) in
-    let items = with_reads start b.reads in
-    let s = tail-saved _ _ block start number lines tail b known refl
-    (text-anew choices block d.after known.header known.left known.in_place d.anew) between
-    (types-kept p) in
-    let last = with_warnings s.warnings items in
-    let cut : map as_read (lines_of damaged) ≡ Content version_line ∷ Content (program_line choices.date)
-    ∷ (map Content old ++ (lines ++ tail)) =
-    rw (d.text, d.parts, lines-cut p _ dated d.ended, inside.0, one-more old full (map Content cs ++ tail))
-    refl in
-    let whole : whole_compact expanding.skip (map as_read (lines_of damaged))
-    ≡ record { items = s.more ++ last; fault = None } = rw (skips, cut) (rw (whole-after true choices.date
-    (map Content old ++ (lines ++ tail))) (rw (block-reading p (lines ++ tail)) s.same)) in
-    let once = ap reverse (warnings-same
-    choices.every d.before block whole_items b.reads s.warnings s.more s.rest) ∙ few-reversed _ s.few in
-    rw (ap (result_of expanded_unit) whole) (record {
-      epochs = epochs_in b.reads;
-      whole = epochs-whole p lines b;
-      warnings = s.warnings;
-      few = s.few;
-      output = rw d.parts (ap lines_text (output-same choices.every d.before block whole_items b.reads
-          s.warnings
-          s.more s.rest));
+pub all-saved : (before : List (FileUnit Epoch)) (s : Stretch) (damaged : List ℕ) (expanding : Choices)
+    → expanding.skip ≡ true → (d : IsDamaged before s damaged) → IsSalvaged before s damaged d (expanded damaged expanding)
+all-saved before s damaged expanding skips d =
+    let k = saved before s damaged d in
+    let whole = ap (λ skip. whole_compact skip (map as_read (lines_of damaged))) skips ∙ whole-damaged before s damaged d in
+    let once = ap reverse (warned before s damaged d) ∙ few-reversed k.warnings k.few in
+    subst (IsSalvaged before s damaged d) (sym (ap (result_of expanded_unit) whole)) (record {
+      epochs = epochs_in (found before s damaged d).reads;
+      whole = epochs-whole before s damaged d;
+      warnings = k.warnings;
+      few = k.few;
+      output = ap lines_text (text-written before s damaged d);
       messages = append-nil _ ∙ ap notices_text once;
       status = ap (λ w. status_after w None) once;
       fault = refl;
-      own = λ count rest e. own-epochs p cs b inside.1 count rest e;
+      own = own-epochs before s damaged d;
     })
-
--- what is damaged is what the compaction writes, but for the lines of the block after its first
-pub of-compaction : (input : List ℕ) (choices : Choices) (damaged : List ℕ)
-    (d : IsDamaged input choices damaged) → IsOfCompaction input choices damaged d
-of-compaction input choices damaged d =
-    let p = placed input _ _ d in
-    rw (same-reading choices.skip (map as_read (lines_of input)) d.standard.good)
-    (rw (d.parts, lines-parts p, block-parts p, drop-append_seam, text-append) refl)

@@ -6,7 +6,7 @@ use Words.{refl, ap, sym, ◌∙◌, append_assoc, append-nil, AllByRecursion, l
 use Words.{map-append, flat_map-append, and_parts, Piece, InputLine, pieces_of, onto_first, lines_of}
 use Words.{Content, as_read, lines_text, not-true}
 use Rattle.crx_filter.proofs.{damage.BlockReading.IsInside, reading.Each.contents, wayback.Cut.IsClean}
-use Rattle.crx_filter.{proofs.wayback.Cut.as-read-clean, specs.meaning.Damage.may_replace}
+use Rattle.crx_filter.{proofs.wayback.Cut.as-read-clean, specs.Damage.may_replace}
 use Rattle.crx_lines.proofs.PieceLemmas.{EachEnded, pieces-first}
 
 -- ---- pieces of two texts, one after the other

@@ -1,11 +1,13 @@
 -- What is written and reported after damage: the texts of items one after another, and the epochs among them.
 use Rattle.crx_filter.proofs.Words
-use Words.{common_steps, ℕ, ◌≡◌, ◌≤◌, List, [], ◌∷◌, ◌++◌, map, length, reverse, Option, refl, ap}
+use Words.{common_steps, ◌≡◌, ◌≤◌, List, [], ◌∷◌, ◌++◌, map, length, reverse, refl, ap}
 use Words.{sym, ◌∙◌, arith, append_assoc, append-nil, AllByRecursion, flat_map, At, Epoch, IsWholeEpoch}
-use Words.{printed_epoch, Observation, ReadEpoch, Item, Accepted, Warned, records_left, types_in_force}
-use Words.{Reading, warnings_in, compact_place, expanded_lines, ItemsAreRead, with_epochs}
+use Words.{printed_epoch, FileUnit, HeaderLine, EventLine, EventRecord, Observation, ReadEpoch, Item, Accepted, Warned}
+use Words.{records_left, types_in_force}
+use Words.{Reading, warnings_in, compact_place, expanded_lines, ItemsAreRead}
 use Rattle.crx_filter.proofs.damage.{BlockReading.{EndsBlock, with_reads}, GoingOn.with_warnings}
-use Rattle.crx_filter.proofs.wayback.{ExpandedWhole.{AreGoodEpochs, epochs-good}, Items.read_back}
+use Rattle.crx_filter.proofs.wayback.ExpandedWhole.{AreGoodEpochs, epochs-good}
+use Rattle.crx_filter.specs.meaning.{Damage.epochs_among, UnitsAndText.as_items, WrittenStandard.rinex_items}
 
 -- ---- what is written
 
@@ -100,7 +102,39 @@ pub epochs-ended : (items : List (Item ReadEpoch)) (reads : List ReadEpoch) (r :
     → EndsBlock (with_reads items reads) r → epochs_of r.items ≡ epochs_of items ++ epochs_in reads
 epochs-ended items reads r v1 = grind (arith, epochs-read)
 
-pub epochs-back : (every : Option ℕ) (before : List (Item Epoch)) (epochs : List Epoch)
-    → epochs_of (read_back every (with_epochs before epochs)) ≡ epochs_of (read_back every before) ++ epochs
-epochs-back every before [] = sym (append-nil (epochs_of (read_back every before)))
-epochs-back every before (epoch ∷ later) = epochs-back every _ later ∙ append_assoc _ _ later
+pub epochs-append : (later before : List (Item ReadEpoch)) → epochs_of (later ++ before) ≡ epochs_of before ++ epochs_of later
+epochs-append [] before = sym (append-nil (epochs_of before))
+epochs-append (Accepted (Observation read) ∷ later) before = ap (λ es. es ++ read.epoch ∷ []) (epochs-append later before)
+    ∙ append_assoc (epochs_of before) (epochs_of later) (read.epoch ∷ [])
+epochs-append (Accepted (HeaderLine line) ∷ later) before = epochs-append later before
+epochs-append (Accepted (EventLine line) ∷ later) before = epochs-append later before
+epochs-append (Accepted (EventRecord line) ∷ later) before = epochs-append later before
+epochs-append (Warned at ∷ later) before = epochs-append later before
+
+-- those of the units that items show
+items_epochs : List (Item Epoch) → List Epoch
+items_epochs [] = []
+items_epochs (Accepted (Observation epoch) ∷ before) = items_epochs before ++ epoch ∷ []
+items_epochs (Accepted unit ∷ before) = items_epochs before
+items_epochs (Warned at ∷ before) = items_epochs before
+
+shown-epochs : (items : List (Item ReadEpoch)) → epochs_of items ≡ items_epochs (rinex_items items)
+unfolding items_epochs
+shown-epochs [] = refl
+shown-epochs (Accepted (Observation read) ∷ before) = ap (λ es. es ++ read.epoch ∷ []) (shown-epochs before)
+shown-epochs (Accepted (HeaderLine line) ∷ before) = shown-epochs before
+shown-epochs (Accepted (EventLine line) ∷ before) = shown-epochs before
+shown-epochs (Accepted (EventRecord line) ∷ before) = shown-epochs before
+shown-epochs (Warned at ∷ before) = shown-epochs before
+
+units-epochs : (units : List (FileUnit Epoch)) → items_epochs (as_items units) ≡ epochs_among units
+unfolding items_epochs
+units-epochs [] = refl
+units-epochs (Observation epoch ∷ before) = ap (λ es. es ++ epoch ∷ []) (units-epochs before)
+units-epochs (HeaderLine line ∷ before) = units-epochs before
+units-epochs (EventLine line ∷ before) = units-epochs before
+units-epochs (EventRecord line ∷ before) = units-epochs before
+
+pub epochs-known : (items : List (Item ReadEpoch)) (units : List (FileUnit Epoch)) → rinex_items items ≡ as_items units
+    → epochs_of items ≡ epochs_among units
+epochs-known items units known = shown-epochs items ∙ ap items_epochs known ∙ units-epochs units

@@ -1,25 +1,26 @@
--- Units that are kept after a damaged stretch, whoever wrote them: they are read as themselves, whatever was read
--- of the stretch.
+-- Units that are kept after a damaged stretch, whoever wrote them: they are read as themselves, whatever was
+-- read of the stretch.
 use Rattle.crx_filter.proofs
 use proofs.Words.{ℕ, ◌≡◌, ◌+◌, Bool, true, false, List, [], ◌∷◌, ◌++◌, map, length, Option, Some, None, refl, ap, sym, ◌∙◌}
 use proofs.Words.{subst, arith, append-nil, inl, and_parts, if◌then◌else◌, ReadLine, Content, Epoch, FileUnit, HeaderLine}
-use proofs.Words.{EventLine, EventRecord, Observation, begins_epoch, is_event_line, ReadEpoch, Item, header_has_ended}
+use proofs.Words.{EventLine, EventRecord, Observation, begins_epoch, ReadEpoch, Item, header_has_ended}
 use proofs.Words.{records_left, types_in_force, Reading, reading_from, compact_place, continued_reading, raws_kept}
 use proofs.Words.{IsBetweenUnits, AreInPlace, IsInPlace}
 use proofs.anywriter.AnyText.{IsLike, none-left, AreReadOn, read-on}
 use proofs.{reading.{ForwardCompact.compact-forward, Resuming.resumed}, wayback.Carried.started}
 use proofs.stretches.OpenReading.{AreEpochs, IsOpen, GoesOnAfter, open-continued, epochs-between, epochs-types}
+use Rattle.crx_compact.proofs.Words.{tail_left}
 use Rattle.crx_compact.specs.meaning.AnyWriter.{WrittenEpoch, nothing_written, AreEpochLines}
 use Rattle.crx_filter.specs.meaning.{CompactText.AreLinesOfUnit, Stretches.AreLinesOn, UnitsAndText.as_items}
 use Rattle.crx_filter.specs.meaning.WrittenStandard.{rinex_items}
 
 -- ---- their first line begins with >
 
-record BeginWithMark (lines : List (List ℕ)) : Type 0 where
-  line : List ℕ
-  others : List (List ℕ)
-  is : lines ≡ line ∷ others
-  begins : begins_epoch line ≡ true
+pub record BeginWithMark (lines : List (List ℕ)) : Type 0 where
+  pub line : List ℕ
+  pub others : List (List ℕ)
+  pub is : lines ≡ line ∷ others
+  pub begins : begins_epoch line ≡ true
 
 epoch-begins : (now : WrittenEpoch) (lines : List (List ℕ)) → AreEpochLines None now lines → BeginWithMark lines
 epoch-begins now [] h = absurd h
@@ -40,7 +41,7 @@ unit-begins block (EventLine line) lines now h header left k =
 unit-begins block (EventRecord line) lines now h header left k = absurd (omega (arith, h.1, left))
 unit-begins block (Observation epoch) lines now h header left k = epoch-begins k.0 lines k.3
 
-units-begin : (block units : List (FileUnit Epoch)) (unit : FileUnit Epoch) (lines : List (List ℕ)) (now : Option WrittenEpoch)
+pub units-begin : (block units : List (FileUnit Epoch)) (unit : FileUnit Epoch) (lines : List (List ℕ)) (now : Option WrittenEpoch)
     → AreInPlace (as_items (unit ∷ (units ++ block))) → header_has_ended (as_items block) ≡ true
     → records_left (as_items block) ≡ 0 → AreLinesOn block None (unit ∷ units) lines now → BeginWithMark lines
 units-begin block [] unit lines now h header left k =
@@ -105,7 +106,7 @@ units-kept block (unit ∷ kept) lines last items so_far h placed k stops =
       types = epochs-types g.news items g.epochs ∙ h.types;
     } in
     let o : AreReadOn true x g.number block (unit ∷ kept) lines last = read-on true x g.number block (unit ∷ kept) lines None
-    last (like-block block x can) (none-left (raws_kept x)) placed k in
+    last (like-block block x can) (none-left (tail_left (raws_kept x))) placed k in
     record {
       news = g.news;
       epochs = g.epochs;

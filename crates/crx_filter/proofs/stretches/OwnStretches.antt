@@ -1,17 +1,17 @@
--- The compact text of a file that is compacted here, damaged in stretches or cut off, is such a text as any writer's.
+-- The compact text of a file that is compacted here, damaged in stretches or cut off, is such a text as any
+-- writer's.
 use Rattle.crx_filter.proofs
 use proofs.Words.{common_steps, ℕ, ◌≡◌, ◌⊎◌, inl, inr, true, false, List, [], ◌∷◌, ◌++◌, map, Option, None, refl, ap, sym, ◌∙◌}
-use proofs.Words.{subst, arith, AllByRecursion, flat_map, printed_epoch, list_all, and_parts, not-true, by_bool, InputLine, is_long, lines_of, lines_text}
-use proofs.Words.{ReadLine, Content, as_read, version_line, program_line, Epoch, FileUnit, IsWholeEpoch, EventLine, Observation}
+use proofs.Words.{subst, arith, AllByRecursion, flat_map, printed_epoch, list_all, and_parts, by_bool, InputLine, lines_of, lines_text}
+use proofs.Words.{Content, as_read, version_line, program_line, Epoch, FileUnit, IsWholeEpoch, EventLine, Observation}
 use proofs.Words.{Choices, is_date, Item, Accepted, Warned, is_at_start, header_has_ended, records_left, types_in_force}
-use proofs.Words.{compact_lines, printed_items, expanded, Begins, AreInPlace, BeginsAnew, Stretch, with_stretches, IsStretch, AreStretches}
+use proofs.Words.{compact_lines, printed_items, expanded, Begins, AreInPlace, BeginsAnew, with_stretches, IsStretch, AreStretches}
 use Rattle.crx_filter.specs.meaning.{CompactText.{AreUnitsInPlace, AreWholeFile}, Stretches.{AreLinesOn, BeginsWithUnits}}
-use Rattle.crx_filter.specs.meaning.{Stretches.{HasStretches, Saves, begins_no_event, stretches_lines}, UnitsAndText.as_items}
+use Rattle.crx_filter.specs.meaning.{Stretches.{HasStretches, Saves, begins_no_event}, UnitsAndText.as_items}
 use Rattle.crx_filter.specs.OwnStretches.{read_of_file, IsReadWhole, OwnStretch, up_to_own_end, up_to_own_next, with_own, own_text}
 use Rattle.crx_filter.specs.OwnStretches.{may_come_instead, AreOwnStretches, HasOwnStretches, SavesOwn, KeepsOwnRest, BeginsWithOwn}
-use proofs.anywriter.{AnyText.first-units, OwnText.{units-carried, units-append, units-printed, state_on, own-on, own-lines, whole-items}}
-use proofs.damage.{BlockSaved.rest-in_place, DamagedText.front-cut, TextAfter.lines_on}
-use proofs.reading.Each.{header-append}
+use proofs.anywriter.{AnyText.first-units, OwnText.{units-carried, units-append, units-printed, state_after, state_on, own-on, own-lines, whole-items}}
+use proofs.damage.{DamagedText.front-cut, ItemTexts.rest-in_place, TextAfter.lines_on}
 use proofs.stretches.StretchesCut.{AreGood, good-before, good-up_to, as_stretch, as_stretches, stretches-cut}
 use proofs.stretches.StretchesSaved.{rest-kept}
 use proofs.wayback.{Carried.{started, header-same, left-same, types-same}, First.{version-clean, program-clean, program-read}}
@@ -59,7 +59,7 @@ begins-own choices before more dated h begun = record {
   program = program_line choices.date;
   lines = lines_back choices.every before;
   more = map as_read (lines_of more);
-  last = state_on choices.every [] before;
+  last = state_after choices.every before;
   cut = own-cut choices before more dated h begun;
   first = refl;
   second = program-read choices.date;
@@ -144,9 +144,9 @@ one-stretch choices before s later h placed closed =
       types = ap (λ us. types_in_force (as_items us)) (sym same) ∙ units-types block up_to ∙ (h.0).types
           ∙ sym (units-types before first);
       allowed = lines-allowed (lines_of s.instead) (h.0).allowed;
-      last = state_on choices.every block s.kept;
+      last = state_on None choices.every block s.kept;
       written = subst (λ us. AreLinesOn us None (units_in s.kept) (lines_on choices.every s.kept block)
-          (state_on choices.every block s.kept)) same (own-on choices block s.kept placed (inr (h.0).anew));
+          (state_on None choices.every block s.kept)) same (own-on None choices block s.kept placed (inr (h.0).anew));
     }
   where
     whole : (block kept : List (Item Epoch)) → (kept ≡ []) ⊎ (records_left block ≡ 0) → records_left (kept ++ block) ≡ 0

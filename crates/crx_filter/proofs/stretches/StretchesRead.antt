@@ -1,6 +1,6 @@
 -- The reading of a text that is damaged in stretches: after each stretch the units that are kept, exactly.
 use Rattle.crx_filter.proofs
-use proofs.Words.{ℕ, ◌≡◌, true, List, [], ◌∷◌, ◌++◌, map, refl, ap, sym, ◌∙◌, subst, append_assoc, append-nil, ⊤}
+use proofs.Words.{◌≡◌, true, List, [], ◌∷◌, ◌++◌, map, refl, ap, sym, ◌∙◌, subst, append_assoc, append-nil, ⊤}
 use proofs.Words.{AllByRecursion, flat_map, flat_map-append, ReadLine, Content, Epoch, FileUnit, IsWholeEpoch}
 use proofs.Words.{printed_epoch, Observation, IsGood, ReadEpoch, Item, Accepted, Warned, header_has_ended}
 use proofs.Words.{records_left, types_in_force, reading_from, compact_place, printed_items, IsBetweenUnits}

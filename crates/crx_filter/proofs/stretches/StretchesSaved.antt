@@ -45,7 +45,7 @@ pub rest-kept : (before : List (FileUnit Epoch)) (stretches : List Stretch) (dam
 rest-kept before stretches damaged expanding skips d =
     let t = d.text in
     let placed = in-place (with_stretches before stretches) (d.file).in_place in
-    let front : AreRead true 3 before t.lines =
+    let front : AreRead true 3 before t.lines t.last =
     all-read true 3 before t.lines t.last (placed-up_to before stretches placed) t.written in
     let old : List ReadLine = map Content t.lines in
     let new : List ReadLine = stretches_lines stretches in

@@ -1,7 +1,7 @@
 -- Compact text is canonical: a file's normal form is compacted as the file, and comes back from that text.
-use Rattle.crx_filter.proofs.Words.{ℕ, ◌≡◌, List, None, map, ap, sym, ◌∙◌, Option, lines_of, as_read, At}
-use Rattle.crx_filter.proofs.Words.{Choices, compact_unit, compacted, expanded, normal_form, whole_of}
-use Rattle.crx_filter.proofs.Words.{HasNormalForm, result_of, FilterResult, IsResult, Device}
+use Rattle.crx_filter.proofs.Words.{ℕ, ◌≡◌, List, None, map, sym, Option, lines_of, as_read, At}
+use Rattle.crx_filter.proofs.Words.{Choices, compact_unit, compacted, normal_form, whole_of}
+use Rattle.crx_filter.proofs.Words.{HasNormalForm, result_of, IsResult, Device}
 use Rattle.crx_filter.proofs.wayback.{NormalForm.read-as_normal, Standard.same-reading}
 use Rattle.crx_filter.specs.meaning.Canonical.{CompactsAsNormal, DependsOnNormalForm}
 

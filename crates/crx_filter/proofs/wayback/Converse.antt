@@ -1,12 +1,12 @@
 -- A file comes back only where it is standard: the lines that are written are plain, and printed as they are.
 use Rattle.crx_filter.proofs
 use proofs.Words.{ℕ, ℤ, zero, suc, ◌≡◌, ◌+◌, ◌-◌, ◌<◌, ◌≤◌, true, false, List, [], ◌∷◌, ◌++◌, map, length}
-use proofs.Words.{take, drop, replicate, Option, Some, None, refl, ap, sym, ◌∙◌, arith, All, AllByRecursion}
+use proofs.Words.{take, drop, replicate, Option, Some, None, refl, ap, arith, All, AllByRecursion}
 use proofs.Words.{list_all, All-head, All-tail, and_parts, and_from, clock_text, IsSoundRow, IsWholeEpoch}
 use proofs.Words.{Count, OBSERVATION_WIDTH, CLOCK_WIDTH, InputLine, ends_with_return, lines_of, HasNoFeed}
 use proofs.Words.{is_printable, is_kept, Row, Epoch, printed_row, printed_epoch, printed_cells, lines_text}
-use proofs.Words.{Observation, Choices, is_date, compacted, expanded, Item, Accepted, Warned, WholeReading}
-use proofs.Words.{FilterResult, printed_items, whole_of, IsStandard, AreInPlace, OfCopiedLines, HaveNoReturns}
+use proofs.Words.{Observation, Item, Accepted, Warned}
+use proofs.Words.{printed_items, AreInPlace, OfCopiedLines, HaveNoReturns}
 use Rattle.crx_base.specs.declared.limits.TheConstants.{OBSERVATION_DECIMALS, CLOCK_DECIMALS}
 use Rattle.crx_compact.proofs.wayback.{Facts.{head-kept, sound-name_kept}, Standing.trimmed-printable}
 use Rattle.crx_text.proofs.{ReadBack.decimal_is_digits, Spellings.abs_within}

@@ -2,8 +2,8 @@
 use Rattle.crx_filter.proofs.Words.{common_steps, ℕ, zero, suc, ◌≡◌, ◌≢◌, true, false, List, [], ◌∷◌, ◌++◌}
 use Rattle.crx_filter.proofs.Words.{take, replicate, length, refl, arith, length-append, Ok, list_all}
 use Rattle.crx_filter.proofs.Words.{drop-append_seam, All-nil, ne_eqb, and_parts, HasNoFeed, ends_with_return}
-use Rattle.crx_filter.proofs.Words.{ReadLine, Content, is_printable, Done, CRINEX_PROGRAM_LABEL, is_date}
-use Rattle.crx_filter.proofs.Words.{version_line, program_line, crinex_program, first_lines}
+use Rattle.crx_filter.proofs.Words.{is_printable, CRINEX_PROGRAM_LABEL, is_date}
+use Rattle.crx_filter.proofs.Words.{version_line, program_line, crinex_program}
 use Rattle.{crx_base.specs.declared.limits.TheConstants.DATE_LIMIT, crx_filter.proofs.wayback.Cut.IsClean}
 use Rattle.crx_header.specs.declared.crinex.TheConstants.{CRINEX_PROGRAM}
 use Rattle.{crx_header.specs.meaning.CompactHeader.left_justified, crx_lines.proofs.PieceLemmas.NoFeed}
@@ -16,10 +16,6 @@ date-width date = length-take-le 20 _ (omega (arith, length-append date (replica
 
 pub program-read : (date : List ℕ) → crinex_program (program_line date) ≡ Ok (program_line date)
 program-read date = grind (arith, common_steps, drop-append_seam, date-width)
-
-pub first-lines_read : (date : List ℕ) (rest : List ReadLine) → first_lines (Content version_line ∷ Content
-    (program_line date) ∷ rest) ≡ Done (version_line ∷ program_line date ∷ []) 2
-first-lines_read date rest = rw (program-read date) refl
 
 -- ---- each is cut off again
 

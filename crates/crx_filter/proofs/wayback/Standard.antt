@@ -2,11 +2,11 @@
 -- gives back its lines.
 use Rattle.crx_filter.proofs.Words
 use Words.{common_steps, arith, ℕ, zero, suc, ◌≡◌, ◌+◌, Bool, true, false, List, []}
-use Words.{◌∷◌, map, length, drop, Option, Some, None, refl, ap, sym, ◌∙◌, AllByRecursion, list_all}
+use Words.{◌∷◌, map, length, drop, Option, Some, None, refl, ap, ◌∙◌, AllByRecursion, list_all}
 use Words.{eqb_tells, and_parts, Piece, InputLine, pieces_of, ends_with_return, line_of, lines_of}
-use Words.{is_long, ReadLine, as_read, Fault, At, Place, FileUnit, Choices, Item, Accepted, WholeReading}
+use Words.{is_long, ReadLine, as_read, Fault, At, Place, FileUnit, Item, Accepted, WholeReading}
 use Words.{after_fault, reading_within, fault_at_end, ended_with, ended_reading, lines_text, rinex_place}
-use Words.{whole_rinex, rinex_reading, OfCopiedLines, written_well, not-true, by_bool}
+use Words.{whole_rinex, rinex_reading, OfCopiedLines, not-true, by_bool}
 use Rattle.crx_filter.proofs.{reading.Resuming.by_place, reading.WhatWasRead.of-ended, wayback.Cut.OfContent}
 use Rattle.crx_filter.proofs.wayback.{Cut.return-kept, Reading.items-copied}
 use Rattle.crx_lines.proofs.PieceLemmas.{EachEnded}

@@ -3,13 +3,13 @@ use Rattle.crx_filter.proofs.Words
 use Words.{common_steps, arith, ℕ, ◌≡◌, List, [], ◌∷◌, map, Option, None, refl, ap, sym, ◌∙◌, lines_of}
 use Words.{lines_text, as_read, At, Epoch, FileUnit, Choices, compacted, Item, Accepted, Warned}
 use Words.{WholeReading, printed_items, whole_of, IsStandard, OfCopiedLines, HaveNoReturns}
-use Words.{written_well, warnings_in, expanded, IsResult, Device, AreInPlace}
+use Words.{written_well, warnings_in, IsResult, Device, AreInPlace}
 use Rattle.crx_filter.proofs.wayback.NormalForm.{printed-again, accepted-all, whole-none, settled-standard}
 use Rattle.crx_filter.proofs.wayback.Standard.{whole-copied, plain-no_return, plain-text, NoReturn}
 use Rattle.crx_filter.proofs.wayback.{Canonical.compacted-by, WayBack.{IsSettled, whole-settled}}
 use Rattle.crx_filter.{proofs.wayback.Cut.CanStand, specs.meaning.UnitsAndText.{CanBeCopied, as_items}}
 use Rattle.crx_filter.specs.meaning.UnitsAndText.{AreInOrder, MakeAFile, rinex_text, compact_text}
-use Rattle.crx_filter.specs.meaning.UnitsAndText.{TextsOfUnits, WritesUnits, ReadsUnits, IsStandardByUnits}
+use Rattle.crx_filter.specs.meaning.UnitsAndText.{WritesUnits, IsStandardByUnits}
 
 -- ---- units in order are items that are settled
 

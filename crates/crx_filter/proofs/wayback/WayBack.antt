@@ -2,22 +2,21 @@
 use Rattle.crx_filter.proofs
 use proofs.Words.{common_steps, ℕ, ◌≡◌, ◌+◌, ◌*◌, ◌≤◌, Bool, true, false, cond, List, [], ◌∷◌, map, length}
 use proofs.Words.{Option, Some, None, refl, arith, nat_lt, not, AllByRecursion, list_all, ltb-false, lines_of}
-use proofs.Words.{ends_with_return, ReadLine, Content, as_read, is_printable, Fault, TYPES_LIMIT, Epoch}
-use proofs.Words.{lines_text, FileUnit, HeaderLine, Observation, compact_epoch, ReadEpoch, Choices, is_date}
+use proofs.Words.{ends_with_return, ReadLine, as_read, is_printable, Fault, TYPES_LIMIT, Epoch}
+use proofs.Words.{lines_text, FileUnit, HeaderLine, Observation, compact_epoch, ReadEpoch, Choices}
 use proofs.Words.{Item, Accepted, Warned, is_at_start, header_has_ended, records_left, types_in_force}
-use proofs.Words.{WholeReading, Stop, AtFault, AtLines, Looking, is_skipped, reading_from, fault_at_end}
+use proofs.Words.{WholeReading, Stop, AtFault, AtLines, Looking, is_skipped, fault_at_end}
 use proofs.Words.{ended_with, ended_reading, warnings_in, written_lines, result_of, rinex_place}
 use proofs.Words.{marked_epochs, whole_rinex, version_line, program_line, compact_lines, rinex_reading}
-use proofs.Words.{compact_place, whole_compact, expanded_unit, expanded, printed_items, AreInPlace}
+use proofs.Words.{expanded_unit, AreInPlace}
 use proofs.Words.{OfCopiedLine, OfCopiedLines, HaveNoReturns, written_well, Place, by_bool}
 use Rattle.crx_compact.proofs.wayback.Standing.{lines-short}
-use Rattle.crx_filter.specs.{WayBack.ComesBack}
 use proofs.{following.Lines.IsStopped, reading.{Each.all-append, Forward.rinex-forward}}
-use proofs.reading.{ForwardCompact.compact-forward, InPlace.items-in_place, Stopping.reading-stopped}
-use proofs.{reading.WhatWasRead.{items-read, allowed, of-ended}, wayback.Carried.{started, whole-again}}
-use proofs.wayback.{Cut.{IsClean, CanStand, lines-cut, input-stands}, First.first-lines_read}
-use proofs.wayback.First.{program-clean, version-clean, printable-no_feed, printable-no_return}
-use proofs.wayback.Items.{marked_now, body_unit, known_back, read_back, unit-here, whole-next, epoch-stands}
+use proofs.reading.{InPlace.items-in_place, Stopping.reading-stopped}
+use proofs.{reading.WhatWasRead.{items-read, allowed, of-ended}, wayback.Carried.started}
+use proofs.wayback.Cut.{IsClean, CanStand, input-stands}
+use proofs.wayback.First.{printable-no_feed, printable-no_return}
+use proofs.wayback.Items.{marked_now, body_unit, whole-next, epoch-stands}
 use proofs.wayback.Reading.{lines_back, items-copied}
 
 -- ---- the end of the compaction
@@ -118,23 +117,7 @@ lines-clean every (Warned at ∷ before) h k e = lines-clean every before h.1 k 
 
 -- ---- what is written in the end
 
-pub printed-same : (every : Option ℕ) (items : List (Item Epoch))
-    → written_lines expanded_unit (read_back every items) ≡ printed_items items
-printed-same every [] = refl
-printed-same every (item ∷ before) = grind (arith, printed-same every before)
-
-pub no-warnings : (every : Option ℕ) (items : List (Item Epoch)) → warnings_in (read_back every items) ≡ []
-no-warnings every [] = refl
-no-warnings every (Accepted unit ∷ before) = no-warnings every before
-no-warnings every (Warned at ∷ before) = no-warnings every before
-
 pub result-well : (items : List (Item ReadEpoch)) (lines : List (List ℕ))
     → written_lines expanded_unit items ≡ lines → warnings_in items ≡ []
     → result_of expanded_unit (record { items = items; fault = None }) ≡ written_well (lines_text lines)
 result-well items lines e f = cc
-
--- the two first lines, and then the reading of the rest
-pub whole-after : (skip : Bool) (date : List ℕ) (rest : List ReadLine)
-    → whole_compact skip (Content version_line
-    ∷ Content (program_line date) ∷ rest) ≡ ended_reading skip (reading_from compact_place skip [] 3 rest)
-whole-after skip date rest = rw (first-lines_read date rest, whole_compact) refl

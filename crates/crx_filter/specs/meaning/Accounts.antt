@@ -8,8 +8,7 @@ use Rattle.crx_base.specs.meaning.Lines.{is_printable, lines_of, lines_text}
 use Rattle.crx_rinex.specs.meaning.Observations.{Epoch}
 use Rattle.crx_rinex.specs.meaning.Units.{Unit, HeaderLine, EventLine, EventRecord, Observation}
 use Rattle.crx_compact.specs.meaning.CompactPlaces.{ReadEpoch}
-use Rattle.crx_filter.specs.meaning.Compacted.{compact_lines, compact_unit, whole_rinex}
-use Rattle.crx_filter.specs.meaning.Damage.{AreContinued, with_epochs}
+use Rattle.crx_filter.specs.meaning.Compacted.{compact_lines, compact_unit, is_in_full, whole_rinex}
 use Rattle.crx_filter.specs.meaning.Expanded.{expanded_unit, whole_compact}
 use Rattle.crx_filter.specs.meaning.Items.{Item, Accepted, Warned}
 use Rattle.crx_filter.specs.meaning.Written.{warnings_in, written_lines}
@@ -74,6 +73,17 @@ AccountsForText skip text result = result.fault ≡ None
     result
 
 -- ---- how long a block is
+
+-- some epochs after these items, the oldest first
+abbrev pub with_epochs : List (Item Epoch) → List Epoch → List (Item Epoch)
+with_epochs before [] = before
+with_epochs before (epoch ∷ later) = with_epochs (Accepted (Observation epoch) ∷ before) later
+
+-- none of some epochs after these items is in full
+abbrev pub AreContinued : Choices → List (Item Epoch) → List Epoch → Type 0
+AreContinued choices before [] = ⊤
+AreContinued choices before (epoch ∷ later) = (is_in_full choices.every before ≡ false)
+    × AreContinued choices (Accepted (Observation epoch) ∷ before) later
 
 -- of some items, an epoch with those after it none of which is in full is never more than n
 abbrev pub HaveShortBlocks : Choices → ℕ → List (Item Epoch) → Type 0

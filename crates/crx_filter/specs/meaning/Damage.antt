@@ -1,101 +1,67 @@
--- Damaged compact text: the observation lines of one block, from a full epoch up to the next line that begins a unit
--- with >, are replaced but for the first.
-use Rattle.std.specs.Prelude.{ℕ, ◌≡◌, ◌⊎◌, Bool, true, false, not, ◌&&◌, ⊤, List, [], ◌∷◌, ◌++◌, ◌≤◌, suc, None, map}
-use Rattle.std.specs.Prelude.{length, drop, take}
+-- Damaged compact text, whoever wrote it: in one block, in place of the lines of an epoch and of those after
+-- it up to the next line that begins with >. Lists of units have the newest first.
+use Rattle.std.specs.Prelude.{ℕ, ◌≡◌, Bool, true, false, not, ⊤, List, [], ◌∷◌, ◌++◌, ◌≤◌, Option, None, map, length}
 use Rattle.std.specs.List.{AllByRecursion, list_all, flat_map}
-use Rattle.crx_base.specs.meaning.Lines.{Piece, InputLine, pieces_of, lines_of, is_long}
 use Rattle.crx_base.specs.declared.fault.At.{At}
-use Rattle.crx_rinex.specs.meaning.Observations.{Epoch}
-use Rattle.crx_header.specs.meaning.EpochColumns.{begins_epoch}
-use Rattle.crx_rinex.specs.meaning.Epochs.{IsWholeEpoch}
-use Rattle.crx_rinex.specs.meaning.Printing.{printed_epoch}
+use Rattle.crx_base.specs.meaning.AsRead.{ReadLine, Content, Overlong}
 use Rattle.crx_base.specs.meaning.Lines.{lines_text}
-use Rattle.crx_rinex.specs.meaning.Units.{HeaderLine, EventLine, EventRecord, Observation}
-use Rattle.crx_base.specs.meaning.Choices.{Choices}
-use Rattle.crx_filter.specs.meaning.Items.{Item, Accepted, Warned, types_in_force}
+use Rattle.crx_header.specs.meaning.EpochColumns.{begins_epoch, is_event_line}
+use Rattle.crx_rinex.specs.meaning.Epochs.{IsWholeEpoch}
+use Rattle.crx_rinex.specs.meaning.Observations.{Epoch}
+use Rattle.crx_rinex.specs.meaning.Printing.{printed_epoch}
+use Rattle.crx_rinex.specs.meaning.Units.{Unit as FileUnit, HeaderLine, EventLine, EventRecord, Observation}
+use Rattle.crx_compact.specs.meaning.AnyWriter.{WrittenEpoch}
+use Rattle.crx_filter.specs.meaning.CompactText.{AreUnitsInPlace}
+use Rattle.crx_filter.specs.meaning.Items.{records_left, types_in_force}
+use Rattle.crx_filter.specs.meaning.Standard.{printed_items}
+use Rattle.crx_filter.specs.meaning.Stretches.{AreLinesOn, HasStretches, Stretch}
+use Rattle.crx_filter.specs.meaning.UnitsAndText.{as_items}
 use Rattle.crx_runs.specs.meaning.Messages.{notices_text}
 use Rattle.crx_runs.specs.meaning.Results.{FilterResult, status_after}
-use Rattle.crx_filter.specs.meaning.Compacted.{is_in_full, compact_unit, compact_lines}
-use Rattle.crx_filter.specs.meaning.Standard.{IsStandard, whole_of, printed_items}
 
--- the lines of some epochs that are after these items, the oldest first
-abbrev pub lines_of_epochs : Choices → List (Item Epoch) → List Epoch → List (List ℕ)
-lines_of_epochs choices before [] = []
-lines_of_epochs choices before (epoch ∷ later) = compact_unit choices before (Observation epoch)
-    ++ lines_of_epochs choices (Accepted (Observation epoch) ∷ before) later
+-- a line that isn't too long and doesn't begin with >
+abbrev pub is_inside : ReadLine → Bool
+is_inside Overlong = false
+is_inside (Content line) = not (begins_epoch line)
 
--- some epochs after these items, the oldest first
-abbrev pub with_epochs : List (Item Epoch) → List Epoch → List (Item Epoch)
-with_epochs before [] = before
-with_epochs before (epoch ∷ later) = with_epochs (Accepted (Observation epoch) ∷ before) later
+-- the lines of a block: the first one begins no event, and none of the others begins with >
+abbrev pub AreBlockLines : List ReadLine → Type 0
+AreBlockLines [] = ⊤
+AreBlockLines (Overlong ∷ lines) = ⊥
+AreBlockLines (Content line ∷ lines) = (is_event_line line ≡ false) × (list_all is_inside lines ≡ true)
 
--- none of some epochs after these items is in full
-abbrev pub AreContinued : Choices → List (Item Epoch) → List Epoch → Type 0
-AreContinued choices before [] = ⊤
-AreContinued choices before (epoch ∷ later) = (is_in_full choices.every before ≡ false)
-    × AreContinued choices (Accepted (Observation epoch) ∷ before) later
-
--- a line that may be in the place of others: not too long, and it doesn't begin with >
-abbrev pub may_replace : InputLine → Bool
-may_replace line = not (is_long line) && not (begins_epoch line.content)
-
--- the lines of a list of items after others are those of the longer list without those of the shorter
-abbrev pub lines_after : Choices → List (Item Epoch) → List (Item Epoch) → List (List ℕ)
-lines_after choices before all = drop (length (compact_lines choices before)) (compact_lines choices all)
-
--- what comes after a block: nothing, or a unit that begins with >, an event or an epoch in full
-abbrev pub BeginsAnew : Choices → List (Item Epoch) → List (Item Epoch) → Type 0
-BeginsAnew choices block [] = ⊤
-BeginsAnew choices block (Warned at ∷ []) = ⊥
-BeginsAnew choices block (Accepted (HeaderLine line) ∷ []) = ⊥
-BeginsAnew choices block (Accepted (EventLine line) ∷ []) = ⊤
-BeginsAnew choices block (Accepted (EventRecord line) ∷ []) = ⊥
-BeginsAnew choices block (Accepted (Observation epoch) ∷ []) = is_in_full choices.every block ≡ true
-BeginsAnew choices block (newest ∷ item ∷ items) = BeginsAnew choices block (item ∷ items)
-
--- the compact text of a standard file, one block of it damaged: the units before the block, its first epoch, which
--- is in full, the others, none of which is, the units after it, and the bytes in place of the block's lines but
--- the first. Their lines may end with CR and LF, and where nothing comes after the block the last one need not end with
--- LF
-pub record IsDamaged (input : List ℕ) (choices : Choices) (damaged : List ℕ) : Type 0 where
-  pub standard : IsStandard input
-  pub before : List (Item Epoch)
-  pub first : Epoch
-  pub others : List Epoch
-  pub after : List (Item Epoch)
-  pub instead : List ℕ
-  pub parts : (whole_of input).items ≡ after ++ with_epochs before (first ∷ others)
-  pub starts : is_in_full choices.every before ≡ true
-  pub continued : AreContinued choices (Accepted (Observation first) ∷ before) others
-  pub anew : BeginsAnew choices (with_epochs before (first ∷ others)) after
-  pub allowed : list_all may_replace (lines_of instead) ≡ true
-  pub ended : (after ≡ []) ⊎ (list_all (λ (piece : Piece). piece.is_ended) (pieces_of instead) ≡ true)
-  pub text : damaged ≡
-      lines_text (compact_lines choices before ++ take 1 (compact_unit choices before (Observation first)))
-      ++ instead
-      ++ lines_text (lines_after choices (with_epochs before (first ∷ others)) (whole_of input).items)
+-- a text that is damaged in one stretch: lines come in place of those of the units that are lost, and after the
+-- first one none that begins a unit with >
+pub record IsDamaged (before : List (FileUnit Epoch)) (s : Stretch) (damaged : List ℕ) : Type 0 where
+  pub stretch : HasStretches before (s ∷ []) damaged
+  pub block : AreBlockLines s.instead
 
 -- ---- what is saved
 
--- what an expansion that skips faults writes and reports of damaged text: the exact text of all units before the block,
--- then the text of some epochs, and then the exact text of all units after it, with at most one warning. Each of the
--- epochs is whole, by the types in force at the block, and they are first the block's own, as far as the lines in place
--- of the block's begin with theirs
-pub record IsSalvaged (input : List ℕ) (choices : Choices)
-    (damaged : List ℕ) (damage : IsDamaged input choices damaged) (result : FilterResult) : Type 0 where
+-- the epochs among some units, the oldest first
+abbrev pub epochs_among : List (FileUnit Epoch) → List Epoch
+epochs_among [] = []
+epochs_among (HeaderLine line ∷ before) = epochs_among before
+epochs_among (EventLine line ∷ before) = epochs_among before
+epochs_among (EventRecord line ∷ before) = epochs_among before
+epochs_among (Observation epoch ∷ before) = epochs_among before ++ epoch ∷ []
+
+-- what an expansion that skips faults writes and reports of such a text: the exact text of all units before
+-- the block, then the text of some epochs, and then the exact text of all units after it, with at most one
+-- warning. Each of the epochs is whole, by the types in force at the block. They are first those whose lines
+-- stand at the block's beginning
+pub record IsSalvaged (before : List (FileUnit Epoch)) (s : Stretch) (damaged : List ℕ)
+    (damage : IsDamaged before s damaged) (result : FilterResult) : Type 0 where
   pub epochs : List Epoch
-  pub whole : AllByRecursion (IsWholeEpoch (types_in_force damage.before)) epochs
+  pub whole : AllByRecursion (IsWholeEpoch (types_in_force (as_items before))) epochs
   pub warnings : List At
   pub few : length warnings ≤ 1
-  pub output : result.output ≡ lines_text (
-      printed_items damage.before
-      ++ flat_map printed_epoch epochs
-      ++ drop (length (printed_items (with_epochs damage.before (damage.first ∷ damage.others))))
-      (printed_items (whole_of input).items))
+  pub output : result.output ≡ lines_text (printed_items (as_items before)
+      ++ (flat_map printed_epoch epochs ++ printed_items (as_items s.kept)))
   pub messages : result.messages ≡ notices_text warnings
   pub status : result.status ≡ status_after warnings None
   pub fault : result.fault ≡ None
-  pub own : (count : ℕ) (rest : List (List ℕ))
-      → map (λ (line : InputLine). line.content) (lines_of damage.instead)
-      ≡ drop 1 (lines_of_epochs choices damage.before (take (suc count) (damage.first ∷ damage.others))) ++ rest
-      → (more : List Epoch) × (epochs ≡ take (suc count) (damage.first ∷ damage.others) ++ more)
+  pub own : (units : List (FileUnit Epoch)) (lines : List (List ℕ)) (last : Option WrittenEpoch) (rest : List ReadLine)
+      → AreUnitsInPlace (units ++ before) → records_left (as_items (units ++ before)) ≡ 0
+      → AreLinesOn before ((damage.stretch).text).last units lines last → s.instead ≡ map Content lines ++ rest
+      → (more : List Epoch) × (epochs ≡ epochs_among units ++ more)

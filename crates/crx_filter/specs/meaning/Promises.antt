@@ -9,7 +9,9 @@ use Rattle.crx_base.specs.declared.limits.TheConstants.{INPUT_LIMIT}
 use Rattle.crx_rinex.specs.meaning.Observations.{Epoch}
 use Rattle.crx_base.specs.meaning.Choices.{Choices, is_date}
 use Rattle.crx_filter.specs.meaning.Compacted.{whole_rinex, compacted}
+use Rattle.crx_rinex.specs.meaning.Units.{Unit as FileUnit}
 use Rattle.crx_filter.specs.meaning.Damage.{IsDamaged, IsSalvaged}
+use Rattle.crx_filter.specs.meaning.Stretches.{Stretch}
 use Rattle.crx_filter.specs.meaning.Expanded.{expanded}
 use Rattle.crx_filter.specs.meaning.WayBack.{HasNormalForm, HaveNoReturns, written_well}
 use Rattle.crx_filter.specs.meaning.Reading.{WholeReading}
@@ -63,13 +65,12 @@ BringsBackWhatWasCompacted writer messages status fault text =
 
 -- ---- damage
 
--- an expansion that skips faults saves all but the block that is damaged: what it wrote, reported and answered is what
--- `IsSalvaged` says of the damaged text
+-- an expansion that skips faults saves all but the block that is damaged, whoever wrote the text: what it
+-- wrote, reported and answered is what `IsSalvaged` says of the damaged text
 abbrev pub SavesAllElse : Choices → Device → Device → ℕ → Option At → List ℕ → Type 0
 SavesAllElse expanding writer messages status fault damaged =
-    (file : List ℕ) (compacting : Choices)
-    → is_date compacting.date ≡ true → expanding.skip ≡ true → (damage : IsDamaged file compacting damaged)
-    → (saved : FilterResult) × IsSalvaged file compacting damaged damage saved
+    (before : List (FileUnit Epoch)) (s : Stretch) → expanding.skip ≡ true → (damage : IsDamaged before s damaged)
+    → (saved : FilterResult) × IsSalvaged before s damaged damage saved
     × IsResult saved writer messages status fault
 
 -- ---- standard files

@@ -38,8 +38,8 @@ pub record BeginsWithUnits (units : List (FileUnit Epoch)) (text : List ℕ) : T
 
 -- ---- stretches
 
--- the lines of units that come after others, by the epoch that the first of them may go on from, and the epoch
--- that later lines may go on from
+-- the lines of units that come after others, by the epoch that the first of them may go on from, and the
+-- epoch that later lines may go on from
 abbrev pub AreLinesOn : List (FileUnit Epoch) → Option WrittenEpoch → List (FileUnit Epoch) → List (List ℕ)
     → Option WrittenEpoch → Type 0
 AreLinesOn block start [] lines now = (lines ≡ []) × (now ≡ start)
@@ -48,8 +48,8 @@ AreLinesOn block start (unit ∷ units) lines now =
     × AreLinesOn block start units first before × (lines ≡ first ++ more)
     × AreLinesOfUnit (as_items (units ++ block)) before unit more now
 
--- a damaged stretch: the units that are lost, the lines in place of theirs, the units that are kept after it, up
--- to the next stretch or the end, and their lines
+-- a damaged stretch: the units that are lost, the lines in place of theirs, the units that are kept after it,
+-- up to the next stretch or the end, and their lines
 pub record Stretch : Type 0 where
   pub lost : List (FileUnit Epoch)
   pub instead : List ReadLine
@@ -84,9 +84,9 @@ abbrev pub begins_no_event : ReadLine → Bool
 begins_no_event Overlong = true
 begins_no_event (Content line) = not (announces_records line)
 
--- what is asked of a stretch after some units: it begins and ends between two units; what is lost leaves the types
--- in force as they were; no line in its place begins an event; and the lines that are kept go on from no epoch, so
--- that the first epoch among them is in full
+-- what is asked of a stretch after some units: it neither begins nor ends inside an event; what is lost
+-- leaves the types in force as they were; no line in its place begins an event; and the lines that are kept
+-- go on from no epoch, so that the first epoch among them is in full
 pub record IsStretch (before : List (FileUnit Epoch)) (s : Stretch) : Type 0 where
   pub begins : records_left (as_items before) ≡ 0
   pub ends : records_left (as_items (up_to_end before s)) ≡ 0

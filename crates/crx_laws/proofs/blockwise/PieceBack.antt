@@ -1,21 +1,22 @@
 -- The lines of some units, read after other units that leave the same types.
-use Rattle.crx_filter.proofs.Words.{ℕ, ◌≡◌, ◌+◌, true, List, [], ◌∷◌, ◌++◌, map, length, Option, None, refl, ap, arith}
-use Rattle.crx_filter.proofs.Words.{sym, ◌∙◌, subst, append_assoc, append-nil, map-append, lines_of, lines_text, ReadLine}
+use Rattle.crx_filter.proofs.Words.{ℕ, ◌≡◌, ◌+◌, true, List, [], ◌∷◌, ◌++◌, map, length, None, refl, ap}
+use Rattle.crx_filter.proofs.Words.{sym, ◌∙◌, subst, map-append, lines_of, lines_text, ReadLine}
 use Rattle.crx_filter.proofs.Words.{Content, as_read, Epoch, FileUnit, ReadEpoch, Choices, is_date, Item, Accepted, Warned}
-use Rattle.crx_filter.proofs.Words.{is_at_start, Reading, AtLines, reading_from, ended_reading, compact_lines, compact_place}
-use Rattle.crx_filter.proofs.Words.{expanded_unit, whole_compact, expanded, printed_items, written_well, warnings_in, result_of}
+use Rattle.crx_filter.proofs.Words.{AtLines, reading_from, ended_reading, compact_lines, compact_place}
+use Rattle.crx_filter.proofs.Words.{expanded_unit, whole_compact, expanded, printed_items, written_well, result_of}
 use Rattle.crx_filter.proofs.Words.{continued_reading, raws_kept, inr, records_left}
 use Rattle.crx_filter.specs.meaning.{UnitsAndText.{as_items, rinex_text}, WrittenStandard.rinex_items}
 use Rattle.crx_filter.specs.OwnStretches.{read_of_file}
 use Rattle.crx_filter.proofs.anywriter.AnyText.{AreRead, AreReadOn, all-read, read-on, in-place, none-left, units-well, whole-read}
-use Rattle.crx_filter.proofs.anywriter.OwnText.{own-on, state_on, units-append, units-printed}
-use Rattle.crx_filter.proofs.damage.{BlockSaved.rest-in_place, TextAfter.lines_on}
+use Rattle.crx_filter.proofs.anywriter.OwnText.{own-on, printed-append, state_on, units-append, units-printed}
+use Rattle.crx_filter.proofs.damage.{ItemTexts.rest-in_place, TextAfter.lines_on}
 use Rattle.crx_filter.proofs.reading.{ForwardCompact.compact-forward, Resuming.resumed}
 use Rattle.crx_filter.proofs.stretches.{KeptUnits.{CanGoOnAs, like-block}, StretchesCut.{AreGood, good-before, kept-lines, kept-clean}}
 use Rattle.crx_filter.proofs.stretches.OwnStretches.{begins-own, file-good, file-settled, file-whole, units-before, units-header}
 use Rattle.crx_filter.proofs.stretches.{OwnStretches.{units-left, units-types}, StretchesRead.header-on}
 use Rattle.crx_filter.specs.meaning.CompactText.{AreUnitsInPlace}
 use Rattle.crx_filter.proofs.wayback.{Carried.started, Cut.lines-cut, Units.units_in, WayBack.IsSettled}
+use Rattle.crx_compact.proofs.Words.{tail_left}
 use Rattle.crx_laws.specs.Blocks.{IsPieceAfter, IsOwnPieceAfter}
 
 rinex-append : (later before : List (Item ReadEpoch)) → rinex_items (later ++ before) ≡ rinex_items later ++ rinex_items before
@@ -28,7 +29,7 @@ pub piece-alone : (front before piece : List (FileUnit Epoch)) (text : List ℕ)
 piece-alone front before piece text expanding h =
     let skip = expanding.skip in
     let t = h.begun in
-    let f : AreRead skip 3 front t.lines = all-read skip 3 front t.lines t.last (in-place front (h.file).in_place) t.written in
+    let f : AreRead skip 3 front t.lines t.last = all-read skip 3 front t.lines t.last (in-place front (h.file).in_place) t.written in
     let number : ℕ = 3 + length t.lines in
     let can : CanGoOnAs before f.items = record {
       header = h.header;
@@ -37,7 +38,7 @@ piece-alone front before piece text expanding h =
       types = (f.like).types ∙ h.types;
     } in
     let o : AreReadOn skip f.items number before piece h.lines h.last = read-on skip f.items number before piece h.lines None
-    h.last (like-block before f.items can) (none-left (raws_kept f.items)) (in-place (piece ++ before) h.in_place) h.written in
+    h.last (like-block before f.items can) (none-left (tail_left (raws_kept f.items))) (in-place (piece ++ before) h.in_place) h.written in
     let all : List (Item ReadEpoch) = o.more ++ f.items in
     let last : ℕ = number + length h.lines in
     let lines : List ReadLine = map Content t.lines ++ map Content h.lines in
@@ -53,11 +54,6 @@ piece-alone front before piece text expanding h =
     ((o.like).left ∙ h.ends) known
 
 -- ---- of a compaction
-
-printed-append : (later before : List (Item Epoch)) → printed_items (later ++ before) ≡ printed_items before ++ printed_items later
-printed-append [] before = sym (append-nil (printed_items before))
-printed-append (Accepted unit ∷ later) before = search (printed-append later before, append_assoc)
-printed-append (Warned at ∷ later) before = printed-append later before
 
 pub own-piece : (file front : List ℕ) (choices expanding : Choices) (text : List ℕ)
     → is_date choices.date ≡ true → (h : IsOwnPieceAfter file front choices text) → expanded text expanding
@@ -87,7 +83,7 @@ own-piece file front choices expanding text dated h =
       types = units-types first settled.in_place ∙ h.types ∙ sym (units-types h.before placed);
       begun = begun;
       lines = lines;
-      last = state_on choices.every h.before h.piece;
-      written = own-on choices h.before h.piece good.in_place (inr h.anew);
+      last = state_on None choices.every h.before h.piece;
+      written = own-on None choices h.before h.piece good.in_place (inr h.anew);
       rest = lines-cut lines (kept-clean choices h.piece h.before good);
     }) ∙ ap (λ ls. written_well (lines_text ls)) same

@@ -11,7 +11,7 @@ use Rattle.crx_laws.specs.BorrowedLines.{AreReadable, HasGiven, IsFaultAt}
 use Rattle.crx_compact.specs.Tails.{tail_of, tail_or_nothing}
 use Rattle.crx_compact.specs.OpenEpochs.{ColumnsState, Faulty, Going, HasMade, HeldEpoch, Idle, Reading}
 use Rattle.crx_compact.specs.OpenEpochs.{Whole, is_idle, place_by_steps, place_of_steps, step_in}
-use Rattle.crx_laws.proofs.wayback.BackByLines.{steps-read_back}
+use Rattle.crx_compact.proofs.anywriter.OwnReading.{steps-read_back}
 use Rattle.crx_compact.proofs.wayback.Standing.{lines-short, lines-stand}
 
 -- an epoch is open, and what is at all lines is what those that are left make of it; these may be read where

@@ -6,7 +6,9 @@ use Rattle.crx_base.specs.meaning.AsRead.{as_read}
 use Rattle.crx_rinex.specs.meaning.Observations.{Epoch}
 use Rattle.crx_base.specs.meaning.Choices.{Choices, is_date}
 use Rattle.crx_filter.specs.meaning.Compacted.{whole_rinex, compacted}
+use Rattle.crx_rinex.specs.meaning.Units.{Unit as FileUnit}
 use Rattle.crx_filter.specs.meaning.Damage.{IsDamaged, IsSalvaged}
+use Rattle.crx_filter.specs.meaning.Stretches.{Stretch}
 use Rattle.crx_filter.specs.meaning.WayBack.{HasNormalForm, HaveNoReturns, written_well}
 use Rattle.crx_filter.specs.meaning.Reading.{WholeReading}
 use Rattle.crx_runs.specs.meaning.Results.{FilterResult}
@@ -33,12 +35,11 @@ CallBringsBackWhatWasCompacted holds text =
 
 -- ---- damage
 
--- an expansion that skips faults saves all but the block that is damaged
+-- an expansion that skips faults saves all but the block that is damaged, whoever wrote the text
 abbrev pub CallSavesAllElse : (FilterResult → Type 0) → List ℕ → Type 0
 CallSavesAllElse holds damaged =
-    (file : List ℕ) (compacting : Choices)
-    → is_date compacting.date ≡ true → (damage : IsDamaged file compacting damaged)
-    → (saved : FilterResult) × IsSalvaged file compacting damaged damage saved × holds saved
+    (before : List (FileUnit Epoch)) (s : Stretch) (damage : IsDamaged before s damaged)
+    → (saved : FilterResult) × IsSalvaged before s damaged damage saved × holds saved
 
 -- ---- standard files
 

@@ -1,4 +1,4 @@
-use Rattle.crx_compact.proofs.Words.{◌≡◌, refl, ℕ, zero, suc, [], ◌∷◌, ◌++◌, Some, inr, pos}
+use Rattle.crx_compact.proofs.Words.{refl, ℕ, zero, suc, [], ◌∷◌, ◌++◌, Some, inr, pos}
 use Rattle.std.specs.Prelude.{codes}
 use Rattle.std.specs.Fmt.{digits}
 use Rattle.crx_text.specs.meaning.Codes.{coded_number}

@@ -1,4 +1,4 @@
-use Rattle.crx_laws.proofs.wayback.BackByLines.{steps-read_back}
+use Rattle.crx_compact.proofs.anywriter.OwnReading.{steps-read_back}
 use Rattle.crx_laws.proofs.compact_reading.steps_read_back.Goals as goal
 
 pub returns : goal.returns

@@ -7,11 +7,11 @@ use Rattle.crx_base.specs.declared.fault.Fault.TheVariants.{Truncated}
 use Rattle.crx_laws.specs.SmallFiles.{header, header_items, first_two, epoch_at_second, epoch_line_at}
 use Rattle.crx_laws.specs.SmallFiles.{full_line_at, observed, plain_choices}
 use Rattle.crx_base.specs.meaning.Lines.{lines_text}
-use Rattle.crx_filter.specs.meaning.Damage.{IsDamaged}
+use Rattle.crx_filter.specs.Damage.{IsOwnDamaged}
 use Rattle.crx_runs.specs.meaning.Messages.{warning_text}
 use Rattle.crx_laws.proofs.filter_examples.a_block_cut_off.Goals as goal
 
-cut : IsDamaged (lines_text (header ++ epoch_line_at 0 1 ∷ observed (codes "1.000") ∷ [])) plain_choices
+cut : IsOwnDamaged (lines_text (header ++ epoch_line_at 0 1 ∷ observed (codes "1.000") ∷ [])) plain_choices
     (lines_text (first_two ++ header ++ full_line_at 0 1 (codes "G01") ∷ []))
 unfolding digits coded_number size_of number_of number_text
 cut = record {

@@ -1,12 +1,15 @@
 -- by computation
 use Rattle.crx_filter.proofs.Words.{ℕ, refl, List, [], ◌∷◌, ◌++◌, inl, inr, ◌≡◌, true, list_all, Piece}
 use Rattle.crx_filter.proofs.Words.{lines_of, pieces_of, EventLine, EventRecord, Observation, Accepted}
-use Rattle.crx_filter.proofs.Words.{lines_text, IsStandard, IsDamaged}
+use Rattle.crx_filter.proofs.Words.{lines_text, IsStandard, Content, Some, map}
 use Rattle.std.proofs.Common.{codes}
 use Rattle.std.specs.Fmt.{digits}
 use Rattle.crx_text.specs.meaning.Codes.{coded_number}
 use Rattle.crx_text.specs.meaning.Numbers.{size_of, number_of, number_text}
-use Rattle.crx_filter.specs.meaning.Damage.{may_replace}
+use Rattle.crx_filter.specs.{Damage.{IsOwnDamaged, may_replace}, meaning.Damage.IsDamaged}
+use Rattle.crx_filter.proofs.anywriter.OwnText.{whole-file}
+use Rattle.crx_laws.proofs.Wild.{make-file, arc_one, full_arc, epoch_with, lines-before, kept-lines}
+use Rattle.crx_laws.specs.WildText.{wild_before, wild_block, wild_shortened, wild_units, lines_before, first_line, second_line}
 use Rattle.crx_laws.specs.SmallFiles.{blanks, line_at, file_of_five, with_event, plain_choices}
 use Rattle.crx_laws.specs.SmallFiles.{in_full_every_second, epoch_at_second, header_items, first_block}
 use Rattle.crx_laws.specs.SmallFiles.{damaged_by, other_block, last_damaged_by, damaged_before_event}
@@ -19,7 +22,7 @@ standard = record { good = refl; plain = refl; given_back = refl }
 -- the second block with other lines in place of those after its first
 damaged : (lines : List (List ℕ)) → list_all may_replace (lines_of (lines_text lines)) ≡ true
     → list_all (λ (piece : Piece). piece.is_ended) (pieces_of (lines_text lines)) ≡ true
-    → IsDamaged (lines_text (file_of_five [])) in_full_every_second (damaged_by lines)
+    → IsOwnDamaged (lines_text (file_of_five [])) in_full_every_second (damaged_by lines)
 unfolding digits coded_number size_of number_of number_text
 damaged lines allowed ended = record {
   standard = standard;
@@ -38,7 +41,7 @@ damaged lines allowed ended = record {
 }
 
 -- the first block of a file, an event after it
-before-event : IsDamaged (lines_text with_event) plain_choices (damaged_before_event (codes "xyz" ∷ []))
+before-event : IsOwnDamaged (lines_text with_event) plain_choices (damaged_before_event (codes "xyz" ∷ []))
 unfolding digits coded_number size_of number_of number_text
 before-event = record {
   standard = record { good = refl; plain = refl; given_back = refl };
@@ -58,7 +61,7 @@ before-event = record {
 }
 
 -- the last block, without LF at the end
-last-damaged : IsDamaged (lines_text (file_of_five [])) in_full_every_second
+last-damaged : IsOwnDamaged (lines_text (file_of_five [])) in_full_every_second
     (last_damaged_by (codes "\n3&2000"))
 unfolding digits coded_number size_of number_of number_text
 last-damaged = record {
@@ -78,9 +81,43 @@ last-damaged = record {
   text = refl;
 }
 
+-- a text that no writer known here writes
+wild : IsDamaged wild_before wild_block wild_shortened
+wild = record {
+  stretch = record {
+    file = whole-file wild_units make-file;
+    header = refl;
+    text = record {
+      version = first_line;
+      program = second_line;
+      lines = lines_before;
+      more = wild_block.instead ++ map Content wild_block.lines;
+      last = Some (epoch_with 0 arc_one);
+      cut = refl;
+      first = refl;
+      second = refl;
+      written = lines-before;
+    };
+    each = (
+      record {
+        begins = refl;
+        ends = refl;
+        types = refl;
+        allowed = refl;
+        last = Some (epoch_with 2 full_arc);
+        written = kept-lines;
+      },
+      tt,
+    );
+    rest = refl;
+  };
+  block = (refl, refl);
+}
+
 pub returns : goal.returns
 unfolding digits coded_number size_of number_of number_text
 returns c = record {
+  wild = wild;
   date = refl;
   skips = refl;
   replaced = damaged (codes "xyz" ∷ []) refl refl;

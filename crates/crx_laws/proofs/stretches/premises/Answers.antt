@@ -1,5 +1,5 @@
 -- by computation
-use Rattle.crx_filter.proofs.Words.{refl, [], ◌∷◌, ◌++◌, inl, inr, Some, None, Content, map, lines_text, Accepted, Observation}
+use Rattle.crx_filter.proofs.Words.{refl, [], ◌∷◌, ◌++◌, inl, inr, Some, Content, map, lines_text, Accepted, Observation}
 use Rattle.std.proofs.Common.{codes}
 use Rattle.std.specs.Fmt.{digits}
 use Rattle.crx_text.specs.meaning.Codes.{coded_number}

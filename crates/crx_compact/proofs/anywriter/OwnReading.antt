@@ -1,0 +1,134 @@
+-- What was written here is read back, since any writer may write it.
+use Rattle.crx_compact.proofs.Words.{◌≡◌, refl, ℤ, List, [], ◌∷◌, ◌++◌, ◌+◌, Bool, true, false, Option, Some, None, map, length, drop, arith, ap, sym, ◌∙◌}
+use Rattle.crx_compact.proofs.Words.{append_assoc, length-append, length-map, map-append, drop-append_seam, same_Some, subst, IsWholeEpoch}
+use Rattle.crx_compact.proofs.Words.{Count, Row, Epoch, Marked, AreWhole, since_full, run_of, arc_of, satellite_line, epoch_line, compact_epoch}
+use Rattle.crx_compact.proofs.Words.{map-each_place, each_place-same, WRITTEN_ORDER, epoch_text, without_end_blanks}
+use Rattle.crx_compact.proofs.Words.{Content, Done, Place, ReadEpoch, Tail, tail_left}
+use Rattle.crx_compact.proofs.wayback.Runs.{marked}
+use Rattle.crx_compact.proofs.reading.LineByLine.{steps-agree}
+use Rattle.crx_compact.proofs.anywriter.{OnlyEpochs.done-things, Epochs.{any-epoch, held-reads, tail-for}, Own.{arc_written, row_written, epoch_written, epoch-same, full-lines, later-lines}}
+use Rattle.crx_compact.specs.ArcTails.{arc_tail}
+use Rattle.crx_compact.specs.AnyWriter.{arc_left, row_left, epoch_left, IsLeft}
+use Rattle.crx_compact.specs.OpenEpochs.{HeldEpoch}
+use Rattle.crx_compact.specs.Tails.{row_tail, tail_of, tail_or_nothing}
+use Rattle.crx_compact.specs.ReadingLaws.{lines_of_epoch, EachReadsBack, text_lines, epochs_at}
+use Rattle.crx_compact.specs.ReadingLaws.{marked_of, counts_of, OneTail, ReadsBack, StepsReadBack}
+use Rattle.crx_compact.specs.meaning.AnyWriter.{WrittenEpoch, AreEpochLines, epoch_now}
+
+-- ---- the tail that an epoch leaves
+
+arc-left : (xs : List ℤ) → arc_left (arc_written xs) ≡ arc_tail WRITTEN_ORDER xs
+arc-left [] = refl
+arc-left (x ∷ xs) = refl
+
+rows-left : (ms : List Marked) (rows : List Row) → map row_left (map (λ (r : Row). row_written (run_of r.name ms) r) rows)
+    ≡ map (λ (r : Row). row_tail (run_of r.name ms) r) rows
+rows-left ms [] = refl
+rows-left ms (r ∷ rs) =
+    let run = run_of r.name ms in
+    let cells = map-each_place arc_left (length r.values) (λ j. arc_written (arc_of j run))
+    ∙ each_place-same (length r.values) (λ j. arc_left (arc_written (arc_of j run))) (λ j. arc_tail WRITTEN_ORDER (arc_of j run))
+    (λ j. arc-left (arc_of j run)) in
+    cc (cells, rows-left ms rs)
+
+pub own-left : (types : List Count) (full : Bool) (e : Epoch) (older : List Marked)
+    → AreWhole types (since_full (marked full e ∷ older))
+    → epoch_left (epoch_written (marked full e) older) ≡ tail_of (marked full e ∷ older)
+own-left types full e older h = cc (
+  ap (λ q. without_end_blanks (epoch_text q)) (epoch-same types full e older h.0),
+  arc-left _,
+  rows-left (marked full e ∷ older) e.rows,
+)
+
+-- ---- what an epoch's lines go on from
+
+-- its lines, by the epoch that they may go on from
+record OwnLines (types : List Count) (full : Bool) (e : Epoch) (older : List Marked) (tail : Option Tail) : Type 0 where
+  before : Option WrittenEpoch
+  left : IsLeft before tail
+  lines : AreEpochLines before (epoch_written (marked full e) older) (compact_epoch (marked full e ∷ older))
+
+own-lines : (types : List Count) (full : Bool) (e : Epoch) (older : List Marked) (tail : Option Tail)
+    → AreWhole types (since_full (marked full e ∷ older)) → (full ≡ false → tail ≡ tail_or_nothing older)
+    → OwnLines types full e older tail
+own-lines types true e older tail h k =
+    record { before = None; left = λ b e. absurd (cc e); lines = full-lines types e older None h }
+own-lines types false e [] tail h k =
+    record { before = None; left = λ b e. absurd (cc e); lines = full-lines types e [] None h }
+own-lines types false e (m ∷ older) tail h k = record {
+  before = Some (epoch_written m older);
+  left = λ b is. k refl ∙ ap {B = Option Tail} Some (sym (own-left types m.in_full m.epoch older h.1))
+      ∙ ap {B = Option Tail} (λ w. Some (epoch_left w)) (same_Some (epoch_written m older) b is);
+  lines = later-lines types e m older h;
+}
+
+-- ---- an epoch
+
+counted : (ms : List Marked) (rows : List Row) → length (map (λ (r : Row). row_written (run_of r.name ms) r) rows) ≡ length rows
+counted ms rows = length-map rows (λ (r : Row). row_written (run_of r.name ms) r)
+
+pub each-reads_back : EachReadsBack
+each-reads_back types m older raws h k =
+    let own = own-lines types m.in_full m.epoch older (tail_left raws) h k in
+    let now : WrittenEpoch = epoch_written m older in
+    let same : epoch_now now ≡ m.epoch = epoch-same types m.in_full m.epoch older h.0 in
+    let r = any-epoch types own.before raws now (compact_epoch (m ∷ older)) own.left (subst (IsWholeEpoch types) (sym same) h.0)
+    own.lines in
+    record {
+      raw = r.raw;
+      reads = λ rest. r.reads rest ∙ ap {B = Place ReadEpoch} (λ q. Done (record { raw = r.raw; epoch = q }) (2 + length now.rows)) same
+          ∙ ap {B = Place ReadEpoch} (λ n. Done (record { raw = r.raw; epoch = m.epoch }) (2 + n)) (counted (m ∷ older) m.epoch.rows);
+      tail = r.leaves ∙ ap {B = Option Tail} Some (own-left types m.in_full m.epoch older h);
+    }
+
+pub one-tail : OneTail
+one-tail types m older raws rest read count h k e =
+    let r = each-reads_back types m older raws h k in
+    let same : record { raw = r.raw; epoch = m.epoch } ≡ read =
+    done-things (record { raw = r.raw; epoch = m.epoch }) read (2 + length m.epoch.rows) count (sym (r.reads rest) ∙ e) in
+    ap (λ (q : ReadEpoch). tail_left (q.raw ∷ raws)) (sym same) ∙ r.tail
+
+-- line by line, after a tail
+pub steps-read_back : StepsReadBack
+steps-read_back types m older tail h k =
+    let own = own-lines types m.in_full m.epoch older tail h k in
+    let now : WrittenEpoch = epoch_written m older in
+    let same : epoch_now now ≡ m.epoch = epoch-same types m.in_full m.epoch older h.0 in
+    let lines = own.lines in
+    let found = tail-for own.before tail (epoch_line m older) lines.0 own.left lines.1 in
+    sym (steps-agree types tail (lines_of_epoch (m ∷ older)))
+    ∙ held-reads types lines.0 now _ _ _ (subst (IsWholeEpoch types) (sym same) h.0) lines.2 tail found
+    ∙ ap {B = Place HeldEpoch} (λ q. Done (record { epoch = q; tail = epoch_left now }) (2 + length now.rows)) same
+    ∙ ap {B = Place HeldEpoch} (λ t. Done (record { epoch = m.epoch; tail = t }) (2 + length now.rows))
+    (own-left types m.in_full m.epoch older h)
+    ∙ ap {B = Place HeldEpoch} (λ n. Done (record { epoch = m.epoch; tail = tail_of (m ∷ older) }) (2 + n))
+    (counted (m ∷ older) m.epoch.rows)
+
+-- ---- the epochs of a list
+
+pub reads-back : ReadsBack
+reads-back [] h = record { reads = []; all = λ rest. refl; epochs_are = refl; tail = refl }
+reads-back (t ∷ older) h =
+    let ms = marked_of older in
+    let m = t.marked in
+    let first = reads-back older h.1 in
+    let raws = map (λ (r : ReadEpoch). r.raw) first.reads in
+    let next = each-reads_back t.types m ms raws h.0 (λ later. first.tail) in
+    let text = text_lines ms in
+    let lines = compact_epoch (m ∷ ms) in
+    let rows = length-map m.epoch.rows (λ (r : Row). satellite_line (run_of r.name (m ∷ ms)) r) in
+    let count : length text + (2 + length m.epoch.rows + 0) ≡ length (text ++ lines) =
+    omega (arith, length-append text lines, rows) in
+    record {
+      reads = record { raw = next.raw; epoch = m.epoch } ∷ first.reads;
+      all = λ rest.
+          let all = map Content (text ++ lines) ++ rest in
+          let split = ap (λ l. l ++ rest) (map-append Content text lines)
+          ∙ append_assoc (map Content text) (map Content lines) rest in
+          let begun = ap (epochs_at (counts_of older)) split ∙ first.all (map Content lines ++ rest) in
+          let left : drop (length text) all ≡ map Content lines ++ rest =
+          cc (split, length-map text Content, drop-append_seam (map Content text) (map Content lines ++ rest)) in
+          rw (begun, left, next.reads rest, count) refl;
+      epochs_are = cc first.epochs_are;
+      tail = next.tail;
+    }
