@@ -12,7 +12,7 @@ pub fn feed_from(bytes: &[u8], from: usize) -> Option<usize>
     ensures none { IfNone result ((k : ℕ) → from ≤ k → k < length bytes.now → slice_index bytes.now k ≢ 10) }
 {
     let mut at = from;
-    while 32 <= bytes.len() - at {
+    while at + 32 <= bytes.len() {
         let feeds = u8x32::from_slice(&bytes[at..])
             .simd_eq(u8x32::splat(b'\n'))
             .to_bitmask();

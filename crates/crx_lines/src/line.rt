@@ -73,10 +73,12 @@ struct Part {
 /// Hands out the lines of an input one after another, from a buffer of its own.
 #[derive(Drop)]
 pub struct LineReader {
+    // The two counts aren't beside each other: the compiler would count on with both as one vector, which
+    // takes more instructions at each line.
+    number: u64,
     window: Box<Window>,
     /// How many bytes the lines so far had, with their ends, those of refused lines too.
     passed: u64,
-    number: u64,
     phase: Phase,
     ghost counted: { number ≤ passed },
     ghost limit: { passed + length (kept window.value) ≤ INPUT_LIMIT },
@@ -96,9 +98,9 @@ impl LineReader {
     {
         let window = Box::new(alloc, Window::new(alloc)?)?;
         Ok(LineReader {
+            number: 0,
             window,
             passed: 0,
-            number: 0,
             phase: Phase::Open,
         })
     }
