@@ -195,10 +195,9 @@ pub fn print_cells(arcs: &[ObsArc], flags: &[u8], bytes: &mut [u8], at: usize) -
         ++ printed_cells (map shown_value arcs.now) (columns flags.now 1 (2 * length arcs.now)) }
     ensures end { result ≡ at + CELL_WIDTH * length arcs.now }
 {
-    let mut end = at;
     for index in 0..arcs.len() {
-        obs_print_cell(arcs[index].value(), flags, 2 * index, bytes, end);
-        end += CELL_WIDTH;
+        let place = at + CELL_WIDTH * index;
+        obs_print_cell(arcs[index].value(), flags, 2 * index, bytes, place);
     }
-    end
+    at + CELL_WIDTH * arcs.len()
 }

@@ -9,8 +9,9 @@ pub loop-index-preserved : goal.loop-index-preserved
 loop-index-preserved c =
     let place = c.loop-index.index in
     let flags = c.args.flags.now in
-    let before = take c.loop-index.end c.loop-index.bytes in
-    let printed : take (c.loop-index.end + 16) c.obs_print_cell.new.bytes
+    let from = c.args.at + 16 * place in
+    let before = take from c.loop-index.bytes in
+    let printed : take (from + 16) c.obs_print_cell.new.bytes
     ≡ before ++ (observation_text (shown_value c.index-arcs-index.result)
     ++ at flags (2 * place) ∷ at flags (2 * place + 1) ∷ []) =
     rw (get_or_default_zero flags (2 * place) 32 (omega arith))
@@ -18,9 +19,9 @@ loop-index-preserved c =
     ∙ ap (λ v. before ++ (observation_text v ++ slice_index flags (2 * place) ∷ slice_index flags
     (2 * place + 1) ∷ []))
     c.value.ensures.value)) in
+    let next : c.args.at + 16 * (place + 1) ≡ from + 16 = omega arith in
     record {
-      cells = print-on c.args.arcs.now flags before _ _ place c.index-arcs-index.result c.loop-index-test.true
-          c.index-arcs-index.is printed c.loop-index.invariant.cells;
-      end = omega arith;
+      cells = rw next (print-on c.args.arcs.now flags before _ _ place c.index-arcs-index.result
+          c.loop-index-test.true c.index-arcs-index.is printed c.loop-index.invariant.cells);
       long = omega arith;
     }

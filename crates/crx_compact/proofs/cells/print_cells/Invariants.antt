@@ -5,10 +5,9 @@ use Rattle.crx_compact.proofs.cells.print_cells.Given as goal
 -- the cells that are left complete the bytes up to the end
 abbrev pub invariant-loop-index : goal.invariant-loop-index
 invariant-loop-index l = record {
-  cells : take l.end l.bytes ++ printed_cells (drop l.index (map shown_value l.arcs))
+  cells : take (l.at + 16 * l.index) l.bytes ++ printed_cells (drop l.index (map shown_value l.arcs))
       (drop (2 * l.index) (columns l.flags 1 (2 * length l.arcs)))
       ≡ take l.at l.initial.bytes ++ printed_cells (map shown_value l.arcs)
       (columns l.flags 1 (2 * length l.arcs));
-  end : l.end ≡ l.at + 16 * l.index;
   long : length l.bytes ≡ length l.initial.bytes;
 }
