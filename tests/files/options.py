@@ -77,7 +77,7 @@ def refusals(texts):
         (("rnx2crx", "a.rnx", "--accept-cut"), "belongs to --verified-to"), *((("rnx2crx", "a.rnx", "--max-output", size), "the size of --max-output") for size in ("0", "x", "1m", "-1", "9" * 20)),
         (("rnx2crx", "a.rnx", "--delete"), "ERROR: --delete is no longer an option: no input is ever removed"), (("rnx2crx", "-d", "a.rnx"), "ERROR: -d is no longer an option: no input is ever removed"), (("rnx2crx", "."), "this is a folder, not a file"), (("rnx2crx", "folder.rnx"), "this is a folder, not a file"), (("rnx2crx", "a.txt"), "no output name"),
         (("rnx2crx", ".", "-o", "b"), "this is a folder"), (("rnx2crx", "a.rnx", "-o", "b.24o.gz"), "named as an input"), (("crx2rnx", "a.crx", "-o", "sub/.CRX"), "named as an input"), (("rnx2crx", "fifo.rnx"), "no regular file"), (("rnx2crx", "none.rnx"), "No such file"), (("rnx2crx", "a.rnx", "-o", "no/b"), "cannot write beside no/b: No such file"), (("rnx2crx", "a.rnx", "-o", "a.rnx/b"), "cannot look at a.rnx/b: Not a directory"),
-        (("rnx2crx", "a.rnx", "-o", "fifo"), "no regular file"), (("rnx2crx", "a.rnx", "-o", "dangling"), "a link to nothing"), (("rnx2crx", "empty.rnx"), "ERROR line 1 code 3"), (("rnx2crx", "a.bz2.rnx"), "bzip2"),
+        (("rnx2crx", "a.rnx", "-o", "fifo"), "the output is no regular file: fifo"), (("rnx2crx", "a.rnx", "-o", "dangling"), "a link to nothing"), (("rnx2crx", "empty.rnx"), "ERROR line 1 code 3"), (("rnx2crx", "a.bz2.rnx"), "bzip2"),
     ):  # fmt: skip
         with Place() as place:
             place.write("a.rnx", GOOD)

@@ -342,6 +342,28 @@ def file_that_comes_before_it_is_replaced(texts):
     return wrong
 
 
+# After the output was locked a pipe takes its name.
+BEFORE_THE_LAST_LOOK = """
+look = rnxcmp._whole.Whole._has_name
+def looking(self, name):
+    os.rename(name, "moved")
+    os.mkfifo(name)
+    return look(self, name)
+rnxcmp._whole.Whole._has_name = looking
+"""
+
+
+def pipe_that_comes_before_it_is_replaced(texts):
+    """A pipe that takes the name of an output that is to be replaced stays."""
+    with Place() as place:
+        place.write("a.rnx", GOOD)
+        place.write("a.crx", b"old")
+        run = changed(place, BEFORE_THE_LAST_LOOK, "rnx2crx", "-f", "a.rnx")
+        wrong = differs(run, 1, errors=["a.rnx: ERROR: the output is no regular file: a.crx"])
+        wrong += [] if (place.work / "a.crx").is_fifo() else ["the pipe was replaced"]
+        return wrong + ([f"left: {place.parts()}"] if place.parts() else [])
+
+
 # ---- rights
 
 ACCESS, INHERITED = "system.posix_acl_access", "system.posix_acl_default"
@@ -471,7 +493,8 @@ def locked_inputs(texts):
 CHECKS = (
     left_parts, killed_parts, part_that_is_looked_at, taken_folder, folder_that_takes_the_name,
     output_that_loses_its_name, output_that_changes_later, number_that_comes_again,
-    file_that_comes_before_it_is_replaced, access_lists, pipe_that_comes, locked_inputs,
+    file_that_comes_before_it_is_replaced, pipe_that_comes_before_it_is_replaced, access_lists, pipe_that_comes,
+    locked_inputs,
 )  # fmt: skip
 OF_ROOT = (old_parts_of_readable_inputs, of_another_user)
 
