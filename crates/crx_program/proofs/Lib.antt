@@ -1,3 +1,4 @@
+pub mod CallLemmas
 pub mod FilterEnds
 pub mod Refusals
 pub mod StreamLemmas

@@ -8,9 +8,11 @@ use Rattle.crx_runs.specs.meaning.Spans.{Input, Device, reader_span, span}
 use Rattle.jiff.specs.declared.timestamp.Timestamp.{Timestamp}
 use Rattle.crx_command.specs.declared.job.{Job.Job, Tool.Tool}
 use Rattle.crx_program.specs.{declared.log.{Logged.Logged, Opening.Opening}, meaning.Jobs.IsChosen}
+use Rattle.crx_program.specs.meaning.Calls.{Call}
 use Rattle.crx_program.specs.meaning.Jobs.{IsFiltered, IsFilteredFrom, IsFilteredInto, IsJobDone}
 use Rattle.crx_program.specs.meaning.Streams.{ReadsGave, WritesTook, IsAllOf, IsEndTold, IsFlushedLast}
-use Rattle.crx_program.specs.meaning.Streams.{IsUnused, IsPrefixOf}
+use Rattle.crx_program.specs.meaning.Streams.{IsUnused, IsPrefixOf, OpensInOrder}
+use Rattle.crx_program.proofs.CallLemmas.{opens-in_order}
 
 -- ---- the devices of the program
 
@@ -147,7 +149,7 @@ module _ {F G I O E : Type 0} (file : F → Option (List ℕ)) (made : G → Opt
       (target : Option (Logged (Std G))) (first last : Logged (Std I)) (before after : Logged (Std O))
       (quiet spoken : Logged (Std E)) (none : first.log.bytes ≡ []) (empty : before.log.bytes ≡ [])
       (silent : quiet.log.bytes ≡ []) (same_input : is_some job.source ≡ true → last ≡ first)
-      (same : is_some job.target ≡ true → after ≡ before) (status : ℕ) where
+      (same : is_some job.target ≡ true → after ≡ before) (status : ℕ) (fewer calls : List Call) where
     abbrev input : Input
     input = reader_span (reader_of stdin) first last
 
@@ -194,19 +196,27 @@ module _ {F G I O E : Type 0} (file : F → Option (List ℕ)) (made : G → Opt
         choices _ status h
 
     exact_run : (P : Type 0) → IsJobDone (reader_of file) (writer_of made) moment job source target input
-        output messages status P → (status ≡ 1 → ⊥) → IsExact
-    exact_run P (inl begun) well = exact_of begun.0 begun.1 (place_of begun.0 begun.2) well
+        output messages status P fewer calls → (status ≡ 1 → ⊥) → IsExact
+    exact_run P (inl begun) well = exact_of begun.0 begun.1 (place_of begun.0 begun.3) well
     exact_run P (inr not_begun) well = absurd (well not_begun.status_is)
 
     front_run : IsJobDone (reader_of file) (writer_of made) moment job source target input output messages
-        status ((last ≡ first) × (after ≡ before) × (target ≡ None))
+        status ((last ≡ first) × (after ≡ before) × (target ≡ None)) fewer calls
         → IsFront ⊎ ((last.log.bytes ≡ []) × (after.log.bytes ≡ []) × (target ≡ None))
-    front_run = grind (arith, common_steps, front_of, place_of)
+    front_run (inl begun) = inl (front_of begun.0 begun.1 (place_of begun.0 begun.3))
+    front_run (inr not_begun) =
+        inr (rw not_begun.same.0 none, rw not_begun.same.1 empty, not_begun.same.2)
 
     pub run_over : IsJobDone (reader_of file) (writer_of made) moment job source target input output messages
-        status ((last ≡ first) × (after ≡ before) × (target ≡ None)) → ((status ≡ 1 → ⊥) → IsExact)
+        status ((last ≡ first) × (after ≡ before) × (target ≡ None)) fewer calls → ((status ≡ 1 → ⊥) → IsExact)
         × (IsFront ⊎ ((last.log.bytes ≡ []) × (after.log.bytes ≡ []) × (target ≡ None)))
-    run_over done = (exact_run _ done, front_run done)
+        × OpensInOrder job fewer calls
+    run_over done = (
+      exact_run _ done,
+      front_run done,
+      opens-in_order (reader_of file) (writer_of made) moment job source target input output messages status
+          ((last ≡ first) × (after ≡ before) × (target ≡ None)) fewer calls done,
+    )
 
 -- a new device over a new one of std is unused
 pub fresh : {D : Type 0} (stream : D) (inner : Std D) (device : Logged (Std D)) → device.inner ≡ inner

@@ -1,3 +1,4 @@
 pub mod meaning
 pub mod Logs
+pub mod LateWriters
 pub mod Devices

@@ -1,18 +1,18 @@
 //! Devices that know what went through them, and by which name they were opened. What they know is read by
 //! contracts alone.
-ghost use Rattle.std.specs.Prelude.{◌≡◌, ◌<◌, List, ℕ, [], ◌++◌, IfOk, None, Some, true};
+ghost use Rattle.std.specs.Prelude.{◌≡◌, ◌<◌, List, ℕ, [], ◌++◌};
 ghost use Rattle.std.specs.Borrow.{ftrue};
 ghost use Rattle.std.proofs.Common.{◌∙◌, refl};
 ghost use Rattle.crx_program.specs.Logs.{adds_none, adds_both};
 
-use crx_lines::{ReadFailed, Sink, Source, Std, Uninterrupted, WriteFailed, open_file};
+pub mod opener;
+
+use crate::late_writer::LateWriter;
+use crx_lines::{ReadFailed, Sink, Source, Std, Uninterrupted, WriteFailed};
 use crx_runs::UntilFailure;
-use std::alloc::Global;
 use std::fs::OpenOptions;
-use std::io;
-use std::io::{BufWriter, Write};
+use std::io::BufWriter;
 use std::marker::{Model, PhantomData};
-use std::rt::Files;
 
 /// How many bytes of the output are collected before they are written: a system call for each line would cost
 /// more than all other work. The reader of lines itself reads the input in pieces of that size.
@@ -84,9 +84,16 @@ pub struct Logged<S> {
 /// went through it, and of a file its name. It hands on no interruption.
 pub type SourceFile<F> = Logged<Std<Uninterrupted<F>>>;
 
-/// A file or a stream that is written over a buffer, as a device that knows what was written to it, and of a
-/// file its name. It hands on no interruption.
-pub type TargetFile<F> = Logged<Std<BufWriter<UntilFailure<Uninterrupted<F>>>>>;
+/// The buffer of a file that is written. It can be made before the file.
+pub type FileBuffer<F> = BufWriter<LateWriter<UntilFailure<Uninterrupted<F>>>>;
+
+/// A stream that is written over a buffer, as a device that knows what was written to it. It hands on no
+/// interruption.
+pub type TargetStream<F> = Logged<Std<BufWriter<UntilFailure<Uninterrupted<F>>>>>;
+
+/// A file that is written over a buffer, as a device that knows what was written to it, and the file's name. It
+/// hands on no interruption.
+pub type TargetFile<F> = Logged<Std<FileBuffer<F>>>;
 
 impl<S> Logged<S> {
     /// The device, with nothing in its log, and no name.
@@ -110,6 +117,15 @@ impl<S> Logged<S> {
         ensures inner { result ≡ self.inner }
     {
         self.inner
+    }
+
+    /// What went through the device, which is let go of.
+    pub fn into_log(self) -> Log
+    where
+        S: Drop,
+        ensures log { result.bytes ≡ self.log.bytes }
+    {
+        self.log
     }
 }
 
@@ -186,58 +202,4 @@ impl<S: Sink> Sink for Logged<S> {
       q.1 ∙ p.1,
       S.took_both a.inner b.inner c.inner xs ys p.2 q.2,
     ) };
-}
-
-/// Opens the file of a name for reading. This call and [`open_to_write`] alone make a device that has a name:
-/// the one that they were given, and hand on to the machine.
-pub fn open_to_read<H: Files>(files: &H, name: &str) -> io::Result<SourceFile<H::File>>
-    ensures name { IfOk result (λ device. device.opening.name.bytes ≡ name.now) }
-    ensures log { IfOk result (λ device. device.log.bytes ≡ []) }
-    ensures unread { IfOk result (λ device. device.inner.is_unread ≡ true) }
-    ensures failures { IfOk result (λ device. device.inner.failures ≡ 0) }
-    ensures ends { IfOk result (λ device. device.inner.ends ≡ 0) }
-{
-    let inner = open_file(files, name)?;
-    Ok(Logged {
-        inner,
-        log: Log::new(),
-        opening: Opening::by(name, None),
-    })
-}
-
-/// A file that was opened for writing, and not written yet.
-#[derive(Drop)]
-pub struct Made<F> {
-    file: F,
-    opening: Opening,
-}
-
-/// Opens the file of a name for writing, as the options say.
-pub fn open_to_write<H: Files>(files: &H, how: OpenOptions, name: &str) -> io::Result<Made<H::File>>
-    ensures name { IfOk result (λ made. made.opening.name.bytes ≡ name.now) }
-    ensures how { IfOk result (λ made. made.opening.how ≡ Some how) }
-{
-    let file = how.open(files, name)?;
-    Ok(Made {
-        file,
-        opening: Opening::by(name, Some(how)),
-    })
-}
-
-impl<F: Write + Drop> Made<F> {
-    /// The device over a buffer over the file. Where there is no memory for the buffer, the file is closed.
-    pub fn into_device(self, alloc: Global) -> io::Result<TargetFile<F>>
-        ensures opening { IfOk result (λ device. device.opening ≡ self.opening) }
-        ensures log { IfOk result (λ device. device.log.bytes ≡ []) }
-        ensures failures { IfOk result (λ device. device.inner.failures ≡ 0) }
-    {
-        let Made { file, opening } = self;
-        let writer = UntilFailure::new(Uninterrupted::new(file));
-        let buffer = BufWriter::with_capacity(alloc, OUTPUT_BUFFER, writer)?;
-        Ok(Logged {
-            inner: Std::new(buffer),
-            log: Log::new(),
-            opening,
-        })
-    }
 }

@@ -1,15 +1,16 @@
 //! A whole run of the program: from the arguments to an exit status.
 
-ghost use Rattle.std.specs.Prelude.{◌≡◌, ◌⊎◌, IfOk, None, is_some, map, string_bytes, true};
+ghost use Rattle.std.specs.Prelude.{◌≡◌, ◌⊎◌, ◌++◌, [], IfOk, None, is_some, map, string_bytes, true};
 ghost use Rattle.std.specs.Option.{option_map_or};
 ghost use Rattle.crx_base.specs.meaning.Choices.{choices_of, is_date};
 ghost use Rattle.crx_command.specs.meaning.Planning.{Help, Refusal, Refused, Run, plan_of};
 ghost use Rattle.crx_program.specs.Devices.{LeavesDevices};
-ghost use Rattle.crx_program.specs.meaning.Jobs.{IsChosen, IsJobDone, IsJobEnded, IsFiltered, IsFilteredInto, IsFilteredToFile, IsNotBegun};
+ghost use Rattle.crx_program.specs.meaning.Jobs.{IsChosen, IsJobDone, IsJobEnded, IsFiltered, IsFilteredInto, IsNotBegun, MadeUntil, call_to_write, options_of_target};
 ghost use Rattle.crx_program.specs.meaning.Program.{IsHelped, IsRefused, IsShown, at_start};
 ghost use Rattle.crx_runs.specs.meaning.Spans.{span, reader_span};
 
-use crate::log::{Made, SourceFile, TargetFile, open_to_read, open_to_write};
+use crate::log::opener::{Opener, file_buffer};
+use crate::log::{Log, Logged, SourceFile, TargetFile};
 use crate::refusal::{refuse, report, report_at_start};
 use crx_base::Fault;
 use crx_command::date::{date_of, moment_now};
@@ -17,11 +18,11 @@ use crx_command::job::{Decision, Job, Tool};
 use crx_command::plan::plan;
 use crx_command::word::Word;
 use crx_filter::{Options, check, compact, expand};
-use crx_lines::{Sink, Source, write_all_counted};
+use crx_lines::{Sink, Source, Std, write_all_counted};
 use jiff::Timestamp;
 use std::alloc::{AllocError, Global};
 use std::fs::OpenOptions;
-use std::io::{ErrorKind, Write};
+use std::io::{BufWriter, ErrorKind, Write};
 use std::rt::{Clock, Files};
 
 /// A run that is over: its exit status, and the devices of the files that it opened.
@@ -35,20 +36,18 @@ pub struct Ended<F: Write + Drop> {
     pub target: Option<TargetFile<F>>,
 }
 
-/// Has a buffer hand on what it still holds: no byte more is written. A run that ended since a message
-/// couldn't be written hasn't flushed what it wrote before. After a write that failed nothing is handed on. A
-/// run whose output wasn't handed on before has ended with status 1, so a failure says nothing more.
-pub(crate) fn settle<F: Write + Drop>(device: &mut TargetFile<F>)
-    ensures { device.new.log.bytes ≡ device.old.log.bytes }
+/// Has the buffer of a device hand on what it still holds, and lets go of the device. No byte more is written:
+/// a run that ended since a message couldn't be written hasn't flushed what it wrote before. After a write
+/// that failed nothing is handed on. A run whose output wasn't handed on before has ended with status 1, so a
+/// failure says nothing more.
+pub(crate) fn close_buffer<W: Write + Drop>(device: Logged<Std<BufWriter<W>>>) -> Log
+    ensures { result.bytes ≡ device.log.bytes }
 {
-    match device.flush() {
+    let mut settled = device;
+    match settled.flush() {
         Ok(()) | Err(_) => {}
     }
-}
-
-/// Lets go of a device. Its buffer is taken apart, since one that is dropped flushes.
-pub(crate) fn let_go<F: Write + Drop>(device: TargetFile<F>) {
-    drop(device.into_inner().into_inner().into_parts());
+    settled.into_log()
 }
 
 impl<F: Write + Drop> Ended<F> {
@@ -62,9 +61,8 @@ impl<F: Write + Drop> Ended<F> {
             source: _,
             target,
         } = self;
-        if let Some(mut file) = target {
-            settle(&mut file);
-            let_go(file);
+        if let Some(file) = target {
+            drop(close_buffer(file));
         }
         status
     }
@@ -126,40 +124,26 @@ fn filter<R: Source, W: Sink, M: Sink>(
     }
 }
 
-/// Runs a filter that writes to a file, through a buffer.
-fn filter_to_file<R: Source, F: Write + Drop, M: Sink>(
-    alloc: Global,
-    tool: Tool,
-    options: Options,
-    reader: &mut R,
-    file: Made<F>,
-    messages: &mut M,
-) -> Ended<F>
-    ensures source { result.source ≡ None }
-    ensures done { IsFilteredToFile ⟦<TargetFile<F> as Sink>⟧ file.opening result.target tool options
-        (reader_span R.Source reader.old reader.new) (span M.Sink messages.old messages.new) result.status
-        ⊎ ((result.status ≡ 1) × IsShown (span M.Sink messages.old messages.new) (at_start Fault.OutOfMemory)
-        × (reader.new ≡ reader.old) × (result.target ≡ None)) }
+/// How the output file of a job is opened.
+fn options_to_write(force: bool) -> OpenOptions
+    ensures { result ≡ options_of_target force }
 {
-    match file.into_device(alloc) {
-        Ok(device) => {
-            let mut writer = device;
-            let status = filter(alloc, tool, options, reader, &mut writer, messages);
-            Ended {
-                status,
-                source: None,
-                target: Some(writer),
-            }
-        }
-        Err(_) => Ended::without_files(report_at_start(messages, Fault::OutOfMemory)),
+    let mut how = OpenOptions::new();
+    how.write(true);
+    if force {
+        how.create(true);
+        how.truncate(true);
+    } else {
+        how.create_new(true);
     }
+    how
 }
 
 /// Runs a filter into the job's target: a file, or `output` where the job names none. A file that exists is
 /// overwritten only where the job says so; else the call that makes the file fails where there is one, with
-/// `AlreadyExists`.
+/// `AlreadyExists`. Where there is no memory for the buffer, no file is made.
 fn run_to_target<H: Files, R: Source, W: Sink, M: Sink>(
-    rt: &H,
+    files: &mut Opener<'_, H>,
     alloc: Global,
     job: &Job,
     options: Options,
@@ -169,25 +153,30 @@ fn run_to_target<H: Files, R: Source, W: Sink, M: Sink>(
 ) -> Ended<H::File>
     ensures output { is_some job.now.target ≡ true → output.new ≡ output.old }
     ensures source { result.source ≡ None }
-    ensures done { IsFilteredInto ⟦<TargetFile<H::File> as Sink>⟧ job.now.target job.now.force result.target
+    ensures done { ((files.new.log.calls ≡ files.old.log.calls ++ call_to_write job.now.target job.now.force)
+        × IsFilteredInto ⟦<TargetFile<H::File> as Sink>⟧ job.now.target job.now.force result.target
         job.now.tool options (reader_span R.Source reader.old reader.new)
-        (span W.Sink output.old output.new) (span M.Sink messages.old messages.new) result.status
+        (span W.Sink output.old output.new) (span M.Sink messages.old messages.new) result.status)
         ⊎ IsNotBegun job.now (span M.Sink messages.old messages.new) result.status ((reader.new ≡ reader.old)
-        × (output.new ≡ output.old) × (result.target ≡ None)) }
+        × (output.new ≡ output.old) × (result.target ≡ None))
+        (λ why. MadeUntil why [] (call_to_write job.now.target job.now.force) files.old.log.calls files.new.log.calls) }
 {
     let Some(name) = &job.target else {
         return Ended::without_files(filter(alloc, job.tool, options, reader, output, messages));
     };
-    let mut how = OpenOptions::new();
-    how.write(true);
-    if job.force {
-        how.create(true);
-        how.truncate(true);
-    } else {
-        how.create_new(true);
-    }
-    match open_to_write(rt, how, name.text()) {
-        Ok(made) => filter_to_file(alloc, job.tool, options, reader, made, messages),
+    let Ok(buffer) = file_buffer(alloc) else {
+        return Ended::without_files(report_at_start(messages, Fault::OutOfMemory));
+    };
+    match files.open_to_write(options_to_write(job.force), name.text(), buffer) {
+        Ok(device) => {
+            let mut writer = device;
+            let status = filter(alloc, job.tool, options, reader, &mut writer, messages);
+            Ended {
+                status,
+                source: None,
+                target: Some(writer),
+            }
+        }
         Err(error) if !job.force && error.kind() == ErrorKind::AlreadyExists => {
             Ended::without_files(report(alloc, messages, "file exists: ", name.text()))
         }
@@ -198,7 +187,7 @@ fn run_to_target<H: Files, R: Source, W: Sink, M: Sink>(
 /// Does a job: makes the default date where one is needed, then opens the input file, then makes the
 /// output file, and runs the filter.
 fn run_job<H: Files, R: Source, W: Sink, M: Sink>(
-    rt: &H,
+    files: &mut Opener<'_, H>,
     alloc: Global,
     moment: Option<Timestamp>,
     job: &Job,
@@ -211,17 +200,26 @@ fn run_job<H: Files, R: Source, W: Sink, M: Sink>(
     ensures done { IsJobDone ⟦<SourceFile<H::File> as Source>⟧ ⟦<TargetFile<H::File> as Sink>⟧
         moment job.now result.source result.target (reader_span R.Source input.old input.new)
         (span W.Sink output.old output.new) (span M.Sink messages.old messages.new) result.status
-        ((input.new ≡ input.old) × (output.new ≡ output.old) × (result.target ≡ None)) }
+        ((input.new ≡ input.old) × (output.new ≡ output.old) × (result.target ≡ None))
+        files.old.log.calls files.new.log.calls }
 {
     let Ok(options) = options_of(alloc, moment, job) else {
         return Ended::without_files(report_at_start(messages, Fault::OutOfMemory));
     };
     match &job.source {
-        None => run_to_target(rt, alloc, job, options, input, output, messages),
-        Some(name) => match open_to_read(rt, name.text()) {
+        None => run_to_target(files, alloc, job, options, input, output, messages),
+        Some(name) => match files.open_to_read(name.text()) {
             Ok(opened) => {
                 let mut reader = opened;
-                let ended = run_to_target(rt, alloc, job, options, &mut reader, output, messages);
+                let ended = run_to_target(
+                    files,
+                    alloc,
+                    job,
+                    options,
+                    &mut reader,
+                    output,
+                    messages,
+                );
                 Ended {
                     status: ended.status,
                     source: Some(reader),
@@ -258,8 +256,8 @@ fn show_help<W: Sink, M: Sink>(text: &Word, output: &mut W, messages: &mut M) ->
 /// that is fault 22 at line 0, and a help that can't be written is fault 21 at line 0.
 ///
 /// The default date is made first, where one is needed; then the input file is opened, then the output
-/// file is made. Where the input may have to wait, as all but regular files may, what is written is handed on
-/// before each read and before each warning.
+/// file is made, once there is memory for its buffer. Where the input may have to wait, as all but regular
+/// files may, what is written is handed on before each read and before each warning.
 pub fn run<H: Files + Clock, R: Source, W: Sink, M: Sink>(
     rt: &H,
     alloc: Global,
@@ -285,13 +283,14 @@ pub fn run<H: Files + Clock, R: Source, W: Sink, M: Sink>(
         (λ target. (input.new ≡ input.old) × (output.new ≡ output.old) × (target ≡ None)) }
 {
     let moment = moment_now(rt);
-    run_with_files(rt, alloc, moment, words, input, output, messages).close()
+    let mut files = Opener::new(rt);
+    run_with_files(&mut files, alloc, moment, words, input, output, messages).close()
 }
 
-/// Does the same at a moment that is given, and answers the devices of the files that it opened too (see
-/// [`run`]). The default date is that of the moment, and empty where there is none.
+/// Does the same at a moment that is given, opens files by this opener alone, and answers the devices of these
+/// too (see [`run`]). The default date is that of the moment, and empty where there is none.
 pub fn run_with_files<H: Files, R: Source, W: Sink, M: Sink>(
-    rt: &H,
+    files: &mut Opener<'_, H>,
     alloc: Global,
     moment: Option<Timestamp>,
     words: Vec<String>,
@@ -301,21 +300,24 @@ pub fn run_with_files<H: Files, R: Source, W: Sink, M: Sink>(
 ) -> Ended<H::File>
     ensures refused { (refusal : Refusal) → plan_of (map string_bytes words.items) ≡ Refused refusal
         → IsRefused (span M.Sink messages.old messages.new) refusal result.status
-        × (input.new ≡ input.old) × (output.new ≡ output.old) × (result.source ≡ None) × (result.target ≡ None) }
+        × (input.new ≡ input.old) × (output.new ≡ output.old) × (result.source ≡ None) × (result.target ≡ None)
+        × (files.new.log.calls ≡ files.old.log.calls) }
     ensures help { plan_of (map string_bytes words.items) ≡ Help
         → IsHelped (span W.Sink output.old output.new) (span M.Sink messages.old messages.new) result.status
-        × (input.new ≡ input.old) × (result.source ≡ None) × (result.target ≡ None) }
+        × (input.new ≡ input.old) × (result.source ≡ None) × (result.target ≡ None)
+        × (files.new.log.calls ≡ files.old.log.calls) }
     ensures devices { (job : Job) → plan_of (map string_bytes words.items) ≡ Run job
         → LeavesDevices job (input.new ≡ input.old) (output.new ≡ output.old) }
     ensures done { (job : Job) → plan_of (map string_bytes words.items) ≡ Run job
         → IsJobDone ⟦<SourceFile<H::File> as Source>⟧ ⟦<TargetFile<H::File> as Sink>⟧
         moment job result.source result.target (reader_span R.Source input.old input.new) (span W.Sink output.old output.new)
         (span M.Sink messages.old messages.new) result.status
-        ((input.new ≡ input.old) × (output.new ≡ output.old) × (result.target ≡ None)) }
+        ((input.new ≡ input.old) × (output.new ≡ output.old) × (result.target ≡ None))
+        files.old.log.calls files.new.log.calls }
 {
     match plan(alloc, words) {
         Ok(Decision::Help(text)) => Ended::without_files(show_help(&text, output, messages)),
-        Ok(Decision::Run(job)) => run_job(rt, alloc, moment, &job, input, output, messages),
+        Ok(Decision::Run(job)) => run_job(files, alloc, moment, &job, input, output, messages),
         Err(fault) => Ended::without_files(refuse(alloc, messages, &fault)),
     }
 }

@@ -6,11 +6,12 @@ ghost use Rattle.crx_command.specs.meaning.Planning.{Help, Refusal, Refused, Run
 ghost use Rattle.crx_program.specs.meaning.Jobs.{IsJobDone};
 ghost use Rattle.crx_program.specs.meaning.Kept.{KeepsItsPromises};
 ghost use Rattle.crx_program.specs.meaning.Program.{IsHelped, IsRefused, IsShown, at_start};
-ghost use Rattle.crx_program.specs.meaning.Streams.{FromUnused, IsExact, IsPrefix, IsUnused};
+ghost use Rattle.crx_program.specs.meaning.Streams.{FromUnused, HasLogsOf, IsExact, IsPrefix, IsUnused, OpensInOrder};
 ghost use Rattle.crx_runs.specs.meaning.Spans.{reader_span, span};
 
-use crate::log::{Logged, SourceFile, TargetFile};
-use crate::program::{let_go, run_with_files, settle};
+use crate::log::opener::Opener;
+use crate::log::{Log, Logged, SourceFile, TargetFile, TargetStream};
+use crate::program::{close_buffer, run_with_files};
 use crate::refusal::report_at_start;
 use crx_base::Fault;
 use crx_command::job::Job;
@@ -25,7 +26,7 @@ use std::rt::Files;
 pub type InputDevice<I> = SourceFile<I>;
 
 /// Standard output, as a device that knows what was written to it; it is over a buffer.
-pub type OutputDevice<O> = TargetFile<O>;
+pub type OutputDevice<O> = TargetStream<O>;
 
 /// Standard error, as a device that knows what was written to it.
 pub type MessageDevice<E> = SourceFile<E>;
@@ -75,9 +76,10 @@ pub fn without_memory<I: Read, O: Write + Drop, E: Write, F: Write + Drop>(
 }
 
 /// Does what the arguments ask for, over standard streams (see [`run`](crate::program::run)), and hands these
-/// back. `may_wait` says whether standard input may have to wait for more.
+/// back. Files are opened by this opener alone. `may_wait` says whether standard input may have to wait for
+/// more.
 pub fn run_over<H: Files, I: Read, O: Write + Drop, E: Write>(
-    rt: &H,
+    files: &mut Opener<'_, H>,
     alloc: Global,
     moment: Option<Timestamp>,
     words: Vec<String>,
@@ -90,12 +92,13 @@ pub fn run_over<H: Files, I: Read, O: Write + Drop, E: Write>(
         → FromUnused stderr (λ messages.
         IsRefused (span ⟦<MessageDevice<E> as Sink>⟧ messages result.messages) refusal result.status)
         × (result.input.log.bytes ≡ []) × (result.output.log.bytes ≡ []) × (result.source ≡ None)
-        × (result.target ≡ None) }
+        × (result.target ≡ None) × (files.new.log.calls ≡ files.old.log.calls) }
     ensures help { plan_of (map string_bytes words.items) ≡ Help
         → FromUnused stdout (λ output. FromUnused stderr (λ messages.
         IsHelped (span ⟦<OutputDevice<O> as Sink>⟧ output result.output)
         (span ⟦<MessageDevice<E> as Sink>⟧ messages result.messages) result.status))
-        × (result.input.log.bytes ≡ []) × (result.source ≡ None) × (result.target ≡ None) }
+        × (result.input.log.bytes ≡ []) × (result.source ≡ None) × (result.target ≡ None)
+        × (files.new.log.calls ≡ files.old.log.calls) }
     ensures done { (job : Job) → plan_of (map string_bytes words.items) ≡ Run job
         → FromUnused stdin (λ input. FromUnused stdout (λ output.
         FromUnused stderr (λ messages.
@@ -103,7 +106,10 @@ pub fn run_over<H: Files, I: Read, O: Write + Drop, E: Write>(
         moment job result.source result.target (reader_span ⟦<InputDevice<I> as Source>⟧ input result.input)
         (span ⟦<OutputDevice<O> as Sink>⟧ output result.output)
         (span ⟦<MessageDevice<E> as Sink>⟧ messages result.messages) result.status
-        ((result.input ≡ input) × (result.output ≡ output) × (result.target ≡ None))))) }
+        ((result.input ≡ input) × (result.output ≡ output) × (result.target ≡ None))
+        files.old.log.calls files.new.log.calls))) }
+    ensures opens { (job : Job) → plan_of (map string_bytes words.items) ≡ Run job
+        → OpensInOrder job files.old.log.calls files.new.log.calls }
     ensures exact { (job : Job) → plan_of (map string_bytes words.items) ≡ Run job
         → (result.status ≡ 1 → ⊥) → IsExact moment job result }
     ensures front { (job : Job) → plan_of (map string_bytes words.items) ≡ Run job
@@ -115,7 +121,7 @@ pub fn run_over<H: Files, I: Read, O: Write + Drop, E: Write>(
     let mut output = Logged::new(Std::new(stdout));
     let mut messages = Logged::new(Std::new(stderr));
     let ended = run_with_files(
-        rt,
+        files,
         alloc,
         moment,
         words,
@@ -133,40 +139,54 @@ pub fn run_over<H: Files, I: Read, O: Write + Drop, E: Write>(
     }
 }
 
+/// A run that is over, whose files and streams are let go of: its exit status, and what went through each
+/// device.
+#[derive(Drop)]
+pub struct Closed {
+    /// The exit status.
+    pub status: u8,
+    /// What standard input gave.
+    pub input: Log,
+    /// What was written to standard output.
+    pub output: Log,
+    /// What was written to standard error.
+    pub messages: Log,
+    /// What the file that was read gave, where the run opened one.
+    pub source: Option<Log>,
+    /// What was written to the file, where the run made one.
+    pub target: Option<Log>,
+}
+
 impl<I: Drop, O: Write + Drop, E: Drop, F: Write + Drop> Whole<I, O, E, F> {
-    ghost use Rattle.std.specs.Option.{option_map};
-
-    /// Has the buffers of the outputs hand on what they still hold. No byte more is written to them.
-    fn settle(&mut self)
-        ensures output { self.new.output.log.bytes ≡ self.old.output.log.bytes }
-        ensures target { option_map (λ file. file.log.bytes) self.new.target
-            ≡ option_map (λ file. file.log.bytes) self.old.target }
-        ensures status { self.new.status ≡ self.old.status }
-    {
-        if let Some(file) = &mut self.target {
-            settle(file);
-        }
-        settle(&mut self.output);
-    }
-
     /// Hands on what the buffers of the output still hold, closes the files, and answers the exit status. No
-    /// byte more is written.
-    pub fn close(mut self) -> u8
-        ensures status { result ≡ self.status }
+    /// byte more is read or written.
+    pub fn close(self) -> Closed
+        ensures status { result.status ≡ self.status }
+        ensures nothing_more { HasLogsOf self result }
     {
-        self.settle();
         let Whole {
             status,
-            input: _,
+            input,
             output,
-            messages: _,
-            source: _,
+            messages,
+            source,
             target,
         } = self;
-        if let Some(file) = target {
-            let_go(file);
+        let target = match target {
+            Some(file) => Some(close_buffer(file)),
+            None => None,
+        };
+        let source = match source {
+            Some(file) => Some(file.into_log()),
+            None => None,
+        };
+        Closed {
+            status,
+            input: input.into_log(),
+            output: close_buffer(output),
+            messages: messages.into_log(),
+            source,
+            target,
         }
-        let_go(output);
-        status
     }
 }

@@ -6,7 +6,7 @@ ghost use Rattle.crx_command.specs.meaning.Planning.{Help, Refusal, Refused, Run
 ghost use Rattle.crx_program.specs.meaning.Jobs.{IsJobDone};
 ghost use Rattle.crx_program.specs.meaning.Kept.{KeepsItsPromises};
 ghost use Rattle.crx_program.specs.meaning.Program.{IsHelped, IsRefused};
-ghost use Rattle.crx_program.specs.meaning.Streams.{FromUnused, IsExact, IsPrefix};
+ghost use Rattle.crx_program.specs.meaning.Streams.{FromUnused, IsExact, IsPrefix, OpensInOrder};
 ghost use Rattle.crx_runs.specs.meaning.Spans.{reader_span, span};
 
 use crate::{Job, UsageFault, Word};
@@ -14,6 +14,7 @@ use crx_base::Fault;
 use crx_command::date::moment_now;
 use crx_command::plan::words_given;
 use crx_lines::{Sink, Source, Std, Uninterrupted};
+use crx_program::log::opener::Opener;
 use crx_program::log::{OUTPUT_BUFFER, SourceFile, TargetFile};
 use crx_program::refusal::{refuse, report_at_start};
 use crx_program::streams::{
@@ -21,6 +22,7 @@ use crx_program::streams::{
 };
 use crx_runs::UntilFailure;
 use jiff::Timestamp;
+use std::alloc::Global;
 use std::env::Args;
 use std::fs::File;
 use std::io::{BufWriter, Stderr, Stdin, Stdout};
@@ -44,10 +46,11 @@ fn input_may_wait(rt: &HostRuntime) -> bool {
 
 /// Does what the arguments of a process ask for, of which the first is the program's name, over the standard
 /// streams (see [`run_over`]), and hands these back. It takes the list and the streams as they come from the
-/// machine: the words are all but the first, in order, each once. `waits` says whether standard input may
-/// have to wait for more.
+/// machine: the words are all but the first, in order, each once. Files are opened by this opener alone.
+/// `waits` says whether standard input may have to wait for more.
 pub fn run_streams(
-    rt: &HostRuntime,
+    files: &mut Opener<'_, HostRuntime>,
+    alloc: Global,
     moment: Option<Timestamp>,
     arguments: Args,
     waits: bool,
@@ -60,12 +63,13 @@ pub fn run_streams(
         → FromUnused stderr (λ messages.
         IsRefused (span ⟦<MessageDevice<Stderr> as Sink>⟧ messages result.messages) refusal result.status)
         × (result.input.log.bytes ≡ []) × (result.output.log.bytes ≡ []) × (result.source ≡ None)
-        × (result.target ≡ None) }
+        × (result.target ≡ None) × (files.new.log.calls ≡ files.old.log.calls) }
     ensures help { plan_of (map string_bytes (drop 1 (into_iter_items arguments))) ≡ Help
         → FromUnused stdout (λ output. FromUnused stderr (λ messages.
         IsHelped (span ⟦<OutputDevice<Stdout> as Sink>⟧ output result.output)
         (span ⟦<MessageDevice<Stderr> as Sink>⟧ messages result.messages) result.status))
-        × (result.input.log.bytes ≡ []) × (result.source ≡ None) × (result.target ≡ None) }
+        × (result.input.log.bytes ≡ []) × (result.source ≡ None) × (result.target ≡ None)
+        × (files.new.log.calls ≡ files.old.log.calls) }
     ensures done { (job : Job)
         → plan_of (map string_bytes (drop 1 (into_iter_items arguments))) ≡ Run job
         → FromUnused stdin (λ input. FromUnused stdout (λ output. FromUnused stderr (λ messages.
@@ -73,7 +77,11 @@ pub fn run_streams(
         moment job result.source result.target (reader_span ⟦<InputDevice<Stdin> as Source>⟧ input result.input)
         (span ⟦<OutputDevice<Stdout> as Sink>⟧ output result.output)
         (span ⟦<MessageDevice<Stderr> as Sink>⟧ messages result.messages) result.status
-        ((result.input ≡ input) × (result.output ≡ output) × (result.target ≡ None))))) }
+        ((result.input ≡ input) × (result.output ≡ output) × (result.target ≡ None))
+        files.old.log.calls files.new.log.calls))) }
+    ensures opens { (job : Job)
+        → plan_of (map string_bytes (drop 1 (into_iter_items arguments))) ≡ Run job
+        → OpensInOrder job files.old.log.calls files.new.log.calls }
     ensures exact { (job : Job)
         → plan_of (map string_bytes (drop 1 (into_iter_items arguments))) ≡ Run job
         → (result.status ≡ 1 → ⊥) → IsExact moment job result }
@@ -84,8 +92,8 @@ pub fn run_streams(
         → plan_of (map string_bytes (drop 1 (into_iter_items arguments))) ≡ Run job
         → (result.status ≡ 1 → ⊥) → KeepsItsPromises moment job result }
 {
-    match words_given(rt.alloc(), arguments) {
-        Ok(words) => run_over(rt, rt.alloc(), moment, words, waits, stdin, stdout, stderr),
+    match words_given(alloc, arguments) {
+        Ok(words) => run_over(files, alloc, moment, words, waits, stdin, stdout, stderr),
         Err(_) => without_memory(stdin, stdout, stderr),
     }
 }
@@ -125,6 +133,16 @@ pub fn run_host(rt: &HostRuntime) -> ExitCode {
     let stdin = Uninterrupted::new(rt.stdin());
     let stderr = Uninterrupted::new(rt.stderr());
     let waits = input_may_wait(rt);
-    let whole = run_streams(rt, moment, arguments, waits, stdin, buffer, stderr);
-    ExitCode::from(whole.close())
+    let mut files = Opener::new(rt);
+    let whole = run_streams(
+        &mut files,
+        rt.alloc(),
+        moment,
+        arguments,
+        waits,
+        stdin,
+        buffer,
+        stderr,
+    );
+    ExitCode::from(whole.close().status)
 }

@@ -1,5 +1,5 @@
 -- A job of the program: which filter runs, from where to where, by which choices; or why none runs.
-use Rattle.std.specs.Prelude.{◌≡◌, ◌⊎◌, ⊤, ℕ, Bool, true, false, List, [], Option, Some, None, codes, if◌then◌else◌}
+use Rattle.std.specs.Prelude.{◌≡◌, ◌⊎◌, ⊤, ℕ, Bool, true, false, List, [], ◌∷◌, ◌++◌, Option, Some, None, codes, if◌then◌else◌}
 use Rattle.std.specs.Fs.{new_options, with_create, with_create_new, with_truncate, with_write}
 use Rattle.std.specs.declared.fs.options.OpenOptions.{OpenOptions}
 use Rattle.crx_lines.specs.declared.device.Sink.{Ghosts as SinkGhosts}
@@ -26,6 +26,7 @@ use Rattle.crx_command.specs.declared.job.Tool.TheVariants.{Compact, Expand, Che
 use Rattle.crx_command.specs.meaning.ErrorLines.{error_line}
 use Rattle.crx_program.specs.declared.log.Logged.{Logged}
 use Rattle.crx_program.specs.declared.log.Opening.{Opening}
+use Rattle.crx_program.specs.meaning.Calls.{Call, options_to_read}
 use Rattle.crx_program.specs.meaning.Program.{at_start, IsShownOr}
 
 -- ---- a run
@@ -82,15 +83,7 @@ line_of_hindrance (CannotRead name) = error_line (codes "cannot read ") name
 line_of_hindrance (FileExists name) = error_line (codes "file exists: ") name
 line_of_hindrance (CannotCreate name) = error_line (codes "cannot create ") name
 
--- no filter ran, and a line says why; what the standard streams gave and took stays
-pub record IsNotBegun (job : Job) (messages : Device) (status : ℕ) (untouched : Type 0) : Type 0 where
-  pub why : Hindrance
-  pub can : CanHinder why job
-  pub shown : IsShownOr messages (line_of_hindrance why)
-  pub status_is : status ≡ 1
-  pub same : untouched
-
--- ---- the devices of files
+-- ---- the calls that open files
 
 -- the options by which an output file is opened for writing: one that exists is emptied where the job says so,
 -- and else the call fails where there is one
@@ -98,6 +91,40 @@ abbrev pub options_of_target : Bool → OpenOptions
 options_of_target force =
     if force then with_truncate (with_create (with_write new_options true) true) true
     else with_create_new (with_write new_options true) true
+
+-- the call that opens the file to be read, where a job names one
+abbrev pub call_to_read : Option (List ℕ) → List Call
+call_to_read None = []
+call_to_read (Some name) = record { name = name; how = options_to_read } ∷ []
+
+-- the call that opens the file to be written, where a job names one
+abbrev pub call_to_write : Option (List ℕ) → Bool → List Call
+call_to_write None force = []
+call_to_write (Some name) force = record { name = name; how = options_of_target force } ∷ []
+
+-- the calls of a job, which are two at most
+abbrev pub calls_of : Job → List Call
+calls_of job = call_to_read job.source ++ call_to_write job.target job.force
+
+-- which of these were made where no filter ran: none that makes a file or empties one where memory ran out
+abbrev pub MadeUntil : Hindrance → List Call → List Call → List Call → List Call → Type 0
+MadeUntil NoMemory read written before after = (after ≡ before) ⊎ (after ≡ before ++ read)
+MadeUntil (CannotRead name) read written before after = after ≡ before ++ read
+MadeUntil (FileExists name) read written before after = after ≡ before ++ (read ++ written)
+MadeUntil (CannotCreate name) read written before after = after ≡ before ++ (read ++ written)
+
+-- no filter ran, and a line says why; what the standard streams gave and took stays
+pub record IsNotBegun (job : Job) (messages : Device) (status : ℕ) (untouched : Type 0)
+    (IsOpenedBefore : Hindrance → Type 0)
+    : Type 0 where
+  pub why : Hindrance
+  pub can : CanHinder why job
+  pub shown : IsShownOr messages (line_of_hindrance why)
+  pub status_is : status ≡ 1
+  pub same : untouched
+  pub opened : IsOpenedBefore why
+
+-- ---- the devices of files
 
 -- a file was opened for writing, by this name
 abbrev pub IsMadeBy : List ℕ → Bool → Opening → Type 0
@@ -140,25 +167,28 @@ IsFilteredFrom {F = F} sources sink (Some name) source target_name force target 
     × IsFilteredInto sink target_name force target tool choices (reader_span sources first last) output messages
     status
 
--- the filter of a job ran with the job's choices
+-- the filter of a job ran with the job's choices, after its files were opened
 abbrev pub IsBegun : {F G : Type 0} → SourceGhosts (Logged (Std F)) → SinkGhosts (Logged G) → Option Timestamp → Job
-    → Option (Logged (Std F)) → Option (Logged G) → Input → Device → Device → ℕ → Type 0
-IsBegun sources sink moment job source target input output messages status = (choices : Choices)
-    × IsChosen moment job.tool job.date job.every job.skip choices
+    → Option (Logged (Std F)) → Option (Logged G) → Input → Device → Device → ℕ → List Call → List Call → Type 0
+IsBegun sources sink moment job source target input output messages status before after = (choices : Choices)
+    × IsChosen moment job.tool job.date job.every job.skip choices × (after ≡ before ++ calls_of job)
     × IsFilteredFrom sources sink job.source source job.target job.force target job.tool choices input output
     messages status
 
 -- a job, done or not begun; the files that it names are read and written through the devices that are handed
--- back
+-- back, and its calls are those by which a log of calls grew
 abbrev pub IsJobDone : {F G : Type 0} → SourceGhosts (Logged (Std F)) → SinkGhosts (Logged G) → Option Timestamp → Job
-    → Option (Logged (Std F)) → Option (Logged G) → Input → Device → Device → ℕ → Type 0 → Type 0
-IsJobDone sources sink moment job source target input output messages status untouched =
-    IsBegun sources sink moment job source target input output messages status
+    → Option (Logged (Std F)) → Option (Logged G) → Input → Device → Device → ℕ → Type 0
+    → List Call → List Call → Type 0
+IsJobDone sources sink moment job source target input output messages status untouched before after =
+    IsBegun sources sink moment job source target input output messages status before after
     ⊎ IsNotBegun job messages status untouched
+    (λ why. MadeUntil why (call_to_read job.source) (call_to_write job.target job.force) before after)
 
--- a job, done or not begun, at some moment and through some devices of the files that it names
+-- a job, done or not begun, at some moment and through some devices of the files that it names, by some calls
 abbrev pub IsJobEnded : {F G : Type 0} → SourceGhosts (Logged (Std F)) → SinkGhosts (Logged G) → Job
     → Input → Device → Device → ℕ → (Option (Logged G) → Type 0) → Type 0
 IsJobEnded {F = F} {G = G} sources sink job input output messages status untouched =
     (moment : Option Timestamp) × (source : Option (Logged (Std F))) × (target : Option (Logged G))
-    × IsJobDone sources sink moment job source target input output messages status (untouched target)
+    × (calls : List Call)
+    × IsJobDone sources sink moment job source target input output messages status (untouched target) [] calls

@@ -1,5 +1,6 @@
 -- What a run over standard streams read, wrote and reported, by the logs of its devices.
-use Rattle.std.specs.Prelude.{◌≡◌, ◌⊎◌, ◌<◌, ℕ, Bool, true, false, List, [], Option, Some, None}
+use Rattle.std.specs.Prelude.{◌≡◌, ◌⊎◌, ◌<◌, ℕ, Bool, true, false, List, [], ◌++◌, Option, Some, None}
+use Rattle.std.specs.Option.{option_map}
 use Rattle.crx_base.specs.meaning.Lines.{lines_of}
 use Rattle.crx_lines.specs.declared.device.Std.{Std}
 use Rattle.crx_base.specs.meaning.Choices.{Choices}
@@ -7,9 +8,12 @@ use Rattle.crx_runs.specs.meaning.Interruptions.{complete_lines}
 use Rattle.crx_runs.specs.meaning.Results.{Begins}
 use Rattle.jiff.specs.declared.timestamp.Timestamp.{Timestamp}
 use Rattle.crx_command.specs.declared.job.Job.{Job}
+use Rattle.crx_program.specs.declared.log.Log.{Log}
 use Rattle.crx_program.specs.declared.log.Logged.{Logged}
+use Rattle.crx_program.specs.declared.streams.Closed.{Closed}
 use Rattle.crx_program.specs.declared.streams.Whole.{Whole}
-use Rattle.crx_program.specs.meaning.Jobs.{filter_of, tool_result, IsChosen, IsMadeBy}
+use Rattle.crx_program.specs.meaning.Calls.{Call}
+use Rattle.crx_program.specs.meaning.Jobs.{calls_of, filter_of, tool_result, IsChosen, IsMadeBy}
 
 -- ---- what went through the devices
 
@@ -71,6 +75,22 @@ IsPrefix moment job whole =
     ((given : List ℕ) × (written : List ℕ) × ReadsGave job.source whole.source whole.input given
     × WritesTook job.target job.force whole.target whole.output written × IsPrefixOf moment job given written)
     ⊎ ((whole.input.log.bytes ≡ []) × (whole.output.log.bytes ≡ []) × (whole.target ≡ None))
+
+-- a run called for the files that its job names, each by that very name and as the job says, in their order; or
+-- for the first of these, or for none; and for no other file
+abbrev pub OpensInOrder : Job → List Call → List Call → Type 0
+OpensInOrder job before after = (made : List Call) × (rest : List Call)
+    × (after ≡ before ++ made) × (made ++ rest ≡ calls_of job)
+
+-- closing a run reads, writes and reports nothing more
+pub record HasLogsOf {I O E F : Type 0} (whole : Whole I O E F) (closed : Closed) : Type 0 where
+  pub input : closed.input.bytes ≡ whole.input.log.bytes
+  pub output : closed.output.bytes ≡ whole.output.log.bytes
+  pub messages : closed.messages.bytes ≡ whole.messages.log.bytes
+  pub source : option_map (λ (log : Log). log.bytes) closed.source
+      ≡ option_map (λ file. file.log.bytes) whole.source
+  pub target : option_map (λ (log : Log). log.bytes) closed.target
+      ≡ option_map (λ file. file.log.bytes) whole.target
 
 -- ---- where the devices began
 

@@ -5,7 +5,8 @@ returns-clause-done g c = λ job e. (
   c.moment_now-moment.result,
   c.run_with_files.result.source,
   c.run_with_files.result.target,
-  rw c.close.ensures.status (c.run_with_files.ensures.done job e),
+  c.run_with_files.new.files.log.calls,
+  rw c.close.ensures.status (rw c.new-files.ensures.calls at (c.run_with_files.ensures.done job e)),
 )
 
 pub returns-clause-input : goal.returns-clause-input

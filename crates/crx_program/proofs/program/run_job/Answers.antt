@@ -1,28 +1,38 @@
 use Rattle.std.proofs.Common.{◌∙◌, Some, ap, inl, inr, refl, sym}
+use Rattle.crx_program.{proofs.CallLemmas.{called-both, called-to_read, made-after_read}}
 use Rattle.crx_program.{proofs.FilterEnds.still_not_begun, specs.meaning.Jobs.CannotRead}
+use Rattle.crx_program.specs.meaning.Jobs.{call_to_read, call_to_write}
 use Rattle.crx_runs.specs.meaning.Spans.{span}
 use Rattle.crx_program.proofs.program.run_job.Goals as goal
 
 pub returns-in-Ok-open_to_read-clause-done : goal.returns-in-Ok-open_to_read-clause-done
 returns-in-Ok-open_to_read-clause-done g c =
+    let job = c.args.job.now in
     let messages = span g.M.Sink c.args.messages.now c.run_to_target-ended.new.messages in
     let opened = c.in-Ok-open_to_read.ensures in
+    let named = c.in-Some.is ∙ ap Some (sym c.text.ensures.value) in
+    let first = c.args.files.now.log.calls in
+    let between = c.open_to_read.new.self.log.calls in
+    let last = c.run_to_target-ended.new.files.log.calls in
+    let read = called-to_read first between c.text.result.now job.source named c.open_to_read.ensures.calls in
     elim c.run_to_target-ended.ensures.done [
       | inl begun ↦ inl (
         c.in-Ok.options,
         c.in-Ok.ensures,
-        rw (c.in-Some.is ∙ ap Some (sym c.text.ensures.value)) (
+        called-both (call_to_read job.source) (call_to_write job.target job.force) first between last read begun.0,
+        rw named (
           c.in-Ok-open_to_read.opened,
           c.run_to_target-ended.new.reader,
           refl,
           (opened.name, opened.log, opened.unread),
           opened.failures,
           opened.ends,
-          begun,
+          begun.1,
         ),
       )
-      | inr not_begun ↦ inr (still_not_begun c.args.job.now messages c.run_to_target-ended.result.status _ _
-          not_begun (λ same. (refl, same.1, same.2)))
+      | inr not_begun ↦ inr (still_not_begun job messages c.run_to_target-ended.result.status _ _ _ _
+          not_begun (λ same. (refl, same.1, same.2)) (λ why made. made-after_read why (call_to_read job.source)
+          (call_to_write job.target job.force) first between last read made))
     ]
 
 pub returns-in-Err-clause-done : goal.returns-in-Err-clause-done
@@ -32,4 +42,6 @@ returns-in-Err-clause-done g c = inr (record {
   shown = c.report.ensures.shown;
   status_is = c.without_files-in-Err.ensures.status ∙ c.report.ensures.status;
   same = (refl, refl, c.without_files-in-Err.ensures.target);
+  opened = called-to_read c.args.files.now.log.calls c.open_to_read.new.self.log.calls c.text.result.now
+      c.args.job.now.source (c.in-Some.is ∙ ap Some (sym c.text.ensures.value)) c.open_to_read.ensures.calls;
 })

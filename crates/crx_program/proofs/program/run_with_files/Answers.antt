@@ -2,7 +2,6 @@ use Rattle.std.proofs.Common.{arith}
 use Rattle.std.proofs.lemmas.Grind.{common_steps}
 use Rattle.std.proofs.Common.{◌≡◌, refl, string_bytes}
 use Rattle.crx_command.{proofs.JobFits.job_fits}
-use Rattle.crx_command.specs.meaning.Planning.{Run}
 use Rattle.crx_program.proofs.Refusals.{refused_by}
 use Rattle.crx_runs.specs.meaning.Spans.{span}
 use Rattle.crx_program.proofs.program.run_with_files.Goals as goal
@@ -17,6 +16,7 @@ returns-in-Err-clause-refused g c = λ refusal e. (
   refl {a = c.args.output.now},
   c.without_files-in-Err.ensures.source,
   c.without_files-in-Err.ensures.target,
+  refl {a = c.args.files.now.log.calls},
 )
 
 pub run_job-requires : goal.run_job-requires

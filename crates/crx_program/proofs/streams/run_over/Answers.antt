@@ -5,6 +5,7 @@ use Rattle.crx_command.specs.meaning.Planning.{Run, plan_of}
 use Rattle.crx_lines.specs.declared.device.Std.{Std}
 use Rattle.crx_lines.specs.declared.uninterrupted.Uninterrupted.{Uninterrupted}
 use Rattle.crx_runs.specs.declared.until_failure.UntilFailure.{UntilFailure}
+use Rattle.crx_program.specs.LateWriters.{late_contents}
 use Rattle.crx_program.proofs.{KeptLemmas.kept-of_exact, StreamLemmas.{fresh, run_over}}
 use Rattle.crx_program.proofs.streams.run_over.Goals as goal
 
@@ -25,13 +26,13 @@ returns g c =
     let ended = c.run_with_files-ended.ensures in
     let run = λ (job : Job) (e : plan_of (map string_bytes c.args.words.items) ≡ Run job). run_over
     (λ (r : Uninterrupted g.row.H-File.Denot). g.H.File.Read.remaining r.inner)
-    (writer_contents (λ (w : UntilFailure (Uninterrupted g.row.H-File.Denot)). g.H.File.Write.contents
-    w.inner.inner)) (λ (r : Uninterrupted g.row.I.Denot). g.I.Read.remaining r.inner)
+    (writer_contents (late_contents (λ (w : UntilFailure (Uninterrupted g.row.H-File.Denot)).
+    g.H.File.Write.contents w.inner.inner))) (λ (r : Uninterrupted g.row.I.Denot). g.I.Read.remaining r.inner)
     (writer_contents (λ (w : UntilFailure (Uninterrupted g.row.O.Denot)). g.O.Write.contents w.inner.inner))
     (λ (w : Uninterrupted g.row.E.Denot). g.E.Write.contents w.inner)
     c.args.moment job _ _ _ _ _ _ c.new-messages.result c.run_with_files-ended.new.messages
     c.new-input.ensures.log c.new-output.ensures.log c.new-messages.ensures.log (ended.devices job e).input
-    (ended.devices job e).output _ (ended.done job e) in
+    (ended.devices job e).output _ _ _ (ended.done job e) in
     record {
       refused = λ refusal e. (
         (c.new-messages.result, messages, (ended.refused refusal e).0),
@@ -39,12 +40,14 @@ returns g c =
         rw (ended.refused refusal e).2 c.new-output.ensures.log,
         (ended.refused refusal e).3,
         (ended.refused refusal e).4,
+        (ended.refused refusal e).5,
       );
       help = λ e. (
         (c.new-output.result, output, (c.new-messages.result, messages, (ended.help e).0)),
         rw (ended.help e).1 c.new-input.ensures.log,
         (ended.help e).2,
         (ended.help e).3,
+        (ended.help e).4,
       );
       done = λ job e. (
         c.new-input.result,
@@ -59,6 +62,7 @@ returns g c =
           ),
         ),
       );
+      opens = λ job e. (run job e).2;
       exact = λ job e. (run job e).0;
       front = λ job e. (run job e).1;
       keeps = λ job e well. kept-of_exact {E = g.row.E.Denot} c.args.moment job (record {

@@ -1,13 +1,17 @@
-use Rattle.std.proofs.Common.{◌∙◌, ap, map, inl, inr, refl, string_bytes}
+use Rattle.std.proofs.Common.{◌∙◌, [], ap, sym, append-nil, map, inl, inr, refl, string_bytes}
 use Rattle.crx_command.specs.meaning.Planning.{plan_of}
 use Rattle.crx_program.proofs.Refusals.{some_line}
 use Rattle.crx_program.specs.Logs.{adds_none}
-use Rattle.crx_program.specs.meaning.Jobs.{NoMemory}
+use Rattle.crx_program.specs.meaning.Jobs.{NoMemory, calls_of}
 use Rattle.rnxcmp.proofs.host.run_streams.Goals as goal
 
 pub returns-in-Ok-clause-help : goal.returns-in-Ok-clause-help
 returns-in-Ok-clause-help c = λ e.
     c.run_over.ensures.help (ap (λ words. plan_of (map string_bytes words)) c.in-Ok.ensures.words ∙ e)
+
+pub returns-in-Ok-clause-opens : goal.returns-in-Ok-clause-opens
+returns-in-Ok-clause-opens c = λ job e.
+    c.run_over.ensures.opens job (ap (λ words. plan_of (map string_bytes words)) c.in-Ok.ensures.words ∙ e)
 
 pub returns-in-Ok-clause-front : goal.returns-in-Ok-clause-front
 returns-in-Ok-clause-front c = λ job e.
@@ -29,6 +33,7 @@ returns-in-Err-clause-refused c = λ refusal e.
       c.without_memory.ensures.output.1,
       c.without_memory.ensures.source,
       c.without_memory.ensures.target,
+      refl,
     )
 
 pub returns-in-Err-clause-help : goal.returns-in-Err-clause-help
@@ -50,6 +55,7 @@ returns-in-Err-clause-help c = λ e.
       c.without_memory.ensures.input.1,
       c.without_memory.ensures.source,
       c.without_memory.ensures.target,
+      refl,
     )
 
 pub returns-in-Err-clause-done : goal.returns-in-Err-clause-done
@@ -69,10 +75,14 @@ returns-in-Err-clause-done c = λ job e.
             shown = inl shown.2;
             status_is = c.without_memory.ensures.status;
             same = (refl, refl, c.without_memory.ensures.target);
+            opened = inl refl;
           }),
         ),
       ),
     )
+
+pub returns-in-Err-clause-opens : goal.returns-in-Err-clause-opens
+returns-in-Err-clause-opens c = λ job e. ([], calls_of job, sym (append-nil c.args.files.now.log.calls), refl)
 
 pub returns-in-Err-clause-exact : goal.returns-in-Err-clause-exact
 returns-in-Err-clause-exact c = λ job e well. absurd (well c.without_memory.ensures.status)

@@ -1,0 +1,11 @@
+-- Beside meaning: what is known of a writer that comes later.
+use Rattle.std.specs.Prelude.{ℕ, List, Option, None, Some}
+use Rattle.crx_program.specs.declared.late_writer.LateWriter.{LateWriter}
+
+-- what a writer that came has taken, where that is known; nothing is known where none came
+abbrev pub contents_where : {W : Type 0} → (W → Option (List ℕ)) → Option W → Option (List ℕ)
+contents_where contents None = None
+contents_where contents (Some writer) = contents writer
+
+abbrev pub late_contents : {W : Type 0} → (W → Option (List ℕ)) → LateWriter W → Option (List ℕ)
+late_contents contents late = contents_where contents late.writer

@@ -1,0 +1,127 @@
+//! Opening files: each call that opens one is logged.
+
+ghost use Rattle.std.specs.Prelude.{◌≡◌, List, [], None, Some, IfOk, true};
+ghost use Rattle.std.specs.Borrow.{ftrue};
+ghost use Rattle.std.specs.Io.Buffered.{writer_buffer};
+ghost use Rattle.crx_program.specs.meaning.Calls.{Call, options_to_read, with_call};
+
+use super::{FileBuffer, Log, Logged, OUTPUT_BUFFER, Opening, SourceFile, TargetFile};
+use crate::late_writer::LateWriter;
+use crx_lines::{Std, Uninterrupted, open_file};
+use crx_runs::UntilFailure;
+use std::alloc::Global;
+use std::fs::OpenOptions;
+use std::io;
+use std::io::{BufWriter, Write};
+use std::marker::{Model, PhantomData};
+use std::rt::Files;
+
+/// The calls that opened files, or failed to, in their order. Contracts alone read them; the log takes no
+/// memory, and its methods do nothing at run time.
+#[derive(Drop)]
+pub struct CallLog {
+    marker: PhantomData<u8>,
+    pub ghost calls: { List Call },
+}
+
+impl Model for CallLog {
+    ghost also_owns = { λ _. ftrue };
+}
+
+impl CallLog {
+    /// The log of no call.
+    fn new() -> CallLog
+        ensures { result.calls ≡ [] }
+    {
+        CallLog {
+            marker: PhantomData,
+        }
+    }
+
+    /// Adds a call with this name and these options.
+    #[inline(always)]
+    fn add(&mut self, _name: &[u8], _how: &OpenOptions)
+        ensures { self.new.calls ≡ with_call self.old.calls _name.now _how.now }
+    {}
+}
+
+/// The files of a machine, and a log of the calls that opened one. Who has this and not the machine opens no
+/// file that isn't logged.
+#[derive(Drop)]
+pub struct Opener<'a, H: Files> {
+    files: &'a H,
+    log: CallLog,
+}
+
+impl<'a, H: Files> Opener<'a, H> {
+    /// The files of this machine, none of which was opened yet.
+    pub fn new(files: &'a H) -> Opener<'a, H>
+        ensures calls { result.log.calls ≡ [] }
+    {
+        Opener {
+            files,
+            log: CallLog::new(),
+        }
+    }
+
+    /// Opens the file of a name, as the options say.
+    fn open(&mut self, how: &OpenOptions, name: &str) -> io::Result<H::File>
+        ensures calls { self.new.log.calls ≡ with_call self.old.log.calls name.now how.now }
+    {
+        self.log.add(name.as_bytes(), how);
+        how.open(self.files, name)
+    }
+
+    /// Opens the file of a name for reading. This call and [`Opener::open_to_write`] alone make a device that
+    /// has a name: the one that they were given, and hand on to the machine.
+    pub fn open_to_read(&mut self, name: &str) -> io::Result<SourceFile<H::File>>
+        ensures calls { self.new.log.calls ≡ with_call self.old.log.calls name.now options_to_read }
+        ensures name { IfOk result (λ device. device.opening.name.bytes ≡ name.now) }
+        ensures log { IfOk result (λ device. device.log.bytes ≡ []) }
+        ensures unread { IfOk result (λ device. device.inner.is_unread ≡ true) }
+        ensures failures { IfOk result (λ device. device.inner.failures ≡ 0) }
+        ensures ends { IfOk result (λ device. device.inner.ends ≡ 0) }
+    {
+        let mut how = OpenOptions::new();
+        how.read(true);
+        self.log.add(name.as_bytes(), &how);
+        let inner = open_file(self.files, name)?;
+        Ok(Logged {
+            inner,
+            log: Log::new(),
+            opening: Opening::by(name, None),
+        })
+    }
+
+    /// Opens the file of a name for writing, as the options say. What is written goes through this buffer.
+    pub fn open_to_write(
+        &mut self,
+        how: OpenOptions,
+        name: &str,
+        buffer: FileBuffer<H::File>,
+    ) -> io::Result<TargetFile<H::File>>
+        requires empty { writer_buffer buffer ≡ [] }
+        ensures calls { self.new.log.calls ≡ with_call self.old.log.calls name.now how }
+        ensures name { IfOk result (λ device. device.opening.name.bytes ≡ name.now) }
+        ensures how { IfOk result (λ device. device.opening.how ≡ Some how) }
+        ensures log { IfOk result (λ device. device.log.bytes ≡ []) }
+        ensures failures { IfOk result (λ device. device.inner.failures ≡ 0) }
+        ensures empty { IfOk result (λ device. writer_buffer device.inner.inner ≡ []) }
+    {
+        let file = self.open(&how, name)?;
+        let mut filled = buffer;
+        *filled.get_mut() = LateWriter::of(UntilFailure::new(Uninterrupted::new(file)));
+        Ok(Logged {
+            inner: Std::new(filled),
+            log: Log::new(),
+            opening: Opening::by(name, Some(how)),
+        })
+    }
+}
+
+/// A buffer for a file that isn't made yet.
+pub fn file_buffer<F: Write + Drop>(alloc: Global) -> io::Result<FileBuffer<F>>
+    ensures empty { IfOk result (λ buffer. writer_buffer buffer ≡ []) }
+{
+    BufWriter::with_capacity(alloc, OUTPUT_BUFFER, LateWriter::none())
+}
