@@ -11,7 +11,7 @@ from pathlib import Path
 
 sys.path.insert(0, str(Path(__file__).parent))
 sys.path.insert(0, str(Path(__file__).parents[1] / "process"))
-from cases import DATED, H, K, text  # noqa: E402
+from cases import DATED, FIVE, H, K, text  # noqa: E402
 from at_random import over_files  # noqa: E402
 from run import OVER, SHORT, STEADY, Program, Run, runs, steady, tried, without_date  # noqa: E402
 
@@ -21,6 +21,7 @@ HEADER = Run("a header alone", DATED, text(*H))
 WRITTEN = {0: b"", 1: b"", 2: without_date(text(*K, H[0])), 3: without_date(text(*K, H[0], H[1]))}
 WHOLE = without_date(text(*K, *H))
 MOST = 1000  # growths that are refused in turn, far more than there are
+BUFFER = 65536  # bytes of a buffer that output goes through
 FILES, SEED = 20, 1  # random files over which each growth is refused
 
 
@@ -62,6 +63,21 @@ def each_refused(program):
         else:
             return wrong[:10] + ([f"refused without harm: growths {unharmed}"] if len(unharmed) > 1 else [])
     return [*wrong[:10], f"more than {MOST} growths"]
+
+
+def buffers_refused(program):
+    """What is wrong with runs that write a file and of which one growth of a buffer's size is refused, as lines. Where it is the buffer of standard
+    output or that of the file, which come first, no file is made, and one that is there isn't emptied."""
+    wrong = []
+    for words, there in ((DATED, None), ([*DATED, "-f"], b"as it was")):
+        before = {"a.rnx": FIVE} | ({} if there is None else {"a.crx": there})
+        for growth in (1, 2):
+            got = program.answer(Run("a file", [*words, "a.rnx"], before=before), growth, least=BUFFER)
+            made = program.folder / "here/a.crx"
+            left = made.read_bytes() if made.exists() else None
+            if not got.refused or (got.output, got.messages, got.status, left) != (b"", error_at(0), 1, there):
+                wrong.append(f"{words} {growth}: {got}, the file has {left}")
+    return wrong
 
 
 def short_runs(program):
@@ -113,6 +129,7 @@ def checks(program):
     yield "each count of satellites from 1 to 693, with memory at hand", lambda: each_count(program, 693, True)
     yield "a header alone, the first growth refused", lambda: with_program(program, first_refused)
     yield "a header alone, each growth refused in turn", lambda: with_program(program, each_refused)
+    yield "the memory of a buffer, refused before a file is made", lambda: with_program(program, buffers_refused)
     yield "short files, words and help, each growth refused in turn", lambda: with_program(program, short_runs)
     yield f"{FILES} random files, each growth refused in turn", lambda: at_random(program)
     for name in STEADY:

@@ -1,5 +1,6 @@
 /* Stands in front of the C library's calls that take memory (LD_PRELOAD), and refuses the one whose number, counted from 1, the
-   environment gives as REFUSE; where REFUSE_ON is 1 also each later one. For each refusal a byte goes to the file REFUSE_TO.
+   environment gives as REFUSE; where REFUSE_ON is 1 also each later one. For each refusal a byte goes to the file REFUSE_TO. Calls for fewer
+   bytes than REFUSE_FROM aren't counted.
 
    To the file COUNT_TO, where that is given, goes a line when the program ends: how many of these calls there were, the most bytes that were
    held at once, and the bytes that were held when the input's end was read. */
@@ -15,7 +16,7 @@ long __read(int file, void *bytes, size count);
 char *getenv(const char *name);
 long write(int file, const void *bytes, size count);
 
-static size calls, refused, on, file, counted, held, most, at_end;
+static size calls, refused, on, least, file, counted, held, most, at_end;
 
 static size number(const char *name)
 {
@@ -30,6 +31,7 @@ __attribute__((constructor)) static void begin(void)
 {
     refused = number("REFUSE");
     on = number("REFUSE_ON");
+    least = number("REFUSE_FROM");
     file = number("REFUSE_TO");
     counted = number("COUNT_TO");
     calls = 0;
@@ -58,8 +60,10 @@ __attribute__((destructor)) static void end(void)
     write((int)counted, first, (size)(past - first));
 }
 
-static int refuses(void)
+static int refuses(size bytes)
 {
+    if (bytes < least)
+        return 0;
     calls++;
     if (!refused || calls < refused || (calls > refused && !on))
         return 0;
@@ -75,19 +79,19 @@ static void *taken(void *block)
 
 void *malloc(size bytes)
 {
-    return refuses() ? 0 : taken(__libc_malloc(bytes));
+    return refuses(bytes) ? 0 : taken(__libc_malloc(bytes));
 }
 
 void *calloc(size count, size bytes)
 {
-    return refuses() ? 0 : taken(__libc_calloc(count, bytes));
+    return refuses(count * bytes) ? 0 : taken(__libc_calloc(count, bytes));
 }
 
 void *realloc(void *old, size bytes)
 {
     size before = old ? malloc_usable_size(old) : 0;
     void *block;
-    if (refuses())
+    if (refuses(bytes))
         return 0;
     block = __libc_realloc(old, bytes);
     if (!block)

@@ -131,15 +131,15 @@ class Program:
         self.told = (folder / "told").open("w+b", buffering=0)
         self.points = 0
 
-    def answer(self, run, growth=0, on=False):
-        """A run, with this growth refused (0: none)."""
+    def answer(self, run, growth=0, on=False, least=0):
+        """A run, with this growth refused (0: none), of those that ask for so many bytes at least."""
         here = self.folder / "here"
         shutil.rmtree(here, ignore_errors=True)
         here.mkdir()
         for name, content in run.before.items():
             (here / name).write_bytes(content)
         self.mark.truncate(0)
-        refusing = {"REFUSE": str(growth), "REFUSE_ON": str(int(on)), "REFUSE_TO": str(self.mark.fileno())}
+        refusing = {"REFUSE": str(growth), "REFUSE_ON": str(int(on)), "REFUSE_FROM": str(least), "REFUSE_TO": str(self.mark.fileno())}
         done, counts = self.counted(run.words, run.stdin, refusing, cwd=here, capture_output=True)
         output = done.stdout
         if run.written:
