@@ -1,23 +1,6 @@
 //! Bytes that texts are written into one after another, and that are kept for the texts after them.
 
-ghost use Rattle.std.specs.Prelude.{IsOk, drop, ℕ, ◌≡◌, ◌≤◌, ◌<◌, ◌+◌, ◌++◌, ◌∷◌, [], length, take, OnOk, vec_capacity};
-
-use std::alloc::AllocError;
-
-/// Makes some bytes at least so many; those that are there stay.
-pub fn grow(bytes: &mut Vec<u8>, count: usize) -> Result<(), AllocError>
-    ensures room { OnOk result (count ≤ length bytes.new.items) }
-    ensures longer { length bytes.old.items ≤ length bytes.new.items }
-    ensures same { (n : ℕ) → n ≤ length bytes.old.items → take n bytes.new.items ≡ take n bytes.old.items }
-    ensures known { count ≤ length bytes.old.items → IsOk result }
-    ensures asked { count ≤ vec_capacity bytes.old → IsOk result }
-    ensures capacity { vec_capacity bytes.old ≤ vec_capacity bytes.new }
-{
-    if bytes.len() < count {
-        bytes.resize(count, b'\n')?;
-    }
-    Ok(())
-}
+ghost use Rattle.std.specs.Prelude.{drop, ◌≡◌, ◌≤◌, ◌<◌, ◌+◌, ◌++◌, ◌∷◌, [], length, take};
 
 /// Puts a text in place of the bytes from an index on, and gives the index after it.
 pub fn put_text(bytes: &mut [u8], start: usize, text: &[u8]) -> usize
