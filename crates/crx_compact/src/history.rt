@@ -314,7 +314,8 @@ impl History {
         for index in 0..self.satellites.placed() {
             match epoch.push(self.satellites.row(index, self.alloc)?) {
                 Ok(()) => {}
-                Err(_) => return Err(AllocError),
+                Err((_, Fault::OutOfMemory)) => return Err(AllocError),
+                Err(_) => unreachable!(),
             }
         }
         Ok(epoch)
