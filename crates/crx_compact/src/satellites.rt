@@ -18,7 +18,7 @@ ghost use Rattle.crx_compact.specs.Placing.{AnswersPlacing, HasAskedRoom, HasRoo
 ghost use Rattle.crx_compact.specs.ShownRows.{shown_row};
 ghost use Rattle.crx_compact.specs.Steps.{row_line_after, row_tail_after};
 ghost use Rattle.crx_compact.specs.Tails.{RowTail};
-ghost use Rattle.indexmap.specs.IndexMap.{IsUnique};
+ghost use Rattle.indexmap.specs.IndexMap.{IsUnique, spare};
 
 use crate::satellite::SatelliteHistory;
 use crx_base::Fault;
@@ -425,8 +425,9 @@ fn find_or_add(
     alloc: Global,
 ) -> Result<usize, AllocError>
     ensures found { IfOk result (λ found. IsFound name found map.old.entries map.new.entries) }
-    ensures unknown { OnErr result (is_among key_of name map.old.entries ≡ false) }
-    ensures unchanged { OnErr result (map.new.entries ≡ map.old.entries) }
+    ensures unknown { OnErr result ((is_among key_of name map.old.entries ≡ false)
+        × (map.new.entries ≡ map.old.entries)) }
+    ensures asked { OnErr result (spare map.old ≡ 0) }
     ensures unique { IsUnique bytes_eq map.new }
     ensures small { IfOk result (λ found. found < 2 ^ 63) }
 {

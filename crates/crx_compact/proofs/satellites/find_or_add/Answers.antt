@@ -13,4 +13,7 @@ returns-in-Ok-clause-found c =
     (ap (λ (s : SatelliteTail). s.room) c.new.ensures.empty))
 
 pub returns-clause-unknown : goal.returns-clause-unknown
-returns-clause-unknown c = not-found c.args.name c.args.map.now.entries (c.in_default.ensures.unknown refl)
+returns-clause-unknown c = (
+  not-found c.args.name c.args.map.now.entries (c.in_default.ensures.unknown refl),
+  search rules,
+)

@@ -21,7 +21,7 @@ returns-clause-room c = on_ok_weaker c.make_room.result (search (rules, has-room
 pub returns-in_err-found-clause-known : goal.returns-in_err-found-clause-known
 returns-in_err-found-clause-known c =
     rw (← c.self.view_is)
-    (λ has. search (rules, unknown, c.in_err-found.ensures.unknown))
+    (λ has. search (rules, unknown, c.in_err-found.ensures.unknown.0))
 
 pub returns-clause-known : goal.returns-clause-known
 returns-clause-known c =
