@@ -1,5 +1,5 @@
 -- The lines of an epoch, one after another in one text, each followed by LF.
-use Rattle.std.specs.Prelude.{◌≡◌, ◌≤◌, ◌<◌, ◌++◌, ◌+◌, ◌-◌, ◌*◌, ℕ, suc, List, [], ◌∷◌, length, take, drop}
+use Rattle.std.specs.Prelude.{◌≡◌, ◌≤◌, ◌<◌, ◌++◌, ◌+◌, ◌-◌, ◌*◌, ℕ, suc, List, [], ◌∷◌, length, take, drop, Vec, vec_capacity}
 use Rattle.crx_compact.specs.declared.history.TheConstants.{EPOCH_TEXT_LIMIT}
 use Rattle.crx_compact.specs.declared.block.TheConstants.{FIRST_LINES, FRONT, LINES_LIMIT, LINE_ROOM}
 pub use Rattle.crx_base.specs.meaning.Lines.{lines_text}
@@ -35,6 +35,11 @@ pub record IsLinePut (line : List ℕ) (room at : ℕ) (old new : List ℕ) (cou
   pub written : take (at + count) new ≡ take at old ++ line
   pub within : at + count < length new
   pub short : count ≤ room
+
+-- a list has the memory that it had, and its items stay where they were
+pub record KeepsItems {X Z : Type 0} (old new : Vec X Z) : Type 0 where
+  pub items : (n : ℕ) → n ≤ length old.items → take n new.items ≡ take n old.items
+  pub memory : vec_capacity new ≡ vec_capacity old
 
 -- there is place for so many lines, each as long as the text of an epoch may be, among so many lines and bytes
 abbrev pub HasFront : ℕ → ℕ → ℕ → Type 0

@@ -114,6 +114,12 @@ pub record HasAskedRoom (old new : PlacedRows) : Type 0 where
   pub rest : new.rest ≡ old.rest
   pub rooms : KeepsRooms old.rooms new.rooms
 
+-- the same, and where it was not refused, this has room now
+pub record AsksRoom {E : Type 0} (has_room : List (List ℕ × ℕ) → Type 0) (old new : PlacedRows)
+    (answer : Result (Unit {0}) E) : Type 0 where
+  pub asked : HasAskedRoom old new
+  pub room : OnOk answer (has_room new.rooms)
+
 -- the satellite with this identifier has come: its row, which is what is stored of it, is the last one, and those of all others that
 -- haven't come stay
 pub record HasCome (name : List ℕ) (before after : PlacedRows) : Type 0 where
@@ -175,6 +181,10 @@ pub record OpenHistory : Type 0 where
   pub text : List ℕ
   pub clock : Option ArcTail
   pub satellites : PlacedRows
+
+-- nothing came, and no satellite is known
+abbrev pub no_history : OpenHistory
+no_history = record { text = []; clock = None; satellites = record { rows = []; rest = []; rooms = [] } }
 
 -- the tail that a history has between two epochs
 abbrev pub tail_of_history : OpenHistory → Tail

@@ -1,8 +1,9 @@
 -- The state of columns: a reader of compact epochs, and for how much it has room.
-use Rattle.std.specs.Prelude.{ℕ, List, All, length, Result, IsOk, OnOk}
+use Rattle.std.specs.Prelude.{◌≡◌, ℕ, List, All, false, length, Result, IfErr, IsOk, OnOk}
 use Rattle.crx_base.specs.declared.fault.Fault.{Fault}
-use Rattle.crx_compact.specs.OpenEpochs.{ColumnsState, OpenRawEpoch}
-use Rattle.crx_compact.specs.Placing.{HasRoom}
+use Rattle.crx_base.specs.declared.fault.Fault.TheVariants.{OutOfMemory}
+use Rattle.crx_compact.specs.OpenEpochs.{ColumnsState, Going, OpenRawEpoch, RawStep, is_faulty}
+use Rattle.crx_compact.specs.Placing.{HasRoom, KeepsRooms}
 use Rattle.crx_compact.specs.Tails.{RowTail}
 
 -- the state between two lines, and for how many types of each known satellite there is room
@@ -14,8 +15,12 @@ pub record HeldColumns : Type 0 where
 abbrev pub HaveCellsRoom : List RowTail → List (List ℕ × ℕ) → Type 0
 HaveCellsRoom rows rooms = All (λ (row : RowTail). HasRoom row.name (length row.cells) rooms) rows
 
--- an epoch was begun, or refused: not where there was room for its satellites. Once it is begun, there is
-pub record AnswersWithRoom (begun : OpenRawEpoch) (before after : List (List ℕ × ℕ)) (answer : Result (Unit {0}) Fault)
+-- an epoch line was read, which makes a step: it is refused for want of memory only where it has no fault and there was too little room for
+-- the epoch's satellites, and once it begins the epoch, they have it; where it has a fault no more room is there than before, and never less
+pub record AsksRoomToBegin (step : RawStep) (before after : List (List ℕ × ℕ)) (answer : Result (Unit {0}) Fault)
     : Type 0 where
-  pub known : HaveCellsRoom begun.rows before → IsOk answer
-  pub room : OnOk answer (HaveCellsRoom begun.rows after)
+  pub memory : IfErr answer (λ fault. fault ≡ OutOfMemory → is_faulty step ≡ false)
+  pub unasked : IfErr answer (λ fault. (fault ≡ OutOfMemory → ⊥) → KeepsRooms after before)
+  pub known : (begun : OpenRawEpoch) → step ≡ Going begun → HaveCellsRoom begun.rows before → IsOk answer
+  pub room : (begun : OpenRawEpoch) → step ≡ Going begun → OnOk answer (HaveCellsRoom begun.rows after)
+  pub kept : KeepsRooms before after

@@ -1,13 +1,13 @@
 //! The lines of an epoch, made one after another and borrowed in that order, one by one or as one text.
 
-ghost use Rattle.std.specs.Prelude.{◌≡◌, ◌≤◌, ◌<◌, ◌+◌, ◌-◌, ◌*◌, ◌++◌, ◌∷◌, ◌↔◌, [], ℕ, IfOk, IsTrue, Some, drop, length, slice_get, slice_set, take, vec_capacity};
+ghost use Rattle.std.specs.Prelude.{◌≡◌, ◌≤◌, ◌<◌, ◌+◌, ◌-◌, ◌*◌, ◌++◌, ◌∷◌, ◌↔◌, [], ℕ, IfOk, IsTrue, Some, drop, length, slice_get, slice_set, vec_capacity};
 ghost use Rattle.std.specs.Borrow.{sem};
 ghost use Rattle.std.specs.Io.BufRead.{Rests};
 ghost use Rattle.std.specs.Option.{option_copied};
 ghost use Rattle.crx_base.specs.declared.limits.TheConstants.{LINE_LIMIT, TYPES_LIMIT};
 ghost use Rattle.crx_rinex.specs.meaning.Printing.{printed_row};
 ghost use Rattle.crx_rinex.specs.meaning.SatelliteLines.{IsSoundRow};
-ghost use Rattle.crx_compact.specs.Blocks.{HasTakenLine, lines_text, no_lines};
+ghost use Rattle.crx_compact.specs.Blocks.{HasTakenLine, KeepsItems, lines_text, no_lines};
 ghost use Rattle.crx_compact.specs.Placing.{HasRoom, KeepsRest, row_of_parts};
 ghost use Rattle.crx_compact.specs.ShownRows.{shown_row};
 ghost use Rattle.crx_compact.specs.Steps.{row_line_after, row_tail_after};
@@ -239,8 +239,7 @@ impl Block {
 fn use_bytes(bytes: &mut Vec<u8>, filled: usize)
     requires memory { filled + LINE_ROOM ≤ vec_capacity bytes.old }
     ensures counted { filled + LINE_ROOM ≤ length bytes.new.items }
-    ensures kept { (n : ℕ) → n ≤ length bytes.old.items → take n bytes.new.items ≡ take n bytes.old.items }
-    ensures memory { vec_capacity bytes.new ≡ vec_capacity bytes.old }
+    ensures kept { KeepsItems bytes.old bytes.new }
 {
     if bytes.len() < filled + LINE_ROOM {
         lengthen(bytes, filled + LINE_ROOM, b'\n');
@@ -254,8 +253,7 @@ fn lengthen<T: Copy>(items: &mut Vec<T>, count: usize, item: T)
     requires longer { length items.old.items ≤ count }
     requires memory { count ≤ vec_capacity items.old }
     ensures counted { length items.new.items ≡ count }
-    ensures kept { (n : ℕ) → n ≤ length items.old.items → take n items.new.items ≡ take n items.old.items }
-    ensures memory { vec_capacity items.new ≡ vec_capacity items.old }
+    ensures kept { KeepsItems items.old items.new }
 {
     let alloc = *items.allocator();
     *items = lengthened(mem::replace(items, Vec::new(alloc)), count, item);
@@ -268,8 +266,7 @@ fn lengthened<T: Copy>(mut items: Vec<T>, count: usize, item: T) -> Vec<T>
     requires longer { length items.items ≤ count }
     requires memory { count ≤ vec_capacity items }
     ensures counted { length result.items ≡ count }
-    ensures kept { (n : ℕ) → n ≤ length items.items → take n result.items ≡ take n items.items }
-    ensures memory { vec_capacity result ≡ vec_capacity items }
+    ensures kept { KeepsItems items result }
 {
     while items.len() < count {
         items.push_reserved(item);

@@ -15,7 +15,7 @@ ghost use Rattle.crx_header.specs.meaning.EpochColumns.{begins_epoch, is_event_l
 ghost use Rattle.crx_compact.specs.OpenLines.{IsLineTaken, IsSoundState, step_at};
 ghost use Rattle.crx_compact.specs.EpochLinesRead.{history_cleared};
 ghost use Rattle.crx_compact.specs.Placing.{IsBetween, KeepsRooms, tail_of_history};
-ghost use Rattle.crx_compact.specs.ReadingRooms.{AnswersWithRoom};
+ghost use Rattle.crx_compact.specs.ReadingRooms.{AsksRoomToBegin};
 ghost use Rattle.crx_compact.specs.Blocks.{PendingLines};
 ghost use Rattle.crx_compact.specs.PrintedBlocks.{ArePrinted};
 ghost use Rattle.crx_compact.specs.OpenEpochs.{OpenRawEpoch, Going, awaits_row, is_faulty, is_idle, makes_epoch, tail_held, first_step, step_in, tail_for_line, Faulty, HasMade, HasPrintedLines};
@@ -84,8 +84,7 @@ impl Columns {
     /// Columns without a history. Part of its callers, as a call copies its texts.
     #[inline(always)]
     pub fn new(alloc: Global) -> Columns
-        ensures empty { result.state ≡ Idle None }
-        ensures rooms { result.rooms ≡ [] }
+        ensures empty { result ≡ record { state = Idle None; rooms = [] } }
     {
         Columns {
             history: History::new(alloc),
@@ -100,9 +99,8 @@ impl Columns {
 
     /// Forgets every epoch, the one whose lines have come in part too.
     pub fn reset(&mut self)
-        ensures emptied { self.new.state ≡ Idle None }
         // The memory is used again.
-        ensures others { self.new ≡ record self.old { state = self.new.state } }
+        ensures emptied { self.new ≡ record self.old { state = Idle None } }
     {
         forget(
             &mut self.history,
@@ -133,10 +131,10 @@ impl Columns {
             }) }
         ensures kept { OnOk result (self.new.state
             ≡ Idle (Some (tail_after (tail_written_after full (tail_held self.old.state)) epoch))) }
-        ensures refused { IfErr result (λ refused. (refused.0 ≡ epoch) × (refused.1 ≡ Fault.OutOfMemory)) }
-        ensures err { OnErr result (self.new.state ≡ self.old.state) }
+        ensures refused { IfErr result (λ refused. (refused.0 ≡ epoch) × (refused.1 ≡ Fault.OutOfMemory)
+            × (self.new.state ≡ self.old.state)) }
         ensures rooms { KeepsRooms self.old.rooms self.new.rooms }
-        // By these two the compact text of a file comes epoch by epoch: `epochs` are those so far, newest first.
+        // By these two a file's compact text comes epoch by epoch: `epochs` are those so far, newest first.
         ensures left { (epochs : List Marked) → tail_held self.old.state ≡ tail_or_nothing epochs
             → OnOk result (self.new.state ≡ Idle
             (tail_or_nothing (record { in_full = full; epoch = epoch } ∷ epochs))) }
@@ -177,20 +175,14 @@ impl Columns {
         ensures refused { IfErr result (λ fault. (first_step types.now (tail_held self.old.state) (Content line.now)
             ≡ Faulty fault) ⊎ (fault ≡ Fault.OutOfMemory)) }
         ensures emptied { OnErr result (self.new.state ≡ Idle None) }
-        ensures memory { IfErr result (λ fault. fault ≡ Fault.OutOfMemory
-            → is_faulty (first_step types.now (tail_held self.old.state) (Content line.now)) ≡ false) }
-        ensures unasked { IfErr result (λ fault. (fault ≡ Fault.OutOfMemory → ⊥)
-            → KeepsRooms self.new.rooms self.old.rooms) }
+        ensures rooms { AsksRoomToBegin (first_step types.now (tail_held self.old.state) (Content line.now))
+            self.old.rooms self.new.rooms result }
         // `older` are the epochs that were accepted since everything was last forgotten, newest first.
         ensures block { (older : List RawEpoch) → tail_held self.old.state ≡ tail_left older
             → OnOk result (IsReading types.now older (Content line.now ∷ []) self.new.state) }
         ensures block_fault { (older : List RawEpoch) → tail_held self.old.state ≡ tail_left older
             → IfErr result (λ fault. (epoch_at types.now older (Content line.now ∷ []) ≡ Fails 0 fault)
             ⊎ (fault ≡ Fault.OutOfMemory)) }
-        ensures room { (begun : OpenRawEpoch)
-            → first_step types.now (tail_held self.old.state) (Content line.now) ≡ Going begun
-            → AnswersWithRoom begun self.old.rooms self.new.rooms result }
-        ensures kept { KeepsRooms self.old.rooms self.new.rooms }
         // Whatever a block holds from the epoch before is dropped with this epoch's first printed line.
         ensures unprinted { (block : PendingLines) → ArePrinted self.new.state block }
     {
@@ -292,10 +284,7 @@ impl Columns {
         ensures made { IfOk result (λ is_whole.
             HasPrintedLines (step_in self.old.state (Content line.now)) self.new.state is_whole lines.new.lines) }
         ensures refused { IfErr result (λ fault. step_in self.old.state (Content line.now) ≡ Faulty fault) }
-        // At no line but the epoch line the answer is for want of memory.
-        ensures unasked { IfErr result (λ fault. fault ≡ Fault.OutOfMemory → ⊥) }
-        ensures emptied { OnErr result (self.new.state ≡ Idle None) }
-        ensures none { OnErr result (lines.new.lines ≡ []) }
+        ensures emptied { OnErr result ((self.new.state ≡ Idle None) × (lines.new.lines ≡ [])) }
         ensures printed { ArePrinted self.new.state lines.new }
         ensures rooms { KeepsRooms self.old.rooms self.new.rooms }
     {
@@ -375,8 +364,6 @@ fn take_line(
     ensures ok { IfOk result (IsLineTaken line.now stage.old count.old history.old stage.new count.new history.new) }
     ensures err { IfErr result (λ fault.
         step_at stage.old count.old history.old (Content line.now) ≡ Faulty fault) }
-    // At no line but the epoch line the answer is for want of memory.
-    ensures memory { IfErr result (λ fault. fault ≡ Fault.OutOfMemory → ⊥) }
     ensures rooms { KeepsRooms history.old.satellites.rooms history.new.satellites.rooms }
 {
     match *stage {

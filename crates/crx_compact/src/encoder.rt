@@ -156,8 +156,8 @@ impl Encoder {
         ensures written { IfOk result (λ is_new. is_new ≡ true
             → self.new ≡ record self.old { rows = self.old.rows ++ row.now ∷ []; rooms = self.new.rooms }) }
         ensures repeated { IfOk result (λ is_new. is_new ≡ false → self.new ≡ self.old) }
-        ensures memory { OnErr result (has_satellite row.now.name self.old.rows ≡ false) }
-        ensures forgotten { OnErr result (self.new ≡ record (forgotten self.old []) { rooms = self.new.rooms }) }
+        ensures forgotten { OnErr result ((has_satellite row.now.name self.old.rows ≡ false)
+            × (self.new ≡ record (forgotten self.old []) { rooms = self.new.rooms })) }
         ensures known { PreparesRow row.now.name (length row.now.values) self.old.rooms self.new.rooms result }
     {
         match self.history.write_row(

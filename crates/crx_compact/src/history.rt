@@ -19,7 +19,7 @@ ghost use Rattle.crx_compact.specs.declared.history.TheConstants.{EPOCH_TEXT_LIM
 ghost use Rattle.crx_compact.specs.PrintedBlocks.{IsPrinted};
 ghost use Rattle.crx_compact.specs.meaning.CompactPlaces.{clock_line_read, satellites_of_text};
 ghost use Rattle.crx_compact.specs.meaning.EpochText.{names_in, satellites_named};
-ghost use Rattle.crx_compact.specs.Placing.{HasAllowedCount, HasAskedRoom, HaveRoom, IsAnnounced, IsBetween, IsRowRead, KeepsRooms, PreparesRow, padded, row_of_parts, satellite_of, tail_of_history};
+ghost use Rattle.crx_compact.specs.Placing.{AsksRoom, HasAllowedCount, HaveRoom, IsAnnounced, IsBetween, IsRowRead, KeepsRooms, PreparesRow, no_history, padded, row_of_parts, satellite_of, tail_of_history};
 ghost use Rattle.crx_compact.specs.Written.{AreRowsWritten, IsEpochWritten, IsRowWritten, epoch_by_rows};
 ghost use Rattle.crx_rinex.specs.meaning.SatelliteLines.{IsSoundRow};
 ghost use Rattle.crx_compact.specs.RowsSoFar.{NamesSatellites, HasClock};
@@ -81,9 +81,7 @@ impl History {
     /// callers, as a call copies its texts.
     #[inline(always)]
     pub(crate) fn new(alloc: Global) -> History
-        ensures empty { tail_of_history result ≡ no_tail }
-        ensures between { IsBetween result }
-        ensures rooms { result.satellites.rooms ≡ [] }
+        ensures empty { result ≡ no_history }
     {
         History {
             text: [b' '; EPOCH_TEXT_LIMIT],
@@ -367,8 +365,7 @@ impl History {
 
 /// Asks for all memory that the satellites of an epoch's rows need.
 fn prepare_rows(satellites: &mut Satellites, epoch: &Epoch) -> Result<(), AllocError>
-    ensures asked { HasAskedRoom satellites.old satellites.new }
-    ensures room { OnOk result (HaveRoom epoch.now.rows satellites.new.rooms) }
+    ensures { AsksRoom (HaveRoom epoch.now.rows) satellites.old satellites.new result }
 {
     let mut index = 0;
     while let Some(row) = epoch.row(index) {

@@ -8,7 +8,7 @@ ghost use Rattle.crx_base.specs.declared.limits.TheConstants.{SATELLITES_LIMIT};
 ghost use Rattle.crx_header.specs.meaning.Satellites.{is_among};
 ghost use Rattle.crx_compact.specs.meaning.EpochText.{names_in, satellites_named};
 ghost use Rattle.crx_compact.specs.EpochLinesRead.{AreSatellitesRefused};
-ghost use Rattle.crx_compact.specs.Placing.{HasAskedRoom, HaveNamesRoom};
+ghost use Rattle.crx_compact.specs.Placing.{AsksRoom, HaveNamesRoom};
 ghost use Rattle.crx_compact.specs.Refusals.{AreMarked, mark_place};
 
 use crate::satellites::Satellites;
@@ -52,7 +52,6 @@ fn fault_of_names(types: &Types, text: &[u8], count: usize) -> Option<Fault>
     requires few { count ≤ SATELLITES_LIMIT }
     ensures fault { IfSome result
         (λ fault. satellites_named types.now [] (names_in text.now count) ≡ Err fault) }
-    ensures no_memory { IfSome result (λ fault. fault ≡ Fault.OutOfMemory → ⊥) }
     ensures none { result ≡ None → is_ok (satellites_named types.now [] (names_in text.now count)) ≡ true }
 {
     let mut marks = [false; MARKS];
@@ -80,8 +79,7 @@ pub(crate) fn prepare_names(
     satellites: &mut Satellites,
 ) -> Result<(), Fault>
     requires few { count ≤ SATELLITES_LIMIT }
-    ensures asked { HasAskedRoom satellites.old satellites.new }
-    ensures room { OnOk result (HaveNamesRoom types.now text.now count satellites.new.rooms) }
+    ensures asked { AsksRoom (HaveNamesRoom types.now text.now count) satellites.old satellites.new result }
     ensures good { OnOk result (is_ok (satellites_named types.now [] (names_in text.now count)) ≡ true) }
     ensures err { IfErr result (AreSatellitesRefused (satellites_named types.now [] (names_in text.now count))
         satellites.old satellites.new) }

@@ -14,7 +14,7 @@ ghost use Rattle.crx_compact.specs.declared.cells.TheConstants.{CELL_ROOM};
 ghost use Rattle.crx_compact.specs.Entries.{Entry, IsFound, IsPutNext, IsRevived, KeepsTypes, key_of};
 ghost use Rattle.crx_compact.specs.EpochLinesRead.{HaveComeAgain};
 ghost use Rattle.crx_compact.specs.HeldRows.{IsAwaitedSatellite, row_held};
-ghost use Rattle.crx_compact.specs.Placing.{AnswersPlacing, HasAskedRoom, HasRoom, IsPlaced, KeepsRest, PreparesRow, SatelliteTail, padded, row_of_parts, satellite_of};
+ghost use Rattle.crx_compact.specs.Placing.{AnswersPlacing, AsksRoom, HasRoom, IsPlaced, KeepsRest, PreparesRow, SatelliteTail, padded, row_of_parts, satellite_of};
 ghost use Rattle.crx_compact.specs.ShownRows.{shown_row};
 ghost use Rattle.crx_compact.specs.Steps.{row_line_after, row_tail_after};
 ghost use Rattle.crx_compact.specs.Tails.{RowTail};
@@ -221,8 +221,7 @@ impl Satellites {
     #[inline(always)]
     pub(crate) fn prepare(&mut self, name: [u8; NAME_WIDTH], count: usize) -> Result<(), AllocError>
         requires allowed { count ≤ TYPES_LIMIT }
-        ensures asked { HasAskedRoom self.old self.new }
-        ensures room { OnOk result (HasRoom name count self.new.rooms) }
+        ensures asked { AsksRoom (HasRoom name count) self.old self.new result }
         ensures known { HasRoom name count self.old.rooms → IsOk result }
     {
         let near = self.last.wrapping_add(1);

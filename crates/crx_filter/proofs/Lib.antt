@@ -16,5 +16,6 @@ pub mod standard
 pub mod damage
 pub mod stretches
 pub mod Kept
+pub mod NoMemory
 pub mod CompactSteps
 pub mod accounts

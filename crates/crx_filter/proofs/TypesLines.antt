@@ -8,16 +8,9 @@ use Rattle.crx_base.specs.declared.fault.Fault.TheVariants.{BadTypesLine}
 use Rattle.crx_header.specs.meaning.ObservationTypes.{is_bad_types_line, count_of_types_line}
 
 -- what accept_line says of a fault
-abbrev pub Bad : List ℕ → Fault → Type 0
-Bad line fault = ((fault ≡ BadTypesLine) × (is_bad_types_line line ≡ true))
-    ⊎ ((fault ≡ OutOfMemory) × (is_some (count_of_types_line line) ≡ true))
-
-abbrev pub RefusedAs : Option Fault → List ℕ → Fault → Type 0
-RefusedAs wrong line fault = (wrong ≡ Some fault)
-    ⊎ ((fault ≡ OutOfMemory) × (is_some (count_of_types_line line) ≡ true))
-
-pub refused-types : (line : List ℕ) (fault : Fault) → Bad line fault → RefusedAs (types_fault line) line fault
-refused-types line fault v1 = grind (arith)
+abbrev pub Bad : List Count → List ℕ → Fault → Type 0
+Bad types line fault = ((fault ≡ BadTypesLine) × (is_bad_types_line line ≡ true))
+    ⊎ ((fault ≡ OutOfMemory) × (is_some (count_of_types_line line) ≡ true) × (types ≡ []))
 
 -- a types line that gives a count has no fault
 good-if : (b : Bool) (o : Option Count)
@@ -30,14 +23,9 @@ RefusedFirst types wrong line fault = (wrong ≡ Some fault) ⊎ ((fault ≡ Out
     × ((are_lacking types && (is_some (count_of_types_line line) && is_none wrong)) ≡ true))
 
 pub refused-first : (types : List Count) (wrong : Option Fault) (line : List ℕ) (fault : Fault) → wrong ≡ None
-    → (fault ≡ OutOfMemory → types ≡ []) → RefusedAs (types_fault line) line fault
-    → RefusedFirst types (first_fault wrong (types_fault line)) line fault
-refused-first types wrong line fault none asked e =
+    → Bad types line fault → RefusedFirst types (first_fault wrong (types_fault line)) line fault
+refused-first types wrong line fault none bad =
     grind (arith, common_steps, first_fault, types_fault, good-if, and_from, is_some, count_of_types_line)
 
 pub if-none : (b : Bool) (o : Option Fault) → o ≡ None → (if b then o else None) ≡ None
 if-none other o none = grind (arith, common_steps)
-
-pub if-err-both : {X E : Type 0} (r : Result X E) (P Q R : E → Type 0)
-    → ((e : E) → P e → Q e → R e) → IfErr r P → IfErr r Q → IfErr r R
-if-err-both r P Q R f p q = grind arith

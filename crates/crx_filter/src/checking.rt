@@ -147,7 +147,6 @@ fn take_row(
     ensures takes { (kept : Written) → IfOk result
         (λ step. TakesRinexLine (made_at reader.old line.now kept) reader.old line.now step reader.new) }
     ensures refused { (kept : Written) → IfErr result (λ fault. made_at reader.old line.now kept ≡ Rejects fault) }
-    ensures unasked { IfErr result (λ fault. fault ≡ Fault.OutOfMemory → ⊥) }
     ensures steps { IfOk result (λ step. is_row step ≡ true) }
     ensures same { OnErr result (IsSameReader reader.old reader.new) }
     ensures named { is_open_stage reader.new.stage ≡ true → AreNamed names.new reader.new.rows.rows }

@@ -5,6 +5,7 @@ ghost use Rattle.std.specs.Prelude.{◌≡◌, ◌≢◌, ◌≤◌, ◌⊎◌, 
 ghost use Rattle.crx_base.specs.declared.limits.TheConstants.{LINE_LIMIT};
 ghost use Rattle.crx_base.specs.meaning.Choices.{Choices};
 ghost use Rattle.crx_compact.specs.OpenEpochs.{tail_held};
+ghost use Rattle.crx_compact.specs.OpenEpochs.ColumnsState.{Idle};
 ghost use Rattle.crx_compact.specs.Blocks.{PendingLines};
 ghost use Rattle.crx_compact.specs.PrintedBlocks.{ArePrinted};
 ghost use Rattle.crx_header.specs.meaning.EpochColumns.{begins_epoch};
@@ -71,7 +72,6 @@ impl CompactReader {
         ensures reads { ReadsCompactLine self.old line.now result
             (if is_open_stage self.new.stage then [] else lines.new.lines) self.new }
         ensures printed { ArePrinted self.new.columns.value.state lines.new }
-        ensures unasked { IfErr result (λ fault. fault ≡ Fault.OutOfMemory → ⊥) }
         ensures kept { KeepsRoomInColumns self.old.columns.value self.new.columns.value }
     {
         match self.columns.feed_into(line, lines) {
@@ -175,9 +175,7 @@ impl CompactReader {
         requires settled { is_settled stage ≡ true }
         ensures stage { self.new.stage ≡ stage }
         ensures types { self.new.types ≡ self.old.types }
-        ensures tail { tail_held self.new.columns.value.state ≡ None }
-        ensures rooms { self.new.columns.value.rooms ≡ self.old.columns.value.rooms }
-        ensures held { HaveHeldRoom self.new.columns.value }
+        ensures emptied { self.new.columns.value ≡ record self.old.columns.value { state = Idle None } }
     {
         self.columns.reset();
         self.stage = stage;

@@ -174,7 +174,6 @@ impl<D: Direction> Engine<D> {
             → D.knows self.old.direction self.old.options lines
             → EngineConcludes D.Direction self.old lines result self.new }
         ensures goes { EngineGoes D.Direction self.old }
-        ensures unasked { RanOutBefore D.Direction self.old result }
         ensures stays { EngineKeepsNotes D.Direction self.old result self.new }
     {
         let stage = self.direction.stage();
@@ -217,7 +216,6 @@ impl<D: Direction> Engine<D> {
         ensures by_seen { (line : InputLine) → is_long line ≡ true
             → AnswersBySeen D.Direction self.old line result (engine_ready D.Direction self.new) self.new }
         ensures repeated { (at : At) → (engine_state D.Direction self.old).phase ≡ Ended at → result ≡ Err at }
-        ensures unasked { RanOutBefore D.Direction self.old result }
         ensures stays { EngineKeepsNotes D.Direction self.old result self.new }
     {
         let stage = self.direction.stage();
@@ -244,7 +242,6 @@ impl<D: Direction> Engine<D> {
         ensures found { (lines : List InputLine) → engine_took D.Direction self.old lines []
             → IfOk result (λ step. D.has_found self.new.direction lines) }
         ensures repeated { (at : At) → (engine_state D.Direction self.old).phase ≡ Ended at → result ≡ Err at }
-        ensures unasked { RanOutBefore D.Direction self.old result }
         ensures stays { EngineKeepsNotes D.Direction self.old result self.new }
     {
         self.close()

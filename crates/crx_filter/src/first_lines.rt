@@ -1,6 +1,6 @@
 //! The two lines before the header of compact text.
 
-ghost use Rattle.std.specs.Prelude.{◌≡◌, Ok, Err, IfErr, MatchResult};
+ghost use Rattle.std.specs.Prelude.{◌≡◌, Ok, Err, MatchResult};
 ghost use Rattle.crx_filter.specs.meaning.Expanded.{crinex_program, crinex_version};
 
 use crx_base::Fault;
@@ -14,7 +14,6 @@ pub fn check_version(line: &[u8]) -> Result<(), Fault>
     ensures fault { MatchResult result
         (λ _. crinex_version line.now ≡ Ok line.now)
         (λ fault. crinex_version line.now ≡ Err fault) }
-    ensures unasked { IfErr result (λ fault. fault ≡ Fault.OutOfMemory → ⊥) }
 {
     if trimmed(line, 1, 20) == CRINEX_VERSION.as_slice()
         && is_labelled(line, &CRINEX_VERSION_LABEL)
@@ -29,7 +28,6 @@ pub fn check_program(line: &[u8]) -> Result<(), Fault>
     ensures fault { MatchResult result
         (λ _. crinex_program line.now ≡ Ok line.now)
         (λ fault. crinex_program line.now ≡ Err fault) }
-    ensures unasked { IfErr result (λ fault. fault ≡ Fault.OutOfMemory → ⊥) }
 {
     if is_labelled(line, &CRINEX_PROGRAM_LABEL) {
         return Ok(());

@@ -109,7 +109,6 @@ impl<D: Direction> Lender<D> {
         ensures by_seen { (line : InputLine) → is_long line ≡ true → AnswersBySeen D.Direction self.old.engine
             line result (lender_ready D.Direction self.new) self.new.engine }
         ensures repeated { (at : At) → (lender_state D.Direction self.old).phase ≡ Ended at → result ≡ Err at }
-        ensures unasked { RanOutBefore D.Direction self.old.engine result }
         ensures stays { EngineKeepsNotes D.Direction self.old.engine result self.new.engine }
     {
         self.engine.overlong(number)
@@ -128,7 +127,6 @@ impl<D: Direction> Lender<D> {
         ensures found { (lines : List InputLine) → lender_took D.Direction self.old lines []
             → IfOk result (λ step. D.has_found self.new.engine.direction lines) }
         ensures repeated { (at : At) → (lender_state D.Direction self.old).phase ≡ Ended at → result ≡ Err at }
-        ensures unasked { RanOutBefore D.Direction self.old.engine result }
         ensures stays { EngineKeepsNotes D.Direction self.old.engine result self.new.engine }
     {
         self.engine.end()

@@ -100,9 +100,6 @@ impl RinexReader {
             (λ fault. RefusesRinexLine (made_at self.old line.now kept) self.old line.now fault) }
         ensures steps { IfOk result (λ step. is_row step ≡ false) }
         ensures same { OnErr result (IsSameReader self.old self.new) }
-        // It asks for memory only for the first types.
-        ensures asked { IfErr result (λ fault. fault ≡ Fault.OutOfMemory
-            → (do_types_count self.old.stage ≡ true) × (self.old.types ≡ [])) }
     {
         match self.stage {
             Stage::Header { is_first } => {
@@ -135,7 +132,6 @@ impl RinexReader {
         requires stage { (self.old.stage ≡ Stage.Between)
             ⊎ ((self.old.stage ≡ Stage.Looking) × (begins_epoch line.now ≡ true)) }
         ensures reads { ReadsRinexLine self.old line.now result self.new }
-        ensures unasked { IfErr result (λ fault. fault ≡ Fault.OutOfMemory → ⊥) }
     {
         match Head::read(line)? {
             Head::Event { count, .. } => {
@@ -169,7 +165,6 @@ impl RinexReader {
         ensures memory { OnOk result (has_satellite self.new.row.name self.old.rows.rows ≡ false
             → may_take_memory self.old.types (λ first. false) is_next_row (reader_phase self.old) (Content line.now) ≡ true) }
         ensures refused { (kept : Written) → IfErr result (λ fault. made_at self.old line.now kept ≡ Rejects fault) }
-        ensures unasked { IfErr result (λ fault. fault ≡ Fault.OutOfMemory → ⊥) }
         ensures same { IsSameReader self.old self.new }
     {
         if begins_epoch(line) {

@@ -66,7 +66,6 @@ impl Stage {
     pub fn fault_at_end(&self) -> Option<Fault>
         ensures value { result ≡ fault_at_end_in (bare_phase self.now) }
         ensures open { is_open_stage self.now ≡ true → result ≡ Some Fault.Truncated }
-        ensures unasked { IfSome result (λ fault. fault ≡ Fault.OutOfMemory → ⊥) }
     {
         match self {
             Stage::FirstLines { count: 0 } => Some(Fault::NotCompact),

@@ -1,6 +1,6 @@
 //! Header lines: the first one, and the one that ends the header. RINEX 3.05, table A2.
 
-ghost use Rattle.std.specs.Prelude.{◌≡◌, None, Some, IfErr, MatchResult};
+ghost use Rattle.std.specs.Prelude.{◌≡◌, None, Some, MatchResult};
 ghost use Rattle.crx_header.specs.meaning.Header.{first_header_fault, is_end_of_header, is_supported};
 
 use crate::columns::is_labelled;
@@ -18,7 +18,6 @@ pub fn header_first(line: &[u8]) -> Result<(), Fault>
     ensures fault { MatchResult result
         (λ _. first_header_fault line.now ≡ None)
         (λ fault. first_header_fault line.now ≡ Some fault) }
-    ensures unasked { IfErr result (λ fault. fault ≡ Fault.OutOfMemory → ⊥) }
 {
     if !is_labelled(line, &VERSION_LABEL) {
         return Err(Fault::MissingVersion);

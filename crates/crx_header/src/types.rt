@@ -70,8 +70,7 @@ impl Types {
         ensures good { OnOk result (is_bad_types_line line.now ≡ false) }
         ensures bad { IfErr result (λ fault.
             ((fault ≡ Fault.BadTypesLine) × (is_bad_types_line line.now ≡ true))
-            ⊎ ((fault ≡ Fault.OutOfMemory) × (is_some (count_of_types_line line.now) ≡ true))) }
-        ensures asked { IfErr result (λ fault. fault ≡ Fault.OutOfMemory → self.old ≡ []) }
+            ⊎ ((fault ≡ Fault.OutOfMemory) × (is_some (count_of_types_line line.now) ≡ true) × (self.old ≡ []))) }
         ensures err { OnErr result (self.new ≡ self.old) }
     {
         if !is_types(line) {
@@ -133,8 +132,7 @@ fn put(counts: &mut IndexMap<u8, usize>, letter: u8, count: usize) -> Result<(),
     requires room { HasSystemRoom counts.old.entries (spare counts.old) }
     ensures entries { OnOk result (counts.new.entries ≡ with_count counts.old.entries letter count) }
     ensures room { OnOk result (SYSTEMS ≤ length counts.new.entries + spare counts.new) }
-    ensures same { OnErr result (counts.new.entries ≡ counts.old.entries) }
-    ensures asked { OnErr result (counts.old.entries ≡ []) }
+    ensures err { OnErr result ((counts.new.entries ≡ []) × (counts.old.entries ≡ [])) }
 {
     if let Some(held) = counts.get_mut(&letter) {
         *held = count;

@@ -61,13 +61,11 @@ impl Epoch {
         requires { is_full_epoch self.old ≡ false }
         ensures ok { OnOk result (self.new ≡ with_row self.old row) }
         ensures new { OnOk result (has_satellite row.name self.old.rows ≡ false) }
-        ensures returned { IfErr result (λ refused. refused.0 ≡ row) }
+        ensures returned { IfErr result (λ refused. (refused.0 ≡ row) × (self.new ≡ self.old)) }
+        // The first row asks for the memory of as many rows as the line announces.
         ensures refused { IfErr result (λ refused.
             ((refused.1 ≡ Fault.RepeatedSatellite) × (has_satellite row.name self.old.rows ≡ true))
-            ⊎ ((refused.1 ≡ Fault.OutOfMemory) × (has_satellite row.name self.old.rows ≡ false))) }
-        ensures err { OnErr result (self.new ≡ self.old) }
-        // The first row asks for the memory of as many rows as the line announces.
-        ensures asked { IfErr result (λ refused. refused.1 ≡ Fault.OutOfMemory → self.old.rows ≡ []) }
+            ⊎ ((refused.1 ≡ Fault.OutOfMemory) × (self.old.rows ≡ []))) }
     {
         if self.names.contains(&row.name()) {
             return Err((row, Fault::RepeatedSatellite));

@@ -1,6 +1,6 @@
 //! Epoch lines. RINEX 3.05, table A3, EPOCH record.
 
-ghost use Rattle.std.specs.Prelude.{◌≡◌, None, Some, Ok, Err, IfErr, MatchResult};
+ghost use Rattle.std.specs.Prelude.{◌≡◌, None, Some, Ok, Err, MatchResult};
 ghost use Rattle.std.specs.Option.{ForSome};
 ghost use Rattle.crx_text.specs.meaning.Columns.{columns};
 ghost use Rattle.crx_text.specs.Numbers.{IsClock};
@@ -111,7 +111,6 @@ impl Head {
         ensures value { MatchResult result
             (λ head. head_of line.now ≡ Ok (head_line head))
             (λ fault. head_of line.now ≡ Err fault) }
-        ensures unasked { IfErr result (λ fault. fault ≡ Fault.OutOfMemory → ⊥) }
     {
         if character(line, 1) != b'>' {
             return Err(Fault::NotAnEpoch);

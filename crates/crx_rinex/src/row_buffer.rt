@@ -62,7 +62,6 @@ impl RowBuffer {
     pub fn read(&mut self, types: &Types, line: &[u8]) -> Result<(), Fault>
         ensures ok { OnOk result (row_of types.now line.now ≡ Ok self.new) }
         ensures err { IfErr result (λ fault. row_of types.now line.now ≡ Err fault) }
-        ensures unasked { IfErr result (λ fault. fault ≡ Fault.OutOfMemory → ⊥) }
     {
         let Some(count) = types_of_satellite(types, line) else {
             return Err(Fault::BadSatellite);
@@ -143,7 +142,6 @@ fn read_first_cells(
     ensures ok { OnOk result (IsRowOf count line.now (take count values.new) (take (2 * count) flags.new)) }
     ensures lengths { (length values.new ≡ length values.old) × (length flags.new ≡ length flags.old) }
     ensures err { IfErr result (λ fault. row_by_cells count line.now ≡ Err fault) }
-    ensures unasked { IfErr result (λ fault. fault ≡ Fault.OutOfMemory → ⊥) }
 {
     read_cells(line, &mut values[..count], &mut flags[..2 * count])
 }

@@ -193,7 +193,6 @@ pub(crate) fn read_cells(
     requires { ArePaired values.old flags.old }
     ensures ok { OnOk result (IsRowOf (length values.old) line.now values.new flags.new) }
     ensures err { IfErr result (λ fault. row_by_cells (length values.old) line.now ≡ Err fault) }
-    ensures unasked { IfErr result (λ fault. fault ≡ Fault.OutOfMemory → ⊥) }
 {
     let first = split_plain_cells(line, values, flags);
     if !take_last_cell(line, first, values, flags)

@@ -24,17 +24,17 @@ returns-in_err-prepare_names c =
           c.prepare_names.new.satellites c.in_err-prepare_names.field-0.0) none.unchanged
           c.in_err-prepare_names.ensures.err;
       rooms = λ name count has.
-          c.prepare_names.ensures.asked.rooms name count (c.place.ensures.rooms.forth name count has);
+          c.prepare_names.ensures.asked.asked.rooms name count (c.place.ensures.rooms.forth name count has);
     })
 
 -- room was asked for all
 pub unwrap-requires : goal.unwrap-requires
-unwrap-requires c = search (rules, some-otherwise, types_of_satellite)
+unwrap-requires c = search (rules, some-otherwise, types_of_satellite, c.in_ok-prepare_names.ensures.asked.room)
 
 pub returns : goal.returns
 returns c = record {
-  ok = search (rules, placed-asked, from_some);
+  ok = search (rules, placed-asked, from_some, c.prepare_names.ensures.asked.asked);
   back = inl c.in_ok-prepare_names.ensures.good;
   err = search rules;
-  rooms = λ name count has. search (rules, c.place-2.ensures.rooms.forth, c.prepare_names.ensures.asked.rooms, c.place.ensures.rooms.forth);
+  rooms = λ name count has. search (rules, c.place-2.ensures.rooms.forth, c.prepare_names.ensures.asked.asked.rooms, c.place.ensures.rooms.forth);
 }

@@ -1,4 +1,4 @@
-use Rattle.crx_compact.proofs.Words.{ℕ, List, length, sym, ◌∙◌, arith}
+use Rattle.crx_compact.proofs.Words.{rules, ℕ, List, length, sym, ◌∙◌, arith}
 use Rattle.crx_compact.proofs.Words.{Row, HasRoom, slice_get_within}
 use Rattle.crx_compact.proofs.{Making.taken_all, RowByRow.{all-next}}
 use borrow.Author.Count.{falls}
@@ -11,26 +11,36 @@ loop-row-preserved c =
     let index : ℕ = c.loop-row.index in
     let rooms = c.prepare.new.self.rooms in
     let roomy : HasRoom row.name (length row.values) rooms =
-    rw (c.name.ensures.value, c.values.ensures.value) at c.in_ok-prepare.ensures.room in
+    rw (c.name.ensures.value, c.values.ensures.value) at c.in_ok-prepare.ensures.asked.room in
     record {
-      rows = c.prepare.ensures.asked.rows ∙ c.loop-row.invariant.rows;
-      rest = c.prepare.ensures.asked.rest ∙ c.loop-row.invariant.rest;
-      kept = λ name count has. c.prepare.ensures.asked.rooms name count
+      rows = c.prepare.ensures.asked.asked.rows ∙ c.loop-row.invariant.rows;
+      rest = c.prepare.ensures.asked.asked.rest ∙ c.loop-row.invariant.rest;
+      kept = λ name count has. c.prepare.ensures.asked.asked.rooms name count
           (c.loop-row.invariant.kept name count has);
       room = all-next (λ (r : Row). HasRoom r.name (length r.values) rooms) rows index row
-          (λ i d within. c.prepare.ensures.asked.rooms _ _ (c.loop-row.invariant.room i d within))
+          (λ i d within. c.prepare.ensures.asked.asked.rooms _ _ (c.loop-row.invariant.room i d within))
           (sym c.in-Some.ensures.value) roomy;
     }
 
-pub returns-clause-room : goal.returns-clause-room
-returns-clause-room c = grind (arith, taken_all, c.in_default.ensures.value, c.loop-row.invariant.room)
+pub returns : goal.returns
+returns c = record {
+  asked = record {
+    rows = c.loop-row.invariant.rows;
+    rest = c.loop-row.invariant.rest;
+    rooms = c.loop-row.invariant.kept;
+  };
+  room = grind (arith, taken_all, c.in_default.ensures.value, c.loop-row.invariant.room);
+}
 
-pub returns-in_err-prepare-clause-asked : goal.returns-in_err-prepare-clause-asked
-returns-in_err-prepare-clause-asked c = record {
-  rows = c.prepare.ensures.asked.rows ∙ c.loop-row.invariant.rows;
-  rest = c.prepare.ensures.asked.rest ∙ c.loop-row.invariant.rest;
-  rooms = λ name count has.
-      c.prepare.ensures.asked.rooms name count (c.loop-row.invariant.kept name count has);
+pub returns-in_err-prepare : goal.returns-in_err-prepare
+returns-in_err-prepare c = record {
+  asked = record {
+    rows = c.prepare.ensures.asked.asked.rows ∙ c.loop-row.invariant.rows;
+    rest = c.prepare.ensures.asked.asked.rest ∙ c.loop-row.invariant.rest;
+    rooms = λ name count has.
+        c.prepare.ensures.asked.asked.rooms name count (c.loop-row.invariant.kept name count has);
+  };
+  room = search rules;
 }
 
 pub overflow_add-index : goal.overflow_add-index

@@ -1,9 +1,41 @@
-use Rattle.crx_compact.proofs.Words.{rules, not, ℕ, List, ap, subst, ◌∙◌, false≢true, same_Some, inr, refl}
+use Rattle.crx_compact.proofs.Words.{rules, not, ℕ, List, ap, subst, ◌∙◌, false≢true, same_Some, inl, inr, names_in, refl}
 use Rattle.crx_compact.proofs.refusals.prepare_names.Goals.{in-Some-types_of_satellite+else-is_err}
 use Rattle.crx_compact.proofs.{Words.{types_of_satellite, HasRoom}, Results.by_ok, Naming.{names-room, names-room-more}}
 use Rattle.crx_compact.proofs.refusals.prepare_names.Goals.{in_default-types_of_satellite}
+use Rattle.crx_compact.proofs.reading.NoMemory.{no-memory-in-names}
 use Rattle.std.proofs.lemmas.Option.{none-some}
 use Rattle.crx_compact.proofs.refusals.prepare_names.Goals as goal
+
+pub returns-clause-asked : goal.returns-clause-asked
+returns-clause-asked c =
+    let so_far = c.loop-index.invariant in
+    record {
+      asked = record { rows = so_far.rows; rest = so_far.rest; rooms = so_far.kept };
+      room = search rules;
+    }
+
+pub returns-then-is_err-clause-asked : goal.returns-then-is_err-clause-asked
+returns-then-is_err-clause-asked c =
+    let so_far = c.loop-index.invariant in
+    let prepared = c.prepare.ensures.asked.asked in
+    record {
+      asked = record {
+        rows = prepared.rows ∙ so_far.rows;
+        rest = prepared.rest ∙ so_far.rest;
+        rooms = λ name count has. prepared.rooms name count (so_far.kept name count has);
+      };
+      room = tt;
+    }
+
+pub returns-in-Some-clause-err : goal.returns-in-Some-clause-err
+returns-in-Some-clause-err c =
+    let is = c.in-Some.ensures.fault in
+    let other = no-memory-in-names c.args.types.now (names_in c.args.text.now c.args.count) c.in-Some.fault is in
+    record {
+      answer = record { answered = inl is; memory = λ out. absurd (other out) };
+      unasked = λ other name count has. has;
+      wanting = λ named good has. search rules;
+    }
 
 pub returns-then-is_err-clause-err : goal.returns-then-is_err-clause-err
 returns-then-is_err-clause-err c = record {
@@ -25,18 +57,18 @@ loop-index-preserved c =
       | in-Some-types_of_satellite+else-is_err w ↦
           let prepared = w.prepare.ensures in
           rw w.satellites-is (record {
-            rows = prepared.asked.rows ∙ so_far.rows;
-            rest = prepared.asked.rest ∙ so_far.rest;
-            kept = λ name count has. prepared.asked.rooms name count (so_far.kept name count has);
+            rows = prepared.asked.asked.rows ∙ so_far.rows;
+            rest = prepared.asked.asked.rest ∙ so_far.rest;
+            kept = λ name count has. prepared.asked.asked.rooms name count (so_far.kept name count has);
             room = names-room-more types c.args.text.now c.loop-index.index before.rooms
-                w.prepare.new.self.rooms so_far.room prepared.asked.rooms (λ cells some.
+                w.prepare.new.self.rooms so_far.room prepared.asked.asked.rooms (λ cells some.
                 let same = same_Some w.in-Some-types_of_satellite.cells cells
                 (w.in-Some-types_of_satellite.ensures.value
                 ∙ ap (types_of_satellite types) is ∙ some) in
                 subst (λ (n : List ℕ). HasRoom n cells w.prepare.new.self.rooms) is
                 (subst (λ n. HasRoom c.identifier-name.result n w.prepare.new.self.rooms) same
                 (by_ok w.prepare.result (w.is_err.ensures.negation ∙ ap not w.if-is_err.false)
-                prepared.room)));
+                prepared.asked.room)));
           })
       | in_default-types_of_satellite w ↦
           rw w.satellites-is (record {

@@ -1,6 +1,8 @@
 use Rattle.crx_filter.proofs.{Words.{common_steps, arith, inl, inr, refl, ap, not, ◌∙◌}}
 use Rattle.crx_filter.proofs.{steps.Together.{row-lost, rows-few}}
 use Rattle.crx_filter.proofs.steps.Together.{row-known, row-or-epoch, row-refused, row-written, rows-there}
+use Rattle.crx_filter.proofs.{NoMemory.rinex-none, steps.CheckerSteps.nothing_kept}
+use Rattle.std.proofs.lemmas.Result.{err_from_is_err_and}
 use Rattle.crx_filter.proofs.compaction.take_row.Goals as goal
 
 pub encode_row-requires : goal.encode_row-requires
@@ -11,6 +13,12 @@ encode_row-requires c = record {
 
 pub returns-in_err-read_row-clause-refused : goal.returns-in_err-read_row-clause-refused
 returns-in_err-read_row-clause-refused c = grind (arith, common_steps, row-refused)
+
+pub returns-in_err-read_row-clause-known : goal.returns-in_err-read_row-clause-known
+returns-in_err-read_row-clause-known c =
+    let p = err_from_is_err_and c.from_residual.result c.from_residual.ensures.1 in
+    λ room. rw (p.1, p.2) (rinex-none c.args.reader.now c.args.line.now nothing_kept _
+    (c.in_err-read_row.ensures.refused nothing_kept))
 
 pub returns-in-Ok-false-clause-refused : goal.returns-in-Ok-false-clause-refused
 returns-in-Ok-false-clause-refused c =
@@ -25,10 +33,10 @@ pub returns-in-Err-clause-refused : goal.returns-in-Err-clause-refused
 returns-in-Err-clause-refused c =
     let read = c.in_ok-read_row.ensures in
     let encoded = c.in-Err.ensures in
-    row-lost _ _ _ _ _ c.requires.together read.same _ encoded.known.rooms encoded.forgotten refl refl
+    row-lost _ _ _ _ _ c.requires.together read.same _ encoded.known.rooms encoded.forgotten.1 refl refl
     (λ kept. inr (
       refl,
-      read.memory (rw (← rows-there _ _ c.requires.together c.requires.open) encoded.memory),
+      read.memory (rw (← rows-there _ _ c.requires.together c.requires.open) encoded.forgotten.0),
     ))
 
 pub returns-in-Row-clause-written : goal.returns-in-Row-clause-written

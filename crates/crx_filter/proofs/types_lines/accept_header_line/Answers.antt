@@ -1,5 +1,5 @@
-use Rattle.crx_filter.proofs.{Words.{OutOfMemory, []}, TypesLines.{Bad, RefusedFirst, refused-types}}
-use Rattle.crx_filter.proofs.TypesLines.{refused-first, if-err-both, if-none}
+use Rattle.crx_filter.proofs.TypesLines.{Bad, RefusedFirst, if-none, refused-first}
+use Rattle.std.proofs.lemmas.Result.{IfErr-weaker}
 use Rattle.crx_filter.proofs.types_lines.accept_header_line.Goals.{then-is_first+in_ok-header_first}
 use Rattle.crx_filter.proofs.types_lines.accept_header_line.Goals.{else-is_first}
 use Rattle.{crx_header.specs.meaning.Header.first_header_fault, std.proofs.Common.{◌≡◌, None, if◌then◌else◌}}
@@ -14,7 +14,5 @@ returns-clause-refused c =
           if-none c.args.is_first (first_header_fault line) w.in_ok-header_first.ensures.fault
       | else-is_first w ↦ search w.if-is_first
     ] in
-    if-err-both c.accept_line.result (Bad line) (λ fault. fault ≡ OutOfMemory → c.args.types.now ≡ [])
-    (RefusedFirst c.args.types.now _ line)
-    (λ fault bad asked. refused-first c.args.types.now _ line fault good asked (refused-types line fault bad))
-    c.accept_line.ensures.bad c.accept_line.ensures.asked
+    IfErr-weaker c.accept_line.result (Bad c.args.types.now line) (RefusedFirst c.args.types.now _ line)
+    (λ fault bad. refused-first c.args.types.now _ line fault good bad) c.accept_line.ensures.bad

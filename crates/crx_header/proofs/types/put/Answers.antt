@@ -7,5 +7,5 @@ use Rattle.crx_header.proofs.types.put.Goals as goal
 pub returns-in-Some-clause-entries : goal.returns-in-Some-clause-entries
 returns-in-Some-clause-entries = grind (arith, common_steps, is_none, lookup_is_count, set_is_with)
 
-pub returns-in_err-insert-clause-asked : goal.returns-in_err-insert-clause-asked
-returns-in_err-insert-clause-asked c = grind (arith, common_steps, lookup_is_count, systems_fewer)
+pub returns-in_err-insert-clause-err : goal.returns-in_err-insert-clause-err
+returns-in_err-insert-clause-err c = grind (arith, common_steps, lookup_is_count, systems_fewer)

@@ -18,7 +18,7 @@ pushed c =
     let line : List ℕ = c.args.line.now in
     line-pushed _ _ _ _ line _ _ c.self.invariant.0
     (take_more_set c.self.inside.lengths.items c.self.inside.count (length line) (room c))
-    (search (rules, c.put_line.ensures.put, c.deref_mut.ensures.value, c.use_bytes.ensures.kept, c.self.invariant.2))
+    (search (rules, c.put_line.ensures.put, c.deref_mut.ensures.value, c.use_bytes.ensures.kept.items, c.self.invariant.2))
 
 pub use_bytes-requires : goal.use_bytes-requires
 use_bytes-requires c =
@@ -43,7 +43,7 @@ invariant_of-self c =
         omega (arith, place.1),
         omega (arith, place, c.requires.short),
         omega (arith, many, place.3),
-        omega (arith, place.4, c.use_bytes.ensures.memory),
+        omega (arith, place.4, c.use_bytes.ensures.kept.memory),
       ),
     )
 

@@ -27,7 +27,7 @@ pushed c row there =
     let printed = c.print_line-length in
     row-pushed inside.lengths.items inside.bytes.items _ _ inside.count inside.filled printed.result _ _
     c.self.invariant.0 (free c) c.self.invariant.2
-    (search (rules, printed.ensures.line, printed_row, shown_row, c.as_mut_slice-bytes.ensures.value, c.use_bytes.ensures.kept, c.self.invariant.2))
+    (search (rules, printed.ensures.line, printed_row, shown_row, c.as_mut_slice-bytes.ensures.value, c.use_bytes.ensures.kept.items, c.self.invariant.2))
     printed.ensures.within
 
 pub invariant_of-self : goal.invariant_of-self
@@ -52,7 +52,7 @@ invariant_of-self c =
         omega (arith, place.1),
         omega (arith, place, short, c.requires.few at.item at.there),
         omega (arith, many, place.3),
-        omega (arith, place.4, c.use_bytes.ensures.memory),
+        omega (arith, place.4, c.use_bytes.ensures.kept.memory),
       ),
     )
 

@@ -26,7 +26,7 @@ pushed c row there =
     c.self.invariant.2
     (c.write_line-length.ensures.line row there
     ∙ ap (λ (t : List ℕ). take inside.filled t ++ line) c.as_mut_slice-bytes.ensures.value
-    ∙ ap (λ (t : List ℕ). t ++ line) (c.use_bytes.ensures.kept inside.filled c.self.invariant.2))
+    ∙ ap (λ (t : List ℕ). t ++ line) (c.use_bytes.ensures.kept.items inside.filled c.self.invariant.2))
     c.write_line-length.ensures.within
 
 pub use_bytes-requires : goal.use_bytes-requires
@@ -55,7 +55,7 @@ invariant_of-self c =
         omega (arith, place.1),
         omega (arith, place, short, c.requires.few),
         omega (arith, many, place.3),
-        omega (arith, place.4, c.use_bytes.ensures.memory),
+        omega (arith, place.4, c.use_bytes.ensures.kept.memory),
       ),
     )
 

@@ -12,39 +12,39 @@ before-line : (c : After-read_epoch_line) → tail_for_line (tail_held c.args.se
     ≡ Some (tail_of_history c.has_history.new.history)
 before-line c = search (rules, tail_for_line, tail-idle, tail_of_history)
 
-pub returns-in-Err-clause-memory : goal.returns-in-Err-clause-memory
-returns-in-Err-clause-memory c = λ out. line-good c.args.types.now c.args.line.now (tail_held
-    c.args.self.now.state) (tail_of_history c.has_history.new.history) (before-line
-    (goal.at.returns-in-Err-clause-memory c).After-read_epoch_line) (c.in-Err.ensures.err.answer.memory out)
-
-pub returns-in-Err-clause-unasked : goal.returns-in-Err-clause-unasked
-returns-in-Err-clause-unasked c =
-    search (rules, c.in-Err.ensures.err, c.has_history.ensures, c.self.view_is)
-
-pub returns-in-Ok-clause-room : goal.returns-in-Ok-clause-room
-returns-in-Ok-clause-room c begun step =
+pub returns-in-Ok-clause-rooms : goal.returns-in-Ok-clause-rooms
+returns-in-Ok-clause-rooms c =
     let history : OpenHistory = c.has_history.new.history in
-    let before = before-line (goal.at.returns-in-Ok-clause-room c).After-read_epoch_line in
-    let opened = opened-from c.args.types.now c.args.line.now (tail_held c.args.self.now.state)
-    (tail_of_history history) begun before step in
+    let before = before-line (goal.at.returns-in-Ok-clause-rooms c).After-read_epoch_line in
     let read = c.in-Ok.ensures.ok in
     record {
-      known = search rules;
-      room = room-for c.args.types.now c.args.line.now (tail_of_history history) begun opened
+      memory = tt;
+      unasked = tt;
+      known = λ begun step has. refl;
+      room = λ begun step.
+          let opened = opened-from c.args.types.now c.args.line.now (tail_held c.args.self.now.state)
+          (tail_of_history history) begun before step in
+          room-for c.args.types.now c.args.line.now (tail_of_history history) begun opened
           c.read_epoch_line.new.self.satellites.rooms read.satellites read.read read.room;
+      kept = search (rules, c.self.view_is, c.has_history.ensures.rooms, c.read_epoch_line.ensures.rooms);
     }
 
-pub returns-in-Err-clause-room : goal.returns-in-Err-clause-room
-returns-in-Err-clause-room c begun step = record {
-  known = λ has.
-      let before = before-line (goal.at.returns-in-Err-clause-room c).After-read_epoch_line in
-      let opened = opened-from c.args.types.now c.args.line.now (tail_held c.args.self.now.state)
-      (tail_of_history c.has_history.new.history) begun before step in
-      absurd (c.in-Err.ensures.err.wanting opened.satellites opened.read (satellites-known c.args.types.now
-      c.args.line.now (tail_of_history c.has_history.new.history) begun c.args.self.now.rooms _ opened has
-      (search (rules, c.self.view_is, c.has_history.ensures.rooms))));
-  room = search rules;
-}
+pub returns-in-Err-clause-rooms : goal.returns-in-Err-clause-rooms
+returns-in-Err-clause-rooms c =
+    let before = before-line (goal.at.returns-in-Err-clause-rooms c).After-read_epoch_line in
+    record {
+      memory = λ out. line-good c.args.types.now c.args.line.now (tail_held c.args.self.now.state)
+          (tail_of_history c.has_history.new.history) before (c.in-Err.ensures.err.answer.memory out);
+      unasked = search (rules, c.in-Err.ensures.err, c.has_history.ensures, c.self.view_is);
+      known = λ begun step has.
+          let opened = opened-from c.args.types.now c.args.line.now (tail_held c.args.self.now.state)
+          (tail_of_history c.has_history.new.history) begun before step in
+          absurd (c.in-Err.ensures.err.wanting opened.satellites opened.read (satellites-known c.args.types.now
+          c.args.line.now (tail_of_history c.has_history.new.history) begun c.args.self.now.rooms _ opened has
+          (search (rules, c.self.view_is, c.has_history.ensures.rooms))));
+      room = λ begun step. tt;
+      kept = search (rules, c.self.view_is, c.has_history.ensures.rooms, c.read_epoch_line.ensures.rooms);
+    }
 
 pub returns-in-Ok-clause-block : goal.returns-in-Ok-clause-block
 returns-in-Ok-clause-block c = λ older e.

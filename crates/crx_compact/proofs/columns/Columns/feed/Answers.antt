@@ -2,7 +2,7 @@ use Rattle.crx_compact.proofs.Words.{rules, ◌≡◌, ◌∙◌, ◌<◌, ◌�
 use Rattle.crx_compact.proofs.Words.{None, eqb-true, OutOfMemory, Content, HasMade, step_in}
 use Rattle.crx_compact.proofs.reading.Stages.{row-was_awaited, rows-left, state-rows, step-by-stage}
 use Rattle.crx_compact.proofs.Words.{step_with_rows, tail_of_history, Tail, HeldColumns}
-use Rattle.crx_compact.proofs.reading.Blocks.{more-block, more-refused}
+use Rattle.crx_compact.proofs.reading.{Blocks.{more-block, more-refused}, NoMemory.no-memory-in-epoch}
 use Rattle.crx_compact.proofs.{reading.Stages.step-whole, reading.StepsByCode.{made-more, made-whole}}
 use Rattle.crx_compact.specs.OpenEpochs.{Faulty, Idle}
 use Rattle.crx_compact.proofs.columns.Columns.feed.Goals as goal
@@ -35,6 +35,11 @@ returns-in-Err-epoch-clause-memory c = λ out.
       step-whole _ (tail_of_history new.history) new.count
           (search (rules, step-by-stage, c.self.view_is, c.in-Ok-true.ensures.ok)) (omega (arith, come)),
     )
+
+-- the line has a fault, which is none of memory
+pub returns-in-Err-clause-memory : goal.returns-in-Err-clause-memory
+returns-in-Err-clause-memory c = λ out. absurd (no-memory-in-epoch c.args.self.now.state c.args.line.now
+    c.in-Err.fault (search (rules, step-by-stage, c.self.view_is, c.in-Err.ensures.err)) out)
 
 pub returns-in-Ok-false-clause-made : goal.returns-in-Ok-false-clause-made
 returns-in-Ok-false-clause-made c =

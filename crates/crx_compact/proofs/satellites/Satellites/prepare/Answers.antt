@@ -13,10 +13,10 @@ invariant_of-self-2 c =
     omega (arith, none-lost, found, c.self.invariant.1, c.self.invariant.0, length-set_value_at)
 
 pub returns-clause-asked : goal.returns-clause-asked
-returns-clause-asked c = search (rules, rows-same, front-same, range-same, rooms-changed)
-
-pub returns-clause-room : goal.returns-clause-room
-returns-clause-room c = on_ok_weaker c.make_room.result (search (rules, has-room)) c.make_room.ensures.room
+returns-clause-asked c = record {
+  asked = search (rules, rows-same, front-same, range-same, rooms-changed);
+  room = on_ok_weaker c.make_room.result (search (rules, has-room)) c.make_room.ensures.room;
+}
 
 pub returns-in_err-found-clause-known : goal.returns-in_err-found-clause-known
 returns-in_err-found-clause-known c =

@@ -3,6 +3,7 @@ use Rattle.crx_filter.proofs.steps.CheckerSteps.{nothing_kept, step-counting, st
 use Rattle.crx_filter.proofs.steps.{CheckerSteps.{still-drained, taken-reads}, EngineAnswers.short-line}
 use Rattle.{crx_lines.specs.Reading.{line_shown}, std.proofs.lemmas.Result.err_from_is_err_and}
 use Rattle.std.proofs.Common.{true≢false, sym, ◌∙◌}
+use Rattle.crx_filter.proofs.NoMemory.{rinex-asked}
 use Rattle.crx_filter.proofs.checking.CheckingDirection.take.Goals as goal
 
 pub returns-in_err-step-clause-reads : goal.returns-in_err-step-clause-reads
@@ -13,6 +14,13 @@ returns-in_err-step-clause-reads c =
     rw (← c.self.view_is, p.1, p.2, ← c.bytes.ensures.content) (refused-reads _ c.self.inside.reader
     c.take.new.self c.self.inside.noted.totals c.bytes.result.now _ _ c.in_err-step.ensures.same closed
     (c.in_err-step.ensures.refuses nothing_kept) (still-drained c.self.inside.handed_out _ _ drained))
+
+pub returns-in_err-step-clause-known : goal.returns-in_err-step-clause-known
+returns-in_err-step-clause-known c =
+    let p = err_from_is_err_and c.from_residual.result c.from_residual.ensures.1 in
+    let closed = rw (← c.self.view_is) at c.requires.closed in
+    rw (← c.self.view_is) (λ room. rw (p.1, p.2) (rinex-asked c.self.inside.reader c.bytes.result.now nothing_kept _
+    closed (c.in_err-step.ensures.refuses nothing_kept) room))
 
 pub note-requires-clause-observed : goal.note-requires-clause-observed
 note-requires-clause-observed c = step-counting _ _ _ _ _ _ c.in_ok-step.ensures.steps

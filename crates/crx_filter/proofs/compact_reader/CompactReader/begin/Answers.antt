@@ -16,9 +16,9 @@ pub returns-clause-kept : goal.returns-clause-kept
 returns-clause-kept c =
     let made = c.in_ok-begin.ensures.made in
     record {
-      rooms = search rules;
+      rooms = search (rules, c.begin.ensures.rooms.kept);
       held = λ held. subst (λ (s : ColumnsState). HaveCellsRoom (rows_held s) c.begin.new.self.rooms) (sym made.2)
-          (c.in_ok-begin.ensures.room made.0 made.1).room;
+          (c.in_ok-begin.ensures.rooms.room made.0 made.1);
     }
 
 pub returns-clause-unprinted : goal.returns-clause-unprinted

@@ -21,5 +21,5 @@ returns-in-Ok-false-clause-kept c = record {
 pub returns-in-Err-clause-kept : goal.returns-in-Err-clause-kept
 returns-in-Err-clause-kept c = record {
   rooms = search rules;
-  held = λ held. nothing-held c.feed_into.new.self c.in-Err.ensures.emptied;
+  held = λ held. nothing-held c.feed_into.new.self c.in-Err.ensures.emptied.0;
 }

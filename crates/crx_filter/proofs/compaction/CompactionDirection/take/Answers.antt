@@ -7,7 +7,9 @@ use Rattle.crx_filter.proofs.steps.{CompactionSteps.refused-read}
 use Rattle.crx_filter.proofs.steps.Together.{begun-asked, begun-open, begun-rows, begun-together, begun-whole}
 use Rattle.crx_filter.proofs.steps.Together.{closed-together, none-there, same-together, served-closed}
 use Rattle.crx_filter.proofs.steps.Together.{served-open, begun-holds, begun-kept}
+use Rattle.crx_filter.proofs.NoMemory.{rinex-asked}
 use Rattle.crx_lines.specs.Reading.{line_shown}
+use Rattle.std.proofs.lemmas.Result.{err_from_is_err_and}
 use Rattle.crx_filter.proofs.compaction.CompactionDirection.take.Goals as goal
 
 pub invariant_of-self : goal.invariant_of-self
@@ -18,6 +20,13 @@ returns-in_err-take-clause-reads c = grind (arith, common_steps, refused-read)
 
 pub returns-in_err-take-clause-serves : goal.returns-in_err-take-clause-serves
 returns-in_err-take-clause-serves c = grind (arith, common_steps, served-closed)
+
+pub returns-in_err-take-clause-known : goal.returns-in_err-take-clause-known
+returns-in_err-take-clause-known c =
+    let p = err_from_is_err_and c.from_residual.result c.from_residual.ensures.1 in
+    let closed = rw (← c.self.view_is) at c.requires.closed in
+    rw (← c.self.view_is) (λ room. rw (p.1, p.2) (rinex-asked c.self.inside.reader c.bytes.result.now
+    (kept_in c.self.inside) _ closed (c.in_err-take.ensures.refuses (kept_in c.self.inside)) room.types))
 
 pub invariant_of-self-in-Nothing : goal.invariant_of-self-in-Nothing
 invariant_of-self-in-Nothing c =

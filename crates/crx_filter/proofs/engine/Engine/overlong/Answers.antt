@@ -48,7 +48,6 @@ returns-in_default g c =
       by_seen = λ line long. answers-seen d c.args.self.now goes then line Overlong then.answer
           stops.choices (as-read-long line long) step;
       repeated = λ at is. repeats d.by_line _ _ Overlong _ _ at (inl stops.steps) is;
-      unasked = unasked;
       stays = rw (← c.self.view_is)
           (λ choices lines known. after-error _ (c.fail.ensures.stays choices lines known));
     })

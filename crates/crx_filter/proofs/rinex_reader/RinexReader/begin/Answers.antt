@@ -29,7 +29,6 @@ returns-in-Event c =
         steps = refl;
         same = tt;
       };
-      unasked = tt;
     }
 
 pub returns-after-count-eq0 : goal.returns-after-count-eq0
@@ -54,5 +53,4 @@ returns-after-count-eq0 c =
         steps = refl;
         same = tt;
       };
-      unasked = tt;
     }
