@@ -1,6 +1,6 @@
 //! One step of a run: the next line of the input, or its end.
 
-ghost use Rattle.std.specs.Prelude.{◌≡◌, ◌⊎◌, List, [], Contains, IfErr, IfOk, IfSome, OnOk, ◌<◌, ◌≤◌, true, false};
+ghost use Rattle.std.specs.Prelude.{◌≡◌, ◌⊎◌, List, [], Contains, IfOk, IfSome, OnOk, ◌<◌, ◌≤◌, true, false};
 ghost use Rattle.crx_base.specs.meaning.Lines.{InputLine};
 ghost use Rattle.crx_lines.specs.Readers.{reading};
 ghost use Rattle.crx_base.specs.declared.limits.TheConstants.{INPUT_LIMIT};
@@ -51,7 +51,9 @@ pub(crate) fn step<E: Engine, R: Source, W: Sink, M: Sink>(
     match input.next_held() {
         Ok(Some(line)) => Ok(Some(take_line(engine, writer, messages, line)?)),
         Ok(None) => {
-            hand_on(reader, writer)?;
+            if !hand_on(reader, writer) {
+                return Err(Halt::Unwritten);
+            }
             read_step(engine, input, reader, writer, messages)
         }
         Err(at) => Ok(Some(take_overlong(engine, writer, messages, at.line)?)),
@@ -69,25 +71,26 @@ fn await_output<R: Source, W: Sink>(reader: &R, writer: &mut W)
     }
 }
 
-/// Has what was written handed on, where a read may have to wait. Where that fails, a flush fails too, by
-/// which the failure is counted.
+/// Has what was written handed on, where a read may have to wait, and answers whether that went well. Where
+/// it didn't, a flush fails too, by which the failure is counted. For an answer that can hold a fault [`step`]
+/// would clear a place at each line.
 #[inline(never)]
-fn hand_on<R: Source, W: Sink>(reader: &R, writer: &mut W) -> Result<(), Halt>
-    ensures still { OnOk result (TookAll (span W.Sink writer.old writer.new) []) }
-    ensures waited { OnOk result (R.waits reader.now ≡ true → W.is_awaited writer.new ≡ true) }
-    ensures current { OnOk result (W.is_awaited writer.new ≡ true → W.is_current writer.new) }
+fn hand_on<R: Source, W: Sink>(reader: &R, writer: &mut W) -> bool
+    ensures still { result ≡ true → TookAll (span W.Sink writer.old writer.new) [] }
+    ensures waited { result ≡ true → R.waits reader.now ≡ true → W.is_awaited writer.new ≡ true }
+    ensures current { result ≡ true → W.is_awaited writer.new ≡ true → W.is_current writer.new }
     ensures left_alone { R.waits reader.now ≡ false → W.is_awaited writer.old ≡ false
-        → OnOk result (writer.new ≡ writer.old) }
+        → result ≡ true → writer.new ≡ writer.old }
     ensures awaited { R.waits reader.now ≡ false → W.is_awaited writer.new ≡ W.is_awaited writer.old }
-    ensures failed { IfErr result (λ halt. (halt ≡ Halt.Unwritten) × FlushFailed (span W.Sink writer.old writer.new)) }
+    ensures failed { result ≡ false → FlushFailed (span W.Sink writer.old writer.new) }
 {
     await_output(reader, writer);
     if writer.hand_on() {
-        return Ok(());
+        return true;
     }
     match writer.flush() {
         Ok(()) => unreachable!(),
-        Err(_) => Err(Halt::Unwritten),
+        Err(_) => false,
     }
 }
 

@@ -59,35 +59,33 @@ returns-in_err-take_overlong-in-Err-clause-goes g c = λ r0 w0 m0 lines shown ru
     (span-joins g.M.Sink g.met.M.Sink.took_both) running over.2 _
     (c.in_err-take_overlong-in-Err.ensures.taken.cut lines over.0 shown over.1))))
 
-pub returns-in_ok-hand_on-in-Ok-None-clause-goes : goal.returns-in_ok-hand_on-in-Ok-None-clause-goes
-returns-in_ok-hand_on-in-Ok-None-clause-goes g c = λ r0 w0 m0 lines shown running.
+pub returns-else-not-hand_on-clause-goes : goal.returns-else-not-hand_on-clause-goes
+returns-else-not-hand_on-clause-goes g c = λ r0 w0 m0 lines shown running.
     let same = rw (c.in-Ok-None.is, c.in-Ok-None.field-0-is) at c.next_held.follows.holds-at-none in
     let still = still-running (span-joins g.W.Sink g.met.W.Sink.took_both) running
-    c.in_ok-hand_on-in-Ok-None.ensures.still in
+    (c.hand_on.ensures.still c.if-not-hand_on.false) in
     c.read_step.ensures.goes r0 w0 m0 lines shown (subst (λ (now : ReaderState). IsRunning (reader_span g.R.Source r0
     c.args.reader.now) (span g.W.Sink w0 c.hand_on.new.writer) (span g.M.Sink m0 c.args.messages.now) now lines
     ((g.E.Engine.filter c.args.engine.now).so_far lines)) (sym same) still)
 
-pub returns-in_err-hand_on-in-Ok-None-clause-goes : goal.returns-in_err-hand_on-in-Ok-None-clause-goes
-returns-in_err-hand_on-in-Ok-None-clause-goes g c = λ r0 w0 m0 lines shown running.
+pub returns-then-not-hand_on-clause-goes : goal.returns-then-not-hand_on-clause-goes
+returns-then-not-hand_on-clause-goes g c = λ r0 w0 m0 lines shown running.
     let same = rw (c.in-Ok-None.is, c.in-Ok-None.field-0-is) at c.next_held.follows.holds-at-none in
     let now = subst (λ (now : ReaderState). IsRunning (reader_span g.R.Source r0 c.args.reader.now)
     (span g.W.Sink w0 c.args.writer.now) (span g.M.Sink m0 c.args.messages.now) now lines
     ((g.E.Engine.filter c.args.engine.now).so_far lines)) (sym same) running in
-    let failed = c.in_err-hand_on-in-Ok-None.ensures.failed in
-    let made = c.from_residual-in_err-hand_on-in-Ok-None in
-    let p = err_from_is_err_and made.result made.ensures.1 in
     let is = c.in-Ok-None.is ∙ ap Ok c.in-Ok-None.field-0-is in
-    rw (p.1, p.2) (inr (inr (
-      failed.0,
+    inr (inr (
+      refl,
       handing-fails (span-joins g.W.Sink g.met.W.Sink.took_both) now
           (subst (λ (state : ReaderState). state.phase ≡ Open → HasNoFeed state.rest) (sym same)
-          (λ opened. has-no-feed _ (c.next_held.ensures.none is opened))) failed.1,
-    )))
+          (λ opened. has-no-feed _ (c.next_held.ensures.none is opened)))
+          (c.hand_on.ensures.failed c.if-not-hand_on.true),
+    ))
 
-pub returns-in_ok-hand_on-in-Ok-None-clause-told : goal.returns-in_ok-hand_on-in-Ok-None-clause-told
-returns-in_ok-hand_on-in-Ok-None-clause-told g c = ⊎_elim inl (λ told. inr (
+pub returns-else-not-hand_on-clause-told : goal.returns-else-not-hand_on-clause-told
+returns-else-not-hand_on-clause-told g c = ⊎_elim inl (λ told. inr (
   told.0,
-  g.met.W.Sink.took_both _ _ _ [] [] c.in_ok-hand_on-in-Ok-None.ensures.still.0 told.1,
+  g.met.W.Sink.took_both _ _ _ [] [] (c.hand_on.ensures.still c.if-not-hand_on.false).0 told.1,
   told.2,
 )) c.read_step.ensures.told

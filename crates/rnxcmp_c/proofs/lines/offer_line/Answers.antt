@@ -1,4 +1,4 @@
-use Rattle.std.proofs.{Common.arith, lemmas.{Bool.lt-ltb, Grind.common_steps}}
+use Rattle.std.proofs.{lemmas.Bool.lt-ltb}
 use Rattle.rnxcmp_c.proofs.{Cut.{cut-stops, kept-where_done}, PieceLemmas.long-where_long}
 use Rattle.rnxcmp_c.proofs.{PieceLemmas.whole-where_not_long, Words.{◌≡◌, ap, refl, subst, ◌∙◌}}
 use Rattle.rnxcmp_c.proofs.Words.{rules, IfErr-weaker, IfOk-weaker, InputLine, LINE_LIMIT, piece_line}
@@ -32,7 +32,8 @@ returns-clause-step g c = λ lines whole shown kept.
     subst (λ (line : InputLine). LineIsGiven taken.result (g.E.Engine.filter c.args.engine.now)
     (g.E.Engine.shows taken.new.engine) lines line output taken.new.writer messages taken.new.messages)
     (same ∙ ap (λ bs. piece_line bs c.args.is_ended) all) (
-      grind (arith, common_steps, IfOk-weaker, kept-where_done),
+      IfOk-weaker _ _ _ (λ warned done. kept-where_done _ _ output _ _ _ _ warned done)
+          (taken.ensures.taken.done lines _ shown refl),
       IfErr-weaker taken.result _ _
           (λ halt cut. cut-stops _ _ output taken.new.writer messages taken.new.messages _ _ halt cut)
           (taken.ensures.taken.cut lines _ shown refl),
