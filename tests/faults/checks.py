@@ -127,7 +127,8 @@ def interrupted(program, call, stream):
 
 def opened_files(program):
     """After the root folder (docs/DECISIONS.md), once where no standard stream is closed, a run opens the file that is read and then the one that is
-    written, each once and as the options say, and no other; it removes, renames and links none. Where the first can't be opened, the second isn't."""
+    written, each once, by that very name and as the options say, and no other; it removes, renames and links none. Where the first can't be opened,
+    the second isn't."""
     wrong, places = [], [("/", "O_RDONLY")]
     calls = "open,openat,openat2,creat,unlink,unlinkat,rename,renameat,renameat2,link,linkat,symlink,symlinkat,mkdir,mkdirat,truncate,chmod,fchmodat"
     read, made, emptied = "O_RDONLY", "O_WRONLY|O_CREAT|O_EXCL", "O_WRONLY|O_CREAT|O_TRUNC"
@@ -137,12 +138,15 @@ def opened_files(program):
         ([*DATED, "-", "a.rnx"], [("a.rnx", read)]),
         (["check", "a.rnx"], [("a.rnx", read)]),
         (["crx2rnx", "missing.crx"], [("missing.crx", read)]),
+        ([*DATED, " a.rnx"], [(" a.rnx", read), (" a.crx", made)]),
+        (["check", "missing "], [("missing ", read)]),
         (DATED, []),
         (["rnx2crx", "--help"], []),
         (["rnx2crx", "-x", "a.rnx"], []),
     ):
         with tempfile.TemporaryDirectory() as name, tempfile.NamedTemporaryFile("r") as trace:
-            (Path(name) / "a.rnx").write_bytes(FIVE)
+            for given in ("a.rnx", " a.rnx"):
+                (Path(name) / given).write_bytes(FIVE)
             command = ["strace", "-f", "-o", trace.name, "-e", f"trace={calls}", program, *words]
             subprocess.run(command, cwd=name, stdin=subprocess.DEVNULL, capture_output=True, timeout=SECONDS)
             found = [re.search(r'"(.*?)"(?:, ([A-Z_|]+))?', line) for line in trace.read().splitlines() if "exited with" not in line]
