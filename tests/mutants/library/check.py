@@ -2,6 +2,7 @@
 copy over the proved archive of MADE, and runs the checks of single promises, those first that are about the file's language."""
 
 import os
+import resource
 import subprocess
 import sys
 import tempfile
@@ -12,6 +13,8 @@ sys.path[:0] = [str(Path(copy) / "tests/library")]
 import quick  # noqa: E402
 import servers  # noqa: E402
 
+OF_A_PROCESSOR = 15  # seconds in which each program is to end, however busy the machine is: one that doesn't never ends
+SECONDS = 300  # in which each is to end on a busy machine
 NOT_KNOWN = 3  # the status where a check didn't end in time, and no other has seen anything
 # checks that come first, by the ending of the file
 FIRST = {".py": ("calls from Python", "what calls from Python"), ".f90": ("sizes", "calls and handles from Fortran")}
@@ -30,7 +33,8 @@ def ordered(checks):
 
 
 def main():
-    servers.SANITIZERS, quick.SECONDS = [], 20
+    servers.SANITIZERS, quick.SECONDS = [], SECONDS
+    resource.setrlimit(resource.RLIMIT_CPU, (OF_A_PROCESSOR, resource.getrlimit(resource.RLIMIT_CPU)[1]))
     try:
         b = built()
     except subprocess.CalledProcessError as failed:
