@@ -1,5 +1,6 @@
 //! The writer of a file that is made later.
 
+ghost use Rattle.std.specs.Prelude.{◌≡◌, None, Some};
 ghost use Rattle.crx_program.specs.LateWriters.{late_contents};
 
 use std::io;
@@ -13,12 +14,16 @@ pub struct LateWriter<W> {
 
 impl<W> LateWriter<W> {
     /// None yet.
-    pub fn none() -> LateWriter<W> {
+    pub fn none() -> LateWriter<W>
+        ensures late { result.writer ≡ None }
+    {
         LateWriter { writer: None }
     }
 
     /// The writer that came.
-    pub fn of(writer: W) -> LateWriter<W> {
+    pub fn of(writer: W) -> LateWriter<W>
+        ensures come { result.writer ≡ Some writer }
+    {
         LateWriter {
             writer: Some(writer),
         }

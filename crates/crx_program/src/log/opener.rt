@@ -1,8 +1,8 @@
 //! Opening files: each call that opens one is logged.
 
-ghost use Rattle.std.specs.Prelude.{◌≡◌, List, [], None, Some, IfOk, true};
+ghost use Rattle.std.specs.Prelude.{◌≡◌, List, [], None, Some, IfOk, is_some, true};
 ghost use Rattle.std.specs.Borrow.{ftrue};
-ghost use Rattle.std.specs.Io.Buffered.{writer_buffer};
+ghost use Rattle.std.specs.Io.Buffered.{writer_buffer, writer_inner};
 ghost use Rattle.crx_program.specs.meaning.Calls.{Call, options_to_read, with_call};
 
 use super::{FileBuffer, Log, Logged, OUTPUT_BUFFER, Opening, SourceFile, TargetFile};
@@ -107,6 +107,7 @@ impl<'a, H: Files> Opener<'a, H> {
         ensures log { IfOk result (λ device. device.log.bytes ≡ []) }
         ensures failures { IfOk result (λ device. device.inner.failures ≡ 0) }
         ensures empty { IfOk result (λ device. writer_buffer device.inner.inner ≡ []) }
+        ensures file { IfOk result (λ device. is_some (writer_inner device.inner.inner).writer ≡ true) }
     {
         let file = self.open(&how, name)?;
         let mut filled = buffer;
