@@ -14,7 +14,7 @@ print, and as it is installed (tests/commands). Reads, writes and flushes of it 
 (tests/memory); its instructions are counted (tests/instructions). The tool for whole files is tried over all that may be under an output's
 name, at once, ended by signals and with failing calls (tests/files), what it explains of damaged files (tests/explain), and the suite for other
 programs over this one (tests/conformance). The library for C and Python is called beside it (tests/library), the
-programs of other machines run beside it where they are proved and their emulator is there (tests/machines), a release
+programs of other machines are proved and run beside it where their emulator is there (tests/machines), a release
 is made (tests/release), and the documents are compared with the sources (tests/documents). What needs a tool or a
 right that isn't there is listed at the end, and so are the machines that weren't tried. The last line is
 `N passed, M failed`, of all. The exit status is 0 where nothing failed.
