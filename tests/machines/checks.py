@@ -29,8 +29,17 @@ def module_of(kind):
 
 def once_more(check):
     """A check under Wine, made again where it fails: of some 6,000 runs on a busy machine two lost what was written to
-    standard error, and none of 2,900 others, half of them of a program that isn't ours."""
-    return lambda: check() and check()
+    standard error, and none of 2,900 others, half of them of a program that isn't ours. What was wrong the first time is
+    printed, so that a second try is seen."""
+
+    def tried_twice():
+        wrong = check()
+        if wrong and not isinstance(wrong, str):
+            print("made again, under Wine:", *wrong[:6], sep="\n    ")
+            wrong = check()
+        return wrong
+
+    return tried_twice
 
 
 def failing(found):
