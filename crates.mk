@@ -31,8 +31,11 @@ out/proved/$(1).made: $(call files_of,$(1)) $(call below_of,$(1)) | toolchain
 endef
 $(foreach it,$(LIBRARIES),$(eval $(call crate,$(it))))
 
-crates/rnxcmp/out/rnxcmp: $(call files_of,rnxcmp) $(call below_of,rnxcmp) | toolchain
+# The object is a target of its own: `rt ci` leaves the program without it, and a release links it anew.
+crates/rnxcmp/out/rnxcmp.o: $(call files_of,rnxcmp) $(call below_of,rnxcmp) | toolchain
 	$(call proof_of,rnxcmp,main) $(BACKEND) -o out/rnxcmp.o
+
+crates/rnxcmp/out/rnxcmp: crates/rnxcmp/out/rnxcmp.o
 	@$(KIT)/bin/rattle-link --target x86_64-unknown-linux-gnu --toolchain $(KIT)/toolchain -o $@ $@.o $(KIT)/c/libos_c.a $(KIT)/c/liblibc_c.a
 
 crates/rnxcmp_c/out/librnxcmp_c.a: $(call files_of,rnxcmp_c) $(call below_of,rnxcmp_c) | toolchain

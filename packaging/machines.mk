@@ -29,7 +29,7 @@ $(foreach it,x86-64 aarch64,$(eval $(call machine,$(it))))
 
 HANDED := packaging/machine.sh packaging/retarget.py $(wildcard packaging/*.c library/* include/*) VERSION
 
-out/machines/x86-64-v2/made: crates/rnxcmp/out/rnxcmp crates/rnxcmp_c/out/librnxcmp_c.a $(HANDED)
+out/machines/x86-64-v2/made: crates/rnxcmp/out/rnxcmp.o crates/rnxcmp_c/out/librnxcmp_c.a $(HANDED)
 	packaging/machine.sh x86-64-v2 crates/rnxcmp/out/rnxcmp.o crates/rnxcmp_c/out/librnxcmp_c.a $(@D)/built
 	@touch $@
 
