@@ -119,14 +119,17 @@ class Writer:
         program = bytes(self.rng.choices(b"ANOTHER PROGRAM", k=20))
         return [version + words[0] + b"CRINEX VERS   / TYPE" + after[0], program + words[1] + b"CRINEX PROG / DATE  " + after[1]]
 
-    def text(self, all_units):
-        lines = self.first_lines()
+    def parts(self, all_units):
+        """The lines of each unit."""
         for unit in all_units:
             if isinstance(unit, Copied):
-                lines += unit.lines
                 self.before = None if unit.ends_block and not self.breaks("types") else self.before
+                yield unit.lines
             else:
-                lines += self.epoch(unit)
+                yield self.epoch(unit)
+
+    def text(self, all_units):
+        lines = self.first_lines() + [line for part in self.parts(all_units) for line in part]
         return b"".join(self.ended(line, at == len(lines) - 1) for at, line in enumerate(lines))
 
 
@@ -152,9 +155,9 @@ def real_epoch(lines, types):
     return Epoch(head, thousandths(lines[0][41:56]), rows)
 
 
-def real_units(path):
-    """The units of a standard file."""
-    lines, found, at, types = Path(path).read_bytes().split(b"\n")[:-1], [], 0, {}
+def real_units(text):
+    """The units of a standard file's text."""
+    lines, found, at, types = text.split(b"\n")[:-1], [], 0, {}
     declare = lambda line: line[60:79] == b"SYS / # / OBS TYPES" and line[:1] != b" " and not types.update({line[:1]: int(line[3:6])})
     while at < len(lines):
         count = int(lines[at][32:35].strip() or b"0") if found else next(k for k, line in enumerate(lines) if line[60:73] == b"END OF HEADER")
@@ -268,7 +271,7 @@ class Trial:
     def __init__(self, runs, seed, files=()):
         self.runs, self.rng, self.relation = runs, generator(seed), Relation()
         self.counts, self.wrong = Counter(), []
-        self.files = [real_units(path) for path in files]
+        self.files = [real_units(Path(path).read_bytes()) for path in files]
         self.unfound = {reader.__name__: reader() for reader in READERS}
         self.found = {}
 

@@ -18,6 +18,7 @@ def checks(program):
     program = Path(program).resolve()
     yield f"what {FLIPS} flips of a bit cost", lambda: damage.tried(program, {"flips": FLIPS})[1][:20]
     yield f"what {DAMAGES} damages cost", lambda: damage.tried(program, {"damages": DAMAGES})[1][:20]
+    yield f"what {DAMAGES} damages of another writer's text cost", lambda: damage.tried(program, {"others": DAMAGES})[1][:20]
     yield f"sentences over {FILES} files", lambda: sentences.over_files(program, FILES)[1][:20]
     yield "hours make a day", lambda: sentences.hours_of_sample(program)
     yield f"{KILLS} runs and signals", lambda: sentences.over_kills(program, KILLS)[1][:20]

@@ -1,16 +1,17 @@
 #!/usr/bin/env python3
 """What damage to compact text costs, and what of it is noticed, on random files with random damage (`make laws-test`).
 
-    tests/laws/damage.py PROGRAM [--flips N] [--damages N] [--seed S]
+    tests/laws/damage.py PROGRAM [--flips N] [--damages N] [--others N] [--seed S]
 
 Each file is made up here, compacted by the program, and then damaged behind its header: by one flipped bit, or in one place or many by
 bytes changed, lost and made, line ends among them, lines dropped, doubled and replaced, first lines of events and of blocks too, and texts
-cut off. Some records of its events read as first lines of events. Of what the program makes of it with `crx2rnx -s` three sentences of
+cut off. Some records of its events read as first lines of events. `--others` damages the compact text of another writer in the same ways:
+any_writer.py's, which draws each freedom of the format at random. Of what the program makes of it with `crx2rnx -s` three sentences of
 README.md are asked, as they are printed there.
 
 What damage costs: all units before the first damaged stretch, then for each stretch some whole epochs followed by exactly the units that
 are kept; no fault. A stretch has all lines of each event and of each epoch that it touches. A unit is kept if its lines still stand
-together, on lines of their own, and if it follows one that is kept, or is an event or an epoch in full. Of two kinds of damage nothing is
+together, on lines of their own, and if it is an event, an epoch in full, or an epoch as differences of one that is kept. Of two kinds of damage nothing is
 said, and both have to be reached: a line of a stretch reads as an event's first one, or an event that changes types is lost.
 
 Nothing is lost in silence: with status 0 each line after the two first ones was copied or is one of an epoch's that came out, and those hold
@@ -35,6 +36,7 @@ from multiprocessing import Pool
 from pathlib import Path
 
 sys.path[:0] = [str(Path(__file__).resolve().parents[1]), str(Path(__file__).resolve().parent)]
+from any_writer import Writer, real_units  # noqa: E402
 from checking import LIMITS  # noqa: E402
 from runs import Runs  # noqa: E402
 
@@ -43,6 +45,7 @@ DAMAGES_OF_A_FILE = 40
 EVENT_LINE, TYPES_LOST = "a line of a stretch reads as an event's first one", "an event that changes types is lost"
 LINE_END = "LF, or CR before LF or at the end, in an epoch's line"  # alone: no noise
 EXCEPTIONS = {"flips": (EVENT_LINE, TYPES_LOST), "damages": (EVENT_LINE, TYPES_LOST, LINE_END)}  # of a flip no such end comes
+EXCEPTIONS["others"] = EXCEPTIONS["damages"]
 OF_RECORDS = (b" code 1: ", b" code 6: ", b" code 19: ")  # the faults of an event's records
 
 
@@ -141,12 +144,18 @@ class Station:
         return Group(lines, len(lines), True, before, dict(self.types))
 
 
-def make_file(runs: Runs, pick: random.Random) -> File:
+def made_up(pick: random.Random) -> tuple[File, bytes]:
+    """A file, and its RINEX text."""
     station = Station(pick)
     made = File(station.header())
     for _ in range(pick.randint(2, 14)):
         made.groups.append(station.event() if pick.random() < 0.15 else station.epoch())
-    rinex = b"".join(line + b"\n" for line in made.header + [line for g in made.groups for line in g.lines])
+    return made, b"".join(line + b"\n" for line in made.header + [line for g in made.groups for line in g.lines])
+
+
+def own_file(runs: Runs, pick: random.Random) -> File:
+    """A file with the compact text that the program writes of it."""
+    made, rinex = made_up(pick)
     words = ["rnx2crx", "--date", "D"] + (["-e", str(pick.randint(1, 5))] if pick.random() < 0.7 else [])
     status, made.compact, messages = runs.all_of(words, rinex)
     if status or runs.all_of(["crx2rnx"], made.compact) != (0, rinex, b""):
@@ -158,6 +167,23 @@ def make_file(runs: Runs, pick: random.Random) -> File:
         group.start, group.in_full = at, rest[0].startswith(b">")
         at += sum(map(len, rest[: group.compact_lines]))
         group.end, rest = at, rest[group.compact_lines :]
+    return made
+
+
+def others_file(runs: Runs, pick: random.Random) -> File:
+    """A file with the compact text that another writer writes of it."""
+    made, rinex = made_up(pick)
+    writer = Writer(pick)
+    first_lines = writer.first_lines()
+    header, *parts = (b"".join(writer.ended(line, False) for line in part) for part in writer.parts(real_units(rinex)))
+    made.compact = b"".join(writer.ended(line, False) for line in first_lines) + header
+    made.body = len(made.compact)
+    for group, part in zip(made.groups, parts, strict=True):
+        group.start, group.in_full = len(made.compact), part.startswith(b">")
+        made.compact += part
+        group.end = len(made.compact)
+    if runs.all_of(["crx2rnx"], made.compact) != (0, rinex, b""):
+        raise ValueError(f"a text of another writer isn't read as what it means: {made.compact!r}")
     return made
 
 
@@ -272,10 +298,14 @@ def stretches_of(file: File, text: Damaged) -> tuple[list[bytes], list[Stretch]]
 
     before, stretches = list(file.header), []
     kept, types, at, number_of_group = before, file.groups[0].types, text.body, 0
+    goes_on = False  # whether the epoch before is kept, so that the next one may be its differences
     while True:
         while number_of_group < len(file.groups) and stands(file.groups[number_of_group], at):
             group = file.groups[number_of_group]
+            if not (group.is_event or group.in_full or goes_on):
+                break
             kept += group.lines
+            goes_on = goes_on or not group.is_event
             types, at, number_of_group = group.types_after, at + group.end - group.start, number_of_group + 1
         if at == len(text.data):
             return before, stretches
@@ -293,7 +323,7 @@ def stretches_of(file: File, text: Damaged) -> tuple[list[bytes], list[Stretch]]
         if any(map(begins_event, lines[:-1] if lines[-1] == b"" else lines)):
             return EVENT_LINE
         stretches.append(Stretch(types, []))
-        kept, at, number_of_group = stretches[-1].kept, end, following
+        kept, at, number_of_group, goes_on = stretches[-1].kept, end, following, False
 
 
 def after_epoch(lines: list[bytes], at: int, types: dict[bytes, int]) -> int | None:
@@ -410,7 +440,7 @@ def damaged(file: File, pick: random.Random) -> Damaged:
     return text
 
 
-KINDS = {"flips": flipped, "damages": damaged}
+KINDS = {"flips": (own_file, flipped), "damages": (own_file, damaged), "others": (others_file, damaged)}
 
 
 def try_file(job: tuple[str, str, int]) -> tuple[str, Counter, list[str]]:
@@ -419,10 +449,11 @@ def try_file(job: tuple[str, str, int]) -> tuple[str, Counter, list[str]]:
     pick, asked, wrong = random.Random(f"{kind} {seed}"), Counter(), []
     folder = tempfile.mkdtemp(dir="/dev/shm" if os.path.isdir("/dev/shm") else None)
     try:
+        make_file, damage = KINDS[kind]
         runs = Runs(program, folder)
         file = make_file(runs, pick)
         for _ in range(DAMAGES_OF_A_FILE):
-            text = KINDS[kind](file, pick) if file.body < len(file.compact) else Damaged(file)
+            text = damage(file, pick) if file.body < len(file.compact) else Damaged(file)
             more, what = judge(runs, file, text)
             asked.update(more)
             wrong += [f"{kind}, seed {seed}: {what}: {bytes(text.data[file.body :])[:2000]!r}"] if what else []
@@ -449,14 +480,16 @@ def main() -> int:
     words.add_argument("program", type=Path)
     words.add_argument("--flips", type=int, default=100000)
     words.add_argument("--damages", type=int, default=100000)
+    words.add_argument("--others", type=int, default=100000)
     words.add_argument("--seed", type=int, default=1)
     given = words.parse_args()
-    asked, wrong = tried(given.program.resolve(), {"flips": given.flips, "damages": given.damages}, given.seed)
+    wanted = {"flips": given.flips, "damages": given.damages, "others": given.others}
+    asked, wrong = tried(given.program.resolve(), wanted, given.seed)
     for kind, counts in asked.items():
         print(f"{kind}: " + ", ".join(f"{count} {name}" for name, count in sorted(counts.items())))
     for line in wrong[:20]:
         print(line)
-    done = sum(-(-count // DAMAGES_OF_A_FILE) * DAMAGES_OF_A_FILE for count in (given.flips, given.damages))
+    done = sum(-(-count // DAMAGES_OF_A_FILE) * DAMAGES_OF_A_FILE for count in wanted.values())
     print(f"{done - len(wrong)} passed, {len(wrong)} failed")
     return len(wrong) > 0
 
