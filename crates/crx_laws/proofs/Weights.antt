@@ -11,7 +11,7 @@ use Rattle.crx_filter.proofs.Words.{ReadEpoch, epoch_at, RawEpoch, Choices, Item
 use Rattle.crx_filter.proofs.Words.{Reading, WholeReading, reading_from, raws_kept, compact_place}
 use Rattle.crx_filter.proofs.Words.{first_lines, expanded_unit, whole_compact, expanded, expanded_lines}
 use Rattle.crx_filter.proofs.Words.{ItemsAreRead}
-use Rattle.crx_compact.proofs.soundness.Soundness.{EpochFacts, epoch-facts}
+use Rattle.crx_compact.proofs.soundness.Soundness.{epoch-facts}
 use Rattle.crx_compact.specs.meaning.CompactPlaces.{ReadRow}
 use Rattle.crx_filter.proofs.Choosing.{by_bool}
 use Rattle.crx_filter.proofs.reading.CompactPrefixes.{whole-at}
@@ -109,7 +109,7 @@ epoch-weight : (types : List Count) (older : List RawEpoch) (lines : List ReadLi
     → epoch_at types older lines ≡ Done read count → IsWholeEpoch types read.epoch → count ≤ length lines
     → size (printed_epoch read.epoch) + weight (drop count lines) ≤ weight lines
 epoch-weight types older lines read count e whole within =
-    let facts : EpochFacts types older read count = epoch-facts types older lines read count e in
+    let facts = epoch-facts types older lines read count e in
     let rows : length read.epoch.rows ≡ length facts.rows =
     sym (ap (λ (r : ReadEpoch). length r.epoch.rows) facts.is_read)
     ∙ length-map facts.rows (λ (r : ReadRow). r.row) in

@@ -101,12 +101,13 @@ read_begun before line satellites =
     record { line = line; past = past_of_tail before; satellites = satellites }
 
 -- rows are shown by what they leave
-rows-shown : (before : Tail) (satellites : List Satellite) (rows : List ReadRow)
-    → Paired (RowFacts (past_of_tail before)) satellites rows
+rows-shown : (before : Tail) (satellites : List Satellite) (lines : List (List ℕ)) (rows : List ReadRow)
+    → Paired (RowFacts (past_of_tail before)) satellites lines rows
     → map (λ (r : ReadRow). r.row) rows ≡ map shown_row (rows_left before rows)
-rows-shown before [] [] h = refl
-rows-shown before (s ∷ ss) (r ∷ rs) h = cc (row-shows before s r h.0, rows-shown before ss rs h.1)
-rows-shown before satellites rows h = absurd h
+rows-shown before [] [] [] h = refl
+rows-shown before (s ∷ ss) (l ∷ ls) (r ∷ rs) h = cc
+    (row-shows before s l r h.0, rows-shown before ss ls rs h.1)
+rows-shown before satellites lines rows h = absurd h
 
 -- a clock is shown by what it leaves
 clock-shown : (before : Tail) (line : List ℕ) (cell : ReadCell) → clock_line_read (past_of_tail before) line
@@ -120,7 +121,9 @@ read_rows-held : (before : Tail) (line : List ℕ) (satellites : List Satellite)
     (then_place p lines (λ rows rest. Done (epoch_of_rows (read_begun before line satellites) cell rows) 0))))
     ≡ after_lines 2 (rows_placed before (patched before.text line) (arc_of_code cell.code before.clock) [] p)
 read_rows-held before line satellites cell tail lines (Done rows n) h clock e =
-    search (rules, rows-facts, rows-shown, map-map, take_all)
+    let facts = rows-facts (past_of_tail before) satellites lines rows n e in
+    let shown = rows-shown before satellites facts.own rows facts.each in
+    search (rules, map-map, take_all, facts.counted)
 read_rows-held before line satellites cell tail lines (Fails n q) h clock e = grind arith
 read_rows-held before line satellites cell tail lines NeedsMore h clock e = refl
 

@@ -87,21 +87,24 @@ row-opened before s line = search (rules, length-each_place, row-padded, row-by_
 -- ---- the row that a line leaves
 
 -- the arcs that codes leave show their values
-cells-show : (arcs : ℕ → Option ArcTail) (cells : List ReadCell)
-    → AreReadCells (λ place code. value_of_code OBSERVATION_WIDTH code (arcs place)) cells → map shown_value
+cells-show : (arcs : ℕ → Option ArcTail) (texts : List (List ℕ)) (cells : List ReadCell)
+    → AreReadCells (λ place code. value_of_code OBSERVATION_WIDTH code (arcs place)) texts cells
+    → map shown_value
     (each_place (length (map (λ (c : ReadCell). c.code) cells)) (λ j. arc_of_code (slice_index_or
     (map (λ (c : ReadCell). c.code) cells) j Missing) (arcs j))) ≡ map (λ (c : ReadCell). c.value) cells
-cells-show arcs [] h = refl
-cells-show arcs (c ∷ cs) h = search (rules, shown-code, cells-show (λ j. arcs (suc j)) cs h.1)
+cells-show arcs [] [] h = refl
+cells-show arcs (t ∷ ts) (c ∷ cs) h = search (rules, shown-code, cells-show (λ j. arcs (suc j)) ts cs h.1)
+cells-show arcs texts cells h = absurd h
 
 -- what a line leaves of its satellite shows the line's row
-pub row-shows : (before : Tail) (s : Satellite) (read : ReadRow)
-    → RowFacts (past_of_tail before) s read → read.row ≡ shown_row (held_row before read).tail
-row-shows before s read h =
+pub row-shows : (before : Tail) (s : Satellite) (line : List ℕ) (read : ReadRow)
+    → RowFacts (past_of_tail before) s line read → read.row ≡ shown_row (held_row before read).tail
+row-shows before s line read h =
+    let marks = after_cells s.count line in
     let kept = tail_named s.name before in
     let codes = map (λ (c : ReadCell). c.code) h.cells in
     let many = length-map h.cells (λ (c : ReadCell). c.code) in
     let count = length-each_place (length codes)
     (λ k. arc_of_code (slice_index_or codes k Missing) (cell_of_tail k kept)) in
-    let shown = cells-show (λ k. cell_of_tail k kept) h.cells h.are_read in
-    rw (← h.is_read) (cc (columns-held (length h.cells) (patched (flags_of_tail kept) read.raw.marks)))
+    let shown = cells-show (λ k. cell_of_tail k kept) (cells_of s.count line) h.cells h.are_read in
+    rw (← h.is_read) (cc (columns-held (length h.cells) (patched (flags_of_tail kept) marks)))

@@ -10,8 +10,9 @@ use Rattle.crx_compact.proofs.Words.{subst, character_at, HasItsTypes, CLOCK_WID
 use Rattle.crx_compact.proofs.Words.{length-map, raw_row_named, past_of_block, each_place-all, length-columns}
 use Rattle.crx_compact.proofs.{Words.{All-from_recursion, count_of}, Characters.{all-take, list_all-at}}
 use Rattle.crx_compact.proofs.Lists.{all-from}
-use Rattle.crx_compact.proofs.{SoundTexts.all-columns, wayback.Overlays.at-overlaid, EpochLines.names_of}
+use Rattle.crx_compact.proofs.{SoundTexts.all-columns, wayback.Overlays.at-overlaid, EpochLines.{differ, names_of}}
 use Rattle.crx_compact.proofs.soundness.Soundness.{AreReadCells, RowFacts, Paired, block_for, epoch-facts}
+use Rattle.crx_compact.proofs.{Words.{after_cells, cells_of}}
 use Rattle.std.specs.Prelude.{OnSome}
 use Rattle.crx_header.specs.{ObservationTypes.AreCounts, meaning.Satellites.has_number}
 use Rattle.crx_header.proofs.Counts.{allowed_of, system_of}
@@ -68,10 +69,13 @@ value_of-fits width codes v e = grind arith
 
 -- every value of some cells fits
 cells-fit : (value : ℕ → Code → Result (Option ℤ) Fault)
-    → ((j : ℕ) (c : Code) (v : Option ℤ) → value j c ≡ Ok v → IsValue v) → (cells : List ReadCell)
-    → AreReadCells value cells → AllByRecursion IsValue (map (λ (c : ReadCell). c.value) cells)
-cells-fit value h [] k = tt
-cells-fit value h (c ∷ cs) k = grind (arith, cells-fit (λ j. value (suc j)) (λ j. h (suc j)) cs k.1)
+    → ((j : ℕ) (c : Code) (v : Option ℤ) → value j c ≡ Ok v → IsValue v) → (texts : List (List ℕ))
+    (cells : List ReadCell) → AreReadCells value texts cells
+    → AllByRecursion IsValue (map (λ (c : ReadCell). c.value) cells)
+cells-fit value h [] [] k = tt
+cells-fit value h (t ∷ ts) (c ∷ cs) k = grind
+    (arith, cells-fit (λ j. value (suc j)) (λ j. h (suc j)) ts cs k.1)
+cells-fit value h texts cells k = absurd k
 
 -- ---- rows
 
@@ -88,32 +92,39 @@ pub typed-parts : (types : List Count) (name : List ℕ) (count : ℕ)
     → types_of_satellite types name ≡ Some count → IsTyped types name count
 typed-parts types name count h = grind arith
 
-pub row-sound : (types : List Count) (block : List RawEpoch) (satellite : Satellite) (read : ReadRow)
+pub row-sound : (types : List Count) (block : List RawEpoch) (satellite : Satellite) (line : List ℕ)
+    (read : ReadRow)
     → AreCounts types → AllByRecursion HasPrintableMarks block → IsKnown types satellite
-    → RowFacts (past_of_block block) satellite read → IsSoundRow read.row × HasItsTypes types read.row
-row-sound types block satellite read counts printable known h =
+    → RowFacts (past_of_block block) satellite line read
+    → (IsSoundRow read.row × HasItsTypes types read.row) × (list_all is_printable read.raw.marks ≡ true)
+row-sound types block satellite line read counts printable known h =
     let name = satellite.name in
-    let long = length-columns ((past_of_block block).flags name read.raw.marks) 1 (2 * length h.cells) in
+    let new = after_cells satellite.count line in
+    let long = length-columns ((past_of_block block).flags name new) 1 (2 * length h.cells) in
     let many = length-map h.cells (λ (c : ReadCell). c.value) in
     let count = many ∙ h.counted in
     let typed = typed-parts types name satellite.count known.typed in
     let P : Option ℕ → Type 0 = λ o. IfSome o IsAllowedCount in
     let Q : Option ℕ → Type 0 = λ o. OnSome o (is_system (character_at name 1) ≡ true) in
     let system = subst Q typed.found (system_of types (character_at name 1) counts) in
-    let marks : list_all is_printable read.raw.marks ≡ true = grind (arith, h.marks_ok) in
+    let marks : list_all is_printable new ≡ true = grind (arith, h.marks_ok) in
     rw (← h.is_read) (
-      record {
-        named = cc (known.short, typed.number, system);
-        counted = rw count (subst P typed.found (allowed_of types (character_at name 1) counts));
-        ranged = All-from_recursion IsValue (map (λ (c : ReadCell). c.value) h.cells)
-            (cells-fit ((past_of_block block).value name) (λ j c v e. value_of-fits OBSERVATION_WIDTH
-            (c ∷ map (code_in j) (raw_run_of name block)) v e) h.cells h.are_read);
-        paired = cc (long, many);
-        kept = all-columns is_kept ((past_of_block block).flags name read.raw.marks) 1
-            (2 * length h.cells) refl (overlaid-kept (read.raw.marks ∷ marks_of (raw_run_of name block))
-            (marks, raw_run-printable name block printable));
-      },
-      known.typed ∙ ap (λ n. Some n) (sym count),
+      (
+        record {
+          named = cc (known.short, typed.number, system);
+          counted = rw count (subst P typed.found (allowed_of types (character_at name 1) counts));
+          ranged = All-from_recursion IsValue (map (λ (c : ReadCell). c.value) h.cells)
+              (cells-fit ((past_of_block block).value name) (λ j c v e. value_of-fits OBSERVATION_WIDTH
+              (c ∷ map (code_in j) (raw_run_of name block)) v e) (cells_of satellite.count line) h.cells
+              h.are_read);
+          paired = cc (long, many);
+          kept = all-columns is_kept ((past_of_block block).flags name new) 1
+              (2 * length h.cells) refl (overlaid-kept (new ∷ marks_of (raw_run_of name block))
+              (marks, raw_run-printable name block printable));
+        },
+        known.typed ∙ ap (λ n. Some n) (sym count),
+      ),
+      marks,
     )
 
 abbrev AreKnown : List Count → List Satellite → Type 0
@@ -125,26 +136,28 @@ known-all : (types : List Count) (satellites : List Satellite)
 known-all types [] h k = tt
 known-all types (s ∷ ss) h k = (record { typed = h.0; short = k.0 }, known-all types ss h.1 k.1)
 
-rows-sound : (types : List Count) (block : List RawEpoch) (satellites : List Satellite) (rows : List ReadRow)
-    → AreCounts types → AllByRecursion HasPrintableMarks block → AreKnown types satellites
-    → Paired (RowFacts (past_of_block block)) satellites rows
+rows-sound : (types : List Count) (block : List RawEpoch) (satellites : List Satellite)
+    (lines : List (List ℕ))
+    (rows : List ReadRow) → AreCounts types → AllByRecursion HasPrintableMarks block
+    → AreKnown types satellites
+    → Paired (RowFacts (past_of_block block)) satellites lines rows
     → AllByRecursion (λ (r : Row). IsSoundRow r × HasItsTypes types r) (map (λ (r : ReadRow). r.row) rows)
     × AllByRecursion (λ (r : RawRow). list_all is_printable r.marks ≡ true) (map
     (λ (r : ReadRow). r.raw) rows)
-rows-sound types block [] [] counts printable known h = (tt, tt)
-rows-sound types block (s ∷ ss) (r ∷ rs) counts printable known h =
-    let rest = rows-sound types block ss rs counts printable known.1 h.1 in
-    let marks : list_all is_printable r.raw.marks ≡ true = grind (arith, h.0.marks_ok) in
-    ((row-sound types block s r counts printable known.0 h.0, rest.0), (marks, rest.1))
-rows-sound types block satellites rows counts printable known h = absurd h
+rows-sound types block [] [] [] counts printable known h = (tt, tt)
+rows-sound types block (s ∷ ss) (l ∷ ls) (r ∷ rs) counts printable known h =
+    let rest = rows-sound types block ss ls rs counts printable known.1 h.1 in
+    let row = row-sound types block s l r counts printable known.0 h.0 in
+    ((row.0, rest.0), (row.1, rest.1))
+rows-sound types block satellites lines rows counts printable known h = absurd h
 
 -- ---- the epoch
 
 pub reads-whole : ReadsWholeEpochs
 reads-whole types older lines read count counts printable e =
     let facts = epoch-facts types older lines read count e in
-    let block = block_for read.raw.line older in
-    let text : List ℕ = (past_of_block block).text read.raw.line in
+    let block = block_for facts.line older in
+    let text : List ℕ = (past_of_block block).text facts.line in
     let head = columns text 1 41 in
     let rows = map (λ (r : ReadRow). r.row) facts.rows in
     let n = facts.line_ok.count in
@@ -154,14 +167,15 @@ reads-whole types older lines read count counts printable e =
     (λ k. length-columns text (42 + 3 * k) 3) in
     let known =
     known-all types facts.satellites facts.line_ok.named.known (rw facts.line_ok.named.same three) in
-    let all = rows-sound types block facts.satellites facts.rows counts sound_block known facts.rows_ok in
-    let names = (row-names (past_of_block block) facts.satellites facts.rows facts.rows_ok).1 in
+    let all = rows-sound types block facts.satellites facts.own facts.rows counts sound_block known
+    facts.rows_ok in
+    let names = (row-names (past_of_block block) facts.satellites facts.own facts.rows facts.rows_ok).1
+    ∙ facts.line_ok.named.same in
     let places = length-each_place n (λ k. columns text (42 + 3 * k) 3) in
-    let many : length rows ≡ n = cc (length-map rows (λ (r : Row). r.name), facts.line_ok.named.same) in
-    let different = apart-map (λ (n : List ℕ). n) (λ (r : Row). r.name) rows in
+    let many : length rows ≡ n = sym (length-map rows (λ (r : Row). r.name)) ∙ ap length names ∙ places in
     let announced = ap (λ o. unwrap_or o 0) facts.line_ok.counted in
     let clock = value_of-fits CLOCK_WIDTH (facts.clock.code ∷ map (λ (q : RawEpoch). q.clock) block)
-    facts.clock.value facts.clock_ok in
+    facts.clock.value facts.clock_ok.meant in
     subst (IsGood types) facts.is_read (record {
       whole = record {
         sound = record {
@@ -172,7 +186,7 @@ reads-whole types older lines read count counts printable e =
             ranged = clock;
           };
           rows_sound = All-from_recursion IsSoundRow rows (all-from IsSoundRow (λ r both. both.0) rows all.0);
-          apart = cc (different, facts.line_ok.named.same, facts.line_ok.named.apart);
+          apart = sym (apart-map (λ (n : List ℕ). n) _ rows) ∙ ap differ names ∙ facts.line_ok.named.apart;
           within = omega (arith, many, announced);
         };
         full = many ∙ sym announced;

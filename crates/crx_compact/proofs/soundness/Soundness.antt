@@ -5,9 +5,10 @@ use Rattle.crx_compact.proofs.Words.{rules, Fails, BegunEpoch, begins_epoch, pas
 use Rattle.crx_compact.proofs.Words.{epoch_begun, Fault, apart-map, Truncated, Satellite, are_marks}
 use Rattle.crx_compact.proofs.Words.{rows_read, raw_run_of, cells_read, length-map, then_place, first_line}
 use Rattle.crx_compact.proofs.Words.{NotAnEpoch, each_place, ℕ, ℤ, ◌∷◌, map, Ok, not, sym, ◌∙◌, ap, []}
-use Rattle.crx_compact.proofs.Words.{code_of, slice_index_or, AllByRecursion, clock_line_read, common_steps}
+use Rattle.crx_compact.proofs.Words.{code_of, Content, Overlong, BadClock, without_end_blanks, take, epoch_against}
+use Rattle.crx_compact.proofs.Words.{epoch_at, slice_index_or, AllByRecursion, clock_line_read, common_steps}
 use Rattle.crx_compact.proofs.Words.{Missing, arith, ReadRow, columns, ReadLine, BadField, BadFlags, RawEpoch}
-use Rattle.crx_compact.proofs.Words.{block_of, marks_of, epoch_at, ReadCell, cells_of, ReadEpoch, cell_read}
+use Rattle.crx_compact.proofs.Words.{block_of, marks_of, ReadCell, cells_of, ReadEpoch, cell_read}
 use Rattle.crx_compact.proofs.Words.{if◌then◌else◌, satellites_of_line, satellite_line_read, epoch_after_line}
 use Rattle.crx_compact.proofs.Words.{after_cells, raw_row_named, past_of_block, epoch_of_rows}
 use Rattle.crx_compact.proofs.{Words.⊤, Results.{no-err, ok-same, and_then-ok, if-err, if-true, before-ok}}
@@ -23,11 +24,6 @@ thing_here d (Done x n) = x
 thing_here d (Fails n f) = d
 thing_here d NeedsMore = d
 
-abbrev count_here : {X : Type 0} → Place X → ℕ
-count_here (Done x n) = n
-count_here (Fails n f) = 0
-count_here NeedsMore = 0
-
 -- what is after something else
 pub record Comes {X Y : Type 0} (p : Place X) (lines : List ReadLine) (next : X
     → List ReadLine → Place Y) (y : Y) (n : ℕ) : Type 0 where
@@ -42,36 +38,61 @@ pub then-comes : {X Y : Type 0} (p : Place X) (lines : List ReadLine) (next : X 
     (y : Y) (n : ℕ) → then_place p lines next ≡ Done y n → Comes p lines next y n
 then-comes p lines next y n e = grind arith
 
--- what a first line is read as
-pub record Reads {X : Type 0} (lines : List ReadLine) (read : List ℕ → Result X Fault) (x : X)
-    (n : ℕ) : Type 0 where
+-- what is after a first line
+pub record Begins {X Y : Type 0} (lines : List ReadLine) (read : List ℕ → Result X Fault) (next : X
+    → List ReadLine → Place Y) (y : Y) (n : ℕ) : Type 0 where
   pub line : List ℕ
-  pub ok : read line ≡ Ok x
-  pub one : n ≡ 1
+  pub rest : List ReadLine
+  pub from : X
+  pub more : ℕ
+  pub is : lines ≡ Content line ∷ rest
+  pub ok : read line ≡ Ok from
+  pub later : next from rest ≡ Done y more
+  pub counted : n ≡ suc more
 
-pub line-reads : {X : Type 0} (lines : List ReadLine) (read : List ℕ → Result X Fault) (x : X) (n : ℕ)
-    → first_line lines read ≡ Done x n → Reads lines read x n
-line-reads lines read x n e = grind arith
+pub begins : {X Y : Type 0} (lines : List ReadLine) (read : List ℕ → Result X Fault) (next : X → List ReadLine
+    → Place Y) (y : Y) (n : ℕ) → then_place (first_line lines read) lines next ≡ Done y n
+    → Begins lines read next y n
+begins [] read next y n e = absurd (cc e)
+begins (Overlong ∷ rest) read next y n e = absurd (cc e)
+begins (Content line ∷ rest) read next y n e = grind arith
+
+-- the lines that were read
+cut-at : (lines rest : List ReadLine) (line : List ℕ) (n more : ℕ) (own : List (List ℕ))
+    → lines ≡ Content line ∷ rest → n ≡ suc more → take more rest ≡ map Content own
+    → take n lines ≡ map Content (line ∷ own)
+cut-at lines rest line n more own e k h = cc (h)
+
+-- what is made of the last thing
+pub record Ends {X Y : Type 0} (p : Place X) (make : X → Y) (y : Y) (n : ℕ) : Type 0 where
+  pub from : X
+  pub first : p ≡ Done from n
+  pub made : make from ≡ y
+
+pub ends : {X Y : Type 0} (p : Place X) (lines : List ReadLine) (make : X → Y) (y : Y) (n : ℕ)
+    → then_place p lines (λ x rest. Done (make x) 0) ≡ Done y n → Ends p make y n
+ends p lines make y n e = grind arith
 
 -- ---- cells
 
--- a cell that was read: its code is that of a text, and its value is what the code stands for
-pub record IsReadCell (value : Code → Result (Option ℤ) Fault) (cell : ReadCell) : Type 0 where
-  pub text : List ℕ
-  pub coded : code_of text ≡ Some cell.code
-  pub meant : value cell.code ≡ Ok cell.value
+-- a cell that was read from a text: its code is the text's, and its value is what the code stands for
+pub record IsReadCell (value : Code → Result (Option ℤ) Fault) (text : List ℕ) (cell : ReadCell) : Type 0
+  where
+    pub coded : code_of text ≡ Some cell.code
+    pub meant : value cell.code ≡ Ok cell.value
 
 pub read-cell : (bad : Fault) (value : Code → Result (Option ℤ) Fault) (text : List ℕ) (cell : ReadCell)
-    → cell_read bad value (code_of text) ≡ Ok cell → IsReadCell value cell
+    → cell_read bad value (code_of text) ≡ Ok cell → IsReadCell value text cell
 read-cell bad value text cell e = grind arith
 
-abbrev pub AreReadCells : (ℕ → Code → Result (Option ℤ) Fault) → List ReadCell → Type 0
-AreReadCells value [] = ⊤
-AreReadCells value (c ∷ cs) = IsReadCell (value 0) c × AreReadCells (λ j. value (suc j)) cs
+abbrev pub AreReadCells : (ℕ → Code → Result (Option ℤ) Fault) → List (List ℕ) → List ReadCell → Type 0
+AreReadCells value [] [] = ⊤
+AreReadCells value (t ∷ ts) (c ∷ cs) = IsReadCell (value 0) t c × AreReadCells (λ j. value (suc j)) ts cs
+AreReadCells value texts cells = ⊥
 
 read-cells : (value : ℕ → Code → Result (Option ℤ) Fault) (texts : List (List ℕ)) (cells : List ReadCell)
-    → cells_read value texts ≡ Ok cells → AreReadCells value cells
-read-cells value [] cells e = subst (AreReadCells value) (ok-same [] cells e) tt
+    → cells_read value texts ≡ Ok cells → AreReadCells value texts cells
+read-cells value [] cells e = subst (AreReadCells value []) (ok-same [] cells e) tt
 read-cells value (text ∷ texts) cells e =
     let one = and_then-ok _ _ cells e in
     let two = before-ok one.from _ cells one.next in
@@ -81,189 +102,213 @@ read-cells value (text ∷ texts) cells e =
     )
 
 -- the values that the codes of some cells stand for
-cells-meant : (value : ℕ → Code → Result (Option ℤ) Fault) (cells : List ReadCell) → AreReadCells value cells
+cells-meant : (value : ℕ → Code → Result (Option ℤ) Fault) (texts : List (List ℕ)) (cells : List ReadCell)
+    → AreReadCells value texts cells
     → all_ok (each_place (length (map (λ (c : ReadCell). c.code) cells)) (λ j. value j (slice_index_or
     (map (λ (c : ReadCell). c.code) cells) j Missing))) ≡ Ok (map (λ (c : ReadCell). c.value) cells)
-cells-meant value [] h = refl
-cells-meant value (c ∷ cs) h = rw h.0.meant (cc (cells-meant (λ j. value (suc j)) cs h.1))
+cells-meant value [] [] h = refl
+cells-meant value (t ∷ ts) (c ∷ cs) h = rw h.0.meant (cc (cells-meant (λ j. value (suc j)) ts cs h.1))
+cells-meant value texts cells h = absurd h
 
 -- ---- a satellite's line
 
 -- what is known of a satellite's line that was read
-pub record RowFacts (past : Past) (satellite : Satellite) (read : ReadRow) : Type 0 where
+pub record RowFacts (past : Past) (satellite : Satellite) (line : List ℕ) (read : ReadRow) : Type 0 where
   pub cells : List ReadCell
-  pub are_read : AreReadCells (past.value satellite.name) cells
+  pub are_read : AreReadCells (past.value satellite.name) (cells_of satellite.count line) cells
   pub counted : length cells ≡ satellite.count
-  pub marks_ok : are_marks satellite.count read.raw.marks ≡ true
-  pub is_read : row_of_cells past satellite.name read.raw.marks cells ≡ read
+  pub marks_ok : are_marks satellite.count (after_cells satellite.count line) ≡ true
+  pub is_read : row_of_cells past satellite.name (after_cells satellite.count line) cells ≡ read
 
 pub line-facts : (past : Past) (satellite : Satellite) (line : List ℕ) (read : ReadRow)
-    → satellite_line_read past satellite line ≡ Ok read → RowFacts past satellite read
+    → satellite_line_read past satellite line ≡ Ok read → RowFacts past satellite line read
 line-facts past satellite line read e =
     let texts = cells_of satellite.count line in
     let marks = after_cells satellite.count line in
     let step = and_then-ok (cells_read (past.value satellite.name) texts)
     (λ cs. row_with_marks past satellite marks cs) read (if-err (begins_epoch line) Truncated _ read e) in
     let row = row_of_cells past satellite.name marks step.from in
-    rw (← ok-same row read (if-err (not (are_marks satellite.count marks)) BadFlags (Ok row) read step.next))
-    (record {
+    record {
       cells = step.from;
       are_read = read-cells (past.value satellite.name) texts step.from step.first;
       counted = search (rules, cells-count, texts-count);
       marks_ok = if-true (are_marks satellite.count marks) BadFlags (Ok row) read step.next;
-      is_read = refl;
-    })
+      is_read = ok-same row read
+          (if-err (not (are_marks satellite.count marks)) BadFlags (Ok row) read step.next);
+    }
 
 -- the row is what the line stands for after those before it
-row-meant : (block : List RawEpoch) (satellite : Satellite) (read : ReadRow) → RowFacts (past_of_block block)
-    satellite read → row_from (read.raw ∷ raw_run_of satellite.name block) read.raw ≡ Ok read.row
-row-meant block satellite read h =
+row-meant : (block : List RawEpoch) (satellite : Satellite) (line : List ℕ) (read : ReadRow)
+    → RowFacts (past_of_block block) satellite line read
+    → row_from (read.raw ∷ raw_run_of satellite.name block) read.raw ≡ Ok read.row
+row-meant block satellite line read h =
     let P : ReadRow → Type 0 = λ r. row_from (r.raw ∷ raw_run_of satellite.name block) r.raw ≡ Ok r.row in
     subst P h.is_read (rw (
-      cells-meant ((past_of_block block).value satellite.name) h.cells h.are_read,
+      cells-meant ((past_of_block block).value satellite.name) (cells_of satellite.count line) h.cells
+          h.are_read,
       columns-cut (2 * length (map (λ (c : ReadCell). c.code) h.cells))
-          (read.raw.marks ∷ marks_of (raw_run_of satellite.name block)),
+          (after_cells satellite.count line ∷ marks_of (raw_run_of satellite.name block)),
       length-map h.cells (λ (c : ReadCell). c.code),
     ))
 
 -- ---- all satellites
 
--- each of some lines belongs to the satellite at its place
-abbrev pub Paired : (Satellite → ReadRow → Type 0) → List Satellite → List ReadRow → Type 0
-Paired P [] [] = ⊤
-Paired P [] (r ∷ rs) = ⊥
-Paired P (s ∷ ss) [] = ⊥
-Paired P (s ∷ ss) (r ∷ rs) = P s r × Paired P ss rs
+-- each of some lines belongs to the satellite at its place, and so does each row
+abbrev pub Paired : (Satellite → List ℕ → ReadRow → Type 0) → List Satellite → List (List ℕ) → List ReadRow
+    → Type 0
+Paired P [] [] [] = ⊤
+Paired P (s ∷ ss) (l ∷ ls) (r ∷ rs) = P s l r × Paired P ss ls rs
+Paired P ss ls rs = ⊥
 
-pub record RowsFacts (past : Past)
-    (satellites : List Satellite) (rows : List ReadRow) (count : ℕ) : Type 0 where
-  pub each : Paired (RowFacts past) satellites rows
+pub record RowsFacts (past : Past) (satellites : List Satellite) (lines : List ReadLine) (rows : List ReadRow)
+    (count : ℕ) : Type 0 where
+  pub own : List (List ℕ)
+  pub cut : take count lines ≡ map Content own
+  pub each : Paired (RowFacts past) satellites own rows
   pub counted : count ≡ length rows
 
 pub rows-facts : (past : Past) (satellites : List Satellite) (lines : List ReadLine) (rows : List ReadRow)
-    (count : ℕ) → rows_read past satellites lines ≡ Done rows count → RowsFacts past satellites rows count
-rows-facts past [] lines rows count e = grind arith
+    (count : ℕ) → rows_read past satellites lines ≡ Done rows count
+    → RowsFacts past satellites lines rows count
+rows-facts past [] lines rows count e = record
+    { own = []; cut = grind arith; each = grind arith; counted = grind arith }
 rows-facts past (s ∷ ss) lines rows count e =
-    let one = then-comes (first_line lines (satellite_line_read past s)) lines (λ row others. then_place
-    (rows_read past ss others) others (λ more rest. Done (row ∷ more) 0)) rows count e in
-    let others = drop one.count lines in
-    let two = then-comes (rows_read past ss others) others (λ more rest. Done (one.from ∷ more) 0) rows
-    one.more one.later in
-    let rest = rows-facts past ss others two.from two.count two.first in
-    grind (arith, count_here, line-facts)
+    let one = begins lines (satellite_line_read past s)
+    (λ row others. then_place (rows_read past ss others) others
+    (λ more rest. Done (row ∷ more) 0)) rows count e in
+    let two = ends (rows_read past ss one.rest) one.rest (λ more. one.from ∷ more) rows one.more one.later in
+    let rest = rows-facts past ss one.rest two.from one.more two.first in
+    rw (← two.made) (record {
+      own = one.line ∷ rest.own;
+      cut = cut-at lines one.rest one.line count one.more rest.own one.is one.counted rest.cut;
+      each = (line-facts past s one.line one.from one.ok, rest.each);
+      counted = cc (one.counted, rest.counted);
+    })
 
 -- ---- identifiers
 
 -- the raw rows, and the rows, have the satellites' identifiers
-pub row-names : (past : Past)
-    (satellites : List Satellite) (rows : List ReadRow) → Paired (RowFacts past) satellites rows
+pub row-names : (past : Past) (satellites : List Satellite) (lines : List (List ℕ)) (rows : List ReadRow)
+    → Paired (RowFacts past) satellites lines rows
     → (map (λ (r : RawRow). r.name) (map (λ (r : ReadRow). r.raw) rows) ≡ names_of satellites)
     × (map (λ (r : Row). r.name) (map (λ (r : ReadRow). r.row) rows) ≡ names_of satellites)
-row-names past [] [] h = (refl, refl)
-row-names past (s ∷ ss) (r ∷ rs) h = grind (arith, common_steps, row-names past ss rs h.1)
-row-names past satellites rows h = absurd h
+row-names past [] [] [] h = (refl, refl)
+row-names past (s ∷ ss) (l ∷ ls) (r ∷ rs) h = grind (arith, common_steps, row-names past ss ls rs h.1)
+row-names past satellites lines rows h = absurd h
 
 -- ---- the epoch
+
+-- what is known of an epoch that was read: its lines, and what each was read as against what the epoch line
+-- gives
+pub record EpochFacts (types : List Count) (given : List ℕ → Option Past) (past_of : List ℕ → Past)
+    (lines : List ReadLine) (read : ReadEpoch) (count : ℕ) : Type 0 where
+  pub line : List ℕ
+  pub clock_line : List ℕ
+  pub own : List (List ℕ)
+  pub cut : take count lines ≡ map Content (line ∷ clock_line ∷ own)
+  pub given_is : given line ≡ Some (past_of line)
+  pub satellites : List Satellite
+  pub line_ok : LineFacts types (past_of line) line satellites
+  pub clock : ReadCell
+  pub clock_ok : IsReadCell (past_of line).clock (without_end_blanks clock_line) clock
+  pub rows : List ReadRow
+  pub rows_ok : Paired (RowFacts (past_of line)) satellites own rows
+  pub counted : count ≡ 2 + length rows
+  pub is_read : epoch_of_rows (record { line = line; past = past_of line; satellites = satellites }) clock
+      rows ≡ read
+
+record Begun (types : List Count) (line : List ℕ) (given : Option Past) (begun : BegunEpoch) : Type 0 where
+  satellites_ok : satellites_of_line types begun.past line ≡ Ok begun.satellites
+  line_is : begun.line ≡ line
+  given_is : given ≡ Some begun.past
+
+begun-facts : (types : List Count) (line : List ℕ) (given : Option Past) (begun : BegunEpoch)
+    → epoch_begun types line given ≡ Ok begun → Begun types line given begun
+begun-facts types line None begun e = absurd (no-err NotAnEpoch begun e)
+begun-facts types line (Some past) begun e =
+    let step = and_then-ok (satellites_of_line types past line)
+    (λ ss. Ok (record { line = line; past = past; satellites = ss })) begun e in
+    search rules
+
+-- where an epoch line is given anything, it is given this
+pub facts-against : (types : List Count) (given : List ℕ → Option Past) (past_of : List ℕ → Past)
+    (lines : List ReadLine) (read : ReadEpoch) (count : ℕ)
+    → ((line : List ℕ) (past : Past) → given line ≡ Some past → past ≡ past_of line)
+    → epoch_against types given lines ≡ Done read count → EpochFacts types given past_of lines read count
+facts-against types given past_of lines read count same e =
+    let one = begins lines (λ line. epoch_begun types line (given line)) epoch_after_line read count e in
+    let begun = begun-facts types one.line (given one.line) one.from one.ok in
+    let past = same one.line one.from.past begun.given_is in
+    let two = begins one.rest (clock_line_read one.from.past) (λ clock others. then_place
+    (rows_read one.from.past one.from.satellites others) others
+    (λ rows rest. Done (epoch_of_rows one.from clock rows) 0))
+    read one.more one.later in
+    let three = ends (rows_read one.from.past one.from.satellites two.rest) two.rest
+    (λ rows. epoch_of_rows one.from two.from rows) read two.more two.later in
+    let rows = rows-facts one.from.past one.from.satellites two.rest three.from two.more three.first in
+    record {
+      line = one.line;
+      clock_line = two.line;
+      own = rows.own;
+      cut = cut-at lines one.rest one.line count one.more (two.line ∷ rows.own) one.is one.counted
+          (cut-at one.rest two.rest two.line one.more two.more rows.own two.is two.counted rows.cut);
+      given_is = begun.given_is ∙ ap {B = Option Past} Some past;
+      satellites = one.from.satellites;
+      line_ok = line-facts_of types (past_of one.line) one.line one.from.satellites
+          (subst (λ p. satellites_of_line types p one.line ≡ Ok one.from.satellites) past
+          begun.satellites_ok);
+      clock = two.from;
+      clock_ok = subst (λ (p : Past). IsReadCell p.clock (without_end_blanks two.line) two.from) past
+          (read-cell BadClock one.from.past.clock (without_end_blanks two.line) two.from
+          (if-err (begins_epoch two.line) Truncated _ two.from two.ok));
+      rows = three.from;
+      rows_ok = subst (λ p. Paired (RowFacts p) one.from.satellites rows.own three.from) past rows.each;
+      counted = omega (arith, one.counted, two.counted, rows.counted);
+      is_read = cc (past, begun.line_is, three.made);
+    }
 
 -- what the lines of a raw epoch are read against after older ones
 abbrev pub block_for : List ℕ → List RawEpoch → List RawEpoch
 block_for line older = if begins_epoch line then [] else block_of older
 
--- what is known of an epoch that was read
-pub record EpochFacts (types : List Count) (older : List RawEpoch) (read : ReadEpoch)
-    (count : ℕ) : Type 0 where
-  pub satellites : List Satellite
-  pub clock : ReadCell
-  pub rows : List ReadRow
-  pub line_ok : LineFacts types (past_of_block (block_for read.raw.line older)) read.raw.line satellites
-  pub clock_ok : (past_of_block (block_for read.raw.line older)).clock clock.code ≡ Ok clock.value
-  pub rows_ok : Paired (RowFacts (past_of_block (block_for read.raw.line older))) satellites rows
-  pub counted : count ≡ 2 + length rows
-  pub is_read : epoch_of_rows (record {
-    line = read.raw.line;
-    past = past_of_block (block_for read.raw.line older);
-    satellites = satellites;
-  }) clock rows ≡ read
-
-record Begun (types : List Count) (older : List RawEpoch) (begun : BegunEpoch) : Type 0 where
-  satellites_ok : satellites_of_line types (past_of_block (block_for begun.line older)) begun.line
-      ≡ Ok begun.satellites
-  past_is : past_of_block (block_for begun.line older) ≡ begun.past
-
-begun-facts : (types : List Count) (older : List RawEpoch) (line : List ℕ) (begun : BegunEpoch)
-    → epoch_begun types line (past_of_line older line) ≡ Ok begun → Begun types older begun
-begun-facts types older line begun e = by_past (past_of_line older line) refl e
-  where
-    by_past : (o : Option Past)
-        → past_of_line older line ≡ o → epoch_begun types line o ≡ Ok begun → Begun types older begun
-    by_past None h e = absurd (no-err NotAnEpoch begun e)
-    by_past (Some past) h e =
-        let step = and_then-ok (satellites_of_line types past line)
-        (λ ss. Ok (record { line = line; past = past; satellites = ss })) begun e in
-        let found : past_of_block (block_for line older) ≡ past = grind arith in
-        search rules
-
--- what an epoch's clock line and satellite lines make
-epoch-made : (types : List Count) (older : List RawEpoch)
-    (begun : BegunEpoch) (lines : List ReadLine) (read : ReadEpoch) (count : ℕ) → Begun types older begun
-    → epoch_after_line begun lines ≡ Done read count → EpochFacts types older read (suc count)
-epoch-made types older begun lines read count h e =
-    let one = then-comes _ _ _ read count e in
-    let line = line-reads lines (clock_line_read begun.past) one.from one.count one.first in
-    let others = drop one.count lines in
-    let two = then-comes _ _ _ read one.more one.later in
-    let block = block_for begun.line older in
-    let past = h.past_is in
-    let rows = rows-facts begun.past begun.satellites others two.from two.count two.first in
-    let made = ap (thing_here (epoch_of_rows begun one.from two.from)) two.later in
-    let none = ap count_here two.later in
-    subst (λ r. EpochFacts types older r (suc count)) made (record {
-      satellites = begun.satellites;
-      clock = one.from;
-      rows = two.from;
-      line_ok = line-facts_of types (past_of_block block) begun.line begun.satellites h.satellites_ok;
-      clock_ok = search rules;
-      rows_ok = subst (λ p. Paired (RowFacts p) begun.satellites two.from) (sym past) rows.each;
-      counted = omega (arith, one.counted, line.one, two.counted, rows.counted, none);
-      is_read = cc;
-    })
+given-block : (older : List RawEpoch) (line : List ℕ) (past : Past)
+    → past_of_line older line ≡ Some past → past ≡ past_of_block (block_for line older)
+given-block older line past e = grind arith
 
 pub epoch-facts : (types : List Count) (older : List RawEpoch) (lines : List ReadLine) (read : ReadEpoch)
-    (count : ℕ) → epoch_at types older lines ≡ Done read count → EpochFacts types older read count
-epoch-facts types older lines read count e =
-    let one = then-comes _ _ _ read count e in
-    let line = line-reads lines _ one.from one.count one.first in
-    let facts = epoch-made types older one.from (drop one.count lines) read one.more
-    (begun-facts types older line.line one.from line.ok) one.later in
-    search rules
+    (count : ℕ) → epoch_at types older lines ≡ Done read count
+    → EpochFacts types (past_of_line older) (λ line. past_of_block (block_for line older)) lines read count
+epoch-facts types older lines read count e = facts-against types (past_of_line older)
+    (λ line. past_of_block (block_for line older)) lines read count (given-block older) e
 
 -- ---- the law
 
-rows-meant : (block : List RawEpoch) (raw : RawEpoch) (satellites : List Satellite) (rows : List ReadRow)
-    → Paired (RowFacts (past_of_block block)) satellites rows → AllByRecursion
+rows-meant : (block : List RawEpoch) (raw : RawEpoch) (satellites : List Satellite) (lines : List (List ℕ))
+    (rows : List ReadRow) → Paired (RowFacts (past_of_block block)) satellites lines rows → AllByRecursion
     (λ (r : RawRow). raw_row_named r.name raw.rows ≡ Some r) (map (λ (r : ReadRow). r.raw) rows)
     → rows_from (raw ∷ block) (map (λ (r : ReadRow). r.raw) rows) ≡ Ok (map (λ (r : ReadRow). r.row) rows)
-rows-meant block raw [] [] h own = refl
-rows-meant block raw (s ∷ ss) (r ∷ rs) h own = grind (arith, row-meant, rows-meant block raw ss rs h.1 own.1)
-rows-meant block raw satellites rows h own = absurd h
+rows-meant block raw [] [] [] h own = refl
+rows-meant block raw (s ∷ ss) (l ∷ ls) (r ∷ rs) h own =
+    grind (arith, row-meant block s l r h.0, rows-meant block raw ss ls rs h.1 own.1)
+rows-meant block raw satellites lines rows h own = absurd h
 
 pub reads-soundly : ReadsSoundly
 reads-soundly types older lines read count e =
     let h = epoch-facts types older lines read count e in
-    let block = block_for read.raw.line older in
+    let block = block_for h.line older in
     let raws = map (λ (r : ReadRow). r.raw) h.rows in
-    let names = (row-names (past_of_block block) h.satellites h.rows h.rows_ok).0 ∙ h.line_ok.named.same in
+    let names = (row-names (past_of_block block) h.satellites h.own h.rows h.rows_ok).0
+    ∙ h.line_ok.named.same in
     let apart = sym (apart-map (λ (n : List ℕ). n) _ raws) ∙ ap differ names ∙ h.line_ok.named.apart in
     let own = each-own (λ (r : RawRow). r.name) raws apart in
-    let raw : RawEpoch = record { line = read.raw.line; clock = h.clock.code; rows = raws } in
-    let same : raw ≡ read.raw = ap (λ (r : ReadEpoch). r.raw) h.is_read in
+    let raw : RawEpoch = record { line = h.line; clock = h.clock.code; rows = raws } in
     let meant : epoch_of_block (raw ∷ block) raw ≡ Ok (record {
       head = columns (text_of (raw ∷ block)) 1 41;
       clock = h.clock.value;
       rows = map (λ (r : ReadRow). r.row) h.rows;
-    }) = rw (h.clock_ok, rows-meant block raw h.satellites h.rows h.rows_ok own) in
-    record {
-      single = rw (← h.is_read) own;
+    }) = rw (h.clock_ok.meant, rows-meant block raw h.satellites h.own h.rows h.rows_ok own) in
+    rw (← h.is_read) (record {
+      single = own;
       meant = search rules;
       counted = search (rules, length-map);
-    }
+    })

@@ -167,16 +167,16 @@ rows-left : (block : List RawEpoch) (rows : List RawRow)
 rows-left block [] = refl
 rows-left block (row ∷ rows) = grind (arith, common_steps, rows-left block rows, length-each_place)
 
-row-read : (past : Past) (satellite : Satellite) (read : ReadRow) → RowFacts past satellite read
-    → satellite_of_raw read.raw ≡ satellite_of_row read.row
-row-read past satellite read facts = grind (arith, common_steps, length-map, facts.cells)
+row-read : (past : Past) (satellite : Satellite) (line : List ℕ) (read : ReadRow)
+    → RowFacts past satellite line read → satellite_of_raw read.raw ≡ satellite_of_row read.row
+row-read past satellite line read facts = grind (arith, common_steps, length-map, facts.cells)
 
-rows-read : (past : Past) (satellites : List Satellite) (rows : List ReadRow)
-    → Paired (RowFacts past) satellites rows → map satellite_of_raw (map (λ (r : ReadRow). r.raw) rows)
+rows-read : (past : Past) (satellites : List Satellite) (lines : List (List ℕ)) (rows : List ReadRow)
+    → Paired (RowFacts past) satellites lines rows → map satellite_of_raw (map (λ (r : ReadRow). r.raw) rows)
     ≡ map satellite_of_row (map (λ (r : ReadRow). r.row) rows)
-rows-read past [] [] h = refl
-rows-read past (s ∷ ss) (r ∷ rs) h = cc (row-read past s r h.0, rows-read past ss rs h.1)
-rows-read past satellites rows h = absurd h
+rows-read past [] [] [] h = refl
+rows-read past (s ∷ ss) (l ∷ ls) (r ∷ rs) h = cc (row-read past s l r h.0, rows-read past ss ls rs h.1)
+rows-read past satellites lines rows h = absurd h
 
 -- an epoch that is read has the satellites that its lines leave
 same-satellites : (types : List Count) (older : List RawEpoch) (lines : List ReadLine) (read : ReadEpoch)
@@ -187,7 +187,7 @@ same-satellites types older lines read count tail here left =
     let block : List RawEpoch = block_of (read.raw ∷ older) in
     ap (λ (t : Tail). map satellite_of_tail t.rows) (same_Some tail (tail_of_block block) left)
     ∙ rows-left block read.raw.rows ∙ subst (λ (r : ReadEpoch). map satellite_of_raw r.raw.rows ≡ of_read r)
-    facts.is_read (rows-read _ facts.satellites facts.rows facts.rows_ok)
+    facts.is_read (rows-read _ facts.satellites facts.own facts.rows facts.rows_ok)
 
 module _ (choices : Choices) where
   abbrev kept_of : List (Item ReadEpoch) → Collected (Option Tail) (List Satellite)

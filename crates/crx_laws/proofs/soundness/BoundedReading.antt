@@ -41,6 +41,7 @@ use Rattle.crx_compact.specs.ReadingLaws.{ReadAreBounded}
 use Rattle.crx_text.proofs.EachPlace.{each_place-all, length-each_place}
 use Rattle.crx_compact.proofs.Characters.{same_characters, list_all-at}
 use Rattle.crx_compact.proofs.SoundTexts.{length-held}
+use Rattle.crx_compact.proofs.Words.{after_cells, cells_of}
 use Rattle.crx_compact.proofs.soundness.Goodness.{typed-parts}
 use Rattle.crx_compact.proofs.soundness.Soundness.{AreReadCells, IsReadCell, RowFacts, line-facts, read-cell}
 use Rattle.crx_compact.proofs.Results.{if-err}
@@ -62,14 +63,16 @@ code-ordered [] = tt
 code-ordered (c ∷ []) = step-ordered (coded_number (c ∷ []))
 code-ordered (c ∷ d ∷ cs) = grind arith
 
-cell-ordered : (value : Code → Result (Option ℤ) Fault) (cell : ReadCell) → IsReadCell value cell
-    → HasOrder cell.code
-cell-ordered value cell h = subst (λ o. IfSome o HasOrder) h.coded (code-ordered h.text)
+cell-ordered : (value : Code → Result (Option ℤ) Fault) (text : List ℕ) (cell : ReadCell)
+    → IsReadCell value text cell → HasOrder cell.code
+cell-ordered value text cell h = subst (λ o. IfSome o HasOrder) h.coded (code-ordered text)
 
-cells-ordered : (value : ℕ → Code → Result (Option ℤ) Fault) (cells : List ReadCell)
-    → AreReadCells value cells → AllByRecursion HasOrder (map (λ (c : ReadCell). c.code) cells)
-cells-ordered value [] h = tt
-cells-ordered value (c ∷ cs) h = (cell-ordered (value 0) c h.0, cells-ordered (λ j. value (suc j)) cs h.1)
+cells-ordered : (value : ℕ → Code → Result (Option ℤ) Fault) (texts : List (List ℕ)) (cells : List ReadCell)
+    → AreReadCells value texts cells → AllByRecursion HasOrder (map (λ (c : ReadCell). c.code) cells)
+cells-ordered value [] [] h = tt
+cells-ordered value (t ∷ ts) (c ∷ cs) h =
+    (cell-ordered (value 0) t c h.0, cells-ordered (λ j. value (suc j)) ts cs h.1)
+cells-ordered value texts cells h = absurd h
 
 -- ---- arcs
 
@@ -121,11 +124,12 @@ code-kept (c ∷ cs) (suc place) h = code-kept cs place h.1
 -- ---- rows
 
 -- what a line leaves of a satellite
-row-read : (row : RowTail) (read : ReadRow) → IsBoundedRowTail ORDER_LIMIT row
-    → RowFacts (past_of_row row.cells row.flags) (satellite_of row) read
+row-read : (row : RowTail) (line : List ℕ) (read : ReadRow) → IsBoundedRowTail ORDER_LIMIT row
+    → RowFacts (past_of_row row.cells row.flags) (satellite_of row) line read
     → IsBoundedRowTail ORDER_LIMIT (held_from row.cells row.flags read).tail
-row-read row read h facts =
-    let marks = read.raw.marks in
+row-read row line read h facts =
+    let marks = after_cells (length row.cells) line in
+    let texts = cells_of (length row.cells) line in
     let codes = map (λ (c : ReadCell). c.code) facts.cells in
     let many : length codes ≡ length row.cells =
     length-map facts.cells (λ (c : ReadCell). c.code) ∙ facts.counted in
@@ -138,8 +142,8 @@ row-read row read h facts =
       few = omega (arith, length-each_place (length codes) cell, many, most);
       cells = each_place-all (λ (c : Option ArcTail). IfSome c (IsBoundedArc ORDER_LIMIT)) (length codes) cell
           (λ place. arc-read (slice_index_or codes place Missing) (slice_index_or row.cells place None)
-          (code-kept codes place (cells-ordered ((past_of_row row.cells row.flags).value row.name) facts.cells
-          facts.are_read)) (cell-bounded row.cells place h.cells));
+          (code-kept codes place (cells-ordered ((past_of_row row.cells row.flags).value row.name) texts
+          facts.cells facts.are_read)) (cell-bounded row.cells place h.cells));
     })
 
 all-there : {X : Type 0} (P : X → Type 0) (xs : List X) (place : ℕ) (x : X)
@@ -175,7 +179,8 @@ clock-came begun line (Ok cell) e h =
     let value = (past_of_clock arc).clock in
     let text = without_end_blanks line in
     let read = if-err (begins_epoch line) Truncated (cell_read BadClock value (code_of text)) cell e in
-    let after = arc-read cell.code arc (cell-ordered value cell (read-cell BadClock value text cell read))
+    let after = arc-read cell.code arc
+    (cell-ordered value text cell (read-cell BadClock value text cell read))
     h.clock in
     went-on (record (tail_so_far begun) { clock = arc_of_code cell.code arc }) begun.count (awaited_row begun)
     (record { text = h.text; clock = after; few = h.few; rows = h.rows }) h.come
@@ -192,7 +197,7 @@ row-came begun row line (Ok read) e h there =
     let few : length begun.rows ≤ SATELLITES_LIMIT = h.few in
     let inside : begun.count < length begun.rows = slice_get_within begun.rows begun.count row there in
     let kept = all-there (IsBoundedRowTail ORDER_LIMIT) begun.rows begun.count row h.rows there in
-    let made = row-read row read kept (line-facts (past_of_row row.cells row.flags)
+    let made = row-read row line read kept (line-facts (past_of_row row.cells row.flags)
     (satellite_of row) line read e) in
     went-on (record (tail_so_far begun) { rows = rows }) (suc begun.count) (slice_get rows (suc begun.count))
     (record {
