@@ -8,6 +8,7 @@ use Rattle.crx_compact.proofs.Characters.{all-take, list_all-append, at-take_pas
 use Rattle.crx_compact.proofs.{Words.{cases_lt, rules, AreHeldFlags}, PlaceByPlace.{at-padded, at-take}}
 use Rattle.crx_compact.proofs.Characters.{same_characters}
 use Rattle.std.proofs.{lemmas.Bool.Decides.Decides-eqb, lemmas.List.length-take}
+use Rattle.crx_compact.proofs.Words.{by_position}
 
 -- ---- blanks at the end
 
@@ -84,3 +85,16 @@ patched-trimmed flags marks = search (rules, same_characters, at-by_position, at
 pub before-trimmed : (old new : List ℕ)
     → text_difference (without_end_blanks old) new ≡ text_difference old new
 before-trimmed old new = search (rules, same_characters, at-by_position, at-without_end_blanks)
+
+-- ---- lengths
+
+by_position-length : (f : ℕ → ℕ → ℕ) (xs ys : List ℕ)
+    → length (by_position f xs ys) ≡ length xs + (length ys - length xs)
+by_position-length f [] [] = omega arith
+by_position-length f (x ∷ xs) [] = omega (arith, by_position-length f xs [])
+by_position-length f [] (y ∷ ys) = omega (arith, by_position-length f [] ys)
+by_position-length f (x ∷ xs) (y ∷ ys) = omega (arith, by_position-length f xs ys)
+
+pub difference-length : (n : ℕ) (old new : List ℕ)
+    → length old ≤ n → length new ≤ n → length (text_difference old new) ≤ n
+difference-length n old new h k = search (rules, few_kept, by_position-length)

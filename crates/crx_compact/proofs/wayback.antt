@@ -1,7 +1,6 @@
 -- What is written of epochs reads back as these epochs.
 pub mod Reading
 pub mod Rows
-pub mod Cells
 pub mod Runs
 pub mod Facts
 pub mod Standing

@@ -4,17 +4,22 @@ use Rattle.crx_compact.proofs.Words.{list_all, AllByRecursion, length-map, optio
 use Rattle.crx_compact.proofs.Words.{Count, IsWholeEpoch, epoch_text, at-without_end_blanks, without_end_blanks, patched, is_printable}
 use Rattle.crx_compact.proofs.Words.{ReadLine, Content, Done, Place, RawRow, RawEpoch, ReadRow, rows_read, epoch_at, epoch_after, clock_line_read}
 use Rattle.crx_compact.proofs.Words.{Satellite, satellites_of_line, begins_epoch, past_of_tail, Tail, no_tail, tail_left, tail_for_line}
-use Rattle.crx_compact.proofs.Words.{raw_row_tail_after, raw_tail_after, tail_named, CLOCK_WIDTH}
+use Rattle.crx_compact.proofs.Words.{raw_row_tail_after, raw_tail_after, tail_named, CLOCK_WIDTH, Epoch}
 use Rattle.crx_compact.proofs.{SoundTexts.{patched-trimmed}}
 use Rattle.crx_compact.proofs.reading.RawTailing.{place-by_tail, left-by_tail}
 use Rattle.crx_compact.proofs.soundness.Soundness.{reads-soundly}
 use Rattle.crx_compact.proofs.wayback.Facts.{IsTypedRow, typed-rows, text-kept, satellites_of_rows}
 use Rattle.crx_compact.proofs.wayback.Reading.{text-other, text-columns, text-good}
-use Rattle.crx_compact.proofs.Words.{append-nil}
+use Rattle.crx_compact.proofs.Words.{append-nil, rules}
 use Rattle.crx_compact.specs.OpenEpochs.{HeldEpoch, held_after, placed_as}
 use Rattle.crx_compact.specs.meaning.AnyWriter.{WrittenRow, WrittenEpoch, code_now, row_now, epoch_now, goes_on_from, nothing_written, AreRowLines, AreLinesAfter}
 use Rattle.crx_compact.specs.AnyWriter.{value_now, row_left, epoch_left, EpochReads, IsLeft, ReadsAnyEpoch}
-use Rattle.crx_compact.proofs.anywriter.{Arcs.{Goes, goes}, Rows.{any-row, marks-printable}, Texts.spelled-characters}
+use Rattle.crx_compact.proofs.anywriter.{Arcs.{Goes, goes}, Rows.{any-row, marks-printable, at-same, CanFollow, row-follows}, Texts.{spelled-characters, code-printable}}
+use Rattle.crx_compact.proofs.Words.{is_event_line, is_event_flag, is_observation_flag, character_at}
+use Rattle.crx_compact.proofs.Words.{character_of, by_position, at, common_steps}
+use Rattle.crx_compact.proofs.Words.{and_parts, same_Some, list_all-from_at}
+use Rattle.crx_compact.proofs.{Characters.{if_some, at-by_position, list_all-at}}
+use Rattle.crx_compact.proofs.{wayback.Facts.{text-head, head-counted}}
 
 -- ---- the satellites' lines
 
@@ -49,7 +54,31 @@ rows-read types base (r ∷ rs) (line ∷ lines) h k =
       leaves = cc (first.leaves, others.leaves);
     }
 
+rows-follow : (types : List Count) (base : WrittenEpoch) (rows : List WrittenRow) (lines : List (List ℕ))
+    → AllByRecursion (IsTypedRow types) (map row_now rows) → AreRowLines base rows lines
+    → AllByRecursion CanFollow lines
+rows-follow types base [] [] h k = tt
+rows-follow types base (r ∷ rs) (line ∷ lines) h k =
+    (row-follows base r line h.0.0 k.0, rows-follow types base rs lines h.1 k.1)
+rows-follow types base rows lines h k = absurd k
+
 -- ---- the epoch line
+
+-- the flag of an epoch's text is one of observations, and so is its mark in a line from the empty text
+flag-mark : (mark c : ℕ) → character_of 32 mark ≡ c → is_observation_flag c ≡ true
+    → is_event_flag mark ≡ false
+flag-mark mark c e h = grind (arith, h)
+
+full-no_event : (types : List Count) (e : Epoch) (line : List ℕ) → IsWholeEpoch types e
+    → patched [] line ≡ without_end_blanks (epoch_text e) → is_event_flag (character_at line 32) ≡ false
+full-no_event types e line h made =
+    let marked : character_of 32 (at line 31) ≡ at e.head 31 =
+    sym (at-by_position character_of refl [] line 31)
+    ∙ at-same (by_position character_of [] line) (epoch_text e) made 31
+    ∙ text-head types e h 31 (omega arith) in
+    let flag : is_observation_flag (at e.head 31) ≡ true =
+    grind (arith, common_steps, and_parts, if_some, head-counted types e h) in
+    flag-mark (at line 31) (at e.head 31) marked flag
 
 pub base-found : (before : Option WrittenEpoch) (line : List ℕ)
     → tail_for_line (option_map epoch_left before) line ≡ option_map epoch_left (goes_on_from before line)
@@ -68,9 +97,8 @@ module _ (types : List Count) (base now : WrittenEpoch) (line clock : List ℕ) 
       ≡ without_end_blanks (epoch_text (epoch_now now))
   text-made = patched-trimmed (epoch_text (epoch_now base)) line ∙ h.marked
 
-  printable : list_all is_printable line ≡ true
-  printable = marks-printable (epoch_text (epoch_now base)) line (epoch_text (epoch_now now)) h.marked
-      (text-kept types (epoch_now now) whole)
+  pub printable : list_all is_printable line ≡ true
+  printable = search (rules, marks-printable, text-kept)
 
   satellites : satellites_of_line types (past_of_tail (epoch_left base)) line ≡ Ok (satellites_written now.rows)
   satellites = rw (printable, text-made) (text-good types (epoch_now now) whole ∙ ap Ok (satellites-same now.rows))
@@ -79,12 +107,38 @@ module _ (types : List Count) (base now : WrittenEpoch) (line clock : List ℕ) 
   clock-other = ap (λ c. begins_epoch (c ∷ [])) (sym (at-without_end_blanks clock 0))
       ∙ text-other (without_end_blanks clock) (spelled-characters (without_end_blanks clock) (code_now now.clock) h.spelled)
 
+  clock-printable : list_all is_printable clock ≡ true
+  clock-printable = list_all-from_at is_printable clock
+      (λ p. ap is_printable (sym (at-without_end_blanks clock p))
+      ∙ list_all-at is_printable refl (without_end_blanks clock) (code-printable (without_end_blanks clock)
+      (spelled-characters (without_end_blanks clock) (code_now now.clock) h.spelled)) p)
+
   clock-goes : Goes CLOCK_WIDTH base.clock now.clock
   clock-goes = goes CLOCK_WIDTH base.clock now.clock h.follows whole.sound.head_sound.ranged
 
   clock-good : clock_line_read (past_of_tail (epoch_left base)) clock
       ≡ Ok (record { code = code_now now.clock; value = value_now now.clock })
   clock-good = rw (clock-other, h.spelled, clock-goes.value) refl
+
+  -- none of its other lines begins with >, and the line is no event's
+  pub others-follow : AllByRecursion CanFollow (clock ∷ lines)
+  others-follow = (
+    (clock-printable, clock-other),
+    rows-follow types base now.rows lines (typed-rows types (epoch_now now) whole) h.satellites,
+  )
+
+  pub no-event : (before : Option WrittenEpoch) → goes_on_from before line ≡ Some base
+      → is_event_line line ≡ false
+  no-event before found = pick (begins_epoch line) refl found
+    where
+      pick : (b : Bool) → begins_epoch line ≡ b → (if b then Some nothing_written else before) ≡ Some base
+          → is_event_line line ≡ false
+      pick false e f = rw e refl
+      pick true e f =
+          let start : base ≡ nothing_written = same_Some base nothing_written (sym f) in
+          let made : patched [] line ≡ without_end_blanks (epoch_text (epoch_now now)) =
+          ap (λ b. patched (epoch_text (epoch_now b)) line) (sym start) ∙ h.marked in
+          rw (e, full-no_event types (epoch_now now) line whole made) refl
 
   rows-good : RowsRead base now.rows lines
   rows-good = rows-read types base now.rows lines (typed-rows types (epoch_now now) whole) h.satellites
@@ -139,8 +193,7 @@ by_parts : (types : List Count) (before : Option WrittenEpoch) (raws : List RawE
     → IsWholeEpoch types (epoch_now now) → goes_on_from before line ≡ Some base → AreLinesAfter base now line clock lines
     → EpochReads types raws now (line ∷ clock ∷ lines)
 by_parts types before raws base now line clock lines left whole found h =
-    let e : tail_for_line (tail_left raws) line ≡ Some (epoch_left base) =
-    tail-for before (tail_left raws) line base left found in
+    let e : tail_for_line (tail_left raws) line ≡ Some (epoch_left base) = grind (arith, tail-for) in
     let here : (rest : List ReadLine) → epoch_at types raws (map Content (line ∷ clock ∷ lines) ++ rest)
     ≡ Done (record { raw = raw types base now line clock lines whole h; epoch = epoch_now now }) (2 + length now.rows) =
     λ rest. place-by_tail types raws (map Content (line ∷ clock ∷ lines) ++ rest)
@@ -158,5 +211,4 @@ by_parts types before raws base now line clock lines left whole found h =
 pub any-epoch : ReadsAnyEpoch
 any-epoch types before raws now [] left whole h = absurd h
 any-epoch types before raws now (line ∷ []) left whole h = absurd h
-any-epoch types before raws now (line ∷ clock ∷ lines) left whole h =
-    by_parts types before raws h.0 now line clock lines left whole h.1 h.2
+any-epoch types before raws now (line ∷ clock ∷ lines) left whole h = grind (arith, by_parts)

@@ -1,8 +1,8 @@
 -- The lines that are read as an epoch are ones that some writer may write for it.
 use Rattle.crx_compact.proofs.Words.{◌≡◌, refl, ℕ, zero, suc, List, [], ◌∷◌, ◌++◌, Bool, true, false, Option, Some, None, Result, Ok, map, length, arith, ap, sym, ◌∙◌, ◌*◌, ◌+◌, ◌-◌, ◌<◌, ◌≤◌, ◌⊎◌, inl, inr, drop, subst}
 use Rattle.crx_compact.proofs.Words.{AllByRecursion, option_map, flat_map, if◌then◌else◌, cases_lt, length-append, same_Some, each_place, named, bytes_eq}
-use Rattle.crx_compact.proofs.Words.{ReadLine, Content, Overlong, Done, first_line}
-use Rattle.crx_compact.proofs.Words.{Fault, Count, Row, Epoch, ReadRow, ReadEpoch, Satellite, IsWholeEpoch, types_of_satellite}
+use Rattle.crx_compact.proofs.Words.{ReadLine, Content, Overlong, Done, first_line, rules}
+use Rattle.crx_compact.proofs.Words.{Fault, Count, Row, ReadRow, Satellite, IsWholeEpoch, types_of_satellite}
 use Rattle.crx_compact.proofs.Words.{past_of_tail, tail_for_line, tail_left, begins_epoch, epoch_text, columns, at, at-append, at-append_past, at-drop, without_end_blanks, patched, CLOCK_WIDTH, length-columns}
 use Rattle.crx_compact.proofs.PlaceByPlace.{at-take, at-padded}
 use Rattle.crx_compact.proofs.Words.{each_place-same}
@@ -10,7 +10,7 @@ use Rattle.crx_compact.proofs.{Characters.{bytes_eq-is}, SoundTexts.patched-trim
 use Rattle.crx_compact.proofs.soundness.Soundness.{Paired, RowFacts, facts-against}
 use Rattle.crx_compact.proofs.reading.RawTailing.{place-by_tail}
 use Rattle.crx_compact.proofs.wayback.Facts.{IsTypedRow, typed-rows}
-use Rattle.crx_compact.specs.meaning.AnyWriter.{WrittenRow, WrittenEpoch, row_now, epoch_now, goes_on_from, nothing_written, flags_in, IsRowLine, AreRowLines}
+use Rattle.crx_compact.specs.meaning.AnyWriter.{WrittenRow, WrittenEpoch, row_now, epoch_now, goes_on_from, nothing_written, flags_in, AreRowLines}
 use Rattle.crx_compact.specs.AnyWriter.{epoch_left}
 use Rattle.crx_compact.proofs.{EpochTexts.blank-after, Words.{columns-are, unwrap_or, Tail, Past}}
 use Rattle.crx_compact.specs.AnyWriter.{row_before}
@@ -59,11 +59,7 @@ rows-back base (s ∷ ss) (l ∷ ls) (r ∷ rs) few h =
       rows = row.now ∷ others.rows;
       shown = cc (row.row, others.shown);
       names = cc (row.name, others.names);
-      written = (
-        subst (λ name. IsRowLine (named (λ (r : WrittenRow). r.name) name base.rows) row.now l) (sym row.name)
-            row.written,
-        others.written,
-      );
+      written = grind (arith, named);
     }
 rows-back base satellites lines reads few h = absurd h
 
@@ -89,8 +85,7 @@ few-here : (types : List Count) (rows : List WrittenRow) (s : Satellite) (found 
 few-here types rows s None h e k = omega arith
 few-here types rows s (Some r) h e k =
     let typed = row-typed types rows s.name r h e in
-    let same : length (row_now r).values ≡ s.count = same_Some (length (row_now r).values) s.count
-    (sym typed.0.1 ∙ ap (types_of_satellite types) typed.1 ∙ k) in
+    let same : length (row_now r).values ≡ s.count = search rules in
     omega (arith, same, typed.0.0.paired)
 
 few-all : (types : List Count) (base : WrittenEpoch) (satellites : List Satellite)
@@ -203,11 +198,7 @@ only-epoch types before raws lines read count left whole e =
     ∙ sym (names-flat rows.rows) in
     record {
       now = record { head = columns text 1 41; clock = arc.now; rows = rows.rows };
-      epoch = ap {B = Epoch}
-          (λ c. record { head = columns text 1 41; clock = c; rows = map row_now rows.rows }) arc.valued
-          ∙ ap {B = Epoch} (λ rs. record { head = columns text 1 41; clock = h.clock.value; rows = rs })
-          rows.shown
-          ∙ ap (λ (r : ReadEpoch). r.epoch) h.is_read;
+      epoch = search rules;
       own = h.line ∷ h.clock_line ∷ h.own;
       cut = h.cut;
       written = (

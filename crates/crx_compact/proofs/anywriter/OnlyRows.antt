@@ -2,7 +2,7 @@
 use Rattle.crx_compact.proofs.Words.{◌≡◌, refl, ℕ, ℤ, zero, suc, List, [], ◌∷◌, ◌++◌, Bool, true, false, Option, Some, None, Result, Ok, Err, map, length, min, arith, ap, sym, ◌∙◌, ◌*◌, ◌+◌, ◌<◌, ◌≤◌, ◌⊎◌, inl, inr, drop}
 use Rattle.crx_compact.proofs.Words.{list_all, slice_index_or, if◌then◌else◌, ReadCell, cells_of, after_cells, first_cell, after_cell, is_blank}
 use Rattle.crx_compact.proofs.Words.{OutOfRange, Code, Missing, Start, Step, Fault, code_of, difference, value_of_code, in_range, is_within, values_of, value_at}
-use Rattle.crx_compact.proofs.Words.{without_end_blanks, before_end_blanks, length-map}
+use Rattle.crx_compact.proofs.Words.{without_end_blanks, before_end_blanks, length-map, rules}
 use Rattle.crx_compact.proofs.arcs.Inversion.{numbers_of}
 use Rattle.crx_compact.proofs.arcs.Stepping.{values-by_tail, numbers-values}
 use Rattle.crx_compact.proofs.soundness.Soundness.{AreReadCells, RowFacts, line-facts}
@@ -10,8 +10,8 @@ use Rattle.crx_compact.proofs.{Results.ok-same, EpochTexts.blank-after, PlaceByP
 use Rattle.crx_compact.proofs.Words.{ArcTail, length-columns, Satellite}
 use Rattle.crx_compact.specs.ArcSteps.{arc_after_number, value_of_tail}
 use Rattle.crx_compact.specs.meaning.Differences.{newest}
-use Rattle.crx_compact.proofs.Words.{Row, ReadRow, past_of_tail, tail_named, cell_of_tail, flags_of_tail, OBSERVATION_WIDTH, columns, is_printable}
-use Rattle.crx_compact.proofs.Words.{at, at-without_end_blanks, patched, character_of, by_position, and_parts, cases_lt, ◌-◌}
+use Rattle.crx_compact.proofs.Words.{ReadRow, past_of_tail, tail_named, cell_of_tail, flags_of_tail, OBSERVATION_WIDTH, columns, is_printable}
+use Rattle.crx_compact.proofs.Words.{at, at-without_end_blanks, patched, character_of, and_parts, cases_lt, ◌-◌}
 use Rattle.crx_compact.proofs.Characters.{same_characters, at-by_position}
 use Rattle.crx_compact.proofs.{PlaceByPlace.at-take, wayback.Overlays.at_past, SoundTexts.{patched-trimmed}}
 use Rattle.crx_compact.specs.meaning.AnyWriter.{Arc, WrittenEpoch, code_now, MayFollow, arc_in, flags_in}
@@ -142,14 +142,11 @@ columns-all n text h = same_characters (columns text 1 n) text (λ p. by_place p
 -- marks with nothing but blanks past some columns, over a text that ends there, make a text that ends there
 pub patched-blank : (k : ℕ) (old m : List ℕ) → length old ≤ k → list_all is_blank (drop k m) ≡ true → (p : ℕ)
     → at (patched old m) (k + p) ≡ 32
-patched-blank k old m h b p = at-without_end_blanks (by_position character_of old m) (k + p)
-    ∙ at-by_position character_of refl old m (k + p)
-    ∙ both-blank (at old (k + p)) (at m (k + p)) (at_past old (k + p) (omega (arith, h)))
-    (blank-after k m b p)
+patched-blank k old m h b p =
+    grind (arith, at-without_end_blanks, at-by_position, both-blank, at_past, blank-after)
 
 pub trimmed-patched : (old marks : List ℕ) → without_end_blanks (patched old marks) ≡ patched old marks
-trimmed-patched old marks = same_characters (patched old marks) (by_position character_of old marks)
-    (λ p. at-without_end_blanks (by_position character_of old marks) p)
+trimmed-patched old marks = grind (arith, same_characters, at-without_end_blanks)
 
 pub row-back : (before : WrittenEpoch) (satellite : Satellite) (line : List ℕ) (read : ReadRow)
     → length (flags_in (row_before before satellite)) ≤ 2 * satellite.count
@@ -163,8 +160,7 @@ row-back before satellite line read few h =
     let back = cells-back OBSERVATION_WIDTH (arc_in found) (λ j. cell_of_tail j tail) (cells_of n line)
     h.cells
     (λ j. ap (cell_of_tail j) (tail-found satellite.name before) ∙ cell-found found j) h.are_read in
-    let many : length back.arcs ≡ n = sym (length-map back.arcs value_now) ∙ ap length back.values
-    ∙ length-map h.cells (λ (c : ReadCell). c.value) ∙ h.counted in
+    let many : length back.arcs ≡ n = grind (arith, length-map) in
     let marks = and_parts (list_all is_printable m) (list_all is_blank (drop (2 * n) m)) h.marks_ok in
     let old : patched (flags_of_tail tail) m ≡ patched (flags_in found) m =
     ap (λ t. patched t m) (ap flags_of_tail (tail-found satellite.name before) ∙ flags-found found) ∙ patched-trimmed (flags_in found) m in
@@ -172,26 +168,18 @@ row-back before satellite line read few h =
     record {
       now = record { name = satellite.name; arcs = back.arcs; flags = flags };
       name = refl;
-      row = ap {B = Row} (λ vs. record { name = satellite.name; values = vs; flags = flags }) back.values
-          ∙ ap (λ (q : ReadRow). q.row) h.is_read;
+      row = search rules;
       count = many;
       written = record {
         texts = cells_of n line;
         marks = m;
         spelled = back.spelled;
         written = line-back n line;
-        marked = sym (ap (λ k. without_end_blanks (columns (patched (flags_of_tail tail) m) 1 (2 * k)))
-            h.counted
-            ∙ ap (λ t. without_end_blanks (columns t 1 (2 * n))) old
-            ∙ columns-all (2 * n) (patched (flags_in found) m)
-            (patched-blank (2 * n) (flags_in found) m few marks.1)
-            ∙ trimmed-patched (flags_in found) m);
+        marked = grind (arith, columns-all, found, patched-blank, trimmed-patched);
         no_more = ap (λ k. list_all is_blank (drop (2 * k) m)) many ∙ marks.1;
         follows = back.follows;
       };
     }
 
 pub only-row : ReadsSomebodysRow
-only-row before satellite line read few e =
-    row-back before satellite line read few
-    (line-facts (past_of_tail (epoch_left before)) satellite line read e)
+only-row before satellite line read few e = grind (arith, row-back, line-facts)

@@ -1,17 +1,20 @@
 -- Our own writer's epochs are ones that any writer may write.
-use Rattle.crx_compact.proofs.Words.{◌≡◌, refl, ℕ, ℤ, zero, suc, List, [], ◌∷◌, ◌++◌, Bool, true, false, Option, Some, None, map, length, arith, ap, sym, ◌∙◌, ◌*◌, ◌+◌, ◌≤◌, drop, subst, inr}
+use Rattle.crx_compact.proofs.Words.{◌≡◌, refl, ℕ, ℤ, zero, suc, List, [], ◌∷◌, ◌++◌, Bool, true, false, Option, Some, None, map, length, arith, ap, sym, ◌∙◌, ◌*◌, ◌≤◌, drop, subst, inr}
 use Rattle.crx_compact.proofs.Words.{list_all, AllByRecursion, option_map, rules, flat_map, if◌then◌else◌, slice_index_or, get_or_past}
 use Rattle.crx_compact.proofs.Words.{Count, Row, Epoch, Marked, AreWhole, IsWholeEpoch, epoch_text, newest_text, since_full, run_of, arc_of, clock_arc, row_named, back_to, stretch, named, value_in, codes_of, indicators_before, satellite_line, epoch_line, compact_epoch}
-use Rattle.crx_compact.proofs.Words.{at, at-without_end_blanks, at-drop, list_all-from_at, without_end_blanks, patched, mark_of, text_difference, is_blank, begins_epoch}
+use Rattle.crx_compact.proofs.Words.{at-without_end_blanks, without_end_blanks, patched, text_difference}
+use Rattle.crx_compact.proofs.Words.{is_blank, begins_epoch}
 use Rattle.crx_compact.proofs.Words.{Code, code_at, code_of, code_text, cell_text, code_of-code_text, IsPrintable, WRITTEN_ORDER, each_place, map-each_place, index-each_place, each_place-same, length-each_place}
 use Rattle.crx_compact.proofs.Characters.{same_characters, at-by_position}
 use Rattle.crx_compact.proofs.Identifiers.{each-own}
-use Rattle.crx_compact.proofs.wayback.Cells.{code-characters}
-use Rattle.crx_compact.proofs.wayback.Overlays.{character-mark, at_past}
+use Rattle.crx_compact.proofs.anywriter.Texts.{code-characters}
+use Rattle.crx_compact.proofs.wayback.Overlays.{character-mark}
 use Rattle.crx_compact.proofs.wayback.Runs.{IsUnmarked, marked, rows_before, named-made, begins_full, begins_later}
 use Rattle.crx_compact.proofs.wayback.Rows.{IsRowOf, run-begins, rows-of_run, run-printable, clock-printable, values-again}
 use Rattle.crx_compact.proofs.wayback.Reading.{no-end_blanks}
-use Rattle.crx_compact.proofs.wayback.Facts.{unmarked, text-kept, text-begins, at-difference}
+use Rattle.crx_compact.proofs.SoundTexts.{difference-length}
+use Rattle.std.proofs.Common.{drop_of_length-le}
+use Rattle.crx_compact.proofs.wayback.Facts.{unmarked, text-kept, text-begins}
 use Rattle.crx_compact.specs.AnyWriter.{value_now}
 use Rattle.crx_compact.specs.meaning.AnyWriter.{Arc, WrittenRow, WrittenEpoch, code_now, arc_before, MayFollow, row_now, epoch_now, nothing_written, arc_in, flags_in, IsRowLine, AreRowLines, AreLinesAfter, AreEpochLines}
 
@@ -52,13 +55,7 @@ epoch_written m older =
     }
 
 row-same : (r : Row) (rs : List Row) → row_now (row_written (r ∷ rs) r) ≡ r
-row-same r rs =
-    let values : map value_now (each_place (length r.values) (λ j. arc_written (arc_of j (r ∷ rs)))) ≡ r.values =
-    map-each_place value_now (length r.values) (λ j. arc_written (arc_of j (r ∷ rs)))
-    ∙ each_place-same (length r.values) (λ j. value_now (arc_written (arc_of j (r ∷ rs)))) (λ j. value_in j r)
-    (λ j. value-written (value_in j r) (map (value_in j) rs))
-    ∙ values-again r.values in
-    ap {B = Row} (λ vs. record { name = r.name; values = vs; flags = r.flags }) values
+row-same r rs = search (rules, map-each_place, each_place-same, value-written, values-again)
 
 module _ (full : Bool) (e : Epoch) (older : List Marked) where
   rows-same : (rows : List Row) → AllByRecursion (λ (r : Row). row_named r.name e.rows ≡ Some r) rows
@@ -141,14 +138,9 @@ before-short : (types : List Count) (name : List ℕ) (r : Row) (rs : List Row) 
 before-short types name r [] h = omega arith
 before-short types name r (q ∷ qs) h = grind arith
 
-blank-mark : (a b : ℕ) → a ≡ 32 → b ≡ 32 → is_blank (mark_of a b) ≡ true
-blank-mark a b e f = grind (arith, e, f)
-
 no-more : (n : ℕ) (old new : List ℕ) → length old ≤ n → length new ≤ n
     → list_all is_blank (drop n (text_difference old new)) ≡ true
-no-more n old new h k = list_all-from_at is_blank (drop n (text_difference old new)) (λ p.
-    ap is_blank (at-drop n (text_difference old new) p ∙ at-difference old new (n + p))
-    ∙ blank-mark (at old (n + p)) (at new (n + p)) (at_past old (n + p) (omega (arith, h))) (at_past new (n + p) (omega (arith, k))))
+no-more n old new h k = search (rules, drop_of_length-le, difference-length)
 
 follows-at : (before : Option Arc) (n : ℕ) (a : ℕ → Option Arc) (j : ℕ) → MayFollow before (a j)
     → MayFollow before (slice_index_or (each_place n a) j None)
@@ -167,14 +159,10 @@ row-line types found r rs h arcs flags =
     record {
       texts = map code_text (codes_of n (r ∷ rs));
       marks = marks;
-      spelled = spelled-each n (codes_at (r ∷ rs)) (λ j. arc_written (arc_of j (r ∷ rs)))
-          (run-printable types r.name (r ∷ rs) h) (λ j. code-written (arc_of j (r ∷ rs)));
-      written = trimmed-again (flat_map cell_text (codes_of n (r ∷ rs)) ++ marks)
-          ∙ ap (λ t. without_end_blanks (t ++ marks)) (sym (texts-same (codes_of n (r ∷ rs))));
-      marked = ap (λ t. patched t marks) flags ∙ patched-again (indicators_before (r ∷ rs)) r.flags
-          (unmarked r.flags h.0.is_row.0.kept);
-      no_more = ap (λ k. list_all is_blank (drop (2 * k) marks)) many ∙ no-more (2 * n) (indicators_before (r ∷ rs)) r.flags
-          (before-short types r.name r rs h) (omega (arith, h.0.is_row.0.paired));
+      spelled = search (rules, spelled-each, run-printable, code-written);
+      written = grind (arith, trimmed-again, texts-same);
+      marked = grind (arith, patched-again, unmarked);
+      no_more = grind (arith, many, no-more, before-short);
       follows = λ j. follows-at (arc_in found j) n (λ i. arc_written (arc_of i (r ∷ rs))) j
           (subst (λ b. MayFollow b (arc_written (arc_of j (r ∷ rs)))) (sym (arcs j))
           (follow (value_in j r) (map (value_in j) rs)));
@@ -225,10 +213,8 @@ lines-after types full e older h =
       marked = ap (λ t. patched t (epoch_line (marked full e) older)) (old-same types full e older h)
           ∙ patched-again (if full then [] else newest_text older) (epoch_text e) (unmarked (epoch_text e) (text-kept types e h.0))
           ∙ ap (λ q. without_end_blanks (epoch_text q)) (sym (epoch-same types full e older h.0));
-      spelled = ap code_of (no-end_blanks (code_text code) (code-characters code printable))
-          ∙ code_of-code_text code printable ∙ ap {B = Option Code} Some (sym (code-written (clock_arc (marked full e ∷ older))));
-      follows = subst (λ b. MayFollow b (arc_written (clock_arc (marked full e ∷ older)))) (sym (clock-left full older))
-          (follow e.clock clocks);
+      spelled = grind (arith, no-end_blanks, code-characters, printable, code_of-code_text, code-written);
+      follows = grind (arith, clock-left, follow);
       satellites = rows-here types full e older h e.rows (each-own (λ (r : Row). r.name) e.rows h.0.sound.apart);
     }
 

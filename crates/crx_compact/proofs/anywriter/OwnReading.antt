@@ -3,7 +3,7 @@ use Rattle.crx_compact.proofs.Words.{◌≡◌, refl, ℤ, List, [], ◌∷◌, 
 use Rattle.crx_compact.proofs.Words.{append_assoc, length-append, length-map, map-append, drop-append_seam, same_Some, subst, IsWholeEpoch}
 use Rattle.crx_compact.proofs.Words.{Count, Row, Epoch, Marked, AreWhole, since_full, run_of, arc_of, satellite_line, epoch_line, compact_epoch}
 use Rattle.crx_compact.proofs.Words.{map-each_place, each_place-same, WRITTEN_ORDER, epoch_text, without_end_blanks}
-use Rattle.crx_compact.proofs.Words.{Content, Done, Place, ReadEpoch, Tail, tail_left}
+use Rattle.crx_compact.proofs.Words.{Content, Done, Place, ReadEpoch, Tail, tail_left, common_steps}
 use Rattle.crx_compact.proofs.wayback.Runs.{marked}
 use Rattle.crx_compact.proofs.reading.LineByLine.{steps-agree}
 use Rattle.crx_compact.proofs.anywriter.{OnlyEpochs.done-things, Epochs.{any-epoch, held-reads, tail-for}, Own.{arc_written, row_written, epoch_written, epoch-same, full-lines, later-lines}}
@@ -43,12 +43,14 @@ own-left types full e older h = cc (
 -- ---- what an epoch's lines go on from
 
 -- its lines, by the epoch that they may go on from
-record OwnLines (types : List Count) (full : Bool) (e : Epoch) (older : List Marked) (tail : Option Tail) : Type 0 where
-  before : Option WrittenEpoch
-  left : IsLeft before tail
-  lines : AreEpochLines before (epoch_written (marked full e) older) (compact_epoch (marked full e ∷ older))
+pub record OwnLines (types : List Count) (full : Bool) (e : Epoch) (older : List Marked)
+    (tail : Option Tail) : Type 0 where
+  pub before : Option WrittenEpoch
+  pub left : IsLeft before tail
+  pub lines : AreEpochLines before (epoch_written (marked full e) older)
+      (compact_epoch (marked full e ∷ older))
 
-own-lines : (types : List Count) (full : Bool) (e : Epoch) (older : List Marked) (tail : Option Tail)
+pub own-lines : (types : List Count) (full : Bool) (e : Epoch) (older : List Marked) (tail : Option Tail)
     → AreWhole types (since_full (marked full e ∷ older)) → (full ≡ false → tail ≡ tail_or_nothing older)
     → OwnLines types full e older tail
 own-lines types true e older tail h k =
@@ -76,8 +78,7 @@ each-reads_back types m older raws h k =
     own.lines in
     record {
       raw = r.raw;
-      reads = λ rest. r.reads rest ∙ ap {B = Place ReadEpoch} (λ q. Done (record { raw = r.raw; epoch = q }) (2 + length now.rows)) same
-          ∙ ap {B = Place ReadEpoch} (λ n. Done (record { raw = r.raw; epoch = m.epoch }) (2 + n)) (counted (m ∷ older) m.epoch.rows);
+      reads = grind (arith, common_steps, same, counted);
       tail = r.leaves ∙ ap {B = Option Tail} Some (own-left types m.in_full m.epoch older h);
     }
 

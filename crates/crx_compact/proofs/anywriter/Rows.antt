@@ -11,7 +11,7 @@ use Rattle.crx_compact.proofs.wayback.Runs.{named-made}
 use Rattle.crx_compact.specs.meaning.AnyWriter.{Arc, WrittenRow, WrittenEpoch, code_now, row_now, arc_in, flags_in, IsRowLine}
 use Rattle.crx_compact.specs.AnyWriter.{value_now, arc_left, row_left, epoch_left, ReadsAnyRow}
 use Rattle.crx_compact.proofs.anywriter.Arcs.{Goes, goes}
-use Rattle.crx_compact.proofs.anywriter.Texts.{AreTexts, spelled-characters, cells-again, marks-again, line-other}
+use Rattle.crx_compact.proofs.anywriter.Texts.{AreTexts, spelled-characters, cells-again, marks-again, line-other, with_blanks, texts-printable}
 
 abbrev codes_wanted : List (Option Arc) → List (Option Code)
 codes_wanted arcs = map (λ (arc : Option Arc). Some (code_now arc)) arcs
@@ -50,8 +50,7 @@ rest-same : (t : List ℕ) (ts : List (List ℕ)) (a : Option Arc) (arcs : List 
 rest-same t ts a arcs e = ap (drop 1) e
 
 pub count-same : (ts : List (List ℕ)) (arcs : List (Option Arc)) → map code_of ts ≡ codes_wanted arcs → length ts ≡ length arcs
-count-same ts arcs e =
-    sym (length-map ts code_of) ∙ ap length e ∙ length-map arcs (λ (arc : Option Arc). Some (code_now arc))
+count-same ts arcs e = grind (arith, length-map)
 
 are-texts : (ts : List (List ℕ)) (arcs : List (Option Arc)) → map code_of ts ≡ codes_wanted arcs → AreTexts ts
 are-texts [] arcs e = tt
@@ -94,12 +93,11 @@ arcs-left (a ∷ arcs) b h = cc (h 0, arcs-left arcs (λ j. b (suc j)) (λ j. h 
 
 -- ---- its marks
 
-at-same : (a b : List ℕ) → without_end_blanks a ≡ without_end_blanks b → (p : ℕ) → at a p ≡ at b p
+pub at-same : (a b : List ℕ) → without_end_blanks a ≡ without_end_blanks b → (p : ℕ) → at a p ≡ at b p
 at-same a b e p = sym (at-without_end_blanks a p) ∙ ap (λ t. at t p) e ∙ at-without_end_blanks b p
 
 pub patched-same : (old a b : List ℕ) → without_end_blanks a ≡ without_end_blanks b → patched old a ≡ patched old b
-patched-same old a b e = same_characters (by_position character_of old a) (by_position character_of old b)
-    (λ p. cc (at-by_position character_of refl old a p, at-by_position character_of refl old b p, at-same a b e p))
+patched-same old a b e = grind (arith, same_characters, at-by_position, at-same)
 
 mark-printable : (old mark new : ℕ) → character_of old mark ≡ new → is_kept new ≡ true → is_printable mark ≡ true
 mark-printable old mark new e h = grind arith
@@ -140,18 +138,20 @@ module _ (before : WrittenEpoch) (now : WrittenRow) (line : List ℕ) (sound : I
   other : begins_epoch line ≡ false
   other = line-other h.texts h.marks line (omega (arith, count, values-many, sound.counted.0)) texts h.written
 
+  line-printable : list_all is_printable line ≡ true
+  line-printable = list_all-from_at is_printable line (λ p.
+      ap is_printable (at-same line (with_blanks h.texts h.marks) h.written p)
+      ∙ list_all-at is_printable refl (with_blanks h.texts h.marks) (texts-printable h.texts h.marks texts
+      (marks-printable (flags_in (named (λ (r : WrittenRow). r.name) now.name before.rows)) h.marks now.flags
+      h.marked sound.kept)) p)
+
   cell-held : (j : ℕ) → cell_of_tail j (tail_named now.name (epoch_left before))
       ≡ arc_left (arc_in (named (λ (r : WrittenRow). r.name) now.name before.rows) j)
-  cell-held j = ap (cell_of_tail j) (tail-found now.name before)
-      ∙ cell-found (named (λ (r : WrittenRow). r.name) now.name before.rows) j
+  cell-held j = grind (arith, tail-found, cell-found, named)
 
   flags-made : patched (flags_of_tail (tail_named now.name (epoch_left before))) (after_cells (length now.arcs) line)
       ≡ without_end_blanks now.flags
-  flags-made =
-      let f = named (λ (r : WrittenRow). r.name) now.name before.rows in
-      let m' = after_cells (length now.arcs) line in
-      ap (λ t. patched t m') (ap flags_of_tail (tail-found now.name before) ∙ flags-found f)
-      ∙ patched-trimmed (flags_in f) m' ∙ patched-same (flags_in f) m' h.marks marks-same ∙ h.marked
+  flags-made = grind (arith, named, tail-found, flags-found, patched-trimmed, patched-same, marks-same)
 
   goes-at : (j : ℕ) → Goes OBSERVATION_WIDTH
       (arc_in (named (λ (r : WrittenRow). r.name) now.name before.rows) j) (arc_at now.arcs j)
@@ -170,8 +170,7 @@ module _ (before : WrittenEpoch) (now : WrittenRow) (line : List ℕ) (sound : I
   paired = sound.paired ∙ ap (λ k. 2 * k) values-many
 
   printable : list_all is_printable (after_cells (length now.arcs) line) ≡ true
-  printable = marks-printable (flags_of_tail (tail_named now.name (epoch_left before))) (after_cells (length now.arcs) line)
-      now.flags flags-made sound.kept
+  printable = grind (arith, marks-printable, flags-made)
 
   blanks : list_all is_blank (drop (2 * length now.arcs) (after_cells (length now.arcs) line)) ≡ true
   blanks = blanks-same (2 * length now.arcs) h.marks (after_cells (length now.arcs) line) (sym marks-same) h.no_more
@@ -181,22 +180,11 @@ module _ (before : WrittenEpoch) (now : WrittenRow) (line : List ℕ) (sound : I
 
   reads : satellite_line_read (past_of_tail (epoch_left before)) (record { name = now.name; count = length now.arcs }) line
       ≡ Ok read
-  reads = rw (
-    other,
-    cells,
-    cells-good (λ j code. value_of_code OBSERVATION_WIDTH code (cell_of_tail j (tail_named now.name (epoch_left before))))
-        h.texts now.arcs h.spelled value-here,
-    printable,
-    blanks,
-  ) refl
+  reads = grind (arith, other, cells, cells-good, value-here, printable, blanks)
 
   flags-again : columns (patched (flags_of_tail (tail_named now.name (epoch_left before))) (after_cells (length now.arcs) line))
       1 (2 * length (map cell_now now.arcs)) ≡ now.flags
-  flags-again = ap (λ k. columns (patched (flags_of_tail (tail_named now.name (epoch_left before)))
-      (after_cells (length now.arcs) line)) 1 (2 * k)) (length-map now.arcs cell_now)
-      ∙ ap (λ t. columns t 1 (2 * length now.arcs)) flags-made
-      ∙ first-columns (2 * length now.arcs) (without_end_blanks now.flags) now.flags paired
-      (λ p less. at-without_end_blanks now.flags p)
+  flags-again = grind (arith, length-map, flags-made, first-columns, paired, at-without_end_blanks)
 
   row-again : read.row ≡ row_now now
   row-again = cc (values-shown now.arcs, flags-again)
@@ -231,3 +219,11 @@ any-row before now line sound h = record {
   name = refl;
   leaves = leaves-row before now line sound h;
 }
+
+-- and it can be in a file, after another
+abbrev pub CanFollow : List ℕ → Type 0
+CanFollow line = (list_all is_printable line ≡ true) × (begins_epoch line ≡ false)
+
+pub row-follows : (before : WrittenEpoch) (now : WrittenRow) (line : List ℕ) → IsSoundRow (row_now now)
+    → IsRowLine (named (λ (r : WrittenRow). r.name) now.name before.rows) now line → CanFollow line
+row-follows before now line sound h = (line-printable before now line sound h, other before now line sound h)

@@ -5,10 +5,10 @@ use Rattle.crx_compact.proofs.Words.{epoch_count, columns-are, name-length, comm
 use Rattle.crx_compact.proofs.Words.{columns, mark_of, is_kept, All-head, All-tail, list_all, flat_map}
 use Rattle.crx_compact.proofs.Words.{and_parts, Satellite, epoch_text, IsSoundRow, ap, HasItsTypes, at-append}
 use Rattle.crx_compact.proofs.Words.{each_place, AllByRecursion, has_satellite, are_different, at-append_past}
-use Rattle.crx_compact.proofs.Words.{Ok, text_difference, satellites_named, each_place-same, list_all-from_at}
+use Rattle.crx_compact.proofs.Words.{Ok, text_difference, satellites_named, each_place-same}
 use Rattle.crx_compact.proofs.Words.{not-true, at-without_end_blanks}
-use Rattle.crx_compact.proofs.Characters.{at-by_position, list_all-at, list_all-append}
-use Rattle.crx_compact.proofs.Words.{is_printable, IsWholeEpoch, length-append}
+use Rattle.crx_compact.proofs.Characters.{at-by_position, list_all-append}
+use Rattle.crx_compact.proofs.Words.{IsWholeEpoch, length-append}
 use Rattle.crx_compact.proofs.{Identifiers.{AreNew, new-after}, Characters.{if_some, name-kept}}
 use Rattle.crx_compact.proofs.wayback.Runs.{IsUnmarked}
 
@@ -47,11 +47,6 @@ unmarked text h p = (grind (arith, common_steps))
 pub at-difference : (old new : List ℕ) (p : ℕ)
     → at (text_difference old new) p ≡ mark_of (at old p) (at new p)
 at-difference old new p = at-without_end_blanks _ p ∙ at-by_position mark_of refl old new p
-
--- the marks of a text that may be written are printable
-pub difference-printable : (old new : List ℕ)
-    → list_all is_kept new ≡ true → list_all is_printable (text_difference old new) ≡ true
-difference-printable old new h = grind (arith, list_all-from_at, at-difference, list_all-at)
 
 -- ---- an epoch's head and text
 

@@ -4,7 +4,8 @@ use Rattle.crx_compact.proofs.Words.{Epoch, Count, IsWholeEpoch, begins_epoch, c
 use Rattle.crx_compact.proofs.Words.{list_all, without_end_blanks, at-without_end_blanks}
 use Rattle.crx_compact.proofs.wayback.Facts.{head-counted, typed-rows, text-head, length-text, text-names, names-read}
 use Rattle.crx_compact.proofs.wayback.Facts.{satellites_of_rows, satellites-good}
-use Rattle.crx_compact.proofs.{SoundTexts.first-columns, wayback.Cells.is_code_character, Identifiers.none-earlier}
+use Rattle.crx_compact.proofs.{SoundTexts.first-columns, anywriter.Texts.is_code_character}
+use Rattle.crx_compact.proofs.{Identifiers.none-earlier}
 use Rattle.std.proofs.Common.{drop_of_length-le}
 
 -- ---- the epoch line

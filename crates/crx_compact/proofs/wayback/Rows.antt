@@ -1,22 +1,19 @@
 -- The rows of a satellite's run can be written.
-use Rattle.crx_compact.proofs.Words.{◌≡◌, suc, ◌-◌, ◌^◌, Bool, true, cond, List, ◌++◌, Some, None, Code}
-use Rattle.crx_compact.proofs.Words.{refl, nat_eq, length, Option, stretch, code_at}
-use Rattle.crx_compact.proofs.Words.{ℕ, ◌<◌, ℤ, ◌∷◌, map, All, ap, Row, at, zero, false, subst}
+use Rattle.crx_compact.proofs.Words.{◌≡◌, suc, ◌-◌, ◌^◌, Bool, true, cond, List, Some, None}
+use Rattle.crx_compact.proofs.Words.{refl, length, Option, stretch, code_at}
+use Rattle.crx_compact.proofs.Words.{ℕ, ℤ, ◌∷◌, map, All, ap, Row, zero, false, subst}
 use Rattle.crx_compact.proofs.Words.{arith, Epoch, Marked, run_of, arc_of, Count, []}
 use Rattle.crx_compact.proofs.Words.{each_place, since_full, row_named}
 use Rattle.crx_compact.proofs.Words.{slice_index_or, AllByRecursion, IsValue, satellite_line}
-use Rattle.crx_compact.proofs.Words.{value_in, codes_of, AreWhole}
-use Rattle.crx_compact.proofs.Words.{list_all, without_end_blanks, at-without_end_blanks}
-use Rattle.crx_compact.proofs.Words.{bytes_eq, All-head, All-tail, IsWithin, cell_text}
-use Rattle.crx_compact.proofs.Words.{not-suc-le-zero, IsMissingOrWithin, OBSERVATION_WIDTH}
+use Rattle.crx_compact.proofs.Words.{value_in, AreWhole}
+use Rattle.crx_compact.proofs.Words.{bytes_eq, All-head, All-tail, IsWithin}
+use Rattle.crx_compact.proofs.Words.{IsMissingOrWithin, OBSERVATION_WIDTH}
 use Rattle.crx_compact.proofs.Words.{IsPrintable, CLOCK_WIDTH}
-use Rattle.crx_compact.proofs.Words.{begins_epoch, WRITTEN_ORDER, each_place-all}
+use Rattle.crx_compact.proofs.Words.{WRITTEN_ORDER}
 use Rattle.crx_compact.proofs.wayback.Facts.{IsTypedRow, typed-rows}
-use Rattle.crx_compact.proofs.wayback.Cells.{is_code_character, code-characters, AreWritten}
 use Rattle.crx_compact.proofs.wayback.Runs.{marked, rows_before}
-use Rattle.crx_compact.proofs.Words.{flat_map, rules, common_steps, CodesFit}
+use Rattle.crx_compact.proofs.Words.{rules, common_steps, CodesFit}
 use Rattle.crx_compact.proofs.Lists.{all-from}
-use Rattle.crx_compact.proofs.wayback.Cells.{one_cell}
 use Rattle.crx_compact.proofs.arcs.Bounds.{IsNear, code-printable}
 use Rattle.crx_rinex.specs.meaning.EpochLines.{IsClockOffset}
 use Rattle.crx_compact.proofs.arcs.Bounds.{ten-more}
@@ -116,22 +113,6 @@ are-printable types m older h = record {
   clock = clock-printable types (since_full (m ∷ older)) h;
   cells = λ name place. run-printable types name _ (run-rows types name (since_full (m ∷ older)) h) place;
 }
-
--- ---- the codes of a line
-
-first_other : (text rest : List ℕ)
-    → list_all is_code_character text ≡ true → nat_eq (at (text ++ 32 ∷ rest) 0) 62 ≡ false
-first_other [] rest h = refl
-first_other (c ∷ cs) rest h = grind arith
-
-pub line-begins : (codes : List Code) (marks : List ℕ) → 0 < length codes → AreWritten codes
-    → begins_epoch (without_end_blanks (flat_map cell_text codes ++ marks)) ≡ false
-line-begins [] marks less h = absurd (not-suc-le-zero less)
-line-begins (c ∷ cs) marks less h = grind (arith, first_other, at-without_end_blanks, one_cell)
-
-pub written-codes : (types : List Count) (name : List ℕ) (n : ℕ) (run : List Row)
-    → AllByRecursion (IsRowOf types name) run → AreWritten (codes_of n run)
-written-codes types name n run h = search (rules, each_place-all, code-characters, run-printable)
 
 pub values-again : (vs : List (Option ℤ)) → each_place (length vs) (λ j. slice_index_or vs j None) ≡ vs
 values-again [] = refl

@@ -1,27 +1,30 @@
 -- The compact lines of an epoch can be in a file, and none of them is too long.
-use Rattle.crx_compact.proofs.Words.{◌≡◌, [], ◌∷◌, map, ap, Row, ◌+◌, ◌-◌, ◌*◌, ◌^◌, ◌<◌, ◌≤◌, pos, at, refl}
+use Rattle.crx_compact.proofs.Words.{◌≡◌, [], ◌∷◌, map, Row, ◌+◌, ◌-◌, ◌*◌, ◌^◌, ◌<◌, ◌≤◌, pos, refl, ap}
 use Rattle.crx_compact.proofs.Words.{AllByRecursion, satellite_line, list_all-from_at, SATELLITES_LIMIT, ℕ}
-use Rattle.crx_compact.proofs.Words.{character_at, is_printable, begins_epoch, IsWholeEpoch, WRITTEN_ORDER}
+use Rattle.crx_compact.proofs.Words.{is_printable, begins_epoch, IsWholeEpoch, WRITTEN_ORDER, is_event_line}
 use Rattle.crx_compact.proofs.Words.{compact_epoch, if◌then◌else◌, epoch_text, signed_decimal, each_place-all}
-use Rattle.crx_compact.proofs.Words.{Bool, true, false, ◌&&◌, ◌||◌, List, arith, Code, Epoch, Count, ℤ, subst}
-use Rattle.crx_compact.proofs.Words.{list_all, without_end_blanks, is_observation_flag, at-without_end_blanks}
-use Rattle.crx_compact.proofs.Words.{and_parts, code_text, Marked, cell_text, AreWhole, clock_arc, since_full}
-use Rattle.crx_compact.proofs.Words.{epoch_line, mark_of, newest_text, by_position, DIGITS_LIMIT, CLOCK_WIDTH}
-use Rattle.crx_compact.proofs.Words.{text_difference, length-each_place, OBSERVATION_WIDTH, indicators_before}
+use Rattle.crx_compact.proofs.Words.{Bool, true, false, ◌||◌, List, arith, Code, Epoch, Count, ℤ, subst, drop}
+use Rattle.crx_compact.proofs.Words.{list_all, without_end_blanks, at-without_end_blanks, is_event_flag}
+use Rattle.crx_compact.proofs.Words.{code_text, Marked, cell_text, AreWhole, clock_arc, since_full}
+use Rattle.crx_compact.proofs.Words.{epoch_line, newest_text, DIGITS_LIMIT, CLOCK_WIDTH, character_at}
+use Rattle.crx_compact.proofs.Words.{length-each_place, OBSERVATION_WIDTH, indicators_before}
 use Rattle.crx_compact.proofs.Words.{negsuc, length, value_in, code_at, arc_of, codes_of, IsWithin, few_kept}
-use Rattle.crx_compact.proofs.Words.{flat_map, neg_ℤ, common_steps, rules, length-append, is_event_flag, ◌∙◌}
-use Rattle.crx_compact.proofs.wayback.Facts.{IsTypedRow, typed-rows, text-kept, text-head, text-begins}
-use Rattle.crx_compact.proofs.wayback.Rows.{IsRowOf, clock-printable, line-begins, lines-each, written-codes}
-use Rattle.crx_compact.proofs.Words.{is_event_line, has_no_epochs, LinesCanStand, TYPES_LIMIT}
-use Rattle.crx_compact.proofs.{Lists.all-from, arcs.Bounds.{IsNear, doubled, difference-within, ten-more}}
-use Rattle.crx_compact.proofs.wayback.Facts.{at-difference, difference-printable, length-text}
-use Rattle.crx_compact.proofs.wayback.Cells.{is_code_character, code-characters, AreWritten}
-use Rattle.crx_compact.proofs.{wayback.Runs.{marked, begins_full, begins_later}, wayback.Reading.text-other}
-use Rattle.crx_compact.proofs.Characters.{list_all-at, list_all-append}
+use Rattle.crx_compact.proofs.Words.{flat_map, neg_ℤ, common_steps, rules, length-append}
+use Rattle.crx_compact.proofs.wayback.Facts.{IsTypedRow, typed-rows, text-begins}
+use Rattle.crx_compact.proofs.{Lists.all-from, Words.◌&&◌}
+use Rattle.crx_compact.proofs.wayback.Rows.{IsRowOf, lines-each}
+use Rattle.crx_compact.proofs.Words.{has_no_epochs, LinesCanStand, TYPES_LIMIT, sym}
+use Rattle.crx_compact.proofs.{arcs.Bounds.{IsNear, doubled, difference-within, ten-more}}
+use Rattle.crx_compact.proofs.wayback.Facts.{length-text}
+use Rattle.crx_compact.proofs.{wayback.Runs.{marked, begins_full, begins_later}}
+use Rattle.crx_compact.proofs.Characters.{list_all-at}
 use Rattle.crx_compact.proofs.wayback.Rows.{clocks-fit, near-all, stretch-within, values-fit}
+use Rattle.crx_compact.proofs.anywriter.{Rows.CanFollow, Epochs.{printable, others-follow, no-event}}
+use Rattle.crx_compact.proofs.anywriter.{Own.{epoch_written, epoch-same}, OwnReading.own-lines}
+use Rattle.crx_compact.specs.Tails.{tail_or_nothing}
+pub use Rattle.crx_compact.proofs.SoundTexts.{difference-length}
 use Rattle.std.proofs.{lemmas.Fmt.length-decimal-le, Math.Nat.pow-le-pow_right}
 use Rattle.std.proofs.lemmas.Fmt.{decimal_digit}
-use Rattle.std.proofs.Math.Bool.{and-false}
 
 -- ---- numbers and codes
 
@@ -51,17 +54,6 @@ code-length j (x ∷ y ∷ ys) some few h all =
     omega (arith, signed-length (j + 2) (doubled WRITTEN_ORDER b) _ (omega arith) few h near)
 
 -- ---- texts
-
-by_position-length : (f : ℕ → ℕ → ℕ) (xs ys : List ℕ)
-    → length (by_position f xs ys) ≡ length xs + (length ys - length xs)
-by_position-length f [] [] = omega arith
-by_position-length f (x ∷ xs) [] = omega (arith, by_position-length f xs [])
-by_position-length f [] (y ∷ ys) = omega (arith, by_position-length f [] ys)
-by_position-length f (x ∷ xs) (y ∷ ys) = omega (arith, by_position-length f xs ys)
-
-pub difference-length : (n : ℕ) (old new : List ℕ)
-    → length old ≤ n → length new ≤ n → length (text_difference old new) ≤ n
-difference-length n old new h k = search (rules, few_kept, by_position-length)
 
 pub cells-length : (n : ℕ) (codes : List Code) → AllByRecursion (λ (c : Code). length (code_text c) ≤ n) codes
     → length (flat_map cell_text codes) ≤ (n + 1) * length codes
@@ -119,21 +111,9 @@ lines-short types full e older h =
 
 -- ---- characters
 
-code-printable : (text : List ℕ) → list_all is_code_character text ≡ true → list_all is_printable text ≡ true
-code-printable [] h = refl
-code-printable (c ∷ cs) h =
-    grind (arith, code-printable cs (and_parts (is_code_character c) (list_all is_code_character cs) h).1)
-
-cells-printable : (codes : List Code) → AreWritten codes → list_all is_printable (flat_map cell_text codes)
-    ≡ true
-cells-printable [] h = refl
-cells-printable (c ∷ cs) h = grind (arith, list_all-append, code-printable, cells-printable cs h.1)
-
 pub trimmed-printable : (text : List ℕ)
     → list_all is_printable text ≡ true → list_all is_printable (without_end_blanks text) ≡ true
 trimmed-printable text h = grind (arith, list_all-from_at, at-without_end_blanks, list_all-at)
-
--- ---- satellite lines
 
 -- ---- the epoch line
 
@@ -143,50 +123,27 @@ line-begins_epoch : (types : List Count) (full : Bool) (e : Epoch) (older : List
 line-begins_epoch types false e (m ∷ older) h = search (rules, begins_later, text-begins)
 line-begins_epoch types full e older h = begins_full (epoch_text e) (text-begins types e h.0)
 
--- the flag of an epoch's text is one of observations, and so is its mark in a line from the empty text
-flag-mark : (c : ℕ) → is_observation_flag c ≡ true → is_event_flag (mark_of 32 c) ≡ false
-flag-mark c h = grind (arith, h)
-
-full-no_event : (types : List Count) (e : Epoch)
-    → IsWholeEpoch types e → is_event_line (text_difference [] (epoch_text e)) ≡ false
-full-no_event types e h =
-    let line = text_difference [] (epoch_text e) in
-    let flag : is_observation_flag (at e.head 31) ≡ true = grind (arith, common_steps) in
-    let head = text-head types e h 31 (omega arith) in
-    let mark : is_event_flag (character_at line 32) ≡ false =
-    cc (at-difference [] (epoch_text e) 31, flag-mark (at e.head 31) flag) in
-    ap (λ b. begins_epoch line && b) mark ∙ and-false (begins_epoch line)
-
-line-no_event : (types : List Count) (full : Bool) (e : Epoch) (older : List Marked) → AreWhole types
-    (since_full (marked full e ∷ older)) → is_event_line (epoch_line (marked full e) older) ≡ false
-line-no_event types false e (m ∷ older) h = cc (line-begins_epoch types false e (m ∷ older) h)
-line-no_event types full e older h = full-no_event types e h.0
-
 -- ---- all lines
 
 pub lines-stand : (types : List Count) (full : Bool) (e : Epoch) (older : List Marked)
     → AreWhole types (since_full (marked full e ∷ older)) → LinesCanStand (marked full e) older
 lines-stand types full e older h =
-    let ms = marked full e ∷ older in
-    let text = code_text _ in
-    let lines = map _ e.rows in
-    let rows = typed-rows types e h.0 in
-    let clock = code-characters _ (clock-printable types (since_full ms) h) in
-    let others : AllByRecursion (λ (line : List ℕ). begins_epoch line ≡ false) (text ∷ lines) = (
-      text-other text clock,
-      lines-each _ types ms (λ name run r h k. grind (arith, length-each_place, line-begins, written-codes))
-          h e.rows rows,
-    ) in
-    let first = difference-printable (if full then [] else newest_text older) (epoch_text e)
-    (text-kept types e h.0) in
-    let printable = lines-each _ types ms (λ name run r h k.
-    grind (arith, trimmed-printable, list_all-append, cells-printable, written-codes, difference-printable))
-    h e.rows rows in
-    let no_event = all-from (λ (line : List ℕ). is_event_line line ≡ false)
-    (λ line begins. ap (λ b. b && is_event_flag (character_at line 32)) begins) (text ∷ lines) others in
+    let own = own-lines types full e older (tail_or_nothing older) h (λ later. refl) in
+    let lines = own.lines in
+    let rest = drop 1 (compact_epoch (marked full e ∷ older)) in
+    let now = epoch_written (marked full e) older in
+    let whole = subst (IsWholeEpoch types) (sym (epoch-same types full e older h.0)) h.0 in
+    let others = others-follow types lines.0 now _ _ _ whole lines.2 in
     record {
-      printable = (first, (code-printable text clock, printable));
-      no_event = (line-no_event types full e older h, no_event);
+      printable = (
+        printable types lines.0 now _ _ _ whole lines.2,
+        all-from {P = CanFollow} (λ (l : List ℕ). list_all is_printable l ≡ true) (λ l k. k.0) rest others,
+      );
+      no_event = (
+        no-event types lines.0 now _ _ _ whole lines.2 own.before lines.1,
+        all-from {P = CanFollow} (λ (l : List ℕ). is_event_line l ≡ false)
+            (λ l k. ap (λ b. b && is_event_flag (character_at l 32)) k.1) rest others,
+      );
       first = line-begins_epoch types full e older h;
-      others = others;
+      others = all-from {P = CanFollow} (λ (l : List ℕ). begins_epoch l ≡ false) (λ l k. k.1) rest others;
     }
