@@ -6,6 +6,5 @@ pub mod TextAfter
 pub mod ItemTexts
 pub mod DamagedText
 pub mod SavedText
-pub mod BlockSaved
 pub mod DamageStays
 pub mod OwnBlock

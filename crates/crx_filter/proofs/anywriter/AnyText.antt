@@ -1,14 +1,14 @@
 -- Compact text of a file's units, whoever wrote it, expands to their RINEX text.
 use Rattle.crx_filter.proofs
-use proofs.Words.{common_steps, ℕ, suc, ◌≡◌, ◌+◌, ◌-◌, ◌<◌, Bool, true, false, cond, List, [], ◌∷◌, ◌++◌, map, length, Option, Some, None, Ok}
-use proofs.Words.{refl, ap, sym, ◌∙◌, subst, arith, length-append, map-append, length-map, append-nil, is_some, lines_of, as_read, ReadLine, Content, Epoch, Place, Done}
-use proofs.Words.{FileUnit, HeaderLine, EventLine, EventRecord, Observation, types_of, Item, Accepted, Warned, Count, RawEpoch, ReadEpoch}
-use proofs.Words.{is_at_start, header_has_ended, records_left, records_count_types, declaring_lines, types_in_force, types_fault, header_line_fault}
+use proofs.Words.{common_steps, ℕ, suc, ◌≡◌, ◌+◌, ◌<◌, Bool, true, false, cond, List, [], ◌∷◌, ◌++◌, map, length, Option, Some, None, Ok}
+use proofs.Words.{refl, ap, sym, ◌∙◌, subst, arith, append-nil, is_some, lines_of, as_read, ReadLine, Content, Epoch, Place, Done}
+use proofs.Words.{FileUnit, HeaderLine, EventLine, EventRecord, Observation, Item, Accepted, Warned, Count, RawEpoch, ReadEpoch}
+use proofs.Words.{header_has_ended, records_left, records_count_types, types_in_force, types_fault, header_line_fault}
 use proofs.Words.{Reading, AtLines, reading_from, ended_reading, compact_place, compact_epoch_place, event_line, is_event_line, records_in, raws_kept, whole_compact, first_lines}
 use proofs.Words.{IsWholeEpoch, expanded_unit, expanded, printed_items, warnings_in, lines_text, result_of, written_well}
 use Rattle.crx_filter.proofs.{Words.{IsInPlace, AreInPlace}, following.Following.body-place}
-use Rattle.crx_filter.proofs.reading.{ForwardCompact.compact-forward, Resuming.resumed, Ending.closes-well}
-use Rattle.crx_filter.proofs.wayback.{Carried.{header-here, record-here, one-unit, at-line}, WayBack.result-well}
+use Rattle.crx_filter.proofs.reading.{ForwardCompact.compact-forward, Ending.closes-well}
+use Rattle.crx_filter.proofs.wayback.{Carried.{IsLike, header-here, record-here, unit-more}, WayBack.result-well}
 use Rattle.crx_filter.specs.meaning.{Expanded.{rinex_unit, crinex_version, crinex_program, empties_state}, WrittenStandard.rinex_items}
 use Rattle.crx_filter.specs.meaning.UnitsAndText.{as_items, rinex_text}
 use Rattle.crx_compact.proofs.Words.{epoch_at, epoch_text, at, patched, character_of, by_position, without_end_blanks, at-without_end_blanks, begins_epoch, tail_left, if◌then◌else◌}
@@ -18,14 +18,14 @@ use Rattle.crx_compact.proofs.wayback.Facts.{text-head, head-counted}
 use Rattle.crx_compact.specs.meaning.AnyWriter.{WrittenRow, WrittenEpoch, epoch_now, goes_on_from, nothing_written, AreRowLines, AreLinesAfter, AreEpochLines}
 use Rattle.crx_compact.specs.AnyWriter.{epoch_left, IsLeft}
 use Rattle.crx_compact.proofs.Words.{Tail}
-use Rattle.crx_header.{proofs.Counts.types_of-push, specs.ObservationTypes.with_line}
+use Rattle.crx_header.{proofs.Counts.types_of-push}
 use Rattle.crx_filter.specs.meaning.Stretches.{AreLinesOn}
 use Rattle.crx_filter.specs.meaning.CompactText.{AreLinesOfUnit, AreLinesOf, IsCompactTextOf, AreUnitsInPlace, AreWholeFile}
 use Rattle.crx_filter.specs.CompactText.{ExpandsAnyText, IsOfOneFile, WritesFirstUnits}
 use Rattle.crx_filter.proofs.reading.Prefixes.{AreMore, text-more, whole-items}
 use Rattle.crx_filter.proofs.Words.{Begins, FilterResult, whole_reading}
 use Rattle.crx_filter.proofs.wayback.ExpandedStandard.{printed-read}
-use Rattle.crx_filter.proofs.wayback.Units.{none-warned, units_in}
+use Rattle.crx_filter.proofs.wayback.Units.{none-warned, units_in, units-again}
 use Rattle.crx_filter.specs.meaning.Reading.{WholeReading}
 use Rattle.crx_compact.proofs.anywriter.Epochs.{any-epoch}
 
@@ -75,59 +75,10 @@ none-left tail b e = absurd (cc e)
 
 -- ---- items that leave what some units do
 
--- the same header, the same records to come, and the same types
-pub record IsLike (items : List (Item ReadEpoch)) (units : List (FileUnit Epoch)) : Type 0 where
-  pub header : header_has_ended items ≡ header_has_ended (as_items units)
-  pub start : is_at_start items ≡ is_at_start (as_items units)
-  pub left : records_left items ≡ records_left (as_items units)
-  pub counts : 0 < records_left items → records_count_types items ≡ records_count_types (as_items units)
-  pub types : types_in_force items ≡ types_in_force (as_items units)
-
-types-pushed : (items : List (Item ReadEpoch)) (units : List (FileUnit Epoch)) (line : List ℕ)
-    → types_in_force items ≡ types_in_force (as_items units) → types_of (declaring_lines items ++ line ∷ [])
-    ≡ types_of (declaring_lines (as_items units) ++ line ∷ [])
-types-pushed items units line h = types_of-push (declaring_lines items) line ∙ ap (λ t. with_line t line) h
-    ∙ sym (types_of-push (declaring_lines (as_items units)) line)
-
-types-recorded : (items : List (Item ReadEpoch)) (units : List (FileUnit Epoch)) (line : List ℕ)
-    → records_count_types items ≡ records_count_types (as_items units)
-    → types_in_force items ≡ types_in_force (as_items units)
-    → types_in_force (Accepted (EventRecord line) ∷ items) ≡ types_in_force (as_items (EventRecord line ∷ units))
-types-recorded items units line e h = pick (records_count_types (as_items units)) refl
-  where
-    pick : (b : Bool) → records_count_types (as_items units) ≡ b
-        → types_in_force (Accepted (EventRecord line) ∷ items) ≡ types_in_force (as_items (EventRecord line ∷ units))
-    pick true k = rw (e, k) (types-pushed items units line h)
-    pick false k = rw (e, k) h
-
 like-unit : (items : List (Item ReadEpoch)) (units : List (FileUnit Epoch)) (unit : FileUnit ReadEpoch)
     → IsLike items units → IsInPlace (as_items units) (rinex_unit unit)
     → IsLike (Accepted unit ∷ items) (rinex_unit unit ∷ units)
-like-unit items units (HeaderLine line) k h = record {
-  header = cc k.header;
-  start = refl;
-  left = refl;
-  counts = λ some. absurd (omega (arith, some));
-  types = types-pushed items units line k.types;
-}
-like-unit items units (EventLine line) k h =
-    record { header = k.header; start = refl; left = refl; counts = λ some. refl; types = k.types }
-like-unit items units (EventRecord line) k h =
-    let counts = k.counts (subst (λ n. 0 < n) (sym k.left) h.1) in
-    record {
-      header = k.header;
-      start = refl;
-      left = ap (λ n. n - 1) k.left;
-      counts = λ some. counts;
-      types = types-recorded items units line counts k.types;
-    }
-like-unit items units (Observation read) k h = record {
-  header = k.header;
-  start = refl;
-  left = refl;
-  counts = λ some. absurd (omega (arith, some));
-  types = k.types;
-}
+like-unit items units unit k h = grind (arith, common_steps, types_of-push)
 
 -- ---- a unit's lines
 
@@ -248,20 +199,15 @@ read-more : (skip : Bool) (items : List (Item ReadEpoch)) (number : ℕ) (block 
     (unit : FileUnit Epoch) (first more : List (List ℕ)) (before now : Option WrittenEpoch)
     → (r : AreReadOn skip items number block units first before) → IsInPlace (as_items (units ++ block)) unit
     → UnitRead (r.more ++ items) unit more now → AreReadOn skip items number block (unit ∷ units) (first ++ more) now
-read-more skip items number block units unit first more before now r h u =
-    let same = length-map more Content in
-    record {
-      more = Accepted u.read ∷ r.more;
-      reads = rw (map-append Content first more, resumed compact_place compact-forward) (rw r.reads
-          (one-unit compact_place compact-forward skip (r.more ++ items) (number + length first) (map Content more) u.read
-          (u.place ∙ ap (λ n. Done u.read n) (sym same))
-          ∙ at-line _ _ _ (omega (arith, same, length-append first more))));
-      known = cc (u.same, r.known);
-      like = subst (λ v. IsLike (Accepted u.read ∷ (r.more ++ items)) (v ∷ (units ++ block))) u.same
-          (like-unit (r.more ++ items) (units ++ block) u.read r.like
-          (subst (λ v. IsInPlace (as_items (units ++ block)) v) (sym u.same) h));
-      left = u.left;
-    }
+read-more skip items number block units unit first more before now r h u = record {
+  more = Accepted u.read ∷ r.more;
+  reads = unit-more compact_place compact-forward skip items (r.more ++ items) number first more u.read r.reads u.place;
+  known = cc (u.same, r.known);
+  like = subst (λ v. IsLike (Accepted u.read ∷ (r.more ++ items)) (v ∷ (units ++ block))) u.same
+      (like-unit (r.more ++ items) (units ++ block) u.read r.like
+      (subst (λ v. IsInPlace (as_items (units ++ block)) v) (sym u.same) h));
+  left = u.left;
+}
 
 pub read-on : (skip : Bool) (items : List (Item ReadEpoch)) (number : ℕ) (block units : List (FileUnit Epoch))
     (lines : List (List ℕ)) (start last : Option WrittenEpoch) → IsLike items block → IsLeft start (tail_left (raws_kept items))
@@ -376,10 +322,6 @@ any-text text choices units file h =
     rw (h.cut) (rw (whole-read skip h.version h.program (map Content h.lines) h.first h.second)
     (rw (r.reads) (units-well skip r.items (3 + length h.lines) units ((r.like).header ∙ file.header)
     ((r.like).left ∙ file.complete) r.known)))
-
-pub units-again : (units : List (FileUnit Epoch)) → units_in (as_items units) ≡ units
-units-again [] = refl
-units-again (unit ∷ units) = ap (λ us. unit ∷ us) (units-again units)
 
 pub one-file : IsOfOneFile
 one-file text one two h k first second =

@@ -13,7 +13,7 @@ pub items-back : (items : List (Item Epoch)) (compacting expanding : Choices) �
     → IsSettled items → HaveNoReturns items → expanded (lines_text (compact_lines compacting items)) expanding
     ≡ written_well (lines_text (printed_items items))
 items-back items compacting expanding dated h none =
-    any-text (lines_text (compact_lines compacting items)) expanding (units_in items) (whole-items items h none)
+    any-text (lines_text (compact_lines compacting items)) expanding (units_in items) (whole-items items h)
     (own-items compacting items dated h none) ∙ ap (λ ls. written_well (lines_text ls)) (units-printed items)
 
 pub comes-back : (input : List ℕ) (compacting expanding : Choices) → ComesBack input compacting expanding

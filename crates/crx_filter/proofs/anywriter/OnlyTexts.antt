@@ -1,13 +1,13 @@
 -- A text whose expansion ends with status 0 is compact text of a whole file.
 use Rattle.crx_filter.proofs
 use proofs.Words.{ℕ, ◌≡◌, ◌+◌, Bool, true, false, List, [], ◌∷◌, map, length, reverse, Option, Some, None, Result, Ok, Err, refl, ap, sym, ◌∙◌, subst, if◌then◌else◌, ◌&&◌}
-use proofs.Words.{lines_of, as_read, ReadLine, Content, Overlong, At, Fault, Epoch, FileUnit}
+use proofs.Words.{lines_of, as_read, ReadLine, Content, Overlong, At, Fault}
 use proofs.Words.{header_has_ended, records_left, warnings_in}
 use proofs.Words.{WholeReading, whole_compact, expanded, Choices, FilterResult, AreInPlace}
 use Rattle.crx_filter.proofs.wayback.{ExpandedStandard.{read-settled}, Cut.input-stands}
 use Rattle.crx_filter.specs.meaning.{Expanded.{crinex_version, crinex_program}, WrittenStandard.rinex_items}
 use Rattle.crx_filter.specs.meaning.UnitsAndText.{as_items}
-use Rattle.crx_filter.specs.{meaning.CompactText.{IsCompactText, AreUnitsInPlace, AreWholeFile}, CompactText.AcceptsExactly}
+use Rattle.crx_filter.specs.{meaning.CompactText.{IsCompactText, AreWholeFile}, CompactText.AcceptsExactly}
 use Rattle.crx_runs.specs.meaning.Results.{status_after}
 use Rattle.std.specs.{Str.bytes_eq}
 use Rattle.crx_text.specs.meaning.Columns.{columns, without_blanks}
@@ -15,7 +15,7 @@ use Rattle.crx_header.specs.meaning.Label.{has_label}
 use Rattle.crx_header.specs.declared.crinex.TheConstants.{CRINEX_VERSION, CRINEX_VERSION_LABEL, CRINEX_PROGRAM_LABEL}
 use Rattle.crx_base.specs.declared.fault.Fault.TheVariants.{NotCompact, BadProgLine}
 use Rattle.std.proofs.{lemmas.List.{reverse-reverse}}
-use Rattle.crx_filter.proofs.anywriter.{AnyText.{any-text, whole-read}, OnlyUnits.Standing, OnlyReadings.{EndsBack, within-back}}
+use Rattle.crx_filter.proofs.anywriter.{AnyText.{any-text, whole-read}, OwnText.units-in_place, OnlyUnits.Standing, OnlyReadings.{EndsBack, within-back}}
 
 -- ---- the text
 
@@ -79,10 +79,6 @@ none-warned : (ws : List At) (o : Option At) → status_after ws o ≡ 0 → (ws
 none-warned [] None e = (refl, refl)
 none-warned (w ∷ ws) None e = absurd (cc e)
 none-warned ws (Some at) e = absurd (cc e)
-
-units-in_place : (units : List (FileUnit Epoch)) → AreInPlace (as_items units) → AreUnitsInPlace units
-units-in_place [] h = tt
-units-in_place (unit ∷ before) h = (h.0, units-in_place before h.1)
 
 of-text : (text : List ℕ) (skip : Bool) → WholeReading.fault (whole_compact skip (map as_read (lines_of text))) ≡ None
     → warnings_in (WholeReading.items (whole_compact skip (map as_read (lines_of text)))) ≡ [] → IsCompactText text

@@ -4,16 +4,16 @@ use proofs.Words.{ℕ, ◌≡◌, ◌⊎◌, inl, inr, true, false, Bool, List, 
 use proofs.Words.{AllByRecursion, append-nil, append_assoc, if◌then◌else◌, lines_of, lines_text, as_read, Epoch, FileUnit, HeaderLine, EventLine}
 use proofs.Words.{EventRecord, Observation, Count, Marked, Choices, is_date, Item, Accepted, Warned}
 use proofs.Words.{records_count_types, types_in_force, is_in_full, marked_epochs, compact_epoch, compact_lines}
-use proofs.Words.{version_line, program_line, AreInPlace, BeginsAnew, HaveNoReturns, whole_of, WholeReading, printed_items}
+use proofs.Words.{version_line, program_line, AreInPlace, BeginsAnew, HaveNoReturns, printed_items}
 use proofs.damage.TextAfter.{lines_on, written-on, begins-rest}
-use proofs.wayback.{Carried.{carried, started, count-same}, Cut.{IsClean, lines-cut}}
+use proofs.wayback.{Carried.{IsLike, started, units-like, units-placed}, Cut.{IsClean, lines-cut}}
 use proofs.wayback.First.{program-clean, program-read, version-clean}
 use proofs.wayback.Items.{marked_now, body_unit, not-interrupted, whole-next}
-use proofs.wayback.{NormalForm.{printed-again, settled-standard}, Reading.lines_back}
-use proofs.wayback.Units.{settled, no-returns, read-units, units_in}
+use proofs.wayback.{Reading.lines_back}
+use proofs.wayback.Units.{settled, no-returns, units_in, units-again}
+pub use proofs.wayback.NormalForm.{units-printed}
 use proofs.wayback.WayBack.{IsSettled, lines-same, lines-clean}
-use proofs.anywriter.AnyText.{units-again}
-use Rattle.crx_filter.specs.meaning.{Expanded.empties_state, UnitsAndText.{AreInOrder, MakeAFile, as_items}}
+use Rattle.crx_filter.specs.meaning.{Expanded.empties_state, UnitsAndText.{MakeAFile, as_items}}
 use Rattle.crx_filter.specs.meaning.{CompactText.{AreLinesOfUnit, AreLinesOf, IsCompactTextOf, AreUnitsInPlace, AreWholeFile}, Stretches.AreLinesOn}
 use Rattle.crx_filter.specs.CompactText.{OwnTextIsOne}
 use Rattle.crx_compact.specs.{Laws.AreWhole, meaning.Compaction.since_full, meaning.AnyWriter.{WrittenEpoch, AreEpochLines}}
@@ -21,23 +21,10 @@ use Rattle.crx_compact.proofs.{wayback.Runs.marked, anywriter.Own.{epoch_written
 
 -- ---- the units among some items
 
-pub units-carried : (items : List (Item Epoch)) → carried (λ before epoch. epoch) items ≡ as_items (units_in items)
-units-carried [] = refl
-units-carried (Accepted (HeaderLine line) ∷ before) = cc (units-carried before)
-units-carried (Accepted (EventLine line) ∷ before) = cc (units-carried before)
-units-carried (Accepted (EventRecord line) ∷ before) = cc (units-carried before)
-units-carried (Accepted (Observation epoch) ∷ before) = cc (units-carried before)
-units-carried (Warned at ∷ before) = units-carried before
-
 pub units-append : (later before : List (Item Epoch)) → units_in (later ++ before) ≡ units_in later ++ units_in before
 units-append [] before = refl
 units-append (Accepted unit ∷ later) before = ap (λ us. unit ∷ us) (units-append later before)
 units-append (Warned at ∷ later) before = units-append later before
-
-pub units-printed : (items : List (Item Epoch)) → printed_items (as_items (units_in items)) ≡ printed_items items
-units-printed [] = refl
-units-printed (Accepted unit ∷ before) = cc (units-printed before)
-units-printed (Warned at ∷ before) = units-printed before
 
 pub printed-append : (later before : List (Item Epoch))
     → printed_items (later ++ before) ≡ printed_items before ++ printed_items later
@@ -70,11 +57,6 @@ none-interrupted : (choices : Choices) (block : List (Item Epoch)) (epoch : Epoc
     → GoAnew choices block (Accepted (Observation epoch) ∷ []) → is_in_full choices.every block ≡ true
 none-interrupted choices block epoch (inl none) = rw none refl
 none-interrupted choices block epoch (inr anew) = anew
-
-units-count : (items : List (Item Epoch)) (line : List ℕ) → AreInPlace (Accepted (EventRecord line) ∷ items)
-    → records_count_types (as_items (units_in items)) ≡ records_count_types items
-units-count items line h = ap records_count_types (sym (units-carried items))
-    ∙ count-same (λ before epoch. epoch) items h.1 (h.0).1
 
 module _ (start : Option WrittenEpoch) (choices : Choices) (block : List (Item Epoch)) where
   abbrev before_all : List (Item Epoch) → Option WrittenEpoch
@@ -111,7 +93,7 @@ module _ (start : Option WrittenEpoch) (choices : Choices) (block : List (Item E
   own-unit items (EventLine line) h anew = (refl, refl)
   own-unit items (EventRecord line) h anew = (
     refl,
-    ap (λ b. if empties_state b line then None else before_all items) (sym (units-count (items ++ block) line h)),
+    ap (λ b. if empties_state b line then None else before_all items) (IsLike.counts (units-like (items ++ block) h.1) (h.0).1),
   )
   own-unit items (Observation epoch) h anew =
       let all = items ++ block in
@@ -165,22 +147,22 @@ own-lines choices items h =
     (on-nothing (units_in items) (lines_on choices.every items []) (state_after choices.every items)
     (own-on None choices [] items (subst AreInPlace (sym (append-nil items)) h) (inl refl)))
 
-in-place : (units : List (FileUnit Epoch)) → AreInOrder units → AreUnitsInPlace units
-in-place [] h = tt
-in-place (unit ∷ before) h = (h.0, in-place before h.2)
-
-pub whole-file : (units : List (FileUnit Epoch)) → MakeAFile units → AreWholeFile units
-whole-file units h = record { in_place = in-place units h.in_order; header = h.header; complete = h.complete }
+pub units-in_place : (units : List (FileUnit Epoch)) → AreInPlace (as_items units) → AreUnitsInPlace units
+units-in_place [] h = tt
+units-in_place (unit ∷ before) h = (h.0, units-in_place before h.1)
 
 -- the units of a file that is read to its good end make a file
-pub whole-items : (items : List (Item Epoch)) → IsSettled items → HaveNoReturns items → AreWholeFile (units_in items)
-whole-items items h none =
-    let text = lines_text (printed_items items) in
-    let same : units_in (WholeReading.items (whole_of text)) ≡ units_in items =
-    ap (λ w. units_in (WholeReading.items w)) (printed-again items h none) ∙ ap units_in (units-carried items)
-    ∙ units-again (units_in items) in
-    subst AreWholeFile same (whole-file (units_in (WholeReading.items (whole_of text)))
-    (read-units text (settled-standard items h none)))
+pub whole-items : (items : List (Item Epoch)) → IsSettled items → AreWholeFile (units_in items)
+whole-items items h =
+    let like = units-like items h.in_place in
+    record {
+      in_place = units-in_place (units_in items) (units-placed items h.in_place);
+      header = sym like.header ∙ h.header;
+      complete = sym like.left ∙ h.none;
+    }
+
+pub whole-file : (units : List (FileUnit Epoch)) → MakeAFile units → AreWholeFile units
+whole-file units h = subst AreWholeFile (units-again units) (whole-items (as_items units) (settled units h))
 
 pub own-items : (choices : Choices) (items : List (Item Epoch)) → is_date choices.date ≡ true → IsSettled items
     → HaveNoReturns items → IsCompactTextOf (units_in items) (lines_text (compact_lines choices items))

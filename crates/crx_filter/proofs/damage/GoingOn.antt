@@ -1,19 +1,18 @@
--- After a damaged block: reading goes on at the next line that begins with >, with at most one warning before
--- it.
+-- An epoch that is open where damaged lines end: reading goes on at the next line that begins with >, or
+-- ends,
+-- with a warning.
 use Rattle.crx_filter.proofs
-use proofs.Words.{ℕ, suc, ◌≡◌, ◌+◌, ◌≤◌, max, inl, inr, true, false, List, [], ◌∷◌, ◌++◌, length, drop, None}
-use proofs.Words.{refl, ap, ◌∙◌, arith, length-append, drop-append_seam, ReadLine, Content, Overlong, At}
+use proofs.Words.{ℕ, suc, ◌≡◌, ◌+◌, ◌≤◌, max, true, false, List, [], ◌∷◌, ◌++◌, map, length, drop, None}
+use proofs.Words.{refl, ap, ◌∙◌, arith, length-append, drop-append_seam, ReadLine, Content, At}
 use proofs.Words.{Truncated, begins_epoch, is_event_line, NeedsMore, ReadEpoch, Item, Warned, types_in_force}
 use proofs.Words.{Reading, WholeReading, AtLines, looked_for, reading_within, reading_from, ended_with}
-use proofs.Words.{ended_reading, continued_reading, compact_place, IsBetweenUnits}
-use proofs.damage.BlockReading.{IsBlockText, EndsBlock, IsBlockRead, with_reads, reads-between, skipped-here}
-use proofs.{damage.BlockReading.place-cut, reading.{ForwardCompact.compact-forward, Resuming.enough-units}}
-use proofs.reading.Resuming.{within-wrong, fault-skipped, looked-here}
+use proofs.Words.{ended_reading, compact_place, IsBetweenUnits}
+use proofs.{damage.BlockReading.{place-cut, skipped-here}, reading.ForwardCompact.compact-forward}
+use proofs.reading.Resuming.{enough-units, within-wrong, fault-skipped, looked-here}
 
 -- some warnings after these items, the newest first
 abbrev pub with_warnings : List At → List (Item ReadEpoch) → List (Item ReadEpoch)
-with_warnings [] items = items
-with_warnings (at ∷ older) items = Warned at ∷ with_warnings older items
+with_warnings warnings items = map Warned warnings ++ items
 
 pub warned-between : (warnings : List At) (items : List (Item ReadEpoch))
     → IsBetweenUnits items → IsBetweenUnits (with_warnings warnings items)
@@ -61,64 +60,21 @@ open-goes_on items number first rest line tail h no_event e begins =
           (Content line ∷ tail) (omega (arith, length-append open_lines (Content line ∷ tail))) (omega arith);
     }
 
-cut-goes_on : (items : List (Item ReadEpoch))
-    (number : ℕ) (rest : List ReadLine) (line : List ℕ) (tail : List ReadLine) → IsBetweenUnits items
-    → IsBlockText rest → compact_place items rest ≡ NeedsMore → begins_epoch line ≡ true → GoesOnAt items
-    (Content line ∷ tail) (reading_from compact_place true items number (rest ++ Content line ∷ tail))
-cut-goes_on items number [] line tail h text e begins =
-    record { warnings = []; few = omega arith; number = number; same = refl }
-cut-goes_on items number (Overlong ∷ rest) line tail h text e begins = absurd text
-cut-goes_on items number (Content first ∷ rest) line tail h text e begins = grind (arith, open-goes_on)
-
-goes_on : (items : List (Item ReadEpoch)) (r : Reading ReadEpoch) (line : List ℕ) (tail : List ReadLine)
-    → IsBetweenUnits items → EndsBlock items r → begins_epoch line ≡ true
-    → GoesOnAt items (Content line ∷ tail) (continued_reading compact_place true r (Content line ∷ tail))
-goes_on items r line tail h (inl (number, rest, text, e, is)) begins = grind (arith, cut-goes_on)
-goes_on items r line tail h (inr (at, number, is)) begins = record {
-  warnings = at ∷ [];
-  few = omega arith;
-  number = number;
-  same = ap (λ s. continued_reading compact_place true s (Content line ∷ tail)) is ∙ looked-here (reading_from
-      compact_place true (Warned at ∷ items)) (Warned at ∷ items) number (Content line) tail begins;
-}
-
--- after a block that was read, at a line that begins with >
-pub block-goes_on : (items : List (Item ReadEpoch)) (r : Reading ReadEpoch) (h : IsBlockRead items r) (line
-    : List ℕ) (tail : List ReadLine) → IsBetweenUnits items → begins_epoch line ≡ true → GoesOnAt (with_reads
-    items h.reads) (Content line ∷ tail) (continued_reading compact_place true r (Content line ∷ tail))
-block-goes_on items r h line tail between begins = search (goes_on, reads-between)
-
 -- ---- the end of the input
 
--- a reading that ends well, after these items and at most one warning
-pub record EndsAfter (items : List (Item ReadEpoch)) (whole : WholeReading ReadEpoch) : Type 0 where
+-- a reading that ends well, after these items and at most so many warnings
+pub record EndsAfter (most : ℕ) (items : List (Item ReadEpoch))
+    (whole : WholeReading ReadEpoch) : Type 0 where
   pub warnings : List At
-  pub few : length warnings ≤ 1
+  pub few : length warnings ≤ most
   pub same : whole ≡ record { items = with_warnings warnings items; fault = None }
-
--- the end after whole units is good
-pub ends-well : (items : List (Item ReadEpoch)) (number : ℕ) → IsBetweenUnits items → ended_reading true
-    (record { items = items; stop = AtLines number [] }) ≡ record { items = items; fault = None }
-ends-well [] number h = let never = h.header in absurd (cc)
-ends-well (item ∷ before) number h = grind arith
 
 pub ends-inside : (items : List (Item ReadEpoch)) (number : ℕ) (line : ReadLine) (rest : List ReadLine)
     → IsBetweenUnits items
-    → EndsAfter items (ended_reading true (record { items = items; stop = AtLines number (line ∷ rest) }))
+    → EndsAfter 1 items (ended_reading true (record { items = items; stop = AtLines number (line ∷ rest) }))
 ends-inside [] number line rest h = let never = h.header in absurd (cc)
 ends-inside (item ∷ before) number line rest h = record {
   warnings = record { line = number + length (line ∷ rest); fault = Truncated } ∷ [];
   few = omega arith;
   same = rw (skipped-here (item ∷ before) Truncated h refl, ended_with) refl;
 }
-
-ends-after : (items : List (Item ReadEpoch)) (r : Reading ReadEpoch)
-    → IsBetweenUnits items → EndsBlock items r → EndsAfter items (ended_reading true r)
-ends-after items r h (inl (number, [], text, e, is)) = grind arith
-ends-after items r h (inl (number, line ∷ rest, text, e, is)) = rw is (ends-inside items number line rest h)
-ends-after items r h (inr (at, number, is)) = record { warnings = at ∷ []; few = omega arith; same = cc }
-
--- after a block that was read, at the end of the input
-pub block-ends : (items : List (Item ReadEpoch)) (r : Reading ReadEpoch) (h : IsBlockRead items r)
-    → IsBetweenUnits items → EndsAfter (with_reads items h.reads) (ended_reading true r)
-block-ends items r h between = ends-after _ r (reads-between items h.reads between) h.ends

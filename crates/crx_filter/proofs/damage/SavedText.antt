@@ -1,18 +1,14 @@
 -- What is written and reported after damage: the texts of items one after another, and the epochs among them.
 use Rattle.crx_filter.proofs.Words
-use Words.{common_steps, ◌≡◌, ◌≤◌, List, [], ◌∷◌, ◌++◌, map, length, reverse, refl, ap}
-use Words.{sym, ◌∙◌, arith, append_assoc, append-nil, AllByRecursion, flat_map, At, Epoch, IsWholeEpoch}
-use Words.{printed_epoch, FileUnit, HeaderLine, EventLine, EventRecord, Observation, ReadEpoch, Item, Accepted, Warned}
-use Words.{records_left, types_in_force}
-use Words.{Reading, warnings_in, compact_place, expanded_lines, ItemsAreRead}
-use Rattle.crx_filter.proofs.damage.{BlockReading.{EndsBlock, with_reads}, GoingOn.with_warnings}
-use Rattle.crx_filter.proofs.wayback.ExpandedWhole.{AreGoodEpochs, epochs-good}
+use Words.{◌≡◌, List, [], ◌∷◌, ◌++◌, refl, ap}
+use Words.{sym, ◌∙◌, arith, append_assoc, append-nil, At, Epoch}
+use Words.{FileUnit, HeaderLine, EventLine, EventRecord, Observation, ReadEpoch, Item, Accepted, Warned}
+use Words.{records_left}
+use Words.{warnings_in, expanded_lines}
+use Rattle.crx_filter.proofs.damage.GoingOn.{with_warnings}
 use Rattle.crx_filter.specs.meaning.{Damage.epochs_among, UnitsAndText.as_items, WrittenStandard.rinex_items}
 
 -- ---- what is written
-
-abbrev pub epochs_in : List ReadEpoch → List Epoch
-epochs_in reads = map (λ (read : ReadEpoch). read.epoch) reads
 
 pub lines-append : (later before : List (Item ReadEpoch))
     → expanded_lines (later ++ before) ≡ expanded_lines before ++ expanded_lines later
@@ -24,12 +20,6 @@ pub lines-warned : (warnings : List At) (items : List (Item ReadEpoch))
     → expanded_lines (with_warnings warnings items) ≡ expanded_lines items
 lines-warned [] items = refl
 lines-warned (at ∷ older) items = lines-warned older items
-
-pub lines-read : (items : List (Item ReadEpoch)) (reads : List ReadEpoch) → expanded_lines
-    (with_reads items reads) ≡ expanded_lines items ++ flat_map printed_epoch (epochs_in reads)
-lines-read items [] = sym (append-nil (expanded_lines items))
-lines-read items (read ∷ later) = lines-read _ later ∙ append_assoc
-    (expanded_lines items) (printed_epoch read.epoch) (flat_map printed_epoch (epochs_in later))
 
 -- ---- what is reported
 
@@ -44,20 +34,6 @@ pub warnings-with : (warnings : List At) (items : List (Item ReadEpoch))
 warnings-with [] items = refl
 warnings-with (at ∷ older) items = ap (λ w. at ∷ w) (warnings-with older items)
 
-pub warnings-read : (items : List (Item ReadEpoch)) (reads : List ReadEpoch)
-    → warnings_in (with_reads items reads) ≡ warnings_in items
-warnings-read items [] = refl
-warnings-read items (read ∷ later) = warnings-read (Accepted (Observation read) ∷ items) later
-
-pub none-first : (one two : List At) → one ++ two ≡ [] → one ≡ []
-none-first [] two e = refl
-none-first (at ∷ one) two e = absurd (cc)
-
-pub few-reversed : (warnings : List At) → length warnings ≤ 1 → reverse warnings ≡ warnings
-few-reversed [] few = refl
-few-reversed (at ∷ []) few = refl
-few-reversed (at ∷ next ∷ older) few = absurd (omega (arith, few))
-
 -- ---- between two units
 
 -- records are left after some items as they are after others
@@ -65,23 +41,6 @@ pub left-append : (later one two : List (Item ReadEpoch))
     → records_left one ≡ records_left two → records_left (later ++ one) ≡ records_left (later ++ two)
 left-append [] one two e = e
 left-append (item ∷ later) one two e = grind (arith, left-append later one two e)
-
--- ---- the epochs are whole
-
-good-before : (items : List (Item ReadEpoch)) (reads : List ReadEpoch)
-    → AreGoodEpochs (with_reads items reads) → AreGoodEpochs items
-good-before items [] h = h
-good-before items (read ∷ later) h = (good-before (Accepted (Observation read) ∷ items) later h).1
-
-whole-reads : (items : List (Item ReadEpoch)) (reads : List ReadEpoch) → AreGoodEpochs
-    (with_reads items reads) → AllByRecursion (IsWholeEpoch (types_in_force items)) (epochs_in reads)
-whole-reads items [] h = tt
-whole-reads items (read ∷ later) h = grind (arith, whole-reads _ later h, good-before)
-
-pub whole-block : (items : List (Item ReadEpoch)) (reads : List ReadEpoch) (r : Reading ReadEpoch)
-    → EndsBlock (with_reads items reads) r → ItemsAreRead compact_place r.items
-    → AllByRecursion (IsWholeEpoch (types_in_force items)) (epochs_in reads)
-whole-block items reads r ends h = grind (arith, common_steps, whole-reads, epochs-good)
 
 -- ---- which epochs were read
 
@@ -91,16 +50,6 @@ epochs_of [] = []
 epochs_of (Accepted (Observation read) ∷ before) = epochs_of before ++ read.epoch ∷ []
 epochs_of (Warned at ∷ before) = epochs_of before
 epochs_of (Accepted unit ∷ before) = epochs_of before
-
-epochs-read : (items : List (Item ReadEpoch)) (reads : List ReadEpoch)
-    → epochs_of (with_reads items reads) ≡ epochs_of items ++ epochs_in reads
-epochs-read items [] = sym (append-nil (epochs_of items))
-epochs-read items (read ∷ later) = epochs-read _ later
-    ∙ append_assoc (epochs_of items) (read.epoch ∷ []) (epochs_in later)
-
-pub epochs-ended : (items : List (Item ReadEpoch)) (reads : List ReadEpoch) (r : Reading ReadEpoch)
-    → EndsBlock (with_reads items reads) r → epochs_of r.items ≡ epochs_of items ++ epochs_in reads
-epochs-ended items reads r v1 = grind (arith, epochs-read)
 
 pub epochs-append : (later before : List (Item ReadEpoch)) → epochs_of (later ++ before) ≡ epochs_of before ++ epochs_of later
 epochs-append [] before = sym (append-nil (epochs_of before))

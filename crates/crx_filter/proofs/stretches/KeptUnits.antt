@@ -1,14 +1,15 @@
 -- Units that are kept after a damaged stretch, whoever wrote them: they are read as themselves, whatever was
 -- read of the stretch.
 use Rattle.crx_filter.proofs
-use proofs.Words.{ℕ, ◌≡◌, ◌+◌, Bool, true, false, List, [], ◌∷◌, ◌++◌, map, length, Option, Some, None, refl, ap, sym, ◌∙◌}
+use proofs.Words.{ℕ, ◌≡◌, ◌+◌, ◌≤◌, At, Bool, true, false, List, [], ◌∷◌, ◌++◌, map, length, Option, Some, None, refl, ap, sym, ◌∙◌}
 use proofs.Words.{subst, arith, append-nil, inl, and_parts, if◌then◌else◌, ReadLine, Content, Epoch, FileUnit, HeaderLine}
 use proofs.Words.{EventLine, EventRecord, Observation, begins_epoch, ReadEpoch, Item, header_has_ended}
-use proofs.Words.{records_left, types_in_force, Reading, reading_from, compact_place, continued_reading, raws_kept}
+use proofs.Words.{records_left, types_in_force, Reading, AtLines, reading_from, compact_place, continued_reading, raws_kept}
 use proofs.Words.{IsBetweenUnits, AreInPlace, IsInPlace}
-use proofs.anywriter.AnyText.{IsLike, none-left, AreReadOn, read-on}
-use proofs.{reading.{ForwardCompact.compact-forward, Resuming.resumed}, wayback.Carried.started}
-use proofs.stretches.OpenReading.{AreEpochs, IsOpen, GoesOnAfter, open-continued, epochs-between, epochs-types}
+use proofs.anywriter.AnyText.{none-left, AreReadOn, read-on}
+use proofs.{reading.{ForwardCompact.compact-forward, Resuming.resumed}, wayback.Carried.{IsLike, started}}
+use proofs.stretches.OpenReading.{IsOpen, GoesOnAfter, open-continued, pending}
+use proofs.damage.GoingOn.{with_warnings, warned-between, warned-types}
 use Rattle.crx_compact.proofs.Words.{tail_left}
 use Rattle.crx_compact.specs.meaning.AnyWriter.{WrittenEpoch, nothing_written, AreEpochLines}
 use Rattle.crx_filter.specs.meaning.{CompactText.AreLinesOfUnit, Stretches.AreLinesOn, UnitsAndText.as_items}
@@ -54,14 +55,14 @@ units-begin block (next ∷ units) unit lines now h header left k =
 
 -- ---- the reading
 
-pub record AreKeptRead (block kept : List (FileUnit Epoch)) (items : List (Item ReadEpoch)) (r : Reading ReadEpoch)
+pub record AreKeptRead (block kept : List (FileUnit Epoch)) (items : List (Item ReadEpoch)) (before r : Reading ReadEpoch)
     : Type 0 where
-  pub news : List (Item ReadEpoch)
-  pub epochs : AreEpochs news
+  pub warnings : List At
+  pub few : length warnings + pending r.stop ≤ pending before.stop
   pub more : List (Item ReadEpoch)
   pub known : rinex_items more ≡ as_items kept
-  pub like : IsLike (more ++ (news ++ items)) (kept ++ block)
-  pub stops : IsOpen (more ++ (news ++ items)) r
+  pub like : IsLike (more ++ with_warnings warnings items) (kept ++ block)
+  pub stops : IsOpen (more ++ with_warnings warnings items) r
 
 -- what is known of the units before, and of what was read in their place
 pub record CanGoOnAs (block : List (FileUnit Epoch)) (items : List (Item ReadEpoch)) : Type 0 where
@@ -82,44 +83,42 @@ like-block block items h = record {
 pub units-kept : (block kept : List (FileUnit Epoch)) (lines : List (List ℕ)) (last : Option WrittenEpoch)
     (items : List (Item ReadEpoch)) (so_far : List ReadLine) → CanGoOnAs block items → AreInPlace (as_items (kept ++ block))
     → AreLinesOn block None kept lines last → IsOpen items (reading_from compact_place true [] 3 so_far)
-    → AreKeptRead block kept items (reading_from compact_place true [] 3 (so_far ++ map Content lines))
-units-kept block [] lines last items so_far h placed k stops = record {
-  news = [];
-  epochs = tt;
-  more = [];
-  known = refl;
-  like = like-block block items h;
-  stops = subst (λ ls. IsOpen items (reading_from compact_place true [] 3 ls))
-      (sym (ap (λ ls. so_far ++ map Content ls) k.0 ∙ append-nil so_far)) stops;
-}
+    → AreKeptRead block kept items (reading_from compact_place true [] 3 so_far)
+    (reading_from compact_place true [] 3 (so_far ++ map Content lines))
+units-kept block [] lines last items so_far h placed k stops =
+    rw (k.0, append-nil so_far) (record {
+      warnings = [];
+      few = omega arith;
+      more = [];
+      known = refl;
+      like = like-block block items h;
+      stops = stops;
+    })
 units-kept block (unit ∷ kept) lines last items so_far h placed k stops =
     let b = units-begin block kept unit lines last placed h.header h.left k in
     let r : Reading ReadEpoch = reading_from compact_place true [] 3 so_far in
-    let g : GoesOnAfter items (Content b.line ∷ map Content b.others) (continued_reading compact_place true r
+    let g : GoesOnAfter items (Content b.line ∷ map Content b.others) r (continued_reading compact_place true r
     (Content b.line ∷ map Content b.others)) =
     open-continued items r b.line (map Content b.others) h.between stops b.begins in
-    let x : List (Item ReadEpoch) = g.news ++ items in
-    let can : CanGoOnAs block x = record {
+    let at = g.goes in
+    let x : List (Item ReadEpoch) = with_warnings at.warnings items in
+    let o : AreReadOn true x at.number block (unit ∷ kept) lines last = read-on true x at.number block (unit ∷ kept) lines None
+    last (like-block block x (record {
       header = h.header;
       left = h.left;
-      between = epochs-between g.news items g.epochs h.between;
-      types = epochs-types g.news items g.epochs ∙ h.types;
-    } in
-    let o : AreReadOn true x g.number block (unit ∷ kept) lines last = read-on true x g.number block (unit ∷ kept) lines None
-    last (like-block block x can) (none-left (tail_left (raws_kept x))) placed k in
+      between = warned-between at.warnings items h.between;
+      types = warned-types at.warnings items ∙ h.types;
+    })) (none-left (tail_left (raws_kept x))) placed k in
+    let reads : reading_from compact_place true [] 3 (so_far ++ map Content lines)
+    ≡ record { items = o.more ++ x; stop = AtLines (at.number + length lines) [] } =
+    resumed compact_place compact-forward true [] 3 so_far (map Content lines)
+    ∙ ap (λ ls. continued_reading compact_place true r (map Content ls)) b.is ∙ at.same
+    ∙ ap (λ ls. reading_from compact_place true x at.number (map Content ls)) (sym b.is) ∙ o.reads in
     record {
-      news = g.news;
-      epochs = g.epochs;
+      warnings = at.warnings;
+      few = rw reads (omega (arith, g.few));
       more = o.more;
       known = o.known;
       like = o.like;
-      stops = inl (
-        g.number + length lines,
-        [],
-        tt,
-        compact-forward.wants (o.more ++ x),
-        resumed compact_place compact-forward true [] 3 so_far (map Content lines)
-            ∙ ap (λ ls. continued_reading compact_place true r (map Content ls)) b.is ∙ g.same
-            ∙ ap (λ ls. reading_from compact_place true x g.number (map Content ls)) (sym b.is) ∙ o.reads,
-      );
+      stops = inl (at.number + length lines, [], refl, compact-forward.wants (o.more ++ x), reads);
     }

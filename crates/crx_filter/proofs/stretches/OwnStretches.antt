@@ -5,16 +5,16 @@ use proofs.Words.{common_steps, ℕ, ◌≡◌, ◌⊎◌, inl, inr, true, false
 use proofs.Words.{subst, arith, AllByRecursion, flat_map, printed_epoch, list_all, and_parts, by_bool, InputLine, lines_of, lines_text}
 use proofs.Words.{Content, as_read, version_line, program_line, Epoch, FileUnit, IsWholeEpoch, EventLine, Observation}
 use proofs.Words.{Choices, is_date, Item, Accepted, Warned, is_at_start, header_has_ended, records_left, types_in_force}
-use proofs.Words.{compact_lines, printed_items, expanded, Begins, AreInPlace, BeginsAnew, with_stretches, IsStretch, AreStretches}
+use proofs.Words.{compact_lines, printed_items, expanded, Begins, AreInPlace, BeginsAnew, with_stretches, Stretch, IsStretch, AreStretches}
 use Rattle.crx_filter.specs.meaning.{CompactText.{AreUnitsInPlace, AreWholeFile}, Stretches.{AreLinesOn, BeginsWithUnits}}
 use Rattle.crx_filter.specs.meaning.{Stretches.{HasStretches, Saves, begins_no_event}, UnitsAndText.as_items}
 use Rattle.crx_filter.specs.OwnStretches.{read_of_file, IsReadWhole, OwnStretch, up_to_own_end, up_to_own_next, with_own, own_text}
 use Rattle.crx_filter.specs.OwnStretches.{may_come_instead, AreOwnStretches, HasOwnStretches, SavesOwn, KeepsOwnRest, BeginsWithOwn}
-use proofs.anywriter.{AnyText.first-units, OwnText.{units-carried, units-append, units-printed, state_after, state_on, own-on, own-lines, whole-items}}
+use proofs.anywriter.{AnyText.first-units, OwnText.{units-append, units-printed, state_after, state_on, own-on, own-lines, whole-items}}
 use proofs.damage.{DamagedText.front-cut, ItemTexts.rest-in_place, TextAfter.lines_on}
 use proofs.stretches.StretchesCut.{AreGood, good-before, good-up_to, as_stretch, as_stretches, stretches-cut}
 use proofs.stretches.StretchesSaved.{rest-kept}
-use proofs.wayback.{Carried.{started, header-same, left-same, types-same}, First.{version-clean, program-clean, program-read}}
+use proofs.wayback.{Carried.{started, units-like}, First.{version-clean, program-clean, program-read}}
 use proofs.wayback.{Reading.lines_back, Units.units_in, WayBack.{IsSettled, whole-settled, lines-same, lines-clean}}
 
 -- ---- the file
@@ -30,19 +30,20 @@ file-good file choices h = grind (arith, file-settled)
 -- its units are a whole file's
 pub file-whole : (file : List ℕ) (choices : Choices) → IsReadWhole file choices
     → AreWholeFile (units_in (read_of_file file choices).items)
-file-whole file choices h = whole-items (read_of_file file choices).items (file-settled file choices h) h.no_returns
+file-whole file choices h = whole-items (read_of_file file choices).items (file-settled file choices h)
 
 -- ---- its units leave what its items do
 
 pub units-header : (items : List (Item Epoch)) → header_has_ended (as_items (units_in items)) ≡ header_has_ended items
-units-header items = ap header_has_ended (sym (units-carried items)) ∙ header-same (λ before epoch. epoch) items
+units-header [] = refl
+units-header (item ∷ before) = grind (arith, units-header before)
 
 pub units-left : (items : List (Item Epoch)) → AreInPlace items → records_left (as_items (units_in items)) ≡ records_left items
-units-left items h = ap records_left (sym (units-carried items)) ∙ left-same (λ before epoch. epoch) items h
+units-left items h = sym (units-like items h).left
 
 pub units-types : (items : List (Item Epoch)) → AreInPlace items
     → types_in_force (as_items (units_in items)) ≡ types_in_force items
-units-types items h = ap types_in_force (sym (units-carried items)) ∙ types-same (λ before epoch. epoch) items h
+units-types items h = sym (units-like items h).types
 
 -- ---- text that begins with the lines of its first units
 
@@ -120,7 +121,7 @@ units-next : (before : List (Item Epoch)) (s : OwnStretch)
     → units_in (up_to_own_next before s) ≡ units_in s.kept ++ (units_in s.lost ++ units_in before)
 units-next before s = units-append s.kept (up_to_own_end before s) ∙ ap (λ us. units_in s.kept ++ us) (units-append s.lost before)
 
-units-with : (every : Option ℕ) (before : List (Item Epoch)) (stretches : List OwnStretch)
+pub units-with : (every : Option ℕ) (before : List (Item Epoch)) (stretches : List OwnStretch)
     → with_stretches (units_in before) (as_stretches every before stretches) ≡ units_in (with_own before stretches)
 units-with every before [] = refl
 units-with every before (s ∷ later) =
@@ -154,7 +155,7 @@ one-stretch choices before s later h placed closed =
     whole block kept (inl none) closed = rw none at closed
     whole block kept (inr left) closed = left
 
-all-stretches : (choices : Choices) (before : List (Item Epoch)) (stretches : List OwnStretch)
+pub all-stretches : (choices : Choices) (before : List (Item Epoch)) (stretches : List OwnStretch)
     → AreOwnStretches choices before stretches → AreInPlace (with_own before stretches)
     → records_left (with_own before stretches) ≡ 0
     → AreStretches (units_in before) (as_stretches choices.every before stretches)
@@ -190,35 +191,45 @@ saves-own every before (s ∷ later) lines placed h = (
     first next (t ∷ others) h = rest-in_place t.lost next (rest-in_place t.kept (up_to_own_end next t)
         (first (up_to_own_next next t) others h))
 
-own-damage : (file : List ℕ) (choices : Choices) (damaged : List ℕ) → is_date choices.date ≡ true
-    → (d : HasOwnStretches file choices damaged)
-    → HasStretches (units_in d.before) (as_stretches choices.every d.before d.stretches) damaged
-own-damage file choices damaged dated d =
-    let settled : IsSettled (with_own d.before d.stretches) = subst IsSettled d.parts (file-settled file choices d.file_good) in
-    let good : AreGood (with_own d.before d.stretches) = subst AreGood d.parts (file-good file choices d.file_good) in
-    let front : AreGood d.before = good-up_to d.before d.stretches good in
-    subst (HasStretches (units_in d.before) (as_stretches choices.every d.before d.stretches)) (sym d.text) (record {
-      file = subst AreWholeFile (ap units_in d.parts ∙ sym (units-with choices.every d.before d.stretches))
-          (file-whole file choices d.file_good);
-      header = units-header d.before ∙ d.header;
-      text = begins-own choices d.before (own_text choices d.before d.stretches) dated front (started d.before d.header);
-      each = all-stretches choices d.before d.stretches d.each settled.in_place settled.none;
-      rest = stretches-cut choices d.before d.stretches d.each good d.header;
-    })
+module _ (file : List ℕ) (choices : Choices) (damaged : List ℕ) (dated : is_date choices.date ≡ true)
+    (d : HasOwnStretches file choices damaged) where
+  pub settled : IsSettled (with_own d.before d.stretches)
+  settled = subst IsSettled d.parts (file-settled file choices d.file_good)
+
+  pub good : AreGood (with_own d.before d.stretches)
+  good = subst AreGood d.parts (file-good file choices d.file_good)
+
+  -- the text, and the stretches as those of a text, whoever wrote it
+  abbrev pub text_of_own : List ℕ
+  text_of_own = lines_text (compact_lines choices d.before) ++ own_text choices d.before d.stretches
+
+  abbrev pub stretches_of_own : List Stretch
+  stretches_of_own = as_stretches choices.every d.before d.stretches
+
+  abbrev pub own-damage : HasStretches (units_in d.before) stretches_of_own text_of_own
+  own-damage = record {
+    file = subst AreWholeFile (ap units_in d.parts ∙ sym (units-with choices.every d.before d.stretches))
+        (file-whole file choices d.file_good);
+    header = units-header d.before ∙ d.header;
+    text = begins-own choices d.before (own_text choices d.before d.stretches) dated (good-up_to d.before d.stretches good)
+        (started d.before d.header);
+    each = all-stretches choices d.before d.stretches d.each settled.in_place settled.none;
+    rest = stretches-cut choices d.before d.stretches d.each good d.header;
+  }
 
 pub own-rest : (file : List ℕ) (choices expanding : Choices) (damaged : List ℕ)
     → is_date choices.date ≡ true → expanding.skip ≡ true → (d : HasOwnStretches file choices damaged)
     → KeepsOwnRest file choices damaged d (expanded damaged expanding)
 own-rest file choices expanding damaged dated skips d =
-    let k = rest-kept (units_in d.before) (as_stretches choices.every d.before d.stretches) damaged expanding skips
-    (own-damage file choices damaged dated d) in
+    let k = rest-kept (units_in d.before) (stretches_of_own file choices damaged dated d) (text_of_own file choices damaged dated d)
+    expanding skips (own-damage file choices damaged dated d) in
+    let same = ap (λ t. expanded t expanding) d.text in
     record {
       lines = k.lines;
-      saves = saves-own choices.every d.before d.stretches k.lines
-          (subst AreInPlace d.parts (file-settled file choices d.file_good).in_place) k.saves;
+      saves = saves-own choices.every d.before d.stretches k.lines (settled file choices damaged dated d).in_place k.saves;
       warnings = k.warnings;
-      output = k.output ∙ ap (λ ls. lines_text (ls ++ k.lines)) (units-printed d.before);
-      messages = k.messages;
-      status = k.status;
-      fault = k.fault;
+      output = cc (same, k.output, units-printed d.before);
+      messages = cc (same, k.messages);
+      status = cc (same, k.status);
+      fault = cc (same, k.fault);
     }

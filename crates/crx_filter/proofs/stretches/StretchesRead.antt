@@ -1,14 +1,14 @@
 -- The reading of a text that is damaged in stretches: after each stretch the units that are kept, exactly.
 use Rattle.crx_filter.proofs
-use proofs.Words.{◌≡◌, true, List, [], ◌∷◌, ◌++◌, map, refl, ap, sym, ◌∙◌, subst, append_assoc, append-nil, ⊤}
+use proofs.Words.{◌≡◌, true, List, [], ◌∷◌, ◌++◌, map, refl, sym, ◌∙◌, subst, append_assoc, append-nil}
 use proofs.Words.{AllByRecursion, flat_map, flat_map-append, ReadLine, Content, Epoch, FileUnit, IsWholeEpoch}
 use proofs.Words.{printed_epoch, Observation, IsGood, ReadEpoch, Item, Accepted, Warned, header_has_ended}
 use proofs.Words.{records_left, types_in_force, reading_from, compact_place, printed_items, IsBetweenUnits}
 use proofs.Words.{expanded_lines, AreInPlace, Stretch, up_to_end, up_to_next, with_stretches, IsStretch, AreStretches}
-use Rattle.crx_filter.specs.meaning.{Stretches.{Saves, stretches_lines}, UnitsAndText.as_items, WrittenStandard.rinex_items}
-use proofs.damage.{BlockReading.IsNoEvent, SavedText.{lines-append, epochs_of}}
-use proofs.{reading.Each.{all-append, header-append}, stretches.KeptUnits.{CanGoOnAs, units-kept}}
-use proofs.stretches.OpenReading.{AreEpochs, IsOpen, stretch-more, epochs-append, epochs-between, epochs-types}
+use Rattle.crx_filter.specs.meaning.{Stretches.{Saves, stretches_lines}, UnitsAndText.as_items}
+use proofs.damage.{GoingOn.with_warnings, SavedText.{lines-append, lines-warned, epochs_of}}
+use proofs.{reading.Each.{all-append, header-append}, stretches.KeptUnits.{AreKeptRead, units-kept}}
+use proofs.stretches.OpenReading.{AreEpochs, IsOpen, IsStretchRead, stretch-more, epochs-between, epochs-types}
 use proofs.wayback.{ExpandedStandard.printed-read, ExpandedWhole.AreGoodEpochs}
 
 -- ---- units after others
@@ -30,54 +30,75 @@ pub record WereReadAs (so_far : List ReadLine) (items : List (Item ReadEpoch)) (
   pub between : IsBetweenUnits items
   pub types : types_in_force items ≡ types_in_force (as_items before)
 
+-- ---- what is known of some stretches, and of all units
+
+pub record AreSound (before : List (FileUnit Epoch)) (stretches : List Stretch) : Type 0 where
+  pub in_place : AreInPlace (as_items (with_stretches before stretches))
+  pub header : header_has_ended (as_items before) ≡ true
+  pub closed : records_left (as_items (with_stretches before stretches)) ≡ 0
+  pub each : AreStretches before stretches
+
+pub placed-up_to : (before : List (FileUnit Epoch)) (stretches : List Stretch)
+    → AreInPlace (as_items (with_stretches before stretches)) → AreInPlace (as_items before)
+placed-up_to before [] h = h
+placed-up_to before (s ∷ later) h =
+    rest-placed s.lost before (rest-placed s.kept (up_to_end before s) (placed-up_to (up_to_next before s) later h))
+
+-- the units up to the next stretch, or the end, are whole
+pub next-closed : (next : List (FileUnit Epoch)) (later : List Stretch) → AreSound next later
+    → records_left (as_items next) ≡ 0
+next-closed next [] sound = sound.closed
+next-closed next (s ∷ later) sound = IsStretch.begins (sound.each).0
+
+sound-later : (before : List (FileUnit Epoch)) (s : Stretch) (later : List Stretch) → AreSound before (s ∷ later)
+    → AreSound (up_to_next before s) later
+sound-later before s later sound = record {
+  in_place = sound.in_place;
+  header = header-on s.kept (up_to_end before s) (header-on s.lost before sound.header);
+  closed = sound.closed;
+  each = (sound.each).1;
+}
+
 -- ---- one stretch
 
+-- what is read of its lines, and then of those that are kept
 pub record IsStepRead (before : List (FileUnit Epoch)) (s : Stretch) (so_far : List ReadLine) (items : List (Item ReadEpoch))
     : Type 0 where
-  pub news : List (Item ReadEpoch)
-  pub epochs : AreEpochs news
-  pub more : List (Item ReadEpoch)
-  pub known : rinex_items more ≡ as_items s.kept
-  pub come : WereReadAs (so_far ++ (s.instead ++ map Content s.lines)) (more ++ (news ++ items)) (up_to_next before s)
+  pub first : IsStretchRead items (reading_from compact_place true [] 3 (so_far ++ s.instead))
+  pub kept : AreKeptRead (up_to_end before s) s.kept (first.news ++ items)
+      (reading_from compact_place true [] 3 (so_far ++ s.instead))
+      (reading_from compact_place true [] 3 ((so_far ++ s.instead) ++ map Content s.lines))
+  pub come : WereReadAs ((so_far ++ s.instead) ++ map Content s.lines)
+      ((kept.more ++ with_warnings kept.warnings first.news) ++ items) (up_to_next before s)
 
--- what is known of the units up to the next stretch
-pub record IsSound (before : List (FileUnit Epoch)) (s : Stretch) : Type 0 where
-  pub in_place : AreInPlace (as_items (up_to_next before s))
-  pub header : header_has_ended (as_items before) ≡ true
-  pub closed : records_left (as_items (up_to_next before s)) ≡ 0
-
-pub one-stretch : (before : List (FileUnit Epoch)) (s : Stretch) (so_far : List ReadLine) (items : List (Item ReadEpoch))
-    → IsStretch before s → AllByRecursion IsNoEvent s.instead → IsSound before s → WereReadAs so_far items before
+pub one-stretch : (before : List (FileUnit Epoch)) (s : Stretch) (later : List Stretch) (so_far : List ReadLine)
+    (items : List (Item ReadEpoch)) → AreSound before (s ∷ later) → WereReadAs so_far items before
     → IsStepRead before s so_far items
-one-stretch before s so_far items h allowed sound come =
+one-stretch before s later so_far items sound come =
     let block : List (FileUnit Epoch) = up_to_end before s in
-    let first = stretch-more items so_far s.instead come.between come.stops allowed in
+    let h = (sound.each).0 in
+    let next = sound-later before s later sound in
+    let first = stretch-more items so_far s.instead come.between come.stops h.allowed in
     let x : List (Item ReadEpoch) = first.news ++ items in
     let header : header_has_ended (as_items block) ≡ true = header-on s.lost before sound.header in
-    let can : CanGoOnAs block x = record {
+    let k = units-kept block s.kept s.lines h.last x (so_far ++ s.instead) (record {
       header = header;
       left = h.ends;
       between = epochs-between first.news items first.epochs come.between;
       types = epochs-types first.news items first.epochs ∙ come.types ∙ sym h.types;
-    } in
-    let k = units-kept block s.kept s.lines h.last x (so_far ++ s.instead) can sound.in_place h.written first.stops in
-    let all : List (Item ReadEpoch) = k.more ++ (k.news ++ x) in
-    let there : WereReadAs (so_far ++ (s.instead ++ map Content s.lines)) all (up_to_next before s) = record {
-      stops = subst (λ ls. IsOpen all (reading_from compact_place true [] 3 ls))
-          (append_assoc so_far s.instead (map Content s.lines)) k.stops;
-      between = record {
-        header = (k.like).header ∙ header-on s.kept block header;
-        none = (k.like).left ∙ sound.closed;
-      };
-      types = (k.like).types;
-    } in
+    }) (placed-up_to (up_to_next before s) later next.in_place) h.written first.stops in
     record {
-      news = k.news ++ first.news;
-      epochs = epochs-append k.news first.news k.epochs first.epochs;
-      more = k.more;
-      known = k.known;
-      come = subst (λ (l : List (Item ReadEpoch)). WereReadAs (so_far ++ (s.instead ++ map Content s.lines)) (k.more ++ l)
-          (up_to_next before s)) (sym (append_assoc k.news first.news items)) there;
+      first = first;
+      kept = k;
+      come = subst (λ (is : List (Item ReadEpoch)). WereReadAs ((so_far ++ s.instead) ++ map Content s.lines) is (up_to_next before s))
+          (simp append_assoc) (record {
+            stops = k.stops;
+            between = record {
+              header = (k.like).header ∙ next.header;
+              none = (k.like).left ∙ next-closed (up_to_next before s) later next;
+            };
+            types = (k.like).types;
+          });
     }
 
 -- ---- what is written for it
@@ -106,6 +127,24 @@ news-whole (Accepted (Observation read) ∷ news) items h good = all-append _ _ 
 news-whole (Warned at ∷ news) items h good = news-whole news items h good
 news-whole (Accepted unit ∷ news) items h good = absurd h
 
+module _ (before : List (FileUnit Epoch)) (s : Stretch) (so_far : List ReadLine) (items : List (Item ReadEpoch))
+    (one : IsStepRead before s so_far items) where
+  pub step-printed : expanded_lines (one.kept.more ++ with_warnings one.kept.warnings one.first.news)
+      ≡ flat_map printed_epoch (epochs_of one.first.news) ++ printed_items (as_items s.kept)
+  step-printed = rw (lines-append one.kept.more _) (cc (
+    lines-warned one.kept.warnings one.first.news,
+    news-printed one.first.news one.first.epochs,
+    printed-read one.kept.more,
+    one.kept.known,
+  ))
+
+  pub step-whole : types_in_force items ≡ types_in_force (as_items before)
+      → AreGoodEpochs ((one.kept.more ++ with_warnings one.kept.warnings one.first.news) ++ items)
+      → AllByRecursion (IsWholeEpoch (types_in_force (as_items before))) (epochs_of one.first.news)
+  step-whole types good = rw (← types) (news-whole one.first.news items one.first.epochs
+      (good-rest (map Warned one.kept.warnings) (one.first.news ++ items)
+      (good-rest one.kept.more _ (simp append_assoc at good))))
+
 -- ---- all stretches
 
 pub record AreStretchesRead (before : List (FileUnit Epoch)) (stretches : List Stretch) (so_far : List ReadLine)
@@ -114,74 +153,31 @@ pub record AreStretchesRead (before : List (FileUnit Epoch)) (stretches : List S
   pub come : WereReadAs (so_far ++ stretches_lines stretches) (more ++ items) (with_stretches before stretches)
   pub saves : AreGoodEpochs (more ++ items) → Saves before stretches (expanded_lines more)
 
--- each line that comes in a stretch is allowed
-abbrev pub AllowLines : List Stretch → Type 0
-AllowLines [] = ⊤
-AllowLines (s ∷ later) = AllByRecursion IsNoEvent s.instead × AllowLines later
-
--- what is known of all units
-pub record AreSound (before : List (FileUnit Epoch)) (stretches : List Stretch) : Type 0 where
-  pub in_place : AreInPlace (as_items (with_stretches before stretches))
-  pub header : header_has_ended (as_items before) ≡ true
-  pub closed : records_left (as_items (with_stretches before stretches)) ≡ 0
-
-pub placed-up_to : (before : List (FileUnit Epoch)) (stretches : List Stretch)
-    → AreInPlace (as_items (with_stretches before stretches)) → AreInPlace (as_items before)
-placed-up_to before [] h = h
-placed-up_to before (s ∷ later) h =
-    rest-placed s.lost before (rest-placed s.kept (up_to_end before s) (placed-up_to (up_to_next before s) later h))
-
--- the units up to the next stretch, or the end, are whole
-pub next-closed : (next : List (FileUnit Epoch)) (later : List Stretch) → AreStretches next later
-    → records_left (as_items (with_stretches next later)) ≡ 0 → records_left (as_items next) ≡ 0
-next-closed next [] h closed = closed
-next-closed next (s ∷ later) h closed = IsStretch.begins h.0
-
 pub stretches-read : (before : List (FileUnit Epoch)) (stretches : List Stretch) (so_far : List ReadLine)
-    (items : List (Item ReadEpoch)) → AreStretches before stretches → AllowLines stretches → AreSound before stretches
-    → WereReadAs so_far items before → AreStretchesRead before stretches so_far items
-stretches-read before [] so_far items h allowed sound come = record {
+    (items : List (Item ReadEpoch)) → AreSound before stretches → WereReadAs so_far items before
+    → AreStretchesRead before stretches so_far items
+stretches-read before [] so_far items sound come = record {
   more = [];
-  come = subst (λ ls. WereReadAs ls items before) (sym (append-nil so_far)) come;
+  come = rw (append-nil so_far) come;
   saves = λ good. refl;
 }
-stretches-read before (s ∷ later) so_far items h allowed sound come =
-    let next : List (FileUnit Epoch) = up_to_next before s in
-    let here : IsSound before s = record {
-      in_place = placed-up_to next later sound.in_place;
-      header = sound.header;
-      closed = next-closed next later h.1 sound.closed;
-    } in
-    let one = one-stretch before s so_far items h.0 allowed.0 here come in
-    let x : List (Item ReadEpoch) = one.more ++ (one.news ++ items) in
-    let lines : List ReadLine = s.instead ++ map Content s.lines in
-    let rest = stretches-read next later (so_far ++ lines) x h.1 allowed.1 (record {
-      in_place = sound.in_place;
-      header = header-on s.kept (up_to_end before s) (header-on s.lost before sound.header);
-      closed = sound.closed;
-    }) one.come in
-    let all : List (Item ReadEpoch) = rest.more ++ (one.more ++ one.news) in
-    let joined : rest.more ++ x ≡ all ++ items =
-    ap (λ (l : List (Item ReadEpoch)). rest.more ++ l) (sym (append_assoc one.more one.news items))
-    ∙ sym (append_assoc rest.more (one.more ++ one.news) items) in
-    let kept : expanded_lines one.more ≡ printed_items (as_items s.kept) = printed-read one.more ∙ ap printed_items one.known in
-    let printed : expanded_lines all ≡ flat_map printed_epoch (epochs_of one.news) ++ (printed_items (as_items s.kept)
-    ++ expanded_lines rest.more) = rw (lines-append rest.more (one.more ++ one.news), lines-append one.more one.news)
-    (rw (append_assoc, news-printed one.news one.epochs, kept) refl) in
+stretches-read before (s ∷ later) so_far items sound come =
+    let one = one-stretch before s later so_far items sound come in
+    let own : List (Item ReadEpoch) = one.kept.more ++ with_warnings one.kept.warnings one.first.news in
+    let rest = stretches-read (up_to_next before s) later ((so_far ++ s.instead) ++ map Content s.lines) (own ++ items)
+    (sound-later before s later sound) one.come in
+    let lines : ((so_far ++ s.instead) ++ map Content s.lines) ++ stretches_lines later ≡ so_far ++ stretches_lines (s ∷ later) =
+    simp append_assoc in
     record {
-      more = all;
-      come = subst (λ (l : List (Item ReadEpoch)). WereReadAs (so_far ++ stretches_lines (s ∷ later)) l
-          (with_stretches before (s ∷ later))) joined
-          (subst (λ ls. WereReadAs ls (rest.more ++ x) (with_stretches next later))
-          (append_assoc so_far lines (stretches_lines later)) rest.come);
+      more = rest.more ++ own;
+      come = rw (append_assoc rest.more own items) (subst (λ ls. WereReadAs ls (rest.more ++ (own ++ items))
+          (with_stretches before (s ∷ later))) lines rest.come);
       saves = λ good.
-          let again = subst AreGoodEpochs (sym joined) good in (
-            epochs_of one.news,
+          let again : AreGoodEpochs (rest.more ++ (own ++ items)) = rw append_assoc at good in (
+            epochs_of one.first.news,
             expanded_lines rest.more,
-            subst (λ types. AllByRecursion (IsWholeEpoch types) (epochs_of one.news)) come.types
-                (news-whole one.news items one.epochs (good-rest one.more (one.news ++ items)
-                (good-rest rest.more x again))),
-            printed,
+            step-whole before s so_far items one come.types (good-rest rest.more (own ++ items) again),
+            rw (lines-append rest.more own, step-printed before s so_far items one, append_assoc) refl,
             rest.saves again,
           );
     }

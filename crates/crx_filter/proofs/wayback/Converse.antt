@@ -14,7 +14,7 @@ use Rattle.crx_text.specs.meaning.Numbers.{IsMissingOrWithin, number_text, size_
 use Rattle.{crx_text.specs.meaning.Numbers.IsValue, std.proofs.Common.{pos, negsuc, ◌^◌, decimal}}
 use Rattle.std.{proofs.Math.Nat.pow-le-pow_right, specs.{Char.is_ascii_digit, Str.all_ascii_digits}}
 use proofs.{reading.Each.{all-append, all-from, contents}, wayback.Cut.{CanStand, return-kept, first-cut}}
-use proofs.wayback.First.{append-printable, take-printable, printable-no_feed, printable-no_return}
+use proofs.wayback.First.{all-drop, append-printable, take-printable, printable-no_feed, printable-no_return}
 
 -- a line that is plain wherever it is written
 pub record IsPlainLine (line : List ℕ) : Type 0 where
@@ -42,12 +42,6 @@ kept-text (c ∷ cs) h = grind (arith, kept-text cs (and_parts (is_kept c) _ h).
 digits-text : (text : List ℕ) → all_ascii_digits text ≡ true → list_all is_printable text ≡ true
 digits-text [] h = refl
 digits-text (c ∷ cs) h = grind (arith, digits-text cs (and_parts (is_ascii_digit c) _ h).1)
-
-drop-text : (n : ℕ) (text : List ℕ) → list_all is_printable text ≡ true
-    → list_all is_printable (drop n text) ≡ true
-drop-text zero text h = h
-drop-text (suc n) [] h = refl
-drop-text (suc n) (c ∷ cs) h = drop-text n cs (and_parts (is_printable c) _ h).1
 
 -- a number's digits
 small-size : (width size : ℕ) → width ≤ 19 → size < 10 ^ (width - 1) → size < 2 ^ 64
@@ -79,7 +73,8 @@ cells-printable (value ∷ values) flags h k =
     append-printable (observation_text value ++ take 2 flags) (printed_cells values (drop 2 flags))
     (append-printable (observation_text value) (take 2 flags) (number-printable OBSERVATION_WIDTH
     OBSERVATION_DECIMALS value (omega arith) (All-head IsValue value values h)) (take-printable 2 flags k))
-    (cells-printable values (drop 2 flags) (All-tail IsValue value values h) (drop-text 2 flags k))
+    (cells-printable values (drop 2 flags) (All-tail IsValue value values h)
+    (all-drop is_printable 2 flags k))
 
 rows-printable : (rows : List Row) → All IsSoundRow rows
     → AllByRecursion (λ (line : List ℕ). list_all is_printable line ≡ true) (map printed_row rows)

@@ -1,6 +1,7 @@
 -- The two lines that compact text begins with are read, and can be cut off again.
 use Rattle.crx_filter.proofs.Words.{common_steps, ℕ, zero, suc, ◌≡◌, ◌≢◌, true, false, List, [], ◌∷◌, ◌++◌}
-use Rattle.crx_filter.proofs.Words.{take, replicate, length, refl, arith, length-append, Ok, list_all}
+use Rattle.crx_filter.proofs.Words.{Bool, drop, take, replicate, length, refl, arith, length-append, Ok}
+use Rattle.crx_filter.proofs.Words.{list_all}
 use Rattle.crx_filter.proofs.Words.{drop-append_seam, All-nil, ne_eqb, and_parts, HasNoFeed, ends_with_return}
 use Rattle.crx_filter.proofs.Words.{is_printable, CRINEX_PROGRAM_LABEL, is_date}
 use Rattle.crx_filter.proofs.Words.{version_line, program_line, crinex_program}
@@ -43,6 +44,12 @@ pub take-printable : (n : ℕ) (a : List ℕ) → list_all is_printable a ≡ tr
 take-printable zero a h = refl
 take-printable (suc n) [] h = refl
 take-printable (suc n) (c ∷ cs) h = grind (arith, take-printable n cs (and_parts (is_printable c) _ h).1)
+
+pub all-drop : {X : Type 0} (p : X → Bool) (n : ℕ) (xs : List X) → list_all p xs ≡ true
+    → list_all p (drop n xs) ≡ true
+all-drop p zero xs h = h
+all-drop p (suc n) [] h = refl
+all-drop p (suc n) (x ∷ xs) h = all-drop p n xs (and_parts (p x) (list_all p xs) h).1
 
 pub program-printable : (date : List ℕ) → is_date date ≡ true
     → list_all is_printable (program_line date) ≡ true

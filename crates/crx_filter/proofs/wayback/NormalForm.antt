@@ -12,37 +12,40 @@ use Rattle.{crx_header.specs.meaning.EpochColumns.satellites_of, crx_rinex.proof
 use Rattle.{crx_rinex.proofs.ReadingBack.{length-row, length-head}, crx_text.proofs.EndBlanks.few_kept}
 use proofs.{following.Following.body-place, reading.{Each.all-append, Forward.rinex-forward}}
 use proofs.reading.{Forward.rinex_beginning, KeptThroughout.within-kept, WhatWasRead.of-ended}
-use proofs.wayback.Carried.{carried_unit, carried, header-same, start-same, left-same, count-same, types-same}
-use proofs.wayback.Carried.{header-here, record-here, StandsAgain, whole-again}
+use proofs.wayback.Carried.{units_in, units-like, units-placed, header-here, record-here, AllRead, unit-more}
+use proofs.reading.{Ending.closes-well}
+use proofs.Words.{Bool, IsInPlace, records_left, ended_reading}
+use Rattle.crx_filter.specs.meaning.UnitsAndText.{as_items}
 use proofs.wayback.Converse.{IsPlainLine, lines-plain, printed-plain, all-plain, contents-plain}
 use proofs.wayback.{Cut.{IsClean, CanStand, lines-cut}, WayBack.{IsSettled, whole-settled}}
 
--- ---- what is at a unit's printed lines
-
-abbrev same_epoch : List (Item Epoch) → Epoch → Epoch
-same_epoch before epoch = epoch
-
-abbrev accepted : List (Item Epoch) → List (Item Epoch)
-accepted items = carried same_epoch items
+-- ---- the printed lines of some units, read again
 
 event-stands : (types : List Count) (line : List ℕ) (o : Option ℕ) → records_in line ≡ o → is_some o ≡ true
     → is_event_line line ≡ true → epoch_place types (Content line ∷ []) ≡ Done (EventLine line) 1
 event-stands types line v1 e h event = grind (arith, and_parts)
 
-pub stands : StandsAgain rinex_place same_epoch (λ before. printed_unit)
-stands before (HeaderLine line) h = search (header-here, header-same, start-same)
-stands before (EventLine line) h = body-place rinex_beginning (accepted before) (Content line ∷ [])
-    (header-same same_epoch before ∙ (h.0).0) (left-same same_epoch before h.1 ∙ (h.0).1)
-    ∙ event-stands (types_in_force (accepted before)) line _ refl (h.0).3 (h.0).2
-stands before (EventRecord line) h = search (record-here, header-same, left-same, count-same)
-stands before (Observation epoch) h =
+stands : (items : List (Item Epoch)) (unit : FileUnit Epoch) → IsInPlace items unit
+    → rinex_place items (map Content (printed_unit unit)) ≡ Done unit (length (printed_unit unit))
+stands items (HeaderLine line) h = header-here rinex_beginning items line h.0 h.1
+stands items (EventLine line) h = body-place rinex_beginning items (Content line ∷ []) h.0 h.1
+    ∙ event-stands (types_in_force items) line _ refl h.3 h.2
+stands items (EventRecord line) h = record-here rinex_beginning items line
+    (records_left items) h.0 refl h.1 h.2
+stands items (Observation epoch) h =
     let lines = map Content (printed_epoch epoch) in
     let counted : length epoch.rows + 1 ≡ length (printed_epoch epoch) = omega
     (arith, length-map epoch.rows printed_row) in
-    body-place rinex_beginning (accepted before) lines (header-same same_epoch before ∙ (h.0).0)
-    (left-same same_epoch before h.1 ∙ (h.0).1) ∙ ap (λ types. epoch_place types lines) (types-same same_epoch
-    before h.1) ∙ ap (epoch_place (types_in_force before)) (sym (append-nil lines))
-    ∙ epoch-back (types_in_force before) epoch [] (h.0).2 ∙ ap (λ n. Done (Observation epoch) n) counted
+    body-place rinex_beginning items lines h.0 h.1 ∙ ap (epoch_place (types_in_force items)) (sym
+    (append-nil lines))
+    ∙ epoch-back (types_in_force items) epoch [] h.2 ∙ ap (λ n. Done (Observation epoch) n) counted
+
+printed-read : (skip : Bool) (units : List (FileUnit Epoch)) → AreInPlace (as_items units)
+    → AllRead rinex_place skip [] 1 (printed_items (as_items units)) (as_items units)
+printed-read skip [] h = grind arith
+printed-read skip (unit ∷ units) h = unit-more rinex_place rinex-forward skip [] (as_items units) 1
+    (printed_items (as_items units)) (printed_unit unit) unit (printed-read skip units h.1) (stands
+    (as_items units) unit h.0)
 
 -- ---- where nothing is skipped, there are no warnings
 
@@ -56,13 +59,17 @@ whole-none lines =
     }) (length lines + 1) [] 1 lines refl).1 in
     of-ended (λ items. warnings_in items ≡ []) false r.items r.stop none (λ at on. absurd (cc))
 
-unit-same : (before : List (Item Epoch)) (unit : FileUnit Epoch) → carried_unit same_epoch before unit ≡ unit
-unit-same before v1 = grind (arith)
-
-pub accepted-all : (items : List (Item Epoch)) → warnings_in items ≡ [] → accepted items ≡ items
+-- they are all that was accepted
+pub accepted-all : (items : List (Item Epoch)) → warnings_in items ≡ [] → as_items (units_in items) ≡ items
 accepted-all [] h = refl
-accepted-all (Accepted unit ∷ before) h = cc (unit-same before unit, accepted-all before h)
+accepted-all (Accepted unit ∷ before) h = cc (accepted-all before h)
 accepted-all (Warned at ∷ before) h = absurd (cc)
+
+pub units-printed : (items : List (Item Epoch)) → printed_items (as_items (units_in items))
+    ≡ printed_items items
+units-printed [] = refl
+units-printed (Accepted unit ∷ before) = cc (units-printed before)
+units-printed (Warned at ∷ before) = units-printed before
 
 -- ---- printed lines are read as they are written
 
@@ -110,16 +117,17 @@ both-clean (line ∷ lines) h k = search (both-clean lines h.1 k.1)
 
 -- what was accepted, printed and read again
 pub printed-again : (items : List (Item Epoch)) → IsSettled items → HaveNoReturns items → whole_of (lines_text
-    (printed_items items)) ≡ record { items = carried (λ before epoch. epoch) items; fault = None }
+    (printed_items items)) ≡ record { items = as_items (units_in items); fault = None }
 printed-again items h none =
-    search (lines-cut, both-clean, printed-plain, printed-short, whole-again, rinex-forward, stands)
+    let like = units-like items h.in_place in
+    let clean = both-clean (printed_items items) (printed-plain items h.in_place h.copied none)
+    (printed-short items h.in_place h.copied) in
+    ap (whole_rinex false) (lines-cut (printed_items items) clean
+    ∙ ap (map Content) (sym (units-printed items)))
+    ∙ ap (ended_reading false) (printed-read false (units_in items) (units-placed items h.in_place))
+    ∙ rw (closes-well (as_items (units_in items)) (sym like.header ∙ h.header) (sym like.left ∙ h.none)) refl
 
 -- ---- what was accepted, printed, is a standard file
-
-printed-carried : (items : List (Item Epoch)) → printed_items (accepted items) ≡ printed_items items
-printed-carried [] = refl
-printed-carried (Accepted unit ∷ before) = cc (unit-same before unit, printed-carried before)
-printed-carried (Warned at ∷ before) = printed-carried before
 
 pub settled-standard : (items : List (Item Epoch))
     → IsSettled items → HaveNoReturns items → IsStandard (lines_text (printed_items items))
@@ -129,7 +137,7 @@ settled-standard items settled none =
     record {
       good = cc (again);
       plain = cc (cut, all-plain (printed_items items));
-      given_back = cc (cut, contents-plain (printed_items items), printed-carried items, again);
+      given_back = cc (cut, contents-plain (printed_items items), units-printed items, again);
     }
 
 -- ---- the normal form

@@ -1,10 +1,11 @@
 -- The two texts of units that make a file; and each standard file is such a text.
 use Rattle.crx_filter.proofs.Words
 use Words.{common_steps, arith, ℕ, ◌≡◌, List, [], ◌∷◌, map, Option, None, refl, ap, sym, ◌∙◌, lines_of}
-use Words.{lines_text, as_read, At, Epoch, FileUnit, Choices, compacted, Item, Accepted, Warned}
+use Words.{lines_text, as_read, At, Epoch, FileUnit, Choices, compacted, Item}
 use Words.{WholeReading, printed_items, whole_of, IsStandard, OfCopiedLines, HaveNoReturns}
 use Words.{written_well, warnings_in, IsResult, Device, AreInPlace}
 use Rattle.crx_filter.proofs.wayback.NormalForm.{printed-again, accepted-all, whole-none, settled-standard}
+pub use Rattle.crx_filter.proofs.wayback.Carried.{units_in}
 use Rattle.crx_filter.proofs.wayback.Standard.{whole-copied, plain-no_return, plain-text, NoReturn}
 use Rattle.crx_filter.proofs.wayback.{Canonical.compacted-by, WayBack.{IsSettled, whole-settled}}
 use Rattle.crx_filter.{proofs.wayback.Cut.CanStand, specs.meaning.UnitsAndText.{CanBeCopied, as_items}}
@@ -40,9 +41,14 @@ pub none-warned : (units : List (FileUnit Epoch)) → warnings_in (as_items unit
 none-warned [] = refl
 none-warned (unit ∷ before) = none-warned before
 
+pub units-again : (units : List (FileUnit Epoch)) → units_in (as_items units) ≡ units
+units-again [] = refl
+units-again (unit ∷ units) = ap (λ us. unit ∷ us) (units-again units)
+
 whole-text : (units : List (FileUnit Epoch)) → MakeAFile units
     → whole_of (rinex_text units) ≡ record { items = as_items units; fault = None }
-whole-text units h = search (printed-again, settled, no-returns, accepted-all, none-warned)
+whole-text units h = printed-again (as_items units) (settled units h) (no-returns units h)
+    ∙ ap {B = WholeReading Epoch} (λ us. record { items = as_items us; fault = None }) (units-again units)
 
 pub compacts : (units : List (FileUnit Epoch)) (choices : Choices) → MakeAFile units
     → compacted (rinex_text units) choices ≡ written_well (compact_text choices units)
@@ -57,16 +63,6 @@ writes-units choices writer messages status fault file ran units h same = grind 
 
 -- ---- a standard file is the text of its units
 
-abbrev pub units_in : List (Item Epoch) → List (FileUnit Epoch)
-units_in [] = []
-units_in (Accepted unit ∷ before) = unit ∷ units_in before
-units_in (Warned at ∷ before) = units_in before
-
-all-units : (items : List (Item Epoch)) → warnings_in items ≡ [] → as_items (units_in items) ≡ items
-all-units [] e = refl
-all-units (Accepted unit ∷ before) e = ap (λ items. Accepted unit ∷ items) (all-units before e)
-all-units (Warned at ∷ before) e = absurd (cc)
-
 in-order : (units : List (FileUnit Epoch)) → AreInPlace (as_items units)
     → OfCopiedLines CanStand (as_items units) → HaveNoReturns (as_items units) → AreInOrder units
 in-order [] h k e = tt
@@ -78,7 +74,8 @@ make-file units h none = search (in-order)
 
 all-accepted : (file : List ℕ)
     → as_items (units_in (WholeReading.items (whole_of file))) ≡ WholeReading.items (whole_of file)
-all-accepted file = all-units (WholeReading.items (whole_of file)) (whole-none (map as_read (lines_of file)))
+all-accepted file = accepted-all (WholeReading.items (whole_of file)) (whole-none (map as_read
+    (lines_of file)))
 
 -- the units that are read of a standard file
 pub read-units : (file : List ℕ) → IsStandard file → MakeAFile (units_in (WholeReading.items (whole_of file)))
