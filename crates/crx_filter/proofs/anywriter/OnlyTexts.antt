@@ -1,6 +1,7 @@
 -- A text whose expansion ends with status 0 is compact text of a whole file.
 use Rattle.crx_filter.proofs
-use proofs.Words.{ℕ, ◌≡◌, ◌+◌, Bool, true, false, List, [], ◌∷◌, map, length, reverse, Option, Some, None, Result, Ok, Err, refl, ap, sym, ◌∙◌, subst, if◌then◌else◌, ◌&&◌}
+use proofs.Words.{ℕ, ◌≡◌, Bool, true, false, List, [], ◌∷◌, append-nil, map, reverse, Option, Some, None}
+use proofs.Words.{Result, Ok, Err, refl, ap, sym, ◌∙◌, subst, if◌then◌else◌, ◌&&◌}
 use proofs.Words.{lines_of, as_read, ReadLine, Content, Overlong, At, Fault}
 use proofs.Words.{header_has_ended, records_left, warnings_in}
 use proofs.Words.{WholeReading, whole_compact, expanded, Choices, FilterResult, AreInPlace}
@@ -12,10 +13,11 @@ use Rattle.crx_runs.specs.meaning.Results.{status_after}
 use Rattle.std.specs.{Str.bytes_eq}
 use Rattle.crx_text.specs.meaning.Columns.{columns, without_blanks}
 use Rattle.crx_header.specs.meaning.Label.{has_label}
-use Rattle.crx_header.specs.declared.crinex.TheConstants.{CRINEX_VERSION, CRINEX_VERSION_LABEL, CRINEX_PROGRAM_LABEL}
+use Rattle.crx_header.specs.declared.crinex.TheConstants.{CRINEX_VERSION, CRINEX_VERSION_LABEL}
+use Rattle.crx_header.specs.declared.crinex.TheConstants.{CRINEX_PROGRAM_LABEL}
 use Rattle.crx_base.specs.declared.fault.Fault.TheVariants.{NotCompact, BadProgLine}
 use Rattle.std.proofs.{lemmas.List.{reverse-reverse}}
-use Rattle.crx_filter.proofs.anywriter.{AnyText.{any-text, whole-read}, OwnText.units-in_place, OnlyUnits.Standing, OnlyReadings.{EndsBack, within-back}}
+use Rattle.crx_filter.proofs.anywriter.{AnyText.{any-text, whole-read}, OwnText.units-in_place, OnlyReadings.{EndsBack, reading-back}}
 
 -- ---- the text
 
@@ -65,13 +67,10 @@ two-back skip (Content version ∷ rest) f = pick (crinex_version version) refl
     pick (Ok x) e = second-back skip version x rest e f
     pick (Err fault) e = let never = rw (e, whole_compact) at f in absurd (cc never)
 
-standing-first : Standing [] [] None
-standing-first = record { known = refl; left = refl; whole = λ b e. absurd (cc e); good = tt }
-
 items-text : (skip : Bool) (version program : List ℕ) (rest : List ReadLine) → crinex_version version ≡ Ok version
     → crinex_program program ≡ Ok program → EndsBack rest (whole_compact skip (Content version ∷ Content program ∷ rest))
-items-text skip version program rest e k = subst (λ w. EndsBack rest w) (sym (whole-read skip version program rest e k))
-    (within-back skip (length rest + 1) [] [] None 3 [] rest standing-first (refl, refl))
+items-text skip version program rest e k =
+    rw (whole-read skip version program rest e k) (reading-back skip 3 rest)
 
 -- ---- status 0
 
@@ -90,7 +89,7 @@ of-text text skip f none =
     (ap WholeReading.fault all ∙ f) (ap (λ w. warnings_in (WholeReading.items w)) all ∙ none) in
     let settled = read-settled skip (map as_read (lines_of text)) (input-stands text) f in
     let known : rinex_items (WholeReading.items (whole_compact skip (map as_read (lines_of text)))) ≡ as_items back.units =
-    ap (λ w. rinex_items (WholeReading.items w)) (sym all) ∙ back.known in
+    ap (λ w. rinex_items (WholeReading.items w)) (sym all) ∙ (back.stands).known in
     let file : AreWholeFile back.units = record {
       in_place = units-in_place back.units (subst AreInPlace known settled.in_place);
       header = ap header_has_ended (sym known) ∙ settled.header;
@@ -103,7 +102,7 @@ of-text text skip f none =
         program = two.program;
         lines = back.own;
         last = back.last;
-        cut = two.is ∙ ap (λ ls. Content two.version ∷ Content two.program ∷ ls) back.cut;
+        cut = two.is ∙ ap (λ ls. Content two.version ∷ Content two.program ∷ ls) (back.cut ∙ append-nil (map Content back.own));
         first = two.first;
         second = two.second;
         written = back.written;
