@@ -8,3 +8,5 @@ pub mod Weights
 pub mod OnceMore
 pub mod HoursMakeADay
 pub mod Wild
+pub mod Theorems
+pub mod Opened

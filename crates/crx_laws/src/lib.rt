@@ -1,7 +1,7 @@
 //! The laws of lines, of RINEX and Compact RINEX, and of what both filters and the check mean, and worked
 //! examples of the definitions. Each is the contract of a function that does nothing, but for the way back
 //! through `Columns`, which reads what was written.
-#![tactic(auto)]
+#![tactic(auto, using(crate::proofs::Theorems::laws), unfolding(crate::proofs::Opened::digits, crate::proofs::Opened::coded_number, crate::proofs::Opened::size_of, crate::proofs::Opened::number_of, crate::proofs::Opened::number_text, crate::proofs::Opened::warning_text))]
 
 pub mod again;
 pub mod any_writer;
