@@ -7,15 +7,14 @@ use Rattle.crx_compact.proofs.wayback.Overlays.{overlaid-in_turn, patched-differ
 use Rattle.crx_filter.proofs.anywriter.AnyText.{any-text, first-units}
 use Rattle.crx_filter.proofs.anywriter.ComesBack.{canonical, comes-back, normal-comes_back}
 use Rattle.crx_filter.proofs.anywriter.ComesBack.{standard-comes_back}
-use Rattle.crx_filter.proofs.{damage.DamageStays.all-saved, following.CheckLawful.check-lawful}
+use Rattle.crx_filter.proofs.following.CheckLawful.{check-lawful}
 use Rattle.crx_filter.proofs.output.Readiness.{compaction-ready, expansion-ready}
-use Rattle.crx_filter.proofs.reading.{Anew.depends-on_types, CompactPrefixes.expanded-first}
+use Rattle.crx_filter.proofs.reading.{Anew.on-types, CompactPrefixes.expanded-first}
 use Rattle.crx_filter.proofs.reading.{Forward.rinex-forward, ForwardCompact.compact-forward}
 use Rattle.crx_filter.proofs.reading.{Resuming.resumed, RinexPrefixes.compacted-first}
 use Rattle.crx_filter.proofs.reading.WhatWasRead.{items-read, compact-items-read}
 use Rattle.crx_filter.proofs.standard.{CheckEnded.check-ended, CheckStandard.named-where_not}
 use Rattle.crx_filter.proofs.standard.Lossless.{what-passes}
-use Rattle.crx_filter.proofs.stretches.OwnStretches.{own-rest}
 use Rattle.crx_filter.proofs.wayback.{Canonical.as-normal, ExpandedStandard.expanded-standard}
 use Rattle.crx_filter.proofs.wayback.NormalForm.{read-as_normal, normal-for_good}
 use Rattle.crx_header.proofs.Counts.{systems_few}
@@ -36,7 +35,7 @@ pub ruleset of_steps = (read-bounded, raw-by_tail, steps-agree, steps-read_back,
 
 pub ruleset of_any_writer = (any-epoch, any-row, any-text, first-units, only-epoch, only-row)
 
-pub ruleset of_compact_text = (reads-back, compact-forward, compact-items-read, depends-on_types, stand-alone)
+pub ruleset of_compact_text = (reads-back, compact-forward, compact-items-read, on-types, stand-alone)
 
 pub ruleset of_bounds = (compact-ready_to_hand_out, expanded-ready_to_hand_out, within-size)
 
@@ -44,14 +43,12 @@ pub ruleset of_directions = (compacted-first, expanded-first, compaction-ready, 
 
 pub ruleset of_check = (check-ended, named-where_not, what-passes, read-as_normal, normal-for_good)
 
-pub ruleset of_damage = (all-saved, own-rest)
-
 pub ruleset of_way_back = (standard-comes_back, normal-comes_back, comes-back, expanded-standard)
 
 pub ruleset of_more = (canonical, as-normal, same-again, expands-again, make-a_day)
 
 pub ruleset of_reading = (of_lines, of_rinex, of_steps, of_compact_text, of_bounds)
 
-pub ruleset of_runs = (of_check, of_damage, of_way_back, of_directions)
+pub ruleset of_runs = (of_check, of_way_back, of_directions)
 
 pub ruleset laws = (of_more, of_any_writer, of_arcs, of_reading, of_runs)

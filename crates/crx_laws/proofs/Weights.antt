@@ -24,7 +24,7 @@ use Rattle.crx_filter.proofs.wayback.ExpandedWhole.{AreGoodEpochs, epochs-good}
 use Rattle.crx_laws.specs.Bounds.{AreReadyToHandOut}
 use Rattle.crx_laws.specs.Sizes.{most_for_a_byte, IsWithinSize}
 use Rattle.crx_laws.proofs.ExpandedReadyToHandOut.{epoch-ready_to_hand_out}
-use Rattle.crx_laws.proofs.blockwise.Erased.{ended-lines}
+use Rattle.crx_laws.proofs.blockwise.GoingOn.{ended-lines}
 
 -- ---- weights of lines, and sizes of texts
 

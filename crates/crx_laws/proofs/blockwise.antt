@@ -1,4 +1,3 @@
 -- Blocks of compact text, expanded after other lines than their own.
-pub mod Erased
 pub mod GoingOn
 pub mod PieceBack

@@ -13,21 +13,18 @@ use Rattle.crx_filter.proofs.Words.{compact_place, first_lines, whole_compact, e
 use Rattle.crx_filter.proofs.Words.{GoOnAlike, starts_anew, expanded_lines, continued_reading}
 use Rattle.crx_filter.proofs.Choosing.{by_bool}
 use Rattle.crx_filter.proofs.following.Lines.{IsStopped, one_line-decided}
-use Rattle.crx_filter.proofs.reading.Anew.{depends-on_types}
+use Rattle.crx_filter.proofs.reading.Anew.{AreReadAlike, depends-on_types}
 use Rattle.crx_filter.proofs.reading.CompactPrefixes.{whole-at}
 use Rattle.crx_filter.proofs.reading.ForwardCompact.{compact-forward, steady-first_lines}
 use Rattle.crx_filter.proofs.reading.Resuming.{looked-here, resumed}
 use Rattle.crx_filter.proofs.reading.Stopping.{reading-stopped}
-use Rattle.crx_filter.proofs.reading.WhatWasRead.{allowed}
+use Rattle.crx_filter.proofs.reading.WhatWasRead.{allowed, of-ended}
 use Rattle.crx_filter.proofs.damage.BlockReading.{place-between}
 use Rattle.crx_filter.proofs.damage.DamagedText.{each-ended, lines-append as pieces-append, text-append}
 use Rattle.crx_filter.proofs.damage.GoingOn.{with_warnings, warned-between, warned-types, GoesOnAt}
 use Rattle.crx_filter.proofs.damage.GoingOn.{open-goes_on}
-use Rattle.crx_filter.proofs.damage.SavedText.{lines-append, lines-warned, left-append}
+use Rattle.crx_filter.proofs.damage.SavedText.{lines-warned}
 use Rattle.crx_laws.specs.Blocks.{read_of_text, CanGoOn, HaveSameTypes, kind_of, GoOnWith, StandAlone}
-use Rattle.crx_laws.proofs.blockwise.Erased.{erased_reading, within-alike, lines-erased, ended-lines}
-use Rattle.crx_laws.proofs.blockwise.Erased.{ended-kind}
-use Rattle.crx_filter.proofs.reading.Each.{header-append}
 use Rattle.crx_filter.proofs.wayback.WayBack.{end-body, lt-none}
 
 -- ---- where a reading whose end is good has stopped
@@ -181,87 +178,13 @@ text-read text choices h = by_first (first_lines lines) refl
               (count + 1) (drop count lines) M);
         }
 
--- ---- the end, and what it leaves
-
-ended_with-types : (skip : Bool) (items : List (Item ReadEpoch)) (number : ℕ) (o : Option Fault)
-    → types_in_force (ended_with skip items number o).items ≡ types_in_force items
-ended_with-types skip items number None = refl
-ended_with-types skip items number (Some fault) = by_bool (is_skipped skip items fault)
-    (λ on. rw (on, ended_with) refl)
-    (λ off. rw (off, ended_with) refl)
-
-ended-types : (skip : Bool) (items : List (Item ReadEpoch)) (stop : Stop)
-    → types_in_force (ended_reading skip (record { items = items; stop = stop })).items ≡ types_in_force items
-ended-types skip items (AtLines number lines) =
-    ended_with-types skip items (number + length lines) (fault_at_end items lines)
-ended-types skip items stop = refl
-
--- items that leave a reader at the same place of a file
-module _ (a b : List (Item ReadEpoch)) (one : header_has_ended a ≡ true) (two : header_has_ended b ≡ true)
-    (left : records_left a ≡ records_left b) where
-  end-same : (lines : List ReadLine) → fault_at_end a lines ≡ fault_at_end b lines
-  end-same lines = by_items a b one two left lines
-    where
-      by_items : (a b : List (Item ReadEpoch)) → header_has_ended a ≡ true → header_has_ended b ≡ true
-          → records_left a ≡ records_left b → (lines : List ReadLine)
-          → fault_at_end a lines ≡ fault_at_end b lines
-      by_items [] b one two left lines = absurd (cc)
-      by_items (item ∷ a) [] one two left lines = absurd (cc)
-      by_items (item ∷ a) (other ∷ b) one two left (line ∷ lines) = refl
-      by_items (item ∷ a) (other ∷ b) one two left [] = rw (one, two, left) refl
-
-  ended_with-same : (skip : Bool) (number : ℕ) (o : Option Fault)
-      → (ended_with skip a number o).fault ≡ (ended_with skip b number o).fault
-  ended_with-same skip number None = refl
-  ended_with-same skip number (Some fault) =
-      let same : is_skipped skip a fault ≡ is_skipped skip b fault = rw (one, two, left) refl in
-      by_bool (is_skipped skip b fault)
-      (λ on. rw (on, same ∙ on, ended_with) refl)
-      (λ off. rw (off, same ∙ off, ended_with) refl)
-
-  ended-same : (skip : Bool) (stop : Stop) → (ended_reading skip (record { items = a; stop = stop })).fault
-      ≡ (ended_reading skip (record { items = b; stop = stop })).fault
-  ended-same skip (AtLines number lines) =
-      ap (λ o. (ended_with skip a (number + length lines) o).fault) (end-same lines)
-      ∙ ended_with-same skip (number + length lines) (fault_at_end b lines)
-  ended-same skip stop = refl
-
 -- ---- the law
 
--- what is read of some lines after two lists of items
-pub record AreReadAlike (skip : Bool) (x y : List (Item ReadEpoch))
-    (one two : Reading ReadEpoch) : Type 0 where
-  pub more : List (Item ReadEpoch)
-  pub first : expanded_lines one.items ≡ expanded_lines x ++ expanded_lines more
-  pub second : expanded_lines two.items ≡ expanded_lines y ++ expanded_lines more
-  pub ended : kind_of (ended_reading skip one).fault ≡ kind_of (ended_reading skip two).fault
-
-read-alike : (skip : Bool) (lines : List ReadLine) (x y : List (Item ReadEpoch)) (m n : ℕ)
-    → starts_anew 0 lines ≡ true → IsBetweenUnits x → IsBetweenUnits y → types_in_force x ≡ types_in_force y
-    → AreReadAlike skip x y (reading_from compact_place skip x m lines)
-    (reading_from compact_place skip y n lines)
-read-alike skip lines x y m n anew one two types =
-    let first : Reading ReadEpoch = reading_from compact_place skip x m lines in
-    let same : Reading ReadEpoch = reading_from compact_place skip y m lines in
-    let second : Reading ReadEpoch = reading_from compact_place skip y n lines in
-    let alike : GoOnAlike x y first same = depends-on_types skip x y m lines one two types anew in
-    let numbered : erased_reading same ≡ erased_reading second =
-    within-alike skip (length lines + 1) y y m n lines refl in
-    let more : List (Item ReadEpoch) = alike.more in
-    record {
-      more = more;
-      first = ap (λ (r : Reading ReadEpoch). expanded_lines r.items) alike.first ∙ lines-append more x;
-      second = sym (lines-erased second.items)
-          ∙ sym (ap (λ (r : Reading ReadEpoch). expanded_lines r.items) numbered) ∙ lines-erased same.items
-          ∙ ap (λ (r : Reading ReadEpoch). expanded_lines r.items) alike.second ∙ lines-append more y;
-      ended = ap (λ (r : Reading ReadEpoch). kind_of (ended_reading skip r).fault) alike.first
-          ∙ ap kind_of (ended-same (more ++ x) (more ++ y) (header-append more x one.header)
-          (header-append more y two.header) (left-append more x y (one.none ∙ sym two.none)) skip alike.stop)
-          ∙ sym (ap (λ (r : Reading ReadEpoch). kind_of (ended_reading skip r).fault) alike.second)
-          ∙ ended-kind skip same.items same.stop
-          ∙ ap (λ (r : Reading ReadEpoch). kind_of (ended_reading skip r).fault) numbered
-          ∙ sym (ended-kind skip second.items second.stop);
-    }
+-- the end of the input writes nothing
+pub ended-lines : (skip : Bool) (items : List (Item ReadEpoch)) (stop : Stop)
+    → expanded_lines (ended_reading skip (record { items = items; stop = stop })).items ≡ expanded_lines items
+ended-lines skip items stop =
+    of-ended (λ is. expanded_lines is ≡ expanded_lines items) skip items stop refl (λ at on. refl)
 
 -- a text, and what comes after it
 pub record IsFurtherRead (text more : List ℕ) (choices : Choices) (lines : List ReadLine) : Type 0 where
@@ -286,8 +209,8 @@ further-read text more choices line tail h is begins =
       items = with_warnings g.warnings t.items;
       number = g.number;
       between = warned-between g.warnings t.items g.between;
-      types = warned-types g.warnings t.items ∙ sym (ended-types choices.skip t.items t.stop)
-          ∙ sym (ap (λ (w : WholeReading ReadEpoch). types_in_force w.items) t.whole);
+      types = warned-types g.warnings t.items ∙ of-ended (λ is. types_in_force t.items ≡ types_in_force is)
+          choices.skip t.items t.stop refl (λ at on. refl) ∙ sym (ap (λ (w : WholeReading ReadEpoch). types_in_force w.items) t.whole);
       before = ap lines_text (ap (λ (w : WholeReading ReadEpoch). expanded_lines w.items) t.whole
           ∙ ended-lines choices.skip t.items t.stop ∙ sym (lines-warned g.warnings t.items));
       after = t.further more
@@ -328,19 +251,18 @@ by-lines more one other choices (Content line ∷ tail) h k types is anew =
     let b : IsFurtherRead other more choices lines = further-read other more choices line tail k is begins in
     let r : Reading ReadEpoch = reading_from compact_place choices.skip a.items a.number lines in
     let s : Reading ReadEpoch = reading_from compact_place choices.skip b.items b.number lines in
-    let same : AreReadAlike choices.skip a.items b.items r s =
-    read-alike choices.skip lines a.items b.items a.number b.number anew a.between b.between
-    (a.types ∙ types ∙ sym b.types) in
+    let same : AreReadAlike ⊥ choices.skip a.items b.items r s = depends-on_types ⊥ choices.skip a.items b.items
+    a.number b.number lines a.between b.between (a.types ∙ types ∙ sym b.types) anew (λ never. absurd never) in
     record {
-      lines = expanded_lines same.more;
+      lines = same.lines;
       first = ap (λ (w : WholeReading ReadEpoch). lines_text (expanded_lines w.items)) a.after
           ∙ ap lines_text (ended-lines choices.skip r.items r.stop ∙ same.first)
-          ∙ text-append (expanded_lines a.items) (expanded_lines same.more)
-          ∙ ap (λ t. t ++ lines_text (expanded_lines same.more)) (sym a.before);
+          ∙ text-append (expanded_lines a.items) (same.lines)
+          ∙ ap (λ t. t ++ lines_text (same.lines)) (sym a.before);
       second = ap (λ (w : WholeReading ReadEpoch). lines_text (expanded_lines w.items)) b.after
           ∙ ap lines_text (ended-lines choices.skip s.items s.stop ∙ same.second)
-          ∙ text-append (expanded_lines b.items) (expanded_lines same.more)
-          ∙ ap (λ t. t ++ lines_text (expanded_lines same.more)) (sym b.before);
+          ∙ text-append (expanded_lines b.items) (same.lines)
+          ∙ ap (λ t. t ++ lines_text (same.lines)) (sym b.before);
       ended = ap (λ (w : WholeReading ReadEpoch). kind_of w.fault) a.after ∙ same.ended
           ∙ sym (ap (λ (w : WholeReading ReadEpoch). kind_of w.fault) b.after);
     }
