@@ -1,5 +1,13 @@
 -- What is known of the wild text's units and of its first epoch, by computation.
-use Rattle.crx_compact.proofs.Words.{refl, ℕ, zero, suc, List, [], ◌∷◌, ◌++◌, Some, None, inl, pos}
+use Rattle.crx_compact.proofs.Words.{refl, ℕ, zero, suc, ◌≡◌, true, List, [], ◌∷◌, ◌++◌, Option, Some, None}
+use Rattle.std.specs.{Prelude.{flat_map, drop, map}, List.list_all}
+use Rattle.std.proofs.Common.{inl, pos, sym, append-nil}
+use Rattle.crx_base.specs.meaning.{AsRead.{ReadLine, Content, as_read}, Lines.lines_of}
+use Rattle.crx_text.specs.{Texts.patched, meaning.{Codes.code_of, Columns.{is_blank, without_end_blanks}}}
+use Rattle.crx_compact.specs.meaning.{Differences.code_at, AnyWriter.flags_in}
+use Rattle.crx_filter.specs.meaning.Stretches.{HasStretches, begins_no_event}
+use Rattle.crx_filter.proofs.anywriter.OwnText.{whole-file}
+use Rattle.crx_laws.specs.WildText.{first_line, second_line}
 use Rattle.std.specs.Prelude.{codes}
 use Rattle.std.specs.Fmt.{digits}
 use Rattle.crx_base.specs.meaning.Lines.{lines_text}
@@ -30,21 +38,30 @@ row_with arc = record { name = codes "G01"; arcs = Some arc ∷ []; flags = code
 abbrev pub epoch_with : ℕ → Arc → WrittenEpoch
 epoch_with s arc = record { head = head_at s ++ blanks 6; clock = None; rows = row_with arc ∷ [] }
 
-first-follows : (place : ℕ) → MayFollow (arc_in None place) (arc_in (Some (row_with arc_one)) place)
-first-follows zero = inl refl
-first-follows (suc place) = tt
-
-pub first-row : IsRowLine None (row_with arc_one) (codes "9&0020000000000")
-unfolding coded_number digits
-first-row = record {
-  texts = codes "9&0020000000000" ∷ [];
-  marks = [];
-  spelled = refl;
-  written = refl;
-  marked = refl;
-  no_more = refl;
-  follows = first-follows;
+-- a satellite's line, by the text of its one code and its marks
+pub row-is : (before : Option WrittenRow) (arc : Arc) (text marks line : List ℕ)
+    → MayFollow (arc_in before 0) (Some arc)
+    → code_of text ≡ Some (code_at arc.order (arc.newest ∷ arc.older)) → without_end_blanks line
+    ≡ without_end_blanks (flat_map (λ (t : List ℕ). t ++ 32 ∷ []) (text ∷ []) ++ marks)
+    → patched (flags_in before) marks ≡ [] → list_all is_blank (drop 2 marks) ≡ true
+    → IsRowLine before (row_with arc) line
+row-is before arc text marks line first spelled written marked no_more = record {
+  texts = text ∷ [];
+  marks = marks;
+  spelled = cc (spelled);
+  written = written;
+  marked = marked;
+  no_more = no_more;
+  follows = follows;
 }
+  where
+    follows : (place : ℕ) → MayFollow (arc_in before place) (arc_in (Some (row_with arc)) place)
+    follows zero = first
+    follows (suc place) = tt
+
+first-row : IsRowLine None (row_with arc_one) (codes "9&0020000000000")
+unfolding coded_number digits
+first-row = row-is None arc_one (codes "9&0020000000000") [] _ (inl refl) refl refl refl refl
 
 pub first-epoch : AreEpochLines None (epoch_with 0 arc_one) first_lines_of
 first-epoch = (nothing_written, refl, record { marked = refl; spelled = refl; follows = tt; satellites = (first-row, tt) })
@@ -79,21 +96,9 @@ lines-before =
 abbrev pub full_arc : Arc
 full_arc = record { order = 7; newest = pos 20000202000; older = [] }
 
-full-follows : (place : ℕ) → MayFollow (arc_in None place) (arc_in (Some (row_with full_arc)) place)
-full-follows zero = inl refl
-full-follows (suc place) = tt
-
 full-row : IsRowLine None (row_with full_arc) (codes "7&0020000202000  ")
 unfolding coded_number digits
-full-row = record {
-  texts = codes "7&0020000202000" ∷ [];
-  marks = [];
-  spelled = refl;
-  written = refl;
-  marked = refl;
-  no_more = refl;
-  follows = full-follows;
-}
+full-row = row-is None full_arc (codes "7&0020000202000") [] _ (inl refl) refl refl refl refl
 
 full-epoch : AreEpochLines None (epoch_with 2 full_arc) full_lines
 full-epoch = (nothing_written, refl, record { marked = refl; spelled = refl; follows = tt; satellites = (full-row, tt) })
@@ -108,3 +113,38 @@ kept-lines = (
   refl,
   (epoch_with 2 full_arc, refl, refl, full-epoch),
 )
+
+-- ---- damaged texts
+
+-- lines after those of the header and the first epoch, and then those that are kept
+pub stretch-met : (damaged : List ℕ) (instead : List ReadLine)
+    → map as_read (lines_of damaged) ≡ map Content (first_line ∷ second_line ∷ lines_before)
+    ++ (instead ++ map Content wild_stretch.lines) → list_all begins_no_event instead ≡ true
+    → HasStretches wild_before (record wild_stretch { instead = instead } ∷ []) damaged
+stretch-met damaged instead cut allowed = record {
+  file = whole-file wild_units make-file;
+  header = refl;
+  text = record {
+    version = first_line;
+    program = second_line;
+    lines = lines_before;
+    more = instead ++ map Content wild_stretch.lines;
+    last = Some (epoch_with 0 arc_one);
+    cut = cut;
+    first = refl;
+    second = refl;
+    written = lines-before;
+  };
+  each = (
+    record {
+      begins = refl;
+      ends = refl;
+      types = refl;
+      allowed = allowed;
+      last = Some (epoch_with 2 full_arc);
+      written = kept-lines;
+    },
+    tt,
+  );
+  rest = sym (append-nil (instead ++ map Content wild_stretch.lines));
+}

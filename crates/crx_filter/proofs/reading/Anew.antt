@@ -1,15 +1,15 @@
 -- Where the reading of compact text starts anew, it depends on the types in force alone.
 use Rattle.crx_filter.proofs
 use proofs.Words.{common_steps, [], ℕ, zero, suc, ◌≡◌, ◌+◌, ◌<◌, max, Bool, true, cond, List, ◌∷◌, ◌++◌, drop}
-use proofs.Words.{Option, Some, None, refl, ap, sym, ◌∙◌, arith, subst, append-nil, append_assoc, and_parts, ⊤}
-use proofs.Words.{ReadLine, length, expanded_lines, printed_unit, fault_at_end, ended_with, ended_reading, WholeReading}
+use proofs.Words.{Option, Some, None, refl, ap, sym, ◌∙◌, arith, subst, append-nil, append_assoc, and_parts}
+use proofs.Words.{⊤, ReadLine, length, expanded_lines, printed_unit, fault_at_end, ended_with, ended_reading}
 use proofs.Words.{Content, Overlong, Fault, At, begins_epoch, is_event_line, records_in, Count, Place, Done}
 use proofs.Words.{one_line, first_line, FileUnit, HeaderLine, EventRecord, block_of, ReadEpoch, epoch_at}
 use proofs.Words.{Item, Accepted, Warned, header_has_ended, records_announced, records_left}
 use proofs.Words.{records_count_types, types_in_force, unless_wrong, types_fault, event_record, Reading, Stop}
 use proofs.Words.{AtFault, AtLines, Looking, is_skipped, looked_for, reading_within, after_fault, raws_kept}
 use proofs.Words.{empties_state, event_line, as_observation, compact_place, starts_anew, GoOnAlike, by_bool}
-use proofs.Words.{IsBetweenUnits, reading_from}
+use proofs.Words.{IsBetweenUnits, WholeReading, reading_from}
 use Rattle.{std.specs.Option.option_map, crx_filter.specs.meaning.Expanded.rinex_unit}
 use Rattle.{crx_compact.proofs.reading.Forgetting.forgets, crx_filter.specs.Anew.DependsOnTypes}
 use Rattle.crx_header.proofs.Counts.{types_of-push}
@@ -93,8 +93,8 @@ ended-alike : (skip : Bool) (a b : List (Item ReadEpoch)) (m n : ℕ) (o : Optio
     → AreAlike a b → kind_of (ended_with skip a m o) ≡ kind_of (ended_with skip b n o)
 ended-alike skip a b m n o h = grind (arith, common_steps, skipped-alike)
 
--- two readings, each after some items, write the same and are ended alike; and where they began at lines of one
--- number, they go on by the same items
+-- two readings, each after some items, write the same and are ended alike; and where they began at lines of
+-- one number, they go on by the same items
 pub record AreReadAlike (one_number : Type 0) (skip : Bool) (a b : List (Item ReadEpoch))
     (one two : Reading ReadEpoch) : Type 0 where
   pub same : one_number → GoOnAlike a b one two
@@ -104,7 +104,7 @@ pub record AreReadAlike (one_number : Type 0) (skip : Bool) (a b : List (Item Re
   pub ended : kind_of (ended_reading skip one) ≡ kind_of (ended_reading skip two)
 
 module _ (one_number : Type 0) (skip : Bool) where
-  abbrev Alike : List (Item ReadEpoch) → List (Item ReadEpoch) → Reading ReadEpoch → Reading ReadEpoch → Type 0
+  abbrev Alike : (a b : List (Item ReadEpoch)) (one two : Reading ReadEpoch) → Type 0
   Alike = AreReadAlike one_number skip
 
   -- one item more
@@ -152,23 +152,24 @@ module _ (one_number : Type 0) (skip : Bool) where
 
   -- after the one and the other items, so many units are read alike
   abbrev ReadAlike : ℕ → List (Item ReadEpoch) → List (Item ReadEpoch) → ℕ → ℕ → List ReadLine → Type 0
-  ReadAlike units a b m n lines = (one_number → m ≡ n) → Alike a b (reading_within compact_place skip units a m lines)
-      (reading_within compact_place skip units b n lines)
+  ReadAlike units a b m n lines = (one_number → m ≡ n) → Alike a b (reading_within compact_place skip units a m
+      lines) (reading_within compact_place skip units b n lines)
 
   lines-stopped : (a b : List (Item ReadEpoch)) (m n : ℕ) (lines : List ReadLine)
-      → AreAlike a b → (one_number → m ≡ n)
-      → Alike a b (record { items = a; stop = AtLines m lines }) (record { items = b; stop = AtLines n lines })
+      → AreAlike a b → (one_number → m ≡ n) → Alike a b (record { items = a; stop = AtLines m lines })
+      (record { items = b; stop = AtLines n lines })
   lines-stopped a b m n lines h number = stopped (AtLines m lines) (AtLines n lines)
       (λ k. ap (λ i. AtLines i lines) (number k)) (ap (λ o. kind_of (ended_with skip a (m + length lines) o))
-      (end-alike a b lines h) ∙ ended-alike skip a b (m + length lines) (n + length lines) (fault_at_end b lines) h)
+      (end-alike a b lines h)
+      ∙ ended-alike skip a b (m + length lines) (n + length lines) (fault_at_end b lines) h)
 
   -- one step: what is there is the same, and what is read after it goes on alike
   one-step : (units : ℕ) (a b : List (Item ReadEpoch)) (m n : ℕ) (lines : List ReadLine)
-      → AreAlike a b → compact_place a lines ≡ compact_place b lines → ((unit : FileUnit ReadEpoch) (count : ℕ)
-      → compact_place a lines ≡ Done unit count → ReadAlike units (Accepted unit ∷ a)
-      (Accepted unit ∷ b) (m + count) (n + count) (drop count lines)) → ((at other : At) (i j : ℕ)
-      (ls : List ReadLine) → ReadAlike units (Warned at ∷ a) (Warned other ∷ b) i j ls)
-      → ReadAlike (suc units) a b m n lines
+      → AreAlike a b → compact_place a lines ≡ compact_place b lines
+      → ((unit : FileUnit ReadEpoch) (count : ℕ) → compact_place a lines ≡ Done unit count → ReadAlike units
+      (Accepted unit ∷ a) (Accepted unit ∷ b) (m + count) (n + count) (drop count lines))
+      → ((at other : At) (i j : ℕ) (ls : List ReadLine) → ReadAlike units (Warned at ∷ a)
+      (Warned other ∷ b) i j ls) → ReadAlike (suc units) a b m n lines
   one-step units a b m n lines h same next warned number = by_place (compact_place a lines)
       (λ unit count e. rw (e, sym same ∙ e, reading_within) (onto (next unit count e
       (λ k. ap (λ i. i + count) (number k))) (λ k. refl) (printed_unit (rinex_unit unit)) refl refl))
@@ -178,9 +179,11 @@ module _ (one_number : Type 0) (skip : Bool) where
       by_bool (is_skipped skip a fault) (λ on.
       rw (e, sym same ∙ e, reading_within, on, sym (skipped-alike skip a b fault h) ∙ on, after_fault)
       (onto (looked (Warned (at m) ∷ a) (Warned (at n) ∷ b) _ _ (m + past) (n + past) (drop past lines)
-      (λ k. ap (λ i. i + past) (number k)) (warned (at m) (at n))) (λ k. ap (λ i. Warned (at i)) (number k)) []
+      (λ k. ap (λ i. i + past) (number k)) (warned (at m) (at n)))
+      (λ k. ap (λ i. Warned (at i)) (number k)) []
       (sym (append-nil (expanded_lines a))) (sym (append-nil (expanded_lines b)))))
-      (λ off. rw (e, sym same ∙ e, reading_within, off, sym (skipped-alike skip a b fault h) ∙ off, after_fault)
+      (λ off.
+      rw (e, sym same ∙ e, reading_within, off, sym (skipped-alike skip a b fault h) ∙ off, after_fault)
       (stopped (AtFault (at m)) (AtFault (at n)) (λ k. ap (λ i. AtFault (at i)) (number k)) refl)))
       (λ e. rw (e, sym same ∙ e, reading_within) (lines-stopped a b m n lines h number))
 
@@ -230,8 +233,8 @@ module _ (one_number : Type 0) (skip : Bool) where
     anew-record : (line : List ℕ) (lines : List ReadLine) (left : ℕ) (fault : Option Fault)
         → records_left a ≡ suc left → starts_anew left lines ≡ true
         → Next (Content line ∷ lines) (one_line (unless_wrong (EventRecord line) fault))
-    anew-record line lines left None e anew = ih (Accepted (EventRecord line) ∷ a) (Accepted (EventRecord line)
-        ∷ b) (m + 1) (n + 1) lines left (alike-unit _ _ _ (omega (arith, e)) h) (omega (arith, e)) anew
+    anew-record line lines left None e anew = ih (Accepted (EventRecord line) ∷ a)
+        (Accepted (EventRecord line) ∷ b) (m + 1) (n + 1) lines left (alike-unit _ _ _ (omega (arith, e)) h) (omega (arith, e)) anew
     anew-record line lines left (Some fault) e anew = tt
 
     anew-event : (line : List ℕ) (lines : List ReadLine) (o : Option ℕ) → records_in line ≡ o → starts_anew

@@ -210,7 +210,8 @@ further-read text more choices line tail h is begins =
       number = g.number;
       between = warned-between g.warnings t.items g.between;
       types = warned-types g.warnings t.items ∙ of-ended (λ is. types_in_force t.items ≡ types_in_force is)
-          choices.skip t.items t.stop refl (λ at on. refl) ∙ sym (ap (λ (w : WholeReading ReadEpoch). types_in_force w.items) t.whole);
+          choices.skip t.items t.stop refl (λ at on. refl)
+          ∙ sym (ap (λ (w : WholeReading ReadEpoch). types_in_force w.items) t.whole);
       before = ap lines_text (ap (λ (w : WholeReading ReadEpoch). expanded_lines w.items) t.whole
           ∙ ended-lines choices.skip t.items t.stop ∙ sym (lines-warned g.warnings t.items));
       after = t.further more
@@ -251,8 +252,9 @@ by-lines more one other choices (Content line ∷ tail) h k types is anew =
     let b : IsFurtherRead other more choices lines = further-read other more choices line tail k is begins in
     let r : Reading ReadEpoch = reading_from compact_place choices.skip a.items a.number lines in
     let s : Reading ReadEpoch = reading_from compact_place choices.skip b.items b.number lines in
-    let same : AreReadAlike ⊥ choices.skip a.items b.items r s = depends-on_types ⊥ choices.skip a.items b.items
-    a.number b.number lines a.between b.between (a.types ∙ types ∙ sym b.types) anew (λ never. absurd never) in
+    let same : AreReadAlike ⊥ choices.skip a.items b.items r s = depends-on_types ⊥ choices.skip
+    a.items b.items a.number b.number lines a.between b.between (a.types ∙ types ∙ sym b.types) anew
+    (λ never. absurd never) in
     record {
       lines = same.lines;
       first = ap (λ (w : WholeReading ReadEpoch). lines_text (expanded_lines w.items)) a.after

@@ -1,12 +1,12 @@
-use Rattle.crx_compact.proofs.Words.{refl, ℕ, zero, suc, [], ◌∷◌, ◌++◌, Some, inr, pos}
+use Rattle.crx_compact.proofs.Words.{refl, [], ◌∷◌, ◌++◌, Some, inr, pos}
 use Rattle.std.specs.Prelude.{codes}
 use Rattle.std.specs.Fmt.{digits}
 use Rattle.crx_text.specs.meaning.Codes.{coded_number}
-use Rattle.crx_compact.specs.meaning.AnyWriter.{Arc, IsRowLine, MayFollow, arc_in, AreEpochLines}
+use Rattle.crx_compact.specs.meaning.AnyWriter.{Arc, IsRowLine, AreEpochLines}
 use Rattle.crx_filter.specs.meaning.CompactText.{IsCompactTextOf}
 use Rattle.crx_filter.proofs.anywriter.OwnText.{whole-file}
 use Rattle.crx_laws.specs.WildText.{wild_units, wild_text, body, first_line, second_line, lines_before, second_lines, third_lines, event, comment}
-use Rattle.crx_laws.proofs.Wild.{make-file, arc_one, row_with, epoch_with, lines-before}
+use Rattle.crx_laws.proofs.Wild.{make-file, arc_one, row-is, row_with, epoch_with, lines-before}
 use Rattle.crx_laws.proofs.any_writer.premises.Goals as goal
 
 abbrev arc_two : Arc
@@ -15,37 +15,14 @@ arc_two = record { order = 9; newest = pos 20000100500; older = pos 20000000000 
 abbrev arc_three : Arc
 arc_three = record { order = 9; newest = pos 20000202000; older = pos 20000100500 ∷ pos 20000000000 ∷ [] }
 
-second-follows : (place : ℕ) → MayFollow (arc_in (Some (row_with arc_one)) place) (arc_in (Some (row_with arc_two)) place)
-second-follows zero = inr refl
-second-follows (suc place) = tt
-
-third-follows : (place : ℕ) → MayFollow (arc_in (Some (row_with arc_two)) place) (arc_in (Some (row_with arc_three)) place)
-third-follows zero = inr refl
-third-follows (suc place) = tt
-
 second-row : IsRowLine (Some (row_with arc_one)) (row_with arc_two) (codes "000000000000100500 &&")
 unfolding coded_number digits
-second-row = record {
-  texts = codes "000000000000100500" ∷ [];
-  marks = codes "&&";
-  spelled = refl;
-  written = refl;
-  marked = refl;
-  no_more = refl;
-  follows = second-follows;
-}
+second-row = row-is (Some (row_with arc_one)) arc_two (codes "000000000000100500") (codes "&&") _ (inr refl)
+    refl refl refl refl
 
 third-row : IsRowLine (Some (row_with arc_two)) (row_with arc_three) (codes "1000 ")
 unfolding coded_number digits
-third-row = record {
-  texts = codes "1000" ∷ [];
-  marks = [];
-  spelled = refl;
-  written = refl;
-  marked = refl;
-  no_more = refl;
-  follows = third-follows;
-}
+third-row = row-is (Some (row_with arc_two)) arc_three (codes "1000") [] _ (inr refl) refl refl refl refl
 
 second-epoch : AreEpochLines (Some (epoch_with 0 arc_one)) (epoch_with 1 arc_two) second_lines
 second-epoch = (epoch_with 0 arc_one, refl, record { marked = refl; spelled = refl; follows = tt; satellites = (second-row, tt) })

@@ -1,5 +1,5 @@
 -- by computation
-use Rattle.crx_filter.proofs.Words.{refl, [], ◌∷◌, map, Some, None, Content, Accepted, Observation, EventLine, EventRecord}
+use Rattle.crx_filter.proofs.Words.{refl, rules, [], ◌∷◌, map, Some, None, Content, Accepted, Observation, EventLine, EventRecord}
 use Rattle.std.specs.Fmt.{digits}
 use Rattle.crx_text.specs.meaning.Codes.{coded_number}
 use Rattle.crx_filter.proofs.{anywriter.OwnText.whole-file, stretches.OwnStretches.units-before}
@@ -47,8 +47,8 @@ returns c = record {
     rest = refl;
   };
   piece = record {
-    file_good = record { good = refl; no_returns = (tt, (tt, (tt, (tt, (tt, (refl, (refl, (refl, tt)))))))) };
-    front_good = record { good = refl; no_returns = (refl, (refl, (refl, tt))) };
+    file_good = search rules;
+    front_good = search rules;
     before = Accepted (Observation (epoch_of 1 20000100500)) ∷ first_epoch;
     piece = second_block;
     later = Accepted (Observation (epoch_of 4 20000408000)) ∷ [];

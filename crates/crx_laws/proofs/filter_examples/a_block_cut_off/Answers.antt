@@ -1,5 +1,5 @@
 -- by computation
-use Rattle.std.proofs.Common.{refl, arith, [], ◌∷◌, ◌++◌, codes, inl}
+use Rattle.std.proofs.Common.{refl, rules, [], ◌∷◌, ◌++◌, codes}
 use Rattle.std.specs.Fmt.{digits}
 use Rattle.crx_text.specs.meaning.Codes.{coded_number}
 use Rattle.crx_text.specs.meaning.Numbers.{size_of, number_of, number_text}
@@ -15,7 +15,7 @@ cut : IsOwnDamaged (lines_text (header ++ epoch_line_at 0 1 ∷ observed (codes 
     (lines_text (first_two ++ header ++ full_line_at 0 1 (codes "G01") ∷ []))
 unfolding digits coded_number size_of number_of number_text
 cut = record {
-  standard = record { good = refl; plain = refl; given_back = refl };
+  standard = search rules;
   before = header_items;
   first = epoch_at_second 0 1000;
   others = [];
@@ -26,7 +26,7 @@ cut = record {
   continued = tt;
   anew = tt;
   allowed = refl;
-  ended = inl refl;
+  ended = search rules;
   text = refl;
 }
 
@@ -39,7 +39,7 @@ returns c = record {
       epochs = [];
       whole = tt;
       warnings = record { line = 7; fault = Truncated } ∷ [];
-      few = omega arith;
+      few = search rules;
       output = refl;
       messages = refl;
       status = refl;
