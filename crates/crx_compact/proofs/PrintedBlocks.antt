@@ -1,20 +1,31 @@
 -- The printed lines of an epoch, as its rows come.
-use Rattle.crx_compact.proofs.Words.{◌≡◌, ◌++◌, ◌∷◌, ◌+◌, [], List, ℕ, length, Some, slice_get, arith, take_all, printed_epoch}
+use Rattle.crx_compact.proofs.Words.{◌≡◌, ◌≤◌, ◌++◌, ◌∷◌, ◌+◌, [], List, ℕ, length, Some, slice_get, arith, take_all, printed_epoch}
 use Rattle.crx_compact.proofs.Words.{OpenHistory, tail_of_history, lines_to, shown_epoch, rules, Tail, RowTail}
 use Rattle.crx_compact.proofs.Words.{columns, HEAD_WIDTH, printed_head, printed_row, shown_row, shown_value, IsRowRead, PendingLines}
-use Rattle.crx_compact.proofs.Words.{◌<◌, ◌-◌, ◌∙◌, ap, sym, subst, refl, Bool, Stage, ColumnsState, columns_state}
+use Rattle.crx_compact.proofs.Words.{◌<◌, ◌-◌, ◌∙◌, ap, sym, subst, refl, Bool, Expected, ColumnsState, columns_state}
 use Rattle.crx_compact.proofs.Words.{Option, Idle, Reading, before_clock, false≢true, is_idle, with_rows}
 use Rattle.crx_compact.proofs.{reading.Stages.state-rows}
 use Rattle.crx_compact.specs.OpenEpochs.{OpenRawEpoch, has_come, tail_so_far}
 use Rattle.crx_compact.specs.{OpenLines.IsLineTaken, PrintedBlocks.ArePrinted}
 use Rattle.crx_compact.proofs.{RowByRow.printed-next, reading.StepsByCode.printed-shown}
-use Rattle.crx_compact.specs.{Blocks.HasTakenLine, PrintedBlocks.IsPrinted}
+use Rattle.crx_compact.specs.{Blocks.{HasTakenLine, no_lines}, PrintedBlocks.IsPrinted}
 use Rattle.std.proofs.lemmas.List.{take-set-le}
 
 -- all lines are those of the epoch
 pub block-whole : (tail : Tail) (lines : List (List ℕ)) → lines ≡ lines_to (length tail.rows) tail
     → lines ≡ printed_epoch (shown_epoch tail (length tail.rows))
 block-whole tail lines is = grind (arith, take_all, printed-shown)
+
+-- the first line
+pub first-printed : (tail : Tail) (count : ℕ) (old new : PendingLines) → count ≤ 0 → old ≡ no_lines
+    → new.lines ≡ old.lines ++ printed_head (columns tail.text 1 HEAD_WIDTH) (shown_value tail.clock) ∷ []
+    → HasTakenLine old new → IsPrinted count tail new
+first-printed tail count old new none empty lines taken =
+    let same : 0 ≡ count = omega (arith, none) in
+    subst (λ n. IsPrinted n tail new) same (record {
+      lines = lines ∙ ap (λ (b : PendingLines). b.lines ++ printed_head (columns tail.text 1 HEAD_WIDTH) (shown_value tail.clock) ∷ []) empty;
+      left = omega (arith, taken.left, ap (λ (b : PendingLines). b.left) empty);
+    })
 
 -- one row more
 pub row-printed : (tail : Tail) (count : ℕ) (row : RowTail) (old new : PendingLines)
@@ -32,13 +43,13 @@ pub rows-kept : (old new : OpenHistory) (place : ℕ) (line : List ℕ) → IsRo
 rows-kept old new place line read = search (rules, take-set-le)
 
 -- the lines of a block before a row that was read
-pub printed-before : (is_kept : Bool) (stage after : Stage) (count come : ℕ) (history new : OpenHistory) (line : List ℕ)
-    (is_whole : Bool) (state : ColumnsState) (block : PendingLines) → columns_state is_kept stage count history ≡ state
-    → ArePrinted state block → IsLineTaken line stage count history after come new is_whole → 0 < come
+pub printed-before : (is_kept : Bool) (expected after : Expected) (count come : ℕ) (history new : OpenHistory) (line : List ℕ)
+    (is_whole : Bool) (state : ColumnsState) (block : PendingLines) → columns_state is_kept expected count history ≡ state
+    → ArePrinted state block → IsLineTaken line expected count history after come new is_whole → 0 < come
     → IsPrinted (come - 1) (tail_of_history new) block
-printed-before is_kept stage after count come history new line is_whole state block e printed taken some =
+printed-before is_kept expected after count come history new line is_whole state block e printed taken some =
     let last = taken.last some in
-    let open_state = state-rows is_kept stage count history (taken.awaited some) in
+    let open_state = state-rows is_kept expected count history (taken.awaited some) in
     let so_far : IsPrinted count (tail_of_history history) block =
     printed (with_rows (tail_of_history history) count) (sym e ∙ open_state) refl in
     let same : count ≡ come - 1 = omega (arith, last.0) in

@@ -1,92 +1,76 @@
 -- The room that an epoch's lines need, by its satellites and by its rows.
-use Rattle.crx_compact.proofs.Words.{rules, sym, ◌∙◌, ap, subst, arith, ◌≡◌, refl, ℕ}
-use Rattle.crx_compact.proofs.Words.{List, []}
-use Rattle.crx_compact.proofs.Words.{◌∷◌, length, Option, Some, Result, Ok, Err, All-head, All-tail}
-use Rattle.crx_compact.proofs.Words.{length-each_place, patched}
-use Rattle.crx_compact.proofs.Words.{Content, Fault, Count}
-use Rattle.crx_compact.proofs.Words.{past_of_tail, satellites_of_line, Satellite, and_then, before_clock}
-use Rattle.crx_compact.proofs.Words.{first_step, opened_raw, opening, tail_for_line, tail_opened, HasRoom}
-use Rattle.crx_compact.proofs.Words.{HaveTypesRoom, padded, cell_of_tail}
-use Rattle.crx_compact.proofs.Words.{tail_named, RowTail, Tail}
-use Rattle.std.proofs.lemmas.List.Elements.{All-nil, All-cons}
-use Rattle.crx_compact.specs.OpenEpochs.{OpenRawEpoch, Going, rows_before}
-use Rattle.crx_compact.specs.ReadingRooms.{HaveCellsRoom}
+use Rattle.crx_compact.proofs.Words.{arith, length-map, refl, sym, ◌∙◌, ap, subst, ◌≡◌, ℕ, List, Option, Some, Ok, Err, Result}
+use Rattle.crx_compact.proofs.Words.{length, length-each_place, Fault, Count, Content, and_then}
+use Rattle.crx_compact.proofs.Words.{past_of_tail, satellites_of_line, Satellite, before_clock, first_step, opening}
+use Rattle.crx_compact.proofs.Words.{tail_for_line, tail_opened, HasRoom, HaveTypesRoom, padded, cell_of_tail}
+use Rattle.crx_compact.proofs.Words.{tail_named, tail_of_history, OpenHistory, RowTail, Tail}
+use Rattle.crx_compact.proofs.reading.Stages.{line-good}
+use Rattle.std.proofs.Common.{get_or}
+use Rattle.std.proofs.Math.ListN.{get_or-map}
+use Rattle.std.proofs.lemmas.List.Elements.{All-map}
+use Rattle.crx_compact.specs.EpochLinesRead.{AnswersEpochLine}
+use Rattle.crx_compact.specs.OpenEpochs.{OpenRawEpoch, Going, opened_raw, rows_before}
+use Rattle.crx_compact.specs.ReadingRooms.{AsksRoomToBegin, HaveCellsRoom}
 
 -- ---- satellites, and the rows of them
 
-abbrev type_room : List (List ℕ × ℕ) → Satellite → Type 0
-type_room rooms s = HasRoom s.name s.count rooms
-
-abbrev cell_room : List (List ℕ × ℕ) → RowTail → Type 0
-cell_room rooms row = HasRoom row.name (length row.cells) rooms
-
-abbrev row_before : Tail → Satellite → RowTail
-row_before before s = padded s (tail_named s.name before)
-
-counted : (before : Tail) (s : Satellite) → length (row_before before s).cells ≡ s.count
+counted : (before : Tail) (s : Satellite) → length (padded s (tail_named s.name before)).cells ≡ s.count
 counted before s = length-each_place s.count (λ place. cell_of_tail place (tail_named s.name before))
 
-pub types-room : (before : Tail) (satellites : List Satellite) (rooms : List (List ℕ × ℕ))
+types-room : (before : Tail) (satellites : List Satellite) (rooms : List (List ℕ × ℕ))
     → HaveCellsRoom (rows_before before satellites) rooms → HaveTypesRoom satellites rooms
-types-room before [] rooms h = All-nil (type_room rooms)
-types-room before (s ∷ ss) rooms h =
-    All-cons (type_room rooms) s ss
-    (subst (λ n. HasRoom s.name n rooms) (counted before s)
-    (All-head (cell_room rooms) (row_before before s) (rows_before before ss) h))
-    (types-room before ss rooms (All-tail (cell_room rooms) (row_before before s) (rows_before before ss) h))
+types-room before satellites rooms h = λ i s less.
+    let row = λ (t : Satellite). padded t (tail_named t.name before) in
+    subst (λ n. HasRoom (get_or satellites i s).name n rooms) (counted before (get_or satellites i s))
+    (subst (λ (r : RowTail). HasRoom r.name (length r.cells) rooms) (get_or-map row satellites i s)
+    (h i (row s) (omega (arith, less, length-map satellites row))))
 
-pub cells-room : (before : Tail) (satellites : List Satellite) (rooms : List (List ℕ × ℕ))
+cells-room : (before : Tail) (satellites : List Satellite) (rooms : List (List ℕ × ℕ))
     → HaveTypesRoom satellites rooms → HaveCellsRoom (rows_before before satellites) rooms
-cells-room before [] rooms h = All-nil (cell_room rooms)
-cells-room before (s ∷ ss) rooms h =
-    All-cons (cell_room rooms) (row_before before s) (rows_before before ss)
-    (subst (λ n. HasRoom s.name n rooms) (sym (counted before s)) (All-head (type_room rooms) s ss h))
-    (cells-room before ss rooms (All-tail (type_room rooms) s ss h))
+cells-room before satellites rooms h =
+    All-map (λ (row : RowTail). HasRoom row.name (length row.cells) rooms)
+    (λ (s : Satellite). padded s (tail_named s.name before)) satellites
+    (λ i s less. subst (λ n. HasRoom (get_or satellites i s).name n rooms) (sym (counted before (get_or satellites i s))) (h i s less))
 
 -- ---- the epoch that a line opens
 
--- an epoch that was opened: its satellites, and what it is by them
-pub record IsOpened (types : List Count) (line : List ℕ) (before : Tail) (begun : OpenRawEpoch) : Type 0 where
-  pub satellites : List Satellite
-  pub read : satellites_of_line types (past_of_tail before) line ≡ Ok satellites
-  pub text : begun.text ≡ patched before.text line
-  pub rows : begun.rows ≡ rows_before before satellites
+-- an epoch that was opened has the rows of the line's satellites
+opened-rows : (before : Tail) (line : List ℕ) (begun : OpenRawEpoch) (r : Result (List Satellite) Fault)
+    → opening (and_then r (λ ss. Ok (before_clock (tail_opened before line ss)))) ≡ Going begun
+    → (ss : List Satellite) × (r ≡ Ok ss) × (rows_before before ss ≡ begun.rows)
+opened-rows before line begun (Ok ss) e =
+    let same : before_clock (tail_opened before line ss) ≡ begun = cc (e) in
+    (ss, refl, ap (λ (b : OpenRawEpoch). b.rows) same)
+opened-rows before line begun (Err fault) e = absurd (cc)
 
-pub opened-from : (types : List Count) (line : List ℕ) (tail : Option Tail) (before : Tail)
-    (begun : OpenRawEpoch)
-    → tail_for_line tail line ≡ Some before → first_step types tail (Content line) ≡ Going begun
-    → IsOpened types line before begun
-opened-from types line tail before begun e step =
-    by_result (satellites_of_line types (past_of_tail before) line) refl
-    (sym (ap (λ (o : Option Tail). opening (opened_raw types line o)) e) ∙ step)
-  where
-    by_result : (r : Result (List Satellite) Fault) → satellites_of_line types (past_of_tail before) line ≡ r
-        → opening (and_then r (λ ss. Ok (before_clock (tail_opened before line ss)))) ≡ Going begun
-        → IsOpened types line before begun
-    by_result (Ok ss) is e =
-        let same : before_clock (tail_opened before line ss) ≡ begun = cc (e) in
-        record {
-          satellites = ss;
-          read = is;
-          text = sym (ap (λ (b : OpenRawEpoch). b.text) same);
-          rows = sym (ap (λ (b : OpenRawEpoch). b.rows) same);
-        }
-    by_result (Err fault) is e = absurd (cc)
-
--- ---- what the rows need is there
-
-pub satellites-known : (types : List Count) (line : List ℕ) (before : Tail) (begun : OpenRawEpoch)
-    (held rooms : List (List ℕ × ℕ)) (opened : IsOpened types line before begun) → HaveCellsRoom begun.rows held
-    → held ≡ rooms → HaveTypesRoom opened.satellites rooms
-satellites-known types line before begun held rooms opened has same =
-    types-room before opened.satellites rooms (search rules)
-
--- what was read for has room
-pub room-for : (types : List Count) (line : List ℕ) (before : Tail) (begun : OpenRawEpoch)
-    (opened : IsOpened types line before begun) (rooms : List (List ℕ × ℕ)) (found : List Satellite)
-    → satellites_of_line types (past_of_tail before) line ≡ Ok found → HaveTypesRoom found rooms
-    → HaveCellsRoom begun.rows rooms
-room-for types line before begun opened rooms found read known =
-    let same : found ≡ opened.satellites = grind (arith, read, opened.read) in
-    subst (λ rows. HaveCellsRoom rows rooms) (sym opened.rows)
-    (cells-room before opened.satellites rooms (subst (λ ss. HaveTypesRoom ss rooms) same known))
+-- an epoch line was read after a history, or refused
+pub room-asked : (types : List Count) (line : List ℕ) (held : Option Tail) (old new : OpenHistory)
+    (answer : Result (Unit {0}) Fault) → tail_for_line held line ≡ Some (tail_of_history old)
+    → AnswersEpochLine types line old new answer
+    → AsksRoomToBegin (first_step types held (Content line)) old.satellites.rooms new.satellites.rooms answer
+room-asked types line held old new (Ok done) e h =
+    let before = tail_of_history old in
+    record {
+      memory = tt;
+      unasked = tt;
+      known = λ begun step has. refl;
+      room = λ begun step.
+          let opened = opened-rows before line begun (satellites_of_line types (past_of_tail before) line)
+          (sym (ap (λ (o : Option Tail). opening (opened_raw types line o)) e) ∙ step) in
+          subst (λ rows. HaveCellsRoom rows new.satellites.rooms) opened.2 (cells-room before opened.0 _
+          (subst (λ ss. HaveTypesRoom ss new.satellites.rooms) (cc (h.ok.read, opened.1)) h.ok.room));
+      kept = h.rooms;
+    }
+room-asked types line held old new (Err fault) e h =
+    let before = tail_of_history old in
+    record {
+      memory = λ out. line-good types line held before e (h.err.answer.memory out);
+      unasked = h.err.unasked;
+      known = λ begun step has.
+          let opened = opened-rows before line begun (satellites_of_line types (past_of_tail before) line)
+          (sym (ap (λ (o : Option Tail). opening (opened_raw types line o)) e) ∙ step) in
+          absurd (h.err.wanting opened.0 opened.1 (types-room before opened.0 _
+          (subst (λ rows. HaveCellsRoom rows old.satellites.rooms) (sym opened.2) has)));
+      room = λ begun step. tt;
+      kept = h.rooms;
+    }

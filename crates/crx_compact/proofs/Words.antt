@@ -37,8 +37,8 @@ pub use Rattle.crx_compact.specs.Steps.{raw_row_tail_after, raw_tail_after, tail
 pub use Rattle.crx_compact.specs.Steps.{cell_of_tail}
 pub use Rattle.crx_compact.specs.Tails.{Tail, RowTail, tail_left, tail_of, raw_row_tail, tail_of_block}
 pub use Rattle.crx_compact.specs.Written.{AreRowsWritten, epoch_by_rows}
-pub use Rattle.crx_compact.specs.declared.columns.Stage.{Stage}
-pub use Rattle.crx_compact.specs.declared.columns.Stage.TheVariants.{Rows, Unbegun}
+pub use Rattle.crx_compact.specs.declared.columns.Expected.{Expected}
+pub use Rattle.crx_compact.specs.declared.columns.Expected.TheVariants.{EpochLine, SatelliteLine}
 pub use Rattle.crx_compact.specs.meaning.ArcValues.{since_start, value_of, value_since, in_range, is_within}
 pub use Rattle.crx_compact.specs.meaning.Cells.{ReadCell, cell_read, cells_read, cells_of, after_cells}
 pub use Rattle.crx_compact.specs.meaning.Cells.{cell_text}

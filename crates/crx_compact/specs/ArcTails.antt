@@ -30,8 +30,3 @@ started_tail (Some arc) = arc_tail arc.order (values_of arc.order arc.numbers)
 pub record IsBoundedArc (limit : ℕ) (arc : ArcTail) : Type 0 where
   pub order : arc.order ≤ limit
   pub few : length arc.differences ≤ arc.order + 1
-
--- an arc of order 3 that has all of its differences, as most arcs have from their fourth value on
-abbrev pub HasThird : Option ArcTail → Type 0
-HasThird None = ⊥
-HasThird (Some arc) = (arc.order ≡ 3) × (length arc.differences ≡ 4)

@@ -1,6 +1,6 @@
 -- The cells of a satellite line after the arcs of its satellite in the epoch before.
 use Rattle.std.specs.Prelude.{◌≡◌, ◌≤◌, ℕ, ℤ, List, length, map, drop, slice_index_or, slice_set, Option, Some, None}
-use Rattle.std.specs.Prelude.{Result, Ok, Err, take, ◌++◌, ◌+◌, IfSome, IfNone, IfOk, IfErr}
+use Rattle.std.specs.Prelude.{Result, Ok, Err, take, flat_map, ◌++◌, ◌+◌, ◌*◌, IfSome, IfNone, IfOk, IfErr}
 use Rattle.crx_text.specs.meaning.Codes.{code_of, first_cell, after_cell}
 use Rattle.crx_base.specs.declared.limits.TheConstants.{OBSERVATION_WIDTH}
 use Rattle.crx_text.specs.declared.code.Code.TheVariants.{Missing}
@@ -34,6 +34,14 @@ pub record IsCellWritten (value : Option ℤ)
   pub written : take end bytes' ≡ take at bytes ++ cell_text (code_of_value value old)
   pub from : at ≤ end
   pub within : end ≤ at + CELL_ROOM
+
+-- the same for the values of a row, of which no code takes more room than this
+pub record AreCellsWritten (values : List (Option ℤ)) (old new : List (Option ArcTail)) (bytes : List ℕ)
+    (at : ℕ) (bytes' : List ℕ) (end : ℕ) : Type 0 where
+  pub arcs : new ≡ arcs_of_cells old values
+  pub written : take end bytes' ≡ take at bytes ++ flat_map cell_text (codes_of_cells old values)
+  pub from : at ≤ end
+  pub within : end ≤ at + CELL_ROOM * length values
 
 -- ---- reading
 

@@ -1,7 +1,7 @@
 -- An encoder between two lines: the tail of the epochs before; and of the open epoch, whether it was asked for in full, and its rows so far.
 use Rattle.std.specs.Prelude.{◌≡◌, ◌+◌, ℕ, List, length, [], Bool, true, false, Option, None, Some, if◌then◌else◌}
 use Rattle.crx_compact.specs.Blocks.{PendingLines}
-use Rattle.crx_compact.specs.Placing.{OpenHistory, IsBetween, tail_of_history}
+use Rattle.crx_compact.specs.Placing.{OpenHistory, tail_of_history}
 use Rattle.crx_compact.specs.Steps.{lines_after_tail, tail_after, tail_written_after}
 use Rattle.crx_compact.specs.Tails.{Tail}
 use Rattle.crx_compact.specs.Written.{AreRowsWritten, epoch_by_rows}
@@ -35,16 +35,15 @@ pub record EndsEpoch (head : ObservationHead) (old new : EncoderState) : Type 0 
   pub rows : new.rows ≡ []
   pub rooms : new.rooms ≡ old.rooms
 
--- nothing is open, and the history is that after the epochs before
-pub record IsClosed (before : Option Tail) (is_kept : Bool) (rows : List Row) (history : OpenHistory) : Type 0 where
-  pub tail : before ≡ (if is_kept then Some (tail_of_history history) else None)
-  pub between : IsBetween history
-  pub none : rows ≡ []
+-- a tail, where one is kept
+abbrev pub tail_or_none : Bool → Tail → Option Tail
+tail_or_none is_kept tail = if is_kept then Some tail else None
 
--- what holds of an encoder's parts: whether an epoch is open; the tail before, whether one is kept, whether the open epoch is in full, its rows
--- so far, the history, and the lines that are made: place is left for every other satellite that an epoch may have
-abbrev pub IsEncoding : Bool → Option Tail → Bool → Bool → List Row → OpenHistory → PendingLines → Type 0
-IsEncoding false before is_kept in_full rows history made = IsClosed before is_kept rows history
-IsEncoding true before is_kept in_full rows history made =
-    AreRowsWritten (tail_written_after in_full before) rows history made.lines × (made.front ≡ FIRST_LINES)
-    × (made.left + length rows ≡ LINES_LIMIT)
+-- what holds of an encoder's parts: whether an epoch is open; whether a tail before is kept, and it; whether the open epoch is in full; its rows
+-- so far; the history; and the lines that are made: place is left for every other satellite that an epoch may have
+abbrev pub IsEncoding : Bool → Bool → Tail → Bool → List Row → OpenHistory → PendingLines → Type 0
+IsEncoding false is_kept before in_full rows history made =
+    tail_or_none is_kept before ≡ tail_or_none is_kept (tail_of_history history)
+IsEncoding true is_kept before in_full rows history made =
+    AreRowsWritten (tail_written_after in_full (tail_or_none is_kept before)) rows history made.lines
+    × (made.front ≡ FIRST_LINES) × (made.left + length rows ≡ LINES_LIMIT)

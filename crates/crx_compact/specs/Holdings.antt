@@ -7,7 +7,7 @@ use Rattle.crx_compact.specs.declared.history.History.TheInside.{Inside as Histo
 use Rattle.crx_compact.specs.declared.block.Block.TheInside.{Inside as BlockInside}
 use Rattle.crx_compact.specs.declared.columns.Columns.TheInside.{Inside as ColumnsInside}
 use Rattle.crx_compact.specs.declared.encoder.Encoder.TheInside.{Inside as EncoderInside}
-use Rattle.crx_compact.specs.declared.kept_tail.KeptTail.{KeptTail}
+use Rattle.crx_compact.specs.declared.ghost_tail.GhostTail.{GhostTail}
 use Rattle.crx_rinex.specs.declared.rows_so_far.RowsSoFar.{RowsSoFar}
 
 -- what is stored of a satellite, with the parts of another
@@ -58,7 +58,7 @@ columns_with one other = record one {
   history = other.history;
   is_kept = other.is_kept;
   is_named = other.is_named;
-  stage = other.stage;
+  expected = other.expected;
   count = other.count;
   scratch = other.scratch;
   alloc = other.alloc;
@@ -68,8 +68,8 @@ columns_with one other = record one {
 abbrev pub rows_with : RowsSoFar → RowsSoFar → RowsSoFar
 rows_with one other = record one { marker = other.marker; rows = other.rows }
 
-abbrev pub kept_tail_with : KeptTail → KeptTail → KeptTail
-kept_tail_with one other = record one { marker = other.marker; tail = other.tail }
+abbrev pub ghost_tail_with : GhostTail → GhostTail → GhostTail
+ghost_tail_with one other = record one { marker = other.marker; tail = other.tail }
 
 -- an encoder, with the parts of another
 abbrev pub encoder_with : EncoderInside → EncoderInside → EncoderInside
@@ -80,6 +80,6 @@ encoder_with one other = record one {
   is_open = other.is_open;
   made = other.made;
   scratch = other.scratch;
-  before = kept_tail_with one.before other.before;
+  before = ghost_tail_with one.before other.before;
   rows = rows_with one.rows other.rows;
 }

@@ -1,46 +1,38 @@
--- How code stores the state of a reader of compact epochs: how far the lines of an epoch have come, and the
--- history.
-use Rattle.std.specs.Prelude.{◌≡◌, ◌≤◌, ◌<◌, ◌==◌, ◌+◌, ℕ, List, length, Bool, true, false, Some, None, if◌then◌else◌}
+-- How code stores the state of a reader of compact epochs: which line is expected next, and the history.
+use Rattle.std.specs.Prelude.{⊤, ◌≡◌, ◌≤◌, ◌<◌, ◌==◌, ◌+◌, ℕ, List, length, Bool, true, false, Some, None, if◌then◌else◌}
 use Rattle.crx_base.specs.meaning.AsRead.{Content, ReadLine}
 use Rattle.crx_header.specs.meaning.EpochColumns.{begins_epoch}
-use Rattle.crx_compact.specs.OpenEpochs.{OpenRawEpoch, RawStep, before_clock, step_in, step_with_rows, with_rows}
+use Rattle.crx_compact.specs.OpenEpochs.{RawStep, before_clock, step_in, step_with_rows, with_rows}
 use Rattle.crx_compact.specs.OpenEpochs.{ColumnsState, Idle, Reading}
 use Rattle.crx_compact.specs.PrintedBlocks.{lines_to}
-use Rattle.crx_compact.specs.Placing.{OpenHistory, IsAnnounced, IsBetween, tail_of_history}
-use Rattle.crx_compact.specs.declared.columns.Stage.{Stage}
-use Rattle.crx_compact.specs.declared.columns.Stage.TheVariants.{Unbegun, Clock, Rows}
-
--- the open epoch, of which so many rows have come
-abbrev pub epoch_by_stage : Stage → ℕ → OpenHistory → OpenRawEpoch
-epoch_by_stage Unbegun count history = before_clock (tail_of_history history)
-epoch_by_stage Clock count history = before_clock (tail_of_history history)
-epoch_by_stage Rows count history = with_rows (tail_of_history history) count
+use Rattle.crx_compact.specs.Placing.{OpenHistory, IsAnnounced, tail_of_history}
+use Rattle.crx_compact.specs.declared.columns.Expected.{Expected}
+use Rattle.crx_compact.specs.declared.columns.Expected.TheVariants.{EpochLine, ClockLine, SatelliteLine}
 
 -- a reader of compact epochs, and whether an epoch came since everything was last forgotten
-abbrev pub columns_state : Bool → Stage → ℕ → OpenHistory → ColumnsState
-columns_state is_kept Unbegun count history = Idle (if is_kept then Some (tail_of_history history) else None)
-columns_state is_kept Clock count history = Reading (epoch_by_stage Clock count history)
-columns_state is_kept Rows count history = Reading (epoch_by_stage Rows count history)
+abbrev pub columns_state : Bool → Expected → ℕ → OpenHistory → ColumnsState
+columns_state is_kept EpochLine count history = Idle (if is_kept then Some (tail_of_history history) else None)
+columns_state is_kept ClockLine count history = Reading (before_clock (tail_of_history history))
+columns_state is_kept SatelliteLine count history = Reading (with_rows (tail_of_history history) count)
 
--- between two epochs no satellite is awaited; in an open one the satellites are those that its text announces, and a
--- line is awaited
-abbrev pub IsSoundState : Stage → ℕ → OpenHistory → Type 0
-IsSoundState Unbegun count history = IsBetween history
-IsSoundState Clock count history = IsAnnounced history
-IsSoundState Rows count history = IsAnnounced history × (count < length history.satellites.rows)
+-- in an open epoch the satellites are those that its text announces, and a line is awaited
+abbrev pub IsSoundState : Expected → ℕ → OpenHistory → Type 0
+IsSoundState EpochLine count history = ⊤
+IsSoundState ClockLine count history = IsAnnounced history
+IsSoundState SatelliteLine count history = IsAnnounced history × (count < length history.satellites.rows)
 
--- what a line makes by how far the lines of the epoch have come; whether epochs came before doesn't matter to it
-abbrev pub step_at : Stage → ℕ → OpenHistory → ReadLine → RawStep
-step_at stage count history line = step_in (columns_state true stage count history) line
+-- what a line makes by which one is expected; whether epochs came before doesn't matter to it
+abbrev pub step_at : Expected → ℕ → OpenHistory → ReadLine → RawStep
+step_at expected count history line = step_in (columns_state true expected count history) line
 
 -- a line of an open epoch was taken, after which rows are awaited, or all have come; the rows before the one that came last stay
-pub record IsLineTaken (line : List ℕ) (stage : Stage) (count : ℕ) (history : OpenHistory)
-    (after : Stage) (come : ℕ) (new : OpenHistory) (is_whole : Bool) : Type 0 where
-  pub rows : after ≡ Rows
-  pub made : step_at stage count history (Content line) ≡ step_with_rows (tail_of_history new) come
+pub record IsLineTaken (line : List ℕ) (expected : Expected) (count : ℕ) (history : OpenHistory)
+    (after : Expected) (come : ℕ) (new : OpenHistory) (is_whole : Bool) : Type 0 where
+  pub rows : after ≡ SatelliteLine
+  pub made : step_at expected count history (Content line) ≡ step_with_rows (tail_of_history new) come
   pub whole : is_whole ≡ (come == length new.satellites.rows)
   pub within : come ≤ length new.satellites.rows
   pub announced : IsAnnounced new
   pub start : begins_epoch line ≡ false
-  pub awaited : 0 < come → stage ≡ Rows
+  pub awaited : 0 < come → expected ≡ SatelliteLine
   pub last : 0 < come → (come ≡ count + 1) × (lines_to count (tail_of_history new) ≡ lines_to count (tail_of_history history))

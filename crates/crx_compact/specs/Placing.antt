@@ -191,10 +191,6 @@ abbrev pub tail_of_history : OpenHistory → Tail
 tail_of_history history =
     record { text = history.text; clock = history.clock; rows = history.satellites.rows }
 
--- between two epochs no satellite is awaited
-abbrev pub IsBetween : OpenHistory → Type 0
-IsBetween history = history.satellites.rest ≡ []
-
 -- each row's satellite is known, and has room for the row's types
 abbrev pub HaveRoom : List Row → List (List ℕ × ℕ) → Type 0
 HaveRoom rows rooms = All (λ (row : Row). HasRoom row.name (length row.values) rooms) rows

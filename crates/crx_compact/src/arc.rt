@@ -4,8 +4,6 @@
 ghost use Rattle.std.specs.Prelude.{◌≡◌, ◌≤◌, ◌<◌, ◌+◌, ◌*◌, ◌^◌, ◌++◌, ◌∷◌, [], ℤ, List, Option, None, Some, Ok, Err, length, take, IfSome, OnSome, IfNone, OnOk, OnErr, IsTrue};
 ghost use Rattle.crx_text.specs.Codes.{IsPrintable, IsShort};
 ghost use Rattle.crx_text.specs.meaning.Numbers.{IsMissingOrWithin, IsWithin};
-ghost use Rattle.crx_compact.specs.ArcTails.{HasThird};
-ghost use Rattle.crx_base.specs.declared.fault.Fault.TheVariants.{OutOfRange};
 ghost use Rattle.crx_compact.specs.Arcs.{AreBelow, IsBelow, value_bound};
 ghost use Rattle.crx_compact.specs.meaning.Differences.{code_at, newest};
 ghost use Rattle.crx_compact.specs.meaning.ArcValues.{is_within, value_of};
@@ -56,8 +54,7 @@ impl<const WIDTH: usize> Model for Arc<WIDTH> {
 
 /// Puts the differences at a next value in place of those at the value before it, of order 0 up to the given
 /// one, and gives the difference of that order.
-fn go_on(differences: &mut [i64], order: usize, value: i64) -> i64
-    requires within { order < length differences.old }
+fn go_on(differences: &mut [i64; KEPT_LIMIT], order: usize, value: i64) -> i64
     requires few { order ≤ ORDER_LIMIT }
     requires below { AreBelow value_bound (take order differences.old) }
     requires next { IsBelow value_bound value }
@@ -106,7 +103,6 @@ fn value_after(differences: &[i64], number: i64) -> i64
 #[inline(always)]
 fn is_third(order: u8, count: u8) -> bool
     ensures third { IsTrue result → (order ≡ 3) × (count ≡ 4) }
-    ensures other { order ≡ 3 → count ≡ 4 → IsTrue result }
 {
     u16::from_le_bytes([order, count]) == u16::from_le_bytes([3, 4])
 }
@@ -162,13 +158,12 @@ impl<const WIDTH: usize> Arc<WIDTH> {
     /// the order and the count, which stay, aren't written. `None` comes where the arc has another order or
     /// fewer values, and then it is as it was.
     #[inline(always)]
-    pub fn push_third(&mut self, value: i64) -> Option<i64>
+    pub(crate) fn push_third(&mut self, value: i64) -> Option<i64>
         requires { IsWithin WIDTH value }
         ensures code { IfSome result (λ number. code_of_value (Some value) self.old ≡ Step number) }
         ensures short { IfSome result IsShort }
         ensures arc { OnSome result (self.new ≡ arc_of_value (Some value) self.old) }
         ensures none { IfNone result (self.new ≡ self.old) }
-        ensures other { IfNone result (HasThird self.old → ⊥) }
     {
         if !is_third(self.order, self.count) {
             return None;
@@ -232,14 +227,12 @@ impl<const WIDTH: usize> Arc<WIDTH> {
     /// the arc has another order or fewer values, or where the value doesn't fit, and then the arc is as it
     /// was.
     #[inline(always)]
-    pub fn apply_third(&mut self, number: i64) -> Option<i64>
+    pub(crate) fn apply_third(&mut self, number: i64) -> Option<i64>
         requires { IsShort number }
         ensures value { IfSome result
             (λ value. value_of_code WIDTH (Step number) self.old ≡ Ok (Some value)) }
         ensures arc { OnSome result (self.new ≡ arc_of_code (Step number) self.old) }
         ensures none { IfNone result (self.new ≡ self.old) }
-        ensures other { IfNone result
-            (HasThird self.old → value_of_code WIDTH (Step number) self.old ≡ Err OutOfRange) }
     {
         if !is_third(self.order, self.count) {
             return None;

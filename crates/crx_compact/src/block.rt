@@ -246,7 +246,8 @@ fn use_bytes(bytes: &mut Vec<u8>, filled: usize)
     }
 }
 
-/// Makes a list have so many items, for which it has memory, by items that are all the same.
+/// Makes a list have so many items, for which it has memory, by items that are all the same. As a value the
+/// list is filled by one call of the C library; behind a reference an item would take five instructions.
 #[cold]
 #[inline(never)]
 fn lengthen<T: Copy>(items: &mut Vec<T>, count: usize, item: T)
@@ -256,20 +257,9 @@ fn lengthen<T: Copy>(items: &mut Vec<T>, count: usize, item: T)
     ensures kept { KeepsItems items.old items.new }
 {
     let alloc = *items.allocator();
-    *items = lengthened(mem::replace(items, Vec::new(alloc)), count, item);
-}
-
-/// A list with items that are all the same behind its own, for which it has memory. As a value it is filled
-/// by one call of the C library; behind a reference an item would take five instructions.
-#[inline(always)]
-fn lengthened<T: Copy>(mut items: Vec<T>, count: usize, item: T) -> Vec<T>
-    requires longer { length items.items ≤ count }
-    requires memory { count ≤ vec_capacity items }
-    ensures counted { length result.items ≡ count }
-    ensures kept { KeepsItems items result }
-{
-    while items.len() < count {
-        items.push_reserved(item);
+    let mut filled = mem::replace(items, Vec::new(alloc));
+    while filled.len() < count {
+        filled.push_reserved(item);
     }
-    items
+    *items = filled;
 }

@@ -1,7 +1,6 @@
 //! The cells of a satellite line: values to codes and back, each after its arc.
 
 ghost use Rattle.std.specs.Prelude.{All, ◌≡◌, ◌≤◌, ◌<◌, ◌+◌, ◌++◌, ◌*◌, None, Ok, Err, drop, length, map, take, IfOk, IfErr, IfSome, IfNone, OnSome, Some, Option};
-ghost use Rattle.std.specs.List.{flat_map};
 ghost use Rattle.crx_text.specs.meaning.Columns.{columns};
 ghost use Rattle.crx_text.specs.meaning.PrintedCells.{printed_cells};
 ghost use Rattle.crx_text.specs.meaning.Numbers.{IsValue};
@@ -9,11 +8,10 @@ ghost use Rattle.crx_base.specs.declared.limits.TheConstants.{CELL_WIDTH, OBSERV
 ghost use Rattle.crx_compact.specs.ArcSteps.{arc_of_code, shown_value, value_of_code};
 ghost use Rattle.crx_text.specs.Codes.{IsShort};
 ghost use Rattle.crx_compact.specs.declared.cells.TheConstants.{CELL_ROOM};
-ghost use Rattle.crx_compact.specs.Cells.{AnswersCell, arcs_of_cells, codes_of_cells, value_at_place, CellsAreRead, IsCellWritten, MayReadCell};
+ghost use Rattle.crx_compact.specs.Cells.{AnswersCell, AreCellsWritten, value_at_place, CellsAreRead, IsCellWritten, MayReadCell};
 ghost use Rattle.crx_compact.specs.meaning.Cells.{cells_of, cells_read};
 ghost use Rattle.crx_base.specs.declared.fault.Fault.TheVariants.{BadField};
 ghost use Rattle.crx_text.specs.declared.code.Code.TheVariants.{Missing, Step};
-ghost use Rattle.crx_compact.specs.meaning.Cells.{cell_text};
 
 use crate::arc::ObsArc;
 use crx_base::Fault;
@@ -70,12 +68,8 @@ pub fn write_cells(
     requires values { All IsValue values.now }
     requires fitting { length values.now ≤ length arcs.old }
     requires room { at + CELL_ROOM * length values.now ≤ length bytes.old }
-    ensures arcs { take (length values.now) arcs.new
-        ≡ arcs_of_cells (take (length values.now) arcs.old) values.now }
-    ensures written { take result bytes.new ≡ take at bytes.old
-        ++ flat_map cell_text (codes_of_cells (take (length values.now) arcs.old) values.now) }
-    ensures from { at ≤ result }
-    ensures within { result ≤ at + CELL_ROOM * length values.now }
+    ensures { AreCellsWritten values.now (take (length values.now) arcs.old) (take (length values.now) arcs.new)
+        bytes.old at bytes.new result }
 {
     let mut end = at;
     for index in 0..values.len() {

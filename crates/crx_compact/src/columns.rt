@@ -1,7 +1,7 @@
 //! Epochs to compact lines, and compact lines to epochs, by the history, which is what they need of earlier
 //! epochs: Hatanaka's Compact RINEX 3.0.
 
-ghost use Rattle.std.specs.Prelude.{◌≡◌, ◌≤◌, ◌<◌, ◌∷◌, List, if◌then◌else◌, [], Some, None, true, false, length, IfOk, IfErr, OnOk, OnErr, Err};
+ghost use Rattle.std.specs.Prelude.{◌≡◌, ◌≤◌, ◌<◌, ◌∷◌, List, [], Some, None, true, false, length, IfOk, IfErr, OnOk, OnErr, Err};
 ghost use Rattle.crx_rinex.specs.Epochs.{is_full_epoch};
 ghost use Rattle.std.specs.Prelude.{◌⊎◌};
 ghost use Rattle.crx_base.specs.meaning.AsRead.{Content, ReadLine};
@@ -13,12 +13,11 @@ ghost use Rattle.crx_compact.specs.ReadBlocks.{AnswersLine, IsReading};
 ghost use Rattle.crx_base.specs.declared.limits.TheConstants.{LINE_LIMIT};
 ghost use Rattle.crx_header.specs.meaning.EpochColumns.{begins_epoch, is_event_line};
 ghost use Rattle.crx_compact.specs.OpenLines.{IsLineTaken, IsSoundState, step_at};
-ghost use Rattle.crx_compact.specs.EpochLinesRead.{history_cleared};
-ghost use Rattle.crx_compact.specs.Placing.{IsBetween, KeepsRooms, tail_of_history};
+ghost use Rattle.crx_compact.specs.Placing.{KeepsRooms};
 ghost use Rattle.crx_compact.specs.ReadingRooms.{AsksRoomToBegin};
 ghost use Rattle.crx_compact.specs.Blocks.{PendingLines};
 ghost use Rattle.crx_compact.specs.PrintedBlocks.{ArePrinted};
-ghost use Rattle.crx_compact.specs.OpenEpochs.{OpenRawEpoch, Going, awaits_row, is_faulty, is_idle, makes_epoch, tail_held, first_step, step_in, tail_for_line, Faulty, HasMade, HasPrintedLines};
+ghost use Rattle.crx_compact.specs.OpenEpochs.{OpenRawEpoch, Going, awaits_row, is_faulty, is_idle, makes_epoch, tail_held, first_step, step_in, Faulty, HasMade, HasPrintedLines};
 ghost use Rattle.crx_compact.specs.OpenEpochs.ColumnsState.{Idle};
 ghost use Rattle.crx_compact.specs.meaning.Compaction.{Marked, compact_epoch};
 ghost use Rattle.crx_compact.specs.Tails.{tail_left, tail_or_nothing};
@@ -34,15 +33,15 @@ use crx_text::Text;
 use std::alloc::Global;
 use std::marker::Model;
 
-/// How far the lines of an epoch have come.
+/// Which line is expected next.
 #[derive(Clone, Copy)]
-pub(crate) enum Stage {
-    /// None has come.
-    Unbegun,
-    /// The clock line is awaited.
-    Clock,
-    /// Satellite lines are awaited.
-    Rows,
+pub(crate) enum Expected {
+    /// An epoch line: no epoch is open.
+    EpochLine,
+    /// The clock line.
+    ClockLine,
+    /// A satellite line.
+    SatelliteLine,
 }
 
 /// The columns of an epoch's cells over the epochs before it: the history, which the next epoch's compact
@@ -55,7 +54,7 @@ pub struct Columns {
     /// Whether it is known that the satellites of the history are those that its text names: an epoch line
     /// was read last, and no epoch of RINEX was encoded since.
     is_named: bool,
-    stage: Stage,
+    expected: Expected,
     /// How many satellite lines of the open epoch have come.
     count: usize,
     scratch: Text,
@@ -71,12 +70,12 @@ impl Model for Columns {
     ghost Value = { HeldColumns };
 
     ghost view = { λ columns. record {
-      state = columns_state columns.is_kept columns.stage columns.count columns.history;
+      state = columns_state columns.is_kept columns.expected columns.count columns.history;
       rooms = columns.history.satellites.rooms;
     } };
 
     // Where an epoch is open, a line is awaited.
-    ghost invariant = { λ columns. IsSoundState columns.stage columns.count columns.history
+    ghost invariant = { λ columns. IsSoundState columns.expected columns.count columns.history
         × (columns.is_named ≡ true → IsAnnounced columns.history) };
 }
 
@@ -90,7 +89,7 @@ impl Columns {
             history: History::new(alloc),
             is_kept: false,
             is_named: false,
-            stage: Stage::Unbegun,
+            expected: Expected::EpochLine,
             count: 0,
             scratch: Text::new(),
             alloc,
@@ -102,19 +101,16 @@ impl Columns {
         // The memory is used again.
         ensures emptied { self.new ≡ record self.old { state = Idle None } }
     {
-        forget(
-            &mut self.history,
-            &mut self.is_kept,
-            &mut self.is_named,
-            &mut self.stage,
-        );
+        self.is_kept = false;
+        self.is_named = false;
+        self.expected = Expected::EpochLine;
     }
 
     /// Whether no epoch's lines have come in part.
     pub fn is_idle(&self) -> bool
         ensures value { result ≡ is_idle self.now.state }
     {
-        matches!(self.stage, Stage::Unbegun)
+        matches!(self.expected, Expected::EpochLine)
     }
 
     /// Makes the compact lines of an epoch that has all its rows: in full, where that is asked for or there
@@ -186,9 +182,12 @@ impl Columns {
         // Whatever a block holds from the epoch before is dropped with this epoch's first printed line.
         ensures unprinted { (block : PendingLines) → ArePrinted self.new.state block }
     {
-        let is_named = self.is_named & !begins_epoch(line);
+        let is_full = begins_epoch(line);
+        let is_named = self.is_named & !is_full;
         self.is_named = false;
-        if !has_history(&mut self.history, self.is_kept, line) {
+        if is_full {
+            self.history.clear();
+        } else if !self.is_kept {
             return Err(Fault::NotAnEpoch);
         }
         match self
@@ -197,16 +196,12 @@ impl Columns {
         {
             Ok(()) => {
                 self.is_named = true;
-                self.stage = Stage::Clock;
+                self.expected = Expected::ClockLine;
                 Ok(())
             }
             Err(fault) => {
-                forget(
-                    &mut self.history,
-                    &mut self.is_kept,
-                    &mut self.is_named,
-                    &mut self.stage,
-                );
+                self.is_kept = false;
+                self.expected = Expected::EpochLine;
                 Err(fault)
             }
         }
@@ -238,7 +233,7 @@ impl Columns {
     {
         match take_line(
             &mut self.history,
-            &mut self.stage,
+            &mut self.expected,
             &mut self.count,
             line,
             &mut self.scratch,
@@ -246,28 +241,21 @@ impl Columns {
             Ok(false) => Ok(None),
             Ok(true) => match self.history.epoch() {
                 Ok(epoch) => {
-                    self.history.end();
-                    self.stage = Stage::Unbegun;
+                    self.expected = Expected::EpochLine;
                     self.is_kept = true;
                     Ok(Some(epoch))
                 }
                 Err(_) => {
-                    forget(
-                        &mut self.history,
-                        &mut self.is_kept,
-                        &mut self.is_named,
-                        &mut self.stage,
-                    );
+                    self.is_kept = false;
+                    self.is_named = false;
+                    self.expected = Expected::EpochLine;
                     Err(Fault::OutOfMemory)
                 }
             },
             Err(fault) => {
-                forget(
-                    &mut self.history,
-                    &mut self.is_kept,
-                    &mut self.is_named,
-                    &mut self.stage,
-                );
+                self.is_kept = false;
+                self.is_named = false;
+                self.expected = Expected::EpochLine;
                 Err(fault)
             }
         }
@@ -290,7 +278,7 @@ impl Columns {
     {
         match take_line(
             &mut self.history,
-            &mut self.stage,
+            &mut self.expected,
             &mut self.count,
             line,
             &mut self.scratch,
@@ -300,53 +288,19 @@ impl Columns {
                 if !is_whole {
                     return Ok(false);
                 }
-                self.history.end();
-                self.stage = Stage::Unbegun;
+                self.expected = Expected::EpochLine;
                 self.is_kept = true;
                 Ok(true)
             }
             Err(fault) => {
                 lines.clear();
-                forget(
-                    &mut self.history,
-                    &mut self.is_kept,
-                    &mut self.is_named,
-                    &mut self.stage,
-                );
+                self.is_kept = false;
+                self.is_named = false;
+                self.expected = Expected::EpochLine;
                 Err(fault)
             }
         }
     }
-}
-
-/// Forgets every epoch, the one whose lines have come in part too.
-fn forget(history: &mut History, is_kept: &mut bool, is_named: &mut bool, stage: &mut Stage)
-    ensures history { history.new ≡ history_cleared history.old }
-    ensures kept { is_kept.new ≡ false }
-    ensures named { is_named.new ≡ false }
-    ensures stage { stage.new ≡ Stage.Unbegun }
-{
-    history.clear();
-    *is_kept = false;
-    *is_named = false;
-    *stage = Stage::Unbegun;
-}
-
-/// Has an epoch line read after the history: for a line that begins with `>` after nothing, and so everything
-/// is forgotten. Gives whether there is anything to read the line after.
-fn has_history(history: &mut History, is_kept: bool, line: &[u8]) -> bool
-    requires between { IsBetween history.old }
-    ensures between { IsBetween history.new }
-    ensures same { begins_epoch line.now ≡ false → history.new ≡ history.old }
-    ensures before { tail_for_line (if is_kept then Some (tail_of_history history.old) else None) line.now
-        ≡ (if result then Some (tail_of_history history.new) else None) }
-    ensures rooms { history.new.satellites.rooms ≡ history.old.satellites.rooms }
-{
-    if begins_epoch(line) {
-        history.clear();
-        return true;
-    }
-    is_kept
 }
 
 /// Takes the next line of an open epoch: the clock line, then a line for each satellite. Gives whether all
@@ -354,27 +308,27 @@ fn has_history(history: &mut History, is_kept: bool, line: &[u8]) -> bool
 #[inline(always)]
 fn take_line(
     history: &mut History,
-    stage: &mut Stage,
+    expected: &mut Expected,
     count: &mut usize,
     line: &[u8],
     scratch: &mut Text,
 ) -> Result<bool, Fault>
-    requires sound { IsSoundState stage.old count.old history.old }
+    requires sound { IsSoundState expected.old count.old history.old }
     requires short { length line.now ≤ LINE_LIMIT }
-    ensures ok { IfOk result (IsLineTaken line.now stage.old count.old history.old stage.new count.new history.new) }
+    ensures ok { IfOk result (IsLineTaken line.now expected.old count.old history.old expected.new count.new history.new) }
     ensures err { IfErr result (λ fault.
-        step_at stage.old count.old history.old (Content line.now) ≡ Faulty fault) }
+        step_at expected.old count.old history.old (Content line.now) ≡ Faulty fault) }
     ensures rooms { KeepsRooms history.old.satellites.rooms history.new.satellites.rooms }
 {
-    match *stage {
-        Stage::Unbegun => Err(Fault::NotAnEpoch),
-        Stage::Clock => {
+    match *expected {
+        Expected::EpochLine => Err(Fault::NotAnEpoch),
+        Expected::ClockLine => {
             history.read_clock(line)?;
-            *stage = Stage::Rows;
+            *expected = Expected::SatelliteLine;
             *count = 0;
             Ok(history.count() == 0)
         }
-        Stage::Rows => {
+        Expected::SatelliteLine => {
             let all = history.count();
             history.read_row(*count, line, scratch)?;
             *count += 1;

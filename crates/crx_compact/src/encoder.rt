@@ -9,11 +9,10 @@ ghost use Rattle.crx_compact.specs.Encoding.{EncoderState, EndsEpoch, forgotten}
 ghost use Rattle.crx_compact.specs.Placing.{PreparesRow};
 ghost use Rattle.crx_compact.specs.declared.block.TheConstants.{LINES_LIMIT};
 ghost use Rattle.crx_compact.specs.Blocks.{lines_text};
-ghost use Rattle.crx_compact.specs.EpochLinesRead.{history_cleared};
 
 use crate::block::Block;
+use crate::ghost_tail::GhostTail;
 use crate::history::History;
-use crate::kept_tail::KeptTail;
 use crx_base::options::in_columns;
 use crx_header::crinex::{CRINEX_PROGRAM, CRINEX_PROGRAM_LABEL, CRINEX_VERSION_LINE};
 use crx_rinex::{EpochLine, RowBuffer, RowsSoFar};
@@ -37,27 +36,27 @@ pub struct Encoder {
     made: Block,
     scratch: Box<Text>,
     /// The tail of the epochs before the open one, whose rows change the history in place.
-    before: KeptTail,
+    before: GhostTail,
     /// The rows of the open epoch so far.
     rows: RowsSoFar,
 }
 
 impl Model for Encoder {
     ghost use Rattle.std.specs.Prelude.{◌≡◌, ◌≤◌, [], if◌then◌else◌};
-    ghost use Rattle.crx_compact.specs.Encoding.{EncoderState, IsEncoding};
+    ghost use Rattle.crx_compact.specs.Encoding.{EncoderState, IsEncoding, tail_or_none};
 
     ghost Value = { EncoderState };
 
     ghost view = { λ encoder. record {
-      before = encoder.before.tail;
+      before = tail_or_none encoder.is_kept encoder.before.tail;
       is_open = encoder.is_open;
       in_full = encoder.in_full;
-      rows = encoder.rows.rows;
+      rows = if encoder.is_open then encoder.rows.rows else [];
       pending = if encoder.is_open then [] else encoder.made.lines;
       rooms = encoder.history.value.satellites.rooms;
     } };
 
-    ghost invariant = { λ encoder. IsEncoding encoder.is_open encoder.before.tail encoder.is_kept encoder.in_full
+    ghost invariant = { λ encoder. IsEncoding encoder.is_open encoder.is_kept encoder.before.tail encoder.in_full
         encoder.rows.rows encoder.history.value encoder.made };
 }
 
@@ -81,6 +80,7 @@ impl Encoder {
         let Ok(history) = Box::new(alloc, History::new(alloc)) else {
             return Err(AllocError);
         };
+        let before = GhostTail::of(&history);
         Ok(Encoder {
             history,
             is_kept: false,
@@ -88,7 +88,7 @@ impl Encoder {
             is_open: false,
             made,
             scratch,
-            before: KeptTail::none(),
+            before,
             rows: RowsSoFar::new(),
         })
     }
@@ -99,13 +99,8 @@ impl Encoder {
         ensures emptied { self.new ≡ forgotten self.old [] }
     {
         self.is_open = false;
+        self.is_kept = false;
         self.made.clear();
-        forget(
-            &mut self.history,
-            &mut self.is_kept,
-            &mut self.before,
-            &mut self.rows,
-        );
     }
 
     /// Makes the two lines before the header ready, in place of all others, and forgets every epoch.
@@ -114,13 +109,8 @@ impl Encoder {
         ensures put { self.new ≡ forgotten self.old (lines_before_header date.now true) }
     {
         self.is_open = false;
+        self.is_kept = false;
         self.made.clear();
-        forget(
-            &mut self.history,
-            &mut self.is_kept,
-            &mut self.before,
-            &mut self.rows,
-        );
         self.scratch.clear();
         append(&mut self.scratch, &CRINEX_PROGRAM);
         append(&mut self.scratch, &in_columns(date));
@@ -141,6 +131,7 @@ impl Encoder {
         } }
     {
         self.history.begin_rows(full || !self.is_kept);
+        self.rows = RowsSoFar::new();
         self.in_full = full;
         self.is_open = true;
         self.made.clear();
@@ -174,13 +165,8 @@ impl Encoder {
             Ok(false) => Ok(false),
             Err(error) => {
                 self.is_open = false;
+                self.is_kept = false;
                 self.made.clear();
-                forget(
-                    &mut self.history,
-                    &mut self.is_kept,
-                    &mut self.before,
-                    &mut self.rows,
-                );
                 Err(error)
             }
         }
@@ -195,8 +181,7 @@ impl Encoder {
         self.history
             .end_rows(head, &mut self.scratch, &mut self.made);
         self.is_kept = true;
-        self.before = KeptTail::of(&self.history);
-        self.rows = RowsSoFar::new();
+        self.before = GhostTail::of(&self.history);
         self.is_open = false;
     }
 
@@ -229,17 +214,4 @@ impl Encoder {
         }
         self.made.take_text()
     }
-}
-
-/// Forgets every epoch, the open one too.
-fn forget(history: &mut History, is_kept: &mut bool, before: &mut KeptTail, rows: &mut RowsSoFar)
-    ensures history { history.new ≡ history_cleared history.old }
-    ensures kept { is_kept.new ≡ false }
-    ensures before { before.new.tail ≡ None }
-    ensures rows { rows.new.rows ≡ [] }
-{
-    history.clear();
-    *is_kept = false;
-    *before = KeptTail::none();
-    *rows = RowsSoFar::new();
 }

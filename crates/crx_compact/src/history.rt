@@ -19,7 +19,7 @@ ghost use Rattle.crx_compact.specs.declared.history.TheConstants.{EPOCH_TEXT_LIM
 ghost use Rattle.crx_compact.specs.PrintedBlocks.{IsPrinted};
 ghost use Rattle.crx_compact.specs.meaning.CompactPlaces.{clock_line_read, satellites_of_text};
 ghost use Rattle.crx_compact.specs.meaning.EpochText.{names_in, satellites_named};
-ghost use Rattle.crx_compact.specs.Placing.{AsksRoom, HasAllowedCount, HaveRoom, IsAnnounced, IsBetween, IsRowRead, KeepsRooms, PreparesRow, no_history, padded, row_of_parts, satellite_of, tail_of_history};
+ghost use Rattle.crx_compact.specs.Placing.{AsksRoom, HasAllowedCount, HaveRoom, IsAnnounced, IsRowRead, KeepsRooms, PreparesRow, no_history, padded, row_of_parts, satellite_of, tail_of_history};
 ghost use Rattle.crx_compact.specs.Written.{AreRowsWritten, IsEpochWritten, IsRowWritten, epoch_by_rows};
 ghost use Rattle.crx_rinex.specs.meaning.SatelliteLines.{IsSoundRow};
 ghost use Rattle.crx_compact.specs.RowsSoFar.{NamesSatellites, HasClock};
@@ -34,7 +34,7 @@ use crate::satellite::put_first;
 use crate::satellites::Satellites;
 use crx_base::Fault;
 use crx_base::limits::{HEAD_WIDTH, LINE_LIMIT, NAME_WIDTH, SATELLITES_LIMIT, TYPES_LIMIT};
-use crx_header::{Types, after_columns, all_blank, identifier, padded, put_identifier};
+use crx_header::{Types, after_columns, all_blank, identifier, padded};
 use crx_rinex::{Epoch, EpochLine, SatRow, begins_epoch, print_head, types_of_satellite};
 use crx_text::columns::end_trimmed;
 use crx_text::difference::{append_difference, patch_bytes};
@@ -114,12 +114,10 @@ impl History {
     ) -> Result<(), AllocError>
         requires sound { IsSoundEpoch epoch.now }
         requires whole { is_full_epoch epoch.now ≡ true }
-        requires between { IsBetween self.old }
         requires none { lines.old ≡ no_lines }
         ensures written { OnOk result (IsEpochWritten
             (if in_full then no_tail else tail_of_history self.old) epoch.now self.new lines.new.lines) }
         ensures err { OnErr result (tail_of_history self.new ≡ tail_of_history self.old) }
-        ensures between { IsBetween self.new }
         ensures rooms { KeepsRooms self.old.satellites.rooms self.new.satellites.rooms }
     {
         prepare_rows(&mut self.satellites, epoch)?;
@@ -137,7 +135,6 @@ impl History {
     /// Begins an epoch whose rows are written one by one: in full, where that is asked for, else as
     /// differences from the epoch before.
     pub(crate) fn begin_rows(&mut self, in_full: bool)
-        requires between { IsBetween self.old }
         ensures begun { AreRowsWritten (if in_full then no_tail else tail_of_history self.old) [] self.new [] }
         ensures rooms { self.new.satellites.rooms ≡ self.old.satellites.rooms }
     {
@@ -185,22 +182,21 @@ impl History {
         requires front { FIRST_LINES ≤ lines.old.front }
         ensures written { (after : Tail) (rows : List Row) → AreRowsWritten after rows self.old lines.old.lines
             → IsEpochWritten after (epoch_by_rows head.now rows) self.new lines.new.lines }
-        ensures between { IsBetween self.new }
         ensures rooms { self.new.satellites.rooms ≡ self.old.satellites.rooms }
     {
-        self.satellites.end();
-        let length = renew_text(&mut self.next_text, head, &self.satellites);
+        put_first(&mut self.next_text, head.columns());
+        self.satellites.put_names(&mut self.next_text);
+        let next_text = trim_end(&self.next_text[..HEAD_WIDTH + NAME_WIDTH * head.count()]);
         scratch.clear();
         code_print(self.clock.push(head.clock()), scratch).unwrap();
         lines.put_front(scratch.bytes());
         // The texts of two epochs mostly differ by their time alone.
         scratch.clear();
-        let next_text = &self.next_text[..length];
         append_difference(&self.text[..self.length], next_text, scratch);
         scratch.trim_end_blanks();
         lines.put_front(scratch.bytes());
         put_first(&mut self.text, next_text);
-        self.length = length;
+        self.length = next_text.len();
     }
 
     /// Reads an epoch line: replaces the text by the one that it makes, and has the satellites of that text
@@ -218,7 +214,6 @@ impl History {
         scratch: &mut Text,
     ) -> Result<(), Fault>
         requires short { length line.now ≤ LINE_LIMIT }
-        requires between { IsBetween self.old }
         requires named { is_named ≡ true → IsAnnounced self.old }
         ensures { AnswersEpochLine types.now line.now self.old self.new result }
     {
@@ -294,13 +289,6 @@ impl History {
         self.satellites.read_line(index, line, scratch)
     }
 
-    /// Ends an epoch whose lines have all come.
-    pub(crate) fn end(&mut self)
-        ensures ended { self.new ≡ record self.old { satellites = record self.old.satellites { rest = [] } } }
-    {
-        self.satellites.end();
-    }
-
     /// The epoch that the history shows. `AllocError` comes only where there are satellites.
     pub(crate) fn epoch(&self) -> Result<Epoch, AllocError>
         requires announced { IsAnnounced self.now }
@@ -328,25 +316,9 @@ impl History {
         EpochLine::new(padded(&self.text[..self.length], 1), self.clock.value()).unwrap()
     }
 
-    /// Puts the first line of the epoch that the history shows after others, for which there is room. Most
-    /// epochs have no clock offset: then the columns are put as they are, which saves some 130 instructions.
-    pub(crate) fn put_head(&self, lines: &mut Block, scratch: &mut Text)
-        requires announced { is_some (epoch_count (columns self.now.text 1 HEAD_WIDTH)) ≡ true }
-        requires left { 0 < lines.old.left }
-        ensures lines { lines.new.lines ≡ lines.old.lines
-            ++ printed_head (columns self.now.text 1 HEAD_WIDTH) (shown_value self.now.clock) ∷ [] }
-        ensures taken { HasTakenLine lines.old lines.new }
-    {
-        let Some(_) = self.clock.value() else {
-            lines.put(end_trimmed(&self.text[..self.length], 1, HEAD_WIDTH));
-            return;
-        };
-        print_head(&self.head(), scratch);
-        lines.put(scratch.bytes());
-    }
-
     /// Prints what the line that came last has made known of an epoch of which so many rows have come: its
-    /// first line, in place of all lines, or the last of these rows, behind the others.
+    /// first line, in place of all lines, or the last of these rows, behind the others. Most epochs have no
+    /// clock offset: then the columns are put as they are, which saves some 130 instructions.
     #[inline(always)]
     pub(crate) fn print(&self, count: usize, lines: &mut Block, scratch: &mut Text)
         requires announced { IsAnnounced self.now }
@@ -354,12 +326,17 @@ impl History {
         requires before { 0 < count → IsPrinted (count - 1) (tail_of_history self.now) lines.old }
         ensures printed { IsPrinted count (tail_of_history self.now) lines.new }
     {
-        if count == 0 {
-            lines.clear();
-            self.put_head(lines, scratch);
+        if count > 0 {
+            lines.put_printed(&self.satellites, count - 1);
             return;
         }
-        lines.put_printed(&self.satellites, count - 1);
+        lines.clear();
+        let Some(_) = self.clock.value() else {
+            lines.put(end_trimmed(&self.text[..self.length], 1, HEAD_WIDTH));
+            return;
+        };
+        print_head(&self.head(), scratch);
+        lines.put(scratch.bytes());
     }
 }
 
@@ -373,31 +350,6 @@ fn prepare_rows(satellites: &mut Satellites, epoch: &Epoch) -> Result<(), AllocE
         index += 1;
     }
     Ok(())
-}
-
-/// Puts the text of an epoch in place of other bytes: columns 1 to 41 of its line, and the identifiers of its
-/// satellites. Gives the text's length without the blanks at its end.
-fn renew_text(text: &mut [u8; EPOCH_TEXT_LIMIT], head: &EpochLine, satellites: &Satellites) -> usize
-    requires counted { length satellites.now.rows ≡ head.now.count }
-    ensures put { take result text.new ≡ without_end_blanks
-        (head.now.head ++ flat_map (λ (row : RowTail). row.name) satellites.now.rows) }
-    ensures within { result ≤ EPOCH_TEXT_LIMIT }
-{
-    put_first(text, head.columns());
-    put_names(text, satellites);
-    trim_end(&text[..HEAD_WIDTH + NAME_WIDTH * head.count()]).len()
-}
-
-/// Puts the identifiers of the satellites that have come behind the columns of an epoch line.
-fn put_names(text: &mut [u8], satellites: &Satellites)
-    requires within { HEAD_WIDTH + NAME_WIDTH * length satellites.now.rows ≤ length text.old }
-    ensures { take (HEAD_WIDTH + NAME_WIDTH * length satellites.now.rows) text.new
-        ≡ take HEAD_WIDTH text.old ++ flat_map (λ (row : RowTail). row.name) satellites.now.rows }
-{
-    let names = satellites.names();
-    for index in 0..names.len() {
-        put_identifier(text, HEAD_WIDTH + NAME_WIDTH * index, names[index]);
-    }
 }
 
 /// Has the satellites of an epoch text come, each with as many types as its system has. It is given whether

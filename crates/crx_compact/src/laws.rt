@@ -1,9 +1,9 @@
 //! Laws over the definitions of this crate: each is the contract of a function that does nothing.
 
 ghost use Rattle.std.specs.Prelude.{◌≡◌};
-ghost use Rattle.crx_compact.specs.Holdings.{satellite_with, satellites_with, history_with, block_with, columns_with, encoder_with, kept_tail_with, rows_with};
+ghost use Rattle.crx_compact.specs.Holdings.{satellite_with, satellites_with, history_with, block_with, columns_with, encoder_with, ghost_tail_with, rows_with};
 ghost use Rattle.crx_compact.specs.declared.encoder.Encoder.TheInside.{Inside as EncoderInside};
-ghost use Rattle.crx_compact.specs.declared.kept_tail.KeptTail.{KeptTail};
+ghost use Rattle.crx_compact.specs.declared.ghost_tail.GhostTail.{GhostTail};
 ghost use Rattle.crx_rinex.specs.declared.rows_so_far.RowsSoFar.{RowsSoFar};
 ghost use Rattle.crx_compact.specs.declared.satellite.SatelliteHistory.TheInside.{Inside as SatelliteHistoryInside};
 ghost use Rattle.crx_compact.specs.declared.satellites.Satellites.TheInside.{Inside as SatellitesInside};
@@ -20,6 +20,6 @@ pub fn columns_hold()
     ensures block { (one other : BlockInside) → block_with one other ≡ other }
     ensures columns { (one other : ColumnsInside) → columns_with one other ≡ other }
     ensures rows { (one other : RowsSoFar) → rows_with one other ≡ other }
-    ensures tail { (one other : KeptTail) → kept_tail_with one other ≡ other }
+    ensures tail { (one other : GhostTail) → ghost_tail_with one other ≡ other }
     ensures encoder { (one other : EncoderInside) → encoder_with one other ≡ other }
 {}

@@ -163,16 +163,7 @@ impl SatelliteHistory {
         append_difference(&self.indicators[..2 * self.count], flags, scratch);
         scratch.trim_end_blanks();
         self.resize(count);
-        self.copy_indicators(flags);
-    }
-
-    /// Replaces the indicators by others, two for each type.
-    fn copy_indicators(&mut self, indicators: &[u8])
-        requires sized { length indicators.now ≡ 2 * length self.old.cells }
-        requires held { AreHeldFlags indicators.now }
-        ensures copied { self.new ≡ record self.old { flags = without_end_blanks indicators.now } }
-    {
-        put_first(&mut self.indicators, indicators);
+        put_first(&mut self.indicators, flags);
     }
 
     /// Replaces the arcs by those after a row, and writes the row's compact line from an index on; the line's

@@ -2,9 +2,10 @@
 
 ghost use Rattle.std.specs.Prelude.{List, ℕ, All, ◌≡◌, ◌≤◌, ◌<◌, ◌+◌, ◌*◌, ◌^◌, ◌++◌, ◌∷◌, [], true, false, is_some, None, Some, Ok, Err, length, take, map, slice_get, slice_set, OnOk, OnErr, IfOk, IfErr, IfSome, IsOk, IsTrue, ◌↔◌};
 ghost use Rattle.std.specs.Bool.{OnTrue};
+ghost use Rattle.std.specs.List.{flat_map};
 ghost use Rattle.std.specs.Map.{lookup};
 ghost use Rattle.std.specs.Str.{bytes_eq};
-ghost use Rattle.crx_base.specs.declared.limits.TheConstants.{CELL_WIDTH, LINE_LIMIT, NAME_WIDTH, TYPES_LIMIT};
+ghost use Rattle.crx_base.specs.declared.limits.TheConstants.{CELL_WIDTH, HEAD_WIDTH, LINE_LIMIT, NAME_WIDTH, TYPES_LIMIT};
 ghost use Rattle.crx_header.specs.meaning.EpochColumns.{begins_epoch};
 ghost use Rattle.crx_header.specs.meaning.ObservationTypes.{IsAllowedCount};
 ghost use Rattle.crx_header.specs.meaning.Satellites.{is_among, is_identifier};
@@ -22,8 +23,8 @@ ghost use Rattle.indexmap.specs.IndexMap.{IsUnique, spare};
 
 use crate::satellite::SatelliteHistory;
 use crx_base::Fault;
-use crx_base::limits::{CELL_WIDTH, LINE_LIMIT, NAME_WIDTH};
-use crx_header::{Types, is_same_identifier};
+use crx_base::limits::{CELL_WIDTH, HEAD_WIDTH, LINE_LIMIT, NAME_WIDTH};
+use crx_header::{Types, is_same_identifier, put_identifier};
 use crx_rinex::SatRow;
 use crx_text::Text;
 use indexmap::IndexMap;
@@ -41,7 +42,7 @@ pub struct Satellites {
     /// How many mean something: those that have come, and those of the epoch before that haven't.
     live: usize,
     /// Where the last satellite was found that wasn't the next one: how far behind that, and at which index;
-    /// where an epoch ended, the index before the first one. These two are for speed alone.
+    /// where an epoch begins, the index before the first one. These two are for speed alone.
     ahead: usize,
     last: usize,
     alloc: Global,
@@ -78,19 +79,12 @@ impl Satellites {
         }
     }
 
-    /// Begins an epoch: no row of it has come, and those of the epoch before are awaited.
+    /// Begins an epoch: no row of it has come, and those that came in the epoch before are awaited.
     pub(crate) fn begin(&mut self)
-        ensures begun { self.new
-            ≡ record self.old { rows = []; rest = self.old.rows ++ self.old.rest } }
-    {
-        self.placed = 0;
-    }
-
-    /// Ends an epoch: the satellites whose rows haven't come are forgotten.
-    pub(crate) fn end(&mut self)
-        ensures ended { self.new ≡ record self.old { rest = [] } }
+        ensures begun { self.new ≡ record self.old { rows = []; rest = self.old.rows } }
     {
         self.live = self.placed;
+        self.placed = 0;
         self.last = usize::MAX;
     }
 
@@ -231,13 +225,17 @@ impl Satellites {
         satellite.make_room(count)
     }
 
-    /// The identifiers of the satellites that have come. They are beside each other in the map: to ask for
-    /// each by its index takes 5 instructions more.
-    #[inline(always)]
-    pub(crate) fn names(&self) -> &[[u8; NAME_WIDTH]]
-        ensures value { result.now ≡ map (λ (row : RowTail). row.name) self.now.rows }
+    /// Puts the identifiers of the satellites that have come behind the columns of an epoch line. They are
+    /// beside each other in the map: to ask for each by its index takes 5 instructions more.
+    pub(crate) fn put_names(&self, text: &mut [u8])
+        requires within { HEAD_WIDTH + NAME_WIDTH * length self.now.rows ≤ length text.old }
+        ensures { take (HEAD_WIDTH + NAME_WIDTH * length self.now.rows) text.new
+            ≡ take HEAD_WIDTH text.old ++ flat_map (λ (row : RowTail). row.name) self.now.rows }
     {
-        &self.known.keys().as_slice()[..self.placed]
+        let names = &self.known.keys().as_slice()[..self.placed];
+        for index in 0..names.len() {
+            put_identifier(text, HEAD_WIDTH + NAME_WIDTH * index, names[index]);
+        }
     }
 
     /// Makes the satellite that came last have so many types, for which it has room: those that it has stay,

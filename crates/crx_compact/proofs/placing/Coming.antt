@@ -5,7 +5,7 @@ use Rattle.crx_compact.proofs.placing.Ranges.{among-up_to, found-in_range, named
 use Rattle.crx_compact.proofs.Words.{sym, ◌∙◌, arith, bytes_eq, map-append, take-take, is_among, RowTail}
 use Rattle.crx_compact.proofs.placing.Ranges.{rest-one_more}
 use Rattle.std.specs.{List.IsDistinct, Map.keys_of}
-use Rattle.std.proofs.{lemmas.Bool.or_parts, lemmas.List.take-append-drop, lemmas.Grind.common_steps}
+use Rattle.std.proofs.{lemmas.Bool.or_parts, lemmas.Grind.common_steps}
 use Rattle.crx_header.proofs.Apart.{among-map, other_way}
 use Rattle.crx_compact.specs.meaning.Sequences.{named}
 use Rattle.crx_compact.specs.Entries.{Entry, IsFound, IsPutNext, IsRevived, key_of, placed_rows}
@@ -29,13 +29,6 @@ unknown-no_row name count es h = among-rows name (take count es) ∙ first count
     first (suc count) (e ∷ es) h =
         let parts = or_parts (bytes_eq (key_of e) name) (is_among key_of name es) h in
         rw parts.0 (first count es parts.1)
-
--- those that have come and those that haven't are all that mean something
-pub all-awaited : (placed live : ℕ) (es : List Entry) → placed ≤ live → map row_of_entry
-    (take placed es) ++ map row_of_entry (drop placed (take live es)) ≡ map row_of_entry (take live es)
-all-awaited placed live es few = sym (map-append row_of_entry (take placed es) (drop placed (take live es)))
-    ∙ ap (λ front. map row_of_entry (front ++ drop placed (take live es)))
-    (sym (take-take placed live es few)) ∙ ap (map row_of_entry) (take-append-drop placed (take live es))
 
 module _ (name : List ℕ) (placed live found : ℕ) (old known : List Entry)
     (is : IsFound name found old known) where

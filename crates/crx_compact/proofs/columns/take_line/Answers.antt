@@ -1,6 +1,6 @@
 use Rattle.std.proofs.lemmas.Grind.{common_steps}
 use Rattle.crx_compact.proofs.Words.{◌≡◌, sym, subst, arith, rules, length-set, err_from_is_err_and}
-use Rattle.crx_compact.proofs.Words.{Content, step_at, tail_of_history, Stage}
+use Rattle.crx_compact.proofs.Words.{Content, step_at, tail_of_history, Expected}
 use Rattle.crx_compact.proofs.{PrintedBlocks.rows-kept}
 use Rattle.crx_compact.proofs.reading.Announced.{row-announced, rows-allowed, rows-few}
 use Rattle.crx_compact.proofs.reading.StepsByCode.{row-faulty, row-stepped}
@@ -8,19 +8,19 @@ use Rattle.crx_compact.specs.OpenEpochs.{Faulty}
 use Rattle.crx_compact.proofs.columns.take_line.Goals as goal
 
 pub read_row-requires-clause-allowed : goal.read_row-requires-clause-allowed
-read_row-requires-clause-allowed c = rows-allowed c.args.history.now (rw c.in-Rows.is at c.requires.sound).0
+read_row-requires-clause-allowed c = rows-allowed c.args.history.now (rw c.in-SatelliteLine.is at c.requires.sound).0
 
-pub returns-in_err-read_row-in-Rows-clause-err : goal.returns-in_err-read_row-in-Rows-clause-err
-returns-in_err-read_row-in-Rows-clause-err c =
-    let p = err_from_is_err_and c.from_residual-in_err-read_row-in-Rows.result
-    c.from_residual-in_err-read_row-in-Rows.ensures.1 in
-    rw (p.1, p.2) (subst (λ (s : Stage). step_at s c.args.count.now c.args.history.now (Content
-    c.args.line.now) ≡ Faulty c.in_err-read_row-in-Rows.field-0.0) (sym c.in-Rows.is) (row-faulty
-    (tail_of_history c.args.history.now) c.args.count.now c.args.line.now c.in_err-read_row-in-Rows.field-0.0
-    (rw c.in-Rows.is at c.requires.sound).1 c.in_err-read_row-in-Rows.ensures.err))
+pub returns-in_err-read_row-in-SatelliteLine-clause-err : goal.returns-in_err-read_row-in-SatelliteLine-clause-err
+returns-in_err-read_row-in-SatelliteLine-clause-err c =
+    let p = err_from_is_err_and c.from_residual-in_err-read_row-in-SatelliteLine.result
+    c.from_residual-in_err-read_row-in-SatelliteLine.ensures.1 in
+    rw (p.1, p.2) (subst (λ (s : Expected). step_at s c.args.count.now c.args.history.now (Content
+    c.args.line.now) ≡ Faulty c.in_err-read_row-in-SatelliteLine.field-0.0) (sym c.in-SatelliteLine.is) (row-faulty
+    (tail_of_history c.args.history.now) c.args.count.now c.args.line.now c.in_err-read_row-in-SatelliteLine.field-0.0
+    (rw c.in-SatelliteLine.is at c.requires.sound).1 c.in_err-read_row-in-SatelliteLine.ensures.err))
 
 pub overflow_add-count : goal.overflow_add-count
-overflow_add-count c = grind (arith, common_steps, rows-few, c.in-Rows.is, c.requires.sound)
+overflow_add-count c = grind (arith, common_steps, rows-few, c.in-SatelliteLine.is, c.requires.sound)
 
-pub returns-in_ok-read_row-in-Rows-clause-ok : goal.returns-in_ok-read_row-in-Rows-clause-ok
-returns-in_ok-read_row-in-Rows-clause-ok c = search (rules, length-set, row-stepped, row-announced, rows-kept)
+pub returns-in_ok-read_row-in-SatelliteLine-clause-ok : goal.returns-in_ok-read_row-in-SatelliteLine-clause-ok
+returns-in_ok-read_row-in-SatelliteLine-clause-ok c = search (rules, length-set, row-stepped, row-announced, rows-kept)

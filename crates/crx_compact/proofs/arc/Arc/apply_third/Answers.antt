@@ -41,12 +41,6 @@ invariant_of-self g c =
     (put ∙ o.sums ∙ by-after c.args.number (take 3 ds)
     ∙ ap (λ v. differences_after v (take 3 ds)) (sym (ap newest o.sums))))
 
-pub returns-then-not-is_within-clause-other : goal.returns-then-not-is_within-clause-other
-returns-then-not-is_within-clause-other g c = λ has.
-    let at = (goal.at.returns-then-not-is_within-clause-other g c).Else-not-is_third in
-    let o = onto g at in
-    search rules
-
 pub returns : goal.returns
 returns g c =
     let at = (goal.at.returns g c).Else-not-is_third in

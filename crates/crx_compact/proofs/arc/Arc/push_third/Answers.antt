@@ -58,5 +58,4 @@ returns g c =
           c.self.invariant c.requires);
       arc = search rules;
       none = tt;
-      other = tt;
     }))

@@ -4,7 +4,7 @@ use Rattle.crx_compact.proofs.reading.Stages.{row-was_awaited, rows-left, state-
 use Rattle.crx_compact.proofs.Words.{step_with_rows, tail_of_history, Tail, HeldColumns}
 use Rattle.crx_compact.proofs.reading.{Blocks.{more-block, more-refused}, NoMemory.no-memory-in-epoch}
 use Rattle.crx_compact.proofs.{reading.Stages.step-whole, reading.StepsByCode.{made-more, made-whole}}
-use Rattle.crx_compact.specs.OpenEpochs.{Faulty, Idle}
+use Rattle.crx_compact.specs.OpenEpochs.{Faulty}
 use Rattle.crx_compact.proofs.columns.Columns.feed.Goals as goal
 
 pub returns-in-Ok-clause-made : goal.returns-in-Ok-clause-made
@@ -16,10 +16,7 @@ returns-in-Ok-clause-made c =
     eqb-true new.count (length new.history.satellites.rows) (sym rows.whole ∙ c.in-Ok-true.field-0-test) in
     let step : step_in c.args.self.now.state (Content c.args.line.now) ≡ step_with_rows tail new.count =
     search (rules, step-by-stage, c.self.view_is, c.in-Ok-true.ensures.ok) in
-    let P : Tail → Type 0 = λ t.
-    HasMade (step_in c.args.self.now.state (Content c.args.line.now)) (Idle (Some t)) (Some c.in-Ok.epoch) in
-    subst P (sym (ap {B = Tail} tail_of_history c.end.ensures.ended))
-    (made-whole _ tail new.count c.in-Ok.epoch step (omega (arith, come)) c.in-Ok.ensures.ok)
+    made-whole _ tail new.count c.in-Ok.epoch step (omega (arith, come)) c.in-Ok.ensures.ok
 
 pub returns-in-Err-epoch-clause-memory : goal.returns-in-Err-epoch-clause-memory
 returns-in-Err-epoch-clause-memory c = λ out.
@@ -30,7 +27,7 @@ returns-in-Err-epoch-clause-memory c = λ out.
     eqb-true new.count (length new.history.satellites.rows) (sym rows.whole ∙ c.in-Ok-true.field-0-test) in
     let some : 0 < length new.history.satellites.rows = c.in-Err-epoch.ensures.memory in (
       rows.start,
-      row-was_awaited inside.is_kept inside.stage inside.count inside.history c.args.self.now.state
+      row-was_awaited inside.is_kept inside.expected inside.count inside.history c.args.self.now.state
           (ap (λ (held : HeldColumns). held.state) c.self.view_is) (rows.awaited (omega (arith, come, some))),
       step-whole _ (tail_of_history new.history) new.count
           (search (rules, step-by-stage, c.self.view_is, c.in-Ok-true.ensures.ok)) (omega (arith, come)),
@@ -49,7 +46,7 @@ returns-in-Ok-false-clause-made c =
     rows-left new.count (length new.history.satellites.rows) (sym rows.whole ∙ c.in-Ok-false.field-0-test)
     rows.within in
     subst (λ s. HasMade (step_in c.args.self.now.state (Content c.args.line.now)) s None) (sym (state-rows
-    c.self.inside.is_kept new.stage new.count new.history rows.rows)) (made-more _ (tail_of_history
+    c.self.inside.is_kept new.expected new.count new.history rows.rows)) (made-more _ (tail_of_history
     new.history) new.count (search (rules, step-by-stage, c.self.view_is, c.in-Ok-false.ensures.ok)) left)
 
 pub returns-in-Ok-false-clause-block : goal.returns-in-Ok-false-clause-block

@@ -1,10 +1,9 @@
 use Rattle.crx_compact.proofs.Words.{rules, refl, ◌≡◌, ◌∙◌, ◌<◌, sym, arith}
-use Rattle.crx_compact.proofs.Words.{ap, subst, length, Some, None, true, eqb-true, Content}
-use Rattle.crx_compact.proofs.Words.{HasMade, HasPrintedLines, HeldColumns, step_in}
-use Rattle.crx_compact.proofs.{Words.{tail_of_history, Tail}, PrintedBlocks.{block-whole, idle-unprinted, printed-before, rows-printed}}
+use Rattle.crx_compact.proofs.Words.{ap, subst, length, None, eqb-true, Content}
+use Rattle.crx_compact.proofs.Words.{HasMade, HeldColumns, step_in}
+use Rattle.crx_compact.proofs.{Words.{tail_of_history}, PrintedBlocks.{block-whole, idle-unprinted, printed-before, rows-printed}}
 use Rattle.crx_compact.proofs.reading.Stages.{rows-left, state-rows, step-by-stage}
 use Rattle.crx_compact.proofs.reading.StepsByCode.{made-more, printed-whole}
-use Rattle.crx_compact.specs.{OpenEpochs.Idle}
 use Rattle.crx_compact.proofs.columns.Columns.feed_into.Goals as goal
 
 pub returns-then-not-is_whole-clause-made : goal.returns-then-not-is_whole-clause-made
@@ -15,7 +14,7 @@ returns-then-not-is_whole-clause-made c =
     rows-left new.count (length new.history.satellites.rows) (sym rows.whole ∙ (search c.if-not-is_whole))
     rows.within in
     subst (λ s. HasMade (step_in c.args.self.now.state (Content c.args.line.now)) s None) (sym (state-rows
-    c.self.inside.is_kept new.stage new.count new.history rows.rows)) (made-more _ (tail_of_history
+    c.self.inside.is_kept new.expected new.count new.history rows.rows)) (made-more _ (tail_of_history
     new.history) new.count (search (rules, step-by-stage, c.self.view_is, c.in-Ok.ensures.ok)) left)
 
 pub returns-else-not-is_whole-clause-made : goal.returns-else-not-is_whole-clause-made
@@ -23,33 +22,27 @@ returns-else-not-is_whole-clause-made c =
     let new = c.take_line.new in
     let come : new.count ≡ length new.history.satellites.rows = eqb-true new.count (length
     new.history.satellites.rows) (sym c.in-Ok.ensures.ok.whole ∙ (search c.if-not-is_whole)) in
-    let P : Tail → Type 0 = λ t. HasPrintedLines (step_in c.args.self.now.state (Content c.args.line.now))
-    (Idle (Some t)) true c.print.new.lines.lines in
-    subst P (sym (ap {B = Tail} tail_of_history c.end.ensures.ended)) (printed-whole _ (tail_of_history
-    new.history) new.count c.print.new.lines.lines (search (
+    printed-whole _ (tail_of_history new.history) new.count c.print.new.lines.lines (search (
       rules,
       step-by-stage,
       c.self.view_is,
       c.in-Ok.ensures.ok,
     )) (omega (arith, come)) (block-whole (tail_of_history new.history) c.print.new.lines.lines
-    (rw come at c.print.ensures.printed.lines)))
+    (rw come at c.print.ensures.printed.lines))
 
 pub print-requires-clause-before : goal.print-requires-clause-before
 print-requires-clause-before c = λ some.
     let inside = c.self.inside in
     let new = c.take_line.new in
-    printed-before inside.is_kept inside.stage new.stage inside.count new.count inside.history new.history c.args.line.now
+    printed-before inside.is_kept inside.expected new.expected inside.count new.count inside.history new.history c.args.line.now
     c.in-Ok.is_whole c.args.self.now.state c.args.lines.now (ap (λ (held : HeldColumns). held.state) c.self.view_is)
     c.requires.printed c.in-Ok.ensures.ok some
 
 pub returns-then-not-is_whole-clause-printed : goal.returns-then-not-is_whole-clause-printed
 returns-then-not-is_whole-clause-printed c =
     let new = c.take_line.new in
-    rows-printed (tail_of_history new.history) new.count _ c.print.new.lines (state-rows c.self.inside.is_kept new.stage
+    rows-printed (tail_of_history new.history) new.count _ c.print.new.lines (state-rows c.self.inside.is_kept new.expected
     new.count new.history c.in-Ok.ensures.ok.rows) c.print.ensures.printed
 
 pub returns-else-not-is_whole-clause-printed : goal.returns-else-not-is_whole-clause-printed
 returns-else-not-is_whole-clause-printed c = idle-unprinted _ _ c.print.new.lines refl
-
-pub returns-in-Err-clause-printed : goal.returns-in-Err-clause-printed
-returns-in-Err-clause-printed c = rw (c.forget.ensures.kept, c.forget.ensures.stage) (idle-unprinted None (Idle None) c.clear.new.self refl)

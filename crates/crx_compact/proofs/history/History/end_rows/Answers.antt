@@ -1,12 +1,13 @@
-use Rattle.crx_compact.proofs.Words.{rules, ◌≡◌, ◌++◌, List, ℕ, ap, ◌∙◌, without_end_blanks}
+use Rattle.crx_compact.proofs.Words.{rules, ◌≡◌, ◌≤◌, ◌++◌, ◌+◌, ◌*◌, List, ℕ, ap, ◌∙◌, sym, without_end_blanks, few_kept}
 use Rattle.crx_compact.proofs.Words.{by_position, mark_of, text_difference, take, length, arith, code_text}
-use Rattle.crx_compact.proofs.Words.{code_of_value, epoch_text, OpenHistory, PlacedRows, row_tail_in}
+use Rattle.crx_compact.proofs.Words.{code_of_value, epoch_text, flat_map, OpenHistory, Row, RowTail, row_tail_in}
 use Rattle.crx_compact.proofs.{Words.{epoch_by_rows}, SoundTexts.difference-trimmed}
 use Rattle.crx_compact.proofs.{Making.ok-unless}
 use Rattle.std.proofs.lemmas.List.Folds.{flat_map-map}
 use Rattle.crx_text.proofs.CodeTexts.{code_text_length}
 use Rattle.crx_compact.proofs.wayback.Standing.{difference-length}
 use Rattle.std.proofs.lemmas.List.{length-take}
+use Rattle.crx_compact.proofs.history.History.end_rows.Goals.{After-bytes-2}
 use Rattle.crx_compact.proofs.history.History.end_rows.Goals as goal
 
 -- an empty text has room for a code
@@ -19,35 +20,44 @@ put_front-requires-clause-short c =
     let code : c.bytes.result.now ≡ code_text c.push.result = search (rules, c.bytes.ensures.value) in
     omega (arith, ap length code, code_text_length c.push.result (search rules))
 
+-- the difference of two epochs' texts
+marks : (c : After-bytes-2) → c.bytes-2.result.now
+    ≡ text_difference (take c.self.inside.length c.self.inside.text) c.trim_end-next_text.result.now
+marks c = c.bytes-2.ensures.value ∙ c.trim_end_blanks.ensures.trimmed
+    ∙ ap without_end_blanks (c.append_difference.ensures.appended
+    ∙ ap (λ (t : List ℕ). t ++ by_position mark_of (take c.self.inside.length c.self.inside.text) c.trim_end-next_text.result.now)
+    c.clear-2.ensures.emptied)
+
+-- the new text is no longer than the text of an epoch
 pub put_front-requires-2-clause-short : goal.put_front-requires-2-clause-short
 put_front-requires-2-clause-short c =
+    let at = (goal.at.put_front-requires-2-clause-short c).After-bytes-2 in
     let old : List ℕ = take c.self.inside.length c.self.inside.text in
-    let new : List ℕ = take c.renew_text-length.result c.renew_text-length.new.text in
-    let marks : c.bytes-2.result.now ≡ text_difference old new =
-    c.bytes-2.ensures.value ∙ c.trim_end_blanks.ensures.trimmed
-    ∙ ap without_end_blanks (c.append_difference.ensures.appended
-    ∙ ap (λ (t : List ℕ). t ++ by_position mark_of old new) c.clear-2.ensures.emptied) in
-    rw marks (difference-length 3038 old new (omega (arith, length-take c.self.inside.length c.self.inside.text, c.self.invariant))
-    (omega (arith, length-take c.renew_text-length.result c.renew_text-length.new.text, c.renew_text-length.ensures.within)))
+    let whole = take (41 + 3 * c.count.result) c.put_names.new.text in
+    let short : length c.trim_end-next_text.result.now ≤ 3038 =
+    omega (arith, ap (λ (t : List ℕ). length t) c.trim_end-next_text.ensures.value, few_kept whole, length-take (41 + 3 * c.count.result) c.put_names.new.text) in
+    rw (marks at) (difference-length 3038 old c.trim_end-next_text.result.now
+    (omega (arith, length-take c.self.inside.length c.self.inside.text, c.self.invariant)) short)
 
 -- the rows of an epoch that has ended, and its text
 pub returns-clause-written : goal.returns-clause-written
 returns-clause-written c = λ after rows written.
     let head = c.args.head.now in
     let whole = epoch_text (epoch_by_rows head rows) in
-    let is = ap (λ (p : PlacedRows). p.rows) c.end.ensures.ended
-    ∙ ap (λ (h : OpenHistory). h.satellites.rows) c.self.view_is ∙ written.rows_after in
-    let text : take c.renew_text-length.result c.renew_text-length.new.text ≡ without_end_blanks whole =
-    search (rules, without_end_blanks, flat_map-map, row_tail_in, is, c.renew_text-length.ensures.put) in
+    let width = ap (λ (t : List ℕ). length t) c.columns.ensures.value ∙ c.columns.ensures.sound.width in
+    let first = ap (λ n. take n c.put_first.new.bytes) (sym width) ∙ c.put_first.ensures ∙ c.columns.ensures.value in
+    let named = ap (λ (h : OpenHistory). h.satellites.rows) c.self.view_is in
+    let is = named ∙ written.rows_after in
+    let counted = c.count.ensures.value ∙ sym c.requires.counted ∙ ap (λ (rs : List RowTail). length rs) (sym named) in
+    let names : flat_map (λ (row : RowTail). row.name) c.self.inside.satellites.rows ≡ flat_map (λ (row : Row). row.name) rows =
+    search (rules, flat_map-map, row_tail_in, is) in
+    let text : c.trim_end-next_text.result.now ≡ without_end_blanks whole =
+    c.trim_end-next_text.ensures.value ∙ ap (λ n. without_end_blanks (take (41 + 3 * n) c.put_names.new.text)) counted
+    ∙ ap without_end_blanks (c.put_names.ensures ∙ (λ j. first j ++ names j)) in
     let clock = ap (λ (h : OpenHistory). h.clock) c.self.view_is ∙ written.clock in
     let before = ap (λ (h : OpenHistory). h.text) c.self.view_is ∙ written.text in
     let first : c.bytes-2.result.now ≡ text_difference after.text whole =
-    c.bytes-2.ensures.value ∙ c.trim_end_blanks.ensures.trimmed
-    ∙ ap without_end_blanks (c.append_difference.ensures.appended
-    ∙ ap (λ (t : List ℕ). t ++ by_position mark_of (take c.self.inside.length c.self.inside.text)
-    (take c.renew_text-length.result c.renew_text-length.new.text))
-    c.clear-2.ensures.emptied)
-    ∙ (λ j. text_difference (before j) (text j))
+    marks (goal.at.returns-clause-written c).After-bytes-2 ∙ (λ j. text_difference (before j) (text j))
     ∙ difference-trimmed after.text whole in
     let code = c.push.ensures.code ∙ (λ j. code_of_value (c.clock.ensures.value j) (clock j)) in
-    search (rules, c.put_first.ensures, c.put_front-2.ensures.lines, c.put_front.ensures.lines)
+    search (rules, c.put_first-2.ensures, c.put_front-2.ensures.lines, c.put_front.ensures.lines)

@@ -1,7 +1,7 @@
-use Rattle.crx_compact.proofs.Words.{◌≡◌, ◌++◌, List, ℕ, Result}
+use Rattle.crx_compact.proofs.Words.{◌≡◌, List, ℕ, Result}
 use Rattle.crx_compact.proofs.Words.{map, ap, refl, subst, sym, arith, length, ◌≤◌}
 use Rattle.crx_compact.proofs.Words.{◌∙◌, rules, err_from_is_err_and}
-use Rattle.crx_compact.proofs.Words.{append-nil, Fault, patched, past_of_tail}
+use Rattle.crx_compact.proofs.Words.{Fault, patched, past_of_tail}
 use Rattle.crx_compact.proofs.Words.{satellites_of_line, satellites_of_text, Satellite, HasRoom}
 use Rattle.crx_compact.proofs.Words.{HaveTypesRoom, OpenHistory, PlacedRows, padded_among, tail_of_history}
 use Rattle.crx_compact.proofs.{Words.{RowTail, and_parts, satellite_of}, Results.{by_ok}}
@@ -35,9 +35,7 @@ put_first-requires c =
 -- the rows of the epoch before are awaited
 awaited : (c : After-bytes-text) → c.begin.new.self.rest ≡ c.args.self.now.satellites.rows
 awaited c = ap (λ (p : PlacedRows). p.rest) c.begin.ensures.begun
-    ∙ ap (λ (h : OpenHistory). h.satellites.rows ++ h.satellites.rest) c.self.view_is
-    ∙ ap (λ (rest : List RowTail). c.args.self.now.satellites.rows ++ rest) c.requires.between
-    ∙ append-nil c.args.self.now.satellites.rows
+    ∙ ap (λ (h : OpenHistory). h.satellites.rows) c.self.view_is
 
 -- where no mark is in the columns of their identifiers, the text names the satellites that are awaited
 pub read_satellites-requires-clause-named : goal.read_satellites-requires-clause-named

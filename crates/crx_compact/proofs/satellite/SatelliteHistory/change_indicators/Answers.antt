@@ -1,10 +1,32 @@
-use Rattle.crx_compact.proofs.{Words.{rules, length-each_place, few_kept}, wayback.Standing.difference-length}
-use Rattle.crx_compact.proofs.SoundTexts.{before-trimmed}
+use Rattle.crx_compact.proofs.Words.{rules, length-each_place, few_kept, length-take-le, take_at, ◌≡◌, ◌*◌, ap, sym, ◌∙◌}
+use Rattle.crx_compact.proofs.Words.{arith, drop, length, subst, take}
+use Rattle.crx_compact.proofs.{wayback.Standing.difference-length, SoundTexts.before-trimmed}
 use Rattle.std.proofs.lemmas.List.{length-take}
+use Rattle.crx_compact.specs.{HeldRows.AreHeldFlags, Placing.SatelliteTail}
+use Rattle.crx_compact.proofs.satellite.SatelliteHistory.change_indicators.Goals.{After-put_first}
 use Rattle.crx_compact.proofs.satellite.SatelliteHistory.change_indicators.Goals as goal
 
-pub copy_indicators-requires-clause-sized : goal.copy_indicators-requires-clause-sized
-copy_indicators-requires-clause-sized c = search (rules, length-each_place)
+-- the row's indicators are put
+put : (c : After-put_first) → take (2 * c.self-2.inside.count) c.put_first.new.bytes ≡ c.args.flags.now
+put c =
+    let inside = c.self-2.inside in
+    let cells = ap (λ (t : SatelliteTail). length t.cells) (c.self-2.view_is ∙ c.resize.ensures.resized) in
+    let many : length c.args.flags.now ≡ 2 * inside.count =
+    omega (arith, cells, length-each_place, length-take-le inside.count inside.arcs.items c.self-2.invariant.1, c.requires.fits.paired) in
+    ap (λ n. take n c.put_first.new.bytes) (sym many) ∙ c.put_first.ensures
+
+pub invariant_of-self : goal.invariant_of-self
+invariant_of-self c =
+    let bytes = c.put_first.new.bytes in
+    let old = c.self-2.inside.indicators in
+    let kept = c.self-2.invariant in
+    rw (take_at bytes (drop (length bytes) old.items) old.len (omega arith)) (
+      subst AreHeldFlags (sym (put (goal.at.invariant_of-self c).After-put_first)) c.requires.fits.held,
+      kept.1,
+      (kept.2.0, omega (arith, kept.2.1), kept.2.2, kept.2.3),
+    )
 
 pub returns : goal.returns
-returns c = search (rules, before-trimmed, few_kept, length-take, difference-length)
+returns c =
+    let same = put (goal.at.returns c).After-put_first in
+    search (rules, same, take_at, before-trimmed, few_kept, length-take, difference-length)

@@ -1,8 +1,11 @@
 -- `of` makes a value of no bytes, at the tail of the history that it is given. The history stays as it was.
-use Rattle.crx_compact.proofs.Words.{[], ◌∷◌, refl, Option, Some, tail_of_history, Tail}
+use Rattle.crx_compact.proofs.Words.{[], ◌∷◌, refl, tail_of_history, Tail}
 use Rattle.std.proofs.raw_atomic.Walks.{proved}
 use mir.Syntax.{named}
-use mir.Val.{Val, vptr}
+use base.Logic.{ent, emp}
+use mir.Val.{Val, vcons, vnil, vptr, vstruct}
+use seplogic.Ra.Ura.{Ura}
+use types.Logic.{Logic, sem}
 use types.Kit.{‵, raw, ◌⊛◌, ◌$◌, ◌∵◌, !, qed, move, keep, use0, split, suffices, done}
 use types.Run.{no_more, and_then, returns, enter}
 use types.Part.{agg}
@@ -10,15 +13,33 @@ use types.ByLocal.{alloc_all, pass_all, free_all, look_at, get, sets}
 use denote.Exit.{yes}
 use denote.RattleType.{owns}
 use denote.Ref.{shr_vals, shr_Tells}
+use denote.Shadow.{makes_shadow}
 use denote.Signature.{plain, types_at}
 use denote.Triple.Entry.{alive}
 use denote.Triple.Walked.{says, Stays, stay_none_ref, Goes-none_ref, walk_of, ends_at}
-use Rattle.crx_compact.proofs.kept_tail.Made.{stored, kept, had_of_nothing}
-use Rattle.crx_compact.specs.contracts.kept_tail.KeptTail.{the_row}
-use Rattle.crx_compact.proofs.kept_tail.KeptTail.of.Statement.{statement}
+use Rattle.crx_compact.specs.{declared.ghost_tail.GhostTail.GhostTail, contracts.ghost_tail.GhostTail.the_row}
+use Rattle.crx_compact.proofs.ghost_tail.GhostTail.of.Statement.{statement}
 use Rattle.crx_compact.specs.contracts.history.History as History
-use Rattle.crx_compact.specs.contracts.kept_tail.KeptTail.of as it
-use Rattle.crx_compact.proofs.kept_tail.KeptTail.of.Code as code
+use Rattle.crx_compact.specs.contracts.ghost_tail.GhostTail.of as it
+use Rattle.crx_compact.proofs.ghost_tail.GhostTail.of.Code as code
+
+-- the marker and the whole, as the machine has them
+abbrev marker : Val
+marker = vstruct vnil
+
+abbrev stored : Val
+stored = vstruct (vcons marker vnil)
+
+-- the whole as contracts see it
+abbrev kept : Tail → GhostTail
+kept tail = record { marker = record {}; tail = tail }
+
+-- it owns nothing, so it is had of nothing
+had_of_nothing : {M : Type 1} {𝓤 : Ura M} (𝓛 : Logic 𝓤) (tail : Tail)
+    → ent 𝓤 (emp 𝓤) (sem 𝓛 (the_row.own_val (kept tail) (stored ∷ [])))
+had_of_nothing 𝓛 tail =
+    makes_shadow 𝓛 (the_row.own_val (kept tail) (stored ∷ [])) ((λ vss. (tt, ((λ uss. (tt, tt)), tt))), tt)
+    (((marker ∷ [], tt), (refl, ((tt, (refl, tt)), tt))), tt)
 
 abbrev stayed : Stays it.ended.signature.params it.ended.kept
 stayed = (stay_none_ref (0 ∷ []) tt (plain (λ _. History.the_row)) yes, tt)
@@ -32,7 +53,7 @@ of_spec 𝓤 𝓛 𝓜 𝓡 wired =
     (λ κs. (shr_vals, tt)) (λ κs. (shr_Tells (named 0) κs.0 History.the_row, tt))
     (λ κs qs bounds a g are.
     let pointer : Val = vptr a.0.ref_ptr.0 a.0.ref_ptr.1 in
-    let tail : Option Tail = Some (tail_of_history a.0.now) in
+    let tail : Tail = tail_of_history a.0.now in
     let bound : (walk_of 𝓛 it.ended stayed clauses).Ghost = ((κs, qs, bounds, a, (pointer ∷ [], tt)), g) in
     qed 𝓛 ((raw (alive 𝓛 it.signature κs qs) ⊛ ‵ (owns (types_at it.signature.params κs) a bound.0.4))
     ∷ raw ((clauses κs a).requires g) ∷ []) ∵ keep ! (0 ∷ []) $ split ! $

@@ -1,2 +1,0 @@
--- What the walks of a kept tail share.
-pub mod Made
