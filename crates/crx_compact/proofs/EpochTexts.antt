@@ -1,6 +1,6 @@
 -- A text without the blanks at its end is no longer than what comes before them.
 use Rattle.crx_compact.proofs.Words.{◌≡◌, ◌≤◌, ◌+◌, ℕ, zero, suc, true, List, [], ◌∷◌, length}
-use Rattle.crx_compact.proofs.Words.{drop, rules, common_steps}
+use Rattle.crx_compact.proofs.Words.{drop, common_steps}
 use Rattle.crx_compact.proofs.Words.{ap, ◌∙◌, arith, list_all, is_blank, without_end_blanks}
 use Rattle.crx_text.proofs.Characters.{at, at-drop}
 use Rattle.crx_text.specs.{meaning.Columns.before_end_blanks}
@@ -20,9 +20,11 @@ ends-within zero text h =
     omega (arith, ap (λ (t : List ℕ). length t) none)
 ends-within (suc n) [] h = omega arith
 ends-within (suc n) (c ∷ cs) h =
-    let rest = ends-within n cs
-    (λ p. let place : suc (n + p) ≡ suc n + p = omega arith in ap (at (c ∷ cs)) place ∙ h p) in
-    search (rules, length-before)
+    grind (
+      arith,
+      length-before,
+      ends-within n cs (λ p. let place : suc (n + p) ≡ suc n + p = omega arith in ap (at (c ∷ cs)) place ∙ h p),
+    )
 
 pub blank-after : (n : ℕ) (text : List ℕ) → list_all is_blank (drop n text) ≡ true → (p : ℕ)
     → at text (n + p) ≡ 32

@@ -1,8 +1,8 @@
 -- Blanks at the end of texts, and what is held of indicators.
-use Rattle.crx_compact.proofs.Words.{◌≡◌, patched, columns, is_blank, few_kept, and_parts, and_from, list_all}
+use Rattle.crx_compact.proofs.Words.{◌≡◌, patched, columns, few_kept, and_parts, and_from, list_all}
 use Rattle.crx_compact.proofs.Words.{◌≤◌, ℕ, suc, ◌*◌, ◌∷◌, ap, inl, inr, ◌∙◌, ◌<◌, ◌+◌, ◌-◌, ◌⊎◌, at}
 use Rattle.crx_compact.proofs.Words.{refl, true, List, length, take, arith, is_kept, Bool, drop, zero}
-use Rattle.crx_compact.proofs.Words.{if◌then◌else◌, [], replicate, IsAllowedCount, length-columns, flags_held}
+use Rattle.crx_compact.proofs.Words.{[], replicate, IsAllowedCount, length-columns, flags_held}
 use Rattle.crx_compact.proofs.Words.{at-without_end_blanks, columns-are, without_end_blanks, text_difference}
 use Rattle.crx_compact.proofs.Characters.{all-take, list_all-append, at-take_past, at-by_position}
 use Rattle.crx_compact.proofs.{Words.{cases_lt, rules, AreHeldFlags}, PlaceByPlace.{at-padded, at-take}}
@@ -11,6 +11,9 @@ use Rattle.std.proofs.{lemmas.Bool.Decides.Decides-eqb, lemmas.List.length-take}
 use Rattle.crx_compact.proofs.Words.{by_position}
 
 -- ---- blanks at the end
+
+pub trimmed-again : (text : List ℕ) → without_end_blanks (without_end_blanks text) ≡ without_end_blanks text
+trimmed-again text = search (rules, same_characters, at-without_end_blanks)
 
 -- a difference doesn't see the blanks at the end of the new text
 pub difference-trimmed : (old new : List ℕ)
@@ -56,8 +59,7 @@ all-columns p text first width e h = search (rules, all-take, list_all-append, a
 
 pub same-text : (text : List ℕ) → text_difference text text ≡ []
 same-text [] = refl
-same-text (c ∷ cs) =
-    cc ((ap (λ b. if b then 32 else if is_blank c then 38 else c) ((Decides-eqb c c).1 refl)), same-text cs)
+same-text (c ∷ cs) = grind (arith, Decides-eqb, same-text cs)
 
 -- ---- what is held of indicators by so many types
 

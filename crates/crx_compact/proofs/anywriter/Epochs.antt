@@ -5,7 +5,7 @@ use Rattle.crx_compact.proofs.Words.{Count, IsWholeEpoch, epoch_text, at-without
 use Rattle.crx_compact.proofs.Words.{ReadLine, Content, Done, Place, RawRow, RawEpoch, ReadRow, rows_read, epoch_at, epoch_after, clock_line_read}
 use Rattle.crx_compact.proofs.Words.{Satellite, satellites_of_line, begins_epoch, past_of_tail, Tail, no_tail, tail_left, tail_for_line}
 use Rattle.crx_compact.proofs.Words.{raw_row_tail_after, raw_tail_after, tail_named, CLOCK_WIDTH, Epoch}
-use Rattle.crx_compact.proofs.{SoundTexts.{patched-trimmed}}
+use Rattle.crx_compact.proofs.SoundTexts.{patched-trimmed, trimmed-again}
 use Rattle.crx_compact.proofs.reading.RawTailing.{place-by_tail, left-by_tail}
 use Rattle.crx_compact.proofs.soundness.Soundness.{reads-soundly}
 use Rattle.crx_compact.proofs.wayback.Facts.{IsTypedRow, typed-rows, text-kept, satellites_of_rows}
@@ -14,11 +14,11 @@ use Rattle.crx_compact.proofs.Words.{append-nil, rules}
 use Rattle.crx_compact.specs.OpenEpochs.{HeldEpoch, held_after, placed_as}
 use Rattle.crx_compact.specs.meaning.AnyWriter.{WrittenRow, WrittenEpoch, code_now, row_now, epoch_now, goes_on_from, nothing_written, AreRowLines, AreLinesAfter}
 use Rattle.crx_compact.specs.AnyWriter.{value_now, row_left, epoch_left, EpochReads, IsLeft, ReadsAnyEpoch}
-use Rattle.crx_compact.proofs.anywriter.{Arcs.{Goes, goes}, Rows.{any-row, marks-printable, at-same, CanFollow, row-follows}, Texts.{spelled-characters, code-printable}}
+use Rattle.crx_compact.proofs.anywriter.{Arcs.{Goes, goes}, Rows.{any-row, marks-printable, at-same, all-same, CanFollow, row-follows}, Texts.{spelled-characters, code-printable}}
 use Rattle.crx_compact.proofs.Words.{is_event_line, is_event_flag, is_observation_flag, character_at}
 use Rattle.crx_compact.proofs.Words.{character_of, by_position, at, common_steps}
-use Rattle.crx_compact.proofs.Words.{and_parts, same_Some, list_all-from_at}
-use Rattle.crx_compact.proofs.{Characters.{if_some, at-by_position, list_all-at}}
+use Rattle.crx_compact.proofs.Words.{and_parts, same_Some}
+use Rattle.crx_compact.proofs.{Characters.{if_some, at-by_position}}
 use Rattle.crx_compact.proofs.{wayback.Facts.{text-head, head-counted}}
 
 -- ---- the satellites' lines
@@ -108,10 +108,9 @@ module _ (types : List Count) (base now : WrittenEpoch) (line clock : List ℕ) 
       ∙ text-other (without_end_blanks clock) (spelled-characters (without_end_blanks clock) (code_now now.clock) h.spelled)
 
   clock-printable : list_all is_printable clock ≡ true
-  clock-printable = list_all-from_at is_printable clock
-      (λ p. ap is_printable (sym (at-without_end_blanks clock p))
-      ∙ list_all-at is_printable refl (without_end_blanks clock) (code-printable (without_end_blanks clock)
-      (spelled-characters (without_end_blanks clock) (code_now now.clock) h.spelled)) p)
+  clock-printable = all-same is_printable refl (without_end_blanks clock) clock (trimmed-again clock)
+      (code-printable (without_end_blanks clock)
+      (spelled-characters (without_end_blanks clock) (code_now now.clock) h.spelled))
 
   clock-goes : Goes CLOCK_WIDTH base.clock now.clock
   clock-goes = goes CLOCK_WIDTH base.clock now.clock h.follows whole.sound.head_sound.ranged

@@ -1,21 +1,21 @@
 -- The lines that are read as an epoch are ones that some writer may write for it.
 use Rattle.crx_compact.proofs.Words.{◌≡◌, refl, ℕ, zero, suc, List, [], ◌∷◌, ◌++◌, Bool, true, false, Option, Some, None, Result, Ok, map, length, arith, ap, sym, ◌∙◌, ◌*◌, ◌+◌, ◌-◌, ◌<◌, ◌≤◌, ◌⊎◌, inl, inr, drop, subst}
-use Rattle.crx_compact.proofs.Words.{AllByRecursion, option_map, flat_map, if◌then◌else◌, cases_lt, length-append, same_Some, each_place, named, bytes_eq}
-use Rattle.crx_compact.proofs.Words.{ReadLine, Content, Overlong, Done, first_line, rules}
+use Rattle.crx_compact.proofs.Words.{AllByRecursion, option_map, flat_map, if◌then◌else◌, cases_lt, length-append, same_Some, each_place, named}
+use Rattle.crx_compact.proofs.Words.{ReadLine, Content, Overlong, Done, first_line, rules, by_position}
 use Rattle.crx_compact.proofs.Words.{Fault, Count, Row, ReadRow, Satellite, IsWholeEpoch, types_of_satellite}
 use Rattle.crx_compact.proofs.Words.{past_of_tail, tail_for_line, tail_left, begins_epoch, epoch_text, columns, at, at-append, at-append_past, at-drop, without_end_blanks, patched, CLOCK_WIDTH, length-columns}
 use Rattle.crx_compact.proofs.PlaceByPlace.{at-take, at-padded}
-use Rattle.crx_compact.proofs.Words.{each_place-same}
-use Rattle.crx_compact.proofs.{Characters.{bytes_eq-is}, SoundTexts.patched-trimmed, EpochLines.{names_of}}
+use Rattle.crx_compact.proofs.Words.{each_place-same, character_of}
+use Rattle.crx_compact.proofs.{SoundTexts.{patched-trimmed, trimmed-again}, EpochLines.{names_of}}
 use Rattle.crx_compact.proofs.soundness.Soundness.{Paired, RowFacts, facts-against}
 use Rattle.crx_compact.proofs.reading.RawTailing.{place-by_tail}
-use Rattle.crx_compact.proofs.wayback.Facts.{IsTypedRow, typed-rows}
+use Rattle.crx_compact.proofs.wayback.{Facts.{IsTypedRow, typed-rows}, Rows.found-row, Runs.named-made}
 use Rattle.crx_compact.specs.meaning.AnyWriter.{WrittenRow, WrittenEpoch, row_now, epoch_now, goes_on_from, nothing_written, flags_in, AreRowLines}
 use Rattle.crx_compact.specs.AnyWriter.{epoch_left}
 use Rattle.crx_compact.proofs.{EpochTexts.blank-after, Words.{columns-are, unwrap_or, Tail, Past}}
 use Rattle.crx_compact.specs.AnyWriter.{row_before}
 use Rattle.crx_compact.specs.AnyWriter.{ReadsSomebodysEpoch}
-use Rattle.crx_compact.proofs.anywriter.{OnlyRows.{row-back, arc-back, columns-all, trimmed-patched}, Epochs.base-found}
+use Rattle.crx_compact.proofs.anywriter.{OnlyRows.{row-back, arc-back, columns-all}, Epochs.base-found}
 
 -- ---- a line that was read
 
@@ -65,28 +65,17 @@ rows-back base satellites lines reads few h = absurd h
 
 -- ---- few indicators before
 
-row-typed : (types : List Count) (rows : List WrittenRow) (name : List ℕ) (r : WrittenRow)
-    → AllByRecursion (IsTypedRow types) (map row_now rows) → named (λ (q : WrittenRow). q.name) name rows ≡ Some r
-    → IsTypedRow types (row_now r) × (r.name ≡ name)
-row-typed types [] name r h e = absurd (cc e)
-row-typed types (q ∷ qs) name r h e = pick (λ f. row-typed types qs name r h.1 f) (bytes_eq q.name name) refl e
-  where
-    pick : (named (λ (p : WrittenRow). p.name) name qs ≡ Some r → IsTypedRow types (row_now r) × (r.name ≡ name))
-        → (b : Bool) → bytes_eq q.name name ≡ b → (if b then Some q else named (λ (p : WrittenRow). p.name) name qs) ≡ Some r
-        → IsTypedRow types (row_now r) × (r.name ≡ name)
-    pick later true k f =
-        let same : q ≡ r = same_Some q r f in
-        subst (λ (p : WrittenRow). IsTypedRow types (row_now p) × (p.name ≡ name)) same (h.0, bytes_eq-is q.name name k)
-    pick later false k f = later f
-
 few-here : (types : List Count) (rows : List WrittenRow) (s : Satellite) (found : Option WrittenRow)
     → AllByRecursion (IsTypedRow types) (map row_now rows) → named (λ (q : WrittenRow). q.name) s.name rows ≡ found
     → types_of_satellite types s.name ≡ Some s.count → length (flags_in found) ≤ 2 * s.count
 few-here types rows s None h e k = omega arith
 few-here types rows s (Some r) h e k =
-    let typed = row-typed types rows s.name r h e in
+    let typed = found-row types s.name (map row_now rows) h (row_now r)
+    (named-made (λ (q : WrittenRow). q.name) (λ (q : Row). q.name) (λ n q. row_now q) (λ n q. refl) s.name
+    rows
+    ∙ ap (option_map row_now) e) in
     let same : length (row_now r).values ≡ s.count = search rules in
-    omega (arith, same, typed.0.0.paired)
+    omega (arith, same, typed.is_row.0.paired)
 
 few-all : (types : List Count) (base : WrittenEpoch) (satellites : List Satellite)
     → AllByRecursion (IsTypedRow types) (map row_now base.rows)
@@ -206,7 +195,8 @@ only-epoch types before raws lines read count left whole e =
         found,
         record {
           marked = sym (patched-trimmed (epoch_text (epoch_now base)) h.line)
-              ∙ sym (trimmed-patched (without_end_blanks (epoch_text (epoch_now base))) h.line)
+              ∙ sym (trimmed-again
+              (by_position character_of (without_end_blanks (epoch_text (epoch_now base))) h.line))
               ∙ sym (columns-all (41 + 3 * n) text (blank-after (41 + 3 * n) text h.line_ok.ended))
               ∙ ap without_end_blanks
               (sym (columns-append text 0 41 (3 * n)) ∙ ap (λ t. columns text 1 41 ++ t) names);

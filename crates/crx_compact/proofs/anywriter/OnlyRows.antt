@@ -13,7 +13,7 @@ use Rattle.crx_compact.specs.meaning.Differences.{newest}
 use Rattle.crx_compact.proofs.Words.{ReadRow, past_of_tail, tail_named, cell_of_tail, flags_of_tail, OBSERVATION_WIDTH, columns, is_printable}
 use Rattle.crx_compact.proofs.Words.{at, at-without_end_blanks, patched, character_of, and_parts, cases_lt, ◌-◌}
 use Rattle.crx_compact.proofs.Characters.{same_characters, at-by_position}
-use Rattle.crx_compact.proofs.{PlaceByPlace.at-take, wayback.Overlays.at_past, SoundTexts.{patched-trimmed}}
+use Rattle.crx_compact.proofs.{PlaceByPlace.at-take, wayback.Overlays.at_past, SoundTexts.{patched-trimmed, trimmed-again}}
 use Rattle.crx_compact.specs.meaning.AnyWriter.{Arc, WrittenEpoch, code_now, MayFollow, arc_in, flags_in}
 use Rattle.crx_compact.specs.AnyWriter.{value_now, arc_left, epoch_left, row_before, IsSomebodysRow, ReadsSomebodysRow}
 use Rattle.crx_compact.proofs.anywriter.Rows.{tail-found, cell-found, flags-found}
@@ -145,9 +145,6 @@ pub patched-blank : (k : ℕ) (old m : List ℕ) → length old ≤ k → list_a
 patched-blank k old m h b p =
     grind (arith, at-without_end_blanks, at-by_position, both-blank, at_past, blank-after)
 
-pub trimmed-patched : (old marks : List ℕ) → without_end_blanks (patched old marks) ≡ patched old marks
-trimmed-patched old marks = grind (arith, same_characters, at-without_end_blanks)
-
 pub row-back : (before : WrittenEpoch) (satellite : Satellite) (line : List ℕ) (read : ReadRow)
     → length (flags_in (row_before before satellite)) ≤ 2 * satellite.count
     → RowFacts (past_of_tail (epoch_left before)) satellite line read
@@ -175,7 +172,7 @@ row-back before satellite line read few h =
         marks = m;
         spelled = back.spelled;
         written = line-back n line;
-        marked = grind (arith, columns-all, found, patched-blank, trimmed-patched);
+        marked = grind (arith, columns-all, found, patched-blank, trimmed-again);
         no_more = ap (λ k. list_all is_blank (drop (2 * k) m)) many ∙ marks.1;
         follows = back.follows;
       };

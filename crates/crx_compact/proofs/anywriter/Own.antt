@@ -12,7 +12,7 @@ use Rattle.crx_compact.proofs.wayback.Overlays.{character-mark}
 use Rattle.crx_compact.proofs.wayback.Runs.{IsUnmarked, marked, rows_before, named-made, begins_full, begins_later}
 use Rattle.crx_compact.proofs.wayback.Rows.{IsRowOf, run-begins, rows-of_run, run-printable, clock-printable, values-again}
 use Rattle.crx_compact.proofs.wayback.Reading.{no-end_blanks}
-use Rattle.crx_compact.proofs.SoundTexts.{difference-length}
+use Rattle.crx_compact.proofs.SoundTexts.{difference-length, trimmed-again}
 use Rattle.std.proofs.Common.{drop_of_length-le}
 use Rattle.crx_compact.proofs.wayback.Facts.{unmarked, text-kept, text-begins}
 use Rattle.crx_compact.specs.AnyWriter.{value_now}
@@ -129,9 +129,6 @@ texts-same (c ∷ cs) = cc (texts-same cs)
 
 patched-again : (old new : List ℕ) → IsUnmarked new → patched old (text_difference old new) ≡ without_end_blanks new
 patched-again old new h = search (rules, same_characters, at-by_position, at-without_end_blanks, character-mark)
-
-trimmed-again : (text : List ℕ) → without_end_blanks (without_end_blanks text) ≡ without_end_blanks text
-trimmed-again text = same_characters (without_end_blanks text) text (λ p. at-without_end_blanks text p)
 
 before-short : (types : List Count) (name : List ℕ) (r : Row) (rs : List Row) → AllByRecursion (IsRowOf types name) (r ∷ rs)
     → length (indicators_before (r ∷ rs)) ≤ 2 * length r.values

@@ -1,17 +1,18 @@
 -- A satellite's line, whoever wrote it, reads as its row.
 use Rattle.crx_compact.proofs.Words.{◌≡◌, refl, ℕ, ℤ, zero, suc, List, [], ◌∷◌, true, false, Option, Some, None, Result, Ok, map, length, arith, ap, sym, ◌∙◌, ◌*◌, ◌+◌, drop}
-use Rattle.crx_compact.proofs.Words.{list_all, All, All-head, All-tail, length-map, slice_index_or, option_map, take_all}
+use Rattle.crx_compact.proofs.Words.{list_all, length-map, slice_index_or, option_map, take_all}
 use Rattle.crx_compact.proofs.Words.{Code, Missing, Fault, code_of, cells_of, after_cells, cells_read, ReadCell, IsValue, OBSERVATION_WIDTH}
 use Rattle.crx_compact.proofs.Words.{without_end_blanks, patched, character_of, by_position, at, at-without_end_blanks, at-drop, list_all-from_at, is_blank, is_kept, is_printable}
 use Rattle.crx_compact.proofs.Words.{IsSoundRow, satellite_line_read, row_of_cells, past_of_tail, raw_row_tail_after, tail_named, cell_of_tail, flags_of_tail, flags_held}
 use Rattle.crx_compact.proofs.Words.{value_of_code, arc_of_code, ArcTail, RowTail, named, each_place, begins_epoch, columns, ReadRow}
 use Rattle.crx_compact.proofs.Characters.{same_characters, at-by_position, list_all-at}
 use Rattle.crx_compact.proofs.SoundTexts.{patched-trimmed, first-columns, same-cut}
-use Rattle.crx_compact.proofs.wayback.Runs.{named-made}
+use Rattle.crx_compact.proofs.{wayback.Runs.named-made, wayback.Rows.value-fits, Words.{map-map, subst}}
 use Rattle.crx_compact.specs.meaning.AnyWriter.{Arc, WrittenRow, WrittenEpoch, code_now, row_now, arc_in, flags_in, IsRowLine}
 use Rattle.crx_compact.specs.AnyWriter.{value_now, arc_left, row_left, epoch_left, ReadsAnyRow}
 use Rattle.crx_compact.proofs.anywriter.Arcs.{Goes, goes}
 use Rattle.crx_compact.proofs.anywriter.Texts.{AreTexts, spelled-characters, cells-again, marks-again, line-other, with_blanks, texts-printable}
+use Rattle.crx_compact.proofs.Words.{Bool}
 
 abbrev codes_wanted : List (Option Arc) → List (Option Code)
 codes_wanted arcs = map (λ (arc : Option Arc). Some (code_now arc)) arcs
@@ -21,10 +22,11 @@ arc_at arcs j = slice_index_or arcs j None
 
 -- ---- what the epoch before left of a satellite
 
-at-map : (arcs : List (Option Arc)) (j : ℕ) → slice_index_or (map arc_left arcs) j None ≡ arc_left (arc_at arcs j)
-at-map [] j = refl
-at-map (a ∷ as') zero = refl
-at-map (a ∷ as') (suc j) = at-map as' j
+at-map : {X : Type 0} (f : Option Arc → Option X) → f None ≡ None → (arcs : List (Option Arc)) (j : ℕ)
+    → slice_index_or (map f arcs) j None ≡ f (arc_at arcs j)
+at-map f e [] j = sym e
+at-map f e (a ∷ as') zero = refl
+at-map f e (a ∷ as') (suc j) = at-map f e as' j
 
 pub tail-found : (name : List ℕ) (before : WrittenEpoch) → tail_named name (epoch_left before)
     ≡ option_map row_left (named (λ (r : WrittenRow). r.name) name before.rows)
@@ -33,7 +35,7 @@ tail-found name before = named-made (λ (r : WrittenRow). r.name) (λ (t : RowTa
 
 pub cell-found : (found : Option WrittenRow) (j : ℕ) → cell_of_tail j (option_map row_left found) ≡ arc_left (arc_in found j)
 cell-found None j = refl
-cell-found (Some r) j = at-map r.arcs j
+cell-found (Some r) j = at-map arc_left refl r.arcs j
 
 pub flags-found : (found : Option WrittenRow) → flags_of_tail (option_map row_left found) ≡ without_end_blanks (flags_in found)
 flags-found None = refl
@@ -41,22 +43,13 @@ flags-found (Some r) = refl
 
 -- ---- its codes
 
-first-same : (t : List ℕ) (ts : List (List ℕ)) (a : Option Arc) (arcs : List (Option Arc))
-    → map code_of (t ∷ ts) ≡ codes_wanted (a ∷ arcs) → code_of t ≡ Some (code_now a)
-first-same t ts a arcs e = ap (λ l. slice_index_or l 0 None) e
-
-rest-same : (t : List ℕ) (ts : List (List ℕ)) (a : Option Arc) (arcs : List (Option Arc))
-    → map code_of (t ∷ ts) ≡ codes_wanted (a ∷ arcs) → map code_of ts ≡ codes_wanted arcs
-rest-same t ts a arcs e = ap (drop 1) e
-
 pub count-same : (ts : List (List ℕ)) (arcs : List (Option Arc)) → map code_of ts ≡ codes_wanted arcs → length ts ≡ length arcs
 count-same ts arcs e = grind (arith, length-map)
 
 are-texts : (ts : List (List ℕ)) (arcs : List (Option Arc)) → map code_of ts ≡ codes_wanted arcs → AreTexts ts
 are-texts [] arcs e = tt
 are-texts (t ∷ ts) [] e = absurd (cc e)
-are-texts (t ∷ ts) (a ∷ arcs) e =
-    (spelled-characters t (code_now a) (first-same t ts a arcs e), are-texts ts arcs (rest-same t ts a arcs e))
+are-texts (t ∷ ts) (a ∷ arcs) e = (spelled-characters t (code_now a) (cc e), are-texts ts arcs (cc e))
 
 abbrev cell_now : Option Arc → ReadCell
 cell_now arc = record { code = code_now arc; value = value_now arc }
@@ -67,22 +60,8 @@ cells-good : (value : ℕ → Code → Result (Option ℤ) Fault) (ts : List (Li
 cells-good value [] [] e h = refl
 cells-good value [] (a ∷ arcs) e h = absurd (cc e)
 cells-good value (t ∷ ts) [] e h = absurd (cc e)
-cells-good value (t ∷ ts) (a ∷ arcs) e h =
-    let rest = cells-good (λ j. value (suc j)) ts arcs (rest-same t ts a arcs e) (λ j. h (suc j)) in
-    cc (first-same t ts a arcs e, h 0)
-
-fits : (arcs : List (Option Arc)) (j : ℕ) → All IsValue (map value_now arcs) → IsValue (value_now (arc_at arcs j))
-fits [] j h = tt
-fits (a ∷ arcs) zero h = All-head IsValue (value_now a) (map value_now arcs) h
-fits (a ∷ arcs) (suc j) h = fits arcs j (All-tail IsValue (value_now a) (map value_now arcs) h)
-
-codes-shown : (arcs : List (Option Arc)) → map (λ (c : ReadCell). c.code) (map cell_now arcs) ≡ map code_now arcs
-codes-shown [] = refl
-codes-shown (a ∷ arcs) = cc (codes-shown arcs)
-
-values-shown : (arcs : List (Option Arc)) → map (λ (c : ReadCell). c.value) (map cell_now arcs) ≡ map value_now arcs
-values-shown [] = refl
-values-shown (a ∷ arcs) = cc (values-shown arcs)
+cells-good value (t ∷ ts) (a ∷ arcs) e h = cc
+    (e, h 0, cells-good (λ j. value (suc j)) ts arcs (cc e) (λ j. h (suc j)))
 
 arcs-left : (arcs : List (Option Arc)) (b : ℕ → Option ArcTail)
     → ((j : ℕ) → arc_of_code (code_now (arc_at arcs j)) (b j) ≡ arc_left (arc_at arcs j))
@@ -109,6 +88,11 @@ marks-printable old marks new e h = list_all-from_at is_printable marks (λ p.
     mark-printable (at old p) (at marks p) (at new p)
     (sym (at-by_position character_of refl old marks p)
     ∙ at-same (by_position character_of old marks) new e p) (list_all-at is_kept refl new h p))
+
+-- texts that are the same without the blanks at their ends meet the same test, where a blank does
+pub all-same : (p : ℕ → Bool) → p 32 ≡ true → (a b : List ℕ) → without_end_blanks a ≡ without_end_blanks b
+    → list_all p a ≡ true → list_all p b ≡ true
+all-same p e a b same h = list_all-from_at p b (λ k. ap p (sym (at-same a b same k)) ∙ list_all-at p e a h k)
 
 blanks-same : (n : ℕ) (a b : List ℕ) → without_end_blanks a ≡ without_end_blanks b
     → list_all is_blank (drop n a) ≡ true → list_all is_blank (drop n b) ≡ true
@@ -139,11 +123,10 @@ module _ (before : WrittenEpoch) (now : WrittenRow) (line : List ℕ) (sound : I
   other = line-other h.texts h.marks line (omega (arith, count, values-many, sound.counted.0)) texts h.written
 
   line-printable : list_all is_printable line ≡ true
-  line-printable = list_all-from_at is_printable line (λ p.
-      ap is_printable (at-same line (with_blanks h.texts h.marks) h.written p)
-      ∙ list_all-at is_printable refl (with_blanks h.texts h.marks) (texts-printable h.texts h.marks texts
+  line-printable = all-same is_printable refl (with_blanks h.texts h.marks) line (sym h.written)
+      (texts-printable h.texts h.marks texts
       (marks-printable (flags_in (named (λ (r : WrittenRow). r.name) now.name before.rows)) h.marks now.flags
-      h.marked sound.kept)) p)
+      h.marked sound.kept))
 
   cell-held : (j : ℕ) → cell_of_tail j (tail_named now.name (epoch_left before))
       ≡ arc_left (arc_in (named (λ (r : WrittenRow). r.name) now.name before.rows) j)
@@ -156,7 +139,8 @@ module _ (before : WrittenEpoch) (now : WrittenRow) (line : List ℕ) (sound : I
   goes-at : (j : ℕ) → Goes OBSERVATION_WIDTH
       (arc_in (named (λ (r : WrittenRow). r.name) now.name before.rows) j) (arc_at now.arcs j)
   goes-at j = goes OBSERVATION_WIDTH (arc_in (named (λ (r : WrittenRow). r.name) now.name before.rows) j)
-      (arc_at now.arcs j) (h.follows j) (fits now.arcs j sound.ranged)
+      (arc_at now.arcs j) (h.follows j)
+      (subst IsValue (at-map value_now refl now.arcs j) (value-fits _ j sound.ranged))
 
   value-here : (j : ℕ) → value_of_code OBSERVATION_WIDTH (code_now (arc_at now.arcs j))
       (cell_of_tail j (tail_named now.name (epoch_left before))) ≡ Ok (value_now (arc_at now.arcs j))
@@ -187,7 +171,7 @@ module _ (before : WrittenEpoch) (now : WrittenRow) (line : List ℕ) (sound : I
   flags-again = grind (arith, length-map, flags-made, first-columns, paired, at-without_end_blanks)
 
   row-again : read.row ≡ row_now now
-  row-again = cc (values-shown now.arcs, flags-again)
+  row-again = cc (map-map (λ (c : ReadCell). c.value) cell_now now.arcs, flags-again)
 
   many-codes : length (map (λ (c : ReadCell). c.code) (map cell_now now.arcs)) ≡ length now.arcs
   many-codes = length-map (map cell_now now.arcs) (λ (c : ReadCell). c.code) ∙ length-map now.arcs cell_now
@@ -205,7 +189,8 @@ module _ (before : WrittenEpoch) (now : WrittenRow) (line : List ℕ) (sound : I
       (λ j. arc_of_code (slice_index_or (map (λ (c : ReadCell). c.code) (map cell_now now.arcs)) j Missing)
       (cell_of_tail j (tail_named now.name (epoch_left before)))) ≡ map arc_left now.arcs
   cells-left = ap (λ codes. each_place (length codes) (λ j. arc_of_code (slice_index_or codes j Missing)
-      (cell_of_tail j (tail_named now.name (epoch_left before))))) (codes-shown now.arcs)
+      (cell_of_tail j (tail_named now.name (epoch_left before)))))
+      (map-map (λ (c : ReadCell). c.code) cell_now now.arcs)
       ∙ arcs-left now.arcs (λ j. cell_of_tail j (tail_named now.name (epoch_left before))) leaves-here
 
   leaves-row : raw_row_tail_after (tail_named read.raw.name (epoch_left before)) read.raw ≡ row_left now

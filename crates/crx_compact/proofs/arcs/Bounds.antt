@@ -1,5 +1,5 @@
 -- Differences of values within their columns are numbers that a code can hold.
-use Rattle.crx_compact.proofs.Words.{◌≡◌, ℕ, zero, suc, ◌+◌, ◌^◌, ◌<◌, ◌≤◌, min, true, ℤ, pos, neg_ℤ}
+use Rattle.crx_compact.proofs.Words.{◌≡◌, ℕ, zero, suc, ◌+◌, ◌^◌, ◌<◌, ◌≤◌, min, true, ℤ, pos, neg_ℤ, rules}
 use Rattle.crx_compact.proofs.Words.{List, [], ◌∷◌, length, AllByRecursion, arith, ints, WRITTEN_ORDER}
 use Rattle.crx_compact.proofs.Words.{DIGITS_LIMIT, IsWithin, IsShort, IsPrintable, code_at}
 use Rattle.crx_compact.proofs.Words.{◌-ℤ◌, difference, is_within}
@@ -29,8 +29,7 @@ difference-near zero b [] h = omega (arith, ints)
 difference-near zero b (x ∷ xs) h = rw (difference-zero x xs) h.0
 difference-near (suc k) b [] h = omega (arith, ints)
 difference-near (suc k) b (x ∷ xs) h =
-    rw (difference-suc k x xs) (near-sub (doubled k b) (difference k (x ∷ xs)) (difference k xs)
-    (difference-near k b (x ∷ xs) h) (difference-near k b xs h.1))
+    search (rules, difference-suc, near-sub, difference-near k b (x ∷ xs) h, difference-near k b xs h.1)
 
 pub doubled-more : (k n b : ℕ) → k ≤ n → doubled k b ≤ doubled n b
 doubled-more zero (suc n) b h = omega (arith, doubled-more zero n b (omega arith))

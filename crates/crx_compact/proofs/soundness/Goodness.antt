@@ -2,17 +2,17 @@
 use Rattle.crx_compact.proofs.Words.{◌≡◌, IsAllowedCount, satellites_few, length-each_place, list_all-from_at}
 use Rattle.crx_compact.proofs.Words.{refl, unwrap_or, is_system, IsSoundRow, apart-map, Satellite, raw_run_of}
 use Rattle.crx_compact.proofs.Words.{ℕ, ◌+◌, ◌*◌, ℤ, ◌∷◌, map, sym, ◌∙◌, ap, Row, Code, suc, true, None}
-use Rattle.crx_compact.proofs.Words.{List, take, Some, Result, IfSome, arith, Count, Fault, RawRow, []}
+use Rattle.crx_compact.proofs.Words.{List, take, Some, Result, IfSome, arith, Count, Fault, RawRow, [], rules}
 use Rattle.crx_compact.proofs.Words.{list_all, RawEpoch, block_of, overlaid, marks_of, value_of, ReadCell}
-use Rattle.crx_compact.proofs.Words.{length, Option, Ok, columns, IsValue, is_kept, code_in, ReadRow, stretch}
-use Rattle.crx_compact.proofs.Words.{AllByRecursion, IsMissingOrWithin, types_of_satellite, OBSERVATION_WIDTH}
+use Rattle.crx_compact.proofs.Words.{length, Option, Ok, columns, IsValue, is_kept, ReadRow, stretch}
+use Rattle.crx_compact.proofs.Words.{AllByRecursion, IsMissingOrWithin, types_of_satellite}
 use Rattle.crx_compact.proofs.Words.{subst, character_at, HasItsTypes, CLOCK_WIDTH, is_printable, latest_mark}
 use Rattle.crx_compact.proofs.Words.{length-map, raw_row_named, past_of_block, each_place-all, length-columns}
 use Rattle.crx_compact.proofs.{Words.{All-from_recursion, count_of}, Characters.{all-take, list_all-at}}
 use Rattle.crx_compact.proofs.Lists.{all-from}
 use Rattle.crx_compact.proofs.{SoundTexts.all-columns, wayback.Overlays.at-overlaid, EpochLines.{differ, names_of}}
 use Rattle.crx_compact.proofs.soundness.Soundness.{AreReadCells, RowFacts, Paired, block_for, epoch-facts}
-use Rattle.crx_compact.proofs.{Words.{after_cells, cells_of}}
+use Rattle.crx_compact.proofs.{Words.{after_cells}}
 use Rattle.std.specs.Prelude.{OnSome}
 use Rattle.crx_header.specs.{ObservationTypes.AreCounts, meaning.Satellites.has_number}
 use Rattle.crx_header.proofs.Counts.{allowed_of, system_of}
@@ -113,14 +113,9 @@ row-sound types block satellite line read counts printable known h =
         record {
           named = cc (known.short, typed.number, system);
           counted = rw count (subst P typed.found (allowed_of types (character_at name 1) counts));
-          ranged = All-from_recursion IsValue (map (λ (c : ReadCell). c.value) h.cells)
-              (cells-fit ((past_of_block block).value name) (λ j c v e. value_of-fits OBSERVATION_WIDTH
-              (c ∷ map (code_in j) (raw_run_of name block)) v e) (cells_of satellite.count line) h.cells
-              h.are_read);
+          ranged = grind (arith, All-from_recursion, cells-fit, value_of-fits);
           paired = cc (long, many);
-          kept = all-columns is_kept ((past_of_block block).flags name new) 1
-              (2 * length h.cells) refl (overlaid-kept (new ∷ marks_of (raw_run_of name block))
-              (marks, raw_run-printable name block printable));
+          kept = search (rules, all-columns, overlaid-kept, raw_run-printable);
         },
         known.typed ∙ ap (λ n. Some n) (sym count),
       ),
@@ -161,8 +156,7 @@ reads-whole types older lines read count counts printable e =
     let head = columns text 1 41 in
     let rows = map (λ (r : ReadRow). r.row) facts.rows in
     let n = facts.line_ok.count in
-    let sound_block : AllByRecursion HasPrintableMarks block =
-    grind (arith, block-printable older printable) in
+    let sound_block : AllByRecursion HasPrintableMarks block = grind (arith, block-printable) in
     let three = each_place-all (λ (m : List ℕ). length m ≡ 3) n (λ k. columns text (42 + 3 * k) 3)
     (λ k. length-columns text (42 + 3 * k) 3) in
     let known =
@@ -190,8 +184,7 @@ reads-whole types older lines read count counts printable e =
           within = omega (arith, many, announced);
         };
         full = many ∙ sym announced;
-        typed = All-from_recursion (HasItsTypes types) rows
-            (all-from (HasItsTypes types) (λ r both. both.1) rows all.0);
+        typed = grind (arith, All-from_recursion, all-from);
       };
       marks = all.1;
     })

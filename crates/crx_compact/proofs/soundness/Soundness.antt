@@ -4,7 +4,7 @@ use Rattle.crx_compact.proofs.Words.{true, length, Option, Result, Count, Place,
 use Rattle.crx_compact.proofs.Words.{rules, Fails, BegunEpoch, begins_epoch, past_of_line, row_of_cells, Row}
 use Rattle.crx_compact.proofs.Words.{epoch_begun, Fault, apart-map, Truncated, Satellite, are_marks}
 use Rattle.crx_compact.proofs.Words.{rows_read, raw_run_of, cells_read, length-map, then_place, first_line}
-use Rattle.crx_compact.proofs.Words.{NotAnEpoch, each_place, ℕ, ℤ, ◌∷◌, map, Ok, not, sym, ◌∙◌, ap, []}
+use Rattle.crx_compact.proofs.Words.{NotAnEpoch, each_place, ℕ, ℤ, ◌∷◌, map, Ok, sym, ◌∙◌, ap, []}
 use Rattle.crx_compact.proofs.Words.{code_of, Content, Overlong, BadClock, without_end_blanks, take, epoch_against}
 use Rattle.crx_compact.proofs.Words.{epoch_at, slice_index_or, AllByRecursion, clock_line_read, common_steps}
 use Rattle.crx_compact.proofs.Words.{Missing, arith, ReadRow, columns, ReadLine, BadField, BadFlags, RawEpoch}
@@ -133,8 +133,7 @@ line-facts past satellite line read e =
       are_read = read-cells (past.value satellite.name) texts step.from step.first;
       counted = search (rules, cells-count, texts-count);
       marks_ok = if-true (are_marks satellite.count marks) BadFlags (Ok row) read step.next;
-      is_read = ok-same row read
-          (if-err (not (are_marks satellite.count marks)) BadFlags (Ok row) read step.next);
+      is_read = grind (arith, ok-same, if-err);
     }
 
 -- the row is what the line stands for after those before it
@@ -250,13 +249,10 @@ facts-against types given past_of lines read count same e =
       line = one.line;
       clock_line = two.line;
       own = rows.own;
-      cut = cut-at lines one.rest one.line count one.more (two.line ∷ rows.own) one.is one.counted
-          (cut-at one.rest two.rest two.line one.more two.more rows.own two.is two.counted rows.cut);
+      cut = grind (arith, cut-at);
       given_is = begun.given_is ∙ ap {B = Option Past} Some past;
       satellites = one.from.satellites;
-      line_ok = line-facts_of types (past_of one.line) one.line one.from.satellites
-          (subst (λ p. satellites_of_line types p one.line ≡ Ok one.from.satellites) past
-          begun.satellites_ok);
+      line_ok = grind (arith, line-facts_of);
       clock = two.from;
       clock_ok = subst (λ (p : Past). IsReadCell p.clock (without_end_blanks two.line) two.from) past
           (read-cell BadClock one.from.past.clock (without_end_blanks two.line) two.from
@@ -278,8 +274,7 @@ given-block older line past e = grind arith
 pub epoch-facts : (types : List Count) (older : List RawEpoch) (lines : List ReadLine) (read : ReadEpoch)
     (count : ℕ) → epoch_at types older lines ≡ Done read count
     → EpochFacts types (past_of_line older) (λ line. past_of_block (block_for line older)) lines read count
-epoch-facts types older lines read count e = facts-against types (past_of_line older)
-    (λ line. past_of_block (block_for line older)) lines read count (given-block older) e
+epoch-facts types older lines read count e = grind (arith, facts-against, given-block)
 
 -- ---- the law
 

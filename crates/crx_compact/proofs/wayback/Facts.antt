@@ -24,10 +24,13 @@ sound-name_kept row h = name-kept row.name (name-length row h) h.named
 rows-typed : (types : List Count) (rows : List Row)
     → All IsSoundRow rows → All (HasItsTypes types) rows → AllByRecursion (IsTypedRow types) rows
 rows-typed types [] h k = tt
-rows-typed types (r ∷ rs) h k = (
-  (All-head IsSoundRow r rs h, All-head (HasItsTypes types) r rs k),
-  rows-typed types rs (All-tail IsSoundRow r rs h) (All-tail (HasItsTypes types) r rs k),
-)
+rows-typed types (r ∷ rs) h k =
+    search (
+      rules,
+      All-head,
+      All-tail,
+      rows-typed types rs (All-tail IsSoundRow r rs h) (All-tail (HasItsTypes types) r rs k),
+    )
 
 -- ---- epochs
 

@@ -2,10 +2,10 @@
 -- turn, and texts and marks can be cut at a width.
 use Rattle.crx_compact.proofs.Words.{◌≡◌, is_blank, character_of, each_place, latest_mark, overlaid}
 use Rattle.crx_compact.proofs.Words.{refl, ◌≢◌, zero, List, length, mark_of, patched, shown, longest, columns}
-use Rattle.crx_compact.proofs.Words.{ℕ, suc, ◌≤◌, [], ◌∷◌, All, ◌∙◌, ap, at, ◌<◌, ◌⊎◌, map, take, inl, inr}
+use Rattle.crx_compact.proofs.Words.{ℕ, suc, ◌≤◌, [], ◌∷◌, All, ◌∙◌, ap, at, ◌<◌, map, take}
 use Rattle.crx_compact.proofs.Words.{if◌then◌else◌, arith, not-suc-le-zero, text_difference, index-each_place}
 use Rattle.crx_compact.proofs.Words.{le_of_suc-le-suc, without_end_blanks, by_position, at-without_end_blanks}
-use Rattle.crx_compact.proofs.{Words.{cases_lt, rules, patched_in_turn}, SoundTexts.{same-columns}}
+use Rattle.crx_compact.proofs.{Words.{rules, patched_in_turn}, SoundTexts.{same-columns}}
 use Rattle.crx_compact.proofs.Characters.{same_characters, at-by_position, at-take_past}
 use Rattle.crx_compact.proofs.PlaceByPlace.{at-take}
 
@@ -69,14 +69,17 @@ latest-take_past n (w ∷ ws) p h = cc (at-take_past n w p h, latest-take_past n
 -- marks that are cut make the text that is cut
 pub overlaid-take : (n : ℕ) (marks : List (List ℕ))
     → overlaid (map (take n) marks) ≡ without_end_blanks (take n (overlaid marks))
-overlaid-take n marks = same_characters
-    (each_place (longest (map (take n) marks)) (λ q. shown (latest_mark (map (take n) marks) q)))
-    (take n (overlaid marks)) (λ p. cc (at-longest (map (take n) marks) p, cut p (cases_lt p n)))
-  where
-    cut : (p : ℕ) → (p < n) ⊎ (n ≤ p)
-        → shown (latest_mark (map (take n) marks) p) ≡ at (take n (overlaid marks)) p
-    cut p (inl h) = cc (latest-take n marks p h, at-overlaid marks p, at-take n (overlaid marks) p h)
-    cut p (inr h) = cc (latest-take_past n marks p h, at-take_past n (overlaid marks) p h)
+overlaid-take n marks =
+    grind (
+      arith,
+      same_characters,
+      at-longest,
+      latest-take,
+      at-overlaid,
+      at-take,
+      latest-take_past,
+      at-take_past,
+    )
 
 -- ---- columns
 

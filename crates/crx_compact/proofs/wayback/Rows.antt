@@ -31,7 +31,7 @@ found-step : (types : List Count) (name : List ℕ) (q r : Row) (rest : Option R
 found-step types name q r rest true e h next found = search rules
 found-step types name q r rest false e h next found = next found
 
-found-row : (types : List Count) (name : List ℕ) (rows : List Row)
+pub found-row : (types : List Count) (name : List ℕ) (rows : List Row)
     → AllByRecursion (IsTypedRow types) rows → (r : Row) → row_named name rows ≡ Some r → IsRowOf types name r
 found-row types name [] h r found = cc
 found-row types name (q ∷ qs) h r found = search (rules, found-step, found-row types name qs h.1 r)
@@ -79,7 +79,8 @@ pub near-all : (width : ℕ) (xs : List ℤ)
     → AllByRecursion (IsWithin width) xs → AllByRecursion (IsNear (10 ^ (width - 1))) xs
 near-all width xs h = grind (arith, common_steps, all-from, ten-more)
 
-value-fits : (values : List (Option ℤ)) (j : ℕ) → All IsValue values → IsValue (slice_index_or values j None)
+pub value-fits : (values : List (Option ℤ)) (j : ℕ) → All IsValue values
+    → IsValue (slice_index_or values j None)
 value-fits [] j h = tt
 value-fits (v ∷ vs) zero h = All-head IsValue v vs h
 value-fits (v ∷ vs) (suc j) h = value-fits vs j (All-tail IsValue v vs h)
