@@ -1,12 +1,12 @@
 -- A satellite's line, whoever wrote it, reads as its row.
 use Rattle.crx_compact.proofs.Words.{◌≡◌, refl, ℕ, ℤ, zero, suc, List, [], ◌∷◌, true, false, Option, Some, None, Result, Ok, map, length, arith, ap, sym, ◌∙◌, ◌*◌, ◌+◌, drop}
-use Rattle.crx_compact.proofs.Words.{list_all, length-map, slice_index_or, option_map, take_all}
+use Rattle.crx_compact.proofs.Words.{list_all, length-map, slice_index_or, option_map}
 use Rattle.crx_compact.proofs.Words.{Code, Missing, Fault, code_of, cells_of, after_cells, cells_read, ReadCell, IsValue, OBSERVATION_WIDTH}
 use Rattle.crx_compact.proofs.Words.{without_end_blanks, patched, character_of, by_position, at, at-without_end_blanks, at-drop, list_all-from_at, is_blank, is_kept, is_printable}
-use Rattle.crx_compact.proofs.Words.{IsSoundRow, satellite_line_read, row_of_cells, past_of_tail, raw_row_tail_after, tail_named, cell_of_tail, flags_of_tail, flags_held}
-use Rattle.crx_compact.proofs.Words.{value_of_code, arc_of_code, ArcTail, RowTail, named, each_place, begins_epoch, columns, ReadRow}
+use Rattle.crx_compact.proofs.Words.{IsSoundRow, satellite_line_read, row_of_cells, past_of_tail, raw_row_tail_after, tail_named, cell_of_tail, flags_of_tail}
+use Rattle.crx_compact.proofs.Words.{arc_of_code, ArcTail, RowTail, named, each_place, begins_epoch, columns, ReadRow}
 use Rattle.crx_compact.proofs.Characters.{same_characters, at-by_position, list_all-at}
-use Rattle.crx_compact.proofs.SoundTexts.{patched-trimmed, first-columns, same-cut}
+use Rattle.crx_compact.proofs.SoundTexts.{patched-trimmed, first-columns, held-columns}
 use Rattle.crx_compact.proofs.{wayback.Runs.named-made, wayback.Rows.value-fits, Words.{map-map, subst}}
 use Rattle.crx_compact.specs.meaning.AnyWriter.{Arc, WrittenRow, WrittenEpoch, code_now, row_now, arc_in, flags_in, IsRowLine}
 use Rattle.crx_compact.specs.AnyWriter.{value_now, arc_left, row_left, epoch_left, ReadsAnyRow}
@@ -104,103 +104,82 @@ blanks-same n a b e h = list_all-from_at is_blank (drop n b) (λ p.
 
 module _ (before : WrittenEpoch) (now : WrittenRow) (line : List ℕ) (sound : IsSoundRow (row_now now))
     (h : IsRowLine (named (λ (r : WrittenRow). r.name) now.name before.rows) now line) where
+  abbrev found : Option WrittenRow
+  found = named (λ (r : WrittenRow). r.name) now.name before.rows
+
+  abbrev tail : Option RowTail
+  tail = tail_named now.name (epoch_left before)
+
+  abbrev marks : List ℕ
+  marks = after_cells (length now.arcs) line
+
   count : length h.texts ≡ length now.arcs
   count = count-same h.texts now.arcs h.spelled
 
   texts : AreTexts h.texts
   texts = are-texts h.texts now.arcs h.spelled
 
-  marks-same : without_end_blanks (after_cells (length now.arcs) line) ≡ without_end_blanks h.marks
-  marks-same = ap (λ k. without_end_blanks (after_cells k line)) (sym count) ∙ marks-again h.texts h.marks line texts h.written
+  marks-same : without_end_blanks marks ≡ without_end_blanks h.marks
+  marks-same = ap (λ k. without_end_blanks (after_cells k line)) (sym count)
+      ∙ marks-again h.texts h.marks line texts h.written
 
   cells : cells_of (length now.arcs) line ≡ h.texts
   cells = ap (λ k. cells_of k line) (sym count) ∙ cells-again h.texts h.marks line texts h.written
 
-  values-many : length (map value_now now.arcs) ≡ length now.arcs
-  values-many = length-map now.arcs value_now
-
   other : begins_epoch line ≡ false
-  other = line-other h.texts h.marks line (omega (arith, count, values-many, sound.counted.0)) texts h.written
+  other = line-other h.texts h.marks line
+      (omega (arith, count, length-map now.arcs value_now, sound.counted.0)) texts h.written
 
   line-printable : list_all is_printable line ≡ true
   line-printable = all-same is_printable refl (with_blanks h.texts h.marks) line (sym h.written)
       (texts-printable h.texts h.marks texts
-      (marks-printable (flags_in (named (λ (r : WrittenRow). r.name) now.name before.rows)) h.marks now.flags
-      h.marked sound.kept))
+      (marks-printable (flags_in found) h.marks now.flags h.marked sound.kept))
 
-  cell-held : (j : ℕ) → cell_of_tail j (tail_named now.name (epoch_left before))
-      ≡ arc_left (arc_in (named (λ (r : WrittenRow). r.name) now.name before.rows) j)
+  cell-held : (j : ℕ) → cell_of_tail j tail ≡ arc_left (arc_in found j)
   cell-held j = grind (arith, tail-found, cell-found, named)
 
-  flags-made : patched (flags_of_tail (tail_named now.name (epoch_left before))) (after_cells (length now.arcs) line)
-      ≡ without_end_blanks now.flags
+  flags-made : patched (flags_of_tail tail) marks ≡ without_end_blanks now.flags
   flags-made = grind (arith, named, tail-found, flags-found, patched-trimmed, patched-same, marks-same)
 
-  goes-at : (j : ℕ) → Goes OBSERVATION_WIDTH
-      (arc_in (named (λ (r : WrittenRow). r.name) now.name before.rows) j) (arc_at now.arcs j)
-  goes-at j = goes OBSERVATION_WIDTH (arc_in (named (λ (r : WrittenRow). r.name) now.name before.rows) j)
-      (arc_at now.arcs j) (h.follows j)
+  goes-at : (j : ℕ) → Goes OBSERVATION_WIDTH (arc_in found j) (arc_at now.arcs j)
+  goes-at j = goes OBSERVATION_WIDTH (arc_in found j) (arc_at now.arcs j) (h.follows j)
       (subst IsValue (at-map value_now refl now.arcs j) (value-fits _ j sound.ranged))
 
-  value-here : (j : ℕ) → value_of_code OBSERVATION_WIDTH (code_now (arc_at now.arcs j))
-      (cell_of_tail j (tail_named now.name (epoch_left before))) ≡ Ok (value_now (arc_at now.arcs j))
-  value-here j = ap (value_of_code OBSERVATION_WIDTH (code_now (arc_at now.arcs j))) (cell-held j) ∙ (goes-at j).value
-
-  leaves-here : (j : ℕ) → arc_of_code (code_now (arc_at now.arcs j))
-      (cell_of_tail j (tail_named now.name (epoch_left before))) ≡ arc_left (arc_at now.arcs j)
-  leaves-here j = ap (arc_of_code (code_now (arc_at now.arcs j))) (cell-held j) ∙ (goes-at j).leaves
-
-  paired : length now.flags ≡ 2 * length now.arcs
-  paired = sound.paired ∙ ap (λ k. 2 * k) values-many
-
-  printable : list_all is_printable (after_cells (length now.arcs) line) ≡ true
-  printable = grind (arith, marks-printable, flags-made)
-
-  blanks : list_all is_blank (drop (2 * length now.arcs) (after_cells (length now.arcs) line)) ≡ true
-  blanks = blanks-same (2 * length now.arcs) h.marks (after_cells (length now.arcs) line) (sym marks-same) h.no_more
+  flags-again : columns (patched (flags_of_tail tail) marks) 1 (2 * length now.arcs) ≡ now.flags
+  flags-again = grind (arith, flags-made, first-columns, sound.paired, length-map, at-without_end_blanks)
 
   abbrev read : ReadRow
-  read = row_of_cells (past_of_tail (epoch_left before)) now.name (after_cells (length now.arcs) line) (map cell_now now.arcs)
+  read =
+      record {
+        raw = record { name = now.name; codes = map code_now now.arcs; marks = marks };
+        row = row_now
+            now;
+      }
 
-  reads : satellite_line_read (past_of_tail (epoch_left before)) (record { name = now.name; count = length now.arcs }) line
-      ≡ Ok read
-  reads = grind (arith, other, cells, cells-good, value-here, printable, blanks)
+  made : row_of_cells (past_of_tail (epoch_left before)) now.name marks (map cell_now now.arcs) ≡ read
+  made = grind (arith, map-map, length-map, flags-again)
 
-  flags-again : columns (patched (flags_of_tail (tail_named now.name (epoch_left before))) (after_cells (length now.arcs) line))
-      1 (2 * length (map cell_now now.arcs)) ≡ now.flags
-  flags-again = grind (arith, length-map, flags-made, first-columns, paired, at-without_end_blanks)
+  reads : satellite_line_read (past_of_tail (epoch_left before))
+      (record { name = now.name; count = length now.arcs }) line ≡ Ok read
+  reads =
+      let printable = marks-printable (flags_of_tail tail) marks now.flags flags-made sound.kept in
+      grind (arith, other, cells, cells-good, cell-held, goes-at, blanks-same, marks-same, made)
 
-  row-again : read.row ≡ row_now now
-  row-again = cc (map-map (λ (c : ReadCell). c.value) cell_now now.arcs, flags-again)
+  leaves-here : (j : ℕ) → arc_of_code (code_now (arc_at now.arcs j)) (cell_of_tail j tail) ≡ arc_left
+      (arc_at now.arcs j)
+  leaves-here j = ap (arc_of_code (code_now (arc_at now.arcs j))) (cell-held j) ∙ (goes-at j).leaves
 
-  many-codes : length (map (λ (c : ReadCell). c.code) (map cell_now now.arcs)) ≡ length now.arcs
-  many-codes = length-map (map cell_now now.arcs) (λ (c : ReadCell). c.code) ∙ length-map now.arcs cell_now
-
-  flags-left : flags_held (length (map (λ (c : ReadCell). c.code) (map cell_now now.arcs)))
-      (patched (flags_of_tail (tail_named now.name (epoch_left before))) (after_cells (length now.arcs) line))
-      ≡ without_end_blanks now.flags
-  flags-left = ap (λ k. flags_held k (patched (flags_of_tail (tail_named now.name (epoch_left before)))
-      (after_cells (length now.arcs) line))) many-codes
-      ∙ ap (flags_held (length now.arcs)) flags-made
-      ∙ same-cut (2 * length now.arcs) (without_end_blanks now.flags) now.flags (λ p less. at-without_end_blanks now.flags p)
-      ∙ ap without_end_blanks (take_all (2 * length now.arcs) now.flags (omega (arith, paired)))
-
-  cells-left : each_place (length (map (λ (c : ReadCell). c.code) (map cell_now now.arcs)))
-      (λ j. arc_of_code (slice_index_or (map (λ (c : ReadCell). c.code) (map cell_now now.arcs)) j Missing)
-      (cell_of_tail j (tail_named now.name (epoch_left before)))) ≡ map arc_left now.arcs
-  cells-left = ap (λ codes. each_place (length codes) (λ j. arc_of_code (slice_index_or codes j Missing)
-      (cell_of_tail j (tail_named now.name (epoch_left before)))))
-      (map-map (λ (c : ReadCell). c.code) cell_now now.arcs)
-      ∙ arcs-left now.arcs (λ j. cell_of_tail j (tail_named now.name (epoch_left before))) leaves-here
-
-  leaves-row : raw_row_tail_after (tail_named read.raw.name (epoch_left before)) read.raw ≡ row_left now
-  leaves-row = cc (flags-left, cells-left)
+  leaves-row : raw_row_tail_after tail read.raw ≡ row_left now
+  leaves-row =
+      let cells = arcs-left now.arcs (λ j. cell_of_tail j tail) leaves-here in
+      let held = held-columns (length now.arcs) (patched (flags_of_tail tail) marks) in
+      cc (length-map now.arcs code_now, flags-again)
 
 pub any-row : ReadsAnyRow
 any-row before now line sound h = record {
   read = read before now line sound h;
   reads = reads before now line sound h;
-  row = row-again before now line sound h;
+  row = refl;
   name = refl;
   leaves = leaves-row before now line sound h;
 }
