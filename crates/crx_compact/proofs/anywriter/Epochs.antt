@@ -11,7 +11,7 @@ use Rattle.crx_compact.proofs.soundness.Soundness.{reads-soundly}
 use Rattle.crx_compact.proofs.wayback.Facts.{IsTypedRow, typed-rows, text-kept, satellites_of_rows}
 use Rattle.crx_compact.proofs.wayback.Reading.{text-other, text-columns, text-good}
 use Rattle.crx_compact.proofs.Words.{append-nil, rules}
-use Rattle.crx_compact.specs.OpenEpochs.{HeldEpoch, held_after, placed_as}
+use Rattle.crx_compact.specs.OpenEpochs.{held_after, placed_as}
 use Rattle.crx_compact.specs.meaning.AnyWriter.{WrittenRow, WrittenEpoch, code_now, row_now, epoch_now, goes_on_from, nothing_written, AreRowLines, AreLinesAfter}
 use Rattle.crx_compact.specs.AnyWriter.{value_now, row_left, epoch_left, EpochReads, IsLeft, ReadsAnyEpoch}
 use Rattle.crx_compact.proofs.anywriter.{Arcs.{Goes, goes}, Rows.{any-row, marks-printable, at-same, all-same, CanFollow, row-follows}, Texts.{spelled-characters, code-printable}}
@@ -37,10 +37,12 @@ record RowsRead (base : WrittenEpoch) (rows : List WrittenRow) (lines : List (Li
   shown : map (λ (r : ReadRow). r.row) reads ≡ map row_now rows
   leaves : map (λ (r : RawRow). raw_row_tail_after (tail_named r.name (epoch_left base)) r) (map (λ (r : ReadRow). r.raw) reads)
       ≡ map row_left rows
+  follow : AllByRecursion CanFollow lines
 
 rows-read : (types : List Count) (base : WrittenEpoch) (rows : List WrittenRow) (lines : List (List ℕ))
     → AllByRecursion (IsTypedRow types) (map row_now rows) → AreRowLines base rows lines → RowsRead base rows lines
-rows-read types base [] [] h k = record { reads = []; place = λ rest. refl; shown = refl; leaves = refl }
+rows-read types base [] [] h k = record
+    { reads = []; place = λ rest. refl; shown = refl; leaves = refl; follow = tt }
 rows-read types base [] (line ∷ lines) h k = absurd k
 rows-read types base (r ∷ rs) [] h k = absurd k
 rows-read types base (r ∷ rs) (line ∷ lines) h k =
@@ -52,15 +54,8 @@ rows-read types base (r ∷ rs) (line ∷ lines) h k =
       place = λ rest. rw (first.reads, others.place rest) (ap {B = Place (List ReadRow)} (λ n. Done (first.read ∷ others.reads) n) count);
       shown = cc (first.row, others.shown);
       leaves = cc (first.leaves, others.leaves);
+      follow = (row-follows base r line h.0.0 k.0, others.follow);
     }
-
-rows-follow : (types : List Count) (base : WrittenEpoch) (rows : List WrittenRow) (lines : List (List ℕ))
-    → AllByRecursion (IsTypedRow types) (map row_now rows) → AreRowLines base rows lines
-    → AllByRecursion CanFollow lines
-rows-follow types base [] [] h k = tt
-rows-follow types base (r ∷ rs) (line ∷ lines) h k =
-    (row-follows base r line h.0.0 k.0, rows-follow types base rs lines h.1 k.1)
-rows-follow types base rows lines h k = absurd k
 
 -- ---- the epoch line
 
@@ -72,22 +67,21 @@ flag-mark mark c e h = grind (arith, h)
 full-no_event : (types : List Count) (e : Epoch) (line : List ℕ) → IsWholeEpoch types e
     → patched [] line ≡ without_end_blanks (epoch_text e) → is_event_flag (character_at line 32) ≡ false
 full-no_event types e line h made =
-    let marked : character_of 32 (at line 31) ≡ at e.head 31 =
-    sym (at-by_position character_of refl [] line 31)
-    ∙ at-same (by_position character_of [] line) (epoch_text e) made 31
-    ∙ text-head types e h 31 (omega arith) in
+    let head = text-head types e h 31 (omega arith) in
+    let same = at-same (by_position character_of [] line) (epoch_text e) made 31 in
     let flag : is_observation_flag (at e.head 31) ≡ true =
     grind (arith, common_steps, and_parts, if_some, head-counted types e h) in
-    flag-mark (at line 31) (at e.head 31) marked flag
+    flag-mark (at line 31) (at e.head 31) (cc (at-by_position character_of refl [] line 31)) flag
 
 pub base-found : (before : Option WrittenEpoch) (line : List ℕ)
     → tail_for_line (option_map epoch_left before) line ≡ option_map epoch_left (goes_on_from before line)
-base-found before line = pick (begins_epoch line)
-  where
-    pick : (b : Bool) → (if b then Some no_tail else option_map epoch_left before)
-        ≡ option_map epoch_left (if b then Some nothing_written else before)
-    pick true = refl
-    pick false = refl
+base-found before line = grind arith
+
+-- the tail that a line goes on from is that of the epoch which it goes on from
+pub tail-for : (before : Option WrittenEpoch) (tail : Option Tail) (line : List ℕ) (base : WrittenEpoch)
+    → IsLeft before tail → goes_on_from before line ≡ Some base
+    → tail_for_line tail line ≡ Some (epoch_left base)
+tail-for before tail line base left found = grind (arith, left base)
 
 -- ---- the epoch
 
@@ -108,9 +102,7 @@ module _ (types : List Count) (base now : WrittenEpoch) (line clock : List ℕ) 
       ∙ text-other (without_end_blanks clock) (spelled-characters (without_end_blanks clock) (code_now now.clock) h.spelled)
 
   clock-printable : list_all is_printable clock ≡ true
-  clock-printable = all-same is_printable refl (without_end_blanks clock) clock (trimmed-again clock)
-      (code-printable (without_end_blanks clock)
-      (spelled-characters (without_end_blanks clock) (code_now now.clock) h.spelled))
+  clock-printable = search (rules, all-same, trimmed-again, code-printable, spelled-characters)
 
   clock-goes : Goes CLOCK_WIDTH base.clock now.clock
   clock-goes = goes CLOCK_WIDTH base.clock now.clock h.follows whole.sound.head_sound.ranged
@@ -118,13 +110,6 @@ module _ (types : List Count) (base now : WrittenEpoch) (line clock : List ℕ) 
   clock-good : clock_line_read (past_of_tail (epoch_left base)) clock
       ≡ Ok (record { code = code_now now.clock; value = value_now now.clock })
   clock-good = rw (clock-other, h.spelled, clock-goes.value) refl
-
-  -- none of its other lines begins with >, and the line is no event's
-  pub others-follow : AllByRecursion CanFollow (clock ∷ lines)
-  others-follow = (
-    (clock-printable, clock-other),
-    rows-follow types base now.rows lines (typed-rows types (epoch_now now) whole) h.satellites,
-  )
 
   pub no-event : (before : Option WrittenEpoch) → goes_on_from before line ≡ Some base
       → is_event_line line ≡ false
@@ -141,6 +126,10 @@ module _ (types : List Count) (base now : WrittenEpoch) (line clock : List ℕ) 
 
   rows-good : RowsRead base now.rows lines
   rows-good = rows-read types base now.rows lines (typed-rows types (epoch_now now) whole) h.satellites
+
+  -- none of its other lines begins with >, and the line is no event's
+  pub others-follow : AllByRecursion CanFollow (clock ∷ lines)
+  others-follow = ((clock-printable, clock-other), rows-good.follow)
 
   abbrev raw : RawEpoch
   raw = record { line = line; clock = code_now now.clock; rows = map (λ (r : ReadRow). r.raw) rows-good.reads }
@@ -169,45 +158,31 @@ module _ (types : List Count) (base now : WrittenEpoch) (line clock : List ℕ) 
       → placed_as (held_after tail) (epoch_after types tail (map Content (line ∷ clock ∷ lines)))
       ≡ Done (record { epoch = epoch_now now; tail = epoch_left now }) (2 + length now.rows)
   held-reads tail e =
-      let held : held_after tail (record { raw = raw; epoch = epoch_now now })
-      ≡ record { epoch = epoch_now now; tail = epoch_left now } =
-      ap {B = HeldEpoch} (λ t. record { epoch = epoch_now now; tail = raw_tail_after (unwrap_or t no_tail) raw }) e
-      ∙ ap {B = HeldEpoch} (λ t. record { epoch = epoch_now now; tail = t }) tail-next in
-      ap (λ ls. placed_as (held_after tail) (epoch_after types tail ls)) (sym (append-nil (map Content (line ∷ clock ∷ lines))))
-      ∙ ap (placed_as (held_after tail)) (epoch-reads tail [] e)
-      ∙ ap {B = Place HeldEpoch} (λ h. Done h (2 + length now.rows)) held
+      let here = epoch-reads tail [] e in
+      let next = tail-next in
+      grind (arith, append-nil)
 
--- the tail that a line goes on from is that of the epoch which it goes on from
-pub tail-for : (before : Option WrittenEpoch) (tail : Option Tail) (line : List ℕ) (base : WrittenEpoch)
-    → IsLeft before tail → goes_on_from before line ≡ Some base → tail_for_line tail line ≡ Some (epoch_left base)
-tail-for before tail line base left found = pick (begins_epoch line) found
-  where
-    pick : (b : Bool) → (if b then Some nothing_written else before) ≡ Some base
-        → (if b then Some no_tail else tail) ≡ Some (epoch_left base)
-    pick true e = ap (option_map epoch_left) e
-    pick false e = left base e
-
-by_parts : (types : List Count) (before : Option WrittenEpoch) (raws : List RawEpoch) (base now : WrittenEpoch)
-    (line clock : List ℕ) (lines : List (List ℕ)) → IsLeft before (tail_left raws)
-    → IsWholeEpoch types (epoch_now now) → goes_on_from before line ≡ Some base → AreLinesAfter base now line clock lines
-    → EpochReads types raws now (line ∷ clock ∷ lines)
-by_parts types before raws base now line clock lines left whole found h =
-    let e : tail_for_line (tail_left raws) line ≡ Some (epoch_left base) = grind (arith, tail-for) in
-    let here : (rest : List ReadLine) → epoch_at types raws (map Content (line ∷ clock ∷ lines) ++ rest)
-    ≡ Done (record { raw = raw types base now line clock lines whole h; epoch = epoch_now now }) (2 + length now.rows) =
-    λ rest. place-by_tail types raws (map Content (line ∷ clock ∷ lines) ++ rest)
-    ∙ epoch-reads types base now line clock lines whole h (tail_left raws) rest e in
-    let single = (reads-soundly types raws (map Content (line ∷ clock ∷ lines) ++ [])
-    (record { raw = raw types base now line clock lines whole h; epoch = epoch_now now }) (2 + length now.rows) (here [])).single in
-    record {
-      raw = raw types base now line clock lines whole h;
-      reads = here;
-      leaves = left-by_tail (raw types base now line clock lines whole h) raws single
-          ∙ ap {B = Option Tail} (λ t. Some (raw_tail_after (unwrap_or t no_tail) (raw types base now line clock lines whole h))) e
-          ∙ ap {B = Option Tail} Some (tail-next types base now line clock lines whole h);
-    }
+  -- read after raw epochs
+  pub by_parts : (before : Option WrittenEpoch) (raws : List RawEpoch) → IsLeft before (tail_left raws)
+      → goes_on_from before line ≡ Some base → EpochReads types raws now (line ∷ clock ∷ lines)
+  by_parts before raws left found =
+      let e = tail-for before (tail_left raws) line base left found in
+      let here : (rest : List ReadLine) → epoch_at types raws (map Content (line ∷ clock ∷ lines) ++ rest)
+      ≡ Done (record { raw = raw; epoch = epoch_now now }) (2 + length now.rows) =
+      λ rest. place-by_tail types raws (map Content (line ∷ clock ∷ lines) ++ rest)
+      ∙ epoch-reads (tail_left raws) rest e in
+      let single = (reads-soundly types raws (map Content (line ∷ clock ∷ lines) ++ [])
+      (record { raw = raw; epoch = epoch_now now }) (2 + length now.rows) (here [])).single in
+      record {
+        raw = raw;
+        reads = here;
+        leaves = left-by_tail raw raws single
+            ∙ ap {B = Option Tail} (λ t. Some (raw_tail_after (unwrap_or t no_tail) raw)) e
+            ∙ ap {B = Option Tail} Some tail-next;
+      }
 
 pub any-epoch : ReadsAnyEpoch
 any-epoch types before raws now [] left whole h = absurd h
 any-epoch types before raws now (line ∷ []) left whole h = absurd h
-any-epoch types before raws now (line ∷ clock ∷ lines) left whole h = grind (arith, by_parts)
+any-epoch types before raws now (line ∷ clock ∷ lines) left whole h =
+    by_parts types h.0 now line clock lines whole h.2 before raws left h.1

@@ -9,6 +9,8 @@ use Rattle.crx_compact.proofs.Words.{each_place-same, character_of}
 use Rattle.crx_compact.proofs.{SoundTexts.{patched-trimmed, trimmed-again}, EpochLines.{names_of}}
 use Rattle.crx_compact.proofs.soundness.Soundness.{Paired, RowFacts, facts-against}
 use Rattle.crx_compact.proofs.reading.RawTailing.{place-by_tail}
+use Rattle.std.proofs.lemmas.List.Folds.{flat_map-map}
+use Rattle.crx_compact.proofs.Lists.{all-from}
 use Rattle.crx_compact.proofs.wayback.{Facts.{IsTypedRow, typed-rows}, Rows.found-row, Runs.named-made}
 use Rattle.crx_compact.specs.meaning.AnyWriter.{WrittenRow, WrittenEpoch, row_now, epoch_now, goes_on_from, nothing_written, flags_in, AreRowLines}
 use Rattle.crx_compact.specs.AnyWriter.{epoch_left}
@@ -34,8 +36,8 @@ first-back (Content line ∷ rest) read x n e = grind arith
 
 -- ---- the satellites' lines
 
-abbrev AreFew : WrittenEpoch → List Satellite → Type 0
-AreFew base satellites = AllByRecursion (λ (s : Satellite). length (flags_in (row_before base s)) ≤ 2 * s.count) satellites
+abbrev IsFew : WrittenEpoch → Satellite → Type 0
+IsFew base s = length (flags_in (row_before base s)) ≤ 2 * s.count
 
 record RowsBack (base : WrittenEpoch) (satellites : List Satellite) (lines : List (List ℕ))
     (reads : List ReadRow)
@@ -49,7 +51,8 @@ pub done-things : {X : Type 0} (x y : X) (m n : ℕ) → Done x m ≡ Done y n �
 done-things x y m n e = cc e
 
 rows-back : (base : WrittenEpoch) (satellites : List Satellite) (lines : List (List ℕ)) (reads : List ReadRow)
-    → AreFew base satellites → Paired (RowFacts (past_of_tail (epoch_left base))) satellites lines reads
+    → AllByRecursion (IsFew base) satellites → Paired (RowFacts (past_of_tail (epoch_left base))) satellites
+    lines reads
     → RowsBack base satellites lines reads
 rows-back base [] [] [] few h = record { rows = []; shown = refl; names = refl; written = tt }
 rows-back base (s ∷ ss) (l ∷ ls) (r ∷ rs) few h =
@@ -70,29 +73,15 @@ few-here : (types : List Count) (rows : List WrittenRow) (s : Satellite) (found 
     → types_of_satellite types s.name ≡ Some s.count → length (flags_in found) ≤ 2 * s.count
 few-here types rows s None h e k = omega arith
 few-here types rows s (Some r) h e k =
-    let typed = found-row types s.name (map row_now rows) h (row_now r)
-    (named-made (λ (q : WrittenRow). q.name) (λ (q : Row). q.name) (λ n q. row_now q) (λ n q. refl) s.name
-    rows
-    ∙ ap (option_map row_now) e) in
-    let same : length (row_now r).values ≡ s.count = search rules in
-    omega (arith, same, typed.is_row.0.paired)
-
-few-all : (types : List Count) (base : WrittenEpoch) (satellites : List Satellite)
-    → AllByRecursion (IsTypedRow types) (map row_now base.rows)
-    → AllByRecursion (λ (s : Satellite). types_of_satellite types s.name ≡ Some s.count) satellites → AreFew base satellites
-few-all types base [] h k = tt
-few-all types base (s ∷ ss) h k =
-    (few-here types base.rows s (row_before base s) h refl k.0, few-all types base ss h k.1)
+    let there = named-made (λ (q : WrittenRow). q.name) (λ (q : Row). q.name) (λ n q. row_now q) (λ n q. refl)
+    s.name rows in
+    let typed = found-row types s.name (map row_now rows) h (row_now r) (cc e) in
+    grind (arith, typed.is_row)
 
 -- ---- the text
 
 abbrev joined : List (List ℕ) → List ℕ
 joined names = flat_map (λ (n : List ℕ). n) names
-
-names-flat : (rows : List WrittenRow)
-    → flat_map (λ (r : Row). r.name) (map row_now rows) ≡ joined (map (λ (r : WrittenRow). r.name) rows)
-names-flat [] = refl
-names-flat (r ∷ rs) = ap (λ t. r.name ++ t) (names-flat rs)
 
 at-column : (text : List ℕ) (first width p : ℕ) → p < width → at (columns text first width) p ≡ at text (first - 1 + p)
 at-column text first width p less = at-take width _ p less ∙ at-padded width (drop (first - 1) text) p ∙ at-drop (first - 1) text p
@@ -100,29 +89,16 @@ at-column text first width p less = at-take width _ p less ∙ at-padded width (
 -- columns after others
 columns-append : (text : List ℕ) (k m n : ℕ)
     → columns text (k + 1) m ++ columns text (k + m + 1) n ≡ columns text (k + 1) (m + n)
-columns-append text k m n = sym
-    (columns-are text (k + 1) (m + n) (columns text (k + 1) m ++ columns text (k + m + 1) n)
-    (omega (
-      arith,
-      length-append (columns text (k + 1) m) (columns text (k + m + 1) n),
-      length-columns text (k + 1) m,
-      length-columns text (k + m + 1) n,
-    )) (λ p less. by_place p less (cases_lt p m)))
+columns-append text k m n = sym (columns-are text (k + 1) (m + n) _
+    (grind (arith, length-append, length-columns)) (λ p less. by_place p less (cases_lt p m)))
   where
     by_place : (p : ℕ) → p < m + n → (p < m) ⊎ (m ≤ p)
         → at text (k + 1 - 1 + p) ≡ at (columns text (k + 1) m ++ columns text (k + m + 1) n) p
-    by_place p less (inl few) = cc (
-      at-column text (k + 1) m p few,
-      at-append (columns text (k + 1) m) (columns text (k + m + 1) n) p
-          (omega (arith, few, length-columns text (k + 1) m)),
-    )
+    by_place p less (inl few) = grind (arith, at-column, at-append, length-columns)
     by_place p less (inr more) =
         let here : p ≡ m + (p - m) = omega (arith, more) in
         let place : k + m + 1 - 1 + (p - m) ≡ k + 1 - 1 + p = omega (arith, more) in
-        ap (at text) (sym place) ∙ sym (at-column text (k + m + 1) n (p - m) (omega (arith, less, more)))
-        ∙ sym (at-append_past (columns text (k + 1) m) (columns text (k + m + 1) n) m (p - m)
-        (length-columns text (k + 1) m))
-        ∙ ap (at (columns text (k + 1) m ++ columns text (k + m + 1) n)) (sym here)
+        grind (arith, at-column, at-append_past, length-columns)
 
 -- identifiers one after another
 names-joined : (text : List ℕ) (k count : ℕ)
@@ -150,14 +126,7 @@ given-base : (before : Option WrittenEpoch) (tail : Option Tail) (line : List �
     → tail ≡ option_map epoch_left before → option_map past_of_tail (tail_for_line tail line) ≡ Some past
     → (past ≡ past_of_tail (epoch_left (base_for before line)))
     × (goes_on_from before line ≡ Some (base_for before line))
-given-base before tail line past left e = pick (goes_on_from before line)
-    (ap (option_map past_of_tail) (sym (ap (λ t. tail_for_line t line) left ∙ base-found before line)) ∙ e)
-  where
-    pick : (g : Option WrittenEpoch) → option_map past_of_tail (option_map epoch_left g) ≡ Some past
-        → (past ≡ past_of_tail (epoch_left (unwrap_or g nothing_written)))
-        × (g ≡ Some (unwrap_or g nothing_written))
-    pick None k = absurd (cc k)
-    pick (Some base) k = (same_Some past (past_of_tail (epoch_left base)) (sym k), refl)
+given-base before tail line past left e = grind (arith, base-found)
 
 base-typed : (types : List Count) (before : Option WrittenEpoch) (line : List ℕ) (base : WrittenEpoch)
     → ((b : WrittenEpoch) → before ≡ Some b → IsWholeEpoch types (epoch_now b)) → goes_on_from before line ≡ Some base
@@ -176,15 +145,15 @@ only-epoch types before raws lines read count left whole e =
     (λ line past g. (given-base before tail line past left g).0) (sym (place-by_tail types raws lines) ∙ e) in
     let base = base_for before h.line in
     let found = (given-base before tail h.line (past_of_tail (epoch_left base)) left h.given_is).1 in
-    let few = few-all types base h.satellites (base-typed types before h.line base whole found)
-    h.line_ok.named.known in
+    let few = all-from (IsFew base) (λ s k. few-here types base.rows s (row_before base s)
+    (base-typed types before h.line base whole found) refl k) h.satellites h.line_ok.named.known in
     let rows = rows-back base h.satellites h.own h.rows few h.rows_ok in
     let arc = arc-back CLOCK_WIDTH base.clock h.clock.code h.clock.value h.clock_ok.meant in
     let text = patched (without_end_blanks (epoch_text (epoch_now base))) h.line in
     let n = h.line_ok.count in
     let names : columns text 42 (3 * n) ≡ flat_map (λ (r : Row). r.name) (map row_now rows.rows) =
-    sym (names-joined text 41 n) ∙ ap joined (sym h.line_ok.named.same ∙ sym rows.names)
-    ∙ sym (names-flat rows.rows) in
+    let same = names-joined text 41 n in
+    grind (arith, flat_map-map, h.line_ok.named.same, rows.names) in
     record {
       now = record { head = columns text 1 41; clock = arc.now; rows = rows.rows };
       epoch = search rules;
