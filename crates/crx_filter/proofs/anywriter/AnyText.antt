@@ -1,26 +1,36 @@
 -- Compact text of a file's units, whoever wrote it, expands to their RINEX text.
 use Rattle.crx_filter.proofs
-use proofs.Words.{common_steps, ℕ, suc, ◌≡◌, ◌+◌, ◌<◌, Bool, true, false, cond, List, [], ◌∷◌, ◌++◌, map, length, Option, Some, None, Ok}
-use proofs.Words.{refl, ap, sym, ◌∙◌, subst, arith, append-nil, is_some, lines_of, as_read, ReadLine, Content, Epoch, Place, Done}
-use proofs.Words.{FileUnit, HeaderLine, EventLine, EventRecord, Observation, Item, Accepted, Warned, Count, RawEpoch, ReadEpoch}
-use proofs.Words.{header_has_ended, records_left, records_count_types, types_in_force, types_fault, header_line_fault}
-use proofs.Words.{Reading, AtLines, reading_from, ended_reading, compact_place, compact_epoch_place, event_line, is_event_line, records_in, raws_kept, whole_compact, first_lines}
-use proofs.Words.{IsWholeEpoch, expanded_unit, expanded, printed_items, warnings_in, lines_text, result_of, written_well}
+use proofs.Words.{common_steps, ℕ, suc, ◌≡◌, ◌+◌, ◌<◌, Bool, true, false, cond, List, [], ◌∷◌, ◌++◌, map}
+use proofs.Words.{length, Option, Some, None, Ok}
+use proofs.Words.{by_bool, refl, ap, sym, ◌∙◌, subst, arith, append-nil, is_some, lines_of, as_read, ReadLine}
+use proofs.Words.{Content, Epoch, Place, Done}
+use proofs.Words.{FileUnit, HeaderLine, EventLine, EventRecord, Observation, Item, Accepted, Warned, Count}
+use proofs.Words.{RawEpoch, ReadEpoch}
+use proofs.Words.{header_has_ended, records_left, records_count_types, types_in_force, types_fault}
+use proofs.Words.{header_line_fault}
+use proofs.Words.{Reading, AtLines, reading_from, ended_reading, compact_place, compact_epoch_place}
+use proofs.Words.{event_line, is_event_line, records_in, raws_kept, whole_compact, first_lines}
+use proofs.Words.{IsWholeEpoch, expanded_unit, expanded, printed_items, warnings_in, lines_text, result_of}
+use proofs.Words.{written_well}
 use Rattle.crx_filter.proofs.{Words.{IsInPlace, AreInPlace}, following.Following.body-place}
 use Rattle.crx_filter.proofs.reading.{ForwardCompact.compact-forward, Ending.closes-well}
 use Rattle.crx_filter.proofs.wayback.{Carried.{IsLike, header-here, record-here, unit-more}, WayBack.result-well}
 use Rattle.crx_filter.specs.meaning.{Expanded.{rinex_unit, crinex_version, crinex_program, empties_state}, WrittenStandard.rinex_items}
 use Rattle.crx_filter.specs.meaning.UnitsAndText.{as_items, rinex_text}
-use Rattle.crx_compact.proofs.Words.{epoch_at, epoch_text, at, patched, character_of, by_position, without_end_blanks, at-without_end_blanks, begins_epoch, tail_left, if◌then◌else◌}
+use Rattle.crx_compact.proofs.Words.{epoch_at, epoch_text, at, patched, character_of, by_position}
+use Rattle.crx_compact.proofs.Words.{without_end_blanks, at-without_end_blanks, begins_epoch, tail_left}
+use Rattle.crx_compact.proofs.Words.{if◌then◌else◌}
 use Rattle.crx_compact.proofs.Words.{and_parts, is_observation_flag, is_event_flag, character_at, same_Some}
 use Rattle.crx_compact.proofs.Characters.{at-by_position, if_some}
 use Rattle.crx_compact.proofs.wayback.Facts.{text-head, head-counted}
-use Rattle.crx_compact.specs.meaning.AnyWriter.{WrittenRow, WrittenEpoch, epoch_now, goes_on_from, nothing_written, AreRowLines, AreLinesAfter, AreEpochLines}
+use Rattle.crx_compact.specs.meaning.AnyWriter.{WrittenRow, WrittenEpoch, epoch_now, goes_on_from}
+use Rattle.crx_compact.specs.meaning.AnyWriter.{nothing_written, AreRowLines, AreLinesAfter, AreEpochLines}
 use Rattle.crx_compact.specs.AnyWriter.{epoch_left, IsLeft}
 use Rattle.crx_compact.proofs.Words.{Tail}
 use Rattle.crx_header.{proofs.Counts.types_of-push}
 use Rattle.crx_filter.specs.meaning.Stretches.{AreLinesOn}
-use Rattle.crx_filter.specs.meaning.CompactText.{AreLinesOfUnit, AreLinesOf, IsCompactTextOf, AreUnitsInPlace, AreWholeFile}
+use Rattle.crx_filter.specs.meaning.CompactText.{AreLinesOfUnit, AreLinesOf, IsCompactTextOf, AreUnitsInPlace}
+use Rattle.crx_filter.specs.meaning.CompactText.{AreWholeFile}
 use Rattle.crx_filter.specs.CompactText.{ExpandsAnyText, IsOfOneFile, WritesFirstUnits}
 use Rattle.crx_filter.proofs.reading.Prefixes.{AreMore, text-more, whole-items}
 use Rattle.crx_filter.proofs.Words.{Begins, FilterResult, whole_reading}
@@ -53,22 +63,14 @@ full-no_event types e line h made =
     sym (at-by_position character_of refl [] line 31)
     ∙ sym (at-without_end_blanks (by_position character_of [] line) 31) ∙ ap (λ t. at t 31) made
     ∙ at-without_end_blanks (epoch_text e) 31 ∙ text-head types e h 31 (omega arith) in
-    let flag : is_observation_flag (at e.head 31) ≡ true = grind (arith, common_steps, and_parts, if_some, head-counted types e h) in
-    flag-mark (at line 31) (at e.head 31) marked flag
+    flag-mark (at line 31) (at e.head 31) marked (grind (arith, common_steps, and_parts, if_some, head-counted types e h))
 
 no-event : (types : List Count) (before : Option WrittenEpoch) (base now : WrittenEpoch) (line clock : List ℕ) (lines : List (List ℕ))
     → IsWholeEpoch types (epoch_now now) → goes_on_from before line ≡ Some base → AreLinesAfter base now line clock lines
     → is_event_line line ≡ false
-no-event types before base now line clock lines whole found h = pick (begins_epoch line) refl found
-  where
-    pick : (b : Bool) → begins_epoch line ≡ b → (if b then Some nothing_written else before) ≡ Some base
-        → is_event_line line ≡ false
-    pick false e f = rw e refl
-    pick true e f =
-        let start : base ≡ nothing_written = same_Some base nothing_written (sym f) in
-        let made : patched [] line ≡ without_end_blanks (epoch_text (epoch_now now)) =
-        ap (λ b. patched (epoch_text (epoch_now b)) line) (sym start) ∙ h.marked in
-        rw (e, full-no_event types (epoch_now now) line whole made) refl
+no-event types before base now line clock lines whole found h = by_bool (begins_epoch line) (λ on.
+    let start : base ≡ nothing_written = grind (arith, same_Some, on, found) in
+    rw (on, full-no_event types (epoch_now now) line whole (rw start at h.marked)) refl) (λ off. rw off refl)
 
 pub none-left : (tail : Option Tail) → IsLeft None tail
 none-left tail b e = absurd (cc e)
@@ -123,12 +125,8 @@ module _ (items : List (Item ReadEpoch)) (units : List (FileUnit Epoch)) (before
   record-left : (line : List ℕ) (b : Bool) → records_count_types items ≡ b
       → IsLeft (if empties_state b line then None else before)
       (tail_left (raws_kept (Accepted (EventRecord line) ∷ items)))
-  record-left line b e = pick (empties_state b line) (ap (λ c. empties_state c line) e)
-    where
-      pick : (c : Bool) → empties_state (records_count_types items) line ≡ c
-          → IsLeft (if c then None else before) (tail_left (raws_kept (Accepted (EventRecord line) ∷ items)))
-      pick true f = none-left (tail_left (raws_kept (Accepted (EventRecord line) ∷ items)))
-      pick false f = rw f left
+  record-left line b e = by_bool (empties_state b line)
+      (λ on. rw (e, on) (none-left None)) (λ off. rw (e, off) left)
 
   record-unit : (line : List ℕ) → IsInPlace (as_items units) (EventRecord line) → UnitRead items (EventRecord line) (line ∷ [])
       (if empties_state (records_count_types (as_items units)) line then None else before)
@@ -167,14 +165,11 @@ unit-read : (items : List (Item ReadEpoch)) (units : List (FileUnit Epoch)) (bef
     → IsLeft before (tail_left (raws_kept items)) → IsInPlace (as_items units) unit
     → AreLinesOfUnit (as_items units) before unit lines now → UnitRead items unit lines now
 unit-read items units before now (HeaderLine line) lines known left h k =
-    subst (λ ls. UnitRead items (HeaderLine line) ls now) (sym k.0)
-    (subst (λ n. UnitRead items (HeaderLine line) (line ∷ []) n) (sym k.1) (header-unit items units before known left line h))
+    rw (k.0, k.1) (header-unit items units before known left line h)
 unit-read items units before now (EventLine line) lines known left h k =
-    subst (λ ls. UnitRead items (EventLine line) ls now) (sym k.0)
-    (subst (λ n. UnitRead items (EventLine line) (line ∷ []) n) (sym k.1) (event-unit items units before known left line h))
+    rw (k.0, k.1) (event-unit items units before known left line h)
 unit-read items units before now (EventRecord line) lines known left h k =
-    subst (λ ls. UnitRead items (EventRecord line) ls now) (sym k.0)
-    (subst (λ n. UnitRead items (EventRecord line) (line ∷ []) n) (sym k.1) (record-unit items units before known left line h))
+    rw (k.0, k.1) (record-unit items units before known left line h)
 unit-read items units before now (Observation epoch) lines known left h k =
     subst (λ n. UnitRead items (Observation epoch) lines n) (sym k.2)
     (subst (λ e. UnitRead items (Observation e) lines (Some k.0)) k.1 (epoch-unit items units before known left k.0 lines
@@ -213,29 +208,21 @@ pub read-on : (skip : Bool) (items : List (Item ReadEpoch)) (number : ℕ) (bloc
     (lines : List (List ℕ)) (start last : Option WrittenEpoch) → IsLike items block → IsLeft start (tail_left (raws_kept items))
     → AreInPlace (as_items (units ++ block)) → AreLinesOn block start units lines last
     → AreReadOn skip items number block units lines last
-read-on skip items number block [] lines start last like left h k =
-    subst (λ ls. AreReadOn skip items number block [] ls last) (sym k.0)
-    (subst (λ n. AreReadOn skip items number block [] [] n) (sym k.1)
-    (record { more = []; reads = none-read skip items number; known = refl; like = like; left = left }))
+read-on skip items number block [] lines start last like left h k = rw (k.0, k.1)
+    (record { more = []; reads = none-read skip items number; known = refl; like = like; left = left })
 read-on skip items number block (unit ∷ units) lines start last like left h k =
     let r = read-on skip items number block units k.1 start k.0 like left h.1 k.3 in
     let u = unit-read (r.more ++ items) (units ++ block) k.0 last unit k.2 r.like r.left h.0 k.5 in
-    subst (λ ls. AreReadOn skip items number block (unit ∷ units) ls last) (sym k.4)
-    (read-more skip items number block units unit k.1 k.2 k.0 last r h.0 u)
+    rw k.4 (read-more skip items number block units unit k.1 k.2 k.0 last r h.0 u)
 
 -- ---- all units
 
-of-lines : (units : List (FileUnit Epoch)) (lines : List (List ℕ)) (last : Option WrittenEpoch)
-    → AreLinesOf units lines last → AreLinesOn [] None units lines last
-of-lines [] lines last k = k
-of-lines (unit ∷ units) lines last k = (
-  k.0,
-  k.1,
-  k.2,
-  of-lines units k.1 k.0 k.3,
-  k.4,
-  subst (λ us. AreLinesOfUnit (as_items us) k.0 unit k.2 last) (sym (append-nil units)) k.5,
-)
+-- the lines of all units are those of units after none
+pub of-nothing : (units : List (FileUnit Epoch)) (lines : List (List ℕ)) (last : Option WrittenEpoch)
+    → ◌≡◌ {A = Type 0} (AreLinesOn [] None units lines last) (AreLinesOf units lines last)
+of-nothing [] lines last = refl
+of-nothing (unit ∷ units) lines last = λ i. (before : Option WrittenEpoch) × (first : List (List ℕ)) × (more : List (List ℕ))
+    × of-nothing units first before i × (lines ≡ first ++ more) × AreLinesOfUnit (as_items (append-nil units i)) before unit more last
 
 pub record AreRead (skip : Bool) (number : ℕ) (units : List (FileUnit Epoch)) (lines : List (List ℕ)) (last : Option WrittenEpoch)
     : Type 0 where
@@ -251,14 +238,13 @@ pub all-read : (skip : Bool) (number : ℕ) (units : List (FileUnit Epoch)) (lin
 all-read skip number units lines last h k =
     let r = read-on skip [] number [] units lines None last
     (record { header = refl; start = refl; left = refl; counts = λ some. refl; types = refl }) (none-left None)
-    (subst (λ us. AreInPlace (as_items us)) (sym (append-nil units)) h) (of-lines units lines last k) in
+    (subst (λ us. AreInPlace (as_items us)) (sym (append-nil units)) h) (subst (λ (T : Type 0). T) (sym (of-nothing units lines last)) k) in
     record {
       items = r.more;
-      reads = r.reads ∙ ap {B = Reading ReadEpoch} (λ is. record { items = is; stop = AtLines (number + length lines) [] })
-          (append-nil r.more);
+      reads = rw append-nil at r.reads;
       known = r.known;
-      like = subst (λ is. IsLike is units) (append-nil r.more) (subst (λ us. IsLike (r.more ++ []) us) (append-nil units) r.like);
-      left = subst (λ is. IsLeft last (tail_left (raws_kept is))) (append-nil r.more) r.left;
+      like = subst (IsLike r.more) (append-nil units) (rw (append-nil r.more) at r.like);
+      left = rw append-nil at r.left;
     }
 
 -- ---- the text
@@ -317,11 +303,9 @@ text-read skip units text file h =
 
 pub any-text : ExpandsAnyText
 any-text text choices units file h =
-    let skip = choices.skip in
-    let r = all-read skip 3 units h.lines h.last (in-place units file.in_place) h.written in
-    rw (h.cut) (rw (whole-read skip h.version h.program (map Content h.lines) h.first h.second)
-    (rw (r.reads) (units-well skip r.items (3 + length h.lines) units ((r.like).header ∙ file.header)
-    ((r.like).left ∙ file.complete) r.known)))
+    let r = text-read choices.skip units text file h in
+    ap (result_of expanded_unit) r.reads ∙ result-well r.items (printed_items (as_items units))
+    (printed-read r.items ∙ ap printed_items r.known) (units-silent r.items units r.known)
 
 pub one-file : IsOfOneFile
 one-file text one two h k first second =

@@ -1,10 +1,13 @@
 -- What was compacted comes back: its compact text is one that any writer may write.
 use Rattle.crx_filter.proofs
-use proofs.Words.{common_steps, arith, ℕ, ◌≡◌, true, false, List, map, Option, None, ap, sym, ◌∙◌, lines_of, lines_text}
-use proofs.Words.{pieces_of, as_read, At, Epoch, FileUnit, Choices, is_date, compacted, expanded, Item, WholeReading}
-use proofs.Words.{FilterResult, IsResult, Device, compact_lines, printed_items, whole_of, IsStandard, HaveNoReturns, written_well}
+use proofs.Words.{common_steps, arith, ℕ, ◌≡◌, true, false, List, map, Option, None, ap, sym, ◌∙◌, lines_of}
+use proofs.Words.{lines_text}
+use proofs.Words.{pieces_of, as_read, At, Epoch, FileUnit, Choices, is_date, compacted, expanded, Item}
+use proofs.Words.{WholeReading}
+use proofs.Words.{FilterResult, IsResult, Device, compact_lines, printed_items, whole_of, IsStandard}
+use proofs.Words.{HaveNoReturns, written_well}
 use proofs.anywriter.{AnyText.any-text, OwnText.{own-items, units-printed, whole-items}}
-use proofs.wayback.{Canonical.same-compaction, Converse.{lines-plain, printed-plain, all-plain, contents-plain}, Units.{compacts, settled, no-returns, units_in}}
+use proofs.wayback.{Canonical.same-compaction, Converse.{lines-plain, all-plain, contents-plain}, NormalForm.printed-clean, Units.{compacts, settled, no-returns, units_in}}
 use proofs.wayback.{Standard.{NoReturn, plain-no_return, plain-text, same-reading, whole-copied}, WayBack.{IsSettled, whole-settled}}
 use Rattle.crx_filter.specs.{meaning.{Canonical.IsCanonical, UnitsAndText.{TextsOfUnits, ReadsUnits}}, WayBack.{ComesBack, NormalFormComesBack, StandardComesBack}}
 
@@ -43,7 +46,7 @@ standard-where_kept input compacting expanding dated good none same =
     let h = whole-settled false input good in
     let back = sym (ap (λ (r : FilterResult). r.output) (normal-comes_back input compacting expanding dated
     good none)) ∙ same in
-    let cut = ap lines_of (sym back) ∙ lines-plain (printed_items items) (printed-plain items h.in_place
+    let cut = ap lines_of (sym back) ∙ lines-plain (printed_items items) (printed-clean items h.in_place
     h.copied none) in
     record {
       good = good;

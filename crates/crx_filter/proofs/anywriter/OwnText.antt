@@ -1,15 +1,18 @@
 -- Compact text that is compacted here is text that any writer may write.
 use Rattle.crx_filter.proofs
-use proofs.Words.{ℕ, ◌≡◌, ◌⊎◌, inl, inr, true, false, Bool, List, [], ◌∷◌, ◌++◌, map, Option, Some, None, refl, ap, sym, ◌∙◌, subst}
-use proofs.Words.{AllByRecursion, append-nil, append_assoc, if◌then◌else◌, lines_of, lines_text, as_read, Epoch, FileUnit, HeaderLine, EventLine}
+use proofs.Words.{ℕ, ◌≡◌, ◌⊎◌, inl, inr, true, false, Bool, List, [], ◌∷◌, ◌++◌, map, Option, Some, None}
+use proofs.Words.{refl, ap, sym, ◌∙◌, subst}
+use proofs.Words.{AllByRecursion, append-nil, append_assoc, if◌then◌else◌, lines_of, lines_text, as_read}
+use proofs.Words.{Epoch, FileUnit, HeaderLine, EventLine}
 use proofs.Words.{EventRecord, Observation, Count, Marked, Choices, is_date, Item, Accepted, Warned}
-use proofs.Words.{records_count_types, types_in_force, is_in_full, marked_epochs, compact_epoch, compact_lines}
+use proofs.Words.{records_count_types, types_in_force, is_in_full, marked_epochs, compact_epoch}
+use proofs.Words.{compact_lines}
 use proofs.Words.{version_line, program_line, AreInPlace, BeginsAnew, HaveNoReturns, printed_items}
 use proofs.damage.TextAfter.{lines_on, written-on, begins-rest}
 use proofs.wayback.{Carried.{IsLike, started, units-like, units-placed}, Cut.{IsClean, lines-cut}}
 use proofs.wayback.First.{program-clean, program-read, version-clean}
 use proofs.wayback.Items.{marked_now, body_unit, not-interrupted, whole-next}
-use proofs.wayback.{Reading.lines_back}
+use proofs.{anywriter.AnyText.of-nothing, wayback.Reading.lines_back}
 use proofs.wayback.Units.{settled, no-returns, units_in, units-again}
 pub use proofs.wayback.NormalForm.{units-printed}
 use proofs.wayback.WayBack.{IsSettled, lines-same, lines-clean}
@@ -68,23 +71,18 @@ module _ (start : Option WrittenEpoch) (choices : Choices) (block : List (Item E
   abbrev IsWholeAfter : List Count → Marked → List (Item Epoch) → Type 0
   IsWholeAfter types m items = AreWhole types (since_full (m ∷ marked_epochs choices.every (items ++ block)))
 
-  later : (types : List Count) (epoch : Epoch) (items : List (Item Epoch))
-      → GoAnew choices block (Accepted (Observation epoch) ∷ items) → is_in_full choices.every (items ++ block) ≡ false
-      → IsWholeAfter types (marked false epoch) items → AreEpochLines (before_all items) (epoch_of (marked false epoch) items)
-      (compact_epoch (marked false epoch ∷ marked_epochs choices.every (items ++ block)))
-  later types epoch [] anew e h = let never = sym (none-interrupted choices block epoch anew) ∙ e in absurd (cc never)
-  later types epoch (Accepted (Observation last) ∷ items) anew e h = later-lines types epoch
-      (marked_now choices.every (items ++ block) last) (marked_epochs choices.every (items ++ block)) h
-  later types epoch (item ∷ items) anew e h =
-      let never = not-interrupted choices.every (item ∷ (items ++ block)) e in absurd (cc never)
-
   own-epoch : (types : List Count) (epoch : Epoch) (items : List (Item Epoch)) (full : Bool)
       → GoAnew choices block (Accepted (Observation epoch) ∷ items) → is_in_full choices.every (items ++ block) ≡ full
       → IsWholeAfter types (marked full epoch) items → AreEpochLines (before_all items) (epoch_of (marked full epoch) items)
       (compact_epoch (marked full epoch ∷ marked_epochs choices.every (items ++ block)))
   own-epoch types epoch items true anew e h =
       full-lines types epoch (marked_epochs choices.every (items ++ block)) (before_all items) h
-  own-epoch types epoch items false anew e h = later types epoch items anew e h
+  own-epoch types epoch [] false anew e h =
+      let never = sym (none-interrupted choices block epoch anew) ∙ e in absurd (cc never)
+  own-epoch types epoch (Accepted (Observation last) ∷ items) false anew e h = later-lines types epoch
+      (marked_now choices.every (items ++ block) last) (marked_epochs choices.every (items ++ block)) h
+  own-epoch types epoch (item ∷ items) false anew e h =
+      let never = not-interrupted choices.every (item ∷ (items ++ block)) e in absurd (cc never)
 
   own-unit : (items : List (Item Epoch)) (unit : FileUnit Epoch) → AreInPlace (Accepted unit ∷ (items ++ block))
       → GoAnew choices block (Accepted unit ∷ items) → AreLinesOfUnit (as_items (units_in (items ++ block)))
@@ -122,18 +120,6 @@ module _ (start : Option WrittenEpoch) (choices : Choices) (block : List (Item E
 
 -- ---- all items
 
-on-nothing : (units : List (FileUnit Epoch)) (lines : List (List ℕ)) (last : Option WrittenEpoch)
-    → AreLinesOn [] None units lines last → AreLinesOf units lines last
-on-nothing [] lines last k = k
-on-nothing (unit ∷ units) lines last k = (
-  k.0,
-  k.1,
-  k.2,
-  on-nothing units k.1 k.0 k.3,
-  k.4,
-  subst (λ us. AreLinesOfUnit (as_items us) k.0 unit k.2 last) (append-nil units) k.5,
-)
-
 -- the epoch that the lines after some items may go on from
 abbrev pub state_after : Option ℕ → List (Item Epoch) → Option WrittenEpoch
 state_after every items = state_on None every [] items
@@ -144,7 +130,7 @@ own-lines choices items h =
     let same : lines_on choices.every items [] ≡ lines_back choices.every items =
     sym (written-on choices.every items []) ∙ ap (lines_back choices.every) (append-nil items) in
     subst (λ ls. AreLinesOf (units_in items) ls (state_after choices.every items)) same
-    (on-nothing (units_in items) (lines_on choices.every items []) (state_after choices.every items)
+    (subst (λ (T : Type 0). T) (of-nothing (units_in items) (lines_on choices.every items []) (state_after choices.every items))
     (own-on None choices [] items (subst AreInPlace (sym (append-nil items)) h) (inl refl)))
 
 pub units-in_place : (units : List (FileUnit Epoch)) → AreInPlace (as_items units) → AreUnitsInPlace units

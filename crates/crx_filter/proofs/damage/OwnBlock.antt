@@ -1,19 +1,27 @@
 -- The compact text of a standard file that is compacted here, damaged in one block: that is a stretch of it.
 use Rattle.crx_filter.proofs
-use proofs.Words.{common_steps, arith, ℕ, suc, ◌≡◌, ◌⊎◌, inl, inr, true, false, List, [], ◌∷◌, ◌++◌, map, length, drop, take, Option}
-use proofs.Words.{refl, ap, sym, ◌∙◌, subst, append_assoc, append-nil, AllByRecursion, flat_map, list_all, map-append}
-use proofs.Words.{drop-append_seam, and_parts, not-true, by_bool, Piece, InputLine, pieces_of, lines_of, lines_text}
-use proofs.Words.{Content, as_read, Epoch, FileUnit, IsWholeEpoch, printed_epoch, Observation, epoch_line, Choices}
-use proofs.Words.{is_date, expanded, Item, Accepted, records_left, types_in_force, marked_epochs, compact_lines}
-use proofs.Words.{printed_items, AreInPlace, BeginsAnew, is_in_full, is_event_line, with_epochs, lines_of_epochs}
+use proofs.Words.{common_steps, arith, ℕ, suc, ◌≡◌, ◌⊎◌, inl, inr, true, false, List, [], ◌∷◌, ◌++◌, map}
+use proofs.Words.{length, drop, take, Option}
+use proofs.Words.{refl, ap, sym, ◌∙◌, subst, append_assoc, append-nil, AllByRecursion, flat_map, list_all}
+use proofs.Words.{map-append}
+use proofs.Words.{drop-append_seam, and_parts, not-true, by_bool, Piece, InputLine, pieces_of, lines_of}
+use proofs.Words.{lines_text}
+use proofs.Words.{Content, as_read, Epoch, IsWholeEpoch, printed_epoch, Observation, epoch_line, Choices}
+use proofs.Words.{is_date, expanded, Item, Accepted, records_left, types_in_force, marked_epochs}
+use proofs.Words.{compact_lines}
+use proofs.Words.{printed_items, AreInPlace, BeginsAnew, is_in_full, is_event_line, with_epochs}
+use proofs.Words.{lines_of_epochs}
 use proofs.Words.{line_of, whole_of}
 use Rattle.crx_filter.specs.Damage.{may_replace, IsOwnDamaged, IsOwnSalvaged, IsOfCompaction}
-use Rattle.crx_filter.specs.OwnStretches.{OwnStretch, may_come_instead, HasOwnStretches, IsReadWhole, read_of_file, own_text}
+use Rattle.crx_filter.specs.OwnStretches.{OwnStretch, may_come_instead, HasOwnStretches, IsReadWhole}
+use Rattle.crx_filter.specs.OwnStretches.{read_of_file, own_text}
 use Rattle.crx_filter.specs.meaning.{Damage.{is_inside, epochs_among, IsDamaged}}
 use Rattle.crx_filter.specs.meaning.{Stretches.AreLinesOn, UnitsAndText.as_items}
 use Rattle.std.proofs.lemmas.List.{take-append-drop}
 use Rattle.crx_lines.proofs.PieceLemmas.{pieces-first}
-use proofs.anywriter.OwnText.{units-append, units-printed, units-in_place, state_after, state_on, own-on, printed-append}
+use proofs.anywriter.OwnText.{units-append, units-printed, units-in_place, state_after, state_on, own-on}
+use proofs.anywriter.OwnText.{printed-append}
+use proofs.damage.SavedText.{among-append}
 use proofs.damage.{DamagedText.{front-cut, instead-read, text-append}, DamageStays.all-saved, ItemTexts.{rest-in_place, text-parts}}
 use proofs.damage.{TextAfter.lines_on}
 use proofs.reading.Each.{header-append, contents}
@@ -71,10 +79,6 @@ epochs-anew choices before first others full = on (items_of others)
     on [] = full
     on (item ∷ []) = full
     on (item ∷ next ∷ later) = on (next ∷ later)
-
-among-append : (later before : List (FileUnit Epoch)) → epochs_among (later ++ before) ≡ epochs_among before ++ epochs_among later
-among-append [] before = sym (append-nil (epochs_among before))
-among-append (unit ∷ later) before = grind (arith, common_steps, among-append later before, append_assoc)
 
 epochs-among : (epochs : List Epoch) → epochs_among (units_in (items_of epochs)) ≡ epochs
 epochs-among [] = refl

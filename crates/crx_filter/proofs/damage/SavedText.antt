@@ -2,10 +2,13 @@
 use Rattle.crx_filter.proofs.Words
 use Words.{◌≡◌, List, [], ◌∷◌, ◌++◌, refl, ap}
 use Words.{sym, ◌∙◌, arith, append_assoc, append-nil, At, Epoch}
-use Words.{FileUnit, HeaderLine, EventLine, EventRecord, Observation, ReadEpoch, Item, Accepted, Warned}
+use Words.{FileUnit, ReadEpoch, Item, Accepted, Warned}
 use Words.{records_left}
 use Words.{warnings_in, expanded_lines}
 use Rattle.crx_filter.proofs.damage.GoingOn.{with_warnings}
+use Rattle.crx_filter.proofs.wayback.{Carried.units_in, Units.units-again}
+use Rattle.crx_filter.proofs.anywriter.OwnText.{units-append}
+use Words.{common_steps}
 use Rattle.crx_filter.specs.meaning.{Damage.epochs_among, UnitsAndText.as_items, WrittenStandard.rinex_items}
 
 -- ---- what is written
@@ -46,44 +49,24 @@ left-append (item ∷ later) one two e = grind (arith, left-append later one two
 
 -- the epochs among some items, the oldest first
 abbrev pub epochs_of : List (Item ReadEpoch) → List Epoch
-epochs_of [] = []
-epochs_of (Accepted (Observation read) ∷ before) = epochs_of before ++ read.epoch ∷ []
-epochs_of (Warned at ∷ before) = epochs_of before
-epochs_of (Accepted unit ∷ before) = epochs_of before
+epochs_of items = epochs_among (units_in (rinex_items items))
+
+rinex-append : (later before : List (Item ReadEpoch)) → rinex_items (later ++ before) ≡ rinex_items later ++ rinex_items before
+rinex-append [] before = refl
+rinex-append (Accepted unit ∷ later) before = cc (rinex-append later before)
+rinex-append (Warned at ∷ later) before = cc (rinex-append later before)
+
+pub among-append : (later before : List (FileUnit Epoch)) → epochs_among (later ++ before) ≡ epochs_among before ++ epochs_among later
+among-append [] before = sym (append-nil (epochs_among before))
+among-append (unit ∷ later) before = grind (arith, common_steps, among-append later before, append_assoc)
 
 pub epochs-append : (later before : List (Item ReadEpoch)) → epochs_of (later ++ before) ≡ epochs_of before ++ epochs_of later
-epochs-append [] before = sym (append-nil (epochs_of before))
-epochs-append (Accepted (Observation read) ∷ later) before = ap (λ es. es ++ read.epoch ∷ []) (epochs-append later before)
-    ∙ append_assoc (epochs_of before) (epochs_of later) (read.epoch ∷ [])
-epochs-append (Accepted (HeaderLine line) ∷ later) before = epochs-append later before
-epochs-append (Accepted (EventLine line) ∷ later) before = epochs-append later before
-epochs-append (Accepted (EventRecord line) ∷ later) before = epochs-append later before
-epochs-append (Warned at ∷ later) before = epochs-append later before
-
--- those of the units that items show
-items_epochs : List (Item Epoch) → List Epoch
-items_epochs [] = []
-items_epochs (Accepted (Observation epoch) ∷ before) = items_epochs before ++ epoch ∷ []
-items_epochs (Accepted unit ∷ before) = items_epochs before
-items_epochs (Warned at ∷ before) = items_epochs before
-
-shown-epochs : (items : List (Item ReadEpoch)) → epochs_of items ≡ items_epochs (rinex_items items)
-unfolding items_epochs
-shown-epochs [] = refl
-shown-epochs (Accepted (Observation read) ∷ before) = ap (λ es. es ++ read.epoch ∷ []) (shown-epochs before)
-shown-epochs (Accepted (HeaderLine line) ∷ before) = shown-epochs before
-shown-epochs (Accepted (EventLine line) ∷ before) = shown-epochs before
-shown-epochs (Accepted (EventRecord line) ∷ before) = shown-epochs before
-shown-epochs (Warned at ∷ before) = shown-epochs before
-
-units-epochs : (units : List (FileUnit Epoch)) → items_epochs (as_items units) ≡ epochs_among units
-unfolding items_epochs
-units-epochs [] = refl
-units-epochs (Observation epoch ∷ before) = ap (λ es. es ++ epoch ∷ []) (units-epochs before)
-units-epochs (HeaderLine line ∷ before) = units-epochs before
-units-epochs (EventLine line ∷ before) = units-epochs before
-units-epochs (EventRecord line ∷ before) = units-epochs before
+epochs-append later before = cc (
+  rinex-append later before,
+  units-append (rinex_items later) (rinex_items before),
+  among-append (units_in (rinex_items later)) (units_in (rinex_items before)),
+)
 
 pub epochs-known : (items : List (Item ReadEpoch)) (units : List (FileUnit Epoch)) → rinex_items items ≡ as_items units
     → epochs_of items ≡ epochs_among units
-epochs-known items units known = shown-epochs items ∙ ap items_epochs known ∙ units-epochs units
+epochs-known items units known = ap (λ is. epochs_among (units_in is)) known ∙ ap epochs_among (units-again units)

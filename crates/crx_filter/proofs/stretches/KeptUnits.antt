@@ -1,57 +1,52 @@
 -- Units that are kept after a damaged stretch, whoever wrote them: they are read as themselves, whatever was
 -- read of the stretch.
 use Rattle.crx_filter.proofs
-use proofs.Words.{ℕ, ◌≡◌, ◌+◌, ◌≤◌, At, Bool, true, false, List, [], ◌∷◌, ◌++◌, map, length, Option, Some, None, refl, ap, sym, ◌∙◌}
-use proofs.Words.{subst, arith, append-nil, inl, and_parts, if◌then◌else◌, ReadLine, Content, Epoch, FileUnit, HeaderLine}
+use proofs.Words.{ℕ, ◌≡◌, ◌+◌, ◌≤◌, At, true, List, [], ◌∷◌, ◌++◌, map, length, Option, None, refl, sym, ◌∙◌}
+use proofs.Words.{subst, arith, append-nil, inl, and_parts, ReadLine, Content, Epoch, FileUnit, HeaderLine}
 use proofs.Words.{EventLine, EventRecord, Observation, begins_epoch, ReadEpoch, Item, header_has_ended}
-use proofs.Words.{records_left, types_in_force, Reading, AtLines, reading_from, compact_place, continued_reading, raws_kept}
-use proofs.Words.{IsBetweenUnits, AreInPlace, IsInPlace}
+use proofs.Words.{records_left, types_in_force, Reading, AtLines, reading_from, compact_place, raws_kept}
+use proofs.Words.{IsBetweenUnits, AreInPlace, IsInPlace, by_bool}
 use proofs.anywriter.AnyText.{none-left, AreReadOn, read-on}
 use proofs.{reading.{ForwardCompact.compact-forward, Resuming.resumed}, wayback.Carried.{IsLike, started}}
-use proofs.stretches.OpenReading.{IsOpen, GoesOnAfter, open-continued, pending}
+use proofs.stretches.OpenReading.{IsOpen, open-continued, pending}
 use proofs.damage.GoingOn.{with_warnings, warned-between, warned-types}
 use Rattle.crx_compact.proofs.Words.{tail_left}
-use Rattle.crx_compact.specs.meaning.AnyWriter.{WrittenEpoch, nothing_written, AreEpochLines}
+use Rattle.crx_compact.specs.meaning.AnyWriter.{WrittenEpoch, AreEpochLines}
 use Rattle.crx_filter.specs.meaning.{CompactText.AreLinesOfUnit, Stretches.AreLinesOn, UnitsAndText.as_items}
 use Rattle.crx_filter.specs.meaning.WrittenStandard.{rinex_items}
 
 -- ---- their first line begins with >
 
-pub record BeginWithMark (lines : List (List ℕ)) : Type 0 where
-  pub line : List ℕ
-  pub others : List (List ℕ)
-  pub is : lines ≡ line ∷ others
-  pub begins : begins_epoch line ≡ true
+abbrev pub BeginWithMark : List (List ℕ) → Type 0
+BeginWithMark [] = ⊥
+BeginWithMark (line ∷ others) = begins_epoch line ≡ true
 
 epoch-begins : (now : WrittenEpoch) (lines : List (List ℕ)) → AreEpochLines None now lines → BeginWithMark lines
 epoch-begins now [] h = absurd h
 epoch-begins now (line ∷ []) h = absurd h
-epoch-begins now (line ∷ clock ∷ rows) h =
-    record { line = line; others = clock ∷ rows; is = refl; begins = full (begins_epoch line) h.1 }
-  where
-    full : (b : Bool) → (if b then Some nothing_written else None) ≡ Some h.0 → b ≡ true
-    full true e = refl
-    full false e = absurd (cc e)
+epoch-begins now (line ∷ clock ∷ rows) h = by_bool (begins_epoch line)
+    (λ on. on) (λ off. let never = rw off at h.1 in absurd (cc never))
+
+more-begin : (lines more : List (List ℕ)) → BeginWithMark lines → BeginWithMark (lines ++ more)
+more-begin [] more h = absurd h
+more-begin (line ∷ others) more h = h
 
 unit-begins : (block : List (FileUnit Epoch)) (unit : FileUnit Epoch) (lines : List (List ℕ)) (now : Option WrittenEpoch)
     → IsInPlace (as_items block) unit → header_has_ended (as_items block) ≡ true → records_left (as_items block) ≡ 0
     → AreLinesOfUnit (as_items block) None unit lines now → BeginWithMark lines
 unit-begins block (HeaderLine line) lines now h header left k = let never = sym h.0 ∙ header in absurd (cc never)
 unit-begins block (EventLine line) lines now h header left k =
-    record { line = line; others = []; is = k.0; begins = (and_parts (begins_epoch line) _ h.2).0 }
+    rw k.0 ((and_parts (begins_epoch line) _ h.2).0)
 unit-begins block (EventRecord line) lines now h header left k = absurd (omega (arith, h.1, left))
 unit-begins block (Observation epoch) lines now h header left k = epoch-begins k.0 lines k.3
 
 pub units-begin : (block units : List (FileUnit Epoch)) (unit : FileUnit Epoch) (lines : List (List ℕ)) (now : Option WrittenEpoch)
     → AreInPlace (as_items (unit ∷ (units ++ block))) → header_has_ended (as_items block) ≡ true
     → records_left (as_items block) ≡ 0 → AreLinesOn block None (unit ∷ units) lines now → BeginWithMark lines
-units-begin block [] unit lines now h header left k =
-    let b = unit-begins block unit k.2 now h.0 header left
-    (subst (λ n. AreLinesOfUnit (as_items block) n unit k.2 now) (k.3).1 k.5) in
-    record { line = b.line; others = b.others; is = k.4 ∙ ap (λ ls. ls ++ k.2) (k.3).0 ∙ b.is; begins = b.begins }
+units-begin block [] unit lines now h header left k = rw (k.4, (k.3).0) (unit-begins block unit k.2 now h.0 header left
+    (subst (λ n. AreLinesOfUnit (as_items block) n unit k.2 now) (k.3).1 k.5))
 units-begin block (next ∷ units) unit lines now h header left k =
-    let b = units-begin block units next k.1 k.0 h.1 header left k.3 in
-    record { line = b.line; others = b.others ++ k.2; is = k.4 ∙ ap (λ ls. ls ++ k.2) b.is; begins = b.begins }
+    rw k.4 (more-begin k.1 k.2 (units-begin block units next k.1 k.0 h.1 header left k.3))
 
 -- ---- the reading
 
@@ -95,30 +90,33 @@ units-kept block [] lines last items so_far h placed k stops =
       stops = stops;
     })
 units-kept block (unit ∷ kept) lines last items so_far h placed k stops =
-    let b = units-begin block kept unit lines last placed h.header h.left k in
-    let r : Reading ReadEpoch = reading_from compact_place true [] 3 so_far in
-    let g : GoesOnAfter items (Content b.line ∷ map Content b.others) r (continued_reading compact_place true r
-    (Content b.line ∷ map Content b.others)) =
-    open-continued items r b.line (map Content b.others) h.between stops b.begins in
-    let at = g.goes in
-    let x : List (Item ReadEpoch) = with_warnings at.warnings items in
-    let o : AreReadOn true x at.number block (unit ∷ kept) lines last = read-on true x at.number block (unit ∷ kept) lines None
-    last (like-block block x (record {
-      header = h.header;
-      left = h.left;
-      between = warned-between at.warnings items h.between;
-      types = warned-types at.warnings items ∙ h.types;
-    })) (none-left (tail_left (raws_kept x))) placed k in
-    let reads : reading_from compact_place true [] 3 (so_far ++ map Content lines)
-    ≡ record { items = o.more ++ x; stop = AtLines (at.number + length lines) [] } =
-    resumed compact_place compact-forward true [] 3 so_far (map Content lines)
-    ∙ ap (λ ls. continued_reading compact_place true r (map Content ls)) b.is ∙ at.same
-    ∙ ap (λ ls. reading_from compact_place true x at.number (map Content ls)) (sym b.is) ∙ o.reads in
-    record {
-      warnings = at.warnings;
-      few = rw reads (omega (arith, g.few));
-      more = o.more;
-      known = o.known;
-      like = o.like;
-      stops = inl (at.number + length lines, [], refl, compact-forward.wants (o.more ++ x), reads);
-    }
+    by_first lines k (units-begin block kept unit lines last placed h.header h.left k)
+  where
+    r : Reading ReadEpoch
+    r = reading_from compact_place true [] 3 so_far
+
+    by_first : (ls : List (List ℕ)) → AreLinesOn block None (unit ∷ kept) ls last → BeginWithMark ls
+        → AreKeptRead block (unit ∷ kept) items r (reading_from compact_place true [] 3 (so_far ++ map Content ls))
+    by_first [] k begins = absurd begins
+    by_first (line ∷ others) k begins =
+        let g = open-continued items r line (map Content others) h.between stops begins in
+        let at = g.goes in
+        let x : List (Item ReadEpoch) = with_warnings at.warnings items in
+        let o : AreReadOn true x at.number block (unit ∷ kept) (line ∷ others) last = read-on true x at.number block
+        (unit ∷ kept) (line ∷ others) None last (like-block block x (record {
+          header = h.header;
+          left = h.left;
+          between = warned-between at.warnings items h.between;
+          types = warned-types at.warnings items ∙ h.types;
+        })) (none-left (tail_left (raws_kept x))) placed k in
+        let reads : reading_from compact_place true [] 3 (so_far ++ map Content (line ∷ others))
+        ≡ record { items = o.more ++ x; stop = AtLines (at.number + length (line ∷ others)) [] } =
+        resumed compact_place compact-forward true [] 3 so_far (map Content (line ∷ others)) ∙ at.same ∙ o.reads in
+        record {
+          warnings = at.warnings;
+          few = rw reads (omega (arith, g.few));
+          more = o.more;
+          known = o.known;
+          like = o.like;
+          stops = inl (at.number + length (line ∷ others), [], refl, compact-forward.wants (o.more ++ x), reads);
+        }

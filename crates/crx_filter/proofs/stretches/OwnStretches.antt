@@ -1,17 +1,23 @@
 -- The compact text of a file that is compacted here, damaged in stretches or cut off, is such a text as any
 -- writer's.
 use Rattle.crx_filter.proofs
-use proofs.Words.{common_steps, ℕ, ◌≡◌, ◌⊎◌, inl, inr, true, false, List, [], ◌∷◌, ◌++◌, map, Option, None, refl, ap, sym, ◌∙◌}
-use proofs.Words.{subst, arith, AllByRecursion, flat_map, printed_epoch, list_all, and_parts, by_bool, InputLine, lines_of, lines_text}
-use proofs.Words.{Content, as_read, version_line, program_line, Epoch, FileUnit, IsWholeEpoch, EventLine, Observation}
-use proofs.Words.{Choices, is_date, Item, Accepted, Warned, is_at_start, header_has_ended, records_left, types_in_force}
-use proofs.Words.{compact_lines, printed_items, expanded, Begins, AreInPlace, BeginsAnew, with_stretches, Stretch, IsStretch, AreStretches}
+use proofs.Words.{ℕ, ◌≡◌, inr, true, false, List, [], ◌∷◌, ◌++◌, map, Option, None, refl, ap, sym, ◌∙◌}
+use proofs.Words.{subst, arith, AllByRecursion, flat_map, printed_epoch, list_all, and_parts, by_bool}
+use proofs.Words.{InputLine, lines_of, lines_text}
+use proofs.Words.{Content, as_read, version_line, program_line, Epoch, FileUnit, IsWholeEpoch, EventLine}
+use proofs.Words.{Observation}
+use proofs.Words.{Choices, is_date, Item, Accepted, Warned, is_at_start, header_has_ended, records_left}
+use proofs.Words.{types_in_force}
+use proofs.Words.{compact_lines, printed_items, expanded, Begins, AreInPlace, BeginsAnew, with_stretches}
+use proofs.Words.{Stretch, IsStretch, AreStretches}
 use Rattle.crx_filter.specs.meaning.{CompactText.{AreUnitsInPlace, AreWholeFile}, Stretches.{AreLinesOn, BeginsWithUnits}}
 use Rattle.crx_filter.specs.meaning.{Stretches.{HasStretches, Saves, begins_no_event}, UnitsAndText.as_items}
-use Rattle.crx_filter.specs.OwnStretches.{read_of_file, IsReadWhole, OwnStretch, up_to_own_end, up_to_own_next, with_own, own_text}
-use Rattle.crx_filter.specs.OwnStretches.{may_come_instead, AreOwnStretches, HasOwnStretches, SavesOwn, KeepsOwnRest, BeginsWithOwn}
+use Rattle.crx_filter.specs.OwnStretches.{read_of_file, IsReadWhole, OwnStretch, up_to_own_end}
+use Rattle.crx_filter.specs.OwnStretches.{up_to_own_next, with_own, own_text}
+use Rattle.crx_filter.specs.OwnStretches.{may_come_instead, AreOwnStretches, HasOwnStretches, SavesOwn}
+use Rattle.crx_filter.specs.OwnStretches.{KeepsOwnRest, BeginsWithOwn}
 use proofs.anywriter.{AnyText.first-units, OwnText.{units-append, units-printed, state_after, state_on, own-on, own-lines, whole-items}}
-use proofs.damage.{DamagedText.front-cut, ItemTexts.rest-in_place, TextAfter.lines_on}
+use proofs.damage.{DamagedText.front-cut, ItemTexts.rest-in_place, TextAfter.{begins-rest, lines_on}}
 use proofs.stretches.StretchesCut.{AreGood, good-before, good-up_to, as_stretch, as_stretches, stretches-cut}
 use proofs.stretches.StretchesSaved.{rest-kept}
 use proofs.wayback.{Carried.{started, units-like}, First.{version-clean, program-clean, program-read}}
@@ -91,17 +97,19 @@ whole-first file choices expanding text dated h = by_units h.before
 -- ---- its stretches
 
 -- where what is kept begins anew, it comes after whole units
-anew-between : (choices : Choices) (kept block : List (Item Epoch)) → AreInPlace (kept ++ block)
-    → BeginsAnew choices block kept → (kept ≡ []) ⊎ (records_left block ≡ 0)
-anew-between choices [] block h anew = inl refl
-anew-between choices (Warned at ∷ []) block h anew = absurd anew
-anew-between choices (Accepted (EventLine line) ∷ []) block h anew = inr (h.0).1
-anew-between choices (Accepted (Observation epoch) ∷ []) block h anew = inr (h.0).1
-anew-between choices (newest ∷ item ∷ items) block h anew =
-    let before = anew-between choices (item ∷ items) block
-    (rest-in_place (newest ∷ []) ((item ∷ items) ++ block) h) (grind (arith, common_steps)) in
-    inr (grind (arith, common_steps, before))
-anew-between choices (Accepted unit ∷ []) block h anew = absurd anew
+anew-left : (choices : Choices) (item : Item Epoch) (items block : List (Item Epoch))
+    → AreInPlace ((item ∷ items) ++ block) → BeginsAnew choices block (item ∷ items) → records_left block ≡ 0
+anew-left choices (Accepted (EventLine line)) [] block h anew = (h.0).1
+anew-left choices (Accepted (Observation epoch)) [] block h anew = (h.0).1
+anew-left choices (Accepted unit) [] block h anew = absurd anew
+anew-left choices (Warned at) [] block h anew = absurd anew
+anew-left choices newest (item ∷ items) block h anew = anew-left choices item items block
+    (rest-in_place (newest ∷ []) ((item ∷ items) ++ block) h) (begins-rest choices block newest (item ∷ items) anew)
+
+left-before : (choices : Choices) (kept block : List (Item Epoch)) → AreInPlace (kept ++ block)
+    → BeginsAnew choices block kept → records_left (kept ++ block) ≡ 0 → records_left block ≡ 0
+left-before choices [] block h anew closed = closed
+left-before choices (item ∷ items) block h anew closed = anew-left choices item items block h anew
 
 lines-allowed : (lines : List InputLine) → list_all may_come_instead lines ≡ true
     → list_all begins_no_event (map as_read lines) ≡ true
@@ -137,7 +145,7 @@ one-stretch choices before s later h placed closed =
     let up_to : AreInPlace block = rest-in_place s.kept block placed in
     let first : AreInPlace before = rest-in_place s.lost before up_to in
     let same : units_in block ≡ units_in s.lost ++ units_in before = units-append s.lost before in
-    let ends : records_left block ≡ 0 = whole block s.kept (anew-between choices s.kept block placed (h.0).anew)
+    let ends : records_left block ≡ 0 = left-before choices s.kept block placed (h.0).anew
     (next-closed choices (up_to_own_next before s) later h.1 closed) in
     record {
       begins = units-left before first ∙ (h.0).between;
@@ -149,47 +157,32 @@ one-stretch choices before s later h placed closed =
       written = subst (λ us. AreLinesOn us None (units_in s.kept) (lines_on choices.every s.kept block)
           (state_on None choices.every block s.kept)) same (own-on None choices block s.kept placed (inr (h.0).anew));
     }
-  where
-    whole : (block kept : List (Item Epoch)) → (kept ≡ []) ⊎ (records_left block ≡ 0) → records_left (kept ++ block) ≡ 0
-        → records_left block ≡ 0
-    whole block kept (inl none) closed = rw none at closed
-    whole block kept (inr left) closed = left
 
 pub all-stretches : (choices : Choices) (before : List (Item Epoch)) (stretches : List OwnStretch)
-    → AreOwnStretches choices before stretches → AreInPlace (with_own before stretches)
+    → AreOwnStretches choices before stretches → AreGood (with_own before stretches)
     → records_left (with_own before stretches) ≡ 0
     → AreStretches (units_in before) (as_stretches choices.every before stretches)
-all-stretches choices before [] h placed closed = tt
-all-stretches choices before (s ∷ later) h placed closed = (
-  one-stretch choices before s later h (up_to (up_to_own_next before s) later placed) closed,
-  subst (λ us. AreStretches us (as_stretches choices.every (up_to_own_next before s) later)) (units-next before s)
-      (all-stretches choices (up_to_own_next before s) later h.1 placed closed),
-)
-  where
-    up_to : (next : List (Item Epoch)) (others : List OwnStretch) → AreInPlace (with_own next others) → AreInPlace next
-    up_to next [] h = h
-    up_to next (t ∷ others) h = rest-in_place t.lost next (rest-in_place t.kept (up_to_own_end next t)
-        (up_to (up_to_own_next next t) others h))
+all-stretches choices before [] h good closed = tt
+all-stretches choices before (s ∷ later) h good closed =
+    let next = up_to_own_next before s in (
+      one-stretch choices before s later h (good-up_to next later good).in_place closed,
+      rw (← units-next before s) (all-stretches choices next later h.1 good closed),
+    )
 
 -- ---- what is saved of it
 
 saves-own : (every : Option ℕ) (before : List (Item Epoch)) (stretches : List OwnStretch) (lines : List (List ℕ))
-    → AreInPlace (with_own before stretches) → Saves (units_in before) (as_stretches every before stretches) lines
+    → AreGood (with_own before stretches) → Saves (units_in before) (as_stretches every before stretches) lines
     → SavesOwn before stretches lines
-saves-own every before [] lines placed h = h
-saves-own every before (s ∷ later) lines placed h = (
+saves-own every before [] lines good h = h
+saves-own every before (s ∷ later) lines good h = (
   h.0,
   h.1,
-  subst (λ types. AllByRecursion (IsWholeEpoch types) h.0) (units-types before (first before (s ∷ later) placed)) h.2,
+  subst (λ types. AllByRecursion (IsWholeEpoch types) h.0)
+      (units-types before (good-up_to before (s ∷ later) good).in_place) h.2,
   h.3 ∙ ap (λ ls. flat_map printed_epoch h.0 ++ (ls ++ h.1)) (units-printed s.kept),
-  saves-own every (up_to_own_next before s) later h.1 placed
-      (subst (λ us. Saves us (as_stretches every (up_to_own_next before s) later) h.1) (sym (units-next before s)) h.4),
+  saves-own every (up_to_own_next before s) later h.1 good (rw (units-next before s) h.4),
 )
-  where
-    first : (next : List (Item Epoch)) (others : List OwnStretch) → AreInPlace (with_own next others) → AreInPlace next
-    first next [] h = h
-    first next (t ∷ others) h = rest-in_place t.lost next (rest-in_place t.kept (up_to_own_end next t)
-        (first (up_to_own_next next t) others h))
 
 module _ (file : List ℕ) (choices : Choices) (damaged : List ℕ) (dated : is_date choices.date ≡ true)
     (d : HasOwnStretches file choices damaged) where
@@ -213,7 +206,7 @@ module _ (file : List ℕ) (choices : Choices) (damaged : List ℕ) (dated : is_
     header = units-header d.before ∙ d.header;
     text = begins-own choices d.before (own_text choices d.before d.stretches) dated (good-up_to d.before d.stretches good)
         (started d.before d.header);
-    each = all-stretches choices d.before d.stretches d.each settled.in_place settled.none;
+    each = all-stretches choices d.before d.stretches d.each good settled.none;
     rest = stretches-cut choices d.before d.stretches d.each good d.header;
   }
 
@@ -226,7 +219,7 @@ own-rest file choices expanding damaged dated skips d =
     let same = ap (λ t. expanded t expanding) d.text in
     record {
       lines = k.lines;
-      saves = saves-own choices.every d.before d.stretches k.lines (settled file choices damaged dated d).in_place k.saves;
+      saves = saves-own choices.every d.before d.stretches k.lines (good file choices damaged dated d) k.saves;
       warnings = k.warnings;
       output = cc (same, k.output, units-printed d.before);
       messages = cc (same, k.messages);

@@ -4,23 +4,24 @@ use proofs.Words.{◌≡◌, true, List, [], ◌∷◌, ◌++◌, map, refl, sym
 use proofs.Words.{AllByRecursion, flat_map, flat_map-append, ReadLine, Content, Epoch, FileUnit, IsWholeEpoch}
 use proofs.Words.{printed_epoch, Observation, IsGood, ReadEpoch, Item, Accepted, Warned, header_has_ended}
 use proofs.Words.{records_left, types_in_force, reading_from, compact_place, printed_items, IsBetweenUnits}
-use proofs.Words.{expanded_lines, AreInPlace, Stretch, up_to_end, up_to_next, with_stretches, IsStretch, AreStretches}
+use proofs.Words.{expanded_lines, AreInPlace, Stretch, up_to_end, up_to_next, with_stretches, IsStretch}
+use proofs.Words.{AreStretches}
 use Rattle.crx_filter.specs.meaning.{Stretches.{Saves, stretches_lines}, UnitsAndText.as_items}
-use proofs.damage.{GoingOn.with_warnings, SavedText.{lines-append, lines-warned, epochs_of}}
+use proofs.Words.{map-append}
+use proofs.damage.{ItemTexts.rest-in_place, GoingOn.with_warnings, SavedText.{lines-append, lines-warned, epochs_of}}
 use proofs.{reading.Each.{all-append, header-append}, stretches.KeptUnits.{AreKeptRead, units-kept}}
-use proofs.stretches.OpenReading.{AreEpochs, IsOpen, IsStretchRead, stretch-more, epochs-between, epochs-types}
+use proofs.stretches.OpenReading.{AreEpochs, IsOpen, IsStretchRead, stretch-more, epochs-between}
+use proofs.stretches.OpenReading.{epochs-types}
 use proofs.wayback.{ExpandedStandard.printed-read, ExpandedWhole.AreGoodEpochs}
 
 -- ---- units after others
 
 pub header-on : (units block : List (FileUnit Epoch)) → header_has_ended (as_items block) ≡ true
     → header_has_ended (as_items (units ++ block)) ≡ true
-header-on [] block h = h
-header-on (unit ∷ units) block h = header-append (Accepted unit ∷ []) (as_items (units ++ block)) (header-on units block h)
+header-on units block h = rw (map-append Accepted units block) (header-append (as_items units) (as_items block) h)
 
 pub rest-placed : (units block : List (FileUnit Epoch)) → AreInPlace (as_items (units ++ block)) → AreInPlace (as_items block)
-rest-placed [] block h = h
-rest-placed (unit ∷ units) block h = rest-placed units block h.1
+rest-placed units block h = rest-in_place (as_items units) (as_items block) (rw (map-append Accepted units block) at h)
 
 -- ---- where a reading is
 

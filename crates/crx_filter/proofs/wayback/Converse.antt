@@ -1,31 +1,24 @@
 -- A file comes back only where it is standard: the lines that are written are plain, and printed as they are.
 use Rattle.crx_filter.proofs
-use proofs.Words.{ℕ, ℤ, zero, suc, ◌≡◌, ◌+◌, ◌-◌, ◌<◌, ◌≤◌, true, false, List, [], ◌∷◌, ◌++◌, map, length}
+use proofs.Words.{ℕ, ℤ, zero, suc, ◌≡◌, ◌+◌, ◌-◌, ◌<◌, ◌≤◌, true, List, [], ◌∷◌, ◌++◌, map, length}
 use proofs.Words.{take, drop, replicate, Option, Some, None, refl, ap, arith, All, AllByRecursion}
-use proofs.Words.{list_all, All-head, All-tail, and_parts, and_from, clock_text, IsSoundRow, IsWholeEpoch}
-use proofs.Words.{Count, OBSERVATION_WIDTH, CLOCK_WIDTH, InputLine, ends_with_return, lines_of, HasNoFeed}
+use proofs.Words.{list_all, All-head, All-tail, and_from, clock_text, IsSoundRow, IsWholeEpoch}
+use proofs.Words.{Count, OBSERVATION_WIDTH, CLOCK_WIDTH, InputLine, lines_of}
 use proofs.Words.{is_printable, is_kept, Row, Epoch, printed_row, printed_epoch, printed_cells, lines_text}
-use proofs.Words.{Observation, Item, Accepted, Warned}
-use proofs.Words.{printed_items, AreInPlace, OfCopiedLines, HaveNoReturns}
 use Rattle.crx_base.specs.declared.limits.TheConstants.{OBSERVATION_DECIMALS, CLOCK_DECIMALS}
 use Rattle.crx_compact.proofs.wayback.{Facts.{head-kept, sound-name_kept}, Standing.trimmed-printable}
 use Rattle.crx_text.proofs.{ReadBack.decimal_is_digits, Spellings.abs_within}
 use Rattle.crx_text.specs.meaning.Numbers.{IsMissingOrWithin, number_text, size_text, observation_text}
 use Rattle.{crx_text.specs.meaning.Numbers.IsValue, std.proofs.Common.{pos, negsuc, ◌^◌, decimal}}
 use Rattle.std.{proofs.Math.Nat.pow-le-pow_right, specs.{Char.is_ascii_digit, Str.all_ascii_digits}}
-use proofs.{reading.Each.{all-append, all-from, contents}, wayback.Cut.{CanStand, return-kept, first-cut}}
-use proofs.wayback.First.{all-drop, append-printable, take-printable, printable-no_feed, printable-no_return}
-
--- a line that is plain wherever it is written
-pub record IsPlainLine (line : List ℕ) : Type 0 where
-  pub one_line : HasNoFeed line
-  pub no_return : ends_with_return line ≡ false
+use proofs.{reading.Each.{contents}, wayback.Cut.{IsClean, return-kept, first-cut}}
+use proofs.wayback.First.{all-drop, all-weaker, append-printable, take-printable}
 
 abbrev pub plain : List ℕ → InputLine
 plain line = record { content = line; is_plain = true }
 
 pub lines-plain : (lines : List (List ℕ))
-    → AllByRecursion IsPlainLine lines → lines_of (lines_text lines) ≡ map plain lines
+    → AllByRecursion IsClean lines → lines_of (lines_text lines) ≡ map plain lines
 lines-plain [] h = refl
 lines-plain (line ∷ lines) h = grind (arith, lines-plain lines h.1, first-cut, return-kept)
 
@@ -36,12 +29,10 @@ replicate-text zero c h = refl
 replicate-text (suc n) c h = and_from _ _ h (replicate-text n c h)
 
 kept-text : (text : List ℕ) → list_all is_kept text ≡ true → list_all is_printable text ≡ true
-kept-text [] h = refl
-kept-text (c ∷ cs) h = grind (arith, kept-text cs (and_parts (is_kept c) _ h).1)
+kept-text = all-weaker is_kept is_printable (λ c h. grind (arith, h))
 
 digits-text : (text : List ℕ) → all_ascii_digits text ≡ true → list_all is_printable text ≡ true
-digits-text [] h = refl
-digits-text (c ∷ cs) h = grind (arith, digits-text cs (and_parts (is_ascii_digit c) _ h).1)
+digits-text = all-weaker is_ascii_digit is_printable (λ c h. grind (arith, h))
 
 -- a number's digits
 small-size : (width size : ℕ) → width ≤ 19 → size < 10 ^ (width - 1) → size < 2 ^ 64
@@ -96,19 +87,6 @@ epoch-printable types epoch h = (
       (number-printable CLOCK_WIDTH CLOCK_DECIMALS epoch.clock (omega arith) h.sound.head_sound.ranged)),
   rows-printable _ h.sound.rows_sound,
 )
-
--- ---- the lines of all units
-
-printable-plain : (line : List ℕ) → list_all is_printable line ≡ true → IsPlainLine line
-printable-plain line h = search (printable-no_feed, printable-no_return)
-
-pub printed-plain : (items : List (Item Epoch)) → AreInPlace items
-    → OfCopiedLines CanStand items → HaveNoReturns items → AllByRecursion IsPlainLine (printed_items items)
-printed-plain [] h k e = tt
-printed-plain (Accepted (Observation epoch) ∷ before) h k e =
-    search (all-append, all-from _ _ printable-plain, epoch-printable, printed-plain before h.1 k.1 e.1)
-printed-plain (Accepted unit ∷ before) h k e = search (printed-plain before h.1 k.1 e.1, all-append)
-printed-plain (Warned at ∷ before) h k e = printed-plain before h.1 k e
 
 pub all-plain : (lines : List (List ℕ)) → list_all (λ (line : InputLine). line.is_plain)
     (map plain lines) ≡ true

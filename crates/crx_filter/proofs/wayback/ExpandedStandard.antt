@@ -9,14 +9,14 @@ use proofs.Words.{compact_place, raws_kept, first_lines, whole_compact, expanded
 use proofs.Words.{Accepted, Warned, is_at_start, header_has_ended, records_left, records_count_types}
 use proofs.Words.{declaring_lines, types_in_force, WholeReading, reading_from, ended_reading, printed_items}
 use proofs.Words.{OfCopiedLine, OfCopiedLines, HaveNoReturns, written_lines, IsResult, Device, ItemsAreRead}
-use proofs.{Words.{IsInPlace, AreInPlace, compact_reading}, reading.Each.{all-append, all-parts, all-drop}}
+use proofs.{Words.{IsInPlace, AreInPlace, compact_reading}, reading.Each.{all-parts, all-drop}}
 use proofs.reading.{ForwardCompact.{compact-forward, compact_beginning}, KeptThroughout.within-kept}
 use proofs.reading.{Resuming.by_place, Stopping.reading-stopped, WhatStands.{OfHere, of-unit, of-compact}}
 use proofs.{reading.WhatWasRead.{items-read, allowed, of-ended}, wayback.Converse.epoch-printable}
-use proofs.wayback.{Converse.{lines-plain, printed-plain, all-plain}, Cut.{CanStand, OfContent, input-stands}}
-use proofs.wayback.{Cut.first-cut, ExpandedWhole.{AreGoodEpochs, epochs-good}, NormalForm.settled-standard}
+use proofs.wayback.{Converse.{lines-plain, all-plain}, Cut.{CanStand, OfContent, input-stands}}
+use proofs.wayback.{Cut.first-cut, ExpandedWhole.{AreGoodEpochs, epochs-good}, NormalForm.{printed-clean, settled-standard}}
 use proofs.{reading.Each.all-from, wayback.First.printable-no_feed}
-use proofs.wayback.{Standard.{NoReturn, not-ended}, WayBack.{IsSettled, closes}}
+use proofs.wayback.{Standard.{NoReturn, not-ended}, WayBack.{IsSettled, closes, written-all}}
 use Rattle.crx_filter.specs.meaning.{Expanded.rinex_unit, WrittenStandard.{has_plain_lines, rinex_items}}
 use Rattle.crx_filter.specs.meaning.WrittenStandard.{WhatIsExpandedIsStandard, WroteStandard}
 
@@ -160,11 +160,12 @@ printed-read (Warned at ∷ before) = printed-read before
 
 printed-no_feed : (items : List (Item Epoch))
     → AreInPlace items → OfCopiedLines CanStand items → AllByRecursion HasNoFeed (printed_items items)
-printed-no_feed [] h k = tt
-printed-no_feed (Accepted (Observation epoch) ∷ before) h k =
-    search (all-append, all-from _ _ printable-no_feed, epoch-printable, printed-no_feed before h.1 k.1)
-printed-no_feed (Accepted unit ∷ before) h k = search (printed-no_feed before h.1 k.1, all-append)
-printed-no_feed (Warned at ∷ before) h k = printed-no_feed before h.1 k
+printed-no_feed = written-all HasNoFeed CanStand (λ before. printed_unit) unit-no_feed
+  where
+    unit-no_feed : (before : List (Item Epoch)) (unit : FileUnit Epoch) → AreInPlace (Accepted unit ∷ before)
+        → OfCopiedLine CanStand unit → AllByRecursion HasNoFeed (printed_unit unit)
+    unit-no_feed before (Observation epoch) h k = search (all-from _ _ printable-no_feed, epoch-printable)
+    unit-no_feed before other h k = (k.0, tt)
 
 -- lines of which each is plain once they are written and cut again have no CR at their ends
 cut-plain : (lines : List (List ℕ)) → AllByRecursion HasNoFeed lines
@@ -186,7 +187,7 @@ copied-plain (Warned at ∷ before) h = copied-plain before h
 
 plain-copied : (items : List (Item Epoch)) → IsSettled items → HaveNoReturns items
     → has_plain_lines (lines_text (printed_items items)) ≡ true
-plain-copied items h none = search (lines-plain, printed-plain, all-plain)
+plain-copied items h none = search (lines-plain, printed-clean, all-plain)
 
 pub expanded-standard : (text : List ℕ) (choices : Choices) → WhatIsExpandedIsStandard text choices
 expanded-standard text choices good = grind (

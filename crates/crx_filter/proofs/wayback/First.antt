@@ -8,7 +8,7 @@ use Rattle.crx_filter.proofs.Words.{version_line, program_line, crinex_program}
 use Rattle.{crx_base.specs.declared.limits.TheConstants.DATE_LIMIT, crx_filter.proofs.wayback.Cut.IsClean}
 use Rattle.crx_header.specs.declared.crinex.TheConstants.{CRINEX_PROGRAM}
 use Rattle.{crx_header.specs.meaning.CompactHeader.left_justified, crx_lines.proofs.PieceLemmas.NoFeed}
-use Rattle.std.{proofs.lemmas.List.length-take-le, specs.Prelude.nat_le}
+use Rattle.std.{proofs.lemmas.List.{length-take-le, Folds.list_all-append}, specs.Prelude.nat_le}
 
 -- ---- the date's columns
 
@@ -36,8 +36,7 @@ printable-no_return (c ∷ d ∷ ds) h =
 
 pub append-printable : (a b : List ℕ)
     → list_all is_printable a ≡ true → list_all is_printable b ≡ true → list_all is_printable (a ++ b) ≡ true
-append-printable [] b h k = k
-append-printable (c ∷ cs) b h k = grind (arith, append-printable cs b (and_parts (is_printable c) _ h).1 k)
+append-printable a b h k = rw (list_all-append is_printable a b, h) k
 
 pub take-printable : (n : ℕ) (a : List ℕ) → list_all is_printable a ≡ true
     → list_all is_printable (take n a) ≡ true
@@ -50,6 +49,12 @@ pub all-drop : {X : Type 0} (p : X → Bool) (n : ℕ) (xs : List X) → list_al
 all-drop p zero xs h = h
 all-drop p (suc n) [] h = refl
 all-drop p (suc n) (x ∷ xs) h = all-drop p n xs (and_parts (p x) (list_all p xs) h).1
+
+pub all-weaker : {X : Type 0} (p q : X → Bool) → ((x : X) → p x ≡ true → q x ≡ true) → (xs : List X)
+    → list_all p xs ≡ true → list_all q xs ≡ true
+all-weaker p q f [] h = refl
+all-weaker p q f (x ∷ xs) h =
+    let both = and_parts (p x) (list_all p xs) h in rw (f x both.0) (all-weaker p q f xs both.1)
 
 pub program-printable : (date : List ℕ) → is_date date ≡ true
     → list_all is_printable (program_line date) ≡ true

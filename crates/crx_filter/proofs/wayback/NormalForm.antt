@@ -2,7 +2,7 @@
 use Rattle.crx_filter.proofs
 use proofs.Words.{ℕ, ◌≡◌, ◌+◌, ◌*◌, ◌≤◌, true, false, List, [], ◌∷◌, ◌++◌, map, length, Option, None, refl}
 use proofs.Words.{ap, ◌∙◌, arith, append-nil, All, AllByRecursion, is_some, length-map, All-head, All-tail}
-use proofs.Words.{and_parts, ReadLine, Content, clock_text, without_end_blanks, LINE_LIMIT, TYPES_LIMIT, Row}
+use proofs.Words.{and_parts, ReadLine, Content, clock_text, without_end_blanks, TYPES_LIMIT, Row}
 use proofs.Words.{Epoch, Count, is_event_line, records_in, IsSoundRow, IsWholeEpoch, epoch_place, Done}
 use proofs.Words.{printed_row, printed_epoch, printed_cells, lines_text, FileUnit, HeaderLine, EventLine}
 use proofs.Words.{EventRecord, Observation, printed_unit, Item, Accepted, Warned, types_in_force}
@@ -10,14 +10,15 @@ use proofs.Words.{WholeReading, warnings_in, rinex_place, whole_rinex, rinex_rea
 use proofs.Words.{normal_form, IsStandard, AreInPlace, OfCopiedLines, HaveNoReturns, HasNormalForm, sym}
 use Rattle.{crx_header.specs.meaning.EpochColumns.satellites_of, crx_rinex.proofs.ReadingBack.epoch-back}
 use Rattle.{crx_rinex.proofs.ReadingBack.{length-row, length-head}, crx_text.proofs.EndBlanks.few_kept}
-use proofs.{following.Following.body-place, reading.{Each.all-append, Forward.rinex-forward}}
+use proofs.{following.Following.body-place, reading.{Forward.rinex-forward}}
 use proofs.reading.{Forward.rinex_beginning, KeptThroughout.within-kept, WhatWasRead.of-ended}
 use proofs.wayback.Carried.{units_in, units-like, units-placed, header-here, record-here, AllRead, unit-more}
 use proofs.reading.{Ending.closes-well}
 use proofs.Words.{Bool, IsInPlace, records_left, ended_reading}
 use Rattle.crx_filter.specs.meaning.UnitsAndText.{as_items}
-use proofs.wayback.Converse.{IsPlainLine, lines-plain, printed-plain, all-plain, contents-plain}
-use proofs.wayback.{Cut.{IsClean, CanStand, lines-cut}, WayBack.{IsSettled, whole-settled}}
+use proofs.wayback.Converse.{lines-plain, epoch-printable, all-plain, contents-plain}
+use proofs.wayback.{Cut.{IsClean, CanStand, lines-cut}, WayBack.{IsSettled, whole-settled, written-all, copied-clean, epoch-clean}}
+use proofs.Words.{OfCopiedLine}
 
 -- ---- the printed lines of some units, read again
 
@@ -73,9 +74,6 @@ units-printed (Warned at ∷ before) = units-printed before
 
 -- ---- printed lines are read as they are written
 
-abbrev IsShort : List ℕ → Type 0
-IsShort line = length line ≤ LINE_LIMIT
-
 rows-within : (n : ℕ) → 16 * TYPES_LIMIT + 3 ≤ n → (rows : List Row) → All IsSoundRow rows
     → AllByRecursion (λ (line : List ℕ). length line ≤ n) (map printed_row rows)
 rows-within n most [] h = tt
@@ -102,27 +100,25 @@ epoch-within n most types epoch h =
       rows-within n most _ h.sound.rows_sound,
     )
 
-printed-short : (items : List (Item Epoch))
-    → AreInPlace items → OfCopiedLines CanStand items → AllByRecursion IsShort (printed_items items)
-printed-short [] h k = tt
-printed-short (Accepted (Observation epoch) ∷ before) h k = all-append _ _ _ (printed-short before h.1 k.1)
-    (epoch-within _ (omega arith) _ _ (h.0).2)
-printed-short (Accepted unit ∷ before) h k = all-append _ _ _ (printed-short before h.1 k.1) ((k.0).1, tt)
-printed-short (Warned at ∷ before) h k = printed-short before h.1 k
+printed-unit : (before : List (Item Epoch)) (unit : FileUnit Epoch) → AreInPlace (Accepted unit ∷ before)
+    → OfCopiedLine IsClean unit → AllByRecursion IsClean (printed_unit unit)
+printed-unit before (Observation epoch) h k =
+    let whole = (h.0).2 in
+    epoch-clean (printed_epoch epoch) (epoch-printable (types_in_force before) epoch whole)
+    (epoch-within (18 * TYPES_LIMIT) (omega arith) (types_in_force before) epoch whole)
+printed-unit before other h k = (k, tt)
 
-both-clean : (lines : List (List ℕ))
-    → AllByRecursion IsPlainLine lines → AllByRecursion IsShort lines → AllByRecursion IsClean lines
-both-clean [] h k = tt
-both-clean (line ∷ lines) h k = search (both-clean lines h.1 k.1)
+pub printed-clean : (items : List (Item Epoch)) → AreInPlace items
+    → OfCopiedLines CanStand items → HaveNoReturns items → AllByRecursion IsClean (printed_items items)
+printed-clean items h k e =
+    written-all IsClean IsClean (λ before. printed_unit) printed-unit items h (copied-clean items k e)
 
 -- what was accepted, printed and read again
 pub printed-again : (items : List (Item Epoch)) → IsSettled items → HaveNoReturns items → whole_of (lines_text
     (printed_items items)) ≡ record { items = as_items (units_in items); fault = None }
 printed-again items h none =
     let like = units-like items h.in_place in
-    let clean = both-clean (printed_items items) (printed-plain items h.in_place h.copied none)
-    (printed-short items h.in_place h.copied) in
-    ap (whole_rinex false) (lines-cut (printed_items items) clean
+    ap (whole_rinex false) (lines-cut (printed_items items) (printed-clean items h.in_place h.copied none)
     ∙ ap (map Content) (sym (units-printed items)))
     ∙ ap (ended_reading false) (printed-read false (units_in items) (units-placed items h.in_place))
     ∙ rw (closes-well (as_items (units_in items)) (sym like.header ∙ h.header) (sym like.left ∙ h.none)) refl
@@ -133,7 +129,7 @@ pub settled-standard : (items : List (Item Epoch))
     → IsSettled items → HaveNoReturns items → IsStandard (lines_text (printed_items items))
 settled-standard items settled none =
     let again = printed-again items settled none in
-    let cut = lines-plain (printed_items items) (printed-plain items settled.in_place settled.copied none) in
+    let cut = lines-plain (printed_items items) (printed-clean items settled.in_place settled.copied none) in
     record {
       good = cc (again);
       plain = cc (cut, all-plain (printed_items items));

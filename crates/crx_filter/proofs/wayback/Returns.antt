@@ -1,11 +1,13 @@
 -- The bytes 13 of a file on the way to compact text and back: they never become more, and fewer where a
 -- copied line ends in CR. So a file that comes back has no such line.
 use Rattle.crx_filter.proofs.Words
-use Words.{ℕ, zero, suc, ◌≡◌, ◌+◌, ◌<◌, ◌≤◌, true, cond, List, [], ◌∷◌, ◌++◌, map, take, drop, refl, arith}
+use Words.{ℕ, ◌≡◌, ◌+◌, ◌<◌, ◌≤◌, true, cond, List, [], ◌∷◌, ◌++◌, map, take, drop, refl, arith}
 use Words.{◌==◌, AllByRecursion, list_all, ne_eqb, and_parts, Piece, pieces_of, ends_with_return}
 use Words.{without_return, line_of, lines_of, is_long, HasNoFeed, ReadLine, Content, Overlong, as_read}
 use Words.{is_printable, lines_text, by_bool}
 use Rattle.crx_filter.proofs.wayback.{Cut.first-cut, First.printable-other}
+use Words.{ap, sym, ◌∙◌}
+use Rattle.std.proofs.lemmas.List.{take-append-drop}
 
 -- what the elements of a list have together
 abbrev pub total : {X : Type 0} → (X → ℕ) → List X → ℕ
@@ -55,17 +57,17 @@ in-printable (line ∷ lines) h = omega (arith, printable-none line h.0, in-prin
 
 -- ---- of lines that are read
 
+abbrev returns_line : ReadLine → ℕ
+returns_line Overlong = 0
+returns_line (Content line) = returns line
+
 abbrev pub returns_read : List ReadLine → ℕ
-returns_read [] = 0
-returns_read (Overlong ∷ lines) = returns_read lines
-returns_read (Content line ∷ lines) = returns line + returns_read lines
+returns_read = total returns_line
 
 pub read-cut : (n : ℕ) (lines : List ReadLine)
     → returns_read lines ≡ returns_read (take n lines) + returns_read (drop n lines)
-read-cut zero lines = omega arith
-read-cut (suc n) [] = refl
-read-cut (suc n) (Overlong ∷ lines) = read-cut n lines
-read-cut (suc n) (Content line ∷ lines) = omega (arith, read-cut n lines)
+read-cut n lines = ap returns_read (sym (take-append-drop n lines))
+    ∙ total-append returns_line (take n lines) (drop n lines)
 
 -- the bytes of pieces
 abbrev returns_of : List Piece → ℕ

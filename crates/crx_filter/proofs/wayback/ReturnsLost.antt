@@ -1,21 +1,21 @@
 -- A file comes back byte for byte only where no copied line ends in CR: else it comes back with fewer bytes
 -- 13. So it is standard.
 use Rattle.crx_filter.proofs
-use proofs.Words.{ℕ, ◌≡◌, ◌+◌, ◌<◌, ◌≤◌, Bool, true, false, List, [], ◌∷◌, ◌++◌, map, drop, Option, refl}
+use proofs.Words.{ℕ, ◌≡◌, ◌+◌, ◌<◌, ◌≤◌, Bool, true, false, List, [], ◌∷◌, map, drop, Option, refl}
 use proofs.Words.{arith, ◌⊎◌, inl, AllByRecursion, list_all, HasNoFeed, ends_with_return, without_return}
-use proofs.Words.{lines_of, ReadLine, as_read, is_printable, Epoch, printed_epoch, lines_text, HeaderLine}
-use proofs.Words.{EventLine, EventRecord, Observation, ReadEpoch, compact_epoch, LinesCanStand, IsGood}
+use proofs.Words.{lines_of, ReadLine, as_read, is_printable, Epoch, printed_epoch, lines_text}
+use proofs.Words.{Observation, ReadEpoch, compact_epoch, LinesCanStand, IsGood}
 use proofs.Words.{Choices, is_date, Item, Accepted, Warned, types_in_force, WholeReading, reading_from}
 use proofs.Words.{FilterResult, marked_epochs, compact_lines, version_line, program_line, compact_place}
-use proofs.Words.{first_lines, whole_compact, expanded, expanded_lines, AreInPlace, OfCopiedLines}
-use proofs.Words.{HaveNoReturns}
-use proofs.reading.{Each.{all-append, all-from}, Resuming.by_place, WhatWasRead.{items-read, of-ended}}
-use proofs.{anywriter.ComesBack.standard-where_kept, wayback.{Converse.epoch-printable, Items.{marked_now, epoch-stands}}}
+use proofs.Words.{first_lines, whole_compact, expanded, expanded_lines, AreInPlace}
+use proofs.Words.{HaveNoReturns, OfCopiedLine, FileUnit}
+use proofs.reading.{Each.{all-from}, Resuming.by_place, WhatWasRead.{items-read, of-ended}}
+use proofs.{anywriter.ComesBack.standard-where_kept, wayback.{Converse.epoch-printable, Items.{marked_now, body_unit, epoch-stands}}}
 use proofs.wayback.{Standard.same-reading, Reading.lines_back, ExpandedWhole.{AreGoodEpochs, epochs-good}}
-use proofs.wayback.{WayBack.{IsSettled, whole-settled, lines-same}, Cut.{IsClean, CanStand}, Carried.started}
+use proofs.wayback.{WayBack.{IsSettled, whole-settled, lines-same, written-all}, Cut.{IsClean, CanStand}, Carried.started}
 use proofs.wayback.Returns.{returns, returns-kept, returns-fewer, returns_in, total-append, in-text}
 use proofs.wayback.Returns.{in-printable, returns_read, returns_left, left-kept, read-written}
-use proofs.wayback.{Returns.read-input, ReturnsRead.{returns_copied, rinex-within, compact-within}}
+use proofs.wayback.{Returns.read-input, ReturnsRead.{in_unit, copied_total, returns_copied, rinex-within, compact-within}}
 use proofs.wayback.First.{program-printable, program-clean, version-clean, printable-no_feed}
 use Rattle.crx_filter.specs.WayBack.{IsStandardWhereSame}
 
@@ -49,12 +49,7 @@ expanded-returns text choices = search (written-returns, whole-good, in-text, co
 
 -- what is left of copied lines once one CR is taken off the end of each
 abbrev left_copied : List (Item Epoch) → ℕ
-left_copied [] = 0
-left_copied (Accepted (HeaderLine line) ∷ before) = returns (without_return line) + left_copied before
-left_copied (Accepted (EventLine line) ∷ before) = returns (without_return line) + left_copied before
-left_copied (Accepted (EventRecord line) ∷ before) = returns (without_return line) + left_copied before
-left_copied (Accepted (Observation epoch) ∷ before) = left_copied before
-left_copied (Warned at ∷ before) = left_copied before
+left_copied items = copied_total (λ line. returns (without_return line)) items
 
 left-all : (items : List (Item Epoch)) → left_copied items ≤ returns_copied items
 left-all [] = omega arith
@@ -76,32 +71,32 @@ keeps-or_loses (Accepted unit ∷ before) = grind (arith, one-line, keeps-or_los
 keeps-or_loses (Warned at ∷ before) = keeps-or_loses before
 
 -- the lines of compact text after its first two
-record AreBack (lines : List (List ℕ)) (n : ℕ) : Type 0 where
-  no_feed : AllByRecursion HasNoFeed lines
-  left : returns_left lines ≤ n
+unit-no_feed : (every : Option ℕ) (before : List (Item Epoch)) (unit : FileUnit Epoch)
+    → AreInPlace (Accepted unit ∷ before) → OfCopiedLine CanStand unit
+    → AllByRecursion HasNoFeed (body_unit every before unit)
+unit-no_feed every before (Observation epoch) h k =
+    all-from _ _ printable-no_feed (compact_epoch (marked_now every before epoch ∷ marked_epochs every before))
+    (LinesCanStand.printable (epoch-stands every before epoch h))
+unit-no_feed every before other h k = (k.0, tt)
 
-copied-back : (lines : List (List ℕ)) (line : List ℕ) (n : ℕ)
-    → HasNoFeed line → AreBack lines n → AreBack (lines ++ line ∷ []) (returns (without_return line) + n)
-copied-back lines line n h b = grind (arith, all-append, total-append)
+unit-left : (every : Option ℕ) (before : List (Item Epoch)) (unit : FileUnit Epoch)
+    → AreInPlace (Accepted unit ∷ before)
+    → returns_left (body_unit every before unit) ≤ in_unit (λ line. returns (without_return line)) unit
+unit-left every before (Observation epoch) h =
+    let lines = compact_epoch (marked_now every before epoch ∷ marked_epochs every before) in
+    omega (arith, left-kept lines, in-printable lines (LinesCanStand.printable (epoch-stands every before epoch h)))
+unit-left every before other h = omega arith
 
-epoch-back : (lines more : List (List ℕ)) (n : ℕ) → AllByRecursion
-    (λ (line : List ℕ). list_all is_printable line ≡ true) more → AreBack lines n → AreBack (lines ++ more) n
-epoch-back lines more n h b =
-    grind (arith, all-append, all-from _ _ printable-no_feed more, total-append, left-kept, in-printable)
-
-lines-back : (every : Option ℕ) (items : List (Item Epoch))
-    → AreInPlace items → OfCopiedLines CanStand items → AreBack (lines_back every items) (left_copied items)
-lines-back every [] h k = record { no_feed = tt; left = omega arith }
-lines-back every (Accepted (HeaderLine line) ∷ before) h k =
-    copied-back _ line _ (k.0).0 (lines-back every before h.1 k.1)
-lines-back every (Accepted (EventLine line) ∷ before) h k =
-    copied-back _ line _ (k.0).0 (lines-back every before h.1 k.1)
-lines-back every (Accepted (EventRecord line) ∷ before) h k =
-    copied-back _ line _ (k.0).0 (lines-back every before h.1 k.1)
-lines-back every (Accepted (Observation epoch) ∷ before) h k = epoch-back (lines_back every before)
-    (compact_epoch (marked_now every before epoch ∷ marked_epochs every before)) _
-    (LinesCanStand.printable (epoch-stands every before epoch h)) (lines-back every before h.1 k.1)
-lines-back every (Warned at ∷ before) h k = lines-back every before h.1 k
+lines-left : (every : Option ℕ) (items : List (Item Epoch)) → AreInPlace items
+    → returns_left (lines_back every items) ≤ left_copied items
+lines-left every [] h = omega arith
+lines-left every (Accepted unit ∷ before) h = omega (
+  arith,
+  total-append (λ line. returns (without_return line)) (lines_back every before) (body_unit every before unit),
+  unit-left every before unit h,
+  lines-left every before h.1,
+)
+lines-left every (Warned at ∷ before) h = lines-left every before h.1
 
 first-none : (line : List ℕ) → list_all is_printable line ≡ true → returns_left (line ∷ []) ≡ 0
 first-none line h = omega (arith, left-kept (line ∷ []), in-printable (line ∷ []) (h, tt))
@@ -111,7 +106,6 @@ compacted-returns : (choices : Choices) (items : List (Item Epoch)) → is_date 
     items → returns_read (map as_read (lines_of (lines_text (compact_lines choices items)))) ≤ left_copied
     items
 compacted-returns choices items dated h =
-    let back = lines-back choices.every items h.in_place h.copied in
     let lines = version_line ∷ program_line choices.date ∷ lines_back choices.every items in
     rw (lines-same choices items h.in_place (started items h.header)) (omega (
       arith,
@@ -119,9 +113,12 @@ compacted-returns choices items dated h =
       first-none (program_line choices.date) (program-printable choices.date dated),
       read-written lines (
         IsClean.one_line version-clean,
-        (IsClean.one_line (program-clean choices.date dated), back.no_feed),
+        (
+          IsClean.one_line (program-clean choices.date dated),
+          written-all HasNoFeed CanStand (body_unit choices.every) (unit-no_feed choices.every) items h.in_place h.copied,
+        ),
       ),
-      back.left,
+      lines-left choices.every items h.in_place,
     ))
 
 -- ---- a file that comes back

@@ -10,21 +10,25 @@ use proofs.{reading.WhatWasRead.of-ended, wayback.Returns.{returns, returns_read
 
 -- ---- of items
 
-abbrev pub returns_of_unit : {E : Type 0} → FileUnit E → ℕ
-returns_of_unit (HeaderLine line) = returns line
-returns_of_unit (EventLine line) = returns line
-returns_of_unit (EventRecord line) = returns line
-returns_of_unit (Observation epoch) = 0
+-- what is counted in the lines that are copied
+abbrev pub in_unit : {E : Type 0} → (List ℕ → ℕ) → FileUnit E → ℕ
+in_unit count (HeaderLine line) = count line
+in_unit count (EventLine line) = count line
+in_unit count (EventRecord line) = count line
+in_unit count (Observation epoch) = 0
+
+abbrev pub copied_total : {E : Type 0} → (List ℕ → ℕ) → List (Item E) → ℕ
+copied_total count [] = 0
+copied_total count (Accepted unit ∷ before) = in_unit count unit + copied_total count before
+copied_total count (Warned at ∷ before) = copied_total count before
 
 abbrev pub returns_copied : {E : Type 0} → List (Item E) → ℕ
-returns_copied [] = 0
-returns_copied (Accepted unit ∷ before) = returns_of_unit unit + returns_copied before
-returns_copied (Warned at ∷ before) = returns_copied before
+returns_copied items = copied_total returns items
 
 -- ---- a unit has no more than its lines
 
 abbrev IsOfLines : {E : Type 0} → List ReadLine → Place (FileUnit E) → Type 0
-IsOfLines lines (Done unit count) = returns_of_unit unit ≤ returns_read (take count lines)
+IsOfLines lines (Done unit count) = in_unit returns unit ≤ returns_read (take count lines)
 IsOfLines lines p = ⊤
 
 first-within : (line : List ℕ) (rest lines : List ReadLine) → lines ≡ Content line ∷ rest

@@ -2,7 +2,7 @@
 use Rattle.crx_filter.proofs
 use proofs.Words.{common_steps, ℕ, ◌≡◌, ◌+◌, ◌*◌, ◌≤◌, Bool, true, false, cond, List, [], ◌∷◌, map, length}
 use proofs.Words.{Option, Some, None, refl, arith, nat_lt, not, AllByRecursion, list_all, ltb-false, lines_of}
-use proofs.Words.{ends_with_return, ReadLine, as_read, is_printable, Fault, TYPES_LIMIT, Epoch}
+use proofs.Words.{ReadLine, as_read, is_printable, Fault, TYPES_LIMIT, Epoch}
 use proofs.Words.{lines_text, FileUnit, HeaderLine, Observation, compact_epoch, ReadEpoch, Choices}
 use proofs.Words.{Item, Accepted, Warned, is_at_start, header_has_ended, records_left, types_in_force}
 use proofs.Words.{WholeReading, Stop, AtFault, AtLines, Looking, is_skipped, fault_at_end}
@@ -88,10 +88,23 @@ lines-same choices (Warned at ∷ before) h e = lines-same choices before h.1 (s
 
 -- ---- each of them is read as it was written
 
-clean : (line : List ℕ) → CanStand line → ends_with_return line ≡ false → IsClean line
-clean line h e = record { one_line = h.0; no_return = e; short = h.1 }
+-- what holds of each unit's lines, and of each line that is copied, holds of all
+pub written-all : (P Q : List ℕ → Type 0) (lines_of_unit : List (Item Epoch) → FileUnit Epoch → List (List ℕ))
+    → ((before : List (Item Epoch)) (unit : FileUnit Epoch) → AreInPlace (Accepted unit ∷ before)
+    → OfCopiedLine Q unit → AllByRecursion P (lines_of_unit before unit)) → (items : List (Item Epoch))
+    → AreInPlace items → OfCopiedLines Q items → AllByRecursion P (written_lines lines_of_unit items)
+written-all P Q lines each [] h k = tt
+written-all P Q lines each (Accepted unit ∷ before) h k = all-append P (written_lines lines before) (lines before unit)
+    (written-all P Q lines each before h.1 k.1) (each before unit h k.0)
+written-all P Q lines each (Warned at ∷ before) h k = written-all P Q lines each before h.1 k
 
-epoch-clean : (lines : List (List ℕ)) → AllByRecursion (λ (line : List ℕ). list_all is_printable line
+pub copied-clean : (items : List (Item Epoch)) → OfCopiedLines CanStand items → HaveNoReturns items
+    → OfCopiedLines IsClean items
+copied-clean [] k e = tt
+copied-clean (Accepted unit ∷ before) k e = grind (arith, common_steps, copied-clean before k.1 e.1)
+copied-clean (Warned at ∷ before) k e = copied-clean before k e
+
+pub epoch-clean : (lines : List (List ℕ)) → AllByRecursion (λ (line : List ℕ). list_all is_printable line
     ≡ true) lines
     → AllByRecursion (λ (line : List ℕ). length line ≤ 18 * TYPES_LIMIT) lines → AllByRecursion IsClean lines
 epoch-clean [] h k = tt
@@ -99,21 +112,19 @@ epoch-clean (line ∷ lines) h k =
     grind (arith, epoch-clean lines h.1 k.1, printable-no_feed, printable-no_return)
 
 unit-clean : (every : Option ℕ) (before : List (Item Epoch)) (unit : FileUnit Epoch)
-    → AreInPlace (Accepted unit ∷ before) → OfCopiedLine CanStand unit → OfCopiedLine (λ (line : List ℕ).
-    ends_with_return line ≡ false) unit → AllByRecursion IsClean (body_unit every before unit)
-unit-clean every before (Observation epoch) h k e =
+    → AreInPlace (Accepted unit ∷ before) → OfCopiedLine IsClean unit
+    → AllByRecursion IsClean (body_unit every before unit)
+unit-clean every before (Observation epoch) h k =
     let m = marked_now every before epoch in
     let older = marked_epochs every before in
     epoch-clean (compact_epoch (m ∷ older)) (epoch-stands every before epoch h).printable
     (lines-short (types_in_force before) m.in_full m.epoch older (whole-next every before epoch h))
-unit-clean every before other h k e = (clean _ k e, tt)
+unit-clean every before other h k = (k, tt)
 
 pub lines-clean : (every : Option ℕ) (items : List (Item Epoch)) → AreInPlace items
     → OfCopiedLines CanStand items → HaveNoReturns items → AllByRecursion IsClean (lines_back every items)
-lines-clean every [] h k e = tt
-lines-clean every (Accepted unit ∷ before) h k e = all-append IsClean (lines_back every before) (body_unit
-    every before unit) (lines-clean every before h.1 k.1 e.1) (unit-clean every before unit h k.0 e.0)
-lines-clean every (Warned at ∷ before) h k e = lines-clean every before h.1 k e
+lines-clean every items h k e =
+    written-all IsClean IsClean (body_unit every) (unit-clean every) items h (copied-clean items k e)
 
 -- ---- what is written in the end
 
