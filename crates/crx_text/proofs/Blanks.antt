@@ -1,8 +1,8 @@
 -- Blanks at the ends of texts, and the columns of a line that ends before them.
-use Rattle.std.proofs.Common.{◌≡◌, ℕ, ◌-◌, ◌≤◌, true, false, List, [], ◌∷◌, ◌++◌, length, take, drop}
-use Rattle.std.proofs.{Common.{replicate, refl, ap, arith, suc, zero, cond}, lemmas.Grind.common_steps}
+use Rattle.std.proofs.Common.{◌≡◌, ℕ, ◌-◌, ◌≤◌, List, [], ◌∷◌, ◌++◌, length, take, drop}
+use Rattle.std.proofs.{Common.{replicate, refl, ap, arith, suc, zero}, lemmas.Grind.common_steps}
 use Rattle.std.proofs.lemmas.List.{take-replicate}
-use Rattle.crx_text.specs.meaning.Columns.{is_blank, columns, before_end_blanks, without_end_blanks}
+use Rattle.crx_text.specs.meaning.Columns.{columns, before_end_blanks, without_end_blanks}
 use Rattle.crx_text.specs.meaning.Columns.{without_first_blanks, without_blanks}
 
 end_blanks_none : (n : ℕ) → without_end_blanks (replicate n 32) ≡ []
@@ -21,10 +21,7 @@ end_blanks-more (x ∷ xs) n = ap (before_end_blanks x) (end_blanks-more xs n)
 
 pub blanks-more : (xs : List ℕ) (n : ℕ) → without_blanks (xs ++ replicate n 32) ≡ without_blanks xs
 blanks-more [] n = ap without_end_blanks (first_blanks_none n)
-blanks-more (x ∷ xs) n =
-    elim (is_blank x) as (λ b. without_end_blanks (cond b (without_first_blanks (xs ++ replicate n 32))
-    (x ∷ (xs ++ replicate n 32))) ≡ without_end_blanks (cond b (without_first_blanks xs) (x ∷ xs)))
-    [ true ↦ blanks-more xs n | false ↦ end_blanks-more (x ∷ xs) n ]
+blanks-more (x ∷ xs) n = grind (arith, common_steps, end_blanks-more, blanks-more xs n)
 
 padded_more : (w n : ℕ) (s : List ℕ)
     → w ≤ n → take w (s ++ replicate n 32) ≡ take w s ++ replicate (w - length (take w s)) 32

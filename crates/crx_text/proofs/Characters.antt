@@ -26,9 +26,7 @@ at-append xs ys p h = grind (arith, common_steps)
 
 pub at-append_past : (xs ys : List ℕ) (n p : ℕ) → length xs ≡ n → at (xs ++ ys) (n + p) ≡ at ys p
 at-append_past [] ys n p e = ap (at ys) (omega (arith, e))
-at-append_past (x ∷ xs) ys n p e =
-    let next : n + p ≡ suc (length xs + p) = omega (arith, e) in
-    ap (at (x ∷ (xs ++ ys))) next ∙ at-append_past xs ys _ p refl
+at-append_past (x ∷ xs) ys n p e = grind (arith, common_steps, at, at-append_past xs ys _ p refl)
 
 -- a text that blanks follow, cut at a width
 take-padded : (n k : ℕ) (text want : List ℕ)

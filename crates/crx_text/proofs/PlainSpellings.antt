@@ -2,7 +2,7 @@
 use Rattle.std.proofs.Common.{rules, ◌≡◌, ◌≢◌, ℕ, ℤ, pos, ◌+◌, ◌-◌, ◌*◌, true, false, ◌||◌, eqb, Some}
 use Rattle.std.proofs.Common.{None, List, [], ◌∷◌, ◌++◌, map, take, length, get_or, subst, refl, sym, ap, ◌∙◌}
 use Rattle.std.proofs.{Common.{eqb-true, arith}, lemmas.Bool.{and_parts, or_cases}}
-use Rattle.std.{proofs.lemmas.{Bool.ne_eqb, Grind.common_steps}, specs.{Char.is_ascii_digit, List.list_all}}
+use Rattle.std.{proofs.lemmas.{Grind.common_steps}, specs.{Char.is_ascii_digit, List.list_all}}
 use Rattle.std.specs.{List.{list_any, range_with_len}, Option.option_map, Str.all_ascii_digits}
 use Rattle.std.specs.Str.Parse.{digits_value_after}
 use Rattle.crx_text.proofs.PowersOfTen.{digits_before, digits_value_after-append}

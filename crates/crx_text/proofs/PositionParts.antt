@@ -42,3 +42,6 @@ module _ (f : ℕ → ℕ → ℕ) (old other front rest more others : List ℕ)
       take (length other) (take k (front ++ more) ++ (rest ++ others)) ≡ by_position f old other
   other_is_longer ends within rest_is =
       grind (arith, common_steps, some_blanks, by_position-other, length-zip2, by_parts)
+
+-- what `write_by_position` wants, whichever text is longer
+pub ruleset each_end = (both_end, old_is_longer, other_is_longer)

@@ -2,6 +2,7 @@
 use Rattle.std.proofs.Common.{ℤ, pos, neg_ℤ, ◌≡◌, ℕ, ◌+◌, ◌-◌, ◌<◌, ◌≤◌, ◌^◌, Bool, true, false, ◌&&◌, ◌≢◌}
 use Rattle.std.proofs.Common.{if◌then◌else◌, Option, Some, None, List, length, drop, take, get_or}
 use Rattle.std.proofs.{Common.{arith, sym}, Math.Nat.pow-le-pow_right, lemmas.Grind.common_steps}
+use Rattle.std.proofs.lemmas.List.{take_rest}
 use Rattle.std.specs.{Option.option_map, Str.{all_ascii_digits, Parse.{digits_value, digits_value_after}}}
 use Rattle.crx_text.proofs.PowersOfTen.{ten_pow_pos, digits_value_after-append}
 use Rattle.crx_text.specs.meaning.{Columns.without_first_blanks, Numbers.{size_of, decimal_number}}
@@ -91,3 +92,8 @@ missing_or_number_blank = grind (arith, common_steps)
 pub missing_or_number_text : (decimals : ℕ) (text : List ℕ)
     → 0 < length text → missing_or_number decimals text ≡ option_map Some (decimal_number decimals text)
 missing_or_number_text = grind (arith, common_steps)
+
+-- the texts that a number may have, and those that a size may have
+pub ruleset number_parts = (number_of_other_width, number_of_width, missing_or_number_blank, missing_or_number_text)
+
+pub ruleset size_parts = (size_of_short, size_of_pointless, size_of_parts, neither, first_passed, take_rest)

@@ -93,3 +93,6 @@ printed_number_below = grind (arith, common_steps, nat_abs, printed_minus)
 pub printed_blank : (width decimals : ℕ) → replicate width 32 ≡ number_text width decimals None
 unfolding number_text
 printed_blank width decimals = refl
+
+-- what is printed of a number, or of none
+pub ruleset printed_texts = (abs_within, abs_within_below, size_text_fits, printed_number, printed_blank)

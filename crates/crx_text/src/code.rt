@@ -72,7 +72,7 @@ pub fn write_cell(buffer: &mut [u8], at: usize, code: Code) -> usize
 
 // Writes a code's text from an index on, and answers the index after it.
 #[inline(always)]
-#[tactic(auto, using(crate::proofs::CodeTexts::code_text_start))]
+#[tactic(auto, using(crate::proofs::CodeTexts::code_text_start, crate::proofs::CodeTexts::start_written))]
 fn write_code(buffer: &mut [u8], at: usize, code: Code) -> usize
     requires printable { IsPrintable code }
     requires room { at + length (code_text code) + 3 ≤ length buffer.old }
@@ -93,6 +93,7 @@ fn write_code(buffer: &mut [u8], at: usize, code: Code) -> usize
 /// Reads a code. A number is an optional minus and 1 to [`DIGITS_LIMIT`] digits, leading zeros and
 /// `-0` among them; an order is one digit of at most [`ORDER_LIMIT`] before `&`; the empty text is a
 /// missing value. `BadField` comes for every other text.
+#[tactic(auto, using(crate::proofs::CellNumbers::no_code_with_blank, crate::proofs::CellNumbers::one_cell))]
 pub fn code_read(text: &[u8]) -> Result<Code, BadField>
     ensures value { result_ok result ≡ code_of text.now }
     ensures printable { IfOk result IsPrintable }

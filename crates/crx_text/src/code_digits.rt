@@ -17,6 +17,7 @@ use std::simd::prelude::*;
 // The number that the digits up to a text's first blank write, and the index after that blank or of
 // the text's end; None where there is no digit, too many, or something else.
 #[inline(always)]
+#[tactic(auto, using(crate::proofs::CellNumbers::no_first_digit))]
 pub(crate) fn digits_before_blank(text: &[u8]) -> Option<(u64, usize)>
     ensures { ReadsDigits text.now result }
 {
@@ -236,6 +237,7 @@ fn write_short(buffer: &mut [u8], at: usize, size: u32) -> usize
 
 // The four digits of a number, zeros among them; the first one is the word's lowest byte.
 #[inline(always)]
+#[tactic(auto, using(crate::proofs::DigitPairs::PAIRS_at))]
 fn four_digits(size: u32) -> u32
     requires { size < 10000 }
     ensures { to_le_bytes w32 result ≡ (48 + size / 100 / 10)

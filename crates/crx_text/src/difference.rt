@@ -169,6 +169,7 @@ pub(crate) static BLANKS: [u8; LINE_LIMIT] = [b' '; LINE_LIMIT];
 
 // Writes what the rule makes of two texts, blanks being after the shorter one, and answers how
 // many characters that makes.
+#[tactic(auto, using(crate::proofs::PositionParts::each_end))]
 fn write_by_position<R: Rule>(old: &[u8], other: &[u8], out: &mut [u8]) -> usize
     requires fits { (length old.now ≤ length out.old) × (length other.now ≤ length out.old) }
     requires within { length out.old ≤ LINE_LIMIT }

@@ -10,6 +10,7 @@ pub(crate) const WIDEST: usize = 19;
 
 // Goes on from the number that the digits so far write; None where a byte is no digit. It asks for a number
 // and digits that make fewer than `WIDEST` columns.
+#[tactic(auto, using(crate::proofs::PowersOfTen::next_digit))]
 pub(crate) fn digits_read(before: u64, digits: &[u8]) -> Option<u64>
     requires { (before + 1) * 10 ^ length digits.now ≤ 10 ^ (WIDEST - 1) }
     ensures value { result ≡ (if all_ascii_digits digits.now

@@ -109,6 +109,7 @@ pub fn obs_print_cell(
 
 // Prints an observation into the first columns of a cell, by one store of the whole cell.
 #[inline(always)]
+#[tactic(auto, using(crate::proofs::Spellings::printed_texts))]
 fn obs_print_row(value: Option<i64>, cell: &mut [u8])
     requires width { length cell.old ≡ CELL_WIDTH }
     requires in_range { ForSome value IsObservation }
@@ -156,6 +157,7 @@ pub fn clock_read(field: &[u8]) -> Result<Option<i64>, BadField>
 
 /// Prints a receiver clock offset, in units of 10^-12 seconds, right justified into 15 columns;
 /// `None` is printed as blanks.
+#[tactic(auto, using(crate::proofs::Spellings::printed_texts))]
 pub fn clock_print(value: Option<i64>, field: &mut [u8; CLOCK_WIDTH])
     requires { ForSome value IsClock }
     ensures written { field.new ≡ clock_text value }
@@ -180,7 +182,7 @@ const SHORT_CLOCK: u64 = 10_000_000_000_000;
 
 // Reads a number of so many columns, column by column.
 #[inline(never)]
-#[tactic(auto, using(crate::proofs::Sizes::number_of_other_width))]
+#[tactic(auto, using(crate::proofs::Sizes::number_parts))]
 fn number_read(field: &[u8], width: usize, decimals: usize) -> Result<Option<i64>, BadField>
     requires { width ≤ WIDEST }
     ensures value { result_ok result ≡ number_of width decimals field.now }
@@ -201,7 +203,7 @@ fn number_read(field: &[u8], width: usize, decimals: usize) -> Result<Option<i64
 }
 
 // A number without a sign, as all of its digits write it; None where the text spells none.
-#[tactic(auto, using(crate::proofs::Sizes::size_of_short, crate::proofs::Sizes::size_of_pointless))]
+#[tactic(auto, using(crate::proofs::Sizes::size_parts))]
 fn size_read(text: &[u8], decimals: usize) -> Option<u64>
     requires { length text.now ≤ WIDEST }
     ensures value { result ≡ size_of decimals text.now }
@@ -220,6 +222,7 @@ fn size_read(text: &[u8], decimals: usize) -> Option<u64>
 
 // Prints a number right justified, digit by digit.
 #[inline(never)]
+#[tactic(auto, using(crate::proofs::Spellings::printed_texts))]
 fn number_print(value: Option<i64>, decimals: usize, field: &mut [u8])
     requires shape { (0 < decimals) × (decimals + 3 ≤ length field.old) × (length field.old ≤ WIDEST) }
     requires in_range { ForSome value (IsWithin (length field.old)) }

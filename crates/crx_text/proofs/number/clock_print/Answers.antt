@@ -1,7 +1,6 @@
-use Rattle.std.proofs.{Common.{drop, take, w64, arith, rules, ap, ◌∙◌}, lemmas.Grind.common_steps}
+use Rattle.std.proofs.{Common.{drop, take, w64, arith, rules, ap, ◌∙◌}}
 use Rattle.std.proofs.lemmas.Int.{to_z-of_z}
 use Rattle.crx_text.proofs.{ClockTexts.text_long, Spellings.{printed_number, printed_number_below}}
-use Rattle.crx_text.proofs.Spellings.{printed_blank}
 use Rattle.crx_text.proofs.number.clock_print.Goals as goal
 
 pub returns-then-number-lt0 : goal.returns-then-number-lt0
@@ -25,6 +24,3 @@ returns-else-number-lt0 c =
           c.if-number-lt0.false size.ensures.value long (ap (drop 1) c.size_print.ensures)
           (ap (take 1) c.size_print.ensures));
     }
-
-pub returns-in_default : goal.returns-in_default
-returns-in_default c = grind (arith, common_steps, printed_blank)

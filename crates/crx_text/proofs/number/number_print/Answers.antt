@@ -1,12 +1,9 @@
 use Rattle.std.proofs.Common.{◌≡◌, ◌-◌, ◌<◌, ◌^◌, length, ℕ, take, replicate, w64, arith, rules, ap}
 use Rattle.std.proofs.{Common.◌∙◌, lemmas.{Grind.common_steps, Int.to_z-of_z}}
 use lib.IntN.{nat_abs}
-use Rattle.crx_text.proofs.Spellings.{size_text_fits, abs_within, abs_within_below, printed_number}
-use Rattle.crx_text.proofs.Spellings.{printed_number_below, printed_blank}
+use Rattle.crx_text.proofs.Spellings.{size_text_fits, abs_within_below}
+use Rattle.crx_text.proofs.Spellings.{printed_number_below}
 use Rattle.crx_text.proofs.number.number_print.Goals as goal
-
-pub size_print-start-requires-clause-room : goal.size_print-start-requires-clause-room
-size_print-start-requires-clause-room c = grind (arith, common_steps, w64, abs_within, size_text_fits)
 
 pub overflow_sub-field : goal.overflow_sub-field
 overflow_sub-field c =
@@ -30,9 +27,3 @@ returns-then-number-lt0 c =
     printed.new.field (to_z-of_z w64 number (search rules)) c.if-number-lt0.true c.unsigned_abs.ensures.value
     (overflow_sub-field c) (printed.ensures.start ∙ c.fill.ensures.len) printed.ensures.written
     (printed.ensures.before ∙ ap (take _) blank))
-
-pub returns-else-number-lt0 : goal.returns-else-number-lt0
-returns-else-number-lt0 c = grind (arith, common_steps, printed_number, w64)
-
-pub returns-in_default : goal.returns-in_default
-returns-in_default c = grind (arith, common_steps, replicate, printed_blank)

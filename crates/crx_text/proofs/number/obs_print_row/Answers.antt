@@ -3,7 +3,7 @@ use Rattle.std.proofs.Common.{◌≡◌, ◌≤◌, ℕ, suc, List, ◌∷◌, l
 use Rattle.std.proofs.{Common.{rules, sym, ap, ◌∙◌}, lemmas.{Int.to_z-of_z, List.take-replicate}}
 use Rattle.std.proofs.lemmas.List.{length-take-le, take-append-le, take_all}
 use lib.IntN.{nat_abs}
-use Rattle.crx_text.proofs.Spellings.{printed_number, printed_number_below, printed_blank, abs_within}
+use Rattle.crx_text.proofs.Spellings.{printed_number, printed_number_below, abs_within}
 use Rattle.crx_text.specs.meaning.Numbers.{number_text}
 use Rattle.crx_text.proofs.number.obs_print_row.Goals as goal
 
@@ -46,6 +46,3 @@ returns-else-number-lt0 c =
     rw c.in-Some.is (printed_number 14 3 start _ _ c.in-Some.number _
     held c.if-number-lt0.false c.unsigned_abs-size.ensures.value
     printed.ensures.start printed.ensures.written (printed.ensures.before ∙ sym blanks))
-
-pub returns-in_default : goal.returns-in_default
-returns-in_default c = rw c.in_default.is (ap (take 14) c.copy_from_slice.ensures.after ∙ printed_blank 14 3)

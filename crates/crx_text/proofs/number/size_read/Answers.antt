@@ -1,6 +1,6 @@
 use Rattle.std.proofs.{Common.{◌+◌, ◌-◌, ◌≤◌, length, take, drop, ℕ, arith}, lemmas.Grind.common_steps}
-use Rattle.std.{proofs.lemmas.List.{length-take, length-drop, take_rest}}
-use Rattle.crx_text.proofs.{PowersOfTen.more_digits_fit, Sizes.{size_of_parts, neither, first_passed}}
+use Rattle.std.{proofs.lemmas.List.{length-take, length-drop}}
+use Rattle.crx_text.proofs.{PowersOfTen.more_digits_fit}
 use Rattle.crx_text.proofs.number.size_read.Goals as goal
 
 pub digits_read-requires : goal.digits_read-requires
@@ -10,18 +10,12 @@ digits_read-requires c =
     omega (arith, c.requires, length-take (length c.args.text.now - c.args.decimals - 1) c.args.text.now) in
     more_digits_fit 0 0 (length whole) 18 (omega arith) (omega (arith, few))
 
-pub returns-in_err-whole-clause-value : goal.returns-in_err-whole-clause-value
-returns-in_err-whole-clause-value c = grind (arith, common_steps, size_of_parts, neither)
-
 pub digits_read-requires-2 : goal.digits_read-requires-2
 digits_read-requires-2 c =
     let text = c.args.text.now in
     let point : ℕ = length text - c.args.decimals - 1 in
     let fraction = take (length text - (point + 1)) (drop (point + 1) text) in
     more_digits_fit _ _ _ 18 c.in_ok-whole.ensures.fits (omega (arith, c.requires, length-take point text))
-
-pub returns-clause-value : goal.returns-clause-value
-returns-clause-value = grind (arith, common_steps, size_of_parts, take_rest, first_passed)
 
 pub returns-clause-fits : goal.returns-clause-fits
 returns-clause-fits c = grind (arith, common_steps, more_digits_fit, length-take, length-drop)
