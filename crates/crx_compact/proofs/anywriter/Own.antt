@@ -1,10 +1,11 @@
 -- Our own writer's epochs are ones that any writer may write.
-use Rattle.crx_compact.proofs.Words.{◌≡◌, refl, ℕ, ℤ, zero, suc, List, [], ◌∷◌, ◌++◌, Bool, true, false, Option, Some, None, map, length, arith, ap, sym, ◌∙◌, ◌*◌, ◌≤◌, drop, subst, inr}
-use Rattle.crx_compact.proofs.Words.{list_all, AllByRecursion, option_map, rules, flat_map, if◌then◌else◌, slice_index_or, get_or_past}
-use Rattle.crx_compact.proofs.Words.{Count, Row, Epoch, Marked, AreWhole, IsWholeEpoch, epoch_text, newest_text, since_full, run_of, arc_of, clock_arc, row_named, back_to, stretch, named, value_in, codes_of, indicators_before, satellite_line, epoch_line, compact_epoch}
+use Rattle.std.proofs.lemmas.List.Folds.{flat_map-map}
+use Rattle.crx_compact.proofs.Words.{◌≡◌, refl, ℕ, ℤ, zero, suc, List, [], ◌∷◌, Bool, true, false, Option, Some, None, map, length, arith, ap, sym, ◌∙◌, ◌*◌, ◌≤◌, drop, subst}
+use Rattle.crx_compact.proofs.Words.{list_all, AllByRecursion, option_map, rules, if◌then◌else◌, slice_index_or, get_or_past}
+use Rattle.crx_compact.proofs.Words.{Count, Row, Epoch, Marked, AreWhole, IsWholeEpoch, epoch_text, newest_text, since_full, run_of, arc_of, clock_arc, row_named, back_to, stretch, named, codes_of, indicators_before, satellite_line, epoch_line, compact_epoch}
 use Rattle.crx_compact.proofs.Words.{at-without_end_blanks, without_end_blanks, patched, text_difference}
 use Rattle.crx_compact.proofs.Words.{is_blank, begins_epoch}
-use Rattle.crx_compact.proofs.Words.{Code, code_at, code_of, code_text, cell_text, code_of-code_text, IsPrintable, WRITTEN_ORDER, each_place, map-each_place, index-each_place, each_place-same, length-each_place}
+use Rattle.crx_compact.proofs.Words.{code_at, code_text, code_of-code_text, WRITTEN_ORDER, each_place, map-each_place, index-each_place, each_place-same, length-each_place}
 use Rattle.crx_compact.proofs.Characters.{same_characters, at-by_position}
 use Rattle.crx_compact.proofs.Identifiers.{each-own}
 use Rattle.crx_compact.proofs.anywriter.Texts.{code-characters}
@@ -16,7 +17,7 @@ use Rattle.crx_compact.proofs.SoundTexts.{difference-length, trimmed-again}
 use Rattle.std.proofs.Common.{drop_of_length-le}
 use Rattle.crx_compact.proofs.wayback.Facts.{unmarked, text-kept, text-begins}
 use Rattle.crx_compact.specs.AnyWriter.{value_now}
-use Rattle.crx_compact.specs.meaning.AnyWriter.{Arc, WrittenRow, WrittenEpoch, code_now, arc_before, MayFollow, row_now, epoch_now, nothing_written, arc_in, flags_in, IsRowLine, AreRowLines, AreLinesAfter, AreEpochLines}
+use Rattle.crx_compact.specs.meaning.AnyWriter.{Arc, WrittenRow, WrittenEpoch, code_now, MayFollow, row_now, epoch_now, nothing_written, arc_in, flags_in, IsRowLine, AreRowLines, AreLinesAfter, AreEpochLines}
 
 -- ---- arcs
 
@@ -25,20 +26,13 @@ arc_written [] = None
 arc_written (x ∷ xs) = Some (record { order = WRITTEN_ORDER; newest = x; older = xs })
 
 code-written : (xs : List ℤ) → code_now (arc_written xs) ≡ code_at WRITTEN_ORDER xs
-code-written [] = refl
-code-written (x ∷ xs) = refl
-
-before-written : (x : ℤ) (xs : List ℤ) → arc_before (record { order = WRITTEN_ORDER; newest = x; older = xs }) ≡ arc_written xs
-before-written x [] = refl
-before-written x (y ∷ ys) = refl
+code-written xs = grind arith
 
 follow : (o : Option ℤ) (os : List (Option ℤ)) → MayFollow (arc_written (stretch os)) (arc_written (stretch (o ∷ os)))
-follow None os = tt
-follow (Some x) os = inr (before-written x (stretch os))
+follow o os = grind arith
 
 value-written : (o : Option ℤ) (os : List (Option ℤ)) → value_now (arc_written (stretch (o ∷ os))) ≡ o
-value-written None os = refl
-value-written (Some x) os = refl
+value-written o os = grind arith
 
 -- ---- epochs
 
@@ -61,19 +55,13 @@ module _ (full : Bool) (e : Epoch) (older : List Marked) where
   rows-same : (rows : List Row) → AllByRecursion (λ (r : Row). row_named r.name e.rows ≡ Some r) rows
       → map row_now (map (λ (r : Row). row_written (run_of r.name (marked full e ∷ older)) r) rows) ≡ rows
   rows-same [] h = refl
-  rows-same (r ∷ rs) h =
-      let first : row_now (row_written (run_of r.name (marked full e ∷ older)) r) ≡ r =
-      ap (λ run. row_now (row_written run r)) (run-begins full e older r h.0) ∙ row-same r (rows_before full r.name older) in
-      cc (first, rows-same rs h.1)
+  rows-same (r ∷ rs) h = search (rules, run-begins, row-same, rows-same rs h.1)
 
 pub epoch-same : (types : List Count) (full : Bool) (e : Epoch) (older : List Marked) → IsWholeEpoch types e
     → epoch_now (epoch_written (marked full e) older) ≡ e
 epoch-same types full e older h =
     let rows = rows-same full e older e.rows (each-own (λ (r : Row). r.name) e.rows h.sound.apart) in
-    let clock = value-written e.clock (map (λ (q : Epoch). q.clock) (map (λ (m : Marked). m.epoch)
-    (if full then [] else back_to (λ (m : Marked). m.in_full) older))) in
-    ap {B = Epoch} (λ c. record { head = e.head; clock = c; rows = map row_now (map (λ (r : Row). row_written (run_of r.name (marked full e ∷ older)) r) e.rows) }) clock
-    ∙ ap {B = Epoch} (λ rs. record { head = e.head; clock = e.clock; rows = rs }) rows
+    search (rules, value-written)
 
 -- ---- what the epoch before holds of a satellite
 
@@ -90,50 +78,24 @@ found-written : (name : List ℕ) (m : Marked) (older : List Marked) → found_i
 found-written name m older = named-made (λ (r : Row). r.name) (λ (t : WrittenRow). t.name)
     (λ n r. row_written (run_of n (m ∷ older)) r) (λ n r. refl) name m.epoch.rows
 
-arc-found : (rest : List (Option Row)) (found : Option Row) (j : ℕ)
-    → arc_in (option_map (row_written (stretch (found ∷ rest))) found) j ≡ arc_written (arc_of j (stretch (found ∷ rest)))
-arc-found rest None j = refl
-arc-found rest (Some r) j = search (rules, index-each_place, get_or_past)
-
 arc-left : (full : Bool) (name : List ℕ) (older : List Marked) (j : ℕ)
     → arc_in (found_in (base_of full older) name) j ≡ arc_written (arc_of j (rows_before full name older))
-arc-left true name older j = refl
-arc-left false name [] j = refl
-arc-left false name (m ∷ older) j = ap (λ f. arc_in f j) (found-written name m older) ∙ arc-found _ (row_named name m.epoch.rows) j
-
-flags-found : (rest : List (Option Row)) (found : Option Row) (r : Row)
-    → flags_in (option_map (row_written (stretch (found ∷ rest))) found) ≡ indicators_before (r ∷ stretch (found ∷ rest))
-flags-found rest None r = refl
-flags-found rest (Some q) r = refl
+arc-left false name (m ∷ older) j = grind (arith, found-written name m older, index-each_place, get_or_past)
+arc-left full name older j = refl
 
 flags-left : (full : Bool) (name : List ℕ) (older : List Marked) (r : Row)
     → flags_in (found_in (base_of full older) name) ≡ indicators_before (r ∷ rows_before full name older)
-flags-left true name older r = refl
-flags-left false name [] r = refl
-flags-left false name (m ∷ older) r = ap flags_in (found-written name m older) ∙ flags-found _ (row_named name m.epoch.rows) r
+flags-left false name (m ∷ older) r = grind (arith, found-written name m older)
+flags-left full name older r = refl
 
 -- ---- a satellite's line
-
-abbrev codes_at : List Row → ℕ → Code
-codes_at run j = code_at WRITTEN_ORDER (arc_of j run)
-
-spelled-each : (n : ℕ) (f : ℕ → Code) (a : ℕ → Option Arc) → ((j : ℕ) → IsPrintable (f j)) → ((j : ℕ) → code_now (a j) ≡ f j)
-    → map code_of (map code_text (each_place n f)) ≡ map (λ (arc : Option Arc). Some (code_now arc)) (each_place n a)
-spelled-each zero f a p h = refl
-spelled-each (suc n) f a p h =
-    cc (code_of-code_text (f 0) (p 0), h 0, spelled-each n (λ j. f (suc j)) (λ j. a (suc j)) (λ j. p (suc j)) (λ j. h (suc j)))
-
-texts-same : (codes : List Code) → flat_map (λ (t : List ℕ). t ++ 32 ∷ []) (map code_text codes) ≡ flat_map cell_text codes
-texts-same [] = refl
-texts-same (c ∷ cs) = cc (texts-same cs)
 
 patched-again : (old new : List ℕ) → IsUnmarked new → patched old (text_difference old new) ≡ without_end_blanks new
 patched-again old new h = search (rules, same_characters, at-by_position, at-without_end_blanks, character-mark)
 
 before-short : (types : List Count) (name : List ℕ) (r : Row) (rs : List Row) → AllByRecursion (IsRowOf types name) (r ∷ rs)
     → length (indicators_before (r ∷ rs)) ≤ 2 * length r.values
-before-short types name r [] h = omega arith
-before-short types name r (q ∷ qs) h = grind arith
+before-short types name r rs h = grind arith
 
 no-more : (n : ℕ) (old new : List ℕ) → length old ≤ n → length new ≤ n
     → list_all is_blank (drop n (text_difference old new)) ≡ true
@@ -156,13 +118,18 @@ row-line types found r rs h arcs flags =
     record {
       texts = map code_text (codes_of n (r ∷ rs));
       marks = marks;
-      spelled = search (rules, spelled-each, run-printable, code-written);
-      written = grind (arith, trimmed-again, texts-same);
+      spelled = search (
+        rules,
+        map-each_place,
+        each_place-same,
+        code_of-code_text,
+        run-printable,
+        code-written,
+      );
+      written = grind (arith, trimmed-again, flat_map-map);
       marked = grind (arith, patched-again, unmarked);
       no_more = grind (arith, many, no-more, before-short);
-      follows = λ j. follows-at (arc_in found j) n (λ i. arc_written (arc_of i (r ∷ rs))) j
-          (subst (λ b. MayFollow b (arc_written (arc_of j (r ∷ rs)))) (sym (arcs j))
-          (follow (value_in j r) (map (value_in j) rs)));
+      follows = λ j. rw (arcs j) (search (rules, follows-at, follow));
     }
 
 module _ (types : List Count) (full : Bool) (e : Epoch) (older : List Marked)
@@ -186,15 +153,12 @@ module _ (types : List Count) (full : Bool) (e : Epoch) (older : List Marked)
 old-same : (types : List Count) (full : Bool) (e : Epoch) (older : List Marked)
     → AreWhole types (since_full (marked full e ∷ older))
     → epoch_text (epoch_now (base_of full older)) ≡ (if full then [] else newest_text older)
-old-same types true e older h = refl
-old-same types false e [] h = refl
 old-same types false e (m ∷ older) h = ap epoch_text (epoch-same types m.in_full m.epoch older h.1.0)
+old-same types full e older h = refl
 
 clock-left : (full : Bool) (older : List Marked) → (base_of full older).clock ≡ arc_written (stretch
     (map (λ (q : Epoch). q.clock) (map (λ (m : Marked). m.epoch) (if full then [] else back_to (λ (m : Marked). m.in_full) older))))
-clock-left true older = refl
-clock-left false [] = refl
-clock-left false (m ∷ older) = refl
+clock-left full older = grind arith
 
 lines-after : (types : List Count) (full : Bool) (e : Epoch) (older : List Marked)
     → AreWhole types (since_full (marked full e ∷ older))
