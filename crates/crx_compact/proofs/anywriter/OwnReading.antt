@@ -1,15 +1,14 @@
 -- What was written here is read back, since any writer may write it.
 use Rattle.crx_compact.proofs.Words.{◌≡◌, refl, ℤ, List, [], ◌∷◌, ◌++◌, ◌+◌, Bool, true, false, Option, Some, None, map, length, drop, arith, ap, sym, ◌∙◌}
-use Rattle.crx_compact.proofs.Words.{append_assoc, length-append, length-map, map-append, drop-append_seam, same_Some, subst, IsWholeEpoch}
-use Rattle.crx_compact.proofs.Words.{Count, Row, Epoch, Marked, AreWhole, since_full, run_of, arc_of, satellite_line, epoch_line, compact_epoch}
+use Rattle.crx_compact.proofs.Words.{append_assoc, length-append, length-map, map-append, drop-append_seam, subst, IsWholeEpoch}
+use Rattle.crx_compact.proofs.Words.{Count, Row, Epoch, Marked, AreWhole, since_full, run_of, satellite_line, epoch_line, compact_epoch}
 use Rattle.crx_compact.proofs.Words.{map-each_place, each_place-same, WRITTEN_ORDER, epoch_text, without_end_blanks}
-use Rattle.crx_compact.proofs.Words.{Content, Done, Place, ReadEpoch, Tail, tail_left, common_steps}
+use Rattle.crx_compact.proofs.Words.{Content, ReadEpoch, Tail, tail_left, common_steps, rules}
 use Rattle.crx_compact.proofs.wayback.Runs.{marked}
 use Rattle.crx_compact.proofs.reading.LineByLine.{steps-agree}
-use Rattle.crx_compact.proofs.anywriter.{OnlyEpochs.done-things, Epochs.{any-epoch, held-reads, tail-for}, Own.{arc_written, row_written, epoch_written, epoch-same, full-lines, later-lines}}
+use Rattle.crx_compact.proofs.anywriter.{Epochs.{any-epoch, held-reads, tail-for}, Own.{arc_written, row_written, epoch_written, epoch-same, full-lines, later-lines}}
 use Rattle.crx_compact.specs.ArcTails.{arc_tail}
 use Rattle.crx_compact.specs.AnyWriter.{arc_left, row_left, epoch_left, IsLeft}
-use Rattle.crx_compact.specs.OpenEpochs.{HeldEpoch}
 use Rattle.crx_compact.specs.Tails.{row_tail, tail_of, tail_or_nothing}
 use Rattle.crx_compact.specs.ReadingLaws.{lines_of_epoch, EachReadsBack, text_lines, epochs_at}
 use Rattle.crx_compact.specs.ReadingLaws.{marked_of, counts_of, OneTail, ReadsBack, StepsReadBack}
@@ -18,18 +17,12 @@ use Rattle.crx_compact.specs.meaning.AnyWriter.{WrittenEpoch, AreEpochLines, epo
 -- ---- the tail that an epoch leaves
 
 arc-left : (xs : List ℤ) → arc_left (arc_written xs) ≡ arc_tail WRITTEN_ORDER xs
-arc-left [] = refl
-arc-left (x ∷ xs) = refl
+arc-left xs = grind arith
 
 rows-left : (ms : List Marked) (rows : List Row) → map row_left (map (λ (r : Row). row_written (run_of r.name ms) r) rows)
     ≡ map (λ (r : Row). row_tail (run_of r.name ms) r) rows
 rows-left ms [] = refl
-rows-left ms (r ∷ rs) =
-    let run = run_of r.name ms in
-    let cells = map-each_place arc_left (length r.values) (λ j. arc_written (arc_of j run))
-    ∙ each_place-same (length r.values) (λ j. arc_left (arc_written (arc_of j run))) (λ j. arc_tail WRITTEN_ORDER (arc_of j run))
-    (λ j. arc-left (arc_of j run)) in
-    cc (cells, rows-left ms rs)
+rows-left ms (r ∷ rs) = search (rules, map-each_place, each_place-same, arc-left, rows-left ms rs)
 
 pub own-left : (types : List Count) (full : Bool) (e : Epoch) (older : List Marked)
     → AreWhole types (since_full (marked full e ∷ older))
@@ -59,15 +52,11 @@ own-lines types false e [] tail h k =
     record { before = None; left = λ b e. absurd (cc e); lines = full-lines types e [] None h }
 own-lines types false e (m ∷ older) tail h k = record {
   before = Some (epoch_written m older);
-  left = λ b is. k refl ∙ ap {B = Option Tail} Some (sym (own-left types m.in_full m.epoch older h.1))
-      ∙ ap {B = Option Tail} (λ w. Some (epoch_left w)) (same_Some (epoch_written m older) b is);
+  left = λ b is. let own = own-left types m.in_full m.epoch older h.1 in let tail = k refl in cc;
   lines = later-lines types e m older h;
 }
 
 -- ---- an epoch
-
-counted : (ms : List Marked) (rows : List Row) → length (map (λ (r : Row). row_written (run_of r.name ms) r) rows) ≡ length rows
-counted ms rows = length-map rows (λ (r : Row). row_written (run_of r.name ms) r)
 
 pub each-reads_back : EachReadsBack
 each-reads_back types m older raws h k =
@@ -78,16 +67,15 @@ each-reads_back types m older raws h k =
     own.lines in
     record {
       raw = r.raw;
-      reads = grind (arith, common_steps, same, counted);
+      reads = grind (arith, common_steps, same, length-map);
       tail = r.leaves ∙ ap {B = Option Tail} Some (own-left types m.in_full m.epoch older h);
     }
 
 pub one-tail : OneTail
 one-tail types m older raws rest read count h k e =
     let r = each-reads_back types m older raws h k in
-    let same : record { raw = r.raw; epoch = m.epoch } ≡ read =
-    done-things (record { raw = r.raw; epoch = m.epoch }) read (2 + length m.epoch.rows) count (sym (r.reads rest) ∙ e) in
-    ap (λ (q : ReadEpoch). tail_left (q.raw ∷ raws)) (sym same) ∙ r.tail
+    let reads = r.reads rest in
+    cc (r.tail)
 
 -- line by line, after a tail
 pub steps-read_back : StepsReadBack
@@ -97,13 +85,12 @@ steps-read_back types m older tail h k =
     let same : epoch_now now ≡ m.epoch = epoch-same types m.in_full m.epoch older h.0 in
     let lines = own.lines in
     let found = tail-for own.before tail (epoch_line m older) lines.0 own.left lines.1 in
-    sym (steps-agree types tail (lines_of_epoch (m ∷ older)))
-    ∙ held-reads types lines.0 now _ _ _ (subst (IsWholeEpoch types) (sym same) h.0) lines.2 tail found
-    ∙ ap {B = Place HeldEpoch} (λ q. Done (record { epoch = q; tail = epoch_left now }) (2 + length now.rows)) same
-    ∙ ap {B = Place HeldEpoch} (λ t. Done (record { epoch = m.epoch; tail = t }) (2 + length now.rows))
-    (own-left types m.in_full m.epoch older h)
-    ∙ ap {B = Place HeldEpoch} (λ n. Done (record { epoch = m.epoch; tail = tail_of (m ∷ older) }) (2 + n))
-    (counted (m ∷ older) m.epoch.rows)
+    let agree = steps-agree types tail (lines_of_epoch (m ∷ older)) in
+    let held =
+    held-reads types lines.0 now _ _ _ (subst (IsWholeEpoch types) (sym same) h.0) lines.2 tail found in
+    let left = own-left types m.in_full m.epoch older h in
+    let many = length-map m.epoch.rows (λ (r : Row). row_written (run_of r.name (m ∷ older)) r) in
+    cc
 
 -- ---- the epochs of a list
 
