@@ -166,11 +166,10 @@ reading-fits skip number lines =
           let more = size-append (expanded_lines items) (expanded_unit items unit) in
           let before = h.1 in
           (read, omega (arith, some, more, before));
-      warned = λ items ls at on h. ((allowed skip items at.fault on, h.0), h.1);
-      passed = λ items ls n h.
+      passed = λ items ls at n on h.
           let less = drop-lighter n ls in
           let before = h.1 in
-          (h.0, omega (arith, less, before));
+          ((allowed skip items at.fault on, h.0), omega (arith, less, before));
     }) (length lines + 1) [] number lines (tt, omega arith) in
     let all = kept.1.1 in
     omega (arith, all)

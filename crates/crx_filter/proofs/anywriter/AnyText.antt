@@ -32,8 +32,9 @@ use Rattle.crx_filter.specs.meaning.Stretches.{AreLinesOn}
 use Rattle.crx_filter.specs.meaning.CompactText.{AreLinesOfUnit, AreLinesOf, IsCompactTextOf, AreUnitsInPlace}
 use Rattle.crx_filter.specs.meaning.CompactText.{AreWholeFile}
 use Rattle.crx_filter.specs.CompactText.{ExpandsAnyText, IsOfOneFile, WritesFirstUnits}
-use Rattle.crx_filter.proofs.reading.Prefixes.{AreMore, text-more, whole-items}
-use Rattle.crx_filter.proofs.Words.{Begins, FilterResult, whole_reading}
+use Rattle.crx_filter.proofs.reading.CompactPrefixes.{expanded-first, reading-at}
+use proofs.Words.{compact_reading, expanded_lines}
+use Rattle.crx_filter.proofs.Words.{Begins, FilterResult}
 use Rattle.crx_filter.proofs.wayback.ExpandedStandard.{printed-read}
 use Rattle.crx_filter.proofs.wayback.Units.{none-warned, units_in, units-again}
 use Rattle.crx_filter.specs.meaning.Reading.{WholeReading}
@@ -105,40 +106,11 @@ beginning items lines = compact_epoch_place (types_in_force items) (raws_kept it
 
 module _ (items : List (Item ReadEpoch)) (units : List (FileUnit Epoch)) (before : Option WrittenEpoch)
     (k : IsLike items units) (left : IsLeft before (tail_left (raws_kept items))) where
-  header-unit : (line : List ℕ) → IsInPlace (as_items units) (HeaderLine line) → UnitRead items (HeaderLine line) (line ∷ []) None
-  header-unit line h = record {
-    read = HeaderLine line;
-    place = header-here beginning items line (k.header ∙ h.0) (ap (λ b. header_line_fault b line) k.start ∙ h.1);
-    same = refl;
-    left = none-left None;
-  }
-
-  event-unit : (line : List ℕ) → IsInPlace (as_items units) (EventLine line) → UnitRead items (EventLine line) (line ∷ []) before
-  event-unit line h = record {
-    read = EventLine line;
-    place = body-place beginning items (Content line ∷ []) (k.header ∙ h.0) (k.left ∙ h.1)
-        ∙ event-begins (types_in_force items) (raws_kept items) line h.2 h.3;
-    same = refl;
-    left = left;
-  }
-
   record-left : (line : List ℕ) (b : Bool) → records_count_types items ≡ b
       → IsLeft (if empties_state b line then None else before)
       (tail_left (raws_kept (Accepted (EventRecord line) ∷ items)))
   record-left line b e = by_bool (empties_state b line)
       (λ on. rw (e, on) (none-left None)) (λ off. rw (e, off) left)
-
-  record-unit : (line : List ℕ) → IsInPlace (as_items units) (EventRecord line) → UnitRead items (EventRecord line) (line ∷ [])
-      (if empties_state (records_count_types (as_items units)) line then None else before)
-  record-unit line h =
-      let counts = k.counts (subst (λ n. 0 < n) (sym k.left) h.1) in
-      record {
-        read = EventRecord line;
-        place = record-here beginning items line (records_left (as_items units)) (k.header ∙ h.0) k.left h.1
-            (ap (λ b. cond b (types_fault line) None) counts ∙ h.2);
-        same = refl;
-        left = record-left line (records_count_types (as_items units)) counts;
-      }
 
   epoch-unit : (now : WrittenEpoch) (lines : List (List ℕ)) → IsInPlace (as_items units) (Observation (epoch_now now))
       → AreEpochLines before now lines → UnitRead items (Observation (epoch_now now)) lines (Some now)
@@ -164,12 +136,29 @@ unit-read : (items : List (Item ReadEpoch)) (units : List (FileUnit Epoch)) (bef
     (unit : FileUnit Epoch) (lines : List (List ℕ)) → IsLike items units
     → IsLeft before (tail_left (raws_kept items)) → IsInPlace (as_items units) unit
     → AreLinesOfUnit (as_items units) before unit lines now → UnitRead items unit lines now
-unit-read items units before now (HeaderLine line) lines known left h k =
-    rw (k.0, k.1) (header-unit items units before known left line h)
-unit-read items units before now (EventLine line) lines known left h k =
-    rw (k.0, k.1) (event-unit items units before known left line h)
+unit-read items units before now (HeaderLine line) lines known left h k = rw (k.0, k.1) (record {
+  read = HeaderLine line;
+  place = header-here beginning items line (known.header ∙ h.0)
+      (ap (λ b. header_line_fault b line) known.start ∙ h.1);
+  same = refl;
+  left = none-left None;
+})
+unit-read items units before now (EventLine line) lines known left h k = rw (k.0, k.1) (record {
+  read = EventLine line;
+  place = body-place beginning items (Content line ∷ []) (known.header ∙ h.0) (known.left ∙ h.1)
+      ∙ event-begins (types_in_force items) (raws_kept items) line h.2 h.3;
+  same = refl;
+  left = left;
+})
 unit-read items units before now (EventRecord line) lines known left h k =
-    rw (k.0, k.1) (record-unit items units before known left line h)
+    let counts = known.counts (subst (λ n. 0 < n) (sym known.left) h.1) in
+    rw (k.0, k.1) (record {
+      read = EventRecord line;
+      place = record-here beginning items line (records_left (as_items units)) (known.header ∙ h.0) known.left h.1
+          (ap (λ b. cond b (types_fault line) None) counts ∙ h.2);
+      same = refl;
+      left = record-left items units before known left line (records_count_types (as_items units)) counts;
+    })
 unit-read items units before now (Observation epoch) lines known left h k =
     subst (λ n. UnitRead items (Observation epoch) lines n) (sym k.2)
     (subst (λ e. UnitRead items (Observation e) lines (Some k.0)) k.1 (epoch-unit items units before known left k.0 lines
@@ -190,20 +179,6 @@ none-read : (skip : Bool) (items : List (Item ReadEpoch)) (number : ℕ) → rea
     ≡ record { items = items; stop = AtLines (number + 0) [] }
 none-read skip items number = grind arith
 
-read-more : (skip : Bool) (items : List (Item ReadEpoch)) (number : ℕ) (block units : List (FileUnit Epoch))
-    (unit : FileUnit Epoch) (first more : List (List ℕ)) (before now : Option WrittenEpoch)
-    → (r : AreReadOn skip items number block units first before) → IsInPlace (as_items (units ++ block)) unit
-    → UnitRead (r.more ++ items) unit more now → AreReadOn skip items number block (unit ∷ units) (first ++ more) now
-read-more skip items number block units unit first more before now r h u = record {
-  more = Accepted u.read ∷ r.more;
-  reads = unit-more compact_place compact-forward skip items (r.more ++ items) number first more u.read r.reads u.place;
-  known = cc (u.same, r.known);
-  like = subst (λ v. IsLike (Accepted u.read ∷ (r.more ++ items)) (v ∷ (units ++ block))) u.same
-      (like-unit (r.more ++ items) (units ++ block) u.read r.like
-      (subst (λ v. IsInPlace (as_items (units ++ block)) v) (sym u.same) h));
-  left = u.left;
-}
-
 pub read-on : (skip : Bool) (items : List (Item ReadEpoch)) (number : ℕ) (block units : List (FileUnit Epoch))
     (lines : List (List ℕ)) (start last : Option WrittenEpoch) → IsLike items block → IsLeft start (tail_left (raws_kept items))
     → AreInPlace (as_items (units ++ block)) → AreLinesOn block start units lines last
@@ -213,7 +188,15 @@ read-on skip items number block [] lines start last like left h k = rw (k.0, k.1
 read-on skip items number block (unit ∷ units) lines start last like left h k =
     let r = read-on skip items number block units k.1 start k.0 like left h.1 k.3 in
     let u = unit-read (r.more ++ items) (units ++ block) k.0 last unit k.2 r.like r.left h.0 k.5 in
-    rw k.4 (read-more skip items number block units unit k.1 k.2 k.0 last r h.0 u)
+    rw k.4 (record {
+      more = Accepted u.read ∷ r.more;
+      reads = unit-more compact_place compact-forward skip items (r.more ++ items) number k.1 k.2 u.read r.reads u.place;
+      known = cc (u.same, r.known);
+      like = subst (λ v. IsLike (Accepted u.read ∷ (r.more ++ items)) (v ∷ (units ++ block))) u.same
+          (like-unit (r.more ++ items) (units ++ block) u.read r.like
+          (subst (λ v. IsInPlace (as_items (units ++ block)) v) (sym u.same) h.0));
+      left = u.left;
+    })
 
 -- ---- all units
 
@@ -319,14 +302,11 @@ one-file text one two h k first second =
 pub first-units : WritesFirstUnits
 first-units units text choices placed h =
     let skip = choices.skip in
+    let lines = Content h.version ∷ Content h.program ∷ map Content h.lines in
     let r = all-read skip 3 units h.lines h.last (in-place units placed) h.written in
-    let all : whole_compact skip (map as_read (lines_of text))
-    ≡ whole_reading compact_place skip 3 (map Content h.lines ++ h.more) =
-    ap (whole_compact skip) h.cut ∙ whole-read skip h.version h.program (map Content h.lines ++ h.more) h.first h.second in
-    let more : AreMore r.items (WholeReading.items (whole_compact skip (map as_read (lines_of text)))) =
-    subst (λ w. AreMore r.items (WholeReading.items w)) (sym all)
-    (subst (λ (q : Reading ReadEpoch). AreMore q.items (WholeReading.items (whole_reading compact_place skip 3
-    (map Content h.lines ++ h.more)))) r.reads (whole-items compact_place compact-forward skip 3 (map Content h.lines) h.more)) in
+    let two = two-read h.version h.program (map Content h.lines) h.first h.second in
+    let read : compact_reading skip lines ≡ record { items = r.items; stop = AtLines (3 + length h.lines) [] } =
+    reading-at skip lines (h.version ∷ h.program ∷ []) 2 two ∙ r.reads in
     subst (λ ls. Begins (FilterResult.output (expanded text choices)) (lines_text ls))
-    (printed-read r.items ∙ ap printed_items r.known)
-    (text-more expanded_unit r.items (WholeReading.items (whole_compact skip (map as_read (lines_of text)))) more)
+    (ap (λ (q : Reading ReadEpoch). expanded_lines q.items) read ∙ printed-read r.items ∙ ap printed_items r.known)
+    ((expanded-first choices lines).whole text h.more h.cut)

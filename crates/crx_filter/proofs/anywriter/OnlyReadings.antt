@@ -3,7 +3,7 @@ use Rattle.crx_filter.proofs
 use proofs.Words.{ℕ, ◌≡◌, Bool, List, [], ◌∷◌, ◌++◌, map, drop, Option, None, refl, ap, sym, ◌∙◌}
 use proofs.Words.{append_assoc, map-append, ReadLine, Content, FileUnit, Item, ReadEpoch}
 use proofs.Words.{warnings_in, WholeReading, whole_reading, compact_place, Epoch}
-use proofs.reading.KeptThroughout.{IsKeptOn, whole-kept}
+use proofs.reading.KeptThroughout.{IsKept, whole-kept}
 use Rattle.crx_filter.specs.meaning.{CompactText.AreLinesOf, Expanded.rinex_unit}
 use Rattle.std.proofs.{Common.{take-append-drop}}
 use Rattle.crx_compact.specs.meaning.AnyWriter.{WrittenEpoch}
@@ -21,7 +21,7 @@ pub record LinesBack (all : List ReadLine) (items : List (Item ReadEpoch)) (rest
 abbrev pub Back : List ReadLine → List (Item ReadEpoch) → List ReadLine → Type 0
 Back all items rest = warnings_in items ≡ [] → LinesBack all items rest
 
-back-kept : (skip : Bool) (all : List ReadLine) → IsKeptOn compact_place skip (Back all)
+back-kept : (skip : Bool) (all : List ReadLine) → IsKept compact_place skip (Back all)
 back-kept skip all = record {
   here = λ items lines unit count e h none.
       let t = h none in

@@ -1,9 +1,9 @@
 -- A text whose expansion ends with status 0 is compact text of a whole file.
 use Rattle.crx_filter.proofs
-use proofs.Words.{ℕ, ◌≡◌, Bool, true, false, List, [], ◌∷◌, append-nil, map, reverse, Option, Some, None}
-use proofs.Words.{Result, Ok, Err, refl, ap, sym, ◌∙◌, subst, if◌then◌else◌, ◌&&◌}
-use proofs.Words.{lines_of, as_read, ReadLine, Content, Overlong, At, Fault}
-use proofs.Words.{header_has_ended, records_left, warnings_in}
+use proofs.Words.{ℕ, ◌≡◌, Bool, true, List, [], ◌∷◌, append-nil, map, reverse, Option, Some, None}
+use proofs.Words.{Ok, refl, ap, sym, ◌∙◌, subst, ◌&&◌}
+use proofs.Words.{lines_of, as_read, ReadLine, Content, Overlong, At}
+use proofs.Words.{by_bool, header_has_ended, records_left, warnings_in}
 use proofs.Words.{WholeReading, whole_compact, expanded, Choices, FilterResult, AreInPlace}
 use Rattle.crx_filter.proofs.wayback.{ExpandedStandard.{read-settled}, Cut.input-stands}
 use Rattle.crx_filter.specs.meaning.{Expanded.{crinex_version, crinex_program}, WrittenStandard.rinex_items}
@@ -15,7 +15,6 @@ use Rattle.crx_text.specs.meaning.Columns.{columns, without_blanks}
 use Rattle.crx_header.specs.meaning.Label.{has_label}
 use Rattle.crx_header.specs.declared.crinex.TheConstants.{CRINEX_VERSION, CRINEX_VERSION_LABEL}
 use Rattle.crx_header.specs.declared.crinex.TheConstants.{CRINEX_PROGRAM_LABEL}
-use Rattle.crx_base.specs.declared.fault.Fault.TheVariants.{NotCompact, BadProgLine}
 use Rattle.std.proofs.{lemmas.List.{reverse-reverse}}
 use Rattle.crx_filter.proofs.anywriter.{AnyText.{any-text, whole-read}, OwnText.units-in_place, OnlyReadings.{EndsBack, reading-back}}
 
@@ -29,43 +28,27 @@ record FirstBack (lines : List ReadLine) : Type 0 where
   first : crinex_version version ≡ Ok version
   second : crinex_program program ≡ Ok program
 
-if-own : (b : Bool) (line x : List ℕ) (fault : Fault) → (if b then Ok line else Err fault) ≡ Ok x
-    → (if b then Ok line else Err fault) ≡ Ok line
-if-own true line x fault e = refl
-if-own false line x fault e = absurd (cc e)
+abbrev is_version : List ℕ → Bool
+is_version line = bytes_eq (without_blanks (columns line 1 20)) CRINEX_VERSION && has_label CRINEX_VERSION_LABEL line
 
-own-version : (line x : List ℕ) → crinex_version line ≡ Ok x → crinex_version line ≡ Ok line
-own-version line x e = if-own (bytes_eq (without_blanks (columns line 1 20)) CRINEX_VERSION && has_label CRINEX_VERSION_LABEL line)
-    line x NotCompact e
-
-own-program : (line x : List ℕ) → crinex_program line ≡ Ok x → crinex_program line ≡ Ok line
-own-program line x e = if-own (has_label CRINEX_PROGRAM_LABEL line) line x BadProgLine e
-
-second-back : (skip : Bool) (version x : List ℕ) (lines : List ReadLine) → crinex_version version ≡ Ok x
+second-back : (skip : Bool) (version : List ℕ) (lines : List ReadLine) → is_version version ≡ true
     → WholeReading.fault (whole_compact skip (Content version ∷ lines)) ≡ None → FirstBack (Content version ∷ lines)
-second-back skip version x [] e f = let never = rw (e, whole_compact) at f in absurd (cc never)
-second-back skip version x (Overlong ∷ rest) e f = let never = rw (e, whole_compact) at f in absurd (cc never)
-second-back skip version x (Content program ∷ rest) e f = pick (crinex_program program) refl
-  where
-    pick : (r : Result (List ℕ) Fault) → crinex_program program ≡ r → FirstBack (Content version ∷ Content program ∷ rest)
-    pick (Ok y) k = record {
-      version = version;
-      program = program;
-      rest = rest;
-      is = refl;
-      first = own-version version x e;
-      second = own-program program y k;
-    }
-    pick (Err fault) k = let never = rw (e, k, whole_compact) at f in absurd (cc never)
+second-back skip version [] is f = let never = rw (is, whole_compact) at f in absurd (cc never)
+second-back skip version (Overlong ∷ rest) is f = let never = rw (is, whole_compact) at f in absurd (cc never)
+second-back skip version (Content program ∷ rest) is f = by_bool (has_label CRINEX_PROGRAM_LABEL program) (λ on. record {
+  version = version;
+  program = program;
+  rest = rest;
+  is = refl;
+  first = rw is refl;
+  second = rw on refl;
+}) (λ off. let never = rw (is, off, whole_compact) at f in absurd (cc never))
 
 two-back : (skip : Bool) (lines : List ReadLine) → WholeReading.fault (whole_compact skip lines) ≡ None → FirstBack lines
 two-back skip [] f = absurd (cc f)
 two-back skip (Overlong ∷ rest) f = absurd (cc f)
-two-back skip (Content version ∷ rest) f = pick (crinex_version version) refl
-  where
-    pick : (r : Result (List ℕ) Fault) → crinex_version version ≡ r → FirstBack (Content version ∷ rest)
-    pick (Ok x) e = second-back skip version x rest e f
-    pick (Err fault) e = let never = rw (e, whole_compact) at f in absurd (cc never)
+two-back skip (Content version ∷ rest) f = by_bool (is_version version) (λ on. second-back skip version rest on f)
+    (λ off. let never = rw (off, whole_compact) at f in absurd (cc never))
 
 items-text : (skip : Bool) (version program : List ℕ) (rest : List ReadLine) → crinex_version version ≡ Ok version
     → crinex_program program ≡ Ok program → EndsBack rest (whole_compact skip (Content version ∷ Content program ∷ rest))

@@ -1,11 +1,11 @@
 -- A unit that is read at some lines of compact text is one whose lines these are, whoever wrote them.
 use Rattle.crx_filter.proofs
-use proofs.Words.{ℕ, ◌≡◌, ◌+◌, Bool, true, false, List, [], ◌∷◌, ◌++◌, map, length, drop, take, Option, Some}
-use proofs.Words.{None, refl, ap, sym, ◌∙◌, subst, if◌then◌else◌}
+use proofs.Words.{ℕ, ◌≡◌, ◌+◌, false, List, [], ◌∷◌, ◌++◌, map, length, drop, take, Option, Some}
+use proofs.Words.{None, refl, ap, sym, ◌∙◌, subst}
 use proofs.Words.{ReadLine, Content, Epoch, Place, Done, FileUnit, HeaderLine, EventLine, EventRecord}
-use proofs.Words.{Observation, Item, Accepted, ReadEpoch, types_of}
+use proofs.Words.{Observation, Item, Accepted, ReadEpoch}
 use proofs.Words.{records_count_types, declaring_lines, types_in_force, raws_kept}
-use proofs.Words.{compact_place, IsWholeEpoch}
+use proofs.Words.{by_bool, compact_place, IsWholeEpoch}
 use Rattle.crx_filter.proofs.wayback.{ExpandedStandard.{count-read}, ExpandedWhole.{AreGoodEpochs, marks-printable}}
 use Rattle.crx_filter.proofs.reading.{ForwardCompact.compact_beginning, Types.counts-in_force, WhatStands.{of-unit, of-compact}}
 use proofs.Words.{⊤}
@@ -61,34 +61,28 @@ module _ (items : List (Item ReadEpoch)) (units : List (FileUnit Epoch)) (before
 
   steady-types : (line : List ℕ) → empties_state (records_count_types items) line ≡ false
       → types_in_force (Accepted (EventRecord line) ∷ items) ≡ types_in_force items
-  steady-types line e = pick (records_count_types items) e
-    where
-      pick : (b : Bool) → empties_state b line ≡ false
-          → types_of (if b then declaring_lines items ++ line ∷ [] else declaring_lines items) ≡ types_of (declaring_lines items)
-      pick false k = refl
-      pick true k = types_of-push (declaring_lines items) line ∙ rw k refl
+  steady-types line e = by_bool (records_count_types items)
+      (λ on. rw on (types_of-push (declaring_lines items) line ∙ rw (rw on at e) refl)) (λ off. rw off refl)
 
-  record-pick : (line : List ℕ) (e : Bool) → empties_state (records_count_types items) line ≡ e
-      → UnitBack items units before (EventRecord line) (Content line ∷ [])
-  record-pick line true e = record {
+  record-back : (line : List ℕ) → UnitBack items units before (EventRecord line) (Content line ∷ [])
+  record-back line = by_bool (empties_state (records_count_types items) line) (λ on. record {
     own = line ∷ [];
     cut = refl;
     now = None;
-    stands = record { known = cc s.known; left = rw e refl; whole = λ b k. absurd (cc k); good = s.good };
-    written = (refl, sym (ap (λ c. if c then None else before) (ap (λ c. empties_state c line) (sym count-same) ∙ e)));
-  }
-  record-pick line false e = record {
+    stands = record { known = cc s.known; left = rw on refl; whole = λ b k. absurd (cc k); good = s.good };
+    written = (refl, rw (← count-same, on) refl);
+  }) (λ off. record {
     own = line ∷ [];
     cut = refl;
     now = before;
     stands = record {
       known = cc s.known;
-      left = rw e s.left;
-      whole = λ b k. subst (λ types. IsWholeEpoch types (epoch_now b)) (sym (steady-types line e)) (s.whole b k);
+      left = rw off s.left;
+      whole = λ b k. subst (λ types. IsWholeEpoch types (epoch_now b)) (sym (steady-types line off)) (s.whole b k);
       good = s.good;
     };
-    written = (refl, sym (ap (λ c. if c then None else before) (ap (λ c. empties_state c line) (sym count-same) ∙ e)));
-  }
+    written = (refl, rw (← count-same, off) refl);
+  })
 
   epoch-back : (read : ReadEpoch) (lines : List ReadLine) (count : ℕ)
       → epoch_at (types_in_force items) (raws_kept items) lines ≡ Done read count
@@ -126,7 +120,7 @@ module _ (items : List (Item ReadEpoch)) (units : List (FileUnit Epoch)) (before
   place-back : (lines : List ReadLine) → Back lines (compact_place items lines)
   place-back lines = of-unit (Back lines) tt (λ offset fault. tt) compact_beginning items lines
       (λ line rest is open_header good. rw is (header-back line))
-      (λ line rest is ended some good. rw is (record-pick line (empties_state (records_count_types items) line) refl))
+      (λ line rest is ended some good. rw is (record-back line))
       (λ ended none. of-compact (Back lines) tt (λ offset fault. tt) (types_in_force items) (raws_kept items) lines
       (λ line rest is event counted. rw is (event-back line)) (λ read count e. epoch-back read lines count e))
 

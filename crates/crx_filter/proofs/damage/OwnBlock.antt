@@ -16,7 +16,7 @@ use Rattle.crx_filter.specs.Damage.{may_replace, IsOwnDamaged, IsOwnSalvaged, Is
 use Rattle.crx_filter.specs.OwnStretches.{OwnStretch, may_come_instead, HasOwnStretches, IsReadWhole}
 use Rattle.crx_filter.specs.OwnStretches.{read_of_file, own_text}
 use Rattle.crx_filter.specs.meaning.{Damage.{is_inside, epochs_among, IsDamaged}}
-use Rattle.crx_filter.specs.meaning.{Stretches.AreLinesOn, UnitsAndText.as_items}
+use Rattle.crx_filter.specs.meaning.{UnitsAndText.as_items}
 use Rattle.std.proofs.lemmas.List.{take-append-drop}
 use Rattle.crx_lines.proofs.PieceLemmas.{pieces-first}
 use proofs.anywriter.OwnText.{units-append, units-printed, units-in_place, state_after, state_on, own-on}
@@ -24,7 +24,7 @@ use proofs.anywriter.OwnText.{printed-append}
 use proofs.damage.SavedText.{among-append}
 use proofs.damage.{DamagedText.{front-cut, instead-read, text-append}, DamageStays.all-saved, ItemTexts.{rest-in_place, text-parts}}
 use proofs.damage.{TextAfter.lines_on}
-use proofs.reading.Each.{header-append, contents}
+use proofs.reading.Each.{header-append}
 use proofs.stretches.{OwnStretches.{file-good, file-settled, own-damage, text_of_own, units-left, units-types}}
 use proofs.stretches.StretchesCut.{AreGood, good-before, kept-clean, as_stretch}
 use proofs.wayback.{Carried.{units_in, units-placed}, Cut.{IsClean, return-kept}, Items.{marked_now, epoch-stands}, Standard.{NoReturn, same-reading}}
@@ -199,20 +199,6 @@ module _ (input : List ℕ) (choices : Choices) (damaged : List ℕ) (d : IsOwnD
       ∙ ap (λ is. is ++ d.before) (items-append (take (suc count) epochs) (drop (suc count) epochs))
       ∙ append_assoc (items_of (drop (suc count) epochs)) (own count) d.before) block-good)
 
-  own-written : (count : ℕ) → AreLinesOn (units_in d.before) (state_after choices.every d.before)
-      (units_in (own count)) (lines_of_epochs choices d.before (take (suc count) epochs))
-      (state_on (state_after choices.every d.before) choices.every d.before (own count))
-  own-written count = rw (epochs-lines choices d.before (take (suc count) epochs))
-      (own-on (state_after choices.every d.before) choices d.before (own count) (own-good count).in_place
-      (inr (epochs-anew choices d.before d.first (take count d.others) d.starts)))
-
-  own-instead : (count : ℕ) (rest : List (List ℕ)) → contents (lines_of d.instead)
-      ≡ drop 1 (lines_of_epochs choices d.before (take (suc count) epochs)) ++ rest
-      → map as_read (lines_of (lines_text (full ∷ []) ++ d.instead))
-      ≡ map Content (lines_of_epochs choices d.before (take (suc count) epochs)) ++ map Content rest
-  own-instead count rest e = text-cut ∙ ap (λ ls. Content full ∷ ls) (instead-read (lines_of d.instead) d.allowed
-      ∙ ap (map Content) e ∙ map-append Content (drop 1 (lines_of_epochs choices d.before (take (suc count) epochs))) rest)
-
   -- ---- the law
 
   pub own-saved : (expanding : Choices) → is_date choices.date ≡ true → expanding.skip ≡ true
@@ -250,7 +236,11 @@ module _ (input : List ℕ) (choices : Choices) (damaged : List ℕ) (d : IsOwnD
             ∙ units-left (own count ++ d.before) (own-good count).in_place
             ∙ ap records_left (sym (epochs-items d.before (take (suc count) epochs)))
             ∙ epochs-left d.before (take (suc count) epochs) (first-in_place.0).1)
-            (own-written count) (own-instead count rest e) in
+            (rw (epochs-lines choices d.before (take (suc count) epochs))
+            (own-on (state_after choices.every d.before) choices d.before (own count) (own-good count).in_place
+            (inr (epochs-anew choices d.before d.first (take count d.others) d.starts))))
+            (text-cut ∙ ap (λ ls. Content full ∷ ls) (instead-read (lines_of d.instead) d.allowed ∙ ap (map Content) e
+            ∙ map-append Content (drop 1 (lines_of_epochs choices d.before (take (suc count) epochs))) rest)) in
             (found.0, found.1 ∙ ap (λ es. es ++ found.0) (epochs-among (take (suc count) epochs)));
       }
 

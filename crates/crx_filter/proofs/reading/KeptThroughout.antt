@@ -17,20 +17,9 @@ none-after (item ∷ items) (line ∷ lines) e = absurd (cc e)
 
 module _ {E : Type 0} (place : List (Item E) → List ReadLine → Place (FileUnit E)) (skip : Bool)
     (Keeps : List (Item E) → List ReadLine → Type 0) where
-  -- what holds of the items so far and of the lines from there on, after each step too
+  -- what holds of the items so far and of the lines from there on, after each step too; it holds of the lines that
+  -- are left where a reading stops
   pub record IsKept : Type 0 where
-    pub here : (items : List (Item E)) (lines : List ReadLine) (unit : FileUnit E) (count : ℕ) → place
-        items lines ≡ Done unit count → Keeps items lines → Keeps (Accepted unit ∷ items) (drop count lines)
-    pub warned : (items : List (Item E)) (lines : List ReadLine) (at : At)
-        → is_skipped skip items at.fault ≡ true → Keeps items lines → Keeps (Warned at ∷ items) lines
-    pub passed : (items : List (Item E)) (lines : List ReadLine) (n : ℕ)
-        → Keeps items lines → Keeps items (drop n lines)
-
-  abbrev pub KeptIn : List (Item E) → Type 0
-  KeptIn items = (lines : List ReadLine) × Keeps items lines
-
-  -- the same, where lines are dropped only after a warning: it holds of the lines that are left where a reading stops
-  pub record IsKeptOn : Type 0 where
     pub here : (items : List (Item E)) (lines : List ReadLine) (unit : FileUnit E) (count : ℕ) → place
         items lines ≡ Done unit count → Keeps items lines → Keeps (Accepted unit ∷ items) (drop count lines)
     pub passed : (items : List (Item E)) (lines : List ReadLine) (at : At) (n : ℕ)
@@ -52,11 +41,11 @@ module _ {E : Type 0} (place : List (Item E) → List ReadLine → Place (FileUn
       (λ on. rw (on, looked_for) (next number (line ∷ lines) (h 0)))
       (λ off. rw (off, looked_for) (looked-kept items read (number + 1) lines (λ n. h (suc n)) next))
 
-  pub within-kept_on : IsKeptOn → (units : ℕ) (items : List (Item E)) (number : ℕ) (lines : List ReadLine)
+  pub within-kept : IsKept → (units : ℕ) (items : List (Item E)) (number : ℕ) (lines : List ReadLine)
       → Keeps items lines → KeptAt (reading_within place skip units items number lines)
-  within-kept_on k zero items number lines h = (lines, h, refl)
-  within-kept_on k (suc units) items number lines h = by_place (place items lines)
-      (λ unit count e. rw (within-here place skip units items number lines unit count e) (within-kept_on k units
+  within-kept k zero items number lines h = (lines, h, refl)
+  within-kept k (suc units) items number lines h = by_place (place items lines)
+      (λ unit count e. rw (within-here place skip units items number lines unit count e) (within-kept k units
       (Accepted unit ∷ items) (number + count) (drop count lines) (k.here items lines unit count e h)))
       (λ offset fault e.
       let at : At = record { line = number + offset; fault = fault } in
@@ -64,21 +53,12 @@ module _ {E : Type 0} (place : List (Item E) → List ReadLine → Place (FileUn
       (λ on. rw (on, after_fault) (looked-kept (Warned at ∷ items) (reading_within place skip units (Warned at ∷ items))
       (number + max offset 1) (drop (max offset 1) lines)
       (λ n. rw (drop-drop n (max offset 1) lines) (k.passed items lines at (max offset 1 + n) on h))
-      (within-kept_on k units (Warned at ∷ items)))) (λ off. rw (off, after_fault) (lines, h, tt))))
+      (within-kept k units (Warned at ∷ items)))) (λ off. rw (off, after_fault) (lines, h, tt))))
       (λ e. rw (within-wanted place skip units items number lines e) (lines, h, refl))
-
-  pub within-kept : IsKept → (units : ℕ) (items : List (Item E)) (number : ℕ) (lines : List ReadLine)
-      → Keeps items lines → KeptIn (reading_within place skip units items number lines).items
-  within-kept k units items number lines h =
-      let on = within-kept_on (record {
-        here = k.here;
-        passed = λ items lines at n on h. k.passed (Warned at ∷ items) lines n (k.warned items lines at on h);
-      }) units items number lines h in
-      (on.0, on.1)
 
   -- ---- the end
 
-  ended-kept : IsKeptOn → (items : List (Item E)) (stop : Stop) → KeptAt (record { items = items; stop = stop })
+  ended-kept : IsKept → (items : List (Item E)) (stop : Stop) → KeptAt (record { items = items; stop = stop })
       → WholeReading.fault (ended_reading skip (record { items = items; stop = stop })) ≡ None
       → Keeps (WholeReading.items (ended_reading skip (record { items = items; stop = stop }))) []
   ended-kept k items (AtFault at) (lines, h, left) f = absurd (cc f)
@@ -95,9 +75,9 @@ module _ {E : Type 0} (place : List (Item E) → List ReadLine → Place (FileUn
           (λ off. let never = rw (off, ended_with) at f in absurd (cc never))
 
   -- it holds of all that is read to a good end
-  pub whole-kept : IsKeptOn → (number : ℕ) (lines : List ReadLine) → Keeps [] lines
+  pub whole-kept : IsKept → (number : ℕ) (lines : List ReadLine) → Keeps [] lines
       → WholeReading.fault (whole_reading place skip number lines) ≡ None
       → Keeps (WholeReading.items (whole_reading place skip number lines)) []
   whole-kept k number lines h f =
       let r = reading_from place skip [] number lines in
-      ended-kept k r.items r.stop (within-kept_on k (length lines + 1) [] number lines h) f
+      ended-kept k r.items r.stop (within-kept k (length lines + 1) [] number lines h) f

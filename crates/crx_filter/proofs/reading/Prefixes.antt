@@ -4,7 +4,7 @@ use Rattle.crx_filter.proofs.Words.{length, refl, ap, sym, append_assoc, append-
 use Rattle.crx_filter.proofs.Words.{ReadLine, Place, FileUnit, Item, Accepted, Warned, Stop, AtFault, AtLines}
 use Rattle.crx_filter.proofs.Words.{Looking, reading_within, reading_from, ended_reading, whole_reading}
 use Rattle.crx_filter.proofs.Words.{continued_reading, IsReadForward, lines_text, Begins, written_lines}
-use Rattle.crx_filter.proofs.reading.{Resuming.resumed, KeptThroughout.{IsKeptOn, looked-kept, within-kept_on}}
+use Rattle.crx_filter.proofs.reading.{Resuming.resumed, KeptThroughout.{IsKept, looked-kept, within-kept}}
 
 -- some items with others before them
 pub record AreMore {E : Type 0} (items all : List (Item E)) : Type 0 where
@@ -26,13 +26,13 @@ more_of_more items some_more all h k = record {
 }
 
 more-kept : {E : Type 0} (place : List (Item E) → List ReadLine → Place (FileUnit E)) (skip : Bool)
-    (items : List (Item E)) → IsKeptOn place skip (λ all lines. AreMore items all)
+    (items : List (Item E)) → IsKept place skip (λ all lines. AreMore items all)
 more-kept place skip items = search (one_more)
 
 within-items : {E : Type 0} (place : List (Item E) → List ReadLine
     → Place (FileUnit E)) (skip : Bool) (units : ℕ) (items : List (Item E)) (number : ℕ)
     (lines : List ReadLine) → AreMore items (reading_within place skip units items number lines).items
-within-items place skip units items number lines = (within-kept_on place skip (λ all ls. AreMore items all)
+within-items place skip units items number lines = (within-kept place skip (λ all ls. AreMore items all)
     (more-kept place skip items) units items number lines (no_more items)).1
 
 pub continued_reading-items : {E : Type 0} (place : List (Item E) → List ReadLine → Place (FileUnit E))
@@ -42,7 +42,7 @@ continued_reading-items place skip items (AtFault at) more = no_more items
 continued_reading-items place skip items (AtLines number lines) more = search (within-items)
 continued_reading-items place skip items (Looking number) more = (looked-kept place skip
     (λ all ls. AreMore items all) items (reading_from place skip items) number more (λ n. no_more items)
-    (λ m ls h. within-kept_on place skip (λ all rest. AreMore items all) (more-kept place skip items)
+    (λ m ls h. within-kept place skip (λ all rest. AreMore items all) (more-kept place skip items)
     (length ls + 1) items m ls h)).1
 
 pub ended-items : {E : Type 0} (skip : Bool) (items : List (Item E)) (stop : Stop)

@@ -19,8 +19,7 @@ pub items-read : {E : Type 0} (place : List (Item E) → List ReadLine → Place
     (number : ℕ) (lines : List ReadLine) → ItemsAreRead place (reading_from place skip [] number lines).items
 items-read place skip number lines = (within-kept place skip (λ items ls. ItemsAreRead place items) (record {
   here = λ items lines unit count e h. ((lines, count, e), h);
-  warned = λ items lines at on h. (allowed skip items at.fault on, h);
-  passed = λ items lines n h. h;
+  passed = λ items lines at n on h. (allowed skip items at.fault on, h);
 }) (length lines + 1) [] number lines tt).1
 
 pub compact-items-read : (skip : Bool) (lines : List ReadLine)

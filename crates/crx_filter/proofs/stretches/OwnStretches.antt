@@ -129,13 +129,6 @@ units-next : (before : List (Item Epoch)) (s : OwnStretch)
     → units_in (up_to_own_next before s) ≡ units_in s.kept ++ (units_in s.lost ++ units_in before)
 units-next before s = units-append s.kept (up_to_own_end before s) ∙ ap (λ us. units_in s.kept ++ us) (units-append s.lost before)
 
-pub units-with : (every : Option ℕ) (before : List (Item Epoch)) (stretches : List OwnStretch)
-    → with_stretches (units_in before) (as_stretches every before stretches) ≡ units_in (with_own before stretches)
-units-with every before [] = refl
-units-with every before (s ∷ later) =
-    ap (λ us. with_stretches us (as_stretches every (up_to_own_next before s) later)) (sym (units-next before s))
-    ∙ units-with every (up_to_own_next before s) later
-
 one-stretch : (choices : Choices) (before : List (Item Epoch)) (s : OwnStretch) (later : List OwnStretch)
     → AreOwnStretches choices before (s ∷ later) → AreInPlace (up_to_own_next before s)
     → records_left (with_own (up_to_own_next before s) later) ≡ 0
@@ -158,16 +151,22 @@ one-stretch choices before s later h placed closed =
           (state_on None choices.every block s.kept)) same (own-on None choices block s.kept placed (inr (h.0).anew));
     }
 
-pub all-stretches : (choices : Choices) (before : List (Item Epoch)) (stretches : List OwnStretch)
+-- its stretches as those of a text, whoever wrote it
+pub record AreOwnAs (choices : Choices) (before : List (Item Epoch)) (stretches : List OwnStretch) : Type 0 where
+  pub all : with_stretches (units_in before) (as_stretches choices.every before stretches) ≡ units_in (with_own before stretches)
+  pub each : AreStretches (units_in before) (as_stretches choices.every before stretches)
+
+pub own-as : (choices : Choices) (before : List (Item Epoch)) (stretches : List OwnStretch)
     → AreOwnStretches choices before stretches → AreGood (with_own before stretches)
-    → records_left (with_own before stretches) ≡ 0
-    → AreStretches (units_in before) (as_stretches choices.every before stretches)
-all-stretches choices before [] h good closed = tt
-all-stretches choices before (s ∷ later) h good closed =
-    let next = up_to_own_next before s in (
-      one-stretch choices before s later h (good-up_to next later good).in_place closed,
-      rw (← units-next before s) (all-stretches choices next later h.1 good closed),
-    )
+    → records_left (with_own before stretches) ≡ 0 → AreOwnAs choices before stretches
+own-as choices before [] h good closed = record { all = refl; each = tt }
+own-as choices before (s ∷ later) h good closed =
+    let next = up_to_own_next before s in
+    let rest = own-as choices next later h.1 good closed in
+    record {
+      all = ap (λ us. with_stretches us (as_stretches choices.every next later)) (sym (units-next before s)) ∙ rest.all;
+      each = (one-stretch choices before s later h (good-up_to next later good).in_place closed, rw (← units-next before s) rest.each);
+    }
 
 -- ---- what is saved of it
 
@@ -192,6 +191,9 @@ module _ (file : List ℕ) (choices : Choices) (damaged : List ℕ) (dated : is_
   pub good : AreGood (with_own d.before d.stretches)
   good = subst AreGood d.parts (file-good file choices d.file_good)
 
+  pub as_own : AreOwnAs choices d.before d.stretches
+  as_own = own-as choices d.before d.stretches d.each good settled.none
+
   -- the text, and the stretches as those of a text, whoever wrote it
   abbrev pub text_of_own : List ℕ
   text_of_own = lines_text (compact_lines choices d.before) ++ own_text choices d.before d.stretches
@@ -201,12 +203,12 @@ module _ (file : List ℕ) (choices : Choices) (damaged : List ℕ) (dated : is_
 
   abbrev pub own-damage : HasStretches (units_in d.before) stretches_of_own text_of_own
   own-damage = record {
-    file = subst AreWholeFile (ap units_in d.parts ∙ sym (units-with choices.every d.before d.stretches))
+    file = subst AreWholeFile (ap units_in d.parts ∙ sym as_own.all)
         (file-whole file choices d.file_good);
     header = units-header d.before ∙ d.header;
     text = begins-own choices d.before (own_text choices d.before d.stretches) dated (good-up_to d.before d.stretches good)
         (started d.before d.header);
-    each = all-stretches choices d.before d.stretches d.each good settled.none;
+    each = as_own.each;
     rest = stretches-cut choices d.before d.stretches d.each good d.header;
   }
 

@@ -2,7 +2,7 @@
 -- units, and those that come in the stretches.
 use Rattle.crx_filter.proofs.Words
 use Words.{common_steps, arith, ℕ, ◌≡◌, ◌⊎◌, inl, inr, true, List, [], ◌∷◌, ◌++◌, map, refl, Option}
-use Words.{append_assoc, append-nil, AllByRecursion, list_all, drop-append_seam, Piece}
+use Words.{◌∙◌, append_assoc, append-nil, AllByRecursion, list_all, drop-append_seam, Piece}
 use Words.{pieces_of, lines_of, lines_text, Content, as_read, Epoch, Choices, Item, Accepted}
 use Words.{Warned, header_has_ended, lines_after, OfCopiedLines, HaveNoReturns, AreInPlace, Stretch}
 use Rattle.crx_filter.proofs.damage.{ItemTexts.{rest-in_place, text-parts}, DamagedText.each-ended}
@@ -63,42 +63,30 @@ as_stretches every before (s ∷ later) = as_stretch every before s ∷ as_stret
 
 -- ---- the lines of the text
 
--- bytes that end with a line, and then others
+-- bytes that end with a line, and then others, if there are any
 ended-cut : (instead : List ℕ) (lines : List (List ℕ)) (text : List ℕ) → AllByRecursion IsClean lines
-    → list_all (λ (piece : Piece). piece.is_ended) (pieces_of instead) ≡ true
+    → ((lines ≡ []) × (text ≡ [])) ⊎ (list_all (λ (piece : Piece). piece.is_ended) (pieces_of instead) ≡ true)
     → map as_read (lines_of (instead ++ (lines_text lines ++ text)))
     ≡ map as_read (lines_of instead) ++ (map Content lines ++ map as_read (lines_of text))
-ended-cut instead lines text clean ended = search (lines-append, each-ended, front-cut)
+ended-cut instead lines text clean (inl (e, f)) = rw (e, f, append-nil instead) (grind (arith, common_steps))
+ended-cut instead lines text clean (inr ended) = search (lines-append, each-ended, front-cut)
 
 pub stretches-cut : (choices : Choices) (before : List (Item Epoch)) (stretches : List OwnStretch)
     → AreOwnStretches choices before stretches → AreGood (with_own before stretches)
     → header_has_ended before ≡ true → map as_read (lines_of (own_text choices before stretches))
     ≡ stretches_lines (as_stretches choices.every before stretches)
 stretches-cut choices before [] h good header = refl
-stretches-cut choices before (s ∷ later) h good header = either (IsOwnStretch.ended h.0)
-    (stretches-cut choices next later h.1 good (header-append s.kept block block-header))
+stretches-cut choices before (s ∷ later) h good header =
+    let block = up_to_own_end before s in
+    let next = up_to_own_next before s in
+    let here = good-up_to next later good in
+    let block-header = header-append s.lost before header in
+    let rest = stretches-cut choices next later h.1 good (header-append s.kept block block-header) in
+    rw (kept-lines choices s.kept block here.in_place block-header) (ended-cut s.instead (lines_on choices.every s.kept block)
+    (own_text choices next later) (kept-clean choices s.kept block here) (none-kept (IsOwnStretch.ended h.0))
+    ∙ rw (rest, append_assoc) refl)
   where
-    block : List (Item Epoch)
-    block = up_to_own_end before s
-
-    next : List (Item Epoch)
-    next = up_to_own_next before s
-
-    here : AreGood next
-    here = good-up_to next later good
-
-    block-header : header_has_ended block ≡ true
-    block-header = header-append s.lost before header
-
-    same : lines_after choices block next ≡ lines_on choices.every s.kept block
-    same = kept-lines choices s.kept block here.in_place block-header
-
-    either : ((s.kept ≡ []) × (later ≡ [])) ⊎ (list_all (λ (piece : Piece). piece.is_ended)
-        (pieces_of s.instead) ≡ true) → map as_read (lines_of (own_text choices next later))
-        ≡ stretches_lines (as_stretches choices.every next later) → map as_read (lines_of
-        (own_text choices before (s ∷ later))) ≡ stretches_lines (as_stretches choices.every before (s ∷ later))
-    either (inl nothing) rest = grind (arith, common_steps, append-nil, same)
-    either (inr ended) rest = rw same (rw (ended-cut s.instead (lines_on choices.every s.kept block)
-        (own_text choices next later) (kept-clean choices s.kept block here) ended)
-        (rw (rest, append_assoc)
-        refl))
+    none-kept : {X : Type 0} → ((s.kept ≡ []) × (later ≡ [])) ⊎ X → ((lines_on choices.every s.kept (up_to_own_end before s) ≡ [])
+        × (own_text choices (up_to_own_next before s) later ≡ [])) ⊎ X
+    none-kept (inl (e, f)) = inl (rw e refl, rw f refl)
+    none-kept (inr x) = inr x

@@ -106,8 +106,7 @@ items-copied P skip number lines all = (within-kept compact_place skip
         (subst (λ p. OfHere (Copies P) p) e (copied-unit P items ls h.1), h.0),
         all-drop (OfContent P) count ls h.1,
       );
-      warned = λ items ls at on h. h;
-      passed = λ items ls n h. (h.0, all-drop (OfContent P) n ls h.1);
+      passed = λ items ls at n on h. (h.0, all-drop (OfContent P) n ls h.1);
     }) (length lines + 1) [] number lines (tt, all)).1.0
 
 pub compact-copied : (P : List ℕ → Type 0) (skip : Bool) (lines : List ReadLine)

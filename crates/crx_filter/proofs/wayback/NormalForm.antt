@@ -55,8 +55,7 @@ whole-none lines =
     let r = rinex_reading false lines in
     let none = (within-kept rinex_place false (λ items ls. warnings_in items ≡ []) (record {
       here = λ items ls unit count e h. h;
-      warned = λ items ls at on h. absurd (cc);
-      passed = λ items ls n h. h;
+      passed = λ items ls at n on h. absurd (cc);
     }) (length lines + 1) [] 1 lines refl).1 in
     of-ended (λ items. warnings_in items ≡ []) false r.items r.stop none (λ at on. absurd (cc))
 

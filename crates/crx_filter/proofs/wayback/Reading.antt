@@ -32,6 +32,5 @@ items-copied P skip lines all = (within-kept rinex_place skip
         (subst (λ p. OfHere (OfCopiedLine P) p) e (copied-unit P items ls h.1), h.0),
         all-drop (OfContent P) count ls h.1,
       );
-      warned = λ items ls at on h. h;
-      passed = λ items ls n h. (h.0, all-drop (OfContent P) n ls h.1);
+      passed = λ items ls at n on h. (h.0, all-drop (OfContent P) n ls h.1);
     }) _ [] 1 lines (tt, all)).1.0

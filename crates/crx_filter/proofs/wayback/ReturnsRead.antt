@@ -64,8 +64,7 @@ all-within {E = E} place p skip number lines =
     (λ items ls. returns_copied items + returns_read ls ≤ returns_read lines) (record {
       here = λ items ls unit count e h. omega
           (arith, h, subst (IsOfLines ls) e (p items ls), read-cut count ls);
-      warned = λ items ls at on h. h;
-      passed = λ items ls n h. omega (arith, h, read-cut n ls);
+      passed = λ items ls at n on h. omega (arith, h, read-cut n ls);
     }) (length lines + 1) [] number lines (omega arith) in
     omega (arith, kept.1)
 
