@@ -82,11 +82,7 @@ read-same : (file : List ℕ) (choices : Choices) → HasNormalForm file
 read-same file choices h = same-reading choices.skip (map as_read (lines_of file)) h.good
 
 read-whole : (file : List ℕ) (choices : Choices) → HasNormalForm file → IsReadWhole file choices
-read-whole file choices h =
-    let same = read-same file choices h in record {
-      good = ap (λ (w : WholeReading Epoch). w.fault) same ∙ h.good;
-      no_returns = rw same h.no_returns;
-    }
+read-whole file choices h = grind (arith, common_steps, read-same)
 
 pub make-a_day : (first second : List ℕ) (header later : List (Item Epoch)) (rest : List ℕ)
     (compacting expanding : Choices) → MakeADay first second header later rest compacting expanding

@@ -5,7 +5,6 @@ pub mod ExpandedReadyToHandOut
 pub mod OpenSound
 pub mod blockwise
 pub mod Weights
-pub mod OnceMore
 pub mod HoursMakeADay
 pub mod Wild
 pub mod Theorems

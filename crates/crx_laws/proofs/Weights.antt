@@ -1,5 +1,6 @@
 -- What an expansion writes is bounded by the lines that it has read: each has a weight, and no unit's text is
 -- longer than its lines weigh.
+use Rattle.std.proofs.lemmas.Grind.{common_steps}
 use Rattle.crx_filter.proofs.Words.{ℕ, zero, suc, ◌≡◌, ◌+◌, ◌-◌, ◌*◌, ◌<◌, ◌≤◌, Bool, List, [], ◌∷◌, ◌++◌}
 use Rattle.crx_filter.proofs.Words.{map, length, drop, refl, ap, sym, ◌∙◌, subst, arith, length-append, ⊤}
 use Rattle.crx_filter.proofs.Words.{◌==◌, AllByRecursion, length-map, flat_map-append, Piece, pieces_of}
@@ -83,9 +84,7 @@ copied-weight line rest = let one = size-more line [] in omega (arith, one)
 
 line-weighs : (lines : List ReadLine) (line : List ℕ) (rest : List ReadLine)
     → lines ≡ Content line ∷ rest → size (line ∷ []) + weight (drop 1 lines) ≤ weight lines
-line-weighs lines line rest e =
-    subst (λ (ls : List ReadLine). size (line ∷ []) + weight (drop 1 ls) ≤ weight ls) (sym e)
-    (copied-weight line rest)
+line-weighs lines line rest e = grind (arith, common_steps, weight, copied-weight)
 
 -- the lines of an epoch
 short-size : (lines : List (List ℕ))
@@ -186,9 +185,7 @@ return-shorter (b ∷ []) = by_bool (b == 13) (λ on. rw on (omega arith)) (λ o
 return-shorter (b ∷ c ∷ bs) = let rest = return-shorter (c ∷ bs) in omega (arith, rest)
 
 line-lighter : (p : Piece) → cost (as_read (line_of p)) ≤ most_for_a_byte * (length p.bytes + 1)
-line-lighter p =
-    let shorter = return-shorter p.bytes in
-    by_bool (is_long (line_of p)) (λ on. rw on (omega arith)) (λ off. rw off (omega (arith, shorter)))
+line-lighter p = grind (arith, common_steps, return-shorter)
 
 pieces-lighter : (ps : List Piece) → weight (map as_read (map line_of ps)) ≤ piece_weight ps
 pieces-lighter [] = omega arith

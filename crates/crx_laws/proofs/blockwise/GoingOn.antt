@@ -1,5 +1,7 @@
 -- What comes after a text that is expanded without a fault is read after its units, and after a warning, if
 -- there is one; and alike after another text that leaves the same types.
+use Rattle.std.proofs.lemmas.Grind.{common_steps}
+use Rattle.std.proofs.Common.{arith}
 use Rattle.crx_filter.proofs.Words.{ℕ, ◌≡◌, ◌+◌, ◌⊎◌, inl, inr, Bool, true, false, cond, List, [], ◌∷◌, ◌++◌}
 use Rattle.crx_filter.proofs.Words.{map, length, drop, Option, Some, None, refl, ap, sym, ◌∙◌, subst}
 use Rattle.crx_filter.proofs.Words.{append-nil, ◌&&◌, ◌==◌, nat_lt, and_parts, drop-append-le, lines_of}
@@ -76,14 +78,8 @@ pub record GoesOn (skip : Bool) (items : List (Item ReadEpoch)) (lines : List Re
 wanted-no_event : (items : List (Item ReadEpoch)) (line : List ℕ) (rest : List ReadLine)
     → IsBetweenUnits items → compact_place items (Content line ∷ rest) ≡ NeedsMore → is_event_line line ≡
     false
-wanted-no_event items line rest between e = by_bool (is_event_line line)
-    (λ on. absurd (one_line-decided (event_line {E = ReadEpoch} line) (sym (there on) ∙ e)))
-    (λ off. off)
-  where
-    there : is_event_line line ≡ true → compact_place items (Content line ∷ rest) ≡ one_line (event_line line)
-    there on = place-between items (Content line ∷ rest) between
-        ∙ ap (λ b. cond b (one_line (event_line line)) (as_observation (epoch_at (types_in_force items)
-        (raws_kept items) (Content line ∷ rest)))) on
+wanted-no_event items line rest between e =
+    grind (arith, common_steps, one_line-decided, one_line, place-between)
 
 open-passed : (items : List (Item ReadEpoch)) (number : ℕ) (rest : List ReadLine) (line : List ℕ)
     (tail : List ReadLine) → IsBetweenUnits items → compact_place items rest ≡ NeedsMore
@@ -221,9 +217,7 @@ further-read text more choices line tail h is begins =
 
 nothing-more : (text more : List ℕ) (choices : Choices) → CanGoOn text choices → map as_read (lines_of more) ≡
     [] → read_of_text (text ++ more) choices ≡ read_of_text text choices
-nothing-more text more choices h none =
-    ap (whole_compact choices.skip) (pieces-append text more (each-ended (pieces_of text) h.lines)
-    ∙ ap (λ ls. map as_read (lines_of text) ++ ls) none ∙ append-nil (map as_read (lines_of text)))
+nothing-more text more choices h none = grind (arith, common_steps, pieces-append, each-ended, append-nil)
 
 by-lines : (more one other : List ℕ) (choices : Choices) (lines : List ReadLine) → CanGoOn one choices
     → CanGoOn other choices → HaveSameTypes one other choices → map as_read (lines_of more) ≡ lines

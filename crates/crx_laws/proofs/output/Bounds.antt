@@ -1,4 +1,5 @@
 -- What is held between two lines is bounded.
+use Rattle.std.proofs.lemmas.Grind.{common_steps}
 use Rattle.crx_filter.proofs.Words.{ℕ, zero, suc, ◌≡◌, Bool, List, [], ◌∷◌, Option, Some, None, ap, sym, ◌∙◌}
 use Rattle.crx_filter.proofs.Words.{subst, arith, All, AllByRecursion, All-head, All-tail, ReadLine, Row}
 use Rattle.crx_filter.proofs.Words.{Epoch, Count, Done, IsSoundRow, HeaderLine, EventLine, EventRecord}
@@ -45,9 +46,7 @@ in-body P (suc left) counted so_far h = tt
 
 after-items : {E O : Type 0} (P : O → Type 0) (items : List (Item E)) (so_far : Option O)
     → IfSome so_far P → OfOpen P (phase_after_items items so_far)
-after-items P items so_far h = by_bool (header_has_ended items)
-    (λ on. rw on (in-body P (records_left items) (records_count_types items) so_far h))
-    (λ off. rw off tt)
+after-items P items so_far h = grind (arith, common_steps, in-body)
 
 open-phase : {E O : Type 0} (P : O → Type 0) (open_raw_with : List (Item E) → List ReadLine
     → Option O) (items : List (Item E)) (stop : Stop) → ((lines : List ReadLine)
@@ -155,9 +154,7 @@ open-with types tail (line ∷ lines) counts h =
 compact-open : (items : List (Item ReadEpoch)) (lines : List ReadLine)
     → IfSome (tail_of_items items) (IsBoundedTail ORDER_LIMIT)
     → IfSome (compact_open items lines) IsBoundedOpen
-compact-open items lines h = by_bool (begins_event lines)
-    (λ on. rw on tt)
-    (λ off. rw off (open-with (types_in_force items) (tail_of_items items) lines (counts-in_force items) h))
+compact-open items lines h = grind (arith, common_steps, open-with, counts-in_force)
 
 left-in : (phase : Phase OpenRawEpoch) (kept : Option Tail)
     → IfSome kept (IsBoundedTail ORDER_LIMIT) → IfSome (kept_in expansion phase kept)

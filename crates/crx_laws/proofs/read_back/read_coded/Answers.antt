@@ -1,3 +1,5 @@
+use Rattle.std.proofs.lemmas.Grind.{common_steps}
+use Rattle.std.proofs.Common.{arith}
 use Rattle.crx_filter.proofs.Words.{ap, subst, Option, Content, Epoch}
 use Rattle.std.proofs.lemmas.Result.{err_from_is_err_and}
 use Rattle.crx_compact.specs.Coded.{CodedEpoch}
@@ -43,6 +45,4 @@ returns-in_err-epoch-clause-refused c = λ h.
     _ c.loop-line.invariant c.in-Some-next_line.ensures.value c.in_err-epoch.ensures.refused)
 
 pub returns-clause-given : goal.returns-clause-given
-returns-clause-given c = midway-over
-    _ c.loop-line.columns.state _ c.loop-line.coded.lines c.loop-line.invariant
-    c.in_default-next_line.ensures.value
+returns-clause-given c = grind (arith, common_steps, midway-over)
