@@ -243,13 +243,15 @@ impl SatelliteHistory {
     {
         put_identifier(bytes, at, name);
         let count = self.count;
-        let end = print_cells(
+        print_cells(
             &self.arcs[..count],
             &self.indicators[..2 * count],
             bytes,
             at + NAME_WIDTH,
         );
-        trim_end(&bytes[at..end]).len()
+        // Of this length the compiler knows that it isn't below 3: [`trim_end`] doesn't test it again.
+        let length = NAME_WIDTH + CELL_WIDTH * count;
+        trim_end(&bytes[at..at + length]).len()
     }
 }
 
