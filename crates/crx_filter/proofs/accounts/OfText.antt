@@ -1,12 +1,12 @@
 -- Every line of compact text is accounted for.
 use Rattle.crx_filter.proofs.Words
 use Words.{arith, [], ℕ, ◌≡◌, ◌≤◌, ◌+◌, Bool, List, ◌∷◌, drop, take, length, length-map, None, refl, ap, sym}
-use Words.{subst, ReadLine, Count, RawEpoch, Done, ReadEpoch, epoch_at, Item, types_in_force, compact_place}
+use Words.{subst, Content, ReadLine, Count, RawEpoch, Done, ReadEpoch, epoch_at, Item, types_in_force, compact_place}
 use Words.{raws_kept, crinex_version, crinex_program, first_lines, whole_compact, WholeReading}
-use Rattle.crx_compact.proofs.soundness.Soundness.{epoch-facts, line-reads, then-comes}
+use Rattle.crx_compact.proofs.soundness.Soundness.{begins, epoch-facts}
 use Rattle.crx_compact.specs.meaning.CompactPlaces.{ReadRow}
 use Rattle.crx_filter.proofs.accounts.{Clean.accepts-clean, Reached.{Owns, take-one, taken, all-accounted}}
-use Rattle.crx_filter.proofs.reading.{CompactPrefixes.{remains, whole-at}, Resuming.by_place}
+use Rattle.crx_filter.proofs.reading.{CompactPrefixes.whole-at, Resuming.by_place}
 use Rattle.crx_filter.proofs.reading.ForwardCompact.{compact_beginning, steady-epoch_at}
 use Rattle.crx_filter.proofs.reading.WhatStands.{of-unit, of-compact}
 use Rattle.crx_filter.specs.meaning.Accounts.{AreCleanLines, AreLinesOfItems}
@@ -38,23 +38,17 @@ record BeginsWithTwo (lines rest : List ReadLine) : Type 0 where
   pub second : ReadLine
   pub is : lines ≡ first ∷ second ∷ rest
 
-two-first : (lines : List ReadLine) (count : ℕ) → count ≡ 2 → count ≤ length lines
-    → BeginsWithTwo lines (drop count lines)
-two-first [] count two within = absurd (omega (arith, two, within))
-two-first (first ∷ []) count two within = absurd (omega (arith, two, within))
-two-first (first ∷ second ∷ lines) count two within =
-    record { first = first; second = second; is = rw two refl }
-
 two-read : (lines : List ReadLine) (two : List (List ℕ)) (count : ℕ) → first_lines lines ≡ Done two count
     → BeginsWithTwo lines (drop count lines)
 two-read lines two count e =
-    let one = then-comes _ lines _ two count e in
-    let other = then-comes _ _ _ two one.more one.later in
-    let first = line-reads lines crinex_version one.from one.count one.first in
-    let second = line-reads (drop one.count lines) crinex_program other.from other.count other.first in
+    let one = begins lines crinex_version _ two count e in
+    let other = begins one.rest crinex_program _ two one.more one.later in
     let none : other.more ≡ 0 = grind (arith, other.later) in
-    two-first lines count (omega (arith, one.counted, other.counted, first.one, second.one, none))
-    (remains lines [] (Done two count) e).0
+    record {
+      first = Content one.line;
+      second = Content other.line;
+      is = grind (arith, one.is, other.is, one.counted, other.counted, none);
+    }
 
 pub text-accounted : (skip : Bool) (lines : List ReadLine) → (whole_compact skip lines).fault ≡ None
     → (first : ReadLine) × (second : ReadLine) × (rest : List ReadLine)
