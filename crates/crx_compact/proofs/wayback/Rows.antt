@@ -1,12 +1,13 @@
 -- The rows of a satellite's run can be written.
-use Rattle.crx_compact.proofs.Words.{◌≡◌, suc, ◌-◌, ◌^◌, Bool, true, cond, List, Some, None}
+use Rattle.crx_compact.proofs.Characters.{bytes_eq-is}
+use Rattle.crx_compact.proofs.Words.{◌≡◌, ◌-◌, ◌^◌, Bool, List, Some, None}
 use Rattle.crx_compact.proofs.Words.{refl, length, Option, stretch, code_at}
-use Rattle.crx_compact.proofs.Words.{ℕ, ℤ, ◌∷◌, map, All, ap, Row, zero, false, subst}
+use Rattle.crx_compact.proofs.Words.{ℕ, ℤ, ◌∷◌, map, All, ap, Row, subst}
 use Rattle.crx_compact.proofs.Words.{arith, Epoch, Marked, run_of, arc_of, Count, []}
 use Rattle.crx_compact.proofs.Words.{each_place, since_full, row_named}
-use Rattle.crx_compact.proofs.Words.{slice_index_or, AllByRecursion, IsValue, satellite_line}
+use Rattle.crx_compact.proofs.Words.{slice_index_or, AllByRecursion, IsValue}
 use Rattle.crx_compact.proofs.Words.{value_in, AreWhole}
-use Rattle.crx_compact.proofs.Words.{bytes_eq, All-head, All-tail, IsWithin}
+use Rattle.crx_compact.proofs.Words.{IsWithin}
 use Rattle.crx_compact.proofs.Words.{IsMissingOrWithin, OBSERVATION_WIDTH}
 use Rattle.crx_compact.proofs.Words.{IsPrintable, CLOCK_WIDTH}
 use Rattle.crx_compact.proofs.Words.{WRITTEN_ORDER}
@@ -25,16 +26,10 @@ pub record IsRowOf (types : List Count) (name : List ℕ) (row : Row) : Type 0 w
   pub is_row : IsTypedRow types row
   pub is_named : row.name ≡ name
 
-found-step : (types : List Count) (name : List ℕ) (q r : Row) (rest : Option Row) (b : Bool)
-    → bytes_eq q.name name ≡ b → IsTypedRow types q
-    → (rest ≡ Some r → IsRowOf types name r) → cond b (Some q) rest ≡ Some r → IsRowOf types name r
-found-step types name q r rest true e h next found = search rules
-found-step types name q r rest false e h next found = next found
-
 pub found-row : (types : List Count) (name : List ℕ) (rows : List Row)
     → AllByRecursion (IsTypedRow types) rows → (r : Row) → row_named name rows ≡ Some r → IsRowOf types name r
 found-row types name [] h r found = cc
-found-row types name (q ∷ qs) h r found = search (rules, found-step, found-row types name qs h.1 r)
+found-row types name (q ∷ qs) h r found = search (rules, bytes_eq-is, found-row types name qs h.1 r)
 
 run-rows_step : (types : List Count) (name : List ℕ) (o : Option Row) (os : List (Option Row))
     → ((r : Row) → o ≡ Some r → IsRowOf types name r) → AllByRecursion (IsRowOf types name) (stretch os)
@@ -58,16 +53,6 @@ pub rows-of_run : (types : List Count) (full : Bool) (e : Epoch) (older : List M
 rows-of_run types full e older h r own = subst (λ q. AllByRecursion (IsRowOf types r.name) q)
     (run-begins full e older r own) (run-rows types r.name (since_full (marked full e ∷ older)) h)
 
--- a property of the line that any row has after any run of its satellite holds of the lines of some rows
-pub lines-each : (P : List ℕ → Type 0) (types : List Count) (ms : List Marked)
-    → ((name : List ℕ) (run : List Row) (r : Row) → AllByRecursion (IsRowOf types name) run → IsTypedRow
-    types r → P (satellite_line run r)) → AreWhole types (since_full ms) → (rows : List Row) → AllByRecursion
-    (IsTypedRow types) rows → AllByRecursion P (map (λ (r : Row). satellite_line (run_of r.name ms) r) rows)
-lines-each P types ms each h [] k = tt
-lines-each P types ms each h (r ∷ rs) k =
-    let run = run-rows types r.name _ h in
-    (each r.name _ r run k.0, lines-each P types ms each h rs k.1)
-
 -- ---- values of a run
 
 pub stretch-within : (width : ℕ) (os : List (Option ℤ))
@@ -81,9 +66,7 @@ near-all width xs h = grind (arith, common_steps, all-from, ten-more)
 
 pub value-fits : (values : List (Option ℤ)) (j : ℕ) → All IsValue values
     → IsValue (slice_index_or values j None)
-value-fits [] j h = tt
-value-fits (v ∷ vs) zero h = All-head IsValue v vs h
-value-fits (v ∷ vs) (suc j) h = value-fits vs j (All-tail IsValue v vs h)
+value-fits values j h = grind (arith, common_steps, h j)
 
 pub values-fit : (types : List Count) (name : List ℕ) (j : ℕ) (run : List Row)
     → AllByRecursion (IsRowOf types name) run → AllByRecursion IsValue (map (value_in j) run)

@@ -5,14 +5,14 @@ use Rattle.crx_compact.proofs.Words.{is_printable, begins_epoch, IsWholeEpoch, W
 use Rattle.crx_compact.proofs.Words.{compact_epoch, if◌then◌else◌, epoch_text, signed_decimal, each_place-all}
 use Rattle.crx_compact.proofs.Words.{Bool, true, false, ◌||◌, List, arith, Code, Epoch, Count, ℤ, subst, drop}
 use Rattle.crx_compact.proofs.Words.{list_all, without_end_blanks, at-without_end_blanks, is_event_flag}
-use Rattle.crx_compact.proofs.Words.{code_text, Marked, cell_text, AreWhole, clock_arc, since_full}
+use Rattle.crx_compact.proofs.Words.{code_text, Marked, cell_text, AreWhole, clock_arc, since_full, run_of}
 use Rattle.crx_compact.proofs.Words.{epoch_line, newest_text, DIGITS_LIMIT, CLOCK_WIDTH, character_at}
 use Rattle.crx_compact.proofs.Words.{length-each_place, OBSERVATION_WIDTH, indicators_before}
 use Rattle.crx_compact.proofs.Words.{negsuc, length, value_in, code_at, arc_of, codes_of, IsWithin, few_kept}
 use Rattle.crx_compact.proofs.Words.{flat_map, neg_ℤ, common_steps, rules, length-append}
 use Rattle.crx_compact.proofs.wayback.Facts.{IsTypedRow, typed-rows, text-begins}
 use Rattle.crx_compact.proofs.{Lists.all-from, Words.◌&&◌}
-use Rattle.crx_compact.proofs.wayback.Rows.{IsRowOf, lines-each}
+use Rattle.crx_compact.proofs.wayback.Rows.{IsRowOf, run-rows}
 use Rattle.crx_compact.proofs.Words.{has_no_epochs, LinesCanStand, TYPES_LIMIT, sym}
 use Rattle.crx_compact.proofs.{arcs.Bounds.{IsNear, doubled, difference-within, ten-more}}
 use Rattle.crx_compact.proofs.wayback.Facts.{length-text}
@@ -89,6 +89,13 @@ row-short types name run r h k =
     (grind arith) (omega (arith, k.0.paired, k.0.counted.1)) in
     grind (arith, common_steps, length-append, flat_map, cell_text, few_kept)
 
+rows-short : (types : List Count) (ms : List Marked) → AreWhole types (since_full ms) → (rows : List Row)
+    → AllByRecursion (IsTypedRow types) rows → AllByRecursion (λ (line : List ℕ). length line ≤ most)
+    (map (λ (r : Row). satellite_line (run_of r.name ms) r) rows)
+rows-short types ms h [] k = tt
+rows-short types ms h (r ∷ rs) k =
+    (row-short types r.name _ r (run-rows types r.name _ h) k.0, rows-short types ms h rs k.1)
+
 old-short : (types : List Count) (full : Bool) (e : Epoch) (older : List Marked) → AreWhole types (since_full
     (marked full e ∷ older)) → length (if full then [] else newest_text older) ≤ 41 + 3 * SATELLITES_LIMIT
 old-short types false e (m ∷ older) h = text-short types m.epoch h.1.0
@@ -106,7 +113,7 @@ lines-short types full e older h =
     (clocks-fit types (since_full ms) h) in
     let clock = code-length 13 (clock_arc ms) (omega arith) (omega arith) (omega arith) fits in
     let kept = typed-rows types e h.0 in
-    let rows = lines-each (λ l. length l ≤ most) types ms (row-short types) h e.rows kept in
+    let rows = rows-short types ms h e.rows kept in
     (omega arith, (omega arith, rows))
 
 -- ---- characters

@@ -1,7 +1,7 @@
 -- The tail of the epochs decides the next epoch's lines and the next tail: so an epoch is coded after others.
 use Rattle.crx_compact.proofs.Words.{◌≡◌, text_difference, satellite_line, index-each_place, lines_after_tail}
 use Rattle.crx_compact.proofs.Words.{refl, false, [], Option, Epoch, Marked, run_of, arc_of, tail_of, no_tail}
-use Rattle.crx_compact.proofs.Words.{ℕ, ℤ, Bool, true, List, ◌∷◌, map, Some, None, sym, ◌∙◌, ap, Row, Tail}
+use Rattle.crx_compact.proofs.Words.{ℕ, ℤ, Bool, true, List, ◌∷◌, map, Some, Row, Tail}
 use Rattle.crx_compact.proofs.Words.{if◌then◌else◌, without_end_blanks, indicators_before, tail_written_after}
 use Rattle.crx_compact.proofs.Words.{option_map, get_or_past, newest_text, row_line_in, row_tail_in}
 use Rattle.crx_compact.proofs.Words.{WRITTEN_ORDER, cell_of_tail, flags_of_tail, are_different, compact_epoch}
@@ -21,12 +21,6 @@ head_flags (r ∷ rs) = without_end_blanks r.flags
 abbrev start : Bool → List Marked → Tail
 start full older = if full then no_tail else tail_of older
 
-cell-found : (name : List ℕ) (rest : List (Option Row)) (found : Option Row) (j : ℕ)
-    → cell_of_tail j (option_map (row_tail (stretch (found ∷ rest))) found)
-    ≡ arc_tail WRITTEN_ORDER (arc_of j (stretch (found ∷ rest)))
-cell-found name rest None j = refl
-cell-found name rest (Some r) j = search (rules, index-each_place, get_or_past)
-
 tail-found : (name : List ℕ) (m : Marked) (older : List Marked) → tail_named name (tail_of (m ∷ older))
     ≡ option_map (row_tail (run_of name (m ∷ older))) (row_named name m.epoch.rows)
 tail-found name m older = named-made (λ (r : Row). r.name) (λ (t : RowTail). t.name)
@@ -34,7 +28,7 @@ tail-found name m older = named-made (λ (r : Row). r.name) (λ (t : RowTail). t
 
 cell-left : (full : Bool) (name : List ℕ) (older : List Marked) (j : ℕ) → cell_of_tail j
     (tail_named name (start full older)) ≡ arc_tail WRITTEN_ORDER (arc_of j (rows_before full name older))
-cell-left false name (m ∷ older) j = ap (cell_of_tail j) (tail-found name m older) ∙ cell-found name _ _ j
+cell-left false name (m ∷ older) j = grind (arith, tail-found name m older, index-each_place, get_or_past)
 cell-left full name older j = refl
 
 flags-left : (full : Bool) (name : List ℕ) (older : List Marked)
@@ -46,8 +40,7 @@ flags-left full name older = refl
 
 before-flags : (r : Row) (rs : List Row)
     → text_difference (indicators_before (r ∷ rs)) r.flags ≡ text_difference (head_flags rs) r.flags
-before-flags r [] = refl
-before-flags r (q ∷ qs) = sym (before-trimmed q.flags r.flags)
+before-flags r rs = grind (arith, before-trimmed)
 
 record RowByTail (full : Bool) (ms older : List Marked) (r : Row) : Type 0 where
   line : satellite_line (run_of r.name ms) r ≡ row_line_in (start full older).rows r
@@ -66,13 +59,14 @@ clocks_before full older = map (λ (q : Epoch). q.clock)
 
 text-left : (full : Bool) (older : List Marked) (new : List ℕ) → text_difference
     (if full then [] else newest_text older) new ≡ text_difference (start full older).text new
-text-left true older new = refl
-text-left false older new = sym (before-trimmed (newest_text older) new)
+text-left full older new = grind (arith, before-trimmed)
 
-epoch-by : (full : Bool) (e : Epoch) (older : List Marked)
-    → are_different e.rows ≡ true → EpochByTail (marked full e) older
-epoch-by full e older h =
-    let ms = marked full e ∷ older in
+pub epoch-by_tail : (m : Marked) (older : List Marked) → are_different m.epoch.rows ≡ true
+    → EpochByTail m older
+epoch-by_tail m older h =
+    let full = m.in_full in
+    let e = m.epoch in
+    let ms = m ∷ older in
     let rows = (start full older).rows in
     let own = each-own (λ (r : Row). r.name) e.rows h in
     let code = code-next e.clock (clocks_before full older) in
@@ -85,10 +79,6 @@ epoch-by full e older h =
     grind arith in
     let text = text-left full older (epoch_text e) in
     record { lines = cc; tail = cc }
-
-pub epoch-by_tail : (m : Marked) (older : List Marked) → are_different m.epoch.rows ≡ true
-    → EpochByTail m older
-epoch-by_tail m older h = epoch-by m.in_full m.epoch older h
 
 -- ---- an epoch coded after others
 
