@@ -20,11 +20,9 @@ ends-within zero text h =
     omega (arith, ap (λ (t : List ℕ). length t) none)
 ends-within (suc n) [] h = omega arith
 ends-within (suc n) (c ∷ cs) h =
-    grind (
-      arith,
-      length-before,
-      ends-within n cs (λ p. let place : suc (n + p) ≡ suc n + p = omega arith in ap (at (c ∷ cs)) place ∙ h p),
-    )
+    let rest = ends-within n cs
+    (λ p. let place : suc (n + p) ≡ suc n + p = omega arith in ap (at (c ∷ cs)) place ∙ h p) in
+    grind (arith, length-before)
 
 pub blank-after : (n : ℕ) (text : List ℕ) → list_all is_blank (drop n text) ≡ true → (p : ℕ)
     → at text (n + p) ≡ 32

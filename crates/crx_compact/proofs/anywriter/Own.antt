@@ -114,18 +114,12 @@ row-line : (types : List Count) (found : Option WrittenRow) (r : Row) (rs : List
 row-line types found r rs h arcs flags =
     let n = length r.values in
     let marks = text_difference (indicators_before (r ∷ rs)) r.flags in
+    let printable = run-printable types r.name (r ∷ rs) h in
     let many : length (each_place n (λ j. arc_written (arc_of j (r ∷ rs)))) ≡ n = length-each_place n _ in
     record {
       texts = map code_text (codes_of n (r ∷ rs));
       marks = marks;
-      spelled = search (
-        rules,
-        map-each_place,
-        each_place-same,
-        code_of-code_text,
-        run-printable,
-        code-written,
-      );
+      spelled = search (rules, map-each_place, each_place-same, code_of-code_text, code-written);
       written = grind (arith, trimmed-again, flat_map-map);
       marked = grind (arith, patched-again, unmarked);
       no_more = grind (arith, many, no-more, before-short);

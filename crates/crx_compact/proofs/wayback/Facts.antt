@@ -25,12 +25,8 @@ rows-typed : (types : List Count) (rows : List Row)
     → All IsSoundRow rows → All (HasItsTypes types) rows → AllByRecursion (IsTypedRow types) rows
 rows-typed types [] h k = tt
 rows-typed types (r ∷ rs) h k =
-    search (
-      rules,
-      All-head,
-      All-tail,
-      rows-typed types rs (All-tail IsSoundRow r rs h) (All-tail (HasItsTypes types) r rs k),
-    )
+    let rest = rows-typed types rs (All-tail IsSoundRow r rs h) (All-tail (HasItsTypes types) r rs k) in
+    search (rules, All-head)
 
 -- ---- epochs
 
