@@ -184,5 +184,4 @@ module _ (types : List Count) (base now : WrittenEpoch) (line clock : List ℕ) 
 pub any-epoch : ReadsAnyEpoch
 any-epoch types before raws now [] left whole h = absurd h
 any-epoch types before raws now (line ∷ []) left whole h = absurd h
-any-epoch types before raws now (line ∷ clock ∷ lines) left whole h =
-    by_parts types h.0 now line clock lines whole h.2 before raws left h.1
+any-epoch types before raws now (line ∷ clock ∷ lines) left whole h = grind (arith, by_parts)

@@ -1,15 +1,14 @@
 -- Each line that is read is one that some writer may write.
-use Rattle.crx_compact.proofs.Words.{◌≡◌, refl, ℕ, ℤ, zero, suc, List, [], ◌∷◌, ◌++◌, Bool, true, false, Option, Some, None, Result, Ok, Err, map, length, min, arith, ap, sym, ◌∙◌, ◌*◌, ◌+◌, ◌<◌, ◌≤◌, ◌⊎◌, inl, inr, drop}
-use Rattle.crx_compact.proofs.Words.{list_all, slice_index_or, if◌then◌else◌, ReadCell, cells_of, after_cells, first_cell, after_cell, is_blank}
-use Rattle.crx_compact.proofs.Words.{OutOfRange, Code, Missing, Start, Step, Fault, code_of, difference, value_of_code, in_range, is_within, values_of, value_at}
+use Rattle.crx_compact.proofs.Words.{◌≡◌, refl, ℕ, ℤ, zero, suc, List, [], ◌∷◌, ◌++◌, true, Option, Some, None, Ok, map, length, min, arith, ap, sym, ◌∙◌, ◌*◌, ◌+◌, ◌<◌, ◌≤◌, ◌⊎◌, inl, inr, drop}
+use Rattle.crx_compact.proofs.Words.{list_all, slice_index_or, ReadCell, cells_of, after_cells, first_cell, after_cell, is_blank}
+use Rattle.crx_compact.proofs.Words.{Code, Missing, Start, Step, code_of, difference, value_of_code}
 use Rattle.crx_compact.proofs.Words.{without_end_blanks, before_end_blanks, length-map, rules}
 use Rattle.crx_compact.proofs.arcs.Inversion.{numbers_of}
 use Rattle.crx_compact.proofs.arcs.Stepping.{values-by_tail, numbers-values}
 use Rattle.crx_compact.proofs.soundness.Soundness.{AreReadCells, RowFacts, line-facts}
-use Rattle.crx_compact.proofs.{Results.ok-same, EpochTexts.blank-after, PlaceByPlace.at-padded}
+use Rattle.crx_compact.proofs.{EpochTexts.blank-after, PlaceByPlace.at-padded}
 use Rattle.crx_compact.proofs.Words.{ArcTail, length-columns, Satellite}
 use Rattle.crx_compact.specs.ArcSteps.{arc_after_number, value_of_tail}
-use Rattle.crx_compact.specs.meaning.Differences.{newest}
 use Rattle.crx_compact.proofs.Words.{ReadRow, past_of_tail, tail_named, cell_of_tail, flags_of_tail, OBSERVATION_WIDTH, columns, is_printable}
 use Rattle.crx_compact.proofs.Words.{at, at-without_end_blanks, patched, character_of, and_parts, cases_lt, ◌-◌}
 use Rattle.crx_compact.proofs.Characters.{same_characters, at-by_position}
@@ -29,34 +28,24 @@ pub record ArcBack (found : Option Arc) (code : Code) (value : Option ℤ) : Typ
   pub coded : code_now now ≡ code
   pub valued : value_now now ≡ value
 
-in-range_same : (width : ℕ) (x : ℤ) (v : Option ℤ) → in_range width x ≡ Ok v → Some x ≡ v
-in-range_same width x v e = pick (is_within width x) e
-  where
-    pick : (b : Bool) → ◌≡◌ {A = Result (Option ℤ) Fault} (if b then Ok (Some x) else Err OutOfRange) (Ok v) → Some x ≡ v
-    pick true e = cc e
-    pick false e = absurd (cc e)
-
 -- the number of a code, by the value that it gives
 number-back : (n : ℕ) (d y : ℤ) (ys : List ℤ)
     → difference (min (length (y ∷ ys)) n) (value_of_tail (arc_after_number d (tail_at n (y ∷ ys))) ∷ y ∷ ys) ≡ d
 number-back n d y ys =
     let c = difference (min (length ys) n) (y ∷ ys) in
     let nums = numbers_of n ys in
-    let x = value_of_tail (arc_after_number d (tail_at n (y ∷ ys))) in
-    let value : value_at n (d ∷ c ∷ nums) ≡ x = (values-by_tail n d c nums).value
-    ∙ ap (λ vs. value_of_tail (arc_after_number d (tail_at n vs))) (values-back n (y ∷ ys)) in
-    let values : values_of n (d ∷ c ∷ nums) ≡ x ∷ y ∷ ys =
-    ap (λ v. v ∷ values_of n (c ∷ nums)) value ∙ ap (λ vs. x ∷ vs) (values-back n (y ∷ ys)) in
-    ap newest (ap (numbers_of n) (sym values) ∙ numbers-values n (d ∷ c ∷ nums))
+    let value = (values-by_tail n d c nums).value in
+    let back = values-back n (y ∷ ys) in
+    cc (numbers-values n (d ∷ c ∷ nums))
 
 pub arc-back : (width : ℕ) (found : Option Arc) (code : Code) (v : Option ℤ)
     → value_of_code width code (arc_left found) ≡ Ok v → ArcBack found code v
-arc-back width found Missing v e = record { now = None; follows = tt; coded = refl; valued = ok-same None v e }
+arc-back width found Missing v e = record { now = None; follows = tt; coded = refl; valued = cc e }
 arc-back width found (Start n x) v e = record {
   now = Some (record { order = n; newest = x; older = [] });
   follows = inl refl;
   coded = refl;
-  valued = in-range_same width x v e;
+  valued = grind arith;
 }
 arc-back width None (Step d) v e = absurd (cc e)
 arc-back width (Some a) (Step d) v e =
@@ -65,7 +54,7 @@ arc-back width (Some a) (Step d) v e =
       now = Some (record { order = a.order; newest = x; older = a.newest ∷ a.older });
       follows = inr refl;
       coded = ap Step (number-back a.order d a.newest a.older);
-      valued = in-range_same width x v e;
+      valued = grind arith;
     }
 
 -- ---- the cells of a line

@@ -1,6 +1,6 @@
 -- A satellite's line, whoever wrote it, reads as its row.
 use Rattle.crx_compact.proofs.Words.{◌≡◌, refl, ℕ, ℤ, zero, suc, List, [], ◌∷◌, true, false, Option, Some, None, Result, Ok, map, length, arith, ap, sym, ◌∙◌, ◌*◌, ◌+◌, drop}
-use Rattle.crx_compact.proofs.Words.{list_all, length-map, slice_index_or, option_map}
+use Rattle.crx_compact.proofs.Words.{list_all, length-map, slice_index_or, option_map, rules}
 use Rattle.crx_compact.proofs.Words.{Code, Missing, Fault, code_of, cells_of, after_cells, cells_read, ReadCell, IsValue, OBSERVATION_WIDTH}
 use Rattle.crx_compact.proofs.Words.{without_end_blanks, patched, character_of, by_position, at, at-without_end_blanks, at-drop, list_all-from_at, is_blank, is_kept, is_printable}
 use Rattle.crx_compact.proofs.Words.{IsSoundRow, satellite_line_read, row_of_cells, past_of_tail, raw_row_tail_after, tail_named, cell_of_tail, flags_of_tail}
@@ -120,15 +120,13 @@ module _ (before : WrittenEpoch) (now : WrittenRow) (line : List ℕ) (sound : I
   texts = are-texts h.texts now.arcs h.spelled
 
   marks-same : without_end_blanks marks ≡ without_end_blanks h.marks
-  marks-same = ap (λ k. without_end_blanks (after_cells k line)) (sym count)
-      ∙ marks-again h.texts h.marks line texts h.written
+  marks-same = grind (arith, count, marks-again, texts)
 
   cells : cells_of (length now.arcs) line ≡ h.texts
   cells = ap (λ k. cells_of k line) (sym count) ∙ cells-again h.texts h.marks line texts h.written
 
   other : begins_epoch line ≡ false
-  other = line-other h.texts h.marks line
-      (omega (arith, count, length-map now.arcs value_now, sound.counted.0)) texts h.written
+  other = search (rules, line-other, count, length-map, texts)
 
   line-printable : list_all is_printable line ≡ true
   line-printable = all-same is_printable refl (with_blanks h.texts h.marks) line (sym h.written)
