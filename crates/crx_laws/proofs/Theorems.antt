@@ -50,10 +50,12 @@ pub ruleset of_check = (check-ended, named-where_not, what-passes, read-as_norma
 
 pub ruleset of_way_back = (standard-comes_back, normal-comes_back, comes-back, expanded-standard)
 
+pub ruleset of_again = (normal-comes_back, as-normal)
+
 pub ruleset of_more = (canonical, as-normal, make-a_day)
 
 pub ruleset of_reading = (of_lines, of_progress, of_rinex, of_steps, of_compact_text, of_bounds)
 
-pub ruleset of_runs = (of_check, of_way_back, of_directions)
+pub ruleset of_runs = (of_check, of_directions)
 
-pub ruleset laws = (of_more, of_any_writer, of_arcs, of_reading, of_runs)
+pub ruleset laws = (of_way_back, of_more, of_any_writer, of_arcs, of_reading, of_runs)

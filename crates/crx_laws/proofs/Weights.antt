@@ -4,7 +4,7 @@ use Rattle.std.proofs.lemmas.Grind.{common_steps}
 use Rattle.crx_filter.proofs.Words.{ℕ, zero, suc, ◌≡◌, ◌+◌, ◌-◌, ◌*◌, ◌<◌, ◌≤◌, Bool, List, [], ◌∷◌, ◌++◌}
 use Rattle.crx_filter.proofs.Words.{map, length, drop, refl, ap, sym, ◌∙◌, subst, arith, length-append, ⊤}
 use Rattle.crx_filter.proofs.Words.{◌==◌, AllByRecursion, length-map, flat_map-append, Piece, pieces_of}
-use Rattle.crx_filter.proofs.Words.{onto_first, without_return, line_of, lines_of, is_long, lines_text}
+use Rattle.crx_filter.proofs.Words.{onto_first, without_return, line_of, lines_of, lines_text}
 use Rattle.crx_filter.proofs.Words.{ReadLine, Content, Overlong, as_read, IsDecidedAfter, Remains}
 use Rattle.crx_filter.proofs.Words.{IsWholeEpoch, Place, Done, Fails, NeedsMore, printed_epoch, printed_row}
 use Rattle.crx_filter.proofs.Words.{FileUnit, HeaderLine, EventLine, EventRecord, Observation, IsGood, Count}

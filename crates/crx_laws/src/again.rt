@@ -16,6 +16,7 @@ ghost use Rattle.crx_laws.specs.SmallStretches.{five_epochs, five_epochs_text};
 /// The compact text of a file without faults, and without copied lines that end in two CRs, is written again
 /// by the compaction of its expansion, with the same options and the same date, whatever is chosen for the
 /// expansion.
+#[tactic(auto, using(crate::proofs::Theorems::of_again))]
 pub fn compacting_again_changes_nothing()
     ensures law { (file : List ℕ) (compacting expanding : Choices) → IsTheSameAgain file compacting expanding }
 {}

@@ -1,7 +1,7 @@
 -- The lines of an accepted epoch of compact text are printable.
 use Rattle.crx_filter.proofs.Words
-use Words.{arith, common_steps, [], ℕ, ℤ, zero, suc, ◌≡◌, Bool, true, List, ◌∷◌, ◌++◌, take, Option, Some, None}
-use Words.{Result, Ok, Err, refl, ⊤, list_all, and_parts, ReadLine, Fault, Place, Done, then_place, first_line}
+use Words.{arith, common_steps, [], ℕ, ℤ, zero, suc, ◌≡◌, true, List, ◌∷◌, ◌++◌, take, Option, Some, None}
+use Words.{Result, Ok, refl, ⊤, list_all, ReadLine, Fault, Place, Done, then_place, first_line}
 use Words.{Count, RawEpoch, Past, Satellite, BegunEpoch, epoch_begun, code_of, without_end_blanks, begins_epoch}
 use Words.{cell_read, clock_line_read, satellite_line_read, rows_read, epoch_at, BadClock, BadField, Truncated}
 use Rattle.{std.proofs.Common.take-add, std.specs.Str.all_ascii_digits}

@@ -1,17 +1,15 @@
 -- Blocks are short.
-use Rattle.std.proofs.Common.{◌≡◌, refl, ℕ, suc, List, [], ◌∷◌, Bool, true, false, Option, Some, ◌<◌, ◌≤◌, ◌⊎◌}
-use Rattle.std.proofs.Common.{inl, inr, arith, sym, ◌∙◌, ap, subst, ◌+◌, ◌*◌, ◌%◌, length, true≢false}
+use Rattle.std.proofs.Common.{◌≡◌, refl, ℕ, suc, List, [], ◌∷◌, Bool, false, Option, Some, ◌<◌, ◌≤◌, ◌⊎◌}
+use Rattle.std.proofs.Common.{inl, inr, arith, sym, ◌∙◌, ap, subst, ◌+◌, ◌*◌, ◌%◌, length}
 use Rattle.std.proofs.lemmas.Bool.{cases_lt}
 use Rattle.std.proofs.lemmas.Nat.{mod-mul-add, div-add-mod', mod_below}
-use Rattle.std.specs.Prelude.{◌||◌, ◌/◌}
+use Rattle.std.specs.Prelude.{◌/◌}
 use Rattle.crx_base.specs.meaning.Choices.{Choices}
 use Rattle.crx_rinex.specs.meaning.Observations.{Epoch}
 use Rattle.crx_rinex.specs.meaning.Units.{Observation}
 use Rattle.crx_filter.specs.meaning.Items.{Item, Accepted}
-use Rattle.crx_filter.specs.meaning.Compacted.{epochs_accepted, is_at_every}
-use Rattle.crx_filter.specs.meaning.Accounts.{AreContinued}
-use Rattle.crx_filter.specs.meaning.Accounts.{HasShortBlocks}
-use Rattle.crx_filter.specs.meaning.Compacted.{compacted}
+use Rattle.crx_filter.specs.meaning.Compacted.{compacted, epochs_accepted, is_at_every}
+use Rattle.crx_filter.specs.meaning.Accounts.{AreContinued, HasShortBlocks}
 
 -- the remainder of the next number, where it isn't 0
 at-next : (q r n : ℕ) → r < n → ((q * n + (r + 1)) % n ≡ 0 → ⊥) → r + 1 < n
@@ -34,10 +32,6 @@ next-remainder k n some other =
 not-at : (n index : ℕ) → 0 < n → is_at_every (Some n) index ≡ false → index % n ≡ 0 → ⊥
 not-at n index some h e = grind (arith, some, h, e)
 
-or-parts : (a b : Bool) → (a || b) ≡ false → b ≡ false
-or-parts true b h = absurd (true≢false h)
-or-parts false b h = h
-
 -- epochs after an epoch, none of them in full: the index of the first of them is k + 1
 few : (choices : Choices) (n : ℕ) (before : List (Item Epoch)) (first : Epoch) (others : List Epoch)
     → choices.every ≡ Some n → 0 < n → AreContinued choices (Accepted (Observation first) ∷ before) others
@@ -45,12 +39,12 @@ few : (choices : Choices) (n : ℕ) (before : List (Item Epoch)) (first : Epoch)
 few choices n before first [] every some h = omega (arith, mod_below (epochs_accepted before) n some)
 few choices n before first (e ∷ later) every some h =
     let k = epochs_accepted before in
-    let off : is_at_every choices.every (k + 1) ≡ false = or-parts false (is_at_every choices.every (k + 1)) h.0 in
-    let off_n : is_at_every (Some n) (k + 1) ≡ false = subst (λ (o : Option ℕ). is_at_every o (k + 1) ≡ false) every off in
-    let up = next-remainder k n some (not-at n (k + 1) some off_n) in
-    let rest = few choices n (Accepted (Observation first) ∷ before) e later every some h.1 in
-    let rest_at : length later + ((k + 1) % n + 1) ≤ n = rest in
-    omega (arith, rest_at, up)
+    let off : is_at_every (Some n) (k + 1) ≡ false =
+    subst (λ (o : Option ℕ). is_at_every o (k + 1) ≡ false) every h.0 in
+    let up = next-remainder k n some (not-at n (k + 1) some off) in
+    let rest : length later + ((k + 1) % n + 1) ≤ n =
+    few choices n (Accepted (Observation first) ∷ before) e later every some h.1 in
+    omega (arith, rest, up)
 
 pub short-blocks : (choices : Choices) (file : List ℕ) → HasShortBlocks choices file (compacted file choices)
 short-blocks choices file n every some = (

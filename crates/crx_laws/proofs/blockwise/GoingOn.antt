@@ -7,12 +7,12 @@ use Rattle.crx_filter.proofs.Words.{map, length, drop, Option, Some, None, refl,
 use Rattle.crx_filter.proofs.Words.{append-nil, ◌&&◌, ◌==◌, nat_lt, and_parts, drop-append-le, lines_of}
 use Rattle.crx_filter.proofs.Words.{pieces_of, lines_text, ReadLine, Content, Overlong, as_read, At, Fault}
 use Rattle.crx_filter.proofs.Words.{begins_epoch, is_event_line, Place, Done, Fails, NeedsMore, one_line}
-use Rattle.crx_filter.proofs.Words.{Remains, ReadEpoch, epoch_at, Choices, Item, header_has_ended}
+use Rattle.crx_filter.proofs.Words.{Remains, ReadEpoch, Choices, Item, header_has_ended}
 use Rattle.crx_filter.proofs.Words.{records_announced, records_left, types_in_force, Reading, WholeReading}
 use Rattle.crx_filter.proofs.Words.{Stop, AtFault, AtLines, Looking, is_skipped, reading_from, fault_at_end}
-use Rattle.crx_filter.proofs.Words.{ended_with, ended_reading, raws_kept, event_line, as_observation}
+use Rattle.crx_filter.proofs.Words.{ended_with, ended_reading}
 use Rattle.crx_filter.proofs.Words.{compact_place, first_lines, whole_compact, expanded, IsBetweenUnits}
-use Rattle.crx_filter.proofs.Words.{GoOnAlike, starts_anew, expanded_lines, continued_reading}
+use Rattle.crx_filter.proofs.Words.{starts_anew, expanded_lines, continued_reading}
 use Rattle.crx_filter.proofs.Choosing.{by_bool}
 use Rattle.crx_filter.proofs.following.Lines.{IsStopped, one_line-decided}
 use Rattle.crx_filter.proofs.reading.Anew.{AreReadAlike, depends-on_types}

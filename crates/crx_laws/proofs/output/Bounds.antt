@@ -5,12 +5,12 @@ use Rattle.crx_filter.proofs.Words.{subst, arith, All, AllByRecursion, All-head,
 use Rattle.crx_filter.proofs.Words.{Epoch, Count, Done, IsSoundRow, HeaderLine, EventLine, EventRecord}
 use Rattle.crx_filter.proofs.Words.{Observation, OpenEpoch, ReadEpoch, epoch_at, RawEpoch, Tail, OpenRawEpoch}
 use Rattle.crx_filter.proofs.Words.{first_step, open_raw_with, Choices, Item, Accepted, Warned}
-use Rattle.crx_filter.proofs.Words.{header_has_ended, records_left, records_count_types, types_in_force}
+use Rattle.crx_filter.proofs.Words.{records_count_types, types_in_force}
 use Rattle.crx_filter.proofs.Words.{Reading, Stop, AtLines, Phase, InEpoch, Ended, kept_in, phase_in_body}
 use Rattle.crx_filter.proofs.Words.{phase_after_items, phase_of, marked_epochs, rinex_place, rinex_reading}
 use Rattle.crx_filter.proofs.Words.{Written, compaction, written_of, rinex_open, compaction_state}
 use Rattle.crx_filter.proofs.Words.{compact_place, empties_state, raws_kept, first_lines, compact_reading}
-use Rattle.crx_filter.proofs.Words.{expansion, tail_of_items, begins_event, compact_open, expansion_state}
+use Rattle.crx_filter.proofs.Words.{expansion, tail_of_items, compact_open, expansion_state}
 use Rattle.crx_filter.proofs.Words.{ItemsAreRead, AreInPlace}
 use Rattle.std.proofs.Common.{IfSome}
 use Rattle.crx_base.specs.declared.limits.TheConstants.{ORDER_LIMIT, WRITTEN_ORDER}

@@ -1,7 +1,7 @@
 -- What is held of epochs that are read is within the limits.
-use Rattle.crx_filter.proofs.Words.{◌≡◌, refl, ℕ, zero, suc, ◌+◌, ◌*◌, ◌≤◌, ◌<◌, ℤ, true, List, [], ◌∷◌}
-use Rattle.crx_filter.proofs.Words.{length, map, take, drop, Option, Some, None, Result, Ok, Err, ⊤, list_all}
-use Rattle.crx_filter.proofs.Words.{AllByRecursion, sym, ◌∙◌, ap, subst, arith, length-map, is_blank}
+use Rattle.crx_filter.proofs.Words.{◌≡◌, refl, ℕ, zero, suc, ◌+◌, ◌*◌, ◌≤◌, ◌<◌, ℤ, List, [], ◌∷◌}
+use Rattle.crx_filter.proofs.Words.{length, map, take, Option, Some, None, Result, Ok, Err, ⊤}
+use Rattle.crx_filter.proofs.Words.{AllByRecursion, sym, ◌∙◌, ap, subst, arith, length-map}
 use Rattle.crx_filter.proofs.Words.{character_at, without_end_blanks, columns, code_of, ReadLine, Content}
 use Rattle.crx_filter.proofs.Words.{Overlong, Fault, BadClock, Truncated, NAME_WIDTH, TYPES_LIMIT, Place}
 use Rattle.crx_filter.proofs.Words.{Done, types_of_satellite, Count, and_then, begins_epoch, Satellite}
@@ -11,8 +11,7 @@ use Rattle.std.specs.Prelude.{slice_get, IfSome, slice_index_or, slice_set, unwr
 use Rattle.std.specs.Option.{option_map}
 use Rattle.std.proofs.lemmas.List.{length-set, length-take}
 use Rattle.std.proofs.lemmas.Option.{same_Some, slice_get_within}
-use Rattle.crx_text.proofs.Characters.{length-columns, at, at-without_end_blanks, at-drop}
-use Rattle.crx_text.specs.meaning.Columns.{before_end_blanks}
+use Rattle.crx_text.proofs.Characters.{length-columns, at-without_end_blanks}
 use Rattle.crx_text.specs.meaning.Codes.{coded_number}
 use Rattle.crx_text.specs.Texts.{patched, character_of}
 use Rattle.crx_text.specs.meaning.Texts.{by_position}
@@ -39,7 +38,6 @@ use Rattle.crx_compact.specs.OpenEpochs.{raw_step_with_row, row_step, rows_befor
 use Rattle.crx_compact.specs.OpenEpochs.{whole_or_awaiting, IsBoundedOpen, IsBoundedStep}
 use Rattle.crx_compact.specs.ReadingLaws.{ReadAreBounded}
 use Rattle.crx_text.proofs.EachPlace.{each_place-all, length-each_place}
-use Rattle.crx_compact.proofs.Characters.{same_characters, list_all-at}
 use Rattle.crx_compact.proofs.SoundTexts.{length-held}
 use Rattle.crx_compact.proofs.Words.{after_cells, cells_of}
 use Rattle.crx_compact.proofs.soundness.Goodness.{typed-parts}

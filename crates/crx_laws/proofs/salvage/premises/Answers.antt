@@ -1,5 +1,5 @@
 -- by computation
-use Rattle.crx_filter.proofs.Words.{ℕ, refl, rules, List, [], ◌∷◌, ◌++◌, inl, inr, ◌≡◌, true, list_all, Piece}
+use Rattle.crx_filter.proofs.Words.{ℕ, refl, rules, List, [], ◌∷◌, ◌++◌, inr, ◌≡◌, true, list_all, Piece}
 use Rattle.crx_filter.proofs.Words.{lines_of, pieces_of, EventLine, EventRecord, Observation, Accepted}
 use Rattle.crx_filter.proofs.Words.{lines_text}
 use Rattle.std.proofs.Common.{codes}
