@@ -96,28 +96,25 @@ arc-read (Step number) (Some arc) h k = grind (
   length-take arc.order arc.differences,
 )
 
-cell-bounded : (cells : List (Option ArcTail)) (place : ℕ)
-    → AllByRecursion (λ (cell : Option ArcTail). IfSome cell (IsBoundedArc ORDER_LIMIT)) cells
-    → IfSome (slice_index_or cells place None) (IsBoundedArc ORDER_LIMIT)
-cell-bounded [] place h = tt
-cell-bounded (c ∷ cs) zero h = h.0
-cell-bounded (c ∷ cs) (suc place) h = cell-bounded cs place h.1
+-- what holds of all things of a list, and where there is none
+all-index : {X : Type 0} (P : X → Type 0) (d : X) (xs : List X) (place : ℕ)
+    → P d → AllByRecursion P xs → P (slice_index_or xs place d)
+all-index P d [] place h k = h
+all-index P d (x ∷ xs) zero h k = k.0
+all-index P d (x ∷ xs) (suc place) h k = all-index P d xs place h k.1
+
+abbrev IsBoundedCell : Option ArcTail → Type 0
+IsBoundedCell cell = IfSome cell (IsBoundedArc ORDER_LIMIT)
 
 arc-kept : (place : ℕ) (row : Option RowTail)
     → IfSome row (IsBoundedRowTail ORDER_LIMIT) → IfSome (cell_of_tail place row) (IsBoundedArc ORDER_LIMIT)
 arc-kept place None h = tt
-arc-kept place (Some row) h = cell-bounded row.cells place h.cells
+arc-kept place (Some row) h = all-index IsBoundedCell None row.cells place tt h.cells
 
 named-bounded : (name : List ℕ) (rows : List RowTail) → AllByRecursion (IsBoundedRowTail ORDER_LIMIT) rows
     → IfSome (named (λ (r : RowTail). r.name) name rows) (IsBoundedRowTail ORDER_LIMIT)
 named-bounded name [] h = tt
 named-bounded name (row ∷ rows) h = grind (arith, named-bounded name rows h.1)
-
-code-kept : (codes : List Code) (place : ℕ)
-    → AllByRecursion HasOrder codes → HasOrder (slice_index_or codes place Missing)
-code-kept [] place h = tt
-code-kept (c ∷ cs) zero h = h.0
-code-kept (c ∷ cs) (suc place) h = code-kept cs place h.1
 
 -- ---- rows
 
@@ -140,8 +137,8 @@ row-read row line read h facts =
       few = omega (arith, length-each_place (length codes) cell, many, most);
       cells = each_place-all (λ (c : Option ArcTail). IfSome c (IsBoundedArc ORDER_LIMIT)) (length codes) cell
           (λ place. arc-read (slice_index_or codes place Missing) (slice_index_or row.cells place None)
-          (code-kept codes place (cells-ordered ((past_of_row row.cells row.flags).value row.name) texts
-          facts.cells facts.are_read)) (cell-bounded row.cells place h.cells));
+          (all-index HasOrder Missing codes place tt (cells-ordered ((past_of_row row.cells row.flags).value
+          row.name) texts facts.cells facts.are_read)) (all-index IsBoundedCell None row.cells place tt h.cells));
     })
 
 all-there : {X : Type 0} (P : X → Type 0) (xs : List X) (place : ℕ) (x : X)
@@ -224,10 +221,6 @@ next-bounded begun (Content line) h = line-came begun begun.clock line refl h
 
 -- ---- the epoch line
 
-for-line : (tail : Option Tail) (line : List ℕ)
-    → IfSome tail (IsBoundedTail ORDER_LIMIT) → IfSome (tail_for_line tail line) (IsBoundedTail ORDER_LIMIT)
-for-line tail line h = grind arith
-
 -- what an epoch line leaves of the satellites
 rows-opened : (types : List Count) (before : Tail) (satellites : List Satellite)
     → AreCounts types → AllByRecursion (IsBoundedRowTail ORDER_LIMIT) before.rows
@@ -292,7 +285,7 @@ first-bounded : (types : List Count) (tail : Option Tail) (line : ReadLine)
     → AreCounts types → IfSome tail (IsBoundedTail ORDER_LIMIT) → IsBoundedStep (first_step types tail line)
 first-bounded types tail Overlong counts h = tt
 first-bounded types tail (Content line) counts h =
-    begun-bounded types (tail_for_line tail line) line counts (for-line tail line h)
+    begun-bounded types (tail_for_line tail line) line counts (grind arith)
 
 pub read-bounded : ReadAreBounded
 read-bounded = record { first = first-bounded; next = next-bounded }
