@@ -3,7 +3,7 @@ use Rattle.crx_filter.proofs
 use proofs.Words.{common_steps, ℕ, suc, ◌≡◌, ◌+◌, ◌<◌, Bool, true, false, cond, List, [], ◌∷◌, ◌++◌, map}
 use proofs.Words.{length, Option, Some, None, Ok}
 use proofs.Words.{by_bool, refl, ap, sym, ◌∙◌, subst, arith, append-nil, is_some, lines_of, as_read, ReadLine}
-use proofs.Words.{Content, Epoch, Place, Done}
+use proofs.Words.{Content, Epoch, Done}
 use proofs.Words.{FileUnit, HeaderLine, EventLine, EventRecord, Observation, Item, Accepted, Warned, Count}
 use proofs.Words.{RawEpoch, ReadEpoch}
 use proofs.Words.{header_has_ended, records_left, records_count_types, types_in_force, types_fault}
@@ -13,7 +13,7 @@ use proofs.Words.{event_line, is_event_line, records_in, raws_kept, whole_compac
 use proofs.Words.{IsWholeEpoch, expanded_unit, expanded, printed_items, warnings_in, lines_text, result_of}
 use proofs.Words.{written_well}
 use Rattle.crx_filter.proofs.{Words.{IsInPlace, AreInPlace}, following.Following.body-place}
-use Rattle.crx_filter.proofs.reading.{ForwardCompact.compact-forward, Ending.closes-well}
+use Rattle.crx_filter.proofs.reading.{ForwardCompact.{compact-forward, compact_beginning}, Ending.closes-well}
 use Rattle.crx_filter.proofs.wayback.{Carried.{IsLike, header-here, record-here, unit-more}, WayBack.result-well}
 use Rattle.crx_filter.specs.meaning.{Expanded.{rinex_unit, crinex_version, crinex_program, empties_state}, WrittenStandard.rinex_items}
 use Rattle.crx_filter.specs.meaning.UnitsAndText.{as_items, rinex_text}
@@ -100,10 +100,6 @@ event-begins : (types : List Count) (raws : List RawEpoch) (line : List ℕ) →
     → is_some (records_in line) ≡ true → compact_epoch_place types raws (Content line ∷ []) ≡ Done (EventLine line) 1
 event-begins types raws line e h = let here = event-here line (records_in line) refl h in rw (e, here) refl
 
--- what may begin between units
-abbrev beginning : List (Item ReadEpoch) → List ReadLine → Place (FileUnit ReadEpoch)
-beginning items lines = compact_epoch_place (types_in_force items) (raws_kept items) lines
-
 module _ (items : List (Item ReadEpoch)) (units : List (FileUnit Epoch)) (before : Option WrittenEpoch)
     (k : IsLike items units) (left : IsLeft before (tail_left (raws_kept items))) where
   record-left : (line : List ℕ) (b : Bool) → records_count_types items ≡ b
@@ -126,7 +122,7 @@ module _ (items : List (Item ReadEpoch)) (units : List (FileUnit Epoch)) (before
       let count : 2 + length now.rows ≡ length (line ∷ clock ∷ rows) = omega (arith, rows-many lines.0 now.rows rows lines.2.satellites) in
       record {
         read = Observation (record { raw = reads.raw; epoch = epoch_now now });
-        place = body-place beginning items (map Content (line ∷ clock ∷ rows)) (k.header ∙ h.0) (k.left ∙ h.1)
+        place = body-place compact_beginning items (map Content (line ∷ clock ∷ rows)) (k.header ∙ h.0) (k.left ∙ h.1)
             ∙ rw (other, here, count) refl;
         same = refl;
         left = λ b e. reads.leaves ∙ ap {B = Option Tail} (λ w. Some (epoch_left w)) (same_Some now b e);
@@ -138,14 +134,14 @@ unit-read : (items : List (Item ReadEpoch)) (units : List (FileUnit Epoch)) (bef
     → AreLinesOfUnit (as_items units) before unit lines now → UnitRead items unit lines now
 unit-read items units before now (HeaderLine line) lines known left h k = rw (k.0, k.1) (record {
   read = HeaderLine line;
-  place = header-here beginning items line (known.header ∙ h.0)
+  place = header-here compact_beginning items line (known.header ∙ h.0)
       (ap (λ b. header_line_fault b line) known.start ∙ h.1);
   same = refl;
   left = none-left None;
 })
 unit-read items units before now (EventLine line) lines known left h k = rw (k.0, k.1) (record {
   read = EventLine line;
-  place = body-place beginning items (Content line ∷ []) (known.header ∙ h.0) (known.left ∙ h.1)
+  place = body-place compact_beginning items (Content line ∷ []) (known.header ∙ h.0) (known.left ∙ h.1)
       ∙ event-begins (types_in_force items) (raws_kept items) line h.2 h.3;
   same = refl;
   left = left;
@@ -154,7 +150,7 @@ unit-read items units before now (EventRecord line) lines known left h k =
     let counts = known.counts (subst (λ n. 0 < n) (sym known.left) h.1) in
     rw (k.0, k.1) (record {
       read = EventRecord line;
-      place = record-here beginning items line (records_left (as_items units)) (known.header ∙ h.0) known.left h.1
+      place = record-here compact_beginning items line (records_left (as_items units)) (known.header ∙ h.0) known.left h.1
           (ap (λ b. cond b (types_fault line) None) counts ∙ h.2);
       same = refl;
       left = record-left items units before known left line (records_count_types (as_items units)) counts;
@@ -175,16 +171,12 @@ pub record AreReadOn (skip : Bool) (items : List (Item ReadEpoch)) (number : ℕ
   pub like : IsLike (more ++ items) (units ++ block)
   pub left : IsLeft last (tail_left (raws_kept (more ++ items)))
 
-none-read : (skip : Bool) (items : List (Item ReadEpoch)) (number : ℕ) → reading_from compact_place skip items number []
-    ≡ record { items = items; stop = AtLines (number + 0) [] }
-none-read skip items number = grind arith
-
 pub read-on : (skip : Bool) (items : List (Item ReadEpoch)) (number : ℕ) (block units : List (FileUnit Epoch))
     (lines : List (List ℕ)) (start last : Option WrittenEpoch) → IsLike items block → IsLeft start (tail_left (raws_kept items))
     → AreInPlace (as_items (units ++ block)) → AreLinesOn block start units lines last
     → AreReadOn skip items number block units lines last
 read-on skip items number block [] lines start last like left h k = rw (k.0, k.1)
-    (record { more = []; reads = none-read skip items number; known = refl; like = like; left = left })
+    (record { more = []; reads = grind arith; known = refl; like = like; left = left })
 read-on skip items number block (unit ∷ units) lines start last like left h k =
     let r = read-on skip items number block units k.1 start k.0 like left h.1 k.3 in
     let u = unit-read (r.more ++ items) (units ++ block) k.0 last unit k.2 r.like r.left h.0 k.5 in

@@ -6,9 +6,8 @@ use proofs.Words.{lines_of, as_read, ReadLine, Content, Overlong, At}
 use proofs.Words.{by_bool, header_has_ended, records_left, warnings_in}
 use proofs.Words.{WholeReading, whole_compact, expanded, Choices, FilterResult, AreInPlace}
 use Rattle.crx_filter.proofs.wayback.{ExpandedStandard.{read-settled}, Cut.input-stands}
-use Rattle.crx_filter.specs.meaning.{Expanded.{crinex_version, crinex_program}, WrittenStandard.rinex_items}
-use Rattle.crx_filter.specs.meaning.UnitsAndText.{as_items}
-use Rattle.crx_filter.specs.{meaning.CompactText.{IsCompactText, AreWholeFile}, CompactText.AcceptsExactly}
+use Rattle.crx_filter.specs.meaning.{Expanded.{crinex_version, crinex_program}}
+use Rattle.crx_filter.specs.{meaning.CompactText.{IsCompactText}, CompactText.AcceptsExactly}
 use Rattle.crx_runs.specs.meaning.Results.{status_after}
 use Rattle.std.specs.{Str.bytes_eq}
 use Rattle.crx_text.specs.meaning.Columns.{columns, without_blanks}
@@ -50,11 +49,6 @@ two-back skip (Overlong ∷ rest) f = absurd (cc f)
 two-back skip (Content version ∷ rest) f = by_bool (is_version version) (λ on. second-back skip version rest on f)
     (λ off. let never = rw (off, whole_compact) at f in absurd (cc never))
 
-items-text : (skip : Bool) (version program : List ℕ) (rest : List ReadLine) → crinex_version version ≡ Ok version
-    → crinex_program program ≡ Ok program → EndsBack rest (whole_compact skip (Content version ∷ Content program ∷ rest))
-items-text skip version program rest e k =
-    rw (whole-read skip version program rest e k) (reading-back skip 3 rest)
-
 -- ---- status 0
 
 none-warned : (ws : List At) (o : Option At) → status_after ws o ≡ 0 → (ws ≡ []) × (o ≡ None)
@@ -62,24 +56,25 @@ none-warned [] None e = (refl, refl)
 none-warned (w ∷ ws) None e = absurd (cc e)
 none-warned ws (Some at) e = absurd (cc e)
 
-of-text : (text : List ℕ) (skip : Bool) → WholeReading.fault (whole_compact skip (map as_read (lines_of text))) ≡ None
-    → warnings_in (WholeReading.items (whole_compact skip (map as_read (lines_of text)))) ≡ [] → IsCompactText text
-of-text text skip f none =
-    let two = two-back skip (map as_read (lines_of text)) f in
-    let all : whole_compact skip (Content two.version ∷ Content two.program ∷ two.rest) ≡ whole_compact skip (map as_read (lines_of text)) =
-    ap (λ ls. whole_compact skip ls) (sym two.is) in
-    let back = items-text skip two.version two.program two.rest two.first two.second
-    (ap WholeReading.fault all ∙ f) (ap (λ w. warnings_in (WholeReading.items w)) all ∙ none) in
-    let settled = read-settled skip (map as_read (lines_of text)) (input-stands text) f in
-    let known : rinex_items (WholeReading.items (whole_compact skip (map as_read (lines_of text)))) ≡ as_items back.units =
-    ap (λ w. rinex_items (WholeReading.items w)) (sym all) ∙ (back.stands).known in
-    let file : AreWholeFile back.units = record {
-      in_place = units-in_place back.units (subst AreInPlace known settled.in_place);
-      header = ap header_has_ended (sym known) ∙ settled.header;
-      complete = ap records_left (sym known) ∙ settled.none;
-    } in (
+pub only-text : (text : List ℕ) (choices : Choices) → FilterResult.status (expanded text choices) ≡ 0 → IsCompactText text
+only-text text choices e =
+    let skip = choices.skip in
+    let lines = map as_read (lines_of text) in
+    let w = whole_compact skip lines in
+    let good = none-warned (reverse (warnings_in w.items)) w.fault e in
+    let none : warnings_in w.items ≡ [] = sym (reverse-reverse (warnings_in w.items)) ∙ ap reverse good.0 in
+    let two = two-back skip lines good.1 in
+    let ends : EndsBack two.rest w = subst (λ ls. EndsBack two.rest (whole_compact skip ls)) (sym two.is)
+    (rw (whole-read skip two.version two.program two.rest two.first two.second) (reading-back skip 3 two.rest)) in
+    let back = ends good.1 none in
+    let known = (back.stands).known in
+    let settled = read-settled skip lines (input-stands text) good.1 in (
       back.units,
-      file,
+      record {
+        in_place = units-in_place back.units (subst AreInPlace known settled.in_place);
+        header = ap header_has_ended (sym known) ∙ settled.header;
+        complete = ap records_left (sym known) ∙ settled.none;
+      },
       record {
         version = two.version;
         program = two.program;
@@ -91,13 +86,6 @@ of-text text skip f none =
         written = back.written;
       },
     )
-
-pub only-text : (text : List ℕ) (choices : Choices) → FilterResult.status (expanded text choices) ≡ 0 → IsCompactText text
-only-text text choices e =
-    let good = none-warned (reverse (warnings_in (WholeReading.items (whole_compact choices.skip (map as_read (lines_of text))))))
-    (WholeReading.fault (whole_compact choices.skip (map as_read (lines_of text)))) e in
-    of-text text choices.skip good.1
-    (sym (reverse-reverse (warnings_in (WholeReading.items (whole_compact choices.skip (map as_read (lines_of text)))))) ∙ ap reverse good.0)
 
 pub accepts-exactly : AcceptsExactly
 accepts-exactly text choices = (
