@@ -4,7 +4,7 @@ use proofs.Words.{common_steps, ℕ, suc, ◌≡◌, ◌+◌, ◌<◌, Bool, tru
 use proofs.Words.{length, Option, Some, None, Ok}
 use proofs.Words.{by_bool, refl, ap, sym, ◌∙◌, subst, arith, append-nil, is_some, lines_of, as_read, ReadLine}
 use proofs.Words.{Content, Epoch, Done}
-use proofs.Words.{FileUnit, HeaderLine, EventLine, EventRecord, Observation, Item, Accepted, Warned, Count}
+use proofs.Words.{FileUnit, HeaderLine, EventLine, EventRecord, Observation, Item, Accepted, Count}
 use proofs.Words.{RawEpoch, ReadEpoch}
 use proofs.Words.{header_has_ended, records_left, records_count_types, types_in_force, types_fault}
 use proofs.Words.{header_line_fault}
@@ -42,8 +42,7 @@ use Rattle.crx_compact.proofs.anywriter.Epochs.{any-epoch}
 
 warned-read : (items : List (Item ReadEpoch)) → warnings_in (rinex_items items) ≡ warnings_in items
 warned-read [] = refl
-warned-read (Accepted unit ∷ before) = warned-read before
-warned-read (Warned at ∷ before) = cc (warned-read before)
+warned-read (item ∷ before) = grind (arith, warned-read before)
 
 -- ---- an epoch's lines
 
@@ -155,10 +154,8 @@ unit-read items units before now (EventRecord line) lines known left h k =
       same = refl;
       left = record-left items units before known left line (records_count_types (as_items units)) counts;
     })
-unit-read items units before now (Observation epoch) lines known left h k =
-    subst (λ n. UnitRead items (Observation epoch) lines n) (sym k.2)
-    (subst (λ e. UnitRead items (Observation e) lines (Some k.0)) k.1 (epoch-unit items units before known left k.0 lines
-    (subst (λ e. IsInPlace (as_items units) (Observation e)) (sym k.1) h) k.3))
+unit-read items units before now (Observation epoch) lines known left h k = rw (k.2, ← k.1)
+    (epoch-unit items units before known left k.0 lines (rw k.1 h) k.3)
 
 -- ---- some units after others
 
@@ -185,8 +182,7 @@ read-on skip items number block (unit ∷ units) lines start last like left h k 
       reads = unit-more compact_place compact-forward skip items (r.more ++ items) number k.1 k.2 u.read r.reads u.place;
       known = cc (u.same, r.known);
       like = subst (λ v. IsLike (Accepted u.read ∷ (r.more ++ items)) (v ∷ (units ++ block))) u.same
-          (like-unit (r.more ++ items) (units ++ block) u.read r.like
-          (subst (λ v. IsInPlace (as_items (units ++ block)) v) (sym u.same) h.0));
+          (like-unit (r.more ++ items) (units ++ block) u.read r.like (rw u.same h.0));
       left = u.left;
     })
 

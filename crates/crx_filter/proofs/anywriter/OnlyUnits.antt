@@ -92,7 +92,7 @@ module _ (items : List (Item ReadEpoch)) (units : List (FileUnit Epoch)) (before
       let raws = raws_kept items in
       let found = only-epoch types before raws lines read count s.left s.whole e in
       let good = reads-whole types raws lines read count (counts-in_force items) (marks-printable items s.good) e in
-      let whole : IsWholeEpoch types (epoch_now found.now) = subst (λ q. IsWholeEpoch types q) (sym found.epoch) good.whole in
+      let whole : IsWholeEpoch types (epoch_now found.now) = rw found.epoch good.whole in
       let any = any-epoch types before raws found.now found.own (λ b e. s.left ∙ ap (option_map epoch_left) e) whole found.written in
       let split : map Content found.own ++ drop count lines ≡ lines =
       ap (λ ls. ls ++ drop count lines) (sym found.cut) ∙ take-append-drop count lines in

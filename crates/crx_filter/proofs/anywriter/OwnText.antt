@@ -1,6 +1,7 @@
 -- Compact text that is compacted here is text that any writer may write.
 use Rattle.crx_filter.proofs
-use proofs.Words.{ℕ, ◌≡◌, ◌⊎◌, inl, inr, true, false, Bool, List, [], ◌∷◌, ◌++◌, map, Option, Some, None}
+use proofs.Words.{arith, common_steps, ℕ, ◌≡◌, ◌⊎◌, inl, inr, true, false, Bool, List, [], ◌∷◌, ◌++◌, map}
+use proofs.Words.{Option, Some, None}
 use proofs.Words.{refl, ap, sym, ◌∙◌, subst}
 use proofs.Words.{AllByRecursion, append-nil, append_assoc, if◌then◌else◌, lines_of, lines_text, as_read}
 use proofs.Words.{Epoch, FileUnit, HeaderLine, EventLine}
@@ -26,14 +27,12 @@ use Rattle.crx_compact.proofs.{wayback.Runs.marked, anywriter.Own.{epoch_written
 
 pub units-append : (later before : List (Item Epoch)) → units_in (later ++ before) ≡ units_in later ++ units_in before
 units-append [] before = refl
-units-append (Accepted unit ∷ later) before = ap (λ us. unit ∷ us) (units-append later before)
-units-append (Warned at ∷ later) before = units-append later before
+units-append (item ∷ later) before = grind (arith, units-append later before)
 
 pub printed-append : (later before : List (Item Epoch))
     → printed_items (later ++ before) ≡ printed_items before ++ printed_items later
 printed-append [] before = sym (append-nil (printed_items before))
-printed-append (Accepted unit ∷ later) before = search (printed-append later before, append_assoc)
-printed-append (Warned at ∷ later) before = printed-append later before
+printed-append (item ∷ later) before = grind (arith, common_steps, printed-append later before, append_assoc)
 
 -- ---- the epoch that the lines after some items may go on from, where those after a block go on from the first
 
@@ -113,9 +112,7 @@ module _ (start : Option WrittenEpoch) (choices : Choices) (block : List (Item E
     body_unit choices.every (items ++ block) unit,
     own-on items h.1 (rest-anew choices block (Accepted unit) items anew),
     refl,
-    subst (λ us. AreLinesOfUnit (as_items us) (before_all items) unit
-        (body_unit choices.every (items ++ block) unit) (before_all (Accepted unit ∷ items)))
-        (units-append items block) (own-unit items unit h anew),
+    rw (← units-append items block) (own-unit items unit h anew),
   )
 
 -- ---- all items
@@ -129,9 +126,8 @@ pub own-lines : (choices : Choices) (items : List (Item Epoch)) → AreInPlace i
 own-lines choices items h =
     let same : lines_on choices.every items [] ≡ lines_back choices.every items =
     sym (written-on choices.every items []) ∙ ap (lines_back choices.every) (append-nil items) in
-    subst (λ ls. AreLinesOf (units_in items) ls (state_after choices.every items)) same
-    (subst (λ (T : Type 0). T) (of-nothing (units_in items) (lines_on choices.every items []) (state_after choices.every items))
-    (own-on None choices [] items (subst AreInPlace (sym (append-nil items)) h) (inl refl)))
+    rw (← same, ← of-nothing (units_in items) (lines_on choices.every items []) (state_after choices.every items))
+    (own-on None choices [] items (rw append-nil h) (inl refl))
 
 pub units-in_place : (units : List (FileUnit Epoch)) → AreInPlace (as_items units) → AreUnitsInPlace units
 units-in_place [] h = tt

@@ -1,9 +1,12 @@
 -- Damage to compact text stays in its block, whoever wrote the text: what an expansion writes and reports.
 use Rattle.crx_filter.proofs
-use proofs.Words.{ℕ, ◌≡◌, ◌+◌, ◌≤◌, true, List, [], ◌∷◌, ◌++◌, map, length, reverse, Option, refl, ap, sym, ◌∙◌, arith}
-use proofs.Words.{append_assoc, append-nil, length-append, inl, list_all, and_parts, ReadLine, Content, Epoch, FileUnit}
-use proofs.Words.{ReadEpoch, Choices, Item, records_left, Reading, reading_from, continued_reading}
-use proofs.Words.{warnings_in, compact_place, expanded, drop, Overlong, Stretch, up_to_next}
+use proofs.Words.{ℕ, ◌≡◌, ◌+◌, ◌≤◌, true, List, [], ◌∷◌, ◌++◌, map, length, reverse, Option, refl, ap, sym}
+use proofs.Words.{◌∙◌, arith}
+use proofs.Words.{append_assoc, append-nil, length-append, inl, list_all, and_parts, ReadLine, Content, Epoch}
+use proofs.Words.{FileUnit}
+use proofs.Words.{common_steps, ReadEpoch, Choices, Item, records_left, Reading, reading_from}
+use proofs.Words.{continued_reading}
+use proofs.Words.{warnings_in, compact_place, expanded, drop, Stretch, up_to_next}
 use Rattle.crx_filter.specs.meaning.{CompactText.AreUnitsInPlace, Stretches.{AreLinesOn, begins_no_event}, UnitsAndText.as_items}
 use Rattle.crx_filter.specs.meaning.Damage.{is_inside, AreBlockLines, IsDamaged, epochs_among, IsSalvaged}
 use Rattle.crx_compact.specs.meaning.AnyWriter.{WrittenEpoch}
@@ -15,9 +18,7 @@ use proofs.stretches.OpenReading.{few-warned, open-items, pending, stretch-more}
 use proofs.stretches.{StretchesRead.{IsStepRead, header-on, one-stretch, step-printed, step-whole}, StretchesSaved.{come, front, old, sound, written-for}}
 
 block-inside : (lines : List ReadLine) → AreBlockLines lines → list_all is_inside (drop 1 lines) ≡ true
-block-inside [] h = refl
-block-inside (Overlong ∷ lines) h = absurd h
-block-inside (Content line ∷ lines) h = h.1
+block-inside lines h = grind (arith, common_steps)
 
 module _ (before : List (FileUnit Epoch)) (s : Stretch) (damaged : List ℕ) (d : IsDamaged before s damaged) where
   abbrev start : List (Item ReadEpoch)

@@ -1,12 +1,12 @@
 -- The compact text of some items, and of those among them.
-use Rattle.crx_filter.proofs.Words.{true, ◌≡◌, List, [], ◌∷◌, ◌++◌, Choices, Epoch, Item, Accepted, Warned, header_has_ended}
+use Rattle.crx_filter.proofs.Words.{arith, true, ◌≡◌, List, [], ◌∷◌, ◌++◌, Choices, Epoch, Item}
+use Rattle.crx_filter.proofs.Words.{header_has_ended}
 use Rattle.crx_filter.proofs.Words.{AreInPlace, compact_lines}
 use Rattle.crx_filter.proofs.{damage.TextAfter.{lines_on, written-on}, wayback.{Carried.started, WayBack.lines-same}}
 
 pub rest-in_place : (later before : List (Item Epoch)) → AreInPlace (later ++ before) → AreInPlace before
 rest-in_place [] before h = h
-rest-in_place (Accepted unit ∷ later) before h = rest-in_place later before h.1
-rest-in_place (Warned at ∷ later) before h = rest-in_place later before h.1
+rest-in_place (item ∷ later) before h = grind (arith, rest-in_place later before)
 
 -- the compact text of all items is that up to the block's end and that after it
 pub text-parts : (choices : Choices) (after block : List (Item Epoch)) → AreInPlace (after ++ block)

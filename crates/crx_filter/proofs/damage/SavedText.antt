@@ -2,7 +2,7 @@
 use Rattle.crx_filter.proofs.Words
 use Words.{◌≡◌, List, [], ◌∷◌, ◌++◌, refl, ap}
 use Words.{sym, ◌∙◌, arith, append_assoc, append-nil, At, Epoch}
-use Words.{FileUnit, ReadEpoch, Item, Accepted, Warned}
+use Words.{FileUnit, ReadEpoch, Item}
 use Words.{records_left}
 use Words.{warnings_in, expanded_lines}
 use Rattle.crx_filter.proofs.damage.GoingOn.{with_warnings}
@@ -16,8 +16,7 @@ use Rattle.crx_filter.specs.meaning.{Damage.epochs_among, UnitsAndText.as_items,
 pub lines-append : (later before : List (Item ReadEpoch))
     → expanded_lines (later ++ before) ≡ expanded_lines before ++ expanded_lines later
 lines-append [] before = sym (append-nil (expanded_lines before))
-lines-append (Accepted unit ∷ later) before = search (lines-append later before, append_assoc)
-lines-append (Warned at ∷ later) before = lines-append later before
+lines-append (item ∷ later) before = grind (arith, common_steps, lines-append later before, append_assoc)
 
 pub lines-warned : (warnings : List At) (items : List (Item ReadEpoch))
     → expanded_lines (with_warnings warnings items) ≡ expanded_lines items
@@ -29,8 +28,7 @@ lines-warned (at ∷ older) items = lines-warned older items
 pub warnings-append : (later before : List (Item ReadEpoch))
     → warnings_in (later ++ before) ≡ warnings_in later ++ warnings_in before
 warnings-append [] before = refl
-warnings-append (Accepted unit ∷ later) before = warnings-append later before
-warnings-append (Warned at ∷ later) before = ap (λ w. at ∷ w) (warnings-append later before)
+warnings-append (item ∷ later) before = grind (arith, warnings-append later before)
 
 pub warnings-with : (warnings : List At) (items : List (Item ReadEpoch))
     → warnings_in (with_warnings warnings items) ≡ warnings ++ warnings_in items
@@ -53,8 +51,7 @@ epochs_of items = epochs_among (units_in (rinex_items items))
 
 rinex-append : (later before : List (Item ReadEpoch)) → rinex_items (later ++ before) ≡ rinex_items later ++ rinex_items before
 rinex-append [] before = refl
-rinex-append (Accepted unit ∷ later) before = cc (rinex-append later before)
-rinex-append (Warned at ∷ later) before = cc (rinex-append later before)
+rinex-append (item ∷ later) before = grind (arith, rinex-append later before)
 
 pub among-append : (later before : List (FileUnit Epoch)) → epochs_among (later ++ before) ≡ epochs_among before ++ epochs_among later
 among-append [] before = sym (append-nil (epochs_among before))

@@ -2,7 +2,7 @@
 -- read of the stretch.
 use Rattle.crx_filter.proofs
 use proofs.Words.{ℕ, ◌≡◌, ◌+◌, ◌≤◌, At, true, List, [], ◌∷◌, ◌++◌, map, length, Option, None, refl, sym, ◌∙◌}
-use proofs.Words.{subst, arith, append-nil, inl, and_parts, ReadLine, Content, Epoch, FileUnit, HeaderLine}
+use proofs.Words.{arith, append-nil, inl, and_parts, ReadLine, Content, Epoch, FileUnit, HeaderLine}
 use proofs.Words.{EventLine, EventRecord, Observation, begins_epoch, ReadEpoch, Item, header_has_ended}
 use proofs.Words.{records_left, types_in_force, Reading, AtLines, reading_from, compact_place, raws_kept}
 use proofs.Words.{IsBetweenUnits, AreInPlace, IsInPlace, by_bool}
@@ -43,8 +43,8 @@ unit-begins block (Observation epoch) lines now h header left k = epoch-begins k
 pub units-begin : (block units : List (FileUnit Epoch)) (unit : FileUnit Epoch) (lines : List (List ℕ)) (now : Option WrittenEpoch)
     → AreInPlace (as_items (unit ∷ (units ++ block))) → header_has_ended (as_items block) ≡ true
     → records_left (as_items block) ≡ 0 → AreLinesOn block None (unit ∷ units) lines now → BeginWithMark lines
-units-begin block [] unit lines now h header left k = rw (k.4, (k.3).0) (unit-begins block unit k.2 now h.0 header left
-    (subst (λ n. AreLinesOfUnit (as_items block) n unit k.2 now) (k.3).1 k.5))
+units-begin block [] unit lines now h header left k =
+    rw (k.4, (k.3).0) (unit-begins block unit k.2 now h.0 header left (rw (k.3).1 at k.5))
 units-begin block (next ∷ units) unit lines now h header left k =
     rw k.4 (more-begin k.1 k.2 (units-begin block units next k.1 k.0 h.1 header left k.3))
 

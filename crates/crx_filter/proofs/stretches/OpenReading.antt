@@ -41,24 +41,17 @@ pub record IsStretchRead (items : List (Item ReadEpoch)) (r : Reading ReadEpoch)
 
 pub epochs-append : (one two : List (Item ReadEpoch)) → AreEpochs one → AreEpochs two → AreEpochs (one ++ two)
 epochs-append [] two h k = k
-epochs-append (Accepted (Observation read) ∷ one) two h k = epochs-append one two h k
-epochs-append (Warned at ∷ one) two h k = epochs-append one two h k
-epochs-append (Accepted unit ∷ one) two h k = absurd h
+epochs-append (item ∷ one) two h k = grind (arith, epochs-append one two)
 
 pub epochs-between : (news items : List (Item ReadEpoch))
     → AreEpochs news → IsBetweenUnits items → IsBetweenUnits (news ++ items)
 epochs-between [] items h between = between
-epochs-between (Accepted (Observation read) ∷ news) items h between =
-    record { header = IsBetweenUnits.header (epochs-between news items h between); none = refl }
-epochs-between (Warned at ∷ news) items h between = search (epochs-between news items h between)
-epochs-between (Accepted unit ∷ news) items h between = absurd h
+epochs-between (item ∷ news) items h between = grind (arith, common_steps, epochs-between news items)
 
 pub epochs-types : (news items : List (Item ReadEpoch))
     → AreEpochs news → types_in_force (news ++ items) ≡ types_in_force items
 epochs-types [] items h = refl
-epochs-types (Accepted (Observation read) ∷ news) items h = epochs-types news items h
-epochs-types (Warned at ∷ news) items h = epochs-types news items h
-epochs-types (Accepted unit ∷ news) items h = absurd h
+epochs-types (item ∷ news) items h = grind (arith, common_steps, epochs-types news items)
 
 -- one item more before what is read
 onto : (item : Item ReadEpoch) (items : List (Item ReadEpoch)) (r : Reading ReadEpoch)

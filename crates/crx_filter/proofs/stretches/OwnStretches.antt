@@ -10,14 +10,14 @@ use proofs.Words.{Choices, is_date, Item, Accepted, Warned, is_at_start, header_
 use proofs.Words.{types_in_force}
 use proofs.Words.{compact_lines, printed_items, expanded, Begins, AreInPlace, BeginsAnew, with_stretches}
 use proofs.Words.{Stretch, IsStretch, AreStretches}
-use Rattle.crx_filter.specs.meaning.{CompactText.{AreUnitsInPlace, AreWholeFile}, Stretches.{AreLinesOn, BeginsWithUnits}}
+use Rattle.crx_filter.specs.meaning.{CompactText.{AreUnitsInPlace, AreWholeFile}, Stretches.{BeginsWithUnits}}
 use Rattle.crx_filter.specs.meaning.{Stretches.{HasStretches, Saves, begins_no_event}, UnitsAndText.as_items}
 use Rattle.crx_filter.specs.OwnStretches.{read_of_file, IsReadWhole, OwnStretch, up_to_own_end}
 use Rattle.crx_filter.specs.OwnStretches.{up_to_own_next, with_own, own_text}
 use Rattle.crx_filter.specs.OwnStretches.{may_come_instead, AreOwnStretches, HasOwnStretches, SavesOwn}
 use Rattle.crx_filter.specs.OwnStretches.{KeepsOwnRest, BeginsWithOwn}
 use proofs.anywriter.{AnyText.first-units, OwnText.{units-append, units-printed, state_after, state_on, own-on, own-lines, whole-items}}
-use proofs.damage.{DamagedText.front-cut, ItemTexts.rest-in_place, TextAfter.{begins-rest, lines_on}}
+use proofs.damage.{DamagedText.front-cut, ItemTexts.rest-in_place, TextAfter.{begins-rest}}
 use proofs.stretches.StretchesCut.{AreGood, good-before, good-up_to, as_stretch, as_stretches, stretches-cut}
 use proofs.stretches.StretchesSaved.{rest-kept}
 use proofs.wayback.{Carried.{started, units-like}, First.{version-clean, program-clean, program-read}}
@@ -143,12 +143,10 @@ one-stretch choices before s later h placed closed =
     record {
       begins = units-left before first ∙ (h.0).between;
       ends = ap (λ us. records_left (as_items us)) (sym same) ∙ units-left block up_to ∙ ends;
-      types = ap (λ us. types_in_force (as_items us)) (sym same) ∙ units-types block up_to ∙ (h.0).types
-          ∙ sym (units-types before first);
+      types = rw (← same) (units-types block up_to ∙ (h.0).types ∙ sym (units-types before first));
       allowed = lines-allowed (lines_of s.instead) (h.0).allowed;
       last = state_on None choices.every block s.kept;
-      written = subst (λ us. AreLinesOn us None (units_in s.kept) (lines_on choices.every s.kept block)
-          (state_on None choices.every block s.kept)) same (own-on None choices block s.kept placed (inr (h.0).anew));
+      written = rw (← same) (own-on None choices block s.kept placed (inr (h.0).anew));
     }
 
 -- its stretches as those of a text, whoever wrote it

@@ -3,8 +3,8 @@
 use Rattle.crx_filter.proofs.Words
 use Words.{common_steps, arith, ℕ, ◌≡◌, ◌⊎◌, inl, inr, true, List, [], ◌∷◌, ◌++◌, map, refl, Option}
 use Words.{◌∙◌, append_assoc, append-nil, AllByRecursion, list_all, drop-append_seam, Piece}
-use Words.{pieces_of, lines_of, lines_text, Content, as_read, Epoch, Choices, Item, Accepted}
-use Words.{Warned, header_has_ended, lines_after, OfCopiedLines, HaveNoReturns, AreInPlace, Stretch}
+use Words.{pieces_of, lines_of, lines_text, Content, as_read, Epoch, Choices, Item}
+use Words.{header_has_ended, lines_after, OfCopiedLines, HaveNoReturns, AreInPlace, Stretch}
 use Rattle.crx_filter.proofs.damage.{ItemTexts.{rest-in_place, text-parts}, DamagedText.each-ended}
 use Rattle.crx_filter.proofs.damage.{DamagedText.{lines-append, front-cut}, TextAfter.{lines_on, written-on}}
 use Rattle.crx_filter.proofs.reading.Each.{header-append, all-parts}
@@ -22,8 +22,7 @@ pub record AreGood (items : List (Item Epoch)) : Type 0 where
 copied-rest : (P : List ℕ → Type 0) (later before : List (Item Epoch))
     → OfCopiedLines P (later ++ before) → OfCopiedLines P before
 copied-rest P [] before h = h
-copied-rest P (Accepted unit ∷ later) before h = copied-rest P later before h.1
-copied-rest P (Warned at ∷ later) before h = copied-rest P later before h
+copied-rest P (item ∷ later) before h = grind (arith, copied-rest P later before)
 
 pub good-before : (later before : List (Item Epoch)) → AreGood (later ++ before) → AreGood before
 good-before later before h = search (rest-in_place, copied-rest)

@@ -1,6 +1,6 @@
 -- The reading of a text that is damaged in stretches: after each stretch the units that are kept, exactly.
 use Rattle.crx_filter.proofs
-use proofs.Words.{◌≡◌, true, List, [], ◌∷◌, ◌++◌, map, refl, sym, ◌∙◌, subst, append_assoc, append-nil}
+use proofs.Words.{arith, ◌≡◌, true, List, [], ◌∷◌, ◌++◌, map, refl, sym, ◌∙◌, subst, append_assoc, append-nil}
 use proofs.Words.{AllByRecursion, flat_map, flat_map-append, ReadLine, Content, Epoch, FileUnit, IsWholeEpoch}
 use proofs.Words.{printed_epoch, Observation, IsGood, ReadEpoch, Item, Accepted, Warned, header_has_ended}
 use proofs.Words.{records_left, types_in_force, reading_from, compact_place, printed_items, IsBetweenUnits}
@@ -116,9 +116,7 @@ news-printed (Accepted unit ∷ news) h = absurd h
 -- they are whole
 good-rest : (later items : List (Item ReadEpoch)) → AreGoodEpochs (later ++ items) → AreGoodEpochs items
 good-rest [] items h = h
-good-rest (Accepted (Observation read) ∷ later) items h = good-rest later items h.1
-good-rest (Warned at ∷ later) items h = good-rest later items h
-good-rest (Accepted unit ∷ later) items h = good-rest later items h
+good-rest (item ∷ later) items h = grind (arith, good-rest later items)
 
 news-whole : (news items : List (Item ReadEpoch)) → AreEpochs news → AreGoodEpochs (news ++ items)
     → AllByRecursion (IsWholeEpoch (types_in_force items)) (epochs_of news)

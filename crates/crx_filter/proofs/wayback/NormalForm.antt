@@ -68,8 +68,7 @@ accepted-all (Warned at ∷ before) h = absurd (cc)
 pub units-printed : (items : List (Item Epoch)) → printed_items (as_items (units_in items))
     ≡ printed_items items
 units-printed [] = refl
-units-printed (Accepted unit ∷ before) = cc (units-printed before)
-units-printed (Warned at ∷ before) = units-printed before
+units-printed (item ∷ before) = grind (arith, units-printed before)
 
 -- ---- printed lines are read as they are written
 
