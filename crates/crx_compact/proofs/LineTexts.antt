@@ -1,14 +1,14 @@
 -- Lines that a text is cut into, each followed by LF.
 use Rattle.crx_compact.proofs.Words.{◌≡◌, ◌≤◌, ◌<◌, ℕ, zero, suc, ◌+◌, ◌-◌, List, [], ◌∷◌, ◌++◌, length, set}
 use Rattle.crx_compact.proofs.Words.{take, drop, get_or, slice_get, Some, ap, arith, drop-append_seam, rules}
-use Rattle.crx_compact.proofs.Words.{take-take, length-append, length-take-le, take_more_set, cut}
+use Rattle.crx_compact.proofs.Words.{take-take, ◌∙◌, length-append, length-set, length-take-le, take_more_set, cut}
 use Rattle.crx_compact.proofs.Words.{AreCut, HasFront, common_steps}
 use Rattle.std.proofs.lemmas.List.{drop-append-le, drop-drop, drop-set, drop-take, drop_more}
 use Rattle.std.proofs.{Common.append_assoc, lemmas.List.{take-append-drop, take-append-le, length-drop}}
 use Rattle.std.proofs.Math.Seq.{take-append_seam, drop-append-add, take-append-add, take-set-lt}
 use Rattle.std.proofs.Math.ListN.{drop_of_length-le}
 use Rattle.crx_text.proofs.WrittenTexts.{counted-line, line-ended}
-use Rattle.crx_compact.specs.Blocks.{lines_text}
+use Rattle.crx_compact.specs.{Blocks.{IsBlock, IsLinePut, lines_text}, declared.block.TheConstants.{FIRST_LINES, LINES_LIMIT, LINE_ROOM}}
 
 -- the first of some lines ends within the text, and the others are its rest
 pub record Ended (count : ℕ) (counts text : List ℕ) : Type 0 where
@@ -105,20 +105,50 @@ none-cut lengths bytes many filled counted within =
     let rest : drop filled (take filled bytes) ≡ [] = drop_of_length-le (take filled bytes) (omega (arith, long)) in
     record { past_within = omega (arith, all); bytes_within = omega (arith, long); whole = cc (none, rest) }
 
--- ---- a line that was written after others
+-- ---- a line that was put after others
 
--- a line that was written after so many others, with its length after theirs
-pub row-pushed : (lengths bytes new line : List ℕ) (many filled count past past_bytes : ℕ)
-    → AreCut (take many lengths) (take filled bytes) past past_bytes → many < length lengths
-    → filled ≤ length bytes → take (filled + count) new ≡ take filled bytes ++ line
-    → filled + count < length new → Pushed (take many lengths) (take (many + 1) (set lengths many count))
-    (take filled bytes) (take (filled + (count + 1)) (set new (filled + count) 10)) line past past_bytes
-row-pushed lengths bytes new line many filled count past past_bytes c free within written room =
-    let counted = counted-line new bytes line filled count written room within in
-    let more : filled + (count + 1) ≡ filled + count + 1 = omega arith in
-    line-pushed (take many lengths) (take (many + 1) (set lengths many count)) (take filled bytes)
-    (take (filled + (count + 1)) (set new (filled + count) 10)) line past past_bytes c
-    (cc (take_more_set lengths many count free)) (cc (line-ended new bytes line filled count written room))
+-- a block with a line after the others
+pub record BlockPushed (lengths bytes new line : List ℕ) (many filled past past_bytes front memory : ℕ) : Type 0 where
+  pub is : cut (drop past (take (many + 1) (set lengths many (length line))))
+      (drop past_bytes (take (filled + (length line + 1)) new))
+      ≡ cut (drop past (take many lengths)) (drop past_bytes (take filled bytes)) ++ line ∷ []
+  pub still : IsBlock (set lengths many (length line)) new (many + 1) (filled + (length line + 1)) past past_bytes front memory
+
+pub block-pushed : (lengths bytes new line : List ℕ) (many filled past past_bytes front memory memory' : ℕ)
+    → IsBlock lengths bytes many filled past past_bytes front memory → memory' ≡ memory → 0 < FIRST_LINES + LINES_LIMIT - many
+    → length line < LINE_ROOM → take (filled + (length line + 1)) new ≡ take filled bytes ++ (line ++ 10 ∷ [])
+    → filled + (length line + 1) ≤ length new
+    → BlockPushed lengths bytes new line many filled past past_bytes front memory'
+block-pushed lengths bytes new line many filled past past_bytes front memory memory' block held left short put long =
+    let place = block.4 in
+    let counted = length-set lengths many (length line) in
+    let pushed = line-pushed (take many lengths) _ (take filled bytes) _ line past past_bytes block.0
+    (take_more_set lengths many (length line) (omega (arith, left, place.3))) put in
+    record {
+      is = pushed.is;
+      still = (
+        pushed.still,
+        omega (arith, left, place.3, counted),
+        long,
+        block.3,
+        (omega (arith, place.0), omega (arith, place.1), omega (arith, place, short), omega (arith, counted, place.3), held ∙ place.4),
+      );
+    }
+
+-- the line of a row, which was written after so many bytes and then ended
+pub row-pushed : (lengths bytes used new line : List ℕ) (many filled room count past past_bytes front memory memory' : ℕ)
+    → IsBlock lengths bytes many filled past past_bytes front memory → memory' ≡ memory → 0 < FIRST_LINES + LINES_LIMIT - many
+    → room < LINE_ROOM → take filled used ≡ take filled bytes → filled ≤ length used → IsLinePut line room filled used new count
+    → (count ≡ length line) × BlockPushed lengths bytes (set new (filled + count) 10) line many filled past past_bytes front memory'
+row-pushed lengths bytes used new line many filled room count past past_bytes front memory memory' block held left short same within put =
+    let counted : count ≡ length line = counted-line new used line filled count put.written put.within within in
+    let more : filled + (length line + 1) ≡ filled + count + 1 = omega (arith, counted) in
+    let ended = line-ended new used line filled count put.written put.within in
+    let long = length-set new (filled + count) 10 in (
+      counted,
+      block-pushed lengths bytes (set new (filled + count) 10) line many filled past past_bytes front memory memory' block held left
+          (omega (arith, counted, put.short, short)) (cc (more, ended, same)) (omega (arith, counted, long, put.within)),
+    )
 
 -- ---- lines in front
 

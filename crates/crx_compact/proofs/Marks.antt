@@ -51,11 +51,6 @@ abbrev pub row_with_marks : Past → Satellite → List ℕ → List ReadCell �
 row_with_marks past satellite marks cells = are_marks satellite.count marks otherwise Err BadFlags next Ok
     (row_of_cells past satellite.name marks cells)
 
--- a line for so many types: the first cell with a fault decides, then the marks
-abbrev pub row_of_line : Past → Satellite → List ℕ → Result ReadRow Fault
-row_of_line past satellite line = and_then (cells_read (past.value satellite.name) (cells_of
-    satellite.count line)) (λ cells. row_with_marks past satellite (after_cells satellite.count line) cells)
-
 pub line-fault : (arcs : List (Option ArcTail)) (flags : List ℕ) (satellite : Satellite)
     (line : List ℕ) (fault : Fault) → begins_epoch line ≡ false → cells_read (value_at_place arcs)
     (cells_of satellite.count line) ≡ Err fault → row_held_from arcs flags satellite line ≡ Err fault

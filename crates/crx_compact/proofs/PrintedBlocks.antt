@@ -1,31 +1,20 @@
 -- The printed lines of an epoch, as its rows come.
-use Rattle.crx_compact.proofs.Words.{◌≡◌, ◌≤◌, ◌++◌, ◌∷◌, ◌+◌, [], List, ℕ, length, Some, slice_get, arith, take_all, printed_epoch}
+use Rattle.crx_compact.proofs.Words.{◌≡◌, ◌++◌, ◌∷◌, ◌+◌, [], List, ℕ, length, Some, slice_get, arith, take_all, printed_epoch}
 use Rattle.crx_compact.proofs.Words.{OpenHistory, tail_of_history, lines_to, shown_epoch, rules, Tail, RowTail}
 use Rattle.crx_compact.proofs.Words.{columns, HEAD_WIDTH, printed_head, printed_row, shown_row, shown_value, IsRowRead, PendingLines}
 use Rattle.crx_compact.proofs.Words.{◌<◌, ◌-◌, ◌∙◌, ap, sym, subst, refl, Bool, Expected, ColumnsState, columns_state}
-use Rattle.crx_compact.proofs.Words.{Option, Idle, Reading, before_clock, false≢true, is_idle, with_rows}
+use Rattle.crx_compact.proofs.Words.{Option, Idle, Reading, false≢true, is_idle, with_rows}
 use Rattle.crx_compact.proofs.{reading.Stages.state-rows}
-use Rattle.crx_compact.specs.OpenEpochs.{OpenRawEpoch, has_come, tail_so_far}
+use Rattle.crx_compact.specs.OpenEpochs.{OpenRawEpoch, tail_so_far}
 use Rattle.crx_compact.specs.{OpenLines.IsLineTaken, PrintedBlocks.ArePrinted}
 use Rattle.crx_compact.proofs.{RowByRow.printed-next, reading.StepsByCode.printed-shown}
-use Rattle.crx_compact.specs.{Blocks.{HasTakenLine, no_lines}, PrintedBlocks.IsPrinted}
+use Rattle.crx_compact.specs.{Blocks.{HasTakenLine}, PrintedBlocks.IsPrinted}
 use Rattle.std.proofs.lemmas.List.{take-set-le}
 
 -- all lines are those of the epoch
 pub block-whole : (tail : Tail) (lines : List (List ℕ)) → lines ≡ lines_to (length tail.rows) tail
     → lines ≡ printed_epoch (shown_epoch tail (length tail.rows))
 block-whole tail lines is = grind (arith, take_all, printed-shown)
-
--- the first line
-pub first-printed : (tail : Tail) (count : ℕ) (old new : PendingLines) → count ≤ 0 → old ≡ no_lines
-    → new.lines ≡ old.lines ++ printed_head (columns tail.text 1 HEAD_WIDTH) (shown_value tail.clock) ∷ []
-    → HasTakenLine old new → IsPrinted count tail new
-first-printed tail count old new none empty lines taken =
-    let same : 0 ≡ count = omega (arith, none) in
-    subst (λ n. IsPrinted n tail new) same (record {
-      lines = lines ∙ ap (λ (b : PendingLines). b.lines ++ printed_head (columns tail.text 1 HEAD_WIDTH) (shown_value tail.clock) ∷ []) empty;
-      left = omega (arith, taken.left, ap (λ (b : PendingLines). b.left) empty);
-    })
 
 -- one row more
 pub row-printed : (tail : Tail) (count : ℕ) (row : RowTail) (old new : PendingLines)
@@ -38,9 +27,10 @@ row-printed tail count row old new so_far here lines taken = record {
 }
 
 -- the rows before the one that is read stay
-pub rows-kept : (old new : OpenHistory) (place : ℕ) (line : List ℕ) → IsRowRead place line old new
+pub rows-kept : (old new : OpenHistory) (place : ℕ) (line : List ℕ)
+    → IsRowRead place line old.satellites new.satellites → new ≡ record old { satellites = new.satellites }
     → lines_to place (tail_of_history new) ≡ lines_to place (tail_of_history old)
-rows-kept old new place line read = search (rules, take-set-le)
+rows-kept old new place line read same = search (rules, take-set-le)
 
 -- the lines of a block before a row that was read
 pub printed-before : (is_kept : Bool) (expected after : Expected) (count come : ℕ) (history new : OpenHistory) (line : List ℕ)
@@ -71,11 +61,6 @@ rows-printed tail count state block e printed = λ begun is come.
     subst (λ (b : OpenRawEpoch). IsPrinted b.count (tail_so_far b) block)
     (ap (begun_in (with_rows tail count)) (sym e ∙ is)) printed
 
--- nothing is printed between two epochs, nor before the clock line
+-- nothing is printed between two epochs
 pub idle-unprinted : (held : Option Tail) (state : ColumnsState) (block : PendingLines) → state ≡ Idle held → ArePrinted state block
 idle-unprinted held state block e = λ begun is come. absurd (false≢true (ap is_idle (sym is ∙ e)))
-
-pub clock-unprinted : (tail : Tail) (state : ColumnsState) (block : PendingLines) → state ≡ Reading (before_clock tail)
-    → ArePrinted state block
-clock-unprinted tail state block e = λ begun is come.
-    absurd (false≢true (ap (λ s. has_come (begun_in (before_clock tail) s).clock) (sym e ∙ is) ∙ come))

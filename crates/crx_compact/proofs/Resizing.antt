@@ -4,10 +4,10 @@ use Rattle.crx_compact.proofs.Words.{length, take, replicate, Option, None, ◌*
 use Rattle.crx_compact.proofs.Words.{arith, inl, inr, length-take-le, take-take, take_all, LINE_LIMIT}
 use Rattle.crx_compact.proofs.Words.{without_end_blanks, is_kept, at, at-without_end_blanks, list_all-from_at}
 use Rattle.crx_compact.proofs.Characters.{all-take, at-take_past, list_all-at, same_characters}
-use Rattle.crx_compact.proofs.{Words.{few_kept, ArcTail, flags_held}, PlaceByPlace.{at-padded, at-take}}
+use Rattle.crx_compact.proofs.{Words.{few_kept, ArcTail}, PlaceByPlace.{at-padded, at-take}}
 use Rattle.crx_compact.proofs.Characters.{within-or_past}
 use Rattle.std.proofs.{lemmas.List.length-take, lemmas.Grind.common_steps}
-use Rattle.crx_compact.specs.{HeldRows.AreHeldFlags, Placing.{SatelliteTail, cells_for}}
+use Rattle.crx_compact.specs.{HeldRows.AreHeldFlags, Placing.{SatelliteTail, cells_for, resized}}
 
 -- ---- indicators
 
@@ -56,9 +56,6 @@ stored indicators arcs count =
       cells = take count arcs;
       room = length arcs;
     }
-
-abbrev pub resized : ℕ → SatelliteTail → SatelliteTail
-resized count old = record old { flags = flags_held count old.flags; cells = cells_for count old.cells }
 
 pub fewer-held : (flags : List ℕ) (m n : ℕ) → n ≤ m
     → AreHeldFlags (take m flags) → AreHeldFlags (take n flags)

@@ -2,7 +2,7 @@
 use Rattle.crx_compact.proofs.Words.{◌≡◌, refl, Bool, true, not, List, [], ◌∷◌, ◌++◌, Result, Ok, Err}
 use Rattle.crx_compact.proofs.Words.{Option, None, Some, IfSome, if◌then◌else◌, is_ok, sym, ap, subst}
 use Rattle.crx_compact.proofs.Words.{true≢false, Fault, and_then, before_all, arith}
-use Rattle.std.specs.{Prelude.{OnOk, OnErr, is_some}, Result.is_err}
+use Rattle.std.specs.{Prelude.{OnOk, is_some}}
 
 pub no-err : {X : Type 0} (f : Fault) (x : X) → Err f ≡ Ok x → ⊥
 no-err f x e = true≢false (sym (ap is_ok e))
@@ -58,10 +58,6 @@ onto-more (y ∷ ys) x r = cc (onto-more ys x r)
 pub by_ok : {T E X : Type 0} (r : Result T E) → is_ok r ≡ true → OnOk r X → X
 by_ok r good x = grind arith
 
--- one that is bad isn't good
-pub by_err : {T E : Type 0} (r : Result T E) → is_err r ≡ true → is_ok r ≡ true → ⊥
-by_err r bad good = grind arith
-
 -- ---- the same of options
 
 pub from_some : {T : Type 0} (P : T → Type 0) (o : Option T) (x : T) → o ≡ Some x → IfSome o P → P x
@@ -69,9 +65,3 @@ from_some P o x is h = subst (λ q. IfSome q P) is h
 
 pub some-otherwise : {T : Type 0} (o : Option T) → (o ≡ None → ⊥) → is_some o ≡ true
 some-otherwise o other = grind arith
-
--- ---- a refusal that is handed on
-
--- what is so is so of any refusal
-pub on_err : {X E P : Type 0} (r : Result X E) → P → OnErr r P
-on_err r h = grind arith

@@ -1,13 +1,13 @@
 -- An epoch whose rows are written one by one: one row more.
 use Rattle.crx_compact.proofs.Words.{◌≡◌, ◌-◌, ◌++◌, ◌∷◌, [], ℕ, List, Bool, Some, true, false, not, length}
-use Rattle.crx_compact.proofs.Words.{slice_get, slice_set, ap, sym, ◌∙◌, not-true, map-append}
+use Rattle.crx_compact.proofs.Words.{slice_get, slice_set, refl, same_Some, ap, sym, ◌∙◌, not-true, map-append}
 use Rattle.crx_compact.proofs.Words.{is_among, has_satellite, Row, IsSoundRow, OpenHistory, PlacedRows}
 use Rattle.crx_compact.proofs.Words.{row_or_blank, row_line_after, row_line_in, row_tail_after, row_tail_in}
 use Rattle.crx_compact.proofs.Words.{RowTail, Tail, AreRowsWritten, arith, among-map, apart-push, HasCome}
 use Rattle.crx_compact.proofs.{ComeRows.{awaited-after, come-line, come-name, come-tail}}
 use Rattle.crx_compact.proofs.placing.SteppedRows.{last-is}
 use Rattle.std.proofs.lemmas.List.Elements.{All-push}
-use Rattle.crx_compact.specs.Placing.{row_tail_named}
+use Rattle.crx_compact.specs.Placing.{IsWritten, row_of_parts, row_tail_named}
 
 -- a satellite has come where it has a row
 pub come-already : (after : Tail) (rows : List Row) (history : OpenHistory) (lines : List (List ℕ))
@@ -42,26 +42,30 @@ come-last name before after rows index come same last =
       named = come-name name before.rest;
     }
 
-pub written-next : (after : Tail) (rows : List Row) (row : Row) (old new : OpenHistory) (come : PlacedRows)
-    (lines more : List (List ℕ)) (placed : PlacedRows) → placed ≡ old.satellites
+pub written-next : (after : Tail) (rows : List Row) (row : Row) (old new : OpenHistory) (come placed : PlacedRows)
+    (place : ℕ) (lines more : List (List ℕ)) (line : List ℕ) → placed ≡ old.satellites
     → AreRowsWritten after rows old lines → IsSoundRow row → has_satellite row.name rows ≡ false
-    → HasCome row.name placed come → new.satellites.rows
-    ≡ placed.rows ++ row_tail_after (Some (row_or_blank row.name placed.rest)) row ∷ [] → new.satellites.rest
-    ≡ come.rest → more ≡ lines ++ row_line_after (Some (row_or_blank row.name placed.rest)) row ∷ []
+    → HasCome row.name placed come → place ≡ length come.rows - 1
+    → IsWritten place row.values row.flags come new.satellites line → more ≡ lines ++ line ∷ []
     → new.text ≡ old.text → new.clock ≡ old.clock → AreRowsWritten after (rows ++ row ∷ []) new more
-written-next after rows row old new come lines more placed same written sound fresh has left rest line
-    text clock =
+written-next after rows row old new come placed place lines more line same written sound fresh has at put longer text clock =
+    let last = come-last row.name placed come come.rows place has refl at in
+    let is = same_Some put.row (row_or_blank row.name placed.rest) (sym put.there ∙ last.there) in
+    let own : row_of_parts put.row.name row.values row.flags ≡ row =
+    ap (λ (n : List ℕ). row_of_parts n row.values row.flags) (ap (λ (t : RowTail). t.name) is ∙ last.named) in
     let awaited = λ (name : List ℕ) (absent : has_satellite name rows ≡ false).
     ap (λ (p : PlacedRows). row_tail_named name p.rest) same ∙ written.others name absent in
     let next = awaited-after (λ (r : Row). r.name) rows row after.rows placed come awaited has in
     let tail = come-tail placed.rest after.rows row (awaited row.name fresh) in
     let made = come-line placed.rest after.rows row (awaited row.name fresh) in
+    let left = put.rows ∙ (λ j. slice_set come.rows place (row_tail_after (Some (is j)) (own j))) ∙ last.put _ in
+    let more_is = longer ∙ (λ j. lines ++ put.made j ∷ []) ∙ (λ j. lines ++ row_line_after (Some (is j)) (own j) ∷ []) in
     record {
       text = text ∙ written.text;
       clock = clock ∙ written.clock;
-      rows_after = cc (left, written.rows_after, tail, map-append (row_tail_in after.rows) rows (row ∷ []));
-      others = λ name absent. ap (row_tail_named name) rest ∙ next name absent;
-      lines_made = cc (line, written.lines_made, made, map-append (row_line_in after.rows) rows (row ∷ []));
+      rows_after = cc (left, written.rows_after, same, tail, map-append (row_tail_in after.rows) rows (row ∷ []));
+      others = λ name absent. ap (row_tail_named name) put.kept.rest ∙ next name absent;
+      lines_made = cc (more_is, written.lines_made, made, map-append (row_line_in after.rows) rows (row ∷ []));
       sound = All-push IsSoundRow rows row written.sound sound;
       apart = apart-push (λ (r : Row). r.name) rows row written.apart fresh;
     }

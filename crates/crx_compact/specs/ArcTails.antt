@@ -1,5 +1,5 @@
 -- The tail of an arc: what its later values and codes need of the earlier ones.
-use Rattle.std.specs.Prelude.{ℕ, suc, ◌-◌, min, ℤ, List, [], ◌∷◌, length, Option, Some, None, ◌≡◌, ◌≤◌, ◌+◌}
+use Rattle.std.specs.Prelude.{ℕ, suc, ◌-◌, min, ℤ, List, [], ◌∷◌, length, Option, Some, None, ◌≤◌, ◌+◌}
 use Rattle.crx_text.specs.meaning.EachPlace.{each_place}
 use Rattle.crx_compact.specs.meaning.Differences.{difference, value_at}
 use Rattle.crx_compact.specs.meaning.ArcValues.{Started}

@@ -51,3 +51,10 @@ abbrev pub HasPlace : ℕ → ℕ → ℕ → ℕ → Type 0
 HasPlace count filled lengths memory = (FIRST_LINES ≤ count) × (FRONT ≤ filled)
     × (filled ≤ FRONT + (count - FIRST_LINES) * LINE_ROOM) × (lengths ≡ FIRST_LINES + LINES_LIMIT)
     × (memory ≡ FRONT + LINES_LIMIT * LINE_ROOM)
+
+-- what holds of a block: how long its lines are, and their bytes; how many of both there are, and of these how many were borrowed already; for
+-- how many lines place is left in front; and how much memory the bytes have
+abbrev pub IsBlock : List ℕ → List ℕ → ℕ → ℕ → ℕ → ℕ → ℕ → ℕ → Type 0
+IsBlock lengths bytes count filled past past_bytes front memory =
+    AreCut (take count lengths) (take filled bytes) past past_bytes × (count ≤ length lengths) × (filled ≤ length bytes)
+    × HasFront front past past_bytes × HasPlace count filled (length lengths) memory

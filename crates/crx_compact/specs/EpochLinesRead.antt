@@ -21,7 +21,7 @@ abbrev pub history_cleared : OpenHistory → OpenHistory
 history_cleared history = record history {
   text = [];
   clock = None;
-  satellites = record history.satellites { rows = []; rest = [] };
+  satellites = record history.satellites { rows = []; rest = history.satellites.rows };
 }
 
 -- the satellites that were to be read have come, each with as many types as its system has, for which there is room

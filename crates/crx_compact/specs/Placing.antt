@@ -7,16 +7,17 @@ use Rattle.crx_text.specs.meaning.EachPlace.{each_place}
 use Rattle.crx_compact.specs.ArcTails.{ArcTail}
 use Rattle.crx_compact.specs.meaning.EpochText.{Satellite}
 use Rattle.crx_compact.specs.meaning.Sequences.{named}
-use Rattle.std.specs.Prelude.{IfOk, IsOk, Ok, OnOk, Result, ◌⊎◌, slice_get, slice_set}
+use Rattle.std.specs.Prelude.{Err, IfErr, IfOk, IsOk, Ok, OnOk, Result, ◌⊎◌, slice_get, slice_set}
 use Rattle.crx_header.specs.meaning.ObservationTypes.{Count, IsAllowedCount}
 use Rattle.crx_compact.specs.HeldRows.{AreHeldFlags, HeldRow, IsAwaitedSatellite, row_held}
 use Rattle.crx_base.specs.declared.fault.Fault.{Fault}
 use Rattle.crx_text.specs.meaning.Texts.{text_difference}
 use Rattle.crx_compact.specs.RowsSoFar.{AreAnnounced, NamesSatellites}
 use Rattle.crx_compact.specs.ShownRows.{shown_row}
-use Rattle.crx_compact.specs.Steps.{cell_of_tail, flags_of_tail, flags_held}
+use Rattle.crx_compact.specs.Steps.{cell_of_tail, flags_of_tail, flags_held, row_line_after, row_tail_after}
 use Rattle.crx_compact.specs.Tails.{RowTail, Tail}
 use Rattle.crx_rinex.specs.meaning.Observations.{Row}
+use Rattle.crx_rinex.specs.meaning.SatelliteLines.{IsSoundRow}
 use Rattle.crx_base.specs.declared.limits.TheConstants.{HEAD_WIDTH, NAME_WIDTH, TYPES_LIMIT}
 use Rattle.crx_header.specs.meaning.Satellites.{is_among, types_of_satellite}
 use Rattle.crx_text.specs.meaning.Columns.{columns, without_end_blanks}
@@ -64,6 +65,10 @@ pub record FitsFlags (count : ℕ) (flags : List ℕ) (satellite : SatelliteTail
 -- cells for so many types: those that are there, and blank ones
 abbrev pub cells_for : ℕ → List (Option ArcTail) → List (Option ArcTail)
 cells_for count cells = each_place count (λ place. slice_index_or cells place None)
+
+-- what is stored of a satellite by another count of types
+abbrev pub resized : ℕ → SatelliteTail → SatelliteTail
+resized count old = record old { flags = flags_held count old.flags; cells = cells_for count old.cells }
 
 -- the satellite has these indicators and as many types, and the marks are what is different in the indicators
 pub record IsMarked (count : ℕ) (flags : List ℕ) (old new : SatelliteTail) (part : List ℕ) : Type 0 where
@@ -174,6 +179,15 @@ satellite_of row = record { name = row.name; count = length row.cells }
 abbrev pub row_read : RowTail → List ℕ → Result HeldRow Fault
 row_read row line = row_held (Some row) (satellite_of row) line
 
+-- a satellite's line was read, whatever its identifier is: what is stored after it shows the row; or its fault is answered. The satellite has
+-- as many types as before, and as much room
+pub record AnswersReading (line : List ℕ) (old new : SatelliteTail) (answer : Result (Unit {0}) Fault) : Type 0 where
+  pub ok : OnOk answer ((name : List ℕ) → row_read (row_tail_of name old) line
+      ≡ Ok (record { row = shown_row (row_tail_of name new); tail = row_tail_of name new }))
+  pub err : IfErr answer (λ fault. (name : List ℕ) → row_read (row_tail_of name old) line ≡ Err fault)
+  pub sized : length new.cells ≡ length old.cells
+  pub room : new.room ≡ old.room
+
 -- ---- the history
 
 -- the text of the newest epoch, the clock's arc, and the satellites
@@ -209,6 +223,22 @@ HaveNamesRoom types text count rooms = (place cells : ℕ) → place < count
 abbrev pub row_of_parts : List ℕ → List (Option ℤ) → List ℕ → Row
 row_of_parts name values flags = record { name = name; values = values; flags = flags }
 
+-- a row can be written of the satellite whose row is at a place: it is one of this satellite, which has room for it
+pub record MayWrite (place : ℕ) (values : List (Option ℤ)) (flags : List ℕ) (satellites : PlacedRows) : Type 0 where
+  pub row : RowTail
+  pub there : slice_get satellites.rows place ≡ Some row
+  pub sound : IsSoundRow (row_of_parts row.name values flags)
+  pub room : HasRoom row.name (length values) satellites.rooms
+
+-- it was written: what is stored of the satellite is that after the row, and this is its line
+pub record IsWritten (place : ℕ) (values : List (Option ℤ)) (flags : List ℕ) (old new : PlacedRows) (line : List ℕ)
+    : Type 0 where
+  pub row : RowTail
+  pub there : slice_get old.rows place ≡ Some row
+  pub rows : new.rows ≡ slice_set old.rows place (row_tail_after (Some row) (row_of_parts row.name values flags))
+  pub made : line ≡ row_line_after (Some row) (row_of_parts row.name values flags)
+  pub kept : KeepsRest old new
+
 -- a row has as many cells as a system may have types
 abbrev pub HasAllowedCount : RowTail → Type 0
 HasAllowedCount row = IsAllowedCount (length row.cells)
@@ -219,15 +249,19 @@ pub record IsAnnounced (history : OpenHistory) : Type 0 where
   pub named : NamesSatellites history.text (map satellite_of history.satellites.rows)
   pub satellites : All IsAwaitedSatellite (map satellite_of history.satellites.rows)
 
--- the satellite line of the row at a place was read: what it leaves of the satellite, which shows the row, is in its place, and nothing
--- else has changed
-pub record IsRowRead (place : ℕ) (line : List ℕ) (old new : OpenHistory) : Type 0 where
+-- the satellite line of the row at a place was read: what it leaves of the satellite, which shows the row, is in its place
+pub record IsRowRead (place : ℕ) (line : List ℕ) (old new : PlacedRows) : Type 0 where
   pub row : RowTail
-  pub there : slice_get old.satellites.rows place ≡ Some row
+  pub there : slice_get old.rows place ≡ Some row
   pub left : RowTail
   pub read : row_held (Some row) (satellite_of row) line ≡ Ok (record { row = shown_row left; tail = left })
   pub name : left.name ≡ row.name
   pub sized : length left.cells ≡ length row.cells
-  pub rows : new.satellites.rows ≡ slice_set old.satellites.rows place left
-  pub text : new.text ≡ old.text
-  pub clock : new.clock ≡ old.clock
+  pub rows : new.rows ≡ slice_set old.rows place left
+
+-- it was read, or its fault is answered
+pub record AnswersRow (place : ℕ) (line : List ℕ) (old new : PlacedRows) (answer : Result (Unit {0}) Fault) : Type 0 where
+  pub ok : OnOk answer (IsRowRead place line old new)
+  pub err : IfErr answer (λ fault. (row : RowTail) → slice_get old.rows place ≡ Some row
+      → row_held (Some row) (satellite_of row) line ≡ Err fault)
+  pub rooms : KeepsRooms old.rooms new.rooms

@@ -1,5 +1,6 @@
 -- An epoch whose rows are written one by one: what the history, and the lines so far, are then.
-use Rattle.std.specs.Prelude.{◌≡◌, ◌++◌, ◌∷◌, [], ℕ, List, All, Bool, map, not, true, false}
+use Rattle.std.specs.Prelude.{◌≡◌, ◌++◌, ◌∷◌, [], ℕ, List, All, Bool, IfOk, OnErr, Result, map, not, true, false}
+use Rattle.crx_compact.specs.Blocks.{HasTakenLine, PendingLines}
 use Rattle.crx_compact.specs.Placing.{OpenHistory, row_tail_named, tail_of_history}
 use Rattle.crx_compact.specs.Steps.{lines_after_tail, row_line_in, row_tail_in, tail_after}
 use Rattle.crx_compact.specs.Tails.{Tail}
@@ -24,11 +25,19 @@ pub record AreRowsWritten (after : Tail) (rows : List Row) (history : OpenHistor
 abbrev pub epoch_by_rows : ObservationHead → List Row → Epoch
 epoch_by_rows head rows = record { head = head.head; clock = head.clock; rows = rows }
 
--- whether a row is the first one of its satellite, and then it is written after the rows so far
-pub record IsRowWritten (after : Tail) (rows : List Row) (row : Row) (history : OpenHistory)
-    (lines : List (List ℕ)) (is_new : Bool) : Type 0 where
+-- whether a row is the first one of its satellite, and then it is written after the rows so far; else nothing changes
+pub record IsRowWritten (after : Tail) (rows : List Row) (row : Row) (old : OpenHistory) (before : PendingLines)
+    (history : OpenHistory) (block : PendingLines) (is_new : Bool) : Type 0 where
   pub answer : is_new ≡ not (has_satellite row.name rows)
-  pub written : is_new ≡ true → AreRowsWritten after (rows ++ row ∷ []) history lines
+  pub written : is_new ≡ true → AreRowsWritten after (rows ++ row ∷ []) history block.lines
+  pub taken : is_new ≡ true → HasTakenLine before block
+  pub same : is_new ≡ false → (history ≡ old) × (block ≡ before)
+
+-- so it is, or it is refused, which happens only to the first one of a satellite
+pub record AnswersWriting {E : Type 0} (after : Tail) (rows : List Row) (row : Row) (old : OpenHistory) (before : PendingLines)
+    (history : OpenHistory) (block : PendingLines) (answer : Result Bool E) : Type 0 where
+  pub ok : IfOk answer (IsRowWritten after rows row old before history block)
+  pub err : OnErr answer (has_satellite row.name rows ≡ false)
 
 -- an epoch is written after a tail: the history is that after it, and the lines are its compact ones
 pub record IsEpochWritten (after : Tail) (epoch : Epoch) (history : OpenHistory) (lines : List (List ℕ))

@@ -1,16 +1,14 @@
 //! The lines of an epoch, made one after another and borrowed in that order, one by one or as one text.
 
-ghost use Rattle.std.specs.Prelude.{◌≡◌, ◌≤◌, ◌<◌, ◌+◌, ◌-◌, ◌*◌, ◌++◌, ◌∷◌, ◌↔◌, [], ℕ, IfOk, IsTrue, Some, drop, length, slice_get, slice_set, vec_capacity};
+ghost use Rattle.std.specs.Prelude.{◌≡◌, ◌≤◌, ◌<◌, ◌+◌, ◌-◌, ◌*◌, ◌++◌, ◌∷◌, ◌↔◌, [], ℕ, List, IfOk, IsTrue, Some, drop, length, slice_get, vec_capacity};
 ghost use Rattle.std.specs.Borrow.{sem};
 ghost use Rattle.std.specs.Io.BufRead.{Rests};
 ghost use Rattle.std.specs.Option.{option_copied};
 ghost use Rattle.crx_base.specs.declared.limits.TheConstants.{LINE_LIMIT, TYPES_LIMIT};
 ghost use Rattle.crx_rinex.specs.meaning.Printing.{printed_row};
-ghost use Rattle.crx_rinex.specs.meaning.SatelliteLines.{IsSoundRow};
 ghost use Rattle.crx_compact.specs.Blocks.{HasTakenLine, KeepsItems, lines_text, no_lines};
-ghost use Rattle.crx_compact.specs.Placing.{HasRoom, KeepsRest, row_of_parts};
+ghost use Rattle.crx_compact.specs.Placing.{IsWritten, MayWrite};
 ghost use Rattle.crx_compact.specs.ShownRows.{shown_row};
-ghost use Rattle.crx_compact.specs.Steps.{row_line_after, row_tail_after};
 ghost use Rattle.crx_compact.specs.Tails.{RowTail};
 ghost use Rattle.crx_compact.specs.contracts.block.Block.{the_row};
 ghost use Rattle.crx_compact.specs.declared.history.TheConstants.{EPOCH_TEXT_LIMIT};
@@ -58,8 +56,8 @@ pub struct Block {
 }
 
 impl Model for Block {
-    ghost use Rattle.std.specs.Prelude.{◌≤◌, ◌+◌, ◌-◌, drop, length, take, vec_capacity};
-    ghost use Rattle.crx_compact.specs.Blocks.{AreCut, HasFront, HasPlace, PendingLines, cut};
+    ghost use Rattle.std.specs.Prelude.{◌+◌, ◌-◌, drop, take, vec_capacity};
+    ghost use Rattle.crx_compact.specs.Blocks.{IsBlock, PendingLines, cut};
     ghost use Rattle.crx_compact.specs.declared.block.TheConstants.{FIRST_LINES, LINES_LIMIT};
 
     ghost Value = { PendingLines };
@@ -71,11 +69,8 @@ impl Model for Block {
       front = block.front;
     } };
 
-    ghost invariant = { λ block. AreCut (take block.count block.lengths.items) (take block.filled block.bytes.items)
-        block.handed_out block.handed_out_bytes
-        × (block.count ≤ length block.lengths.items) × (block.filled ≤ length block.bytes.items)
-        × HasFront block.front block.handed_out block.handed_out_bytes
-        × HasPlace block.count block.filled (length block.lengths.items) (vec_capacity block.bytes) };
+    ghost invariant = { λ block. IsBlock block.lengths.items block.bytes.items block.count block.filled
+        block.handed_out block.handed_out_bytes block.front (vec_capacity block.bytes) };
 }
 
 impl Block {
@@ -151,18 +146,10 @@ impl Block {
         scratch: &mut Text,
     )
         requires left { 0 < self.old.left }
-        requires few { length values.now ≤ TYPES_LIMIT }
-        requires within { index < length satellites.old.rows }
-        requires sound { (old : RowTail) → slice_get satellites.old.rows index ≡ Some old
-            → IsSoundRow (row_of_parts old.name values.now flags.now)
-            × HasRoom old.name (length values.now) satellites.old.rooms }
-        ensures after { (old : RowTail) → slice_get satellites.old.rows index ≡ Some old → satellites.new.rows
-            ≡ slice_set satellites.old.rows index
-            (row_tail_after (Some old) (row_of_parts old.name values.now flags.now)) }
-        ensures lines { (old : RowTail) → slice_get satellites.old.rows index ≡ Some old → self.new.lines
-            ≡ self.old.lines ++ row_line_after (Some old) (row_of_parts old.name values.now flags.now) ∷ [] }
+        requires may { MayWrite index values.now flags.now satellites.old }
+        ensures written { (line : List ℕ) × IsWritten index values.now flags.now satellites.old satellites.new line
+            × (self.new.lines ≡ self.old.lines ++ line ∷ []) }
         ensures taken { HasTakenLine self.old self.new }
-        ensures kept { KeepsRest satellites.old satellites.new }
     {
         use_bytes(&mut self.bytes, self.filled);
         // The place of the bytes and the index are read once: after the line is written they would be read
@@ -184,8 +171,8 @@ impl Block {
         requires within { index < length satellites.now.rows }
         requires few { (old : RowTail) → slice_get satellites.now.rows index ≡ Some old
             → length old.cells ≤ TYPES_LIMIT }
-        ensures lines { (old : RowTail) → slice_get satellites.now.rows index ≡ Some old
-            → self.new.lines ≡ self.old.lines ++ printed_row (shown_row old) ∷ [] }
+        ensures lines { (row : RowTail) × (slice_get satellites.now.rows index ≡ Some row)
+            × (self.new.lines ≡ self.old.lines ++ printed_row (shown_row row) ∷ []) }
         ensures taken { HasTakenLine self.old self.new }
     {
         use_bytes(&mut self.bytes, self.filled);

@@ -141,15 +141,6 @@ fn read_cell_fast(arcs: &mut [ObsArc], index: usize, text: &[u8]) -> Option<usiz
     Some(end)
 }
 
-/// What is left of a text after so many bytes.
-#[inline(always)]
-fn rest_after(text: &[u8], count: usize) -> &[u8]
-    requires { count ≤ length text.now }
-    ensures { result.now ≡ drop count text.now }
-{
-    &text[count..]
-}
-
 /// Reads a cell of a line for each of the first so many arcs, which go on by them, and gives the index at
 /// which the marks begin.
 ///
@@ -169,10 +160,10 @@ pub(crate) fn read_cells(arcs: &mut [ObsArc], count: usize, line: &[u8]) -> Resu
     let mut rest = line;
     for index in 0..count {
         match read_cell_fast(arcs, index, rest) {
-            Some(length) => rest = rest_after(rest, length),
+            Some(length) => rest = &rest[length..],
             None => {
                 let length = read_cell(arcs, index, rest)?;
-                rest = rest_after(rest, length);
+                rest = &rest[length..];
             }
         }
     }

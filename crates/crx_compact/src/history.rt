@@ -12,15 +12,15 @@ ghost use Rattle.crx_header.specs.meaning.Satellites.{types_of_satellite};
 ghost use Rattle.crx_rinex.specs.meaning.Printing.{printed_head};
 ghost use Rattle.crx_compact.specs.ArcSteps.{shown_value};
 ghost use Rattle.crx_compact.specs.EpochLinesRead.{AnswersEpochLine, AnswersName, AnswersSatellites, history_cleared};
-ghost use Rattle.crx_compact.specs.HeldRows.{IsAwaitedSatellite, past_of_tail, row_held};
+ghost use Rattle.crx_compact.specs.HeldRows.{IsAwaitedSatellite, past_of_tail};
 ghost use Rattle.crx_compact.specs.Blocks.{HasTakenLine, no_lines};
 ghost use Rattle.crx_compact.specs.declared.block.TheConstants.{FIRST_LINES};
 ghost use Rattle.crx_compact.specs.declared.history.TheConstants.{EPOCH_TEXT_LIMIT};
 ghost use Rattle.crx_compact.specs.PrintedBlocks.{IsPrinted};
 ghost use Rattle.crx_compact.specs.meaning.CompactPlaces.{clock_line_read, satellites_of_text};
 ghost use Rattle.crx_compact.specs.meaning.EpochText.{names_in, satellites_named};
-ghost use Rattle.crx_compact.specs.Placing.{AsksRoom, HasAllowedCount, HaveRoom, IsAnnounced, IsRowRead, KeepsRooms, PreparesRow, no_history, padded, row_of_parts, satellite_of, tail_of_history};
-ghost use Rattle.crx_compact.specs.Written.{AreRowsWritten, IsEpochWritten, IsRowWritten, epoch_by_rows};
+ghost use Rattle.crx_compact.specs.Placing.{AnswersRow, AsksRoom, HasAllowedCount, HaveRoom, IsAnnounced, KeepsRooms, PreparesRow, no_history, padded, row_of_parts, satellite_of, tail_of_history};
+ghost use Rattle.crx_compact.specs.Written.{AnswersWriting, AreRowsWritten, IsEpochWritten, epoch_by_rows};
 ghost use Rattle.crx_rinex.specs.meaning.SatelliteLines.{IsSoundRow};
 ghost use Rattle.crx_compact.specs.RowsSoFar.{NamesSatellites, HasClock};
 ghost use Rattle.crx_compact.specs.ShownRows.{shown_epoch};
@@ -99,7 +99,7 @@ impl History {
     {
         self.length = 0;
         self.clock.end();
-        self.satellites.clear();
+        self.satellites.begin();
     }
 
     /// Puts the compact lines of an epoch into a block without lines: in full, where that is asked for, else
@@ -112,7 +112,6 @@ impl History {
         scratch: &mut Text,
         lines: &mut Block,
     ) -> Result<(), AllocError>
-        requires sound { IsSoundEpoch epoch.now }
         requires whole { is_full_epoch epoch.now ≡ true }
         requires none { lines.old ≡ no_lines }
         ensures written { OnOk result (IsEpochWritten
@@ -120,6 +119,7 @@ impl History {
         ensures err { OnErr result (tail_of_history self.new ≡ tail_of_history self.old) }
         ensures rooms { KeepsRooms self.old.satellites.rooms self.new.satellites.rooms }
     {
+        prove!(epoch.is_full());
         prepare_rows(&mut self.satellites, epoch)?;
         self.begin_rows(in_full);
         let mut index = 0;
@@ -158,16 +158,19 @@ impl History {
         requires sound { IsSoundRow (row_of_parts name.now values.now flags.now) }
         requires left { 0 < lines.old.left }
         ensures written { (after : Tail) (rows : List Row) → AreRowsWritten after rows self.old lines.old.lines
-            → IfOk result (IsRowWritten after rows (row_of_parts name.now values.now flags.now)
-            self.new lines.new.lines) }
-        ensures same { IfOk result (λ is_new. is_new ≡ false → (self.new ≡ self.old) × (lines.new ≡ lines.old)) }
-        ensures memory { (after : Tail) (rows : List Row) → AreRowsWritten after rows self.old lines.old.lines
-            → OnErr result (has_satellite name.now rows ≡ false) }
-        ensures taken { IfOk result (λ is_new. is_new ≡ true → HasTakenLine lines.old lines.new) }
+            → AnswersWriting after rows (row_of_parts name.now values.now flags.now) self.old lines.old
+            self.new lines.new result }
         ensures prepared { PreparesRow name.now (length values.now) self.old.satellites.rooms self.new.satellites.rooms result }
     {
         let count = values.len();
-        if !self.satellites.place_or_add(name, count)? {
+        let is_new = match self.satellites.place(name, count) {
+            Some(is_new) => is_new,
+            None => {
+                self.satellites.prepare(*name, count)?;
+                self.satellites.place(name, count).unwrap()
+            }
+        };
+        if !is_new {
             return Ok(false);
         }
         let last = self.satellites.placed() - 1;
@@ -182,7 +185,7 @@ impl History {
         requires front { FIRST_LINES ≤ lines.old.front }
         ensures written { (after : Tail) (rows : List Row) → AreRowsWritten after rows self.old lines.old.lines
             → IsEpochWritten after (epoch_by_rows head.now rows) self.new lines.new.lines }
-        ensures rooms { self.new.satellites.rooms ≡ self.old.satellites.rooms }
+        ensures kept { self.new.satellites ≡ self.old.satellites }
     {
         put_first(&mut self.next_text, head.columns());
         self.satellites.put_names(&mut self.next_text);
@@ -277,11 +280,8 @@ impl History {
         requires short { length line.now ≤ LINE_LIMIT }
         requires within { index < length self.old.satellites.rows }
         requires allowed { All HasAllowedCount self.old.satellites.rows }
-        ensures ok { OnOk result (IsRowRead index line.now self.old self.new) }
-        ensures err { IfErr result (λ fault. (row : RowTail)
-            → slice_get self.old.satellites.rows index ≡ Some row
-            → row_held (Some row) (satellite_of row) line.now ≡ Err fault) }
-        ensures rooms { KeepsRooms self.old.satellites.rooms self.new.satellites.rooms }
+        ensures answer { AnswersRow index line.now self.old.satellites self.new.satellites result }
+        ensures others { self.new ≡ record self.old { satellites = self.new.satellites } }
     {
         if begins_epoch(line) {
             return Err(Fault::Truncated);
@@ -316,9 +316,25 @@ impl History {
         EpochLine::new(padded(&self.text[..self.length], 1), self.clock.value()).unwrap()
     }
 
+    /// Puts the first line of the epoch that the history shows after others, for which there is room. Most
+    /// epochs have no clock offset: then the columns are put as they are, which saves some 130 instructions.
+    pub(crate) fn put_head(&self, lines: &mut Block, scratch: &mut Text)
+        requires announced { is_some (epoch_count (columns self.now.text 1 HEAD_WIDTH)) ≡ true }
+        requires left { 0 < lines.old.left }
+        ensures lines { lines.new.lines ≡ lines.old.lines
+            ++ printed_head (columns self.now.text 1 HEAD_WIDTH) (shown_value self.now.clock) ∷ [] }
+        ensures taken { HasTakenLine lines.old lines.new }
+    {
+        let Some(_) = self.clock.value() else {
+            lines.put(end_trimmed(&self.text[..self.length], 1, HEAD_WIDTH));
+            return;
+        };
+        print_head(&self.head(), scratch);
+        lines.put(scratch.bytes());
+    }
+
     /// Prints what the line that came last has made known of an epoch of which so many rows have come: its
-    /// first line, in place of all lines, or the last of these rows, behind the others. Most epochs have no
-    /// clock offset: then the columns are put as they are, which saves some 130 instructions.
+    /// first line, in place of all lines, or the last of these rows, behind the others.
     #[inline(always)]
     pub(crate) fn print(&self, count: usize, lines: &mut Block, scratch: &mut Text)
         requires announced { IsAnnounced self.now }
@@ -326,17 +342,12 @@ impl History {
         requires before { 0 < count → IsPrinted (count - 1) (tail_of_history self.now) lines.old }
         ensures printed { IsPrinted count (tail_of_history self.now) lines.new }
     {
-        if count > 0 {
-            lines.put_printed(&self.satellites, count - 1);
+        if count == 0 {
+            lines.clear();
+            self.put_head(lines, scratch);
             return;
         }
-        lines.clear();
-        let Some(_) = self.clock.value() else {
-            lines.put(end_trimmed(&self.text[..self.length], 1, HEAD_WIDTH));
-            return;
-        };
-        print_head(&self.head(), scratch);
-        lines.put(scratch.bytes());
+        lines.put_printed(&self.satellites, count - 1);
     }
 }
 

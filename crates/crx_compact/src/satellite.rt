@@ -17,9 +17,8 @@ ghost use Rattle.crx_compact.specs.Blocks.{IsLinePut};
 ghost use Rattle.crx_compact.specs.meaning.Cells.{cell_text};
 ghost use Rattle.crx_text.specs.meaning.Numbers.{IsValue};
 ghost use Rattle.crx_compact.specs.meaning.CompactPlaces.{are_marks};
-ghost use Rattle.crx_compact.specs.Placing.{AnswersRoom, IndicatorsMatchArcs, FitsFlags, IsMarked, cells_for, row_read, row_tail_of};
+ghost use Rattle.crx_compact.specs.Placing.{AnswersReading, AnswersRoom, FitsFlags, IsMarked, resized, row_tail_of};
 ghost use Rattle.crx_compact.specs.ShownRows.{shown_row};
-ghost use Rattle.crx_compact.specs.Steps.{flags_held};
 
 use crate::arc::ObsArc;
 use crate::cells::{print_cells, read_cells, write_cells};
@@ -84,10 +83,7 @@ impl SatelliteHistory {
         ensures few { result ≤ TYPES_LIMIT }
         ensures room { result ≤ self.now.room }
         // It is as it would be after it was made to have so many types.
-        ensures whole { self.now ≡ record self.now {
-          flags = flags_held result self.now.flags;
-          cells = cells_for result self.now.cells;
-        } }
+        ensures whole { self.now ≡ resized result self.now }
     {
         self.count
     }
@@ -100,13 +96,6 @@ impl SatelliteHistory {
         count <= self.arcs.len()
     }
 
-    /// Forgets everything; the memory is used again.
-    pub(crate) fn clear(&mut self)
-        ensures emptied { self.new ≡ record self.old { flags = []; cells = [] } }
-    {
-        self.count = 0;
-    }
-
     /// Asks for room for so many types.
     #[inline(always)]
     pub(crate) fn make_room(&mut self, count: usize) -> Result<(), AllocError>
@@ -116,7 +105,29 @@ impl SatelliteHistory {
         if count <= self.arcs.len() {
             return Ok(());
         }
-        grow(&mut self.indicators, &mut self.arcs, count)
+        self.grow(count)
+    }
+
+    /// Does what [`SatelliteHistory::make_room`] does, where there is less room, and makes no more. All memory
+    /// is asked for first, so that after `AllocError` what is stored stays.
+    #[cold]
+    #[inline(never)]
+    fn grow(&mut self, count: usize) -> Result<(), AllocError>
+        requires allowed { count ≤ TYPES_LIMIT }
+        requires more { self.old.room < count }
+        ensures { AnswersRoom count self.old self.new result }
+    {
+        let more = count - self.arcs.len();
+        self.indicators.reserve_exact(2 * more)?;
+        self.arcs.reserve_exact(more)?;
+        let indicators = &mut self.indicators;
+        let arcs = &mut self.arcs;
+        while arcs.len() < count {
+            indicators.push_reserved(b' ');
+            indicators.push_reserved(b' ');
+            arcs.push_reserved(ObsArc::new());
+        }
+        Ok(())
     }
 
     /// Makes it have so many types, for which there is room: those that it has stay, and new ones have no
@@ -124,10 +135,7 @@ impl SatelliteHistory {
     #[inline(always)]
     pub(crate) fn resize(&mut self, count: usize)
         requires room { count ≤ self.old.room }
-        ensures resized { self.new ≡ record self.old {
-          flags = flags_held count self.old.flags;
-          cells = cells_for count self.old.cells;
-        } }
+        ensures resized { self.new ≡ resized count self.old }
     {
         if count <= self.count {
             self.count = count;
@@ -200,13 +208,7 @@ impl SatelliteHistory {
         requires short { length line.now ≤ LINE_LIMIT }
         requires other { begins_epoch line.now ≡ false }
         requires allowed { IsAllowedCount (length self.old.cells) }
-        ensures ok { OnOk result ((name : List ℕ)
-            → row_read (row_tail_of name self.old) line.now
-            ≡ Ok (record { row = shown_row (row_tail_of name self.new); tail = row_tail_of name self.new })) }
-        ensures err { IfErr result (λ fault. (name : List ℕ)
-            → row_read (row_tail_of name self.old) line.now ≡ Err fault) }
-        ensures sized { length self.new.cells ≡ length self.old.cells }
-        ensures room { self.new.room ≡ self.old.room }
+        ensures { AnswersReading line.now self.old self.new result }
     {
         let at = read_cells(&mut self.arcs, self.count, line)?;
         let marks = &line[at..];
@@ -253,34 +255,6 @@ impl SatelliteHistory {
         let length = NAME_WIDTH + CELL_WIDTH * count;
         trim_end(&bytes[at..at + length]).len()
     }
-}
-
-/// Makes room for so many arcs, each with two indicators, and for no more than these. All memory is asked for
-/// first, so that after `AllocError` what is stored stays.
-#[cold]
-#[inline(never)]
-fn grow(indicators: &mut Vec<u8>, arcs: &mut Vec<ObsArc>, count: usize) -> Result<(), AllocError>
-    requires allowed { count ≤ TYPES_LIMIT }
-    requires more { length arcs.old.items ≤ count }
-    requires paired { IndicatorsMatchArcs (length arcs.old.items) (vec_capacity arcs.old)
-        (length indicators.old.items) (vec_capacity indicators.old) }
-    ensures counted { OnOk result (length arcs.new.items ≡ count) }
-    ensures between { (length arcs.old.items ≤ length arcs.new.items) × (length arcs.new.items ≤ count) }
-    ensures paired { IndicatorsMatchArcs (length arcs.new.items) (vec_capacity arcs.new)
-        (length indicators.new.items) (vec_capacity indicators.new) }
-    ensures arcs { (n : ℕ) → n ≤ length arcs.old.items → take n arcs.new.items ≡ take n arcs.old.items }
-    ensures indicators { (n : ℕ) → n ≤ length indicators.old.items
-        → take n indicators.new.items ≡ take n indicators.old.items }
-{
-    let more = count - arcs.len();
-    indicators.reserve_exact(2 * more)?;
-    arcs.reserve_exact(more)?;
-    while arcs.len() < count {
-        indicators.push_reserved(b' ');
-        indicators.push_reserved(b' ');
-        arcs.push_reserved(ObsArc::new());
-    }
-    Ok(())
 }
 
 /// Blanks the indicators and ends the arcs of the types from one on, up to another.

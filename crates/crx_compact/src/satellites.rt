@@ -10,14 +10,13 @@ ghost use Rattle.crx_header.specs.meaning.EpochColumns.{begins_epoch};
 ghost use Rattle.crx_header.specs.meaning.ObservationTypes.{IsAllowedCount};
 ghost use Rattle.crx_header.specs.meaning.Satellites.{is_among, is_identifier};
 ghost use Rattle.crx_rinex.specs.meaning.Printing.{printed_row};
-ghost use Rattle.crx_rinex.specs.meaning.SatelliteLines.{IsSoundRow};
 ghost use Rattle.crx_compact.specs.declared.cells.TheConstants.{CELL_ROOM};
+ghost use Rattle.crx_compact.specs.Blocks.{IsLinePut};
 ghost use Rattle.crx_compact.specs.Entries.{Entry, IsFound, IsPutNext, IsRevived, KeepsTypes, key_of};
 ghost use Rattle.crx_compact.specs.EpochLinesRead.{HaveComeAgain};
-ghost use Rattle.crx_compact.specs.HeldRows.{IsAwaitedSatellite, row_held};
-ghost use Rattle.crx_compact.specs.Placing.{AnswersPlacing, AsksRoom, HasRoom, IsPlaced, KeepsRest, PreparesRow, SatelliteTail, padded, row_of_parts, satellite_of};
+ghost use Rattle.crx_compact.specs.HeldRows.{IsAwaitedSatellite};
+ghost use Rattle.crx_compact.specs.Placing.{AnswersPlacing, AnswersRow, AsksRoom, HasAllowedCount, HasRoom, IsWritten, KeepsRest, MayWrite, SatelliteTail, padded, satellite_of};
 ghost use Rattle.crx_compact.specs.ShownRows.{shown_row};
-ghost use Rattle.crx_compact.specs.Steps.{row_line_after, row_tail_after};
 ghost use Rattle.crx_compact.specs.Tails.{RowTail};
 ghost use Rattle.indexmap.specs.IndexMap.{IsUnique, spare};
 
@@ -85,15 +84,6 @@ impl Satellites {
     {
         self.live = self.placed;
         self.placed = 0;
-        self.last = usize::MAX;
-    }
-
-    /// Forgets all satellites; the memory is used again.
-    pub(crate) fn clear(&mut self)
-        ensures emptied { self.new ≡ record self.old { rows = []; rest = [] } }
-    {
-        self.placed = 0;
-        self.live = 0;
         self.last = usize::MAX;
     }
 
@@ -190,26 +180,6 @@ impl Satellites {
         true
     }
 
-    /// The satellite with an identifier comes, as by [`Satellites::place`]. Where it isn't known or has too
-    /// little room, room is asked for first.
-    #[inline(always)]
-    pub(crate) fn place_or_add(
-        &mut self,
-        name: &[u8; NAME_WIDTH],
-        count: usize,
-    ) -> Result<bool, AllocError>
-        requires allowed { count ≤ TYPES_LIMIT }
-        ensures ok { IfOk result (IsPlaced name.now count self.old self.new) }
-        ensures err { OnErr result (is_among (λ (row : RowTail). row.name) name.now self.old.rows ≡ false) }
-        ensures prepared { PreparesRow name.now count self.old.rooms self.new.rooms result }
-    {
-        if let Some(is_new) = self.place(name, count) {
-            return Ok(is_new);
-        }
-        self.prepare(*name, count)?;
-        Ok(self.place(name, count).unwrap())
-    }
-
     /// Asks for room for a satellite of so many types, which mostly is the one behind that of the call
     /// before. No row changes, and after `Ok` the satellite is known.
     #[inline(always)]
@@ -266,18 +236,10 @@ impl Satellites {
         bytes: &mut [u8],
         at: usize,
     ) -> usize
-        requires within { index < length self.old.rows }
-        requires sound { (old : RowTail) → slice_get self.old.rows index ≡ Some old
-            → IsSoundRow (row_of_parts old.name values.now flags.now)
-            × HasRoom old.name (length values.now) self.old.rooms }
+        requires may { MayWrite index values.now flags.now self.old }
         requires room { at + (CELL_ROOM * length values.now + 2 * TYPES_LIMIT) < length bytes.old }
-        ensures after { (old : RowTail) → slice_get self.old.rows index ≡ Some old → self.new.rows
-            ≡ slice_set self.old.rows index (row_tail_after (Some old) (row_of_parts old.name values.now flags.now)) }
-        ensures line { (old : RowTail) → slice_get self.old.rows index ≡ Some old → take (at + result) bytes.new
-            ≡ take at bytes.old ++ row_line_after (Some old) (row_of_parts old.name values.now flags.now) }
-        ensures within { at + result < length bytes.new }
-        ensures short { result ≤ CELL_ROOM * length values.now + 2 * TYPES_LIMIT }
-        ensures kept { KeepsRest self.old self.new }
+        ensures { (line : List ℕ) × IsWritten index values.now flags.now self.old self.new line
+            × IsLinePut line (CELL_ROOM * length values.now + 2 * TYPES_LIMIT) at bytes.old bytes.new result }
     {
         let (_, satellite) = self.known.pair_mut(index);
         let marks = satellite.mark(values.len(), flags, scratch);
@@ -294,18 +256,10 @@ impl Satellites {
         scratch: &mut Text,
     ) -> Result<(), Fault>
         requires within { index < length self.old.rows }
-        requires allowed { (old : RowTail) → slice_get self.old.rows index ≡ Some old
-            → IsAllowedCount (length old.cells) }
+        requires allowed { All HasAllowedCount self.old.rows }
         requires short { length line.now ≤ LINE_LIMIT }
         requires other { begins_epoch line.now ≡ false }
-        ensures ok { OnOk result ((old : RowTail) → slice_get self.old.rows index ≡ Some old
-            → (left : RowTail)
-            × (row_held (Some old) (satellite_of old) line.now ≡ Ok (record { row = shown_row left; tail = left }))
-            × (left.name ≡ old.name) × (length left.cells ≡ length old.cells)
-            × (self.new.rows ≡ slice_set self.old.rows index left)) }
-        ensures err { IfErr result (λ fault. (old : RowTail) → slice_get self.old.rows index ≡ Some old
-            → row_held (Some old) (satellite_of old) line.now ≡ Err fault) }
-        ensures kept { KeepsRest self.old self.new }
+        ensures { AnswersRow index line.now self.old self.new result }
     {
         let (_, satellite) = self.known.pair_mut(index);
         satellite.read(line, scratch)
@@ -318,11 +272,9 @@ impl Satellites {
         requires within { index < length self.now.rows }
         requires room { (old : RowTail) → slice_get self.now.rows index ≡ Some old
             → at + (NAME_WIDTH + CELL_WIDTH * length old.cells) < length bytes.old }
-        ensures line { (old : RowTail) → slice_get self.now.rows index ≡ Some old
-            → take (at + result) bytes.new ≡ take at bytes.old ++ printed_row (shown_row old) }
-        ensures within { at + result < length bytes.new }
-        ensures short { (old : RowTail) → slice_get self.now.rows index ≡ Some old
-            → result ≤ NAME_WIDTH + CELL_WIDTH * length old.cells }
+        ensures { (row : RowTail) × (slice_get self.now.rows index ≡ Some row)
+            × IsLinePut (printed_row (shown_row row)) (NAME_WIDTH + CELL_WIDTH * length row.cells)
+            at bytes.old bytes.new result }
     {
         let (name, satellite) = self.known.get_index(index).unwrap();
         satellite.print_line(*name, bytes, at)
@@ -445,7 +397,7 @@ fn revive(map: &mut IndexMap<[u8; NAME_WIDTH], SatelliteHistory>, live: usize, f
     ensures revived { IsRevived live found map.old.entries map.new.entries }
 {
     let (_, satellite) = map.pair_mut(found);
-    satellite.clear();
+    satellite.resize(0);
     if found != live {
         map.swap_indices(found, live);
     }

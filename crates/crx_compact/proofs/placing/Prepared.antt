@@ -3,7 +3,7 @@ use Rattle.std.proofs.Common.{rules, ◌≡◌, ℕ, ◌≤◌, List, length, ma
 use Rattle.std.proofs.{Common.{◌∙◌, arith}, Math.Seq.map-set_same, lemmas.Grind.common_steps}
 use Rattle.std.proofs.{lemmas.List.{drop-map, length-take, take-map}, lemmas.Option.get_or_from_slice_get}
 use Rattle.indexmap.specs.IndexMap.{set_value_at}
-use Rattle.crx_compact.specs.{Entries.{Entry, IsFound}, Placing.{SatelliteTail, row_of_entry}}
+use Rattle.crx_compact.specs.{Entries.{Entry, IsFound}, Placing.{HasAskedRoom, PlacedRows, SatelliteTail, row_of_entry}}
 use Rattle.crx_compact.proofs.placing.EntryChanges.{changed-is}
 
 -- all that were there are still there
@@ -31,3 +31,11 @@ module _ (name : List ℕ) (found : ℕ) (old known new : List Entry) (is : IsFo
   pub range-same : (placed live : ℕ) → live ≤ length old
       → map row_of_entry (drop placed (take live new)) ≡ map row_of_entry (drop placed (take live old))
   range-same placed live within = cc (drop-map _ placed _, front-same live within, drop-map _ placed _)
+
+-- room that was asked for twice
+pub asked-more : {one two three : PlacedRows} → HasAskedRoom one two → HasAskedRoom two three → HasAskedRoom one three
+asked-more first next = record {
+  rows = next.rows ∙ first.rows;
+  rest = next.rest ∙ first.rest;
+  rooms = λ name count has. next.rooms name count (first.rooms name count has);
+}

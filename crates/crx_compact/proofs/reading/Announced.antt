@@ -19,8 +19,9 @@ satellites-set (r ∷ rs) (suc place) row left there name sized =
 
 -- a row that was read
 pub row-announced : (old new : OpenHistory) (place : ℕ) (line : List ℕ)
-    → IsRowRead place line old new → IsAnnounced old → IsAnnounced new
-row-announced old new place line read h = search (rules, satellite_of, satellites-set)
+    → IsRowRead place line old.satellites new.satellites → new ≡ record old { satellites = new.satellites }
+    → IsAnnounced old → IsAnnounced new
+row-announced old new place line read same h = search (rules, satellite_of, satellites-set)
 
 -- ---- what they are
 

@@ -10,10 +10,11 @@ use Rattle.crx_compact.specs.{OpenEpochs.{Idle, Whole, Faulty}, Placing.empty_ro
 
 -- ---- satellite lines
 
-pub row-stepped : (old new : OpenHistory) (count : ℕ) (line : List ℕ) → IsRowRead count line old new
+pub row-stepped : (old new : OpenHistory) (count : ℕ) (line : List ℕ)
+    → IsRowRead count line old.satellites new.satellites → new ≡ record old { satellites = new.satellites }
     → next_step (with_rows (tail_of_history old) count) (Content line)
     ≡ step_with_rows (tail_of_history new) (count + 1)
-row-stepped old new count line h = grind arith
+row-stepped old new count line h same = grind arith
 
 -- the row that is awaited
 pub row-awaited : (rows : List RowTail) (count : ℕ)

@@ -3,7 +3,7 @@ use Rattle.crx_compact.proofs.Words.{err_from_is_err_and, length-take-le, value_
 use Rattle.crx_compact.proofs.CellsRead.{first-read, first-refused, read-none, read-next, next-refused}
 use Rattle.crx_compact.proofs.{Words.cells_read, CellsRead.read-all}
 use Rattle.crx_compact.proofs.cells.read_cells.Goals.{in-Some, in-None+in_ok-length-in-None}
-use Rattle.std.proofs.Common.{Bor}
+use Rattle.std.proofs.{Common.Bor, lemmas.List.take_rest}
 use Rattle.crx_compact.proofs.cells.read_cells.Goals as goal
 
 pub loop-index-init : goal.loop-index-init
@@ -28,12 +28,12 @@ loop-index-preserved c =
           read-next _ _ _ _ _ _ _ _ w.in-Some.length c.loop-index.invariant within
           (first-read c.args.count _ _ _ _ _ c.loop-index-test.true w.in-Some.ensures.some)
           (ap (take c.args.count) w.arcs-is)
-          (ap {B = List ℕ} (λ (b : Bor (List ℕ)). b.now) w.rest-is ∙ w.rest_after-rest.ensures)
+          (ap {B = List ℕ} (λ (b : Bor (List ℕ)). b.now) w.rest-is ∙ take_rest c.loop-index.rest.now w.in-Some.length)
       | in-None+in_ok-length-in-None w ↦
           read-next _ _ _ _ _ _ _ _ w.in_ok-length-in-None.length c.loop-index.invariant within
           (first-read c.args.count _ _ _ _ _ c.loop-index-test.true
           (rw w.in-None.ensures.none at w.in_ok-length-in-None.ensures.ok)) (ap (take c.args.count) w.arcs-is)
-          (ap {B = List ℕ} (λ (b : Bor (List ℕ)). b.now) w.rest-is ∙ w.rest_after-rest-in-None.ensures)
+          (ap {B = List ℕ} (λ (b : Bor (List ℕ)). b.now) w.rest-is ∙ take_rest c.loop-index.rest.now w.in_ok-length-in-None.length)
     ]
 
 pub returns-clause-ok : goal.returns-clause-ok

@@ -17,7 +17,7 @@ returns-in_err-read_row-in-SatelliteLine-clause-err c =
     rw (p.1, p.2) (subst (λ (s : Expected). step_at s c.args.count.now c.args.history.now (Content
     c.args.line.now) ≡ Faulty c.in_err-read_row-in-SatelliteLine.field-0.0) (sym c.in-SatelliteLine.is) (row-faulty
     (tail_of_history c.args.history.now) c.args.count.now c.args.line.now c.in_err-read_row-in-SatelliteLine.field-0.0
-    (rw c.in-SatelliteLine.is at c.requires.sound).1 c.in_err-read_row-in-SatelliteLine.ensures.err))
+    (rw c.in-SatelliteLine.is at c.requires.sound).1 c.in_err-read_row-in-SatelliteLine.ensures.answer.err))
 
 pub overflow_add-count : goal.overflow_add-count
 overflow_add-count c = grind (arith, common_steps, rows-few, c.in-SatelliteLine.is, c.requires.sound)

@@ -1,6 +1,6 @@
-use Rattle.crx_compact.proofs.Words.{rules, ℕ, List, length, sym, ◌∙◌, arith}
+use Rattle.crx_compact.proofs.Words.{rules, ℕ, List, length, sym, arith}
 use Rattle.crx_compact.proofs.Words.{Row, HasRoom, slice_get_within}
-use Rattle.crx_compact.proofs.{Making.taken_all, RowByRow.{all-next}}
+use Rattle.crx_compact.proofs.{Making.taken_all, RowByRow.{all-next}, placing.Prepared.asked-more}
 use borrow.Author.Count.{falls}
 use Rattle.crx_compact.proofs.history.prepare_rows.Goals as goal
 
@@ -13,10 +13,7 @@ loop-row-preserved c =
     let roomy : HasRoom row.name (length row.values) rooms =
     rw (c.name.ensures.value, c.values.ensures.value) at c.in_ok-prepare.ensures.asked.room in
     record {
-      rows = c.prepare.ensures.asked.asked.rows ∙ c.loop-row.invariant.rows;
-      rest = c.prepare.ensures.asked.asked.rest ∙ c.loop-row.invariant.rest;
-      kept = λ name count has. c.prepare.ensures.asked.asked.rooms name count
-          (c.loop-row.invariant.kept name count has);
+      asked = asked-more c.loop-row.invariant.asked c.prepare.ensures.asked.asked;
       room = all-next (λ (r : Row). HasRoom r.name (length r.values) rooms) rows index row
           (λ i d within. c.prepare.ensures.asked.asked.rooms _ _ (c.loop-row.invariant.room i d within))
           (sym c.in-Some.ensures.value) roomy;
@@ -24,22 +21,13 @@ loop-row-preserved c =
 
 pub returns : goal.returns
 returns c = record {
-  asked = record {
-    rows = c.loop-row.invariant.rows;
-    rest = c.loop-row.invariant.rest;
-    rooms = c.loop-row.invariant.kept;
-  };
+  asked = c.loop-row.invariant.asked;
   room = grind (arith, taken_all, c.in_default.ensures.value, c.loop-row.invariant.room);
 }
 
 pub returns-in_err-prepare : goal.returns-in_err-prepare
 returns-in_err-prepare c = record {
-  asked = record {
-    rows = c.prepare.ensures.asked.asked.rows ∙ c.loop-row.invariant.rows;
-    rest = c.prepare.ensures.asked.asked.rest ∙ c.loop-row.invariant.rest;
-    rooms = λ name count has.
-        c.prepare.ensures.asked.asked.rooms name count (c.loop-row.invariant.kept name count has);
-  };
+  asked = asked-more c.loop-row.invariant.asked c.prepare.ensures.asked.asked;
   room = search rules;
 }
 

@@ -1,12 +1,10 @@
-use Rattle.std.proofs.Common.{◌≡◌, ◌-◌, length, take}
-use Rattle.crx_compact.specs.Placing.{HaveRoom, KeepsRooms}
+use Rattle.std.proofs.Common.{◌-◌, length, take}
+use Rattle.crx_compact.specs.Placing.{HasAskedRoom, HaveRoom}
 use Rattle.crx_compact.proofs.history.prepare_rows.Given as goal
 
 abbrev pub invariant-loop-row : goal.invariant-loop-row
 invariant-loop-row l = record {
-  rows : l.satellites.rows ≡ l.initial.satellites.rows;
-  rest : l.satellites.rest ≡ l.initial.satellites.rest;
-  kept : KeepsRooms l.initial.satellites.rooms l.satellites.rooms;
+  asked : HasAskedRoom l.initial.satellites l.satellites;
   room : HaveRoom (take l.index l.epoch.rows) l.satellites.rooms;
 }
 

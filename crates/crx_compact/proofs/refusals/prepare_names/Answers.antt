@@ -1,31 +1,19 @@
 use Rattle.crx_compact.proofs.Words.{rules, not, ℕ, List, ap, subst, ◌∙◌, false≢true, same_Some, inl, inr, names_in, refl}
 use Rattle.crx_compact.proofs.refusals.prepare_names.Goals.{in-Some-types_of_satellite+else-is_err}
-use Rattle.crx_compact.proofs.{Words.{types_of_satellite, HasRoom}, Results.by_ok, Naming.{names-room, names-room-more}}
+use Rattle.crx_compact.proofs.{Words.{types_of_satellite, HasRoom}, Results.by_ok, Naming.{names-room, names-room-more}, placing.Prepared.asked-more}
 use Rattle.crx_compact.proofs.refusals.prepare_names.Goals.{in_default-types_of_satellite}
 use Rattle.crx_compact.proofs.reading.NoMemory.{no-memory-in-names}
 use Rattle.std.proofs.lemmas.Option.{none-some}
 use Rattle.crx_compact.proofs.refusals.prepare_names.Goals as goal
 
 pub returns-clause-asked : goal.returns-clause-asked
-returns-clause-asked c =
-    let so_far = c.loop-index.invariant in
-    record {
-      asked = record { rows = so_far.rows; rest = so_far.rest; rooms = so_far.kept };
-      room = search rules;
-    }
+returns-clause-asked c = record { asked = c.loop-index.invariant.asked; room = search rules }
 
 pub returns-then-is_err-clause-asked : goal.returns-then-is_err-clause-asked
-returns-then-is_err-clause-asked c =
-    let so_far = c.loop-index.invariant in
-    let prepared = c.prepare.ensures.asked.asked in
-    record {
-      asked = record {
-        rows = prepared.rows ∙ so_far.rows;
-        rest = prepared.rest ∙ so_far.rest;
-        rooms = λ name count has. prepared.rooms name count (so_far.kept name count has);
-      };
-      room = tt;
-    }
+returns-then-is_err-clause-asked c = record {
+  asked = asked-more c.loop-index.invariant.asked c.prepare.ensures.asked.asked;
+  room = tt;
+}
 
 pub returns-in-Some-clause-err : goal.returns-in-Some-clause-err
 returns-in-Some-clause-err c =
@@ -57,9 +45,7 @@ loop-index-preserved c =
       | in-Some-types_of_satellite+else-is_err w ↦
           let prepared = w.prepare.ensures in
           rw w.satellites-is (record {
-            rows = prepared.asked.asked.rows ∙ so_far.rows;
-            rest = prepared.asked.asked.rest ∙ so_far.rest;
-            kept = λ name count has. prepared.asked.asked.rooms name count (so_far.kept name count has);
+            asked = asked-more so_far.asked prepared.asked.asked;
             room = names-room-more types c.args.text.now c.loop-index.index before.rooms
                 w.prepare.new.self.rooms so_far.room prepared.asked.asked.rooms (λ cells some.
                 let same = same_Some w.in-Some-types_of_satellite.cells cells
@@ -72,9 +58,7 @@ loop-index-preserved c =
           })
       | in_default-types_of_satellite w ↦
           rw w.satellites-is (record {
-            rows = so_far.rows;
-            rest = so_far.rest;
-            kept = so_far.kept;
+            asked = so_far.asked;
             room = names-room-more types c.args.text.now c.loop-index.index before.rooms before.rooms
                 so_far.room (λ name count has. has) (λ cells some. absurd (none-some cells
                 (w.in_default-types_of_satellite.ensures.value ∙ ap (types_of_satellite types) is ∙ some)));

@@ -1,70 +1,39 @@
-use Rattle.crx_compact.proofs.Words.{◌≡◌, ◌+◌, ◌++◌, List, ℕ, Some, drop, length, set, slice_get, take, ap}
-use Rattle.crx_compact.proofs.Words.{◌∙◌, arith, length-set, take_at, PendingLines, RowTail, row_line_after}
-use Rattle.crx_compact.proofs.{Words.row_of_parts, block.Block.put_row.Goals.After-write_line-length}
-use Rattle.crx_compact.proofs.{LineTexts.{Pushed, row-pushed}, RowByRow.is-there}
+use Rattle.crx_compact.proofs.Words.{◌+◌, ◌*◌, ◌≡◌, List, ℕ, drop, length, set, ap, arith, length-set, take_at, PendingLines}
+use Rattle.crx_compact.proofs.Words.{◌∙◌, take}
+use Rattle.crx_compact.proofs.{LineTexts.{BlockPushed, row-pushed}}
+use Rattle.crx_compact.proofs.block.Block.put_row.Goals.{After-write_line-length}
 use Rattle.crx_compact.proofs.block.Block.put_row.Goals as goal
-
--- the row's line is put after the others
-pushed : (c : After-write_line-length) (row : RowTail) → slice_get c.args.satellites.now.rows c.args.index ≡
-    Some row
-    → Pushed (take c.self.inside.count c.self.inside.lengths.items)
-    (take (c.self.inside.count + 1) (set c.self.inside.lengths.items c.self.inside.count
-    c.write_line-length.result))
-    (take c.self.inside.filled c.self.inside.bytes.items)
-    (take (c.self.inside.filled + (c.write_line-length.result + 1))
-    (set c.write_line-length.new.bytes (c.self.inside.filled + c.write_line-length.result) 10))
-    (row_line_after (Some row) (row_of_parts row.name c.args.values.now c.args.flags.now))
-    c.self.inside.handed_out c.self.inside.handed_out_bytes
-pushed c row there =
-    let inside = c.self.inside in
-    let line : List ℕ = row_line_after (Some row) (row_of_parts row.name c.args.values.now c.args.flags.now)
-    in
-    row-pushed inside.lengths.items inside.bytes.items _ _ inside.count inside.filled
-    c.write_line-length.result _ _
-    c.self.invariant.0
-    (omega (arith, c.requires.left, c.self.invariant.4, ap (λ (l : PendingLines). l.left) c.self.view_is))
-    c.self.invariant.2
-    (c.write_line-length.ensures.line row there
-    ∙ ap (λ (t : List ℕ). take inside.filled t ++ line) c.as_mut_slice-bytes.ensures.value
-    ∙ ap (λ (t : List ℕ). t ++ line) (c.use_bytes.ensures.kept.items inside.filled c.self.invariant.2))
-    c.write_line-length.ensures.within
 
 pub use_bytes-requires : goal.use_bytes-requires
 use_bytes-requires c =
     omega (arith, c.requires.left, c.self.invariant.4, ap (λ (l : PendingLines). l.left) c.self.view_is)
 
+-- the row's line is put after the others
+pushed : (c : After-write_line-length) → (c.write_line-length.result ≡ length c.write_line-length.ensures.0)
+    × BlockPushed c.self.inside.lengths.items c.self.inside.bytes.items
+    (set c.write_line-length.new.bytes (c.self.inside.filled + c.write_line-length.result) 10)
+    c.write_line-length.ensures.0 c.self.inside.count c.self.inside.filled
+    c.self.inside.handed_out c.self.inside.handed_out_bytes c.self.inside.front c.use_bytes.new.bytes.cap
+pushed c =
+    row-pushed _ _ _ _ _ _ _ (24 * length c.args.values.now + 800) _ _ _ _ _ _ c.self.invariant c.use_bytes.ensures.kept.memory
+    (omega (arith, c.requires.left, ap (λ (l : PendingLines). l.left) c.self.view_is)) (omega (arith, c.requires.may.sound.counted))
+    (ap (take c.self.inside.filled) c.as_mut_slice-bytes.ensures.value ∙ c.use_bytes.ensures.kept.items c.self.inside.filled c.self.invariant.2)
+    (omega (arith, c.use_bytes.ensures.counted, ap length c.as_mut_slice-bytes.ensures.value)) c.write_line-length.ensures.2
+
 pub invariant_of-self : goal.invariant_of-self
 invariant_of-self c =
-    let inside = c.self.inside in
     let line = c.write_line-length.new.bytes in
-    let bytes : List ℕ = set line (inside.filled + c.write_line-length.result) 10 in
-    let long = length-set line (inside.filled + c.write_line-length.result) 10 in
-    let at = is-there c.args.satellites.now.rows c.args.index c.requires.within in
+    let bytes : List ℕ = set line (c.self.inside.filled + c.write_line-length.result) 10 in
     let used = c.use_bytes.new.bytes in
-    let place = c.self.invariant.4 in
-    let left = ap (λ (l : PendingLines). l.left) c.self.view_is in
-    let many = length-set inside.lengths.items inside.count c.write_line-length.result in
-    let short = c.write_line-length.ensures.short in
-    rw (take_at bytes (drop (length bytes) used.items) used.len (omega (arith, long))) (
-      (pushed (goal.at.invariant_of-self c).After-write_line-length at.item at.there).still,
-      omega (arith, place, left, c.requires.left, many),
-      omega (arith, long, c.write_line-length.ensures.within),
-      c.self.invariant.3,
-      (
-        omega (arith, place.0),
-        omega (arith, place.1),
-        omega (arith, place, short, c.requires.few),
-        omega (arith, many, place.3),
-        omega (arith, place.4, c.use_bytes.ensures.kept.memory),
-      ),
-    )
+    let pushed = pushed (goal.at.invariant_of-self c).After-write_line-length in
+    rw (take_at bytes (drop (length bytes) used.items) used.len (omega (arith, length-set line (c.self.inside.filled + c.write_line-length.result) 10)))
+    (rw (← pushed.0) at pushed.1.still)
 
-pub returns-clause-lines : goal.returns-clause-lines
-returns-clause-lines c = λ old there.
-    let inside = c.self.inside in
+pub returns-clause-written : goal.returns-clause-written
+returns-clause-written c =
     let line = c.write_line-length.new.bytes in
-    let bytes : List ℕ = set line (inside.filled + c.write_line-length.result) 10 in
-    let long = length-set line (inside.filled + c.write_line-length.result) 10 in
+    let bytes : List ℕ = set line (c.self.inside.filled + c.write_line-length.result) 10 in
     let used = c.use_bytes.new.bytes in
-    let whole = take_at bytes (drop (length bytes) used.items) used.len (omega (arith, long)) in
-    rw (← c.self.view_is, whole) (pushed (goal.at.returns-clause-lines c).After-write_line-length old there).is
+    let whole = take_at bytes (drop (length bytes) used.items) used.len (omega (arith, length-set line (c.self.inside.filled + c.write_line-length.result) 10)) in
+    let pushed = pushed (goal.at.returns-clause-written c).After-write_line-length in
+    (_, c.write_line-length.ensures.1, rw (← c.self.view_is, whole) (rw (← pushed.0) at pushed.1.is))

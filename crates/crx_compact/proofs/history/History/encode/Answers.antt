@@ -8,7 +8,7 @@ use Rattle.crx_compact.proofs.ComeRows.{row-new}
 use Rattle.crx_compact.proofs.{Making.{taken_all, taken_more}, RowByRow.{all-at}}
 use Rattle.crx_compact.proofs.{history.History.encode.Goals.In_default}
 use borrow.Author.Count.{falls}
-use Rattle.crx_compact.specs.{Blocks.HasTakenLine, Written.IsRowWritten}
+use Rattle.crx_compact.specs.{Written.IsRowWritten}
 use Rattle.crx_compact.proofs.history.History.encode.Goals as goal
 
 pub loop-row-init : goal.loop-row-init
@@ -66,13 +66,12 @@ loop-row-preserved c =
     let parts : put ≡ row =
     (λ j. row_of_parts (c.name.ensures.value j) (c.values.ensures.value j) (c.flags.ensures.value j)) in
     let after : Tail = if c.args.in_full then no_tail else tail_of_history c.args.self.now in
-    let written = IfOk-at_ok (IsRowWritten after so_far put c.write_row.new.self c.write_row.new.lines.lines)
-    c.unwrap.ensures (c.write_row.ensures.written after so_far c.loop-row.invariant.written) in
+    let written = IfOk-at_ok (IsRowWritten after so_far put c.loop-row.self c.loop-row.lines c.write_row.new.self c.write_row.new.lines)
+    c.unwrap.ensures (c.write_row.ensures.written after so_far c.loop-row.invariant.written).ok in
     let is_new : c.unwrap.result ≡ true = written.answer
     ∙ ap not (ap (λ (r : Row). has_satellite r.name so_far) parts ∙ row-new rows index row
-    c.requires.sound.apart here) in
-    let taken = IfOk-at_ok (λ is_new. is_new ≡ true → HasTakenLine c.loop-row.lines c.write_row.new.lines) c.unwrap.ensures
-    c.write_row.ensures.taken is_new in
+    c.is_full.ensures.sound.apart here) in
+    let taken = written.taken is_new in
     let known = c.loop-row.invariant in
     record {
       written = subst (λ (rs : List Row). AreRowsWritten after rs c.write_row.new.self

@@ -1,80 +1,118 @@
-use Rattle.crx_compact.proofs.Words.{rules, ◌≡◌, ◌-◌, ◌++◌, ◌∷◌, [], List, ℕ, Some, length, not, ap}
-use Rattle.crx_compact.proofs.Words.{sym, ◌∙◌, refl, subst, false≢true, same_Some, has_satellite, Row}
+use Rattle.crx_compact.proofs.Words.{rules, ◌≡◌, ◌-◌, List, ℕ, length, not, ap, err_from_is_err_and}
+use Rattle.crx_compact.proofs.Words.{sym, ◌∙◌, refl, subst, false≢true, has_satellite, PlacedRows, Row}
 use Rattle.crx_compact.proofs.Words.{IsSoundRow, HasRoom, KeepsRooms, OpenHistory, row_of_parts, row_or_blank}
-use Rattle.crx_compact.proofs.Words.{row_line_after, row_tail_after, RowTail, Tail, AreRowsWritten}
-use Rattle.crx_compact.proofs.{Results.on_err, Writing.{come-already, come-last, no-row, written-next}}
-use Rattle.crx_compact.proofs.history.History.write_row.Goals.{After-place_or_add, In_ok-place_or_add}
+use Rattle.crx_compact.proofs.Words.{Tail, AreRowsWritten}
+use Rattle.crx_compact.proofs.{Results.from_some, Writing.{come-already, come-last, no-row, written-next}, placing.Placed.placed-asked}
+use Rattle.crx_compact.specs.{Placing.IsPlaced, contracts.history.History.the_view}
+use Rattle.crx_compact.proofs.history.History.write_row.Goals.{Joined-place, in-Some, in-None+in_ok-prepare-in-None}
 use Rattle.crx_compact.proofs.history.History.write_row.Goals as goal
 
-pub returns-in_err-place_or_add-clause-memory : goal.returns-in_err-place_or_add-clause-memory
-returns-in_err-place_or_add-clause-memory c = λ after rows written.
-    on_err c.from_residual.result (sym (come-already after rows c.args.self.now c.args.lines.now.lines
-    c.self.inside.satellites c.args.name.now (ap (λ (h : OpenHistory). h.satellites) c.self.view_is) written)
-    ∙ c.in_err-place_or_add.ensures.err)
+-- the satellite has come, or had come already, and nothing but the satellites has changed
+placed : (c : Joined-place) → IsPlaced c.args.name.now (length c.args.values.now) c.self.inside.satellites
+    c.match-place.self-inside.satellites c.match-place.is_new
+    × KeepsRooms c.self.inside.satellites.rooms c.match-place.self-inside.satellites.rooms
+    × (the_view c.match-place.self-inside ≡ record c.args.self.now { satellites = c.match-place.self-inside.satellites })
+placed c = elim c.match-place.branch [
+  | in-Some w ↦ rw (w.is_new-is, w.self-inside-is) (
+    w.in-Some.ensures.placed,
+    c.place.ensures.rooms.forth,
+    λ j. record (c.self.view_is j) { satellites = c.place.new.self },
+  )
+  | in-None+in_ok-prepare-in-None w ↦ rw (w.is_new-is, w.self-inside-is) (
+    search (rules, placed-asked, from_some, w.prepare.ensures.asked.asked),
+    λ name count has. search (
+      rules,
+      w.place-in-None.ensures.rooms.forth,
+      w.prepare.ensures.asked.asked.rooms,
+      c.place.ensures.rooms.forth,
+    ),
+    λ j. record (c.self.view_is j) { satellites = w.place-in-None.new.self },
+  )
+]
 
--- no satellite has less room
-rooms : (c : After-place_or_add)
-    → KeepsRooms c.args.self.now.satellites.rooms c.place_or_add.new.self.rooms
-rooms c = subst (λ (h : OpenHistory). KeepsRooms h.satellites.rooms c.place_or_add.new.self.rooms)
-    c.self.view_is c.place_or_add.ensures.prepared.rooms
+pub returns-in_err-prepare-in-None-clause-written : goal.returns-in_err-prepare-in-None-clause-written
+returns-in_err-prepare-in-None-clause-written c = λ after rows written.
+    let p = err_from_is_err_and c.from_residual.result c.from_residual.ensures.1 in
+    rw (p.1) (record {
+      ok = tt;
+      err = sym (come-already after rows c.args.self.now c.args.lines.now.lines
+          c.self.inside.satellites c.args.name.now (ap (λ (h : OpenHistory). h.satellites) c.self.view_is) written)
+          ∙ (c.in-None.ensures.unplaced refl).absent;
+    })
 
 -- whether the row's satellite is new
-answer : (c : In_ok-place_or_add) (after : Tail) (rows : List Row)
+answer : (c : Joined-place) (after : Tail) (rows : List Row)
     → AreRowsWritten after rows c.args.self.now c.args.lines.now.lines
-    → c.in_ok-place_or_add.field-0 ≡ not (has_satellite c.args.name.now rows)
+    → c.match-place.is_new ≡ not (has_satellite c.args.name.now rows)
 answer c after rows written =
-    c.in_ok-place_or_add.ensures.ok.answer
+    (placed c).0.answer
     ∙ ap not (come-already after rows c.args.self.now c.args.lines.now.lines
     c.self.inside.satellites c.args.name.now (ap (λ (h : OpenHistory). h.satellites) c.self.view_is) written)
 
-pub returns-then-not-branch-clause-written : goal.returns-then-not-branch-clause-written
-returns-then-not-branch-clause-written c = λ after rows written. record {
-  answer = sym c.if-not-branch.true ∙ answer (goal.at.returns-then-not-branch-clause-written
-      c).In_ok-place_or_add after rows written;
-  written = λ is. absurd (false≢true is);
-}
+pub returns-then-not-is_new-clause-written : goal.returns-then-not-is_new-clause-written
+returns-then-not-is_new-clause-written c = λ after rows written.
+    let at = (goal.at.returns-then-not-is_new-clause-written c).Joined-place in
+    let come = placed at in
+    record {
+      err = tt;
+      ok = record {
+        answer = sym c.if-not-is_new.true ∙ answer at after rows written;
+        written = λ is. absurd (false≢true is);
+        taken = λ is. absurd (false≢true is);
+        same = λ is. (
+          come.2 ∙ ap (λ (s : PlacedRows). record c.args.self.now { satellites = s })
+              (come.0.repeated c.if-not-is_new.true ∙ ap (λ (h : OpenHistory). h.satellites) c.self.view_is),
+          refl,
+        );
+      };
+    }
 
-pub put_row-requires-clause-sound : goal.put_row-requires-clause-sound
-put_row-requires-clause-sound c = λ old there.
+pub put_row-requires-clause-may : goal.put_row-requires-clause-may
+put_row-requires-clause-may c =
     let name = c.args.name.now in
     let values = c.args.values.now in
-    let flags = c.args.flags.now in
-    let come = c.in_ok-place_or_add.ensures.ok.come c.if-not-branch.false in
-    let last = come-last name c.self.inside.satellites c.place_or_add.new.self c.place_or_add.new.self.rows _
-    come refl (ap (λ n. n - 1) c.placed-last.ensures.value) in
-    let is = same_Some old (row_or_blank name c.self.inside.satellites.rest) (sym there ∙ last.there) in
-    let named : old.name ≡ name = ap (λ (t : RowTail). t.name) is ∙ last.named in (
-      subst (λ (n : List ℕ). IsSoundRow (row_of_parts n values flags)) (sym named) c.requires.sound,
-      subst (λ (n : List ℕ). HasRoom n (length values) c.place_or_add.new.self.rooms) (sym named)
-          (c.in_ok-place_or_add.ensures.ok.room c.if-not-branch.false),
-    )
+    let placed = (placed (goal.at.put_row-requires-clause-may c).Joined-place).0 in
+    let satellites = c.match-place.self-inside.satellites in
+    let last = come-last name c.self.inside.satellites satellites satellites.rows _ (placed.come c.if-not-is_new.false) refl
+    (ap (λ n. n - 1) c.placed-last.ensures.value) in
+    record {
+      row = row_or_blank name c.self.inside.satellites.rest;
+      there = last.there;
+      sound = subst (λ (n : List ℕ). IsSoundRow (row_of_parts n values c.args.flags.now)) (sym last.named) c.requires.sound;
+      room = subst (λ (n : List ℕ). HasRoom n (length values) satellites.rooms) (sym last.named)
+          (placed.room c.if-not-is_new.false);
+    }
 
 pub returns-clause-written : goal.returns-clause-written
 returns-clause-written c = λ after rows written.
-    let name = c.args.name.now in
-    let values = c.args.values.now in
-    let flags = c.args.flags.now in
-    let row : Row = row_of_parts name values flags in
-    let placed = c.self.inside.satellites in
-    let come = c.in_ok-place_or_add.ensures.ok.come c.if-not-branch.false in
-    let last = come-last name placed c.place_or_add.new.self c.place_or_add.new.self.rows _ come refl
-    (ap (λ n. n - 1) c.placed-last.ensures.value) in
-    let kept = row_or_blank name placed.rest in
-    let parts : row_of_parts kept.name values flags ≡ row =
-    ap (λ (n : List ℕ). row_of_parts n values flags) last.named in
+    let at = (goal.at.returns-clause-written c).Joined-place in
+    let come = placed at in
+    let row : Row = row_of_parts c.args.name.now c.args.values.now c.args.flags.now in
+    let before = c.self.inside.satellites in
     let same = ap (λ (h : OpenHistory). h.satellites) c.self.view_is in
+    let put = c.put_row.ensures.written in
     record {
-      answer = sym c.if-not-branch.false ∙ answer (goal.at.returns-clause-written c).In_ok-place_or_add after
-          rows written;
-      written = λ is.
-          written-next after rows row c.args.self.now _ c.place_or_add.new.self c.args.lines.now.lines
-          c.put_row.new.self.lines placed same written c.requires.sound
-          (no-row after rows c.args.self.now c.args.lines.now.lines placed name c.in_ok-place_or_add.field-0
-          same c.in_ok-place_or_add.ensures.ok.answer c.if-not-branch.false written) come
-          (search (rules, c.put_row.ensures.after, row_tail_after, row_of_parts))
-          c.put_row.ensures.kept.rest
-          (c.put_row.ensures.lines kept last.there
-          ∙ (λ j. c.args.lines.now.lines ++ row_line_after (Some kept) (parts j) ∷ []))
-          (ap (λ (h : OpenHistory). h.text) c.self.view_is) (ap (λ (h : OpenHistory). h.clock)
-          c.self.view_is);
+      err = tt;
+      ok = record {
+        answer = sym c.if-not-is_new.false ∙ answer at after rows written;
+        written = λ is. written-next after rows row c.args.self.now _ c.match-place.self-inside.satellites before
+            (c.placed-last.result - 1) c.args.lines.now.lines c.put_row.new.self.lines put.0 same written c.requires.sound
+            (no-row after rows c.args.self.now c.args.lines.now.lines before row.name c.match-place.is_new
+            same come.0.answer c.if-not-is_new.false written) (come.0.come c.if-not-is_new.false)
+            (ap (λ n. n - 1) c.placed-last.ensures.value) put.1 put.2 (ap (λ (h : OpenHistory). h.text) come.2)
+            (ap (λ (h : OpenHistory). h.clock) come.2);
+        taken = λ is. c.put_row.ensures.taken;
+        same = λ is. absurd (false≢true (sym is));
+      };
+    }
+
+pub returns-clause-prepared : goal.returns-clause-prepared
+returns-clause-prepared c =
+    let come = placed (goal.at.returns-clause-prepared c).Joined-place in
+    let kept = c.put_row.ensures.written.1.kept.rooms.forth in
+    record {
+      known = λ has. refl;
+      room = λ is. kept _ _ (come.0.room c.if-not-is_new.false);
+      rooms = λ name count has. kept name count (come.1 name count
+          (subst (λ (h : OpenHistory). HasRoom name count h.satellites.rooms) (sym c.self.view_is) has));
     }

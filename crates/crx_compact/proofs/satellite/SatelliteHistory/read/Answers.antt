@@ -1,28 +1,39 @@
 use Rattle.crx_compact.proofs.SatelliteLines.{cells-refused, flags-refused, indicators-left, no-marks}
-use Rattle.crx_compact.proofs.Words.{rules, length-take-le, take_at, err_from_is_err_and}
+use Rattle.crx_compact.proofs.Words.{arith, common_steps, rules, length-take-le, take_at, err_from_is_err_and}
 use Rattle.crx_compact.proofs.{Marks.{none-there, on-both}, SatelliteLines.stored-read}
 use Rattle.std.proofs.{lemmas.List.take_rest, lemmas.Result.IfErr-weaker}
 use Rattle.crx_compact.proofs.satellite.SatelliteHistory.read.Goals as goal
 
-pub returns-in_err-at-clause-err : goal.returns-in_err-at-clause-err
-returns-in_err-at-clause-err c =
+pub returns-in_err-at : goal.returns-in_err-at
+returns-in_err-at c =
     let p = err_from_is_err_and c.from_residual.result c.from_residual.ensures.1 in
-    rw (p.1, p.2, ← c.self.view_is) (cells-refused c.self.inside.indicators.items c.self.inside.arcs.items
-    c.self.inside.count c.args.line.now _ c.self.invariant.1 c.requires.other (rw (c.deref_mut.ensures.value)
-    at c.in_err-at.ensures.err))
+    rw (p.1, p.2, ← c.self.view_is) (record {
+      ok = tt;
+      err = cells-refused c.self.inside.indicators.items c.self.inside.arcs.items
+          c.self.inside.count c.args.line.now _ c.self.invariant.1 c.requires.other (rw (c.deref_mut.ensures.value)
+          at c.in_err-at.ensures.err);
+      sized = search (rules, length-take-le, take_at);
+      room = grind (arith, common_steps);
+    })
 
-pub returns-then-is_empty-clause-ok : goal.returns-then-is_empty-clause-ok
-returns-then-is_empty-clause-ok c =
-    search (rules, take_rest, none-there, take_at, stored-read, no-marks, indicators-left, length-take-le)
+pub returns-then-is_empty : goal.returns-then-is_empty
+returns-then-is_empty c = record {
+  ok = search (rules, take_rest, none-there, take_at, stored-read, no-marks, indicators-left, length-take-le);
+  err = tt;
+  sized = search (rules, length-take-le, take_at);
+  room = grind (arith, common_steps);
+}
 
-pub returns-clause-ok : goal.returns-clause-ok
-returns-clause-ok c = search (rules, take_rest, take_at, on-both, stored-read)
-
-pub returns-clause-err : goal.returns-clause-err
-returns-clause-err c =
+pub returns : goal.returns
+returns c =
     let at = c.in_ok-at.at in
     let refused = rw (take_rest c.args.line.now at) at c.patch_indicators.ensures.err in
-    rw (← c.self.view_is) (
-    IfErr-weaker c.patch_indicators.result _ _ (λ fault. flags-refused c.self.inside.indicators.items
-    c.self.inside.arcs.items _ c.self.inside.count c.args.line.now at fault c.self.invariant.1
-    c.requires.other (rw (c.deref_mut.ensures.value) at c.in_ok-at.ensures.ok)) refused)
+    record {
+      ok = search (rules, take_rest, take_at, on-both, stored-read);
+      err = rw (← c.self.view_is) (
+          IfErr-weaker c.patch_indicators.result _ _ (λ fault. flags-refused c.self.inside.indicators.items
+          c.self.inside.arcs.items _ c.self.inside.count c.args.line.now at fault c.self.invariant.1
+          c.requires.other (rw (c.deref_mut.ensures.value) at c.in_ok-at.ensures.ok)) refused);
+      sized = search (rules, length-take-le, take_at);
+      room = grind (arith, common_steps);
+    }

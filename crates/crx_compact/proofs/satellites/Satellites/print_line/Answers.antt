@@ -1,4 +1,4 @@
-use Rattle.std.proofs.Common.{rules, ap, sym, ◌∙◌, option_map}
+use Rattle.std.proofs.Common.{ap, sym, ◌∙◌, option_map}
 use Rattle.std.specs.Map.Iter.{deref_pair}
 use Rattle.crx_compact.proofs.placing.SteppedRows.{row-at}
 use Rattle.crx_compact.proofs.satellites.Satellites.print_line.Goals as goal
@@ -10,4 +10,7 @@ print_line-requires c =
     record { room = (rw (← c.self.view_is) at c.requires.room) _ at.there }
 
 pub returns : goal.returns
-returns c = search (rules, row-at, option_map)
+returns c =
+    let at = row-at c.self.inside.placed (rw (← c.self.view_is) at c.requires.within)
+    (sym c.get_index.ensures.entry ∙ ap (option_map deref_pair) c.unwrap.ensures) in
+    rw (← c.self.view_is) (_, at.there, c.print_line.ensures)

@@ -1,22 +1,33 @@
-use Rattle.crx_compact.proofs.Words.{rules, ap, ◌∙◌, ◌++◌, take, arith, slice_set, Some}
-use Rattle.crx_compact.proofs.Words.{length-each_place, row_of_parts, row_line_after, row_tail_after, RowTail}
-use Rattle.crx_compact.proofs.placing.SteppedRows.{order-kept, rest-kept, row-at, rows-changed, written-line}
+use Rattle.crx_compact.proofs.Words.{rules, ap, ◌∙◌, ◌++◌, take, arith, slice_set, Some, refl, sym, subst, slice_get_within}
+use Rattle.crx_compact.proofs.Words.{length-each_place, row_of_parts, row_line_after, HasRoom, IsSoundRow, RowTail, length}
+use Rattle.crx_compact.proofs.placing.SteppedRows.{IsRowAt, order-kept, rest-kept, row-at, rows-changed, written-line}
 use Rattle.crx_compact.proofs.{Words.Row, placing.EntryChanges.room-there, placing.SteppedRows.written-row}
-use Rattle.crx_compact.specs.Placing.{SatelliteTail}
+use Rattle.crx_compact.specs.{Entries.rooms_of, Placing.{SatelliteTail, row_tail_of}}
+use Rattle.crx_compact.proofs.satellites.Satellites.write_line.Goals.{After-pair_mut-satellite}
 use Rattle.crx_compact.proofs.satellites.Satellites.write_line.Goals as goal
+
+-- the row that is there is of this satellite, and the one to be written too
+own : (c : After-pair_mut-satellite) → IsRowAt c.self.inside.placed c.args.index c.self.inside.known.entries
+    (c.pair_mut-satellite.result.0.now, c.pair_mut-satellite.result.1.now)
+    × IsSoundRow (row_of_parts c.pair_mut-satellite.result.0.now c.args.values.now c.args.flags.now)
+    × HasRoom c.pair_mut-satellite.result.0.now (length c.args.values.now) (rooms_of c.self.inside.known.entries)
+own c =
+    let may = rw (← c.self.view_is) at c.requires.may in
+    let at = row-at c.self.inside.placed (slice_get_within _ _ _ may.there) c.pair_mut-satellite.ensures.value in (
+      at,
+      subst (λ (r : RowTail). IsSoundRow (row_of_parts r.name c.args.values.now c.args.flags.now))
+          (sym (at.is may.row may.there)) may.sound,
+      subst (λ (r : RowTail). HasRoom r.name (length c.args.values.now) (rooms_of c.self.inside.known.entries))
+          (sym (at.is may.row may.there)) may.room,
+    )
 
 pub mark-marks-requires : goal.mark-marks-requires
 mark-marks-requires c =
-    let there = c.pair_mut-satellite.ensures.value in
-    let at = row-at c.self.inside.placed (rw (← c.self.view_is) at c.requires.within) there in
-    let sound = (rw (← c.self.view_is) at c.requires.sound) _ at.there in
-    search (rules, room-there, c.self.inside.known, c.pair_mut-satellite.ensures.unique, sound.0.kept)
+    let own = own (goal.at.mark-marks-requires c).After-pair_mut-satellite in
+    search (rules, room-there, c.self.inside.known, c.pair_mut-satellite.ensures.unique, own.1.kept)
 
 pub write_line-requires-clause-values : goal.write_line-requires-clause-values
-write_line-requires-clause-values c =
-    let at = row-at c.self.inside.placed (rw (← c.self.view_is) at c.requires.within)
-    c.pair_mut-satellite.ensures.value in
-    ((rw (← c.self.view_is) at c.requires.sound) _ at.there).0.ranged
+write_line-requires-clause-values c = (own (goal.at.write_line-requires-clause-values c).After-pair_mut-satellite).1.ranged
 
 pub write_line-requires-clause-counted : goal.write_line-requires-clause-counted
 write_line-requires-clause-counted c = search (rules, c.mark-marks.ensures.marked, length-each_place)
@@ -28,29 +39,32 @@ invariant_of-self c = order-kept c.args.index c.self.inside.known.entries c.writ
 pub returns : goal.returns
 returns c =
     let self = c.self.inside in
-    let within = rw (← c.self.view_is) at c.requires.within in
+    let own = own (goal.at.returns c).After-pair_mut-satellite in
+    let within = slice_get_within _ _ _ own.0.there in
     let there = c.pair_mut-satellite.ensures.value in
-    let at = row-at self.placed within there in
     let name = c.pair_mut-satellite.result.0.now in
     let satellite = c.pair_mut-satellite.result.1.now in
     let after = c.write_line.new.self in
-    let row : RowTail → Row = λ kept. row_of_parts kept.name c.args.values.now c.args.flags.now in
+    let row : Row = row_of_parts name c.args.values.now c.args.flags.now in
     let kept = ap (λ (s : SatelliteTail). s.room) (c.write_line.ensures.after) in
     let kept-too = ap (λ (s : SatelliteTail). s.room) (c.mark-marks.ensures.marked) in
-    rw (← c.self.view_is) (record {
-      after = λ old also.
-          rows-changed self.known self.placed self.live within there after
-          ∙ ap (slice_set _ c.args.index)
-          (written-row (row_of_parts name c.args.values.now c.args.flags.now) satellite c.mark-marks.new.self
-          after c.mark-marks.ensures.marked c.write_line.ensures.after
-          ∙ ap (λ (kept : RowTail). row_tail_after (Some kept) (row kept)) (at.is old also));
-      line = λ old also. c.write_line.ensures.put.written
-          ∙ ap (λ line. take c.args.at c.args.bytes.now ++ line)
-          (written-line (row_of_parts name c.args.values.now c.args.flags.now) satellite c.mark-marks.new.self
-          c.mark-marks.result.now c.mark-marks.ensures.marked c.mark-marks.ensures.marks
-          ∙ ap (λ (kept : RowTail). row_line_after (Some kept) (row kept)) (at.is old also));
-      within = c.write_line.ensures.put.within;
-      short = search rules;
-      kept = rest-kept self.known self.placed self.live within there after c.self.invariant
-          c.pair_mut-satellite.ensures.unique (omega (arith, kept, kept-too));
-    })
+    rw (← c.self.view_is) (
+      row_line_after (Some (row_tail_of name satellite)) row,
+      record {
+        row = row_tail_of name satellite;
+        there = own.0.there;
+        rows = rows-changed self.known self.placed self.live within there after
+            ∙ ap (slice_set _ c.args.index) (written-row row satellite c.mark-marks.new.self
+            after c.mark-marks.ensures.marked c.write_line.ensures.after);
+        made = refl;
+        kept = rest-kept self.known self.placed self.live within there after c.self.invariant
+            c.pair_mut-satellite.ensures.unique (omega (arith, kept, kept-too));
+      },
+      record {
+        written = c.write_line.ensures.put.written ∙ ap (λ line. take c.args.at c.args.bytes.now ++ line)
+            (written-line row satellite c.mark-marks.new.self
+            c.mark-marks.result.now c.mark-marks.ensures.marked c.mark-marks.ensures.marks);
+        within = c.write_line.ensures.put.within;
+        short = search rules;
+      },
+    )
