@@ -200,3 +200,6 @@ pub set_is_with : (es : List Count) (letter count : ℕ) → is_none (count_of e
     → set_value (eqb letter) es count ≡ with_count es letter count
 set_is_with [] letter count h = absurd (false≢true (sym h))
 set_is_with (e ∷ es) letter count h = grind (arith, common_steps, set_is_with es letter count)
+
+-- what `put` wants of a map of counts
+pub ruleset put_counts = (lookup_is_count, set_is_with, systems_fewer)

@@ -1,8 +1,8 @@
 -- Each identifier has an index of its own.
 use Rattle.std.proofs.Common.{◌≡◌, ◌≤◌, ◌<◌, ◌*◌, ◌⊎◌, ℕ, Bool, true, false, List, [], ◌∷◌}
-use Rattle.std.proofs.Common.{zero, suc, length, get_or, map, set, replicate, refl, sym, arith, ◌∙◌, ◌||◌, ◌==◌}
+use Rattle.std.proofs.Common.{suc, length, get_or, set, replicate, refl, sym, arith, ◌∙◌, ◌||◌}
 use Rattle.std.proofs.lemmas.{Bool.{and_parts, false≢true}, Grind.common_steps, Slice.Eq.bytes_eq-Decides}
-use Rattle.std.proofs.lemmas.List.{get_or-set_same, get_or-set_other, map-set}
+use Rattle.std.proofs.lemmas.List.{get_or-set_same, get_or-set_other}
 use Rattle.std.specs.{Str.bytes_eq}
 use Rattle.crx_header.specs.Identifiers.{has_identifier, index_of}
 use Rattle.crx_header.specs.declared.identifiers.TheConstants.{LETTERS, TENS, UNITS}

@@ -12,6 +12,7 @@ use crx_text::columns::character;
 /// How many types the satellite of a line has, where the line begins with an identifier of a system with
 /// types.
 #[inline(always)]
+#[tactic(auto, using(crate::proofs::FirstColumns::identifier_columns))]
 pub fn types_of_satellite(types: &Types, line: &[u8]) -> Option<usize>
     ensures value { result ≡ types_of_satellite types.now line.now }
     ensures allowed { IfSome result IsAllowedCount }

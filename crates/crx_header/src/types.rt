@@ -93,6 +93,7 @@ impl Types {
 
     /// How many types a system has, by its letter.
     #[inline(always)]
+    #[tactic(auto, using(crate::proofs::Counts::absent_by_letter))]
     pub fn count(&self, letter: u8) -> Option<usize>
         ensures value { result ≡ count_of self.now letter }
         ensures allowed { IfSome result IsAllowedCount }
@@ -106,6 +107,7 @@ impl Types {
     }
 
     /// How many systems have types: at most seven.
+    #[tactic(auto, using(crate::proofs::Counts::systems_few))]
     pub fn systems(&self) -> usize
         ensures value { result ≡ length self.now }
         ensures few { result ≤ 7 }
@@ -126,6 +128,7 @@ impl Types {
 
 /// Replaces the count of a system, or puts it after those of the others. Where no system has types yet, room
 /// is asked for, for all systems; later no more is needed.
+#[tactic(auto, using(crate::proofs::Counts::put_counts))]
 fn put(counts: &mut IndexMap<u8, usize>, letter: u8, count: usize) -> Result<(), AllocError>
     requires counts { AreCounts counts.old.entries }
     requires system { is_system letter ≡ true }

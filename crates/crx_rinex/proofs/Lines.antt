@@ -2,6 +2,7 @@
 use Rattle.std.proofs.Common.{◌≡◌, ◌≢◌, ◌↔◌, ◌<◌, ℕ, ◌-◌, List, [], ◌∷◌, Option, None, is_none, is_some, not}
 use Rattle.std.proofs.Common.{Bool, Bor, option_copied, IsTrue, drop, map, slice_get, true≢false, arith}
 use Rattle.std.proofs.{Common.{suc}, lemmas.{Grind.common_steps, Option.none-some}}
+use Rattle.std.proofs.lemmas.Option.{slice_get-map, slice_get_within}
 
 pub after_first : {X : Type 0} (x : X) (xs : List X) (n : ℕ) → n ≢ 0
     → slice_get (x ∷ xs) n ≡ slice_get xs (n - 1)
@@ -30,3 +31,6 @@ pub all-handed_out : {A B : Type 0} (f : A → B) (first : B) (xs : List A) (n :
     (o : Option (Bor A)) → 0 < n → is_some o ≡ not b → option_copied o ≡ slice_get xs (n - 1)
     → IsTrue b ↔ (drop n (first ∷ map f xs) ≡ [])
 all-handed_out = grind (arith, common_steps, none-copied, is_none, slice_get, none-left)
+
+-- the lines of an epoch, one by one
+pub ruleset each_line = (after_first, slice_get-map, slice_get_within, first_of_rest, no_next)

@@ -55,14 +55,7 @@ module _ (c : ℕ → ℕ) where
         (ap (top 7) (sym is) ∙ none_at (odd row) i none)
 
     formed : is_formed 10 32 (drop 2 row) ≡ true
-    formed =
-        and_from _ _ (first_lane (eqb (c 2) 48) (eqb (c 2) 45) (even 2 (c 2) 48 48 refl))
-        (and_from _ _ (even 3 (c 2) 32 48 refl) (and_from _ _ (even 4 (c 3) 32 48 refl)
-        (and_from _ _ (even 5 (c 4) 32 48 refl) (and_from _ _ (even 6 (c 5) 32 48 refl)
-        (and_from _ _ (even 7 (c 6) 32 48 refl) (and_from _ _ (even 8 (c 7) 32 48 refl)
-        (and_from _ _ (even 9 (c 8) 32 48 refl) (and_from _ _ (even 10 (c 9) 32 48 refl)
-        (and_from _ _ (minus_lane (eqb (c 10) 45) (eqb (c 11) 48) (even 11 (c 10) 45 48 refl))
-        (even 12 (c 11) 32 46 refl))))))))))
+    formed = grind (arith, common_steps, and_from, first_lane, even, minus_lane)
 
     prints : Prints (drop 2 row)
     prints value reads = field_printed (drop 2 row) value (omega arith, λ some. formed)

@@ -99,18 +99,12 @@ abbrev HasForm : List ℕ → Type 0
 HasForm s = (length s ≤ 14) × (4 ≤ length s → is_formed (length s - 4) 32 s ≡ true)
 
 form_rest : (c : ℕ) (cs : List ℕ) → HasForm (c ∷ cs) → 4 ≤ length cs → is_formed (length cs - 4) c cs ≡ true
-form_rest c cs form long =
-    let next : length (c ∷ cs) - 4 ≡ suc (length cs - 4) = omega (arith, long) in
-    formed_rest (length cs - 4) 32 c cs
-    (subst (λ w. is_formed w 32 (c ∷ cs) ≡ true) next (form.1 (omega (arith, long))))
+form_rest c cs form long = grind (arith, common_steps, formed_rest)
 
 plain_printed : (o : Option ℕ) (c : ℕ) (cs : List ℕ) (n : ℤ) → HasForm (c ∷ cs) → size_of 3 (c ∷ cs) ≡ o
     → option_map pos o ≡ Some n → spelling 3 n ≡ c ∷ cs
 plain_printed None c cs n form is e = absurd (none-some n e)
-plain_printed (Some z) c cs n form is e =
-    let long = long_enough z (c ∷ cs) is in
-    subst (λ n. spelling 3 n ≡ c ∷ cs) (same_Some _ _ e) (led_printed (length (c ∷ cs) - 4) z 32 c cs refl
-    (omega (arith, long)) (omega (arith, form.0)) (form.1 long) is)
+plain_printed (Some z) c cs n form is e = grind (arith, common_steps, long_enough, led_printed)
 
 minus_printed : (o : Option ℕ) (cs : List ℕ) (n : ℤ) → HasForm (45 ∷ cs) → size_of 3 cs ≡ o
     → option_map (λ z. neg_ℤ (pos z)) o ≡ Some n → spelling 3 n ≡ 45 ∷ cs

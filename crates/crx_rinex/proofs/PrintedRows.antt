@@ -8,7 +8,7 @@ use Rattle.std.specs.Option.{option_and_then}
 use Rattle.crx_text.proofs.Characters.{at, at-append, at-append_past, at-drop, columns-are, length-columns}
 use Rattle.crx_text.proofs.{Blanks.end_blanks_columns, EndBlanks.{ended_at, nothing_after}, Spellings.printed_blank}
 use Rattle.crx_text.specs.meaning.{Columns.{character_at, columns, is_blank, without_end_blanks}, EachPlace.each_place}
-use Rattle.crx_text.specs.meaning.{Numbers.{observation_of, observation_text}, PrintedCells.printed_cells}
+use Rattle.crx_text.specs.meaning.{Numbers.{observation_of}, PrintedCells.printed_cells}
 use Rattle.crx_header.specs.meaning.{ObservationTypes.Count, Satellites.types_of_satellite}
 use Rattle.crx_rinex.proofs.{Cells.{field_inside, field_past}, PrintedForms.Prints}
 use Rattle.crx_rinex.proofs.ReadingBack.{cells-are, from-next, from-none}
@@ -41,11 +41,7 @@ next_prints line k before now j less = elim (cases_lt j k) [
 -- one that is past the line's end
 pub past_prints : (line : List ℕ) (k : ℕ) → length line ≤ 16 * k + 3 → Prints (field line k)
 past_prints line k past value reads =
-    let place : 16 * k + 3 + 1 - 1 ≡ 16 * k + 3 = omega arith in
-    let blank : field line k ≡ replicate 14 32 = ap (λ n. take 14 (drop n line ++ replicate 14 32)) place
-    ∙ ap (λ (t : List ℕ). take 14 (t ++ replicate 14 32)) (drop_all (16 * k + 3) line past) in
-    subst (λ v. observation_text v ≡ field line k) (same_Some None value (sym (field_past line k past) ∙ reads))
-    (sym (printed_blank 14 3) ∙ sym blank)
+    grind (arith, common_steps, field, drop_all, field_past, printed_blank)
 
 -- all, where the first ones are, and nothing of the others is in the line
 pub all_print : (line : List ℕ) (k : ℕ) → ((j : ℕ) → j < k → Prints (field line j)) → length line ≤ 16 * k + 3
@@ -61,9 +57,7 @@ at-padded k text p = grind (arith, common_steps)
 
 at-column : (text : List ℕ) (first width p : ℕ) → p < width
     → at (columns text first width) p ≡ at text (first - 1 + p)
-at-column text first width p less =
-    get_or-take width (drop (first - 1) text ++ replicate width 32) p 32 less
-    ∙ at-padded width (drop (first - 1) text) p ∙ at-drop (first - 1) text p
+at-column text first width p less = grind (arith, common_steps, get_or-take, at-padded, at-drop)
 
 columns_split : (line : List ℕ) (first a b : ℕ)
     → columns line (first + 1) (a + b) ≡ columns line (first + 1) a ++ columns line (first + a + 1) b
@@ -87,9 +81,7 @@ columns_split line first a b =
 
 two_columns : (line : List ℕ) (n : ℕ)
     → columns line (n + 1) 2 ≡ character_at line (n + 1) ∷ character_at line (n + 2) ∷ []
-two_columns line n =
-    let want = columns-are line (n + 1) 2 (character_at line (n + 1) ∷ character_at line (n + 2) ∷ []) in
-    grind (arith, common_steps)
+two_columns line n = grind (arith, common_steps, columns-are)
 
 -- a cell, and the columns after it
 cell_split : (line : List ℕ) (k n : ℕ) → columns line (16 * k + 3 + 1) (16 * suc n) ≡ field line k
@@ -163,15 +155,10 @@ module _ (line : List ℕ) (prints : (j : ℕ) → Prints (field line j)) where
 
   module _ (some : 0 < length line) (ends : get_or line (length line - 1) 0 ≢ 32) where
     trimmed : without_end_blanks line ≡ line
-    trimmed =
-        let ended = ended_at line (length line - 1) (length line) in
-        grind (arith, common_steps, nothing_after, take_all)
+    trimmed = grind (arith, common_steps, ended_at, line, nothing_after, take_all)
 
     reach : (n : ℕ) → list_all is_blank (drop n line) ≡ true → length line ≤ n
-    reach n blank =
-        let place = get_or-drop n line (length line - 1 - n) 0 in
-        let all = list_all_at is_blank (drop n line) (length line - 1 - n) 0 in
-        grind (arith, common_steps, cases_lt n (length line), length-drop)
+    reach n blank = grind (arith, common_steps, get_or-drop, line, list_all_at, length-drop)
 
     by_values : (m : ℕ) (row : Row) (o : Option (List (Option ℤ))) → values_in m line ≡ o
         → row_with m line o ≡ Ok row → printed_row row ≡ line

@@ -107,6 +107,7 @@ impl Head {
     /// character that may not be there or something is after column 56; then `BadClock` where columns 42 to
     /// 56 hold neither blanks nor a number of format F15.12.
     #[inline(always)]
+    #[tactic(auto, using(crate::proofs::HeadColumns::announced, crate::proofs::HeadColumns::unannounced))]
     pub fn read(line: &[u8]) -> Result<Head, Fault>
         ensures value { MatchResult result
             (λ head. head_of line.now ≡ Ok (head_line head))

@@ -56,6 +56,7 @@ impl Printed {
     }
 
     /// Hands out the next line, without its line end; `None` once none is pending.
+    #[tactic(auto, using(crate::proofs::Lines::each_line))]
     pub fn next_line(&mut self) -> Option<&[u8]>
         ensures value { option_copied result ≡ slice_get self.old 0 }
         ensures* after_borrow { sem 𝓛 (Rests the_row self.entry (λ new. new ≡ drop 1 self.old)) }
@@ -69,6 +70,7 @@ impl Printed {
 }
 
 /// Prints the line of an epoch at a place, from 0; `false` where it has no such line.
+#[tactic(auto, using(crate::proofs::Lines::each_line))]
 fn print_line(epoch: &Epoch, index: usize, text: &mut Text) -> bool
     ensures line { MatchBool result
         (slice_get (printed_epoch epoch.now) index ≡ Some text.new)

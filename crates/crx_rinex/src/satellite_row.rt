@@ -260,6 +260,7 @@ fn take_last_cell(line: &[u8], first: usize, values: &mut [Option<i64>], flags: 
 /// `false` where a field is neither blank nor a number, or where something is there. Most of these cells are
 /// past the line's end, or cut by it: blanks at a line's end are cut.
 #[inline(never)]
+#[tactic(auto, using(crate::proofs::Cells::cells_none, crate::proofs::Cells::cells_end))]
 fn read_other_cells(line: &[u8], first: usize, values: &mut [Option<i64>], flags: &mut [u8]) -> bool
     requires { AreCellsRead first line.now values.old flags.old }
     ensures { MatchBool result (AreAllRead (length values.old) line.now values.new flags.new)

@@ -1,6 +1,5 @@
-use Rattle.std.{proofs.{Common.{◌+◌, ◌*◌, None, sym, arith}, lemmas.Grind.common_steps}, specs.List.list_all}
-use Rattle.crx_text.specs.meaning.Columns.{is_blank}
-use Rattle.crx_rinex.proofs.Cells.{cells_end, cells_more, cells_none, field_past, past}
+use Rattle.std.{proofs.{Common.{◌+◌, ◌*◌, None, sym, arith}}}
+use Rattle.crx_rinex.proofs.Cells.{cells_more, field_past, past}
 use Rattle.crx_rinex.proofs.satellite_row.read_other_cells.Goals as goal
 
 pub loop-k-preserved-then-line-start : goal.loop-k-preserved-then-line-start
@@ -17,9 +16,3 @@ loop-k-preserved c =
     cells_more _ _ _ _ _ _ _ c.loop-k.invariant (omega (arith, c.loop-k-test.true, c.loop-k.auto.values))
     (sym c.in-Some.ensures.value) c.in-Some.ensures.ranged c.character.ensures.value
     c.character-in-loop-k.ensures.value
-
-pub returns-in_default : goal.returns-in_default
-returns-in_default c = grind (arith, common_steps, cells_none)
-
-pub returns : goal.returns
-returns c = grind (arith, common_steps, cells_end, list_all, is_blank)

@@ -1,10 +1,7 @@
-use Rattle.std.proofs.{Common.{arith, ◌≡◌, ℕ, Option, OnSome, IfSome, true, subst}, lemmas.Grind.common_steps}
-use Rattle.crx_header.proofs.Counts.{absent_by_letter, present_by_letter, allowed_of, system_of}
-use Rattle.crx_header.specs.meaning.ObservationTypes.{count_of, is_system, IsAllowedCount}
+use Rattle.std.proofs.{Common.{◌≡◌, ℕ, Option, OnSome, IfSome, true, subst}}
+use Rattle.crx_header.proofs.Counts.{present_by_letter, allowed_of, system_of}
+use Rattle.crx_header.specs.meaning.ObservationTypes.{is_system, IsAllowedCount}
 use Rattle.crx_header.proofs.types.Types.count.Goals as goal
-
-pub returns-then-count-eq0-clause-value : goal.returns-then-count-eq0-clause-value
-returns-then-count-eq0-clause-value c = grind (arith, common_steps, count_of, absent_by_letter)
 
 pub returns-clause-allowed : goal.returns-clause-allowed
 returns-clause-allowed c =

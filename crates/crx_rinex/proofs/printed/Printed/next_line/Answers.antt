@@ -1,6 +1,6 @@
-use Rattle.std.proofs.{Common.{arith, Some, drop, slice_get, refl, ap, sym, ◌∙◌}, lemmas.Grind.common_steps}
+use Rattle.std.proofs.{Common.{Some, drop, slice_get, refl, ap, sym, ◌∙◌}}
 use Rattle.std.proofs.lemmas.List.{drop-drop}
-use Rattle.crx_rinex.{proofs.Lines.{first_of_rest, no_next}, specs.meaning.Printing.printed_epoch}
+use Rattle.crx_rinex.{proofs.Lines.{first_of_rest}, specs.meaning.Printing.printed_epoch}
 use Rattle.crx_rinex.proofs.printed.Printed.next_line.Goals as goal
 
 pub returns-then-print_line : goal.returns-then-print_line
@@ -14,6 +14,3 @@ returns-then-print_line c =
         after_borrow = tt;
       },
     )
-
-pub returns : goal.returns
-returns c = grind (arith, common_steps, printed_epoch, first_of_rest, no_next, slice_get)
