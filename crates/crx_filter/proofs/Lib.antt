@@ -1,6 +1,5 @@
 pub mod Checkers
 pub mod Choosing
-pub mod EventLines
 pub mod Reports
 pub mod RinexSteps
 pub mod TypesLines
@@ -16,6 +15,5 @@ pub mod standard
 pub mod damage
 pub mod stretches
 pub mod Kept
-pub mod NoMemory
 pub mod CompactSteps
 pub mod accounts

@@ -20,7 +20,8 @@ good-if b o h = grind (arith, common_steps, false-true)
 -- the same of a header line, where memory is asked for only while no system has types
 abbrev pub RefusedFirst : List Count → Option Fault → List ℕ → Fault → Type 0
 RefusedFirst types wrong line fault = (wrong ≡ Some fault) ⊎ ((fault ≡ OutOfMemory)
-    × ((are_lacking types && (is_some (count_of_types_line line) && is_none wrong)) ≡ true))
+    × ((are_lacking types && (is_some (count_of_types_line line) && is_none wrong)) ≡ true)
+    × (types ≡ []))
 
 pub refused-first : (types : List Count) (wrong : Option Fault) (line : List ℕ) (fault : Fault) → wrong ≡ None
     → Bad types line fault → RefusedFirst types (first_fault wrong (types_fault line)) line fault

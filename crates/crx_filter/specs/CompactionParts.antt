@@ -1,11 +1,12 @@
 -- What a compaction has between two lines, and how its parts belong together.
-use Rattle.std.specs.Prelude.{◌≡◌, ℕ, Bool, true, false, not, List, [], map, if◌then◌else◌}
+use Rattle.std.specs.Prelude.{◌≡◌, ℕ, Bool, true, false, not, List, [], length, map, Some, if◌then◌else◌}
 use Rattle.crx_base.specs.declared.fault.Fault.{Fault}
 use Rattle.crx_base.specs.meaning.AsRead.{as_read}
 use Rattle.crx_base.specs.meaning.Choices.{Choices}
 use Rattle.crx_base.specs.meaning.Lines.{InputLine}
 use Rattle.crx_compact.specs.Encoding.{EncoderState}
 use Rattle.crx_compact.specs.Placing.{HaveRoom, KeepsRooms}
+use Rattle.crx_rinex.specs.meaning.EpochLines.{ObservationHead}
 use Rattle.crx_rinex.specs.meaning.EpochPlaces.{OpenEpoch}
 use Rattle.crx_filter.specs.CompactionByLine.{Written}
 use Rattle.crx_filter.specs.DirectionParts.{DirectionParts}
@@ -13,6 +14,7 @@ use Rattle.crx_filter.specs.meaning.Directions.{rinex_reading}
 use Rattle.crx_filter.specs.meaning.Memory.{compaction_outgrows}
 use Rattle.crx_filter.specs.RinexReaders.{RefusesRinexLine, TakesRinexLine, epoch_open, made_at}
 use Rattle.crx_filter.specs.RinexStages.{is_open_stage, rows_open}
+use Rattle.crx_filter.specs.Rooms.{HasRoomForRow}
 use Rattle.crx_filter.specs.declared.rinex_reader.RinexReader.{RinexReader}
 use Rattle.crx_filter.specs.declared.rinex_reader.RinexStep.TheVariants.{Epoch, Row as NextRow}
 use Rattle.crx_filter.specs.declared.stage.Stage.{Stage}
@@ -49,6 +51,13 @@ compaction_parts c = record {
   kept = record { index = c.index; tail = c.encoder.before };
 }
 
+-- all rows of the epoch that a reader has have come, and the encoder has them
+pub record HasWholeEpoch (reader : RinexReader) (encoder : EncoderState) : Type 0 where
+  pub begun : encoder.is_open ≡ true
+  pub head : ObservationHead
+  pub held : reader.head ≡ Some head
+  pub counted : length encoder.rows ≡ head.count
+
 -- a row was taken, which is the epoch's last or isn't, and was written
 pub record HasWrittenRow (before : RinexReader) (encoder : EncoderState) (line : List ℕ) (is_last : Bool)
     (after : RinexReader) (new : EncoderState) : Type 0 where
@@ -61,7 +70,8 @@ pub record HasWrittenRow (before : RinexReader) (encoder : EncoderState) (line :
 -- a row was refused: nothing is written
 pub record HasRefusedRow (before : RinexReader) (encoder : EncoderState) (line : List ℕ) (fault : Fault)
     (after : RinexReader) (new : EncoderState) : Type 0 where
-  pub refuses : (kept : Written) → RefusesRinexLine (made_at before line kept) before line fault
+  pub refuses : (kept : Written)
+      → RefusesRinexLine (made_at before line kept) before line (HasRoomForRow before.types line encoder.rooms → ⊥) fault
   pub types : after.types ≡ before.types
   pub nothing : new.pending ≡ []
   pub kept : KeepsRooms encoder.rooms new.rooms

@@ -70,21 +70,21 @@ abbrev pub made_at_parts : {U O K : Type 0} → Direction U O K → DirectionPar
 made_at_parts direction parts line =
     made_in direction (phase_of_stage parts.begun parts.stage) parts.types parts.kept (Content line)
 
--- a fault is that of the line, or memory ran out at a line that may take some
-abbrev pub RefusesLine : {U O K : Type 0} → Direction U O K → DirectionParts O K → List ℕ → Fault → Type 0
-RefusesLine direction parts line fault = (made_at_parts direction parts line ≡ Rejects fault) ⊎ ((fault ≡ OutOfMemory)
-    × (may_take_memory parts.types (direction.memory_first parts.types parts.kept) direction.memory_next
-    (phase_of_stage parts.begun parts.stage) (Content line) ≡ true))
+-- a fault is that of the line, or memory ran out at a line that may take some, and for which there wasn't this room
+abbrev pub RefusesLine : {U O K : Type 0} → Direction U O K → DirectionParts O K → List ℕ → Type 0 → Fault → Type 0
+RefusesLine direction parts line room fault = (made_at_parts direction parts line ≡ Rejects fault)
+    ⊎ ((fault ≡ OutOfMemory) × (may_take_memory parts.types (direction.memory_first parts.types parts.kept)
+    direction.memory_next (phase_of_stage parts.begun parts.stage) (Content line) ≡ true) × (room → ⊥))
 
 -- what a direction answers to a line, by the choices that it serves: whether lines are ready, as the line's step says,
 -- or a fault, after which none is, the types are the same, and so is what a fault leaves of the epochs before
 pub record Reads {U O K : Type 0} (direction : Direction U O K) (serves : Choices → Type 0)
-    (before : DirectionParts O K) (line : List ℕ) (result : Result Bool Fault) (ready : List (List ℕ))
-    (after : DirectionParts O K) : Type 0 where
+    (before : DirectionParts O K) (line : List ℕ) (room : Type 0) (result : Result Bool Fault)
+    (ready : List (List ℕ)) (after : DirectionParts O K) : Type 0 where
   pub takes : (choices : Choices) (number : ℕ) → serves choices → IfOk result (λ is_ready.
       record { answer = answer_for is_ready; handed_out = ready; next = state_by choices (number + 1) after }
       ≡ state_next direction (state_by choices number before) (Content line))
-  pub refuses : IfErr result (RefusesLine direction before line)
+  pub refuses : IfErr result (RefusesLine direction before line room)
   pub types : OnErr result (after.types ≡ before.types)
   pub kept : OnErr result (direction.emptied after.kept ≡ direction.emptied before.kept)
   pub nothing : OnErr result (ready ≡ [])
@@ -95,10 +95,11 @@ pub record IsAfterLines {O K : Type 0} (chosen : Choices → Choices) (state_aft
   pub taken_as : chosen choices ≡ choices
   pub is_state : state_by choices (length lines) parts ≡ state_after_lines choices (map as_read lines)
 
--- what an engine does with a line: its step, or memory ran out; after a fault that ends the run no line is ready
+-- what an engine does with a line: its step, or where there isn't this room memory ran out; after a fault that ends
+-- the run no line is ready
 pub record TakesLine {U O K : Type 0} (direction : Direction U O K) (before : RunState O K) (line : ReadLine)
-    (result : Result Step At) (ready : List (List ℕ)) (after : RunState O K) : Type 0 where
-  pub steps : Steps direction before line result ready after
+    (room : Type 0) (result : Result Step At) (ready : List (List ℕ)) (after : RunState O K) : Type 0 where
+  pub steps : Steps direction before line room result ready after
   pub ended : IfErr result (λ at. after.phase ≡ Ended at)
   pub nothing : OnErr result (ready ≡ [])
   pub choices : after.choices ≡ before.choices
@@ -193,8 +194,9 @@ pub record WasAt {U O K : Type 0} (direction : Direction U O K) (stage : Stage) 
 
 -- an engine answers to the fault of a line that was counted
 abbrev pub AnswersToFault : {U O K : Type 0} → Direction U O K → Choices → ℕ → Stage → Fault → Bool
-    → DirectionParts O K → Result Step At → RunState O K → Type 0
-AnswersToFault {O = O} {K = K} direction choices number stage fault goes_on parts result after =
+    → DirectionParts O K → Result Step At → List (List ℕ) → RunState O K → Type 0
+AnswersToFault {O = O} {K = K} direction choices number stage fault goes_on parts result ready after =
     (before : DirectionParts O K) (line : ReadLine) (last : ℕ)
     → WasAt direction stage goes_on line before parts → number ≡ last + 1
-    → step_made result [] after ≡ failed_step direction (state_by choices last before) line fault
+    → HasStopped (failed_step direction (state_by choices last before) line fault) result ready
+    (state_by choices last before) after

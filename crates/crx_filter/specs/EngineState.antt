@@ -1,11 +1,10 @@
 -- The state of an engine of a direction.
 use Rattle.std.specs.Prelude.{◌≡◌, ⊤, ℕ, Bool, true, false, List, [], length, Option, Result, Ok, Err}
-use Rattle.std.specs.Prelude.{IfOk, IfErr, OnErr}
+use Rattle.std.specs.Prelude.{IfOk, OnErr}
 use Rattle.crx_base.specs.meaning.Choices.{Choices}
 use Rattle.crx_base.specs.declared.fault.At.{At}
-use Rattle.crx_base.specs.declared.fault.Fault.TheVariants.{OutOfMemory}
 use Rattle.crx_base.specs.meaning.Lines.{InputLine}
-use Rattle.crx_base.specs.meaning.AsRead.{Content, Overlong}
+use Rattle.crx_base.specs.meaning.AsRead.{Content, Overlong, ReadLine}
 use Rattle.crx_filter.specs.EngineLines.{HasTaken}
 use Rattle.crx_filter.specs.DirectionParts.{EngineParts, HasClosed, HasEnough, HasStopped, ComesAfter, TakesLine}
 use Rattle.crx_filter.specs.DirectionParts.{state_by}
@@ -52,20 +51,6 @@ module _ {D : Type 0} (d : Ghosts D) where
   abbrev pub engine_took : EngineParts D → List InputLine → List Awaited → Type 0
   engine_took e lines notices = engine_seen e lines notices × d.knows e.direction e.options lines
 
-  -- after any lines that leave what is seen of it, the answer to a line, and the lines that are ready then, are
-  -- what its filter makes of these lines and that one
-  abbrev pub AnswersBySeen : EngineParts D → InputLine → Result Step At → List (List ℕ) → EngineParts D
-      → Type 0
-  AnswersBySeen before line result ready after = (lines : List InputLine) (notices : List Awaited)
-      → engine_seen before lines notices → IsAwaited notices line
-      → EngineAnswers (d.filter before.options) (engine_seen after) ready lines notices line result
-
-  -- and so it is at the end of these lines, where a good end hands out what is to be handed out after them
-  abbrev pub ConcludesBySeen : EngineParts D → Result Step At → List (List ℕ) → Type 0
-  ConcludesBySeen before result ready = (lines : List InputLine) → engine_seen before lines []
-      → d.closing before.direction ≡ d.closing_after before.options lines
-      → Concludes (d.filter before.options) ready lines result
-
   -- it can be given a line of this number
   abbrev pub EngineAwaits : EngineParts D → ℕ → Type 0
   EngineAwaits e number = IsNextLine (engine_ready e) e.number number
@@ -83,7 +68,8 @@ module _ {D : Type 0} (d : Ghosts D) where
   -- stored is answered
   abbrev pub EngineTakes : EngineParts D → List ℕ → Option HandedOut → EngineParts D → Type 0
   EngineTakes before line out after = TakesLine d.by_line (engine_state before) (Content line)
-      (answer_given out after.answer) (lines_handed_out out line (engine_ready after)) (engine_state after)
+      (d.has_room before.direction line) (answer_given out after.answer)
+      (lines_handed_out out line (engine_ready after)) (engine_state after)
 
   -- what its direction knows of the lines that it has taken, it knows of the next one too, once that counts
   abbrev pub EngineNotes : EngineParts D → InputLine → Result Step At → EngineParts D → Type 0
@@ -98,29 +84,43 @@ module _ {D : Type 0} (d : Ghosts D) where
     pub takes : EngineTakes before line.content out after
     pub notes : EngineNotes before line (answer_given out after.answer) after
 
-  -- it has taken a line that is too long, or the end of the input
-  abbrev pub EngineSkips : EngineParts D → Result Step At → EngineParts D → Type 0
-  EngineSkips before result after = HasStopped (state_next d.by_line (engine_state before) Overlong)
-      result (engine_ready after) (engine_state before) (engine_state after)
-
-  abbrev pub EngineEnds : EngineParts D → Result Step At → EngineParts D → Type 0
-  EngineEnds before result after = HasClosed (d.closing before.direction) (state_end_with d.by_line
-      (d.closing before.direction) (engine_state before)) result (engine_ready after) (engine_state before)
-      (engine_state after)
-
-  -- an answer for want of memory is the one that has ended the run before
-  abbrev pub RanOutBefore : EngineParts D → Result Step At → Type 0
-  RanOutBefore before result =
-      IfErr result (λ at. at.fault ≡ OutOfMemory → (engine_state before).phase ≡ Ended at)
+  -- it has taken a line that is too long
+  abbrev pub EngineSkips : EngineParts D → Result Step At → List (List ℕ) → EngineParts D → Type 0
+  EngineSkips before result ready after = HasStopped (state_next d.by_line (engine_state before) Overlong)
+      result ready (engine_state before) (engine_state after)
 
   -- what it had noted of some lines it has noted after a fault too
   abbrev pub EngineKeepsNotes : EngineParts D → Result Step At → EngineParts D → Type 0
   EngineKeepsNotes before result after = (choices : Choices) (lines : List InputLine)
       → d.knows before.direction choices lines → OnErr result (d.knows after.direction choices lines)
 
-  -- at a good end it hands out what it is to hand out after these lines, and has found what is to be found in them
-  pub record EngineConcludes (before : EngineParts D) (lines : List InputLine) (result : Result Step At)
+  -- it has answered to a line, read so, and these lines are ready then. The line is taken. After the lines that it has
+  -- taken, and where it makes its own step after any that leave what is seen of it, the answer and the lines that are
+  -- ready are what its filter makes of those lines and this one; and a fault that has ended the run is answered again
+  pub record LineIsAnswered (before : EngineParts D) (line : InputLine) (read : ReadLine) (result : Result Step At)
+      (ready : List (List ℕ)) (after : EngineParts D) : Type 0 where
+    pub takes : TakesLine d.by_line (engine_state before) read (d.has_room before.direction line.content) result ready
+        (engine_state after)
+    pub answers : (lines : List InputLine) (notices : List Awaited) → engine_took before lines notices
+        → IsAwaited notices line
+        → EngineAnswers (d.filter before.options) (engine_took after) ready lines notices line result
+    pub by_seen : step_made result ready (engine_state after) ≡ state_next d.by_line (engine_state before) read
+        → (lines : List InputLine) (notices : List Awaited) → engine_seen before lines notices → IsAwaited notices line
+        → EngineAnswers (d.filter before.options) (engine_seen after) ready lines notices line result
+    pub repeated : (at : At) → (engine_state before).phase ≡ Ended at → result ≡ Err at
+
+  -- it has answered to the end of the input, and these lines are ready then, in the same words; by what is seen where a
+  -- good end hands out what is to be handed out after the lines
+  pub record EndIsAnswered (before : EngineParts D) (result : Result Step At) (ready : List (List ℕ))
       (after : EngineParts D) : Type 0 where
-    pub steps : step_made result (engine_ready after) (engine_state after)
-        ≡ state_end_with d.by_line (d.closing_after before.options lines) (engine_state before)
-    pub found : IfOk result (λ step. d.has_found after.direction lines)
+    pub ends : HasClosed (d.closing before.direction) (state_end_with d.by_line (d.closing before.direction)
+        (engine_state before)) result ready (engine_state before) (engine_state after)
+    pub concludes : (lines : List InputLine) → engine_took before lines []
+        → Concludes (d.filter before.options) ready lines result
+    pub by_seen : (lines : List InputLine) → engine_seen before lines []
+        → d.closing before.direction ≡ d.closing_after before.options lines
+        → Concludes (d.filter before.options) ready lines result
+    pub found : (lines : List InputLine) → engine_took before lines []
+        → IfOk result (λ step. d.has_found after.direction lines)
+    pub repeated : (at : At) → (engine_state before).phase ≡ Ended at → result ≡ Err at
+    pub stays : EngineKeepsNotes before result after

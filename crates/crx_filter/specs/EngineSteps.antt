@@ -19,18 +19,20 @@ answer_of_step (Err at) = Failed at
 abbrev pub step_made : {O K : Type 0} → Result Step At → List (List ℕ) → RunState O K → LineStep O K
 step_made result ready after = record { answer = answer_of_step result; handed_out = ready; next = after }
 
--- memory ran out at the next line, which is one that may take some; that line counts
-pub record RanOut {U O K : Type 0} (direction : Direction U O K)
-    (before : RunState O K) (line : ReadLine) (result : Result Step At) (after : RunState O K) : Type 0 where
+-- memory ran out at the next line, which is one that may take some, and for which there wasn't this room; that line
+-- counts
+pub record RanOut {U O K : Type 0} (direction : Direction U O K) (before : RunState O K) (line : ReadLine)
+    (room : Type 0) (result : Result Step At) (after : RunState O K) : Type 0 where
   pub at : At
   pub is : result ≡ Err at
   pub fault : at.fault ≡ OutOfMemory
   pub place : at.line ≡ before.number + 1
   pub allowed : takes_memory direction before line ≡ true
+  pub lacked : room → ⊥
   pub counted : after.number ≡ before.number + 1
 
--- the step of a line, or memory ran out at it
-abbrev pub Steps : {U O K : Type 0}
-    → Direction U O K → RunState O K → ReadLine → Result Step At → List (List ℕ) → RunState O K → Type 0
-Steps direction before line result ready after = (step_made result ready after ≡ state_next direction before line)
-    ⊎ RanOut direction before line result after
+-- the step of a line, or where there isn't this room memory ran out at it
+abbrev pub Steps : {U O K : Type 0} → Direction U O K → RunState O K → ReadLine → Type 0 → Result Step At
+    → List (List ℕ) → RunState O K → Type 0
+Steps direction before line room result ready after = (step_made result ready after ≡ state_next direction before line)
+    ⊎ RanOut direction before line room result after

@@ -14,6 +14,7 @@ use Rattle.crx_filter.specs.LineByLine.{Phase, Made, Completes, Moves, Rejects, 
 use Rattle.crx_filter.specs.Memory.{may_take_memory}
 use Rattle.crx_filter.specs.Stages.{phase_of_stage, is_ended}
 use Rattle.crx_filter.specs.RinexStages.{is_open_stage, open_epoch}
+use Rattle.crx_filter.specs.Rooms.{LackTypes}
 use Rattle.crx_filter.specs.declared.rinex_reader.RinexReader.{RinexReader}
 use Rattle.crx_filter.specs.declared.rinex_reader.RinexStep.{RinexStep}
 use Rattle.crx_filter.specs.declared.rinex_reader.RinexStep.TheVariants.{Nothing, Header, Event, Record}
@@ -84,11 +85,11 @@ TakesRinexLine made before line Begun after = BeginsEpoch made line before after
 TakesRinexLine made before line Row after = MovesReader made before after × (is_open_stage after.stage ≡ true)
 TakesRinexLine made before line Epoch after = CompletedEpoch made line before after
 
--- a fault is that of the line, or memory ran out at a line that may take some: the reading of an epoch's line takes
--- none
-abbrev pub RefusesRinexLine : Made ObservationEpoch OpenEpoch → RinexReader → List ℕ → Fault → Type 0
-RefusesRinexLine made before line fault = (made ≡ Rejects fault) ⊎ ((fault ≡ OutOfMemory)
-    × (may_take_memory before.types (λ first. false) is_next_row (reader_phase before) (Content line) ≡ true))
+-- a fault is that of the line, or memory ran out at a line that may take some, since this was lacking: the reading of an
+-- epoch's line takes none
+abbrev pub RefusesRinexLine : Made ObservationEpoch OpenEpoch → RinexReader → List ℕ → Type 0 → Fault → Type 0
+RefusesRinexLine made before line lacks fault = (made ≡ Rejects fault) ⊎ ((fault ≡ OutOfMemory)
+    × (may_take_memory before.types (λ first. false) is_next_row (reader_phase before) (Content line) ≡ true) × lacks)
 
 -- what a reader answers to a line that is no row of an open epoch, whatever is kept of the epochs before; after
 -- a fault it is as it was
@@ -97,6 +98,6 @@ pub record ReadsRinexLine (before : RinexReader) (line : List ℕ) (result : Res
   pub takes : (kept : Written)
       → IfOk result (λ step. TakesRinexLine (made_at before line kept) before line step after)
   pub refuses : (kept : Written)
-      → IfErr result (λ fault. RefusesRinexLine (made_at before line kept) before line fault)
+      → IfErr result (RefusesRinexLine (made_at before line kept) before line (LackTypes before.stage before.types))
   pub steps : IfOk result (λ step. is_row step ≡ false)
   pub same : OnErr result (IsSameReader before after)

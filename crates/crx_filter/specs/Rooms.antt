@@ -6,10 +6,9 @@ use Rattle.crx_compact.specs.Placing.{HasRoom}
 use Rattle.crx_compact.specs.OpenEpochs.{opened_raw, tail_for_line, tail_held}
 use Rattle.crx_compact.specs.ReadingRooms.{HaveCellsRoom}
 use Rattle.crx_compact.specs.Tails.{Tail}
-use Rattle.crx_filter.specs.CheckingParts.{CheckingState}
-use Rattle.crx_filter.specs.CompactionParts.{CompactionState}
 use Rattle.crx_filter.specs.RinexStages.{is_open_stage}
-use Rattle.crx_filter.specs.ExpansionParts.{ExpansionState}
+use Rattle.crx_filter.specs.declared.compact_reader.CompactReader.{CompactReader}
+use Rattle.crx_filter.specs.declared.rinex_reader.RinexReader.{RinexReader}
 use Rattle.crx_filter.specs.declared.stage.Stage.{Stage}
 use Rattle.crx_filter.specs.declared.stage.Stage.TheVariants.{Header, Between, Event, Looking}
 
@@ -19,11 +18,13 @@ do_types_count (Header is_first) = true
 do_types_count (Event left counted) = counted
 do_types_count stage = false
 
--- ---- a check
+-- types lines count, and no system has types
+abbrev pub LackTypes : Stage → List Count → Type 0
+LackTypes stage types = (do_types_count stage ≡ true) × (types ≡ [])
 
--- where types lines count, some system has types; in an epoch no memory is needed
-abbrev pub HasRoomInCheck : CheckingState → List ℕ → Type 0
-HasRoomInCheck c line = do_types_count c.reader.stage ≡ true → c.reader.types ≡ [] → ⊥
+-- where types lines count, some system has types: so it is enough for a check, which needs no memory in an epoch
+abbrev pub HaveTypes : Stage → List Count → Type 0
+HaveTypes stage types = do_types_count stage ≡ true → types ≡ [] → ⊥
 
 -- ---- a compaction
 
@@ -31,10 +32,10 @@ HasRoomInCheck c line = do_types_count c.reader.stage ≡ true → c.reader.type
 abbrev pub HasRoomForRow : List Count → List ℕ → List (List ℕ × ℕ) → Type 0
 HasRoomForRow types line rooms = IfOk (row_of types line) (λ row. HasRoom row.name (length row.values) rooms)
 
--- where types lines count, some system has types; in an epoch there is room for the line's row
-pub record HasRoomInCompaction (c : CompactionState) (line : List ℕ) : Type 0 where
-  pub types : do_types_count c.reader.stage ≡ true → c.reader.types ≡ [] → ⊥
-  pub row : is_open_stage c.reader.stage ≡ true → HasRoomForRow c.reader.types line c.encoder.rooms
+-- beside types, in an epoch there is room for the line's row
+pub record HasRoomInCompaction (r : RinexReader) (rooms : List (List ℕ × ℕ)) (line : List ℕ) : Type 0 where
+  pub types : HaveTypes r.stage r.types
+  pub row : is_open_stage r.stage ≡ true → HasRoomForRow r.types line rooms
 
 -- ---- an expansion
 
@@ -49,9 +50,8 @@ abbrev pub HasRoomToBegin : List Count → Option Tail → List ℕ → List (Li
 HasRoomToBegin types tail line rooms =
     IfOk (opened_raw types line (tail_for_line tail line)) (λ begun. HaveCellsRoom begun.rows rooms)
 
--- where types lines count, some system has types; and where an epoch may begin, there is room for the satellites of the
--- one that the line begins
-pub record HasRoomInExpansion (e : ExpansionState) (line : List ℕ) : Type 0 where
-  pub types : do_types_count e.reader.stage ≡ true → e.reader.types ≡ [] → ⊥
-  pub epoch : may_begin e.reader.stage ≡ true
-      → HasRoomToBegin e.reader.types (tail_held e.reader.columns.value.state) line e.reader.columns.value.rooms
+-- beside types, where an epoch may begin, there is room for the satellites of the one that the line begins
+pub record HasRoomInExpansion (r : CompactReader) (line : List ℕ) : Type 0 where
+  pub types : HaveTypes r.stage r.types
+  pub epoch : may_begin r.stage ≡ true
+      → HasRoomToBegin r.types (tail_held r.columns.value.state) line r.columns.value.rooms

@@ -152,7 +152,6 @@ fn take_row(
     ensures named { is_open_stage reader.new.stage ≡ true → AreNamed names.new reader.new.rows.rows }
     ensures read { OnOk result (LastRowIsReadFrom line.now reader.new) }
     ensures rows { OnOk result (reader.new.rows.rows ≡ reader.old.rows.rows ++ reader.new.row ∷ []) }
-    ensures few { OnOk result (length reader.new.rows.rows ≤ SATELLITES_LIMIT) }
 {
     reader.read_row(line)?;
     if names.put(*reader.row.name()) {
@@ -185,7 +184,7 @@ fn observed_with(observed: u64, reader: &RinexReader, step: RinexStep) -> u64
 
 impl Direction for Checking {
     ghost use Rattle.crx_filter.specs.CheckingParts.{HasFound, HasNoted, checking_parts, never_skips, pending_report, report_of};
-    ghost use Rattle.crx_filter.specs.Rooms.{HasRoomInCheck};
+    ghost use Rattle.crx_filter.specs.Rooms.{HaveTypes};
     ghost use Rattle.crx_filter.specs.meaning.Directions.{check_filter};
     ghost use Rattle.crx_filter.specs.meaning.Standard.{findings_of, report_lines};
 
@@ -217,7 +216,7 @@ impl Direction for Checking {
 
     ghost takes_at_start = { false };
 
-    ghost has_room = { HasRoomInCheck };
+    ghost has_room = { λ c line. HaveTypes c.reader.stage c.reader.types };
 
     ghost knows = { λ c choices lines. HasNoted c lines };
 

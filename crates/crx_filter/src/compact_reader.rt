@@ -4,7 +4,6 @@
 ghost use Rattle.std.specs.Prelude.{◌≡◌, ◌≢◌, ◌≤◌, ◌⊎◌, if◌then◌else◌, [], None, true, false, length, IfErr, IfOk};
 ghost use Rattle.crx_base.specs.declared.limits.TheConstants.{LINE_LIMIT};
 ghost use Rattle.crx_base.specs.meaning.Choices.{Choices};
-ghost use Rattle.crx_compact.specs.OpenEpochs.{tail_held};
 ghost use Rattle.crx_compact.specs.OpenEpochs.ColumnsState.{Idle};
 ghost use Rattle.crx_compact.specs.Blocks.{PendingLines};
 ghost use Rattle.crx_compact.specs.PrintedBlocks.{ArePrinted};
@@ -16,13 +15,13 @@ ghost use Rattle.crx_filter.specs.Stages.{is_ended, is_settled};
 ghost use Rattle.crx_filter.specs.declared.stage.Stage.{Stage};
 ghost use Rattle.crx_filter.specs.declared.stage.Stage.TheVariants.{Between, Looking, Open};
 
-use crate::event_lines::records_announced;
 use crate::first_lines::{check_program, check_version};
 use crate::stage::{Stage, after_header_line, counts_types, with_records_left};
 use crate::types_lines::{accept_header_line, accept_record};
 use crx_base::Fault;
 use crx_compact::{Block, Columns};
 use crx_header::Types;
+use crx_header::epoch_columns::records_in;
 use crx_rinex::{begins_epoch, is_event_line};
 use std::alloc::{AllocError, Global};
 
@@ -39,7 +38,6 @@ impl CompactReader {
     ghost use Rattle.crx_filter.specs.CompactReaders.{ReadsCompactLine, compact_reader_parts, line_copied};
     ghost use Rattle.crx_filter.specs.DirectionParts.{state_by};
     ghost use Rattle.crx_filter.specs.ExpansionByLine.{expansion_state};
-    ghost use Rattle.crx_filter.specs.Rooms.{HasRoomToBegin, do_types_count, may_begin};
 
     /// A reader before the first line. Its columns are made where they stay; `AllocError` comes where there
     /// is no memory for them.
@@ -101,12 +99,6 @@ impl CompactReader {
         requires between { self.old.stage ≢ Open }
         requires short { length line.now ≤ LINE_LIMIT }
         ensures reads { ReadsCompactLine self.old line.now result (line_copied line.now result) self.new }
-        // It asks for memory only for the first types, and where there is no room for a satellite of an
-        // epoch.
-        ensures known { (do_types_count self.old.stage ≡ true → self.old.types ≡ [] → ⊥)
-            → (may_begin self.old.stage ≡ true
-            → HasRoomToBegin self.old.types (tail_held self.old.columns.value.state) line.now self.old.columns.value.rooms)
-            → IfErr result (λ fault. fault ≡ Fault.OutOfMemory → ⊥) }
         ensures kept { KeepsRoomInColumns self.old.columns.value self.new.columns.value }
         // Of an epoch that the line begins no line is printed yet.
         ensures unprinted { (block : PendingLines) → is_open_stage self.new.stage ≡ true
@@ -154,14 +146,14 @@ impl CompactReader {
             ⊎ ((self.old.stage ≡ Looking) × (begins_epoch line.now ≡ true)) }
         requires short { length line.now ≤ LINE_LIMIT }
         ensures reads { ReadsCompactLine self.old line.now result (line_copied line.now result) self.new }
-        ensures known { HasRoomToBegin self.old.types (tail_held self.old.columns.value.state) line.now
-            self.old.columns.value.rooms → IfErr result (λ fault. fault ≡ Fault.OutOfMemory → ⊥) }
         ensures kept { KeepsRoomInColumns self.old.columns.value self.new.columns.value }
         ensures unprinted { (block : PendingLines) → is_open_stage self.new.stage ≡ true
             → ArePrinted self.new.columns.value.state block }
     {
         if is_event_line(line) {
-            let count = records_announced(line)?;
+            let Some(count) = records_in(line) else {
+                return Err(Fault::BadEpoch);
+            };
             self.stage = with_records_left(count, counts_types(line));
             return Ok(true);
         }

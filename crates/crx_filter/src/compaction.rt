@@ -1,13 +1,10 @@
 //! Compaction, line by line: what a line of RINEX makes.
 
-ghost use Rattle.std.specs.Prelude.{◌≡◌, [], false, length, is_some, Some, IfSome, IfOk, IfErr, true};
-ghost use Rattle.crx_compact.specs.Encoding.{tail_in};
-ghost use Rattle.crx_compact.specs.Steps.{lines_after_tail, tail_after};
-ghost use Rattle.crx_compact.specs.Written.{epoch_by_rows};
+ghost use Rattle.std.specs.Prelude.{◌≡◌, [], Some, IfOk, IfErr, true};
+ghost use Rattle.crx_compact.specs.Encoding.{EndsEpoch};
 ghost use Rattle.crx_rinex.specs.meaning.EpochLines.{ObservationHead};
-ghost use Rattle.crx_filter.specs.CompactionParts.{BelongTogether, HasRefusedRow, HasWrittenRow};
+ghost use Rattle.crx_filter.specs.CompactionParts.{BelongTogether, HasRefusedRow, HasWholeEpoch, HasWrittenRow};
 ghost use Rattle.crx_filter.specs.RinexStages.{is_open_stage};
-ghost use Rattle.crx_filter.specs.Rooms.{HasRoomForRow};
 ghost use Rattle.crx_filter.specs.meaning.Compacted.{is_at_every};
 
 use crate::direction::Direction;
@@ -74,8 +71,6 @@ fn take_row(reader: &mut RinexReader, encoder: &mut Encoder, line: &[u8]) -> Res
         (λ is_last. HasWrittenRow reader.old encoder.old line.now is_last reader.new encoder.new) }
     ensures refused { IfErr result
         (λ fault. HasRefusedRow reader.old encoder.old line.now fault reader.new encoder.new) }
-    ensures known { HasRoomForRow reader.old.types line.now encoder.old.rooms
-        → IfErr result (λ fault. fault ≡ Fault.OutOfMemory → ⊥) }
 {
     reader.read_row(line)?;
     match encoder.encode_row(&reader.row) {
@@ -95,16 +90,8 @@ fn take_row(reader: &mut RinexReader, encoder: &mut Encoder, line: &[u8]) -> Res
 
 /// Makes the compact lines of an epoch whose rows have all come.
 fn end_epoch(reader: &RinexReader, encoder: &mut Encoder)
-    requires open { encoder.old.is_open ≡ true }
-    requires whole { IfSome reader.now.head (λ head. length encoder.old.rows ≡ head.count) }
-    requires begun { is_some reader.now.head ≡ true }
-    ensures lines { (head : ObservationHead) → reader.now.head ≡ Some head → encoder.new.pending
-        ≡ lines_after_tail (tail_in encoder.old) (epoch_by_rows head encoder.old.rows) }
-    ensures before { (head : ObservationHead) → reader.now.head ≡ Some head → encoder.new.before
-        ≡ Some (tail_after (tail_in encoder.old) (epoch_by_rows head encoder.old.rows)) }
-    ensures closed { encoder.new.is_open ≡ false }
-    ensures rows { encoder.new.rows ≡ [] }
-    ensures rooms { encoder.new.rooms ≡ encoder.old.rooms }
+    requires whole { HasWholeEpoch reader.now encoder.old }
+    ensures ends { (head : ObservationHead) → reader.now.head ≡ Some head → EndsEpoch head encoder.old encoder.new }
 {
     let Some(head) = &reader.head else {
         unreachable!()
@@ -151,7 +138,7 @@ impl Direction for Compaction {
 
     ghost takes_at_start = { true };
 
-    ghost has_room = { HasRoomInCompaction };
+    ghost has_room = { λ c. HasRoomInCompaction c.reader c.encoder.rooms };
 
     ghost knows = { λ c choices lines. HaveEpochsRoom c.encoder.rooms (rinex_epochs choices lines) };
 

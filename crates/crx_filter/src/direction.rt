@@ -108,15 +108,14 @@ pub trait Direction: Drop {
         requires open { is_open_stage (parts self.old).stage ≡ true }
         requires asked { AwaitsLine (ready self.old) (counted self.old) }
         ensures reads { Reads by_line (λ choices. serves self.old choices ≡ true) (parts self.old)
-            (line_shown line.entry).content result (ready self.new) (parts self.new) }
+            (line_shown line.entry).content (has_room self.old (line_shown line.entry).content) result (ready self.new)
+            (parts self.new) }
         ensures serves { (choices : Choices) → serves self.old choices ≡ true → serves self.new choices ≡ true }
         ensures counted { CountsOneAtMost result (counted self.old) (counted self.new) }
         ensures knows { KnowsNext by_line chosen state_after_lines (parts self.old) (knows self.old)
             (knows self.new) (line_number line.entry) (line_shown line.entry) result }
         ensures stays { (choices : Choices) (lines : List InputLine) → knows self.old choices lines
-            → OnErr result (knows self.new choices lines) }
-        ensures known { has_room self.old (line_shown line.entry).content
-            → IfErr result (λ fault. fault ≡ Fault.OutOfMemory → ⊥) };
+            → OnErr result (knows self.new choices lines) };
 
     /// Takes a line where no epoch is open, and answers what it hands out: a line that is copied, after those
     /// that are ready.
@@ -125,16 +124,14 @@ pub trait Direction: Drop {
         requires closed { is_open_stage (parts self.old).stage ≡ false }
         requires asked { AwaitsLine (ready self.old) (counted self.old) }
         ensures reads { Reads by_line (λ choices. choices ≡ options.now) (parts self.old)
-            (line_shown line.entry).content (hands_out result)
+            (line_shown line.entry).content (has_room self.old (line_shown line.entry).content) (hands_out result)
             (handed_out_by result (line_shown line.entry).content (ready self.new)) (parts self.new) }
         ensures serves { serves self.new options.now ≡ true }
         ensures counted { CountsOneAtMost (hands_out result) (counted self.old) (counted self.new) }
         ensures knows { KnowsNext by_line chosen state_after_lines (parts self.old) (knows self.old)
             (knows self.new) (line_number line.entry) (line_shown line.entry) (hands_out result) }
         ensures stays { (choices : Choices) (lines : List InputLine) → knows self.old choices lines
-            → OnErr result (knows self.new choices lines) }
-        ensures known { has_room self.old (line_shown line.entry).content
-            → IfErr result (λ fault. fault ≡ Fault.OutOfMemory → ⊥) };
+            → OnErr result (knows self.new choices lines) };
 
     /// Goes to a stage after a fault, and forgets the epochs before, but not what is noted of lines.
     fn end_with(&mut self, stage: Stage)

@@ -37,22 +37,18 @@ impl<D: Direction> Model for Engine<D> {
 }
 
 impl<D: Direction> Engine<D> {
-    ghost use Rattle.std.specs.Prelude.{◌+◌, ◌<◌, ◌↔◌, List, [], drop, length, slice_get, OnErr, IfOk, IfErr, Err, IsTrue, false};
-    ghost use Rattle.std.specs.Borrow.{sem};
-    ghost use Rattle.std.specs.Io.BufRead.{Rests};
-    ghost use Rattle.std.specs.Option.{option_copied};
+    ghost use Rattle.std.specs.Prelude.{◌+◌, List, [], length, OnErr, IfOk, false};
+    ghost use Rattle.crx_base.specs.meaning.AsRead.{Overlong};
     ghost use Rattle.crx_base.specs.meaning.Choices.{Choices};
     ghost use Rattle.crx_base.specs.meaning.Lines.{InputLine, is_long};
-    ghost use Rattle.crx_base.specs.declared.fault.At.{At};
     ghost use Rattle.crx_lines.specs.Reading.{line_number, line_shown};
-    ghost use Rattle.crx_filter.specs.DirectionParts.{AnswersToFault, IsAfterLines};
-    ghost use Rattle.crx_filter.specs.EngineState.{AnswersBySeen, ConcludesBySeen, EngineAwaits, EngineConcludes, EngineEnds, EngineGoes, EngineKeepsNotes, EngineReads, EngineSkips, RanOutBefore, engine_ready, engine_state, engine_took, is_refusal};
-    ghost use Rattle.crx_filter.specs.LineByLine.{Ended, may_skip};
+    ghost use Rattle.crx_filter.specs.DirectionParts.{AnswersToFault};
+    ghost use Rattle.crx_filter.specs.EngineState.{EndIsAnswered, EngineAwaits, EngineGoes, EngineKeepsNotes, EngineReads, EngineSkips, LineIsAnswered, engine_ready, engine_state};
+    ghost use Rattle.crx_filter.specs.LineByLine.{may_skip};
     ghost use Rattle.crx_filter.specs.RinexStages.{is_open_stage};
     ghost use Rattle.crx_filter.specs.Stages.{bare_phase};
-    ghost use Rattle.crx_filter.specs.contracts.engine.Engine.{the_row};
     ghost use Rattle.crx_filter.specs.declared.stage.Stage.{Stage};
-    ghost use Rattle.crx_runs.specs.Engines.{Awaited, Concludes, EngineAnswers, IsAwaited, answer_given};
+    ghost use Rattle.crx_runs.specs.Engines.{answer_given};
 
     /// An engine before the first line of its input; `AllocError` comes where there is no memory for what its
     /// direction begins with.
@@ -79,13 +75,8 @@ impl<D: Direction> Engine<D> {
         requires counted { D.counted self.old.direction + 1 ≤ self.old.number }
         requires drained { engine_ready D.Direction self.old ≡ [] }
         ensures fails { (stage : Stage) → skips ≡ may_skip (bare_phase stage) → is_open ≡ is_open_stage stage
-            → AnswersToFault D.by_line self.old.options self.old.number stage fault goes_on
-            (D.parts self.old.direction) self.new.answer (engine_state D.Direction self.new) }
-        ensures drained { engine_ready D.Direction self.new ≡ [] }
-        ensures options { self.new.options ≡ self.old.options }
-        ensures ended { IfErr self.new.answer (λ at. (engine_state D.Direction self.new).phase ≡ Ended at) }
-        ensures refuses { is_refusal self.new.answer ≡ true }
-        ensures fault { IfErr self.new.answer (λ at. at.fault ≡ fault) }
+            → AnswersToFault D.by_line self.old.options self.old.number stage fault goes_on (D.parts self.old.direction)
+            self.new.answer (engine_ready D.Direction self.new) (engine_state D.Direction self.new) }
         ensures stays { (choices : Choices) (lines : List InputLine)
             → D.knows self.old.direction choices lines → D.knows self.new.direction choices lines }
     {
@@ -113,8 +104,6 @@ impl<D: Direction> Engine<D> {
         requires next { EngineAwaits D.Direction self.old (line_number line) }
         ensures reads { EngineReads D.Direction self.old (line_shown line.entry) result self.new }
         ensures goes { EngineGoes D.Direction self.old }
-        ensures known { D.has_room self.old.direction (line_shown line.entry).content
-            → RanOutBefore D.Direction self.old (answer_given result self.new.answer) }
         ensures stays { EngineKeepsNotes D.Direction self.old (answer_given result self.new.answer) self.new }
     {
         let Stage::Open = self.direction.stage() else {
@@ -142,8 +131,6 @@ impl<D: Direction> Engine<D> {
         requires next { EngineAwaits D.Direction self.old number }
         ensures reads { EngineReads D.Direction self.old
             (record { content = content.now; is_plain = is_plain }) result self.new }
-        ensures known { D.has_room self.old.direction content.now
-            → RanOutBefore D.Direction self.old (answer_given result self.new.answer) }
         ensures stays { EngineKeepsNotes D.Direction self.old (answer_given result self.new.answer) self.new }
     {
         let line = Line::of(content, number, is_plain);
@@ -165,57 +152,13 @@ impl<D: Direction> Engine<D> {
         }
     }
 
-    /// Takes the end of the input: see [`Engine::end`].
-    fn close(&mut self) -> Result<Step, At>
-        requires drained { engine_ready D.Direction self.old ≡ [] }
-        ensures stops { EngineEnds D.Direction self.old result self.new }
-        ensures closing { (lines : List InputLine)
-            → IsAfterLines D.chosen D.state_after_lines self.old.options lines (D.parts self.old.direction)
-            → D.knows self.old.direction self.old.options lines
-            → EngineConcludes D.Direction self.old lines result self.new }
-        ensures goes { EngineGoes D.Direction self.old }
-        ensures stays { EngineKeepsNotes D.Direction self.old result self.new }
-    {
-        let stage = self.direction.stage();
-        if let Stage::Ended(at) = stage {
-            return Err(at);
-        }
-        let Some(fault) = stage.fault_at_end() else {
-            return if self.direction.conclude() {
-                Ok(Step::Ready)
-            } else {
-                Ok(Step::Quiet)
-            };
-        };
-        let notice = At {
-            line: self.number + 1,
-            fault,
-        };
-        if self.options.skip() & stage.may_skip() & fault.is_skippable() {
-            self.direction.end_with(Stage::Closed);
-            return Ok(Step::Warned {
-                notice,
-                again: false,
-            });
-        }
-        self.direction.end_with(Stage::Ended(notice));
-        Err(notice)
-    }
-
     /// Takes a line that is too long, by its number: it has the fault `LineTooLong`, unless a line that
     /// begins with `>` is looked for: then it is passed over.
     pub(crate) fn overlong(&mut self, number: u64) -> Result<Step, At>
-        requires drained { engine_ready D.Direction self.old ≡ [] }
-        requires next { number ≡ (engine_state D.Direction self.old).number + 1 }
-        requires within { number ≤ INPUT_LIMIT }
-        ensures stops { EngineSkips D.Direction self.old result self.new }
-        ensures answers { (lines : List InputLine) (notices : List Awaited) (line : InputLine)
-            → engine_took D.Direction self.old lines notices → IsAwaited notices line → is_long line ≡ true
-            → EngineAnswers (D.filter (engine_state D.Direction self.old).choices)
-            (engine_took D.Direction self.new) (engine_ready D.Direction self.new) lines notices line result }
-        ensures by_seen { (line : InputLine) → is_long line ≡ true
-            → AnswersBySeen D.Direction self.old line result (engine_ready D.Direction self.new) self.new }
-        ensures repeated { (at : At) → (engine_state D.Direction self.old).phase ≡ Ended at → result ≡ Err at }
+        requires next { EngineAwaits D.Direction self.old number }
+        ensures stops { EngineSkips D.Direction self.old result (engine_ready D.Direction self.new) self.new }
+        ensures answers { (line : InputLine) → is_long line ≡ true
+            → LineIsAnswered D.Direction self.old line Overlong result (engine_ready D.Direction self.new) self.new }
         ensures stays { EngineKeepsNotes D.Direction self.old result self.new }
     {
         let stage = self.direction.stage();
@@ -235,38 +178,31 @@ impl<D: Direction> Engine<D> {
     /// a check does.
     pub(crate) fn end(&mut self) -> Result<Step, At>
         requires drained { engine_ready D.Direction self.old ≡ [] }
-        ensures stops { EngineEnds D.Direction self.old result self.new }
-        ensures concludes { (lines : List InputLine) → engine_took D.Direction self.old lines []
-            → Concludes (D.filter (engine_state D.Direction self.old).choices) (engine_ready D.Direction self.new) lines result }
-        ensures by_seen { ConcludesBySeen D.Direction self.old result (engine_ready D.Direction self.new) }
-        ensures found { (lines : List InputLine) → engine_took D.Direction self.old lines []
-            → IfOk result (λ step. D.has_found self.new.direction lines) }
-        ensures repeated { (at : At) → (engine_state D.Direction self.old).phase ≡ Ended at → result ≡ Err at }
-        ensures stays { EngineKeepsNotes D.Direction self.old result self.new }
+        ensures answers { EndIsAnswered D.Direction self.old result (engine_ready D.Direction self.new) self.new }
     {
-        self.close()
-    }
-
-    /// Whether none of the lines that were ready is pending.
-    pub(crate) fn is_drained(&self) -> bool
-        ensures value { IsTrue result ↔ (engine_ready D.Direction self.now ≡ []) }
-    {
-        self.direction.is_drained()
-    }
-
-    /// Borrows the next of the lines that are ready, without its line end; `None` once none is pending.
-    pub(crate) fn next_line(&mut self) -> Option<&[u8]>
-        ensures value { option_copied result ≡ slice_get (engine_ready D.Direction self.old) 0 }
-        // The direction itself changes: it counts the lines that it has handed out.
-        ensures* after_borrow { sem 𝓛 (Rests (the_row D.row D.Direction) self.entry (λ new. (engine_ready D.Direction new
-            ≡ drop 1 (engine_ready D.Direction self.old)) × (engine_state D.Direction new ≡ engine_state D.Direction self.old)
-            × ((choices : Choices) (lines : List InputLine) → D.knows self.old.direction choices lines
-            → D.knows new.direction choices lines)
-            × ((lines : List InputLine) → D.has_found self.old.direction lines → D.has_found new.direction lines)
-            × (new ≡ record self.old { direction = new.direction })
-            × (D.parts new.direction ≡ D.parts self.old.direction))) }
-    {
-        self.direction.next_line()
+        let stage = self.direction.stage();
+        if let Stage::Ended(at) = stage {
+            return Err(at);
+        }
+        let Some(fault) = stage.fault_at_end() else {
+            if self.direction.conclude() {
+                return Ok(Step::Ready);
+            }
+            return Ok(Step::Quiet);
+        };
+        let notice = At {
+            line: self.number + 1,
+            fault,
+        };
+        if self.options.skip() & stage.may_skip() & fault.is_skippable() {
+            self.direction.end_with(Stage::Closed);
+            return Ok(Step::Warned {
+                notice,
+                again: false,
+            });
+        }
+        self.direction.end_with(Stage::Ended(notice));
+        Err(notice)
     }
 }
 

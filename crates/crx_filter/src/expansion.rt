@@ -86,7 +86,7 @@ impl Direction for Expansion {
 
     ghost takes_at_start = { true };
 
-    ghost has_room = { HasRoomInExpansion };
+    ghost has_room = { λ e. HasRoomInExpansion e.reader };
 
     ghost knows = { λ e choices lines. HaveRoomInColumns e.reader.columns.value (compact_epochs choices lines) };
 

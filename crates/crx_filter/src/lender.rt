@@ -2,7 +2,6 @@
 //! that is copied is lent too.
 
 ghost use Rattle.std.specs.Prelude.{◌≡◌};
-ghost use Rattle.crx_runs.specs.Engines.{answer_given};
 
 use crate::direction::Direction;
 use crate::engine::Engine;
@@ -34,35 +33,19 @@ impl<D: Direction> Model for Lender<D> {
     ghost view = { λ l. record { engine = l.engine; copied = if l.is_pending then Some l.copied.value else None } };
 }
 
-/// The answer to a line by what it hands out, or the answer that is stored.
-fn answer_given(handed_out: Option<HandedOut>, stored: Result<Step, At>) -> Result<Step, At>
-    ensures value { result ≡ answer_given handed_out stored }
-{
-    match handed_out {
-        None => stored,
-        Some(HandedOut::Nothing) => Ok(Step::Quiet),
-        Some(HandedOut::Lines | HandedOut::AsItIs) => Ok(Step::Ready),
-    }
-}
-
 impl<D: Direction> Lender<D> {
-    ghost use Rattle.std.specs.Prelude.{◌+◌, ◌≤◌, ◌↔◌, List, None, [], drop, length, slice_get, OnErr, IfOk, IfErr, Err, IsTrue, true};
+    ghost use Rattle.std.specs.Prelude.{◌↔◌, List, [], drop, slice_get, IfOk, IsTrue, true};
     ghost use Rattle.std.specs.Borrow.{sem};
     ghost use Rattle.std.specs.Io.BufRead.{Rests};
     ghost use Rattle.std.specs.Option.{option_copied};
-    ghost use Rattle.crx_base.specs.declared.fault.At.{At};
-    ghost use Rattle.crx_base.specs.declared.fault.Fault.TheVariants.{OutOfMemory};
-    ghost use Rattle.crx_base.specs.declared.limits.TheConstants.{INPUT_LIMIT, LINE_LIMIT};
-    ghost use Rattle.crx_base.specs.meaning.AsRead.{Content};
+    ghost use Rattle.crx_base.specs.meaning.AsRead.{Content, Overlong};
     ghost use Rattle.crx_base.specs.meaning.Choices.{Choices};
     ghost use Rattle.crx_base.specs.meaning.Lines.{InputLine, is_long};
     ghost use Rattle.crx_lines.specs.Reading.{line_number, line_shown};
-    ghost use Rattle.crx_filter.specs.EngineSteps.{Steps};
-    ghost use Rattle.crx_filter.specs.EngineState.{AnswersBySeen, ConcludesBySeen, EngineKeepsNotes, RanOutBefore, engine_ready};
-    ghost use Rattle.crx_filter.specs.LenderState.{LenderEnds, LenderSkips, lender_ready, lender_state, lender_took};
-    ghost use Rattle.crx_filter.specs.LineByLine.{Ended};
+    ghost use Rattle.crx_filter.specs.EngineState.{EndIsAnswered, EngineKeepsNotes, EngineSkips, LineIsAnswered};
+    ghost use Rattle.crx_filter.specs.LenderState.{lender_ready, lender_state};
     ghost use Rattle.crx_filter.specs.contracts.lender.Lender.{the_row};
-    ghost use Rattle.crx_runs.specs.Engines.{Awaited, Concludes, EngineAnswers, IsAwaited, lines_handed_out};
+    ghost use Rattle.crx_runs.specs.Engines.{IsNextLine};
 
     /// An engine before the first line of its input; `AllocError` comes where there is no memory for a line.
     pub fn new(alloc: Global, options: Options) -> Result<Lender<D>, AllocError>
@@ -79,36 +62,13 @@ impl<D: Direction> Lender<D> {
         })
     }
 
-    /// Keeps a line that is handed out as it is.
-    fn keep(&mut self, handed_out: Option<HandedOut>, line: &[u8])
-        requires none { self.old.copied ≡ None }
-        requires short { length line.now ≤ LINE_LIMIT }
-        ensures engine { self.new.engine ≡ self.old.engine }
-        ensures ready { lender_ready D.Direction self.new
-            ≡ lines_handed_out handed_out line.now (engine_ready D.Direction self.old.engine) }
-    {
-        let Some(HandedOut::AsItIs) = handed_out else {
-            return;
-        };
-        self.copied.clear();
-        append(&mut self.copied, line);
-        self.is_pending = true;
-    }
-
     /// Takes a line that is too long, by its number: [`Lender::feed`] with the fault `LineTooLong`, unless a
     /// line that begins with `>` is looked for: then it is passed over.
     pub fn overlong(&mut self, number: u64) -> Result<Step, At>
-        requires drained { lender_ready D.Direction self.old ≡ [] }
-        requires next { number ≡ (lender_state D.Direction self.old).number + 1 }
-        requires within { number ≤ INPUT_LIMIT }
-        ensures stops { LenderSkips D.Direction self.old result self.new }
-        ensures answers { (lines : List InputLine) (notices : List Awaited) (line : InputLine)
-            → lender_took D.Direction self.old lines notices → IsAwaited notices line → is_long line ≡ true
-            → EngineAnswers (D.filter (lender_state D.Direction self.old).choices)
-            (lender_took D.Direction self.new) (lender_ready D.Direction self.new) lines notices line result }
-        ensures by_seen { (line : InputLine) → is_long line ≡ true → AnswersBySeen D.Direction self.old.engine
-            line result (lender_ready D.Direction self.new) self.new.engine }
-        ensures repeated { (at : At) → (lender_state D.Direction self.old).phase ≡ Ended at → result ≡ Err at }
+        requires next { IsNextLine (lender_ready D.Direction self.old) self.old.engine.number number }
+        ensures stops { EngineSkips D.Direction self.old.engine result (lender_ready D.Direction self.new) self.new.engine }
+        ensures answers { (line : InputLine) → is_long line ≡ true → LineIsAnswered D.Direction self.old.engine line
+            Overlong result (lender_ready D.Direction self.new) self.new.engine }
         ensures stays { EngineKeepsNotes D.Direction self.old.engine result self.new.engine }
     {
         self.engine.overlong(number)
@@ -119,15 +79,8 @@ impl<D: Direction> Lender<D> {
     /// ended the run.
     pub fn end(&mut self) -> Result<Step, At>
         requires drained { lender_ready D.Direction self.old ≡ [] }
-        ensures stops { LenderEnds D.Direction self.old result self.new }
-        ensures concludes { (lines : List InputLine) → lender_took D.Direction self.old lines []
-            → Concludes (D.filter (lender_state D.Direction self.old).choices) (lender_ready D.Direction self.new) lines result }
-        ensures by_seen { ConcludesBySeen D.Direction self.old.engine result
-            (lender_ready D.Direction self.new) }
-        ensures found { (lines : List InputLine) → lender_took D.Direction self.old lines []
-            → IfOk result (λ step. D.has_found self.new.engine.direction lines) }
-        ensures repeated { (at : At) → (lender_state D.Direction self.old).phase ≡ Ended at → result ≡ Err at }
-        ensures stays { EngineKeepsNotes D.Direction self.old.engine result self.new.engine }
+        ensures answers { EndIsAnswered D.Direction self.old.engine result (lender_ready D.Direction self.new)
+            self.new.engine }
     {
         self.engine.end()
     }
@@ -137,36 +90,29 @@ impl<D: Direction> Lender<D> {
     /// and is to be fed once more. The error is the fault that ends the run, at this line; from then on each
     /// call answers the same, and no line is ready.
     pub fn feed(&mut self, line: Line<'_>) -> Result<Step, At>
-        requires drained { lender_ready D.Direction self.old ≡ [] }
-        requires next { line_number line ≡ (lender_state D.Direction self.old).number + 1 }
-        requires within { line_number line ≤ INPUT_LIMIT }
-        ensures steps { Steps D.by_line (lender_state D.Direction self.old) (Content
-            (line_shown line.entry).content) result (lender_ready D.Direction self.new) (lender_state D.Direction self.new) }
-        ensures ended { IfErr result (λ at. (lender_state D.Direction self.new).phase ≡ Ended at) }
-        ensures nothing { OnErr result (lender_ready D.Direction self.new ≡ []) }
-        ensures choices { (lender_state D.Direction self.new).choices ≡ (lender_state D.Direction self.old).choices }
-        ensures answers { (lines : List InputLine) (notices : List Awaited)
-            → lender_took D.Direction self.old lines notices → IsAwaited notices (line_shown line.entry)
-            → EngineAnswers (D.filter (lender_state D.Direction self.old).choices) (lender_took D.Direction self.new)
-            (lender_ready D.Direction self.new) lines notices (line_shown line.entry) result }
-        ensures by_seen { IfErr result (λ at. at.fault ≡ OutOfMemory → ⊥)
-            → AnswersBySeen D.Direction self.old.engine (line_shown line.entry) result
-            (lender_ready D.Direction self.new) self.new.engine }
-        ensures repeated { (at : At) → (lender_state D.Direction self.old).phase ≡ Ended at → result ≡ Err at }
-        ensures known { D.has_room self.old.engine.direction (line_shown line.entry).content
-            → RanOutBefore D.Direction self.old.engine result }
+        requires next { IsNextLine (lender_ready D.Direction self.old) self.old.engine.number (line_number line) }
+        ensures answers { LineIsAnswered D.Direction self.old.engine (line_shown line.entry) (Content
+            (line_shown line.entry).content) result (lender_ready D.Direction self.new) self.new.engine }
         ensures stays { EngineKeepsNotes D.Direction self.old.engine result self.new.engine }
     {
-        let handed_out = self.engine.take_line(line);
-        self.keep(handed_out, line.bytes());
-        answer_given(handed_out, crx_runs::Engine::answer(&self.engine))
+        match self.engine.take_line(line) {
+            None => crx_runs::Engine::answer(&self.engine),
+            Some(HandedOut::Nothing) => Ok(Step::Quiet),
+            Some(HandedOut::Lines) => Ok(Step::Ready),
+            Some(HandedOut::AsItIs) => {
+                self.copied.clear();
+                append(&mut self.copied, line.bytes());
+                self.is_pending = true;
+                Ok(Step::Ready)
+            }
+        }
     }
 
     /// Whether none of the lines that were ready is pending.
     pub fn is_drained(&self) -> bool
         ensures value { IsTrue result ↔ (lender_ready D.Direction self.now ≡ []) }
     {
-        !self.is_pending && self.engine.is_drained()
+        !self.is_pending && self.engine.direction.is_drained()
     }
 
     /// Borrows the next of the lines that are ready, without its line end; `None` once none is pending.
@@ -181,8 +127,8 @@ impl<D: Direction> Lender<D> {
             × (new.engine ≡ record self.old.engine { direction = new.engine.direction })
             × (D.parts new.engine.direction ≡ D.parts self.old.engine.direction))) }
     {
-        if !self.engine.is_drained() {
-            return self.engine.next_line();
+        if !self.engine.direction.is_drained() {
+            return self.engine.direction.next_line();
         }
         if !self.is_pending {
             return None;

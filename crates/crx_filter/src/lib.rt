@@ -8,7 +8,6 @@ mod compact_reader;
 pub mod compaction;
 pub mod direction;
 pub mod engine;
-pub mod event_lines;
 pub mod expansion;
 mod filters;
 pub mod first_lines;

@@ -65,7 +65,7 @@ impl RinexReader {
     ghost use Rattle.crx_filter.specs.RinexStages.{is_open_stage};
     ghost use Rattle.crx_filter.specs.Stages.{is_ended};
     ghost use Rattle.crx_filter.specs.RinexReaders.{is_row, reader_phase, made_at, IsSameReader, ReadsRinexLine, TakesRinexLine, RefusesRinexLine};
-    ghost use Rattle.crx_filter.specs.Rooms.{do_types_count};
+    ghost use Rattle.crx_filter.specs.Rooms.{LackTypes};
 
     /// A reader before the first line.
     pub fn new(alloc: Global) -> RinexReader
@@ -94,12 +94,7 @@ impl RinexReader {
     pub fn take(&mut self, line: &[u8]) -> Result<RinexStep, Fault>
         requires running { is_ended self.old.stage ≡ false }
         requires closed { is_open_stage self.old.stage ≡ false }
-        ensures takes { (kept : Written) → IfOk result
-            (λ step. TakesRinexLine (made_at self.old line.now kept) self.old line.now step self.new) }
-        ensures refuses { (kept : Written) → IfErr result
-            (λ fault. RefusesRinexLine (made_at self.old line.now kept) self.old line.now fault) }
-        ensures steps { IfOk result (λ step. is_row step ≡ false) }
-        ensures same { OnErr result (IsSameReader self.old self.new) }
+        ensures reads { ReadsRinexLine self.old line.now result self.new }
     {
         match self.stage {
             Stage::Header { is_first } => {
@@ -183,8 +178,6 @@ impl RinexReader {
         ensures steps { is_row result ≡ true }
         ensures rows { self.new.rows.rows ≡ self.old.rows.rows ++ self.old.row ∷ [] }
         ensures row { self.new.row ≡ self.old.row }
-        ensures head { self.new.head ≡ self.old.head }
-        ensures few { length self.new.rows.rows ≤ SATELLITES_LIMIT }
     {
         self.rows.add(&self.row);
         let Some(head) = &self.head else {

@@ -19,7 +19,7 @@ pub fn accept_header_line(types: &mut Types, is_first: bool, line: &[u8]) -> Res
     ensures same { OnErr result (types.new ≡ types.old) }
     ensures refused { IfErr result (λ fault. (header_line_fault is_first line.now ≡ Some fault)
         ⊎ ((fault ≡ Fault.OutOfMemory) × ((are_lacking types.old && (is_some (count_of_types_line line.now)
-        && is_none (header_line_fault is_first line.now))) ≡ true))) }
+        && is_none (header_line_fault is_first line.now))) ≡ true) × (types.old ≡ []))) }
 {
     if is_first {
         header_first(line)?;
@@ -37,7 +37,7 @@ pub fn accept_record(types: &mut Types, counted: bool, line: &[u8]) -> Result<bo
     ensures same { OnErr result (types.new ≡ types.old) }
     ensures refused { IfErr result (λ fault. ((if counted then types_fault line.now else None) ≡ Some fault)
         ⊎ ((fault ≡ Fault.OutOfMemory) × ((are_lacking types.old
-        && (counted && is_some (count_of_types_line line.now))) ≡ true))) }
+        && (counted && is_some (count_of_types_line line.now))) ≡ true) × (counted ≡ true) × (types.old ≡ []))) }
 {
     if !(counted && is_types(line)) {
         return Ok(false);

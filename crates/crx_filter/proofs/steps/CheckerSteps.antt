@@ -17,7 +17,7 @@ use Rattle.crx_filter.{proofs.steps.Given.given-either, specs.CheckByLine.totals
 use Rattle.crx_filter.specs.{CheckingParts.{AreNamed, is_reading}, CompactionByLine.is_before_header}
 use Rattle.crx_filter.specs.{CompactionByLine.is_next_row, DirectionParts.{DirectionParts, ComesAfter, Reads}}
 use Rattle.crx_filter.specs.{DirectionParts.{brings_nothing, state_by}, LineByLine.Quiet as LineQuiet}
-use Rattle.crx_filter.specs.{RinexReaders.RefusesRinexLine, Stages.is_ended, Totals.IsBehindARow}
+use Rattle.crx_filter.specs.{Rooms.{HaveTypes, LackTypes}, RinexReaders.RefusesRinexLine, Stages.is_ended, Totals.IsBehindARow}
 use Rattle.crx_filter.specs.{Totals.{IsCounting, totals_held, HasPrinted}, meaning.Directions.fault_so_far}
 use Rattle.crx_filter.specs.meaning.Standard.{Findings, report_lines}
 use Rattle.crx_header.specs.{Identifiers.has_identifier, meaning.Satellites.is_identifier}
@@ -117,23 +117,22 @@ in-no-epoch before content closed takes = grind (arith, common_steps, false≢tr
 
 module _ (serves : Choices → Type 0) (before after : RinexReader) (totals : Held) (content : List ℕ)
     (ready : List (List ℕ)) where
-  pub rejected-reads : (fault : Fault) → IsSameReader before after
+  pub rejected-reads : {room : Type 0} (fault : Fault) → IsSameReader before after
       → made_there before content ≡ Rejects fault → ready ≡ []
-      → Reads check_by_line serves (parts_with before (totals_held totals)) content (Err fault) ready
-      (parts_with after
-      (totals_held totals))
+      → Reads check_by_line serves (parts_with before (totals_held totals)) content room (Err fault) ready
+      (parts_with after (totals_held totals))
   rejected-reads fault same rejects none = grind (arith, common_steps, made-alike, made-same)
 
   pub refused-reads : (fault : Fault) → IsSameReader before after → is_open_stage before.stage ≡ false
-      → RefusesRinexLine (made_there before content) before content fault → ready ≡ []
-      → Reads check_by_line serves (parts_with before (totals_held totals)) content (Err fault) ready
-      (parts_with after
-      (totals_held totals))
+      → RefusesRinexLine (made_there before content) before content (LackTypes before.stage before.types) fault
+      → ready ≡ [] → Reads check_by_line serves (parts_with before (totals_held totals)) content
+      (HaveTypes before.stage before.types) (Err fault) ready
+      (parts_with after (totals_held totals))
   refused-reads fault same closed refuses none = grind (arith, common_steps, rejected-reads, in-no-epoch)
 
-  pub taken-reads : (then : Held) (step : RinexStep) → IsTaken before content step after
+  pub taken-reads : {room : Type 0} (then : Held) (step : RinexStep) → IsTaken before content step after
       → AreTotals before content totals then → ready ≡ []
-      → Reads check_by_line serves (parts_with before (totals_held totals)) content (Ok false) ready
+      → Reads check_by_line serves (parts_with before (totals_held totals)) content room (Ok false) ready
       (parts_with after (totals_held then))
   taken-reads then step takes totals_then none = grind (arith, common_steps, made-alike, made-same, steps-to)
 

@@ -94,7 +94,7 @@ module _ (choices : Choices) (lines : List InputLine) (line : InputLine) (c : Co
     read = rinex_reading choices.skip (map as_read lines)
 
     pub has-enough : HaveEpochsRoom c.encoder.rooms (rinex_epochs choices lines) → is_long line ≡ false
-        → compaction_line_outgrows choices lines line ≡ false → HasRoomInCompaction c line.content
+        → compaction_line_outgrows choices lines line ≡ false → HasRoomInCompaction c.reader c.encoder.rooms line.content
     has-enough knew short needs =
         let there = types-there compaction compaction_state choices lines line (compaction_parts c) given in
         let both = or_parts (are_types_awaited read.items) _ (rw (as-read-short line short) at needs) in

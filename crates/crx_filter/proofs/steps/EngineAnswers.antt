@@ -8,16 +8,17 @@ use proofs.Words.{Choices, with_next, step_made, Steps, is_again, Fed, fed_once,
 use proofs.Words.{RunState, Direction, Made, Rejects, Notice, LineStep, made_in, may_skip, is_in_epoch}
 use proofs.Words.{is_skipped_in, step_of_made, state_next, takes_memory, can_go_on, is_skippable, ◌++◌}
 use proofs.Words.{by_bool, Completes, false≢true, answer_of_step, noticed_by, false-true}
-use proofs.Words.{after_warning, failed_by, RunEnded, Bool}
-use Rattle.std.specs.Prelude.{IfErr}
-use Rattle.crx_filter.specs.DirectionParts.{EngineParts, IsAfterLines, ComesAfter}
+use proofs.Words.{after_warning, failed_by, Bool}
+use Rattle.std.specs.Prelude.{IfOk}
+use Rattle.crx_filter.specs.DirectionParts.{EngineParts, HasClosed, IsAfterLines, ComesAfter, TakesLine}
 use Rattle.crx_filter.specs.{EngineLaws.{FollowsBy, GoesLineByLine}, EngineLines.HasTaken, EngineSteps.RanOut}
-use Rattle.crx_filter.specs.EngineState.{EngineGoes, EngineNotes, KnowsAfter, RanOutBefore, engine_state}
-use Rattle.crx_filter.specs.EngineState.{AnswersBySeen, ConcludesBySeen, engine_seen, engine_took}
+use Rattle.crx_filter.specs.EngineState.{EndIsAnswered, EngineGoes, EngineKeepsNotes, EngineNotes, KnowsAfter}
+use Rattle.crx_filter.specs.EngineState.{LineIsAnswered, engine_seen, engine_state, engine_took}
 use Rattle.crx_filter.specs.{Laws.is_ready, LineByLine.state_end_with, declared.direction.Direction.Ghosts}
 use Rattle.crx_runs.specs.Engines.{Awaited, IsAwaited, awaited_notices, EngineAnswers, Concludes}
 use Rattle.crx_runs.specs.{declared.engine.Step.{Step, TheVariants.Warned}, meaning.Filters.Filter}
 use proofs.Pending.{again-lines, quiet-next, quiet-end}
+use proofs.steps.EngineLemmas.{repeats, repeats-end}
 use proofs.following.Following.{fed-once as feeds-once, fed-twice as feeds-twice, failed-ends, failed-skipped}
 
 -- ---- a line that comes again
@@ -169,26 +170,26 @@ module _ {U O K : Type 0} {direction : Direction U O K} {closing_after : List In
   -- memory that ran out where the line needs more is one
   answers-lost : (shows : List InputLine → List Awaited → Type 0) (before now : RunState O K)
       (lines : List InputLine) (notices : List Awaited) (line : InputLine) (ready : List (List ℕ))
-      (result : Result Step At) → HasTaken direction state_after_lines before lines notices
-      → IsAwaited notices line → needs lines line ≡ true → RanOut direction before (as_read line) result now
+      (result : Result Step At) (room : Type 0) → HasTaken direction state_after_lines before lines notices
+      → IsAwaited notices line → needs lines line ≡ true → RanOut direction before (as_read line) room result now
       → EngineAnswers filter shows ready lines notices line result
-  answers-lost shows before now lines [] line ready result taken awaited needed r =
+  answers-lost shows before now lines [] line ready result room taken awaited needed r =
       ran-out lines line shows ready [] before.number r.at result r.is r.fault r.place
       (ap (λ (s : RunState O K). s.number) taken ∙ goes.number lines)
       (goes.memory_first lines line needed
       (subst (λ (s : RunState O K). takes_memory direction s (as_read line) ≡ true) taken r.allowed))
-  answers-lost shows before now lines (a ∷ []) line ready result taken awaited needed r =
+  answers-lost shows before now lines (a ∷ []) line ready result room taken awaited needed r =
       let one = first-step before lines a line taken awaited in
       let again = comes-again direction (state_after_lines (map as_read lines)) before
       (as_read line) a.notice [] one in
       ran-out lines line shows ready (a ∷ []) before.number r.at result r.is r.fault r.place
       (again.number ∙ goes.number lines) (goes.memory_again lines line before a.notice needed one r.allowed)
-  answers-lost shows before now lines (a ∷ b ∷ others) line ready result taken awaited needed r =
+  answers-lost shows before now lines (a ∷ b ∷ others) line ready result room taken awaited needed r =
       absurd taken
 
   -- ---- the end of the input
 
-  pub concludes : (before now : RunState O K) (lines : List InputLine) (ready : List (List ℕ))
+  concludes : (before now : RunState O K) (lines : List InputLine) (ready : List (List ℕ))
       (result : Result Step At) → HasTaken direction state_after_lines before lines [] → step_made result
       ready now ≡ state_end_with direction (closing_after lines) before → Concludes filter ready lines result
   concludes before now lines ready result taken e =
@@ -232,14 +233,9 @@ answers-known : (knows : List InputLine → Type 0) (lines : List InputLine) (li
     → EngineAnswers filter (λ ls ns. shows ls ns × knows ls) ready lines notices line result
 answers-known knows lines line filter shows ready notices result known answers = grind (arith, common_steps)
 
--- no memory is taken once a fault has ended the run
-ended-takes : {U O K : Type 0} (direction : Direction U O K) (before : RunState O K) (line : ReadLine)
-    (at : At) → before.phase ≡ RunEnded at → takes_memory direction before line ≡ true → ⊥
-ended-takes direction before line at ended takes = grind (arith, common_steps, false≢true)
-
 module _ {D : Type 0} (d : Ghosts D) (before : EngineParts D) (goes : EngineGoes d before) where
   -- an engine that has taken some lines has come to them
-  pub after-lines : (lines : List InputLine) → engine_took d before lines []
+  after-lines : (lines : List InputLine) → engine_took d before lines []
       → IsAfterLines d.chosen d.state_after_lines before.options lines (d.parts before.direction)
   after-lines lines took = grind (arith, common_steps, taken-lines goes.lawful, goes.chosen)
 
@@ -249,65 +245,75 @@ module _ {D : Type 0} (d : Ghosts D) (before : EngineParts D) (goes : EngineGoes
       → ComesAfter d.by_line d.chosen d.state_after_lines before.options lines line (d.parts before.direction)
   given-line lines notices line took awaited = grind (arith, common_steps, taken-lines)
 
-  -- an engine whose choices are as they were answers a line by what is seen of it
   module _ (after : EngineParts D) {ready : List (List ℕ)} (line : InputLine) (read : ReadLine)
-      (result : Result Step At) (same : after.options ≡ before.options) (is : as_read line ≡ read) where
-    pub answers-seen : step_made result ready (engine_state d after)
-        ≡ state_next d.by_line (engine_state d before) read → AnswersBySeen d before line result ready after
+      (result : Result Step At) (same : after.options ≡ before.options) (is : as_read line ≡ read)
+      (notes : EngineNotes d before line result after) where
+    -- an engine whose choices are as they were answers a line by what is seen of it
+    answers-seen : step_made result ready (engine_state d after) ≡ state_next d.by_line (engine_state d before) read
+        → (lines : List InputLine) (notices : List Awaited) → engine_seen d before lines notices
+        → IsAwaited notices line
+        → EngineAnswers (d.filter before.options) (engine_seen d after) ready lines notices line result
     answers-seen made = λ lines notices seen awaited.
         answers-step goes.lawful (engine_seen d after) (engine_state d before) (engine_state d after) lines
         notices line ready result (λ ls ns then. subst (λ (c : Choices). HasTaken d.by_line
         (d.state_after_lines c) (engine_state d after) ls ns) (sym same) then) seen awaited
         (made ∙ ap (state_next d.by_line (engine_state d before)) (sym is))
 
-    -- where memory doesn't run out
-    pub answers-kept : IfErr result (λ at. at.fault ≡ OutOfMemory → ⊥)
-        → Steps d.by_line (engine_state d before) read result ready (engine_state d after)
-        → AnswersBySeen d before line result ready after
-    answers-kept kept steps = grind (arith, common_steps, answers-seen)
-
-  -- and concludes by it where it hands out what is to be handed out
-  pub concludes-seen : (now : RunState d.Open d.Kept) (ready : List (List ℕ)) (result : Result Step At)
-      → step_made result ready now
-      ≡ state_end_with d.by_line (d.closing before.direction) (engine_state d before)
-      → ConcludesBySeen d before result ready
-  concludes-seen now ready result made = λ lines seen there.
-      concludes goes.lawful (engine_state d before) now lines ready result seen
-      (made ∙ ap (λ (ls : List (List ℕ)). state_end_with d.by_line ls (engine_state d before)) there)
-
-  module _ (after : EngineParts D) {ready : List (List ℕ)} (lines : List InputLine) (line : InputLine)
-      (read : ReadLine) (result : Result Step At)
-      (known : d.has_room before.direction line.content → RanOutBefore d before result)
-      (notes : EngineNotes d before line result after)
-      (steps : Steps d.by_line (engine_state d before) read result ready (engine_state d after)) where
-    -- where there is room, memory doesn't run out
-    never : d.has_room before.direction line.content
-        → RanOut d.by_line (engine_state d before) (as_read line) result (engine_state d after) → ⊥
-    never room out = grind (arith, common_steps, ended-takes)
-
-    -- so where it runs out, the line needs more
-    needed : (notices : List Awaited) → engine_took d before lines notices → IsAwaited notices line
-        → RanOut d.by_line (engine_state d before) (as_read line) result (engine_state d after)
-        → d.outgrows before.options lines line ≡ true
-    needed notices took awaited out =
-        grind (arith, common_steps, by_bool, false≢true, as-read-long, never, given-line)
-
-    -- and shows what it took
-    pub engine-answers : (notices : List Awaited) → after.options ≡ before.options → as_read line ≡ read
-        → engine_took d before lines notices → IsAwaited notices line → EngineAnswers
-        (d.filter before.options) (engine_took d after) ready lines notices line result
-    engine-answers notices same is took awaited =
+    -- and by what it took: where memory runs out, the line needs more
+    engine-answers : (lines : List InputLine) (notices : List Awaited) → engine_took d before lines notices
+        → IsAwaited notices line → Steps d.by_line (engine_state d before) read
+        (d.has_room before.direction line.content) result ready (engine_state d after)
+        → EngineAnswers (d.filter before.options) (engine_took d after) ready lines notices line result
+    engine-answers lines notices took awaited steps =
         answers-known (d.knows after.direction after.options) lines line (d.filter before.options)
         (engine_seen d after) ready notices result
         (subst (λ (c : Choices). KnowsAfter (d.knows after.direction c) lines line result) (sym same)
         (notes lines (taken-lines goes.lawful (engine_state d before) lines notices took.0)
         (given-line lines notices line took awaited) took.1)) (answered steps)
       where
-        answered : Steps d.by_line (engine_state d before) read result ready (engine_state d after)
+        answered : Steps d.by_line (engine_state d before) read (d.has_room before.direction line.content) result
+            ready (engine_state d after)
             → EngineAnswers (d.filter before.options) (engine_seen d after) ready lines notices line result
-        answered (inl made) = answers-seen after line read result same is made lines notices took.0 awaited
+        answered (inl made) = answers-seen made lines notices took.0 awaited
         answered (inr out) =
-            let lost = subst (λ (l : ReadLine). RanOut d.by_line (engine_state d before) l result
-            (engine_state d after)) (sym is) out in
+            let lost = subst (λ (l : ReadLine). RanOut d.by_line (engine_state d before) l
+            (d.has_room before.direction line.content) result (engine_state d after)) (sym is) out in
+            let needed : d.outgrows before.options lines line ≡ true =
+            grind (arith, common_steps, by_bool, false≢true, as-read-long, given-line, lost.lacked) in
             answers-lost goes.lawful (engine_seen d after) (engine_state d before) (engine_state d after)
-            lines notices line ready result took.0 awaited (needed notices took awaited lost) lost
+            lines notices line ready result _ took.0 awaited needed lost
+
+  -- a line that was taken is answered so
+  pub line-answered : (after : EngineParts D) {ready : List (List ℕ)} (line : InputLine) (read : ReadLine)
+      (result : Result Step At) → as_read line ≡ read → EngineNotes d before line result after
+      → TakesLine d.by_line (engine_state d before) read (d.has_room before.direction line.content) result ready
+      (engine_state d after) → LineIsAnswered d before line read result ready after
+  line-answered after line read result is notes takes = record {
+    takes = takes;
+    answers = λ lines notices took awaited. engine-answers after line read result takes.choices is notes lines notices
+        took awaited takes.steps;
+    by_seen = answers-seen after line read result takes.choices is notes;
+    repeated = λ at ended. repeats d.by_line _ _ read _ _ result at takes.steps ended;
+  }
+
+  -- and so is the end of the input, where a good end hands out what is to be handed out
+  pub end-answered : (after : EngineParts D) {ready : List (List ℕ)} (result : Result Step At)
+      → HasClosed (d.closing before.direction) (state_end_with d.by_line (d.closing before.direction)
+      (engine_state d before)) result ready (engine_state d before) (engine_state d after)
+      → ((lines : List InputLine) → IsAfterLines d.chosen d.state_after_lines before.options lines
+      (d.parts before.direction) → d.knows before.direction before.options lines
+      → (step_made result ready (engine_state d after)
+      ≡ state_end_with d.by_line (d.closing_after before.options lines) (engine_state d before))
+      × IfOk result (λ step. d.has_found after.direction lines))
+      → EngineKeepsNotes d before result after → EndIsAnswered d before result ready after
+  end-answered after {ready = ready} result ends closing stays = record {
+    ends = ends;
+    concludes = λ lines took. concludes goes.lawful (engine_state d before) (engine_state d after) lines ready result
+        took.0 (closing lines (after-lines lines took) took.1).0;
+    by_seen = λ lines seen there.
+        concludes goes.lawful (engine_state d before) (engine_state d after) lines ready result seen
+        (ends.steps ∙ ap (λ (ls : List (List ℕ)). state_end_with d.by_line ls (engine_state d before)) there);
+    found = λ lines took. (closing lines (after-lines lines took) took.1).1;
+    repeated = λ at ended. repeats-end d.by_line _ _ _ ready result at ends.steps ended;
+    stays = stays;
+  }

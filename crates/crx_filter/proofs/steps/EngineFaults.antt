@@ -6,7 +6,7 @@ use Words.{Ok, Err, inl, refl, Content, Overlong, At, Fault, LineTooLong, Count,
 use Words.{Rejects, made_in, RunEnded, is_skipped_in, may_skip, is_skippable, failed_step, state_next}
 use Words.{begins_epoch, step_made, is_held, phase_of_stage, Stage, false≢true, InputLine, with_next}
 use Words.{ReadLine, Steps, as_read, length}
-use specs.DirectionParts.{DirectionParts, state_by, Reads, AnswersToFault, TakesLine, handed_out_by}
+use specs.DirectionParts.{DirectionParts, state_by, Reads, AnswersToFault, HasStopped, TakesLine, handed_out_by}
 use specs.{DirectionParts.{ComesAfter, KnowsStill, brings_nothing}, EngineState.{KnowsAfter, is_refusal}}
 use specs.{DirectionParts.hands_out, EngineSteps.answer_of_step, LineByLine.{end_step, answer_of_lines}}
 use specs.{LineByLine.fault_at_end_in, LineByLine.state_end_with, Stages.{bare_phase, is_settled}}
@@ -36,9 +36,16 @@ notes-handed knows lines line out stored known = grind (arith, common_steps)
 
 -- a line with a warning that doesn't come again brings nothing
 warned-passed : {U O K : Type 0} (direction : Direction U O K) (before after : RunState O K) (line : ReadLine)
-    (ready : List (List ℕ)) (notice : At) → Steps direction before line (Ok (Warned notice false)) ready after
+    (ready : List (List ℕ)) (notice : At)
+    → step_made (Ok (Warned notice false)) ready after ≡ state_next direction before line
     → brings_nothing (state_next direction before line).answer line ≡ true
 warned-passed direction before after line ready notice steps = grind (arith, common_steps)
+
+-- what is answered to a fault is a warning or that fault
+refused-so : {U O K : Type 0} (direction : Direction U O K) (before after : RunState O K) (line : ReadLine)
+    (fault : Fault) (result : Result Step At) (ready : List (List ℕ))
+    → HasStopped (failed_step direction before line fault) result ready before after → is_refusal result ≡ true
+refused-so direction before after line fault result ready stopped = grind (arith, common_steps, failed_step)
 
 module _ {U O K : Type 0} (direction : Direction U O K) (chosen : Choices → Choices)
     (state_after_lines : Choices → List ReadLine → RunState O K) (choices : Choices) (number : ℕ)
@@ -46,29 +53,27 @@ module _ {U O K : Type 0} (direction : Direction U O K) (chosen : Choices → Ch
     (past : KnowsStill direction chosen state_after_lines before knew)
     (stays : (lines : List InputLine) → knew choices lines → knows choices lines) (line : InputLine) where
   -- what is known after a line that was refused
-  pub notes-refused : (result : Result Step At) (read : ReadLine) (ready : List (List ℕ))
-      (after : RunState O K) → is_refusal result ≡ true → as_read line ≡ read
-      → Steps direction (state_by choices number before) read result ready after
+  pub notes-refused : (fault : Fault) (result : Result Step At) (read : ReadLine) (room : Type 0)
+      (ready : List (List ℕ)) (after : RunState O K)
+      → HasStopped (failed_step direction (state_by choices number before) read fault) result ready
+      (state_by choices number before) after → as_read line ≡ read
+      → Steps direction (state_by choices number before) read room result ready after
       → (lines : List InputLine) → number ≡ length lines
       → ComesAfter direction chosen state_after_lines choices lines line before → knew choices lines
       → KnowsAfter (knows choices) lines line result
-  notes-refused result read ready after refused is steps lines counted given known =
-      grind (arith, common_steps, warned-passed, false≢true)
+  notes-refused fault result read room ready after stopped is steps lines counted given known =
+      grind (arith, common_steps, warned-passed, refused-so, false≢true)
 
 module _ {U O K : Type 0} (direction : Direction U O K) where
   -- a line was taken that hands something out, or nothing
   pub handed-line : (serves : Choices → Type 0) (choices : Choices) (last : ℕ)
-      (before parts : DirectionParts O K) (line : List ℕ) (out : HandedOut) (stored : Result Step At)
-      (ready : List (List ℕ)) → serves choices
-      → Reads direction serves before line (hands_out (Ok out)) (handed_out_by (Ok out) line ready) parts
-      → TakesLine direction (state_by choices last before) (Content line) (answer_given (Some out) stored)
+      (before parts : DirectionParts O K) (line : List ℕ) (room : Type 0) (out : HandedOut)
+      (stored : Result Step At) (ready : List (List ℕ)) → serves choices
+      → Reads direction serves before line room (hands_out (Ok out)) (handed_out_by (Ok out) line ready) parts
+      → TakesLine direction (state_by choices last before) (Content line) room (answer_given (Some out) stored)
       (lines_handed_out (Some out) line ready) (state_by choices (last + 1) parts)
-  handed-line serves choices last before parts line Nothing stored ready chosen reads =
-      record { steps = inl (reads.takes choices last chosen); ended = tt; nothing = tt; choices = refl }
-  handed-line serves choices last before parts line Lines stored ready chosen reads =
-      record { steps = inl (reads.takes choices last chosen); ended = tt; nothing = tt; choices = refl }
-  handed-line serves choices last before parts line AsItIs stored ready chosen reads =
-      record { steps = inl (reads.takes choices last chosen); ended = tt; nothing = tt; choices = refl }
+  handed-line serves choices last before parts line room out stored ready chosen reads =
+      grind (arith, common_steps, reads.takes choices last chosen)
 
   -- a fault that isn't skipped ends the run
   fatal-answer : (before after : RunState O K) (line : List ℕ) (fault : Fault) (result : Result Step At)
@@ -77,22 +82,31 @@ module _ {U O K : Type 0} (direction : Direction U O K) where
   fatal-answer before after line fault result step fatal =
       grind (arith, common_steps, no-skip, may_skip, is_skippable, failed_step, failed-at, step)
 
-  -- a line was refused: with its fault, or because memory ran out
-  pub refused-line : (choices : Choices) (last : ℕ) (stage : Stage) (fault : Fault) (goes_on : Bool)
-      (serves : Choices → Type 0) (before parts : DirectionParts O K) (line : List ℕ)
+  -- a fault that a line was refused with is answered so
+  pub refused-stops : (choices : Choices) (last : ℕ) (stage : Stage) (fault : Fault) (goes_on : Bool)
+      (before parts : DirectionParts O K) (line : List ℕ) (room : Type 0) (serves : Choices → Type 0)
       (result : Result Step At) (given ready : List (List ℕ)) (after : RunState O K) → AnswersToFault
-      direction choices (last + 1) stage fault goes_on parts result after → before.stage ≡ stage → is_held
-      stage before.begun ≡ true → begins_epoch line ≡ goes_on → Reads direction serves before line (Err fault)
-      given parts → ready ≡ [] → IfErr result (λ at. after.phase ≡ RunEnded at) → after.choices ≡ choices
-      → TakesLine direction (state_by choices last before) (Content line) result ready after
-  refused-line choices last stage fault goes_on serves before parts line result given ready after fails was
-      held goes reads drained ended chosen =
+      direction choices (last + 1) stage fault goes_on parts result ready after → before.stage ≡ stage → is_held
+      stage before.begun ≡ true → begins_epoch line ≡ goes_on
+      → Reads direction serves before line room (Err fault) given parts
+      → HasStopped (failed_step direction (state_by choices last before) (Content line) fault) result ready
+      (state_by choices last before) after
+  refused-stops choices last stage fault goes_on before parts line room serves result given ready after fails was
+      held goes reads = grind (arith, common_steps, fails before (Content line) last)
+
+  -- a line was refused: with its fault, or because memory ran out
+  pub refused-line : (choices : Choices) (last : ℕ) (fault : Fault) (serves : Choices → Type 0)
+      (before parts : DirectionParts O K) (line : List ℕ) (room : Type 0) (result : Result Step At)
+      (given ready : List (List ℕ)) (after : RunState O K)
+      → HasStopped (failed_step direction (state_by choices last before) (Content line) fault) result ready
+      (state_by choices last before) after → Reads direction serves before line room (Err fault) given parts
+      → TakesLine direction (state_by choices last before) (Content line) room result ready after
+  refused-line choices last fault serves before parts line room result given ready after stopped reads =
       grind (
         arith,
         common_steps,
-        fails before (Content line) last,
         out-fatal fault,
-        ran-out direction (state_by choices last before) after (Content line) result fault,
+        ran-out direction (state_by choices last before) after (Content line) room result fault,
         fatal-answer (state_by choices last before) after line fault result,
         fatal-counts direction (state_by choices last before) after (Content line) fault result [],
         after-error,
@@ -109,11 +123,14 @@ module _ {U O K : Type 0} (direction : Direction U O K) where
   pub long-failed : (first : (types : List Count) (kept : K) → direction.begins types kept Overlong ≡ Rejects
       LineTooLong) (next : (so_far : O) → direction.continues so_far Overlong ≡ Rejects LineTooLong)
       (choices : Choices) (last number : ℕ) (stage : Stage) (parts : DirectionParts O K)
-      (result : Result Step At) (after : RunState O K) → AnswersToFault direction choices number stage
-      LineTooLong false parts result after → number ≡ last + 1 → stage ≡ parts.stage → is_held stage
-      parts.begun ≡ true → is_settled stage ≡ false → step_made result [] after ≡ state_next direction
-      (state_by choices last parts) Overlong
-  long-failed first next choices last number stage parts result after fails counted was held going =
+      (result : Result Step At) (ready : List (List ℕ)) (after : RunState O K) → AnswersToFault direction choices
+      number stage LineTooLong false parts result ready after → number ≡ last + 1 → stage ≡ parts.stage → is_held
+      stage parts.begun ≡ true → is_settled stage ≡ false
+      → (state_next direction (state_by choices last parts) Overlong
+      ≡ failed_step direction (state_by choices last parts) Overlong LineTooLong)
+      × HasStopped (failed_step direction (state_by choices last parts) Overlong LineTooLong) result ready
+      (state_by choices last parts) after
+  long-failed first next choices last number stage parts result ready after fails counted was held going =
       grind (
         arith,
         common_steps,

@@ -22,10 +22,10 @@ fatal-counts {O = O} {K = K} direction before after line fault result handed_out
     grind (arith, common_steps, is_skipped_in, no-skip, may_skip, is_skippable, failed_step)
 
 pub ran-out : {U O K : Type 0} (direction : Direction U O K) (before after : RunState O K) (line : ReadLine)
-    (result : Result Step At) (fault : Fault) → fault ≡ OutOfMemory → result ≡ Err
+    (room : Type 0) (result : Result Step At) (fault : Fault) → fault ≡ OutOfMemory → result ≡ Err
     (record { line = before.number + 1; fault = fault }) → takes_memory direction before line ≡ true
-    → after.number ≡ before.number + 1 → RanOut direction before line result after
-ran-out direction before after line result fault out is allowed counted = grind (arith, common_steps)
+    → (room → ⊥) → after.number ≡ before.number + 1 → RanOut direction before line room result after
+ran-out direction before after line room result fault out is allowed lacked counted = grind (arith, common_steps)
 
 -- ---- a fault that ended the run is answered again
 
@@ -34,9 +34,10 @@ pub failed-at : (r : Result Step At) (at : At) → answer_of_step r ≡ Failed a
 failed-at r at e = grind (arith, common_steps)
 
 pub repeats : {U O K : Type 0} (direction : Direction U O K)
-    (before after : RunState O K) (line : ReadLine) (ready : List (List ℕ)) (result : Result Step At) (at :
-    At) → Steps direction before line result ready after → before.phase ≡ RunEnded at → result ≡ Err at
-repeats direction before after line ready result at known is = grind (arith, common_steps, failed-at)
+    (before after : RunState O K) (line : ReadLine) (room : Type 0) (ready : List (List ℕ))
+    (result : Result Step At) (at : At) → Steps direction before line room result ready after
+    → before.phase ≡ RunEnded at → result ≡ Err at
+repeats direction before after line room ready result at known is = grind (arith, common_steps, failed-at)
 
 pub repeats-end : {U O K : Type 0} (direction : Direction U O K) (before after : RunState O K)
     (closing ready : List (List ℕ)) (result : Result Step At) (at : At) → step_made result ready after

@@ -172,7 +172,7 @@ module _ (e : Expansion) (choices : Choices) (lines : List InputLine) (line : In
       anew raws begins = rw begins refl
 
   pub has-enough : is_long line ≡ false → HaveEpochsRoom e.reader.columns.value.rooms (compact_epochs choices lines)
-      → expansion_outgrows reading (as_read line) ≡ false → HasRoomInExpansion e line.content
+      → expansion_outgrows reading (as_read line) ≡ false → HasRoomInExpansion e.reader line.content
   has-enough short held none =
       let is = as-read-short line short in
       let both = or_parts (are_types_awaited reading.items) _ (rw is at none) in

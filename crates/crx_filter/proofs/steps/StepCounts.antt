@@ -28,9 +28,10 @@ drained-where : (ready : List (List ℕ)) (result : Result Step At) → (is_read
 drained-where ready result none = grind (arith, common_steps)
 
 module _ {U O K : Type 0} (direction : Direction U O K)
-    (before now : RunState O K) (line : ReadLine) (ready : List (List ℕ)) (result : Result Step At) where
+    (before now : RunState O K) (line : ReadLine) {room : Type 0} (ready : List (List ℕ))
+    (result : Result Step At) where
   -- how many lines were taken after a line
-  pub steps-counted : Steps direction before line result ready now
+  pub steps-counted : Steps direction before line room result ready now
       → IfOk result (λ s. now.number ≡ taken_after s before.number)
   steps-counted (inl step) = counted-result before.number now.number result
       (subst (λ (s : LineStep O K). Counts before.number s.answer s.next.number) (sym step)
@@ -38,7 +39,7 @@ module _ {U O K : Type 0} (direction : Direction U O K)
   steps-counted (inr out) = grind (arith, common_steps, taken_after)
 
   -- lines are borrowed only where they are said to be ready
-  pub steps-drained : Steps direction before line result ready now → IfOk result (λ s. IsDrainedAfter s ready)
+  pub steps-drained : Steps direction before line room result ready now → IfOk result (λ s. IsDrainedAfter s ready)
   steps-drained (inl step) =
       drained-where ready result (quiet-next direction before line (step_made result ready now) step)
   steps-drained (inr out) = grind (arith, common_steps)

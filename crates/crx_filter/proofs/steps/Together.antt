@@ -9,10 +9,10 @@ use Rattle.crx_compact.specs.{Encoding.{EncoderState, forgotten}, Placing.{HasRo
 use Rattle.crx_filter.proofs.steps.RowSteps.{taken-from}
 use Rattle.std.proofs.lemmas.List.Elements.{All-nil, All-push}
 use Rattle.crx_base.specs.declared.limits.TheConstants.{SATELLITES_LIMIT}
-use Rattle.crx_filter.specs.CompactionParts.{BelongTogether, HasRefusedRow, HasWrittenRow}
+use Rattle.crx_filter.specs.CompactionParts.{BelongTogether, HasRefusedRow, HasWholeEpoch, HasWrittenRow}
 use Rattle.crx_filter.specs.{CompactionParts.is_full_where_due, RinexReaders.{BeginsEpoch, RefusesRinexLine}}
-use Rattle.crx_filter.specs.{RinexStages.rows_open, declared.rinex_reader.RinexStep.TheVariants.{Row, Epoch}}
-use Rattle.std.{specs.Prelude.{IfSome, ◌<◌, ◌+◌}}
+use Rattle.crx_filter.specs.{Rooms.HasRoomForRow, RinexStages.rows_open, declared.rinex_reader.RinexStep.TheVariants.{Row, Epoch}}
+use Rattle.std.{specs.Prelude.{◌<◌, ◌+◌}}
 
 -- ---- by the stage
 
@@ -108,7 +108,8 @@ module _ (before mid : RinexReader) (encoder new : EncoderState) (line : List �
 
   -- nothing has changed
   pub row-refused : (fault : Fault) → new ≡ encoder → encoder.pending ≡ []
-      → ((kept : Written) → RefusesRinexLine (made_at before line kept) before line fault)
+      → ((kept : Written) → RefusesRinexLine (made_at before line kept) before line
+      (HasRoomForRow before.types line encoder.rooms → ⊥) fault)
       → HasRefusedRow before encoder line fault mid new
   row-refused fault is none refuses = grind (arith, common_steps, same-together)
 
@@ -116,15 +117,9 @@ module _ (before mid : RinexReader) (encoder new : EncoderState) (line : List �
   pub row-lost : (after : RinexReader) → KeepsRooms encoder.rooms new.rooms
       → new ≡ record (forgotten encoder []) { rooms = new.rooms } → after.types
       ≡ mid.types → is_open_stage after.stage ≡ false → ((kept : Written) → RefusesRinexLine (made_at before
-      line kept) before line OutOfMemory) → HasRefusedRow before encoder line OutOfMemory after new
+      line kept) before line (HasRoomForRow before.types line encoder.rooms → ⊥) OutOfMemory) → HasRefusedRow before encoder line OutOfMemory after new
   row-lost after kept is typed closed refuses =
       grind (arith, common_steps, closed-together, forgotten, served-closed)
-
--- what an epoch's end asks for
-head-counted : (found : Option ObservationHead) (head : ObservationHead) (rows come : List ObservationRow)
-    → found ≡ Some head → length come ≡ head.count → rows ≡ come
-    → IfSome found (λ (h : ObservationHead). length rows ≡ h.count) × (is_some found ≡ true)
-head-counted found head rows come is counted same = grind (arith, common_steps)
 
 -- ---- a row that was taken and written
 
@@ -150,14 +145,15 @@ module _ {before after : RinexReader} {encoder new : EncoderState} {line : List 
         (ap (λ (e : EncoderState). e.rows) row.written) row.held
 
     -- what the epoch's end asks for
-    pub row-asked : is_last ≡ true → (new.is_open ≡ true)
-        × (IfSome after.head (λ h. length new.rows ≡ h.count) × (is_some after.head ≡ true))
+    pub row-asked : is_last ≡ true → HasWholeEpoch after new
     row-asked is =
-        let done = row-ends (record { index = 0; tail = None }) is in (
-          still-open,
-          head-counted after.head done.head new.rows after.rows.rows done.held done.counted
-              (ap (λ (e : EncoderState). e.rows) row.written),
-        )
+        let done = row-ends (record { index = 0; tail = None }) is in
+        record {
+          begun = still-open;
+          head = done.head;
+          held = done.held;
+          counted = ap (λ (e : EncoderState). length e.rows) row.written ∙ done.counted;
+        }
 
 -- ---- the line of an epoch
 
@@ -187,6 +183,12 @@ module _ {made : Made ObservationEpoch OpenEpoch} {line : List ℕ} {before afte
   pub begun-together : is_open_stage after.stage ≡ true → BelongTogether after new
   begun-together opened = grind (arith, common_steps, open-together, begun-rows, begun-holds)
 
-  pub begun-asked : is_open_stage after.stage ≡ false → (new.is_open ≡ true)
-      × (IfSome after.head (λ h. length new.rows ≡ h.count) × (is_some after.head ≡ true))
-  begun-asked closed = grind (arith, common_steps, begun-whole, head-counted, begun-rows)
+  pub begun-asked : is_open_stage after.stage ≡ false → HasWholeEpoch after new
+  begun-asked closed =
+      let done = begun-whole made line before after begins closed in
+      record {
+        begun = ap (λ (e : EncoderState). e.is_open) begun;
+        head = done.head;
+        held = done.held;
+        counted = ap length begun-rows ∙ done.counted;
+      }

@@ -1,7 +1,6 @@
-use Rattle.crx_filter.proofs.{Words.{common_steps, arith, inl, inr, refl, ap, not, ◌∙◌}}
+use Rattle.crx_filter.proofs.{Words.{common_steps, arith, inl, inr, refl, ap, not, ◌∙◌, false≢true}}
 use Rattle.crx_filter.proofs.{steps.Together.{row-lost, rows-few}}
 use Rattle.crx_filter.proofs.steps.Together.{row-known, row-or-epoch, row-refused, row-written, rows-there}
-use Rattle.crx_filter.proofs.{NoMemory.rinex-none, steps.CheckerSteps.nothing_kept}
 use Rattle.std.proofs.lemmas.Result.{err_from_is_err_and}
 use Rattle.crx_filter.proofs.compaction.take_row.Goals as goal
 
@@ -13,12 +12,6 @@ encode_row-requires c = record {
 
 pub returns-in_err-read_row-clause-refused : goal.returns-in_err-read_row-clause-refused
 returns-in_err-read_row-clause-refused c = grind (arith, common_steps, row-refused)
-
-pub returns-in_err-read_row-clause-known : goal.returns-in_err-read_row-clause-known
-returns-in_err-read_row-clause-known c =
-    let p = err_from_is_err_and c.from_residual.result c.from_residual.ensures.1 in
-    λ room. rw (p.1, p.2) (rinex-none c.args.reader.now c.args.line.now nothing_kept _
-    (c.in_err-read_row.ensures.refused nothing_kept))
 
 pub returns-in-Ok-false-clause-refused : goal.returns-in-Ok-false-clause-refused
 returns-in-Ok-false-clause-refused c =
@@ -37,6 +30,7 @@ returns-in-Err-clause-refused c =
     (λ kept. inr (
       refl,
       read.memory (rw (← rows-there _ _ c.requires.together c.requires.open) encoded.forgotten.0),
+      λ room. false≢true (encoded.known.known (rw read.ok at room)),
     ))
 
 pub returns-in-Row-clause-written : goal.returns-in-Row-clause-written
@@ -61,5 +55,4 @@ returns c =
           (encoded.written c.in-Ok-true.field-0-test) took.takes took.steps took.rows
           (row-or-epoch _ took.steps c.in_default.not-Row);
       refused = tt;
-      known = λ room. tt;
     }

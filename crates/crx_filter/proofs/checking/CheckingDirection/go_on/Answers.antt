@@ -3,7 +3,6 @@ use Rattle.crx_filter.proofs.steps.CheckerSteps.{given-after, noted-next}
 use Rattle.crx_filter.proofs.steps.CheckerSteps.{nothing_kept, open-runs, row-counting, rejected-reads}
 use Rattle.crx_filter.proofs.steps.{CheckerSteps.{still-drained, taken-reads}, EngineAnswers.short-line}
 use Rattle.{crx_lines.specs.Reading.{line_shown}, std.proofs.lemmas.Result.err_from_is_err_and}
-use Rattle.crx_filter.proofs.NoMemory.{rinex-none}
 use Rattle.crx_filter.proofs.checking.CheckingDirection.go_on.Goals as goal
 
 pub returns-in_err-step-clause-reads : goal.returns-in_err-step-clause-reads
@@ -13,12 +12,6 @@ returns-in_err-step-clause-reads c =
     rw (← c.self.view_is, p.1, p.2, ← c.bytes.ensures.content) (rejected-reads _ c.self.inside.reader
     c.take_row.new.reader c.self.inside.noted.totals c.bytes.result.now _ _ c.in_err-step.ensures.same
     (c.in_err-step.ensures.refused nothing_kept) (still-drained c.self.inside.handed_out _ _ drained))
-
-pub returns-in_err-step-clause-known : goal.returns-in_err-step-clause-known
-returns-in_err-step-clause-known c =
-    let p = err_from_is_err_and c.from_residual.result c.from_residual.ensures.1 in
-    rw (← c.self.view_is) (λ room. rw (p.1, p.2) (rinex-none c.self.inside.reader c.bytes.result.now nothing_kept _
-    (c.in_err-step.ensures.refused nothing_kept)))
 
 pub note-requires-clause-observed : goal.note-requires-clause-observed
 note-requires-clause-observed c = grind (arith, common_steps, row-counting)

@@ -3,7 +3,6 @@ use Rattle.crx_filter.proofs.steps.CheckerSteps.{nothing_kept, step-counting, st
 use Rattle.crx_filter.proofs.steps.{CheckerSteps.{still-drained, taken-reads}, EngineAnswers.short-line}
 use Rattle.{crx_lines.specs.Reading.{line_shown}, std.proofs.lemmas.Result.err_from_is_err_and}
 use Rattle.std.proofs.Common.{true≢false, sym, ◌∙◌}
-use Rattle.crx_filter.proofs.NoMemory.{rinex-asked}
 use Rattle.crx_filter.proofs.checking.CheckingDirection.take.Goals as goal
 
 pub returns-in_err-step-clause-reads : goal.returns-in_err-step-clause-reads
@@ -12,29 +11,22 @@ returns-in_err-step-clause-reads c =
     let drained = rw (← c.self.view_is) at c.requires.asked.drained in
     let closed = rw (← c.self.view_is) at c.requires.closed in
     rw (← c.self.view_is, p.1, p.2, ← c.bytes.ensures.content) (refused-reads _ c.self.inside.reader
-    c.take.new.self c.self.inside.noted.totals c.bytes.result.now _ _ c.in_err-step.ensures.same closed
-    (c.in_err-step.ensures.refuses nothing_kept) (still-drained c.self.inside.handed_out _ _ drained))
-
-pub returns-in_err-step-clause-known : goal.returns-in_err-step-clause-known
-returns-in_err-step-clause-known c =
-    let p = err_from_is_err_and c.from_residual.result c.from_residual.ensures.1 in
-    let closed = rw (← c.self.view_is) at c.requires.closed in
-    rw (← c.self.view_is) (λ room. rw (p.1, p.2) (rinex-asked c.self.inside.reader c.bytes.result.now nothing_kept _
-    closed (c.in_err-step.ensures.refuses nothing_kept) room))
+    c.take.new.self c.self.inside.noted.totals c.bytes.result.now _ _ c.in_err-step.ensures.reads.same closed
+    (c.in_err-step.ensures.reads.refuses nothing_kept) (still-drained c.self.inside.handed_out _ _ drained))
 
 pub note-requires-clause-observed : goal.note-requires-clause-observed
-note-requires-clause-observed c = step-counting _ _ _ _ _ _ c.in_ok-step.ensures.steps
-    (c.in_ok-step.ensures.takes nothing_kept)
+note-requires-clause-observed c = step-counting _ _ _ _ _ _ c.in_ok-step.ensures.reads.steps
+    (c.in_ok-step.ensures.reads.takes nothing_kept)
 
 pub note-requires-clause-read : goal.note-requires-clause-read
-note-requires-clause-read c is = absurd (true≢false (sym is ∙ c.in_ok-step.ensures.steps))
+note-requires-clause-read c is = absurd (true≢false (sym is ∙ c.in_ok-step.ensures.reads.steps))
 
 pub invariant_of-self-2 : goal.invariant_of-self-2
 invariant_of-self-2 c =
-    let takes = c.in_ok-step.ensures.takes nothing_kept in
+    let takes = c.in_ok-step.ensures.reads.takes nothing_kept in
     let shown = rw c.bytes.ensures.content at takes in
     record {
-      named = λ is_open. step-named _ _ _ _ _ _ c.in_ok-step.ensures.steps takes
+      named = λ is_open. step-named _ _ _ _ _ _ c.in_ok-step.ensures.reads.steps takes
           c.clear_if_begun.ensures.empty is_open;
       observed = c.note.ensures.observed _ _ shown;
       bounded = c.note.ensures.bounded;
@@ -42,7 +34,7 @@ invariant_of-self-2 c =
 
 pub returns-clause-reads : goal.returns-clause-reads
 returns-clause-reads c =
-    let takes = rw c.bytes.ensures.content at (c.in_ok-step.ensures.takes nothing_kept) in
+    let takes = rw c.bytes.ensures.content at (c.in_ok-step.ensures.reads.takes nothing_kept) in
     let drained = rw (← c.self.view_is) at c.requires.asked.drained in
     rw (← c.self.view_is) (taken-reads _ c.self.inside.reader c.take.new.self c.self.inside.noted.totals
     (line_shown c.args.line).content _ c.note.new.self.totals c.in_ok-step.step takes
@@ -51,7 +43,7 @@ returns-clause-reads c =
 pub returns-clause-knows : goal.returns-clause-knows
 returns-clause-knows c =
     let line = line_shown c.args.line in
-    let takes = rw c.bytes.ensures.content at (c.in_ok-step.ensures.takes nothing_kept) in
+    let takes = rw c.bytes.ensures.content at (c.in_ok-step.ensures.reads.takes nothing_kept) in
     let running = rw (← c.self.view_is) at c.requires.running in
     rw (← c.self.view_is) (λ choices lines given known counted. noted-next choices _
     c.self.inside.noted.totals

@@ -1,7 +1,7 @@
 use Rattle.crx_compact.specs.OpenEpochs.{tail_held}
-use Rattle.crx_filter.proofs.{CompactSteps.begun-wants, Words.{rules, sym, subst}}
+use Rattle.crx_filter.proofs.{CompactSteps.{begin-lacks, begun-wants}, Words.{arith, common_steps, rules, sym, subst, ◌≡◌, true}}
 use Rattle.crx_compact.specs.{OpenEpochs.ColumnsState, ReadingRooms.HaveCellsRoom}
-use Rattle.crx_filter.specs.EpochRooms.{rows_held}
+use Rattle.crx_filter.specs.{EpochRooms.rows_held, Rooms.may_begin}
 use Rattle.crx_filter.proofs.compact_reader.CompactReader.begin.Goals as goal
 
 pub invariant_of-self-2 : goal.invariant_of-self-2
@@ -23,3 +23,9 @@ returns-clause-kept c =
 
 pub returns-clause-unprinted : goal.returns-clause-unprinted
 returns-clause-unprinted c block opened = c.begin.ensures.unprinted block
+
+pub returns-in_err-begin-clause-reads : goal.returns-in_err-begin-clause-reads
+returns-in_err-begin-clause-reads c =
+    let self = c.args.self.now in
+    let begins : may_begin self.stage ≡ true = grind (arith, common_steps) in
+    grind (arith, common_steps, begins, begin-lacks _ _ _ _ c.in_err-begin.ensures.rooms)

@@ -1,5 +1,5 @@
 use Rattle.crx_filter.proofs.{Words.begins_epoch, steps.EngineAnswers.as-read-within}
-use Rattle.crx_filter.proofs.steps.EngineFaults.{notes-refused, refused-line}
+use Rattle.crx_filter.proofs.steps.EngineFaults.{after-error, notes-refused, refused-line, refused-stops}
 use Rattle.{crx_filter.specs.declared.stage.Stage.TheVariants.Open, crx_lines.specs.Reading.line_shown}
 use Rattle.std.proofs.Common.{refl, sym, ap, ◌∙◌}
 use Rattle.crx_filter.proofs.engine.Engine.take_line.Goals as goal
@@ -8,15 +8,15 @@ pub returns-in-Err-clause-reads : goal.returns-in-Err-clause-reads
 returns-in-Err-clause-reads g c =
     let d = g.D.Direction in
     let line = line_shown c.args.line in
-    let takes = refused-line d.by_line _ c.self.inside.number _
-    c.in-Err.fault c.begins_epoch.result _ (d.parts c.self.inside.direction) _ _ _ _ _ _
+    let stopped = refused-stops d.by_line _ c.self.inside.number _ _ _ (d.parts c.self.inside.direction) _ _ _ _ _ _ _ _
     (c.fail.ensures.fails Open refl refl) (sym c.in-Open.ensures.value) c.in-Open.ensures.held
-    (sym (c.begins_epoch.ensures.value ∙ ap begins_epoch c.bytes-in-Err.ensures.content))
-    c.in-Err.ensures.reads c.fail.ensures.drained c.fail.ensures.ended c.fail.ensures.options in
+    (sym (c.begins_epoch.ensures.value ∙ ap begins_epoch c.bytes-in-Err.ensures.content)) c.in-Err.ensures.reads in
+    let takes = refused-line d.by_line _ c.self.inside.number _ _ (d.parts c.self.inside.direction) _ _ _ _ _ _ _
+    stopped c.in-Err.ensures.reads in
     rw (← c.self.view_is) (record {
       takes = takes;
       notes = notes-refused d.by_line d.chosen d.state_after_lines _ _ _ _
           (d.knows c.fail.new.self.direction) c.in-Open.ensures.passes
-          (λ lines known. c.fail.ensures.stays _ lines (c.in-Err.ensures.stays _ lines known)) line _ _ _ _
-          c.fail.ensures.refuses (as-read-within line line.content c.args.line.short refl) takes.steps;
+          (λ lines known. c.fail.ensures.stays _ lines (c.in-Err.ensures.stays _ lines known)) line c.in-Err.fault _ _ _ _ _
+          stopped (as-read-within line line.content c.args.line.short refl) takes.steps;
     })

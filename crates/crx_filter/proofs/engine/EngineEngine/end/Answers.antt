@@ -3,7 +3,7 @@ use Rattle.crx_filter.proofs.engine.EngineEngine.end.Goals as goal
 
 pub returns-clause-stepped : goal.returns-clause-stepped
 returns-clause-stepped g c =
-    let stops = c.end.ensures.stops in
+    let stops = c.end.ensures.answers.ends in
     record {
       filter = ap g.D.Direction.filter stops.choices;
       drained = end-drained g.D.Direction.by_line (g.D.Direction.closing c.args.self.now.direction) _

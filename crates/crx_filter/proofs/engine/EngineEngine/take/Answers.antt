@@ -1,4 +1,4 @@
-use Rattle.crx_filter.proofs.{Words.{Content, ap, refl}, steps.EngineAnswers.{engine-answers, as-read-within}}
+use Rattle.crx_filter.proofs.{Words.{Content, ap, refl}, steps.EngineAnswers.{as-read-within, line-answered}}
 use Rattle.crx_filter.proofs.steps.StepCounts.{answers-counted, steps-counted, steps-drained}
 use Rattle.{crx_filter.specs.EngineState.{engine_ready, engine_took}, crx_lines.specs.Reading.line_shown}
 use Rattle.crx_runs.specs.Engines.{lines_handed_out}
@@ -20,12 +20,9 @@ pub returns-clause-answers : goal.returns-clause-answers
 returns-clause-answers g c = λ lines notices shown awaited.
     let d = g.D.Direction in
     let line = line_shown c.args.line in
-    let took = c.take_line.ensures.reads in
-    let goes = c.take_line.ensures.goes in
+    let took = c.take_line.ensures in
     answers-counted (d.filter c.args.self.now.options) (engine_took d c.take_line.new.self) _ _
     (lines_handed_out c.take_line.result line.content (engine_ready d c.take_line.new.self)) lines notices
-    line _ shown.1 (returns-clause-count g c) (engine-answers d c.args.self.now goes
-    c.take_line.new.self lines line (Content line.content)
-    _ c.take_line.ensures.known took.notes took.takes.steps notices took.takes.choices
-    (as-read-within line line.content
-    c.args.line.short refl) shown.0 awaited)
+    line _ shown.1 (returns-clause-count g c) ((line-answered d c.args.self.now took.goes c.take_line.new.self line
+    (Content line.content) _ (as-read-within line line.content c.args.line.short refl) took.reads.notes
+    took.reads.takes).answers lines notices shown.0 awaited)

@@ -2,7 +2,6 @@ use Rattle.crx_filter.proofs.{Words.{common_steps, arith, refl, length}}
 use Rattle.crx_filter.proofs.{steps.{EngineAnswers.as-read-within, EngineFaults.after-error}}
 use Rattle.crx_filter.proofs.steps.ExpansionKnows.{expansion_of, known-if_taken, room-after}
 use Rattle.crx_filter.specs.{CompactReaders.compact_reader_parts, EpochRooms.compact_epochs}
-use Rattle.crx_filter.proofs.NoMemory.{open-is, open-none}
 use Rattle.crx_lines.specs.Reading.{line_shown}
 use Rattle.std.proofs.lemmas.Result.{IfErr-weaker}
 use Rattle.crx_filter.proofs.expansion.ExpansionDirection.go_on.Goals as goal
@@ -27,10 +26,3 @@ pub returns-clause-stays : goal.returns-clause-stays
 returns-clause-stays c = rw (← c.self.view_is) (λ choices lines known. after-error c.go_on.result
     (room-after c.self.inside.reader.columns.value c.go_on.new.self.columns.value (compact_epochs choices lines)
     c.go_on.ensures.kept.rooms c.go_on.ensures.kept.held known))
-
-pub returns-clause-known : goal.returns-clause-known
-returns-clause-known c =
-    let old = c.self.inside.reader in
-    let stage = open-is old.stage (rw (← c.self.view_is) at c.requires.open) in
-    λ room. IfErr-weaker c.go_on.result _ _ (λ fault refused. open-none old c.bytes.result.now
-    fault stage refused) c.go_on.ensures.reads.refuses

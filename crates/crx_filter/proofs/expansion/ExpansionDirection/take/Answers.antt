@@ -16,14 +16,6 @@ invariant_of-self-2 c = c.read_between.ensures.unprinted c.self.inside.lines
 pub invariant_of-self-then-branch : goal.invariant_of-self-then-branch
 invariant_of-self-then-branch c = c.read_between.ensures.unprinted c.self.inside.lines
 
-pub returns-in_err-read_between-clause-known : goal.returns-in_err-read_between-clause-known
-returns-in_err-read_between-clause-known c =
-    let p = err_from_is_err_and c.from_residual.result c.from_residual.ensures.1 in
-    let reader = c.self.inside.reader in
-    rw (← c.self.view_is) (λ has. rw (p.1, p.2) (c.in_err-read_between.ensures.known has.types (λ may.
-    subst (λ (line : List ℕ). HasRoomToBegin reader.types (tail_held reader.columns.value.state) line
-    reader.columns.value.rooms) (sym c.bytes.ensures.content) (has.epoch may))))
-
 pub returns-in_err-read_between-clause-stays : goal.returns-in_err-read_between-clause-stays
 returns-in_err-read_between-clause-stays c =
     rw (← c.self.view_is) (λ choices lines known. after-error c.from_residual.result

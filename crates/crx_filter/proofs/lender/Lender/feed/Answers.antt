@@ -1,60 +1,50 @@
-use Rattle.crx_filter.proofs.Words.{common_steps, arith, refl, Result, ◌≡◌, List, ℕ, At, Content, Steps}
-use Rattle.{crx_base.specs.meaning.Lines.InputLine, crx_filter.proofs.lender.Lender.feed.Given.Over}
-use Rattle.crx_filter.proofs.{lender.Lender.feed.Goals.After-answer_given, steps.EngineAnswers.answers-kept}
-use Rattle.crx_filter.proofs.steps.EngineAnswers.{engine-answers, as-read-within}
-use Rattle.crx_filter.specs.{DirectionParts.EngineParts, EngineState.{EngineGoes, EngineNotes, EngineReads}}
-use Rattle.crx_filter.specs.{EngineState.{RanOutBefore, engine_ready, engine_state}}
-use Rattle.crx_filter.specs.{LenderState.lender_ready, declared.direction.Direction.Ghosts}
-use Rattle.{crx_lines.specs.Reading.line_shown, crx_runs.specs.Engines.{answer_given, lines_handed_out}}
-use Rattle.{crx_runs.specs.declared.engine.{HandedOut.HandedOut, Step.Step}, std.proofs.Common.Option}
+use Rattle.crx_filter.proofs.Words.{common_steps, arith, ◌≡◌, ◌∙◌, ap, refl, sym, List, ℕ, Bool, false, [], None, Some}
+use Rattle.crx_filter.proofs.Words.{Content, Option, if◌then◌else◌}
+use Rattle.crx_filter.proofs.{lender.Lender.feed.{Given.Over, Goals.After-take_line}, steps.EngineAnswers.as-read-within}
+use Rattle.crx_filter.{proofs.steps.EngineAnswers.line-answered, specs.LenderState.lines_then}
+use Rattle.{crx_filter.specs.EngineState.{LineIsAnswered, engine_ready}, crx_lines.specs.Reading.line_shown}
+use Rattle.crx_runs.specs.{Engines.{answer_given, lines_handed_out}, declared.engine.HandedOut.HandedOut}
+use Rattle.crx_runs.specs.declared.engine.HandedOut.TheVariants.{Nothing, Lines, AsItIs}
 use Rattle.crx_filter.proofs.lender.Lender.feed.Goals as goal
 
--- What its engine read, what it answers, and what is pending then.
-reads : (g : Over) (c : After-answer_given g) → EngineReads g.D.Direction c.args.self.now.engine
-    (line_shown c.args.line) c.take_line-handed_out.result c.keep.new.self.engine
-reads g c = rw (← c.self.view_is, c.keep.ensures.engine) c.take_line-handed_out.ensures.reads
-
-given : (g : Over) (c : After-answer_given g)
-    → c.answer_given.result ≡ answer_given c.take_line-handed_out.result c.keep.new.self.engine.answer
-given g c = grind (arith, common_steps)
-
-ready : (g : Over) (c : After-answer_given g) → lender_ready g.D.Direction c.keep.new.self
-    ≡ lines_handed_out c.take_line-handed_out.result (line_shown c.args.line).content
-    (engine_ready g.D.Direction c.keep.new.self.engine)
-ready g c = grind (arith, common_steps)
-
-module _ {D : Type 0} (d : Ghosts D) {before after : EngineParts D} {line : InputLine}
-    {out : Option HandedOut} {result : Result Step At} {pending : List (List ℕ)}
-    (is : result ≡ answer_given out after.answer)
-    (there : pending ≡ lines_handed_out out line.content (engine_ready d after))
-    (took : EngineReads d before line out after) where
-  steps-so : Steps d.by_line (engine_state d before) (Content line.content) result pending
-      (engine_state d after)
-  steps-so = rw (is, there) took.takes.steps
-
-  notes-so : EngineNotes d before line result after
-  notes-so = rw is took.notes
-
-known-so : (g : Over) (c : After-answer_given g)
-    → g.D.Direction.has_room c.args.self.now.engine.direction (line_shown c.args.line).content
-    → RanOutBefore g.D.Direction c.args.self.now.engine c.answer_given.result
-known-so g c = grind (arith, common_steps, given)
-
-pub returns-clause-steps : goal.returns-clause-steps
-returns-clause-steps g c = steps-so g.D.Direction (given g c) (ready g c) (reads g c)
-
-goes : (g : Over) (c : After-answer_given g) → EngineGoes g.D.Direction c.args.self.now.engine
-goes g c = rw (← c.self.view_is) c.take_line-handed_out.ensures.goes
-
-pub returns-clause-answers : goal.returns-clause-answers
-returns-clause-answers g c = λ lines notices taken awaited.
-    let d = g.D.Direction in
-    let took = reads g c in
+-- the line is answered by what it hands out
+fed : (g : Over) (c : After-take_line g) (out : Option HandedOut) → c.take_line.result ≡ out
+    → LineIsAnswered g.D.Direction c.self.inside.engine (line_shown c.args.line) (Content c.args.line.content.now)
+    (answer_given out c.take_line.new.self.answer) (lines_handed_out out c.args.line.content.now
+    (engine_ready g.D.Direction c.take_line.new.self)) c.take_line.new.self
+fed g c out is =
     let line = line_shown c.args.line in
-    engine-answers d c.args.self.now.engine (goes g c) c.keep.new.self.engine lines line
-    (Content line.content) c.answer_given.result (known-so g c) (notes-so d (given g c) (ready g c) took)
-    (steps-so d (given g c) (ready g c) took) notices took.takes.choices
-    (as-read-within line line.content c.args.line.short refl) taken awaited
+    let took = c.take_line.ensures in
+    line-answered g.D.Direction c.self.inside.engine took.goes c.take_line.new.self line (Content line.content)
+    (answer_given out c.take_line.new.self.answer) (as-read-within line line.content c.args.line.short refl)
+    (rw is at took.reads.notes) (rw is at took.reads.takes)
 
-pub returns-clause-by_seen : goal.returns-clause-by_seen
-returns-clause-by_seen g c = grind (arith, common_steps, answers-kept, as-read-within, steps-so)
+-- no line is pending before it
+none-pending : (ready : List (List ℕ)) (is_pending : Bool) (line : List ℕ)
+    → lines_then ready (if is_pending then Some line else None) ≡ [] → is_pending ≡ false
+none-pending ready is_pending line none = grind (arith, common_steps)
+
+not-pending : (g : Over) (c : After-take_line g) → c.self.inside.is_pending ≡ false
+not-pending g c = none-pending _ _ _ (rw (← c.self.view_is) at c.requires.next.drained)
+
+pub returns-in-None-clause-answers : goal.returns-in-None-clause-answers
+returns-in-None-clause-answers g c =
+    let at = (goal.at.returns-in-None-clause-answers g c).After-take_line in
+    rw (← c.self.view_is, not-pending g at, c.answer.ensures.value) (fed g at None c.in-None.is)
+
+pub returns-in-Some-Nothing-clause-answers : goal.returns-in-Some-Nothing-clause-answers
+returns-in-Some-Nothing-clause-answers g c =
+    let at = (goal.at.returns-in-Some-Nothing-clause-answers g c).After-take_line in
+    rw (← c.self.view_is, not-pending g at) (fed g at (Some Nothing) (c.in-Some-Nothing.is ∙ ap (λ o. Some o) c.in-Some-Nothing.field-0-is))
+
+pub returns-in-Some-Lines-clause-answers : goal.returns-in-Some-Lines-clause-answers
+returns-in-Some-Lines-clause-answers g c =
+    let at = (goal.at.returns-in-Some-Lines-clause-answers g c).After-take_line in
+    rw (← c.self.view_is, not-pending g at) (fed g at (Some Lines) (c.in-Some-Lines.is ∙ ap (λ o. Some o) c.in-Some-Lines.field-0-is))
+
+pub returns-in-Some-AsItIs-clause-answers : goal.returns-in-Some-AsItIs-clause-answers
+returns-in-Some-AsItIs-clause-answers g c =
+    let at = (goal.at.returns-in-Some-AsItIs-clause-answers g c).After-take_line in
+    let text : c.append.new.text ≡ c.args.line.content.now = grind (arith, common_steps) in
+    rw (← c.self.view_is, text)
+    (fed g at (Some AsItIs) (c.in-Some-AsItIs.is ∙ ap (λ o. Some o) c.in-Some-AsItIs.field-0-is))

@@ -20,9 +20,6 @@ returns-then-self-announced-clause-takes c = λ line kept read other new.
     (c.if-self-announced.true ∙ c.count-announced.ensures.value)
     (record { types_then = refl; held = c.in-Some.is; rows_then = c.add.ensures.rows }) refl
 
-pub returns-then-self-announced-clause-few : goal.returns-then-self-announced-clause-few
-returns-then-self-announced-clause-few c = search few-rows
-
 pub invariant_of-self : goal.invariant_of-self
 invariant_of-self c = record {
   consistent = refl;
@@ -55,6 +52,3 @@ returns-clause-takes c = λ line kept read other new.
           (record { types_then = refl; held = c.in-Some.is; rows_then = c.add.ensures.rows }) at.stage,
       c.requires.«open»,
     )
-
-pub returns-clause-few : goal.returns-clause-few
-returns-clause-few c = search few-rows
