@@ -1,6 +1,6 @@
 -- What is answered where lines are handed out.
-use Rattle.crx_filter.proofs.Words.{◌≡◌, ℕ, Bool, false, List, [], ReadLine, At, RunState, Direction, Choices}
-use Rattle.crx_filter.proofs.Words.{Count, Notice, LineStep, state_next, is_again, arith, common_steps, None}
+use Rattle.crx_filter.proofs.Words.{◌≡◌, ℕ, false, List, [], ReadLine, RunState, Direction, Choices}
+use Rattle.crx_filter.proofs.Words.{Count, LineStep, state_next, is_again, arith, common_steps, None}
 use Rattle.crx_filter.{proofs.Words.{Made, noticed_by, failed_by, step_of_made}, specs.Laws.is_ready}
 use Rattle.crx_filter.specs.LineByLine.{answer_of_lines, Phase, state_end_with}
 
@@ -34,13 +34,3 @@ module _ {U O K : Type 0} (direction : Direction U O K) (closing : List (List �
   pub quiet-end : (before : RunState O K) → is_ready (state_end_with direction closing before).answer ≡ false
       → (state_end_with direction closing before).handed_out ≡ []
   quiet-end before quiet = grind (arith, common_steps)
-
--- where a fault is skipped, the end is the same whatever it would hand out
-module _ {U O K : Type 0} (direction : Direction U O K) (closing other : List (List ℕ)) (at : At)
-    (again : Bool) (ready : List (List ℕ)) (now : RunState O K) where
-  abbrev pub warned : LineStep O K
-  warned = record { answer = Notice at again; handed_out = ready; next = now }
-
-  pub warned-alike : (before : RunState O K) → warned ≡ state_end_with direction closing before
-      → warned ≡ state_end_with direction other before
-  warned-alike before e = grind (arith, common_steps)

@@ -140,6 +140,19 @@ module _ {U O K : Type 0} (direction : Direction U O K) (chosen : Choices → Ch
       → ComesAfter choices lines line before → knew choices lines → number ≡ length lines + 1
       → IfOk result (λ is_ready. knows choices (with_next lines line))
 
+  -- a direction has taken a line of this number, or refused it, by choices that it serves, and these lines are ready
+  -- then: what it reads; it serves them still; it counts one unit more at most, and none where it refuses the line; and
+  -- what it knew of lines it knows, of this one too where it took it
+  pub record DirectionTakes (served : Choices → Type 0) (before : DirectionParts O K) (number : ℕ) (line : InputLine)
+      (room : Type 0) (result : Result Bool Fault) (ready : List (List ℕ)) (after : DirectionParts O K)
+      (serves : Choices → Bool) (counted count : ℕ) (knew knows : Choices → List InputLine → Type 0)
+      : Type 0 where
+    pub reads : Reads direction served before line.content room result ready after
+    pub serving : (choices : Choices) → served choices → serves choices ≡ true
+    pub counts : CountsOneAtMost result counted count
+    pub notes : KnowsNext before knew knows number line result
+    pub stays : (choices : Choices) (lines : List InputLine) → knew choices lines → OnErr result (knows choices lines)
+
   -- what it knows of the lines that it has taken, it knows of them with this one too, where this one brings nothing
   abbrev pub KnowsStill : DirectionParts O K → (Choices → List InputLine → Type 0) → Type 0
   KnowsStill parts knows = (choices : Choices) (lines : List InputLine) (line : InputLine)

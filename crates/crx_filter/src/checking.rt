@@ -73,25 +73,6 @@ impl Model for Checking {
 }
 
 impl Noted {
-    /// Nothing, before the first line.
-    fn new() -> Noted
-        ensures totals { totals_held result.totals ≡ record { version = []; epochs = 0; events = 0; observations = 0 } }
-        ensures bounded { AreBounded result.totals 0 }
-        ensures standard { result.not_standard ≡ None }
-    {
-        Noted {
-            observed: 0,
-            totals: Totals {
-                version: [b' '; VERSION_WIDTH],
-                epochs: 0,
-                events: 0,
-                observations: 0,
-            },
-            not_standard: None,
-            text: Text::new(),
-        }
-    }
-
     /// Notes a line that the reader has taken: what it adds to the totals, and whether it is standard.
     #[inline(always)]
     #[tactic(auto, using(crate::proofs::Checkers::has_row))]
@@ -234,7 +215,17 @@ impl Direction for Checking {
         Ok(Checking {
             reader: RinexReader::new(alloc),
             names: Identifiers::new(),
-            noted: Noted::new(),
+            noted: Noted {
+                observed: 0,
+                totals: Totals {
+                    version: [b' '; VERSION_WIDTH],
+                    epochs: 0,
+                    events: 0,
+                    observations: 0,
+                },
+                not_standard: None,
+                text: Text::new(),
+            },
             handed_out: REPORT_LINES,
         })
     }
@@ -297,14 +288,5 @@ impl Engine<Checking> {
         ensures value { result ≡ self.now.direction.noted.not_standard }
     {
         self.direction.noted.not_standard
-    }
-}
-
-impl Checker {
-    /// The number of the first line that isn't standard, among the lines so far.
-    pub fn not_standard(&self) -> Option<u64>
-        ensures value { result ≡ self.now.engine.direction.noted.not_standard }
-    {
-        self.engine.not_standard()
     }
 }

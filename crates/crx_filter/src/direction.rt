@@ -9,7 +9,7 @@ ghost use Rattle.crx_base.specs.meaning.Lines.{InputLine, lines_text};
 ghost use Rattle.crx_base.specs.meaning.AsRead.{ReadLine};
 ghost use Rattle.crx_lines.specs.Reading.{line_number, line_shown};
 ghost use Rattle.crx_runs.specs.meaning.Filters.{Filter};
-ghost use Rattle.crx_filter.specs.DirectionParts.{AwaitsLine, CountsOneAtMost, DirectionParts, HasEnough, IsAfterLines, KeepsAllBeside, KnowsNext, KnowsStill, Reads, answer_for, handed_out_by, hands_out, state_by};
+ghost use Rattle.crx_filter.specs.DirectionParts.{AwaitsLine, DirectionParts, DirectionTakes, HasEnough, IsAfterLines, KeepsAllBeside, KnowsStill, answer_for, handed_out_by, hands_out, state_by};
 ghost use Rattle.crx_filter.specs.EngineLaws.{IsLawfulDirection};
 ghost use Rattle.crx_filter.specs.LineByLine.{Direction as DirectionByLine, RunState, answer_of_lines, fault_at_end_in};
 ghost use Rattle.crx_filter.specs.RinexStages.{is_open_stage};
@@ -107,15 +107,10 @@ pub trait Direction: Drop {
     fn go_on(&mut self, line: Line<'_>) -> Result<bool, Fault>
         requires open { is_open_stage (parts self.old).stage ≡ true }
         requires asked { AwaitsLine (ready self.old) (counted self.old) }
-        ensures reads { Reads by_line (λ choices. serves self.old choices ≡ true) (parts self.old)
-            (line_shown line.entry).content (has_room self.old (line_shown line.entry).content) result (ready self.new)
-            (parts self.new) }
-        ensures serves { (choices : Choices) → serves self.old choices ≡ true → serves self.new choices ≡ true }
-        ensures counted { CountsOneAtMost result (counted self.old) (counted self.new) }
-        ensures knows { KnowsNext by_line chosen state_after_lines (parts self.old) (knows self.old)
-            (knows self.new) (line_number line.entry) (line_shown line.entry) result }
-        ensures stays { (choices : Choices) (lines : List InputLine) → knows self.old choices lines
-            → OnErr result (knows self.new choices lines) };
+        ensures takes { DirectionTakes by_line chosen state_after_lines (λ choices. serves self.old choices ≡ true)
+            (parts self.old) (line_number line.entry) (line_shown line.entry) (has_room self.old (line_shown line.entry).content)
+            result (ready self.new) (parts self.new) (serves self.new) (counted self.old) (counted self.new)
+            (knows self.old) (knows self.new) };
 
     /// Takes a line where no epoch is open, and answers what it hands out: a line that is copied, after those
     /// that are ready.
@@ -123,15 +118,10 @@ pub trait Direction: Drop {
         requires running { is_ended (parts self.old).stage ≡ false }
         requires closed { is_open_stage (parts self.old).stage ≡ false }
         requires asked { AwaitsLine (ready self.old) (counted self.old) }
-        ensures reads { Reads by_line (λ choices. choices ≡ options.now) (parts self.old)
-            (line_shown line.entry).content (has_room self.old (line_shown line.entry).content) (hands_out result)
-            (handed_out_by result (line_shown line.entry).content (ready self.new)) (parts self.new) }
-        ensures serves { serves self.new options.now ≡ true }
-        ensures counted { CountsOneAtMost (hands_out result) (counted self.old) (counted self.new) }
-        ensures knows { KnowsNext by_line chosen state_after_lines (parts self.old) (knows self.old)
-            (knows self.new) (line_number line.entry) (line_shown line.entry) (hands_out result) }
-        ensures stays { (choices : Choices) (lines : List InputLine) → knows self.old choices lines
-            → OnErr result (knows self.new choices lines) };
+        ensures takes { DirectionTakes by_line chosen state_after_lines (λ choices. choices ≡ options.now)
+            (parts self.old) (line_number line.entry) (line_shown line.entry) (has_room self.old (line_shown line.entry).content)
+            (hands_out result) (handed_out_by result (line_shown line.entry).content (ready self.new)) (parts self.new)
+            (serves self.new) (counted self.old) (counted self.new) (knows self.old) (knows self.new) };
 
     /// Goes to a stage after a fault, and forgets the epochs before, but not what is noted of lines.
     fn end_with(&mut self, stage: Stage)

@@ -51,18 +51,6 @@ fn append_count(text: &mut Text, letter: u8, count: usize)
     append(text, Buffer::new().format(count).as_bytes());
 }
 
-/// Appends the systems' letters and their counts of types.
-fn append_counts(text: &mut Text, types: &Types)
-    requires { length text.old ≤ 100 }
-    ensures { text.new ≡ text.old ++ flat_map count_text types.now }
-{
-    for index in 0..types.systems() {
-        if let Some((letter, count)) = types.entry(index) {
-            append_count(text, letter, count);
-        }
-    }
-}
-
 /// Replaces a text by the line of the systems and their counts of types.
 fn put_systems(text: &mut Text, types: &Types)
     ensures { text.new ≡ codes "systems" ++ systems_text types.now }
@@ -73,19 +61,10 @@ fn put_systems(text: &mut Text, types: &Types)
         append(text, b" none");
         return;
     }
-    append_counts(text, types);
-}
-
-/// Replaces a text by the line that says whether the file is standard, or names the first line that isn't.
-fn put_standard(text: &mut Text, not_standard: Option<u64>)
-    ensures { text.new ≡ codes "standard" ++ standard_text not_standard }
-{
-    match not_standard {
-        None => {
-            text.clear();
-            append(text, b"standard yes");
+    for index in 0..types.systems() {
+        if let Some((letter, count)) = types.entry(index) {
+            append_count(text, letter, count);
         }
-        Some(number) => put_count(text, b"standard no ", number),
     }
 }
 
@@ -111,7 +90,13 @@ pub fn print_report_line(
         2 => put_count(text, b"epochs ", totals.epochs),
         3 => put_count(text, b"events ", totals.events),
         4 => put_count(text, b"observations ", totals.observations),
-        5 => put_standard(text, not_standard),
+        5 => match not_standard {
+            None => {
+                text.clear();
+                append(text, b"standard yes");
+            }
+            Some(number) => put_count(text, b"standard no ", number),
+        },
         _ => return false,
     }
     true

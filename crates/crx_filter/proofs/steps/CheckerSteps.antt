@@ -15,8 +15,8 @@ use proofs.standard.{CheckEnded.kept-always, CheckLines.{IsReached, Grows, line-
 use proofs.steps.{CompactionSteps.parts_with, EngineAnswers.as-read-short}
 use Rattle.crx_filter.{proofs.steps.Given.given-either, specs.CheckByLine.totals_made}
 use Rattle.crx_filter.specs.{CheckingParts.{AreNamed, is_reading}, CompactionByLine.is_before_header}
-use Rattle.crx_filter.specs.{CompactionByLine.is_next_row, DirectionParts.{DirectionParts, ComesAfter, Reads}}
-use Rattle.crx_filter.specs.{DirectionParts.{brings_nothing, state_by}, LineByLine.Quiet as LineQuiet}
+use Rattle.crx_filter.specs.{CompactionByLine.is_next_row, DirectionParts.{DirectionParts, DirectionTakes, Reads}}
+use Rattle.crx_filter.specs.{DirectionParts.{ComesAfter, brings_nothing, state_by}, LineByLine.Quiet as LineQuiet}
 use Rattle.crx_filter.specs.{Rooms.{HaveTypes, LackTypes}, RinexReaders.RefusesRinexLine, Stages.is_ended, Totals.IsBehindARow}
 use Rattle.crx_filter.specs.{Totals.{IsCounting, totals_held, HasPrinted}, meaning.Directions.fault_so_far}
 use Rattle.crx_filter.specs.meaning.Standard.{Findings, report_lines}
@@ -130,7 +130,7 @@ module _ (serves : Choices → Type 0) (before after : RinexReader) (totals : He
       (parts_with after (totals_held totals))
   refused-reads fault same closed refuses none = grind (arith, common_steps, rejected-reads, in-no-epoch)
 
-  pub taken-reads : {room : Type 0} (then : Held) (step : RinexStep) → IsTaken before content step after
+  taken-reads : {room : Type 0} (then : Held) (step : RinexStep) → IsTaken before content step after
       → AreTotals before content totals then → ready ≡ []
       → Reads check_by_line serves (parts_with before (totals_held totals)) content room (Ok false) ready
       (parts_with after (totals_held then))
@@ -158,7 +158,7 @@ reads-on begun stage reached running = grind (arith, common_steps, false≢true)
 module _ (choices : Choices) (lines : List InputLine) (line : InputLine)
     (parts : DirectionParts OpenEpoch Totals) (given : ComesAfter check_by_line (λ choices. no_choices)
     (λ choices. check_reading) choices lines line parts) where
-  pub given-after : state_by choices (length lines) parts ≡ check_reading (map as_read lines)
+  given-after : state_by choices (length lines) parts ≡ check_reading (map as_read lines)
   given-after = elim (given-either check_by_line (λ choices. check_reading) choices lines line parts given) as
       (λ _. state_by choices (length lines) parts ≡ check_reading (map as_read lines)) [
         | inl same ↦ same
@@ -180,7 +180,7 @@ module _ (choices : Choices) (before : RinexReader) (totals : Held) (lines : Lis
     pub state-there : checker_state_with before (length lines) totals named ≡ check_state lines
     state-there = grind (arith, common_steps, state_in, same-state)
 
-    pub noted-next : (after : RinexReader) (then : Held) (named_then : Option ℕ) (line : InputLine)
+    noted-next : (after : RinexReader) (then : Held) (named_then : Option ℕ) (line : InputLine)
         (step : RinexStep) (number : ℕ) → is_ended before.stage ≡ false → is_long line ≡ false
         → IsTaken before line.content step after → AreTotals before line.content totals then
         → (HasPrinted (made_there before line.content) → named_then ≡ earliest named (is_standard_line line
@@ -192,6 +192,45 @@ module _ (choices : Choices) (before : RinexReader) (totals : Held) (lines : Lis
         named_then line step lines short takes totals_then (standard (has-printed before line.content reading)
         ∙ ap (λ (n : ℕ). earliest named (is_standard_line line (last_line
         (printed_made (made_there before line.content)))) n) counted) state-there).1
+
+-- a check has taken a line that its reader took, and noted it
+pub noted-takes : {served : Choices → Type 0} (before after : RinexReader) (totals then : Held)
+    (named named_then : Option ℕ) (number : ℕ) (line : InputLine) (step : RinexStep) {room : Type 0}
+    (ready : List (List ℕ)) → is_ended before.stage ≡ false → is_long line ≡ false
+    → IsTaken before line.content step after → AreTotals before line.content totals then
+    → (HasPrinted (made_there before line.content) → named_then ≡ earliest named (is_standard_line line
+    (last_line (printed_made (made_there before line.content)))) number) → ready ≡ []
+    → then.epochs + then.events ≤ totals.epochs + totals.events + 1
+    → DirectionTakes check_by_line (λ choices. no_choices) (λ choices. check_reading) served
+    (parts_with before (totals_held totals)) number line room (Ok false) ready (parts_with after (totals_held then))
+    (λ choices. true) (totals.epochs + totals.events) (then.epochs + then.events)
+    (λ choices lines. named ≡ first_not_standard 1 lines (printed_so_far lines))
+    (λ choices lines. named_then ≡ first_not_standard 1 lines (printed_so_far lines))
+noted-takes before after totals then named named_then number line step ready running short takes totals_then
+    standard none counts = record {
+  reads = taken-reads _ before after totals line.content ready then step takes totals_then none;
+  serving = λ choices served. refl;
+  counts = counts;
+  notes = λ choices lines given known counted. noted-next choices before totals lines given.taken_as
+      (given-after choices lines line (parts_with before (totals_held totals)) given) named known after then
+      named_then line step number running short takes totals_then standard counted;
+  stays = λ choices lines known. tt;
+}
+
+-- or has refused a line as its reader did
+pub refused-takes : {served : Choices → Type 0} {before after : DirectionParts OpenEpoch Totals} {number count : ℕ}
+    {line : InputLine} {room : Type 0} {fault : Fault} {ready : List (List ℕ)}
+    {knows : Choices → List InputLine → Type 0}
+    → Reads check_by_line served before line.content room (Err fault) ready after
+    → DirectionTakes check_by_line (λ choices. no_choices) (λ choices. check_reading) served before number line room
+    (Err fault) ready after (λ choices. true) count count knows knows
+refused-takes reads = record {
+  reads = reads;
+  serving = λ choices served. refl;
+  counts = omega arith;
+  notes = λ choices lines given known counted. tt;
+  stays = λ choices lines known. known;
+}
 
 -- ---- names and counts
 

@@ -8,30 +8,32 @@ use proofs.Words.{OpenEpoch, row_of, Choices, types_in_force}
 use proofs.Words.{rinex_reading, Reading, RunState, Made, Completes}
 use proofs.Words.{made_in, state_next, step_of_made, is_again, compaction, compaction_state, rinex_open}
 use proofs.Words.{Written, with_next}
-use proofs.Words.{inl, inr, RinexReader, made_at, reader_phase, MovesReader, Completed}
-use proofs.Words.{CompletedEpoch, FileUnit, HeaderLine, EventLine, EventRecord, epoch_by_rows, Fault}
+use proofs.Words.{RinexReader, made_at, reader_phase, MovesReader}
+use proofs.Words.{CompletedEpoch, Completed, FileUnit, epoch_by_rows, Fault, Bool, None, ◌++◌, common_steps, arith}
+use proofs.Words.{compact_written, written_kept, is_at_every}
 use proofs.Words.{Moves, is_long}
 use proofs.{Words.{LINE_LIMIT, ◌≤◌}, Pending.again-lines}
 use proofs.following.{Collecting.{add_made, given-epochs, given-past}, CompactedOn.as_it_is}
 use proofs.following.CompactedOn.{compaction-collects, epochs_collected}
-use proofs.steps.{CompactionSteps.CompletesEvent, EngineAnswers.{as-read-within, as-read-short}}
+use proofs.steps.CompactionSteps.{AddsHeld, completed-reads, is_first_line, moved-reads, of-copied, refused-read}
+use proofs.Words.{Begun, Nothing, RinexStep, TakesRinexLine, false, is_row}
+use proofs.steps.{EngineAnswers.{as-read-within, as-read-short}, Together.served-closed}
 use proofs.steps.{Enough.{epochs-kept, known-room}, Given.{counts-there, types-there}}
-use Rattle.crx_compact.specs.{Encoding.EncoderState, Placing.{HasRoom, HaveRoom, HaveTypesRoom, KeepsRooms}}
+use Rattle.crx_compact.specs.{Encoding.{EncoderState, EndsEpoch, forgotten}, Placing.{HasRoom, HaveRoom, HaveTypesRoom}}
+use Rattle.crx_compact.specs.Placing.{KeepsRooms}
 use Rattle.crx_filter.specs.CompactionParts.{CompactionState, compaction_line_outgrows, compaction_parts}
-use Rattle.crx_filter.specs.DirectionParts.{ComesAfter, brings_nothing, state_by}
+use Rattle.crx_filter.specs.CompactionParts.{is_full_where_due}
+use Rattle.crx_filter.specs.RinexReaders.{RefusesRinexLine}
+use Rattle.crx_header.specs.meaning.CompactHeader.{lines_before_header}
+use Rattle.crx_filter.specs.DirectionParts.{ComesAfter, DirectionTakes, brings_nothing, state_by}
 use Rattle.crx_filter.specs.{EpochRooms.{HaveEpochsRoom, rinex_epochs}, Rooms.HasRoomForRow}
 use Rattle.crx_filter.specs.{Rooms.HasRoomInCompaction, meaning.Memory.{are_known, are_types_awaited}}
 use Rattle.crx_filter.specs.meaning.Memory.{accepted_epochs, brought_by_row, satellite_of_row, satellites_had}
 use Rattle.crx_filter.specs.declared.compaction.Compaction.TheInside.{Inside as Compaction}
 use Rattle.std.proofs.lemmas.{Bool.{not-false, or_parts}, List.Elements.{All-cons, All-map}}
-use Rattle.std.specs.Prelude.{IfOk, ⊤}
+use Rattle.std.specs.Prelude.{IfOk}
 
 -- ---- the epochs after one line more
-
--- what a line adds has room
-abbrev pub AddsHeld : List (List ℕ × ℕ) → Made Epoch OpenEpoch → Type 0
-AddsHeld rooms (Completes (Observation epoch)) = HaveTypesRoom (satellites_had epoch) rooms
-AddsHeld rooms made = ⊤
 
 all-added : (rooms : List (List ℕ × ℕ)) (epochs : List Epoch) (made : Made Epoch OpenEpoch)
     → AddsHeld rooms made → HaveEpochsRoom rooms epochs → HaveEpochsRoom rooms (add_made as_it_is epochs made)
@@ -46,7 +48,7 @@ module _ (choices : Choices) (lines : List InputLine) (line : InputLine) (before
   state = state_by choices (length lines) (compaction_parts before)
 
   -- after a line that makes this
-  pub knows-next : (rooms : List (List ℕ × ℕ)) (made : Made Epoch OpenEpoch)
+  knows-next : (rooms : List (List ℕ × ℕ)) (made : Made Epoch OpenEpoch)
       → KeepsRooms before.encoder.rooms rooms
       → made_in compaction state.phase state.types state.kept (as_read line) ≡ made
       → is_again (step_of_made compaction state (as_read line) made).answer ≡ false
@@ -118,57 +120,104 @@ compaction_of index reader encoder = record { index = index; reader = reader; en
 abbrev pub kept_in : Compaction → Written
 kept_in inside = record { index = inside.index; tail = inside.encoder.before }
 
-module _ (inside : Compaction) (bytes : List ℕ) (line : InputLine) (short : length line.content ≤ LINE_LIMIT)
-    (content : bytes ≡ line.content) (number : ℕ) (rooms : List (List ℕ × ℕ)) where
-  abbrev before : CompactionState
-  before = compaction_of inside.index inside.reader inside.encoder
+abbrev kept_of : CompactionState → Written
+kept_of c = record { index = c.index; tail = c.encoder.before }
 
+abbrev serves_in : CompactionState → Choices → Bool
+serves_in c choices =
+    is_full_where_due c.reader.stage c.encoder.in_full (is_at_every choices.every c.index)
+
+module _ (served : Choices → Type 0) (room : Type 0) (before after : CompactionState) (line : InputLine)
+    (number : ℕ) where
   abbrev made : Made Epoch OpenEpoch
-  made = made_at inside.reader bytes (kept_in inside)
+  made = made_at before.reader line.content (kept_of before)
 
-  -- there is room then for the epochs of the lines with this one, too
-  abbrev KnowsThen : Type 0
-  KnowsThen = (choices : Choices) (lines : List InputLine) → ComesAfter compaction (λ choices. choices)
-      compaction_state choices lines line (compaction_parts before)
-      → HaveEpochsRoom inside.encoder.rooms (rinex_epochs choices lines)
-      → number ≡ length lines + 1 → HaveEpochsRoom rooms (rinex_epochs choices (with_next lines line))
+  abbrev Takes : Result Bool Fault → List (List ℕ) → Type 0
+  Takes result ready = DirectionTakes compaction (λ cs. cs) compaction_state served (compaction_parts before) number
+      line room result ready (compaction_parts after) (serves_in after) before.index after.index
+      (λ choices lines. HaveEpochsRoom before.encoder.rooms (rinex_epochs choices lines))
+      (λ choices lines. HaveEpochsRoom after.encoder.rooms (rinex_epochs choices lines))
 
-  knows-made : (makes : Made Epoch OpenEpoch) → made ≡ makes → ((s : RunState OpenEpoch Written)
-      → is_again (step_of_made compaction s (as_read line) makes).answer ≡ false)
-      → KeepsRooms inside.encoder.rooms rooms → AddsHeld rooms makes → KnowsThen
-  knows-made makes is once kept adds = λ choices lines given knew counted.
-      knows-next choices lines line before given knew rooms makes kept
-      (ap (made_in compaction (reader_phase inside.reader) inside.reader.types (kept_in inside))
-      (as-read-within line bytes short content) ∙ is)
-      (once (state_by choices (length lines) (compaction_parts before))) adds
+  -- it was refused
+  pub refused-takes : {lacks : Type 0} {fault : Fault} {ready : List (List ℕ)}
+      → RefusesRinexLine made before.reader line.content lacks fault → (lacks → room → ⊥)
+      → after.reader.types ≡ before.reader.types → after.index ≡ before.index
+      → KeepsRooms before.encoder.rooms after.encoder.rooms
+      → ((choices : Choices) → served choices → serves_in after choices ≡ true) → ready ≡ [] → Takes (Err fault) ready
+  refused-takes refuses enough typed counted kept serving none = record {
+    reads = refused-read before.reader after.reader refuses enough typed counted none;
+    serving = serving;
+    counts = omega (arith, counted);
+    notes = λ choices lines given known counted. tt;
+    stays = λ choices lines known. epochs-kept before.encoder.rooms after.encoder.rooms (rinex_epochs choices lines)
+        kept known;
+  }
 
-  -- it completes no unit
-  pub knows-moved : (next : RinexReader) → MovesReader made inside.reader next
-      → KeepsRooms inside.encoder.rooms rooms → KnowsThen
-  knows-moved next moves kept = knows-made (Moves (reader_phase next)) moves.moved (λ s. refl) kept tt
+  module _ (short : length line.content ≤ LINE_LIMIT) (kept : KeepsRooms before.encoder.rooms after.encoder.rooms) where
+    noted : (makes : Made Epoch OpenEpoch) → made ≡ makes → ((s : RunState OpenEpoch Written)
+        → is_again (step_of_made compaction s (as_read line) makes).answer ≡ false)
+        → AddsHeld after.encoder.rooms makes → (choices : Choices) (lines : List InputLine)
+        → ComesAfter compaction (λ cs. cs) compaction_state choices lines line (compaction_parts before)
+        → HaveEpochsRoom before.encoder.rooms (rinex_epochs choices lines) → number ≡ length lines + 1
+        → HaveEpochsRoom after.encoder.rooms (rinex_epochs choices (with_next lines line))
+    noted makes is once adds = λ choices lines given knew counted.
+        knows-next choices lines line before given knew after.encoder.rooms makes kept
+        (ap (made_in compaction (reader_phase before.reader) before.reader.types (kept_of before))
+        (as-read-within line line.content short refl) ∙ is)
+        (once (state_by choices (length lines) (compaction_parts before))) adds
 
-  knows-unit : (unit : FileUnit Epoch) → made ≡ Completes unit
-      → KeepsRooms inside.encoder.rooms rooms → AddsHeld rooms (Completes unit) → KnowsThen
-  knows-unit unit is kept adds =
-      knows-made (Completes unit) is (λ s. again-lines (compaction.written s unit)) kept adds
+    -- it completes no unit
+    pub moved-takes : {ready : List (List ℕ)} → MovesReader made before.reader after.reader
+        → kept_of after ≡ kept_of before
+        → ((choices : Choices) → served choices → serves_in after choices ≡ true) → ready ≡ [] → Takes (Ok false) ready
+    moved-takes moves same serving none = record {
+      reads = moved-reads moves.moved moves.types_then moves.goes_on same none;
+      serving = serving;
+      counts = omega (arith, ap (λ (w : Written). w.index) same);
+      notes = noted (Moves (reader_phase after.reader)) moves.moved (λ s. refl) tt;
+      stays = λ choices lines known. tt;
+    }
 
-  -- it is copied
-  pub knows-header : (next : RinexReader) → Completed made (HeaderLine bytes) inside.reader next
-      → KeepsRooms inside.encoder.rooms rooms → KnowsThen
-  knows-header next done kept = knows-unit (HeaderLine bytes) done.unit_made kept tt
+    -- it completes a unit
+    unit-takes : (unit : FileUnit Epoch) {ready : List (List ℕ)} → Completed made unit before.reader after.reader
+        → AddsHeld after.encoder.rooms (Completes unit) → ((choices : Choices) (number : ℕ) → served choices
+        → (ready ≡ compact_written (state_by choices number (compaction_parts before)) unit)
+        × (kept_of after ≡ written_kept (state_by choices number (compaction_parts before)) unit))
+        → after.index ≤ before.index + 1 → Takes (Ok true) ready
+    unit-takes unit done adds written counted = record {
+      reads = completed-reads unit done.unit_made done.phase_then done.types_then written;
+      serving = λ choices is. served-closed after.reader.stage _ _ done.closed;
+      counts = counted;
+      notes = noted (Completes unit) done.unit_made (λ s. again-lines (compaction.written s unit)) adds;
+      stays = λ choices lines known. tt;
+    }
 
-  pub knows-event : (next : RinexReader) → CompletesEvent made bytes inside.reader next
-      → KeepsRooms inside.encoder.rooms rooms → KnowsThen
-  knows-event next (inl done) kept = knows-unit (EventLine bytes) done.unit_made kept tt
-  knows-event next (inr done) kept = knows-unit (EventRecord bytes) done.unit_made kept tt
+    -- it is copied, and everything is forgotten
+    pub copied-takes : (step : RinexStep) (date : List ℕ) → (step ≡ Nothing → ⊥) → (step ≡ Begun → ⊥)
+        → is_row step ≡ false → TakesRinexLine made before.reader line.content step after.reader
+        → ((choices : Choices) → served choices → choices.date ≡ date)
+        → after.encoder ≡ record (forgotten before.encoder (lines_before_header date (is_first_line step)))
+        { rooms = after.encoder.rooms } → after.index ≡ before.index
+        → Takes (Ok true) (after.encoder.pending ++ line.content ∷ [])
+    copied-takes step date nothing begun row takes dated emptied counted =
+        let copies = of-copied step nothing begun row takes in
+        unit-takes copies.unit copies.done (copies.adds after.encoder.rooms) (λ choices number is.
+        let state = state_by choices number (compaction_parts before) in (
+          ap (λ (e : EncoderState). e.pending ++ line.content ∷ []) emptied
+              ∙ ap (λ d. lines_before_header d (is_first_line step) ++ line.content ∷ []) (sym (dated choices is))
+              ∙ sym (copies.written state refl),
+          (rw (counted, emptied) refl) ∙ sym (copies.kept state),
+        )) (omega (arith, counted))
 
-  -- it completes an epoch, whose rows the encoder had
-  pub knows-epoch : (next : RinexReader) (mid : EncoderState)
-      → CompletedEpoch made bytes inside.reader next → mid.rows ≡ next.rows.rows
-      → HaveRoom mid.rows mid.rooms → KeepsRooms inside.encoder.rooms mid.rooms
-      → rooms ≡ mid.rooms → KnowsThen
-  knows-epoch next mid done rows_are holds kept same = knows-unit
-      (Observation (epoch_by_rows done.head next.rows.rows)) done.is.unit_made
-      (subst (KeepsRooms inside.encoder.rooms) (sym same) kept)
-      (All-map (λ (s : Satellite). HasRoom s.name s.count rooms) satellite_of_row next.rows.rows
-      (rw (same, ← rows_are) holds))
+    -- it completes an epoch, whose rows the encoder had
+    pub ended-takes : (done : CompletedEpoch made line.content before.reader after.reader) (mid : EncoderState)
+        → ((choices : Choices) → served choices → mid.in_full ≡ is_at_every choices.every before.index)
+        → mid.before ≡ before.encoder.before → mid.rows ≡ after.reader.rows.rows → HaveRoom mid.rows after.encoder.rooms
+        → EndsEpoch done.head mid after.encoder → after.index ≡ before.index + 1
+        → Takes (Ok true) after.encoder.pending
+    ended-takes done mid due tail there holds ends counted =
+        unit-takes (Observation (epoch_by_rows done.head after.reader.rows.rows)) done.is
+        (All-map (λ (s : Satellite). HasRoom s.name s.count after.encoder.rooms) satellite_of_row
+        after.reader.rows.rows (rw (← there) holds))
+        (λ choices number chosen. grind (arith, common_steps, epoch_by_rows, due choices chosen))
+        (omega (arith, counted))

@@ -1,16 +1,17 @@
 -- What a compaction makes of a line: a fault, another stage, a line that is copied, or an epoch.
 use Rattle.crx_filter.proofs.Words
 use Words.{common_steps, arith, ◌≡◌, ◌⊎◌, ℕ, ◌+◌, true, false, List, [], Some, None, Ok, Err, ◌++◌, ◌∷◌}
-use Words.{refl, Fault, ObservationEpoch, Bool, OpenEpoch, EventLine, EventRecord, HeaderLine}
-use Words.{FileUnit, epoch_by_rows, Choices, Written, compact_written, compaction, written_kept, Made}
-use Words.{Completes, Moves, phase_after, types_after, phase_of_stage, epoch_open, is_row, made_at, Completed}
-use Words.{CompletedEpoch, TakesRinexLine, is_open_stage, RinexStep, Nothing, Header, Begun, MovesReader}
-use Words.{is_at_every, lines_after_tail, tail_after, reader_phase, RinexReader, ObservationHead}
-use Rattle.crx_compact.specs.Encoding.{EncoderState, EndsEpoch}
+use Words.{refl, ap, sym, ◌∙◌, Fault, ObservationEpoch, Bool, OpenEpoch, EventLine, EventRecord, HeaderLine}
+use Words.{FileUnit, Observation, Choices, Phase, RunState, Written, compact_written, compaction, written_kept}
+use Words.{Made, Completes, Moves, phase_after, types_after, phase_of_stage, epoch_open, is_row, made_at, Completed}
+use Words.{TakesRinexLine, RinexStep, Nothing, Header, Begun, reader_phase, RinexReader, true≢false}
+use Rattle.crx_compact.specs.Placing.{HaveTypesRoom}
 use Rattle.crx_filter.specs.CompactionByLine.{is_before_header}
 use Rattle.crx_filter.specs.DirectionParts.{DirectionParts, Reads, made_at_parts, state_by}
-use Rattle.crx_filter.specs.{RinexReaders.RefusesRinexLine, Stages.is_ended}
+use Rattle.crx_filter.specs.{RinexReaders.RefusesRinexLine, Stages.is_ended, meaning.Memory.satellites_had}
+use Rattle.crx_filter.specs.declared.rinex_reader.RinexStep.TheVariants.{Event, Record}
 use Rattle.crx_header.specs.meaning.CompactHeader.{lines_before_header}
+use Rattle.std.specs.Prelude.{⊤}
 
 -- ---- a line's step, by what it makes
 
@@ -33,6 +34,11 @@ module _ {serves : Choices → Type 0} {before after : DirectionParts OpenEpoch 
 
 -- ---- a line's step, by the reader
 
+-- what a line adds has room
+abbrev pub AddsHeld : List (List ℕ × ℕ) → Made ObservationEpoch OpenEpoch → Type 0
+AddsHeld rooms (Completes (Observation epoch)) = HaveTypesRoom (satellites_had epoch) rooms
+AddsHeld rooms made = ⊤
+
 -- what is there between two lines, by the reader and what is kept of the epochs
 abbrev pub parts_with : {K : Type 0} → RinexReader → K → DirectionParts OpenEpoch K
 parts_with reader kept =
@@ -46,47 +52,39 @@ pub refused-read : {serves : Choices → Type 0} (before after : RinexReader) {k
     serves (parts_with before kept) line room (Err fault) ready (parts_with after now)
 refused-read before after known enough typed counted none = grind (arith, common_steps)
 
-module _ {serves : Choices → Type 0} {before after : RinexReader} {kept : Written} {line : List ℕ}
-    {room : Type 0} where
-  pub moved-read : {ready : List (List ℕ)} → MovesReader (made_at before line kept) before after → ready ≡ []
-      → Reads compaction serves (parts_with before kept) line room (Ok false) ready (parts_with after kept)
-  moved-read moves none = moved-reads moves.moved moves.types_then moves.goes_on refl none
+-- whether a line is the header's first one, before which others are written
+abbrev pub is_first_line : RinexStep → Bool
+is_first_line (Header is_first) = is_first
+is_first_line step = false
 
-  module _ (done : CompletedEpoch (made_at before line kept) line before after) where
-    -- an epoch's lines are ready, whose rows the encoder had
-    pub ended-read : (rows ended : EncoderState) → ((choices : Choices) → serves choices → rows.in_full
-        ≡ is_at_every choices.every kept.index) → rows.before ≡ kept.tail → rows.rows ≡ after.rows.rows
-        → ((head : ObservationHead) → after.head ≡ Some head → EndsEpoch head rows ended) → Reads compaction serves
-        (parts_with before kept) line room (Ok true) ended.pending (parts_with after
-        (record { index = kept.index + 1; tail = ended.before }))
-    ended-read rows ended due tail there ends =
-        grind (arith, common_steps, completed-reads, epoch_by_rows, ends done.head done.held)
+-- a line completes a unit that is copied
+pub record CopiesLine (made : Made ObservationEpoch OpenEpoch) (line : List ℕ) (is_first : Bool)
+    (before after : RinexReader) : Type 0 where
+  pub unit : FileUnit ObservationEpoch
+  pub done : Completed made unit before after
+  pub written : (state : RunState OpenEpoch Written) → state.phase ≡ reader_phase before
+      → compact_written state unit ≡ lines_before_header state.choices.date is_first ++ line ∷ []
+  pub kept : (state : RunState OpenEpoch Written)
+      → written_kept state unit ≡ record { index = state.kept.index; tail = None }
+  pub adds : (rooms : List (List ℕ × ℕ)) → AddsHeld rooms (Completes unit)
 
--- a line that is copied: of the header, or of an event
-pub header-read : {chosen : Choices} {before after : RinexReader} {kept : Written} {line : List ℕ}
-    {room : Type 0} {lines : List (List ℕ)} → Completed (made_at before line kept) (HeaderLine line) before after
-    → lines ≡ lines_before_header chosen.date (is_before_header (reader_phase before)) ++ line ∷ []
-    → Reads compaction (λ choices. choices ≡ chosen) (parts_with before kept) line room (Ok true) lines
-    (parts_with after (record { index = kept.index; tail = None }))
-header-read {line = line} done written = completed-reads (HeaderLine line) done.unit_made done.phase_then
-    done.types_then (λ choices number same. (rw same written, refl))
+-- as one does that was taken and is none of an epoch
+pub of-copied : {made : Made ObservationEpoch OpenEpoch} {before after : RinexReader} {line : List ℕ}
+    (step : RinexStep) → (step ≡ Nothing → ⊥) → (step ≡ Begun → ⊥) → is_row step ≡ false
+    → TakesRinexLine made before line step after → CopiesLine made line (is_first_line step) before after
+of-copied {line = line} (Header is_first) nothing begun row takes = record {
+  unit = HeaderLine line;
+  done = takes.0;
+  written = λ state is. ap (λ b. lines_before_header state.choices.date b ++ line ∷ [])
+      (ap (λ (p : Phase OpenEpoch). is_before_header p) is ∙ sym takes.1);
+  kept = λ state. refl;
+  adds = λ rooms. tt;
+}
+of-copied {line = line} Event nothing begun row takes =
+    record { unit = EventLine line; done = takes; written = λ state is. refl; kept = λ state. refl; adds = λ rooms. tt }
+of-copied {line = line} Record nothing begun row takes =
+    record { unit = EventRecord line; done = takes; written = λ state is. refl; kept = λ state. refl; adds = λ rooms. tt }
+of-copied step nothing begun row takes = grind (arith, common_steps, true≢false)
 
-abbrev pub CompletesEvent : Made ObservationEpoch OpenEpoch → List ℕ → RinexReader → RinexReader → Type 0
-CompletesEvent made line before after =
-    Completed made (EventLine line) before after ⊎ Completed made (EventRecord line) before after
-
-pub event-read : {serves : Choices → Type 0} {before after : RinexReader} {kept : Written} {line : List ℕ}
-    {room : Type 0} → CompletesEvent (made_at before line kept) line before after → Reads compaction serves (parts_with before
-    kept) line room (Ok true) (line ∷ []) (parts_with after (record { index = kept.index; tail = None }))
-event-read {line = line} e = grind (arith, common_steps, completed-reads)
-
-pub event-closed : {made : Made ObservationEpoch OpenEpoch} {line : List ℕ} {before after : RinexReader}
-    → CompletesEvent made line before after → is_open_stage after.stage ≡ false
-event-closed done = grind (arith, common_steps)
-
--- a line that was taken and is none of the header, nor of an epoch, is of an event
-pub of-event : {made : Made ObservationEpoch OpenEpoch} {before after : RinexReader} {line : List ℕ}
-    (step : RinexStep) → is_row step ≡ false → (step ≡ Nothing → ⊥) → (step ≡ Begun → ⊥)
-    → ((is_first : Bool) → step ≡ Header is_first → ⊥) → TakesRinexLine made before line step after
-    → CompletesEvent made line before after
-of-event step row nothing begun header takes = grind (arith, common_steps)
+pub not-first : (step : RinexStep) → ((is_first : Bool) → step ≡ Header is_first → ⊥) → is_first_line step ≡ false
+not-first step none = grind (arith, common_steps)

@@ -18,10 +18,6 @@ use Rattle.std.specs.Prelude.{◌||◌, if◌then◌else◌}
 
 -- ---- rooms that are kept
 
-pub rooms-later : (before mid after : List (List ℕ × ℕ)) → KeepsRooms before mid → KeepsRooms mid after
-    → KeepsRooms before after
-rooms-later before mid after one two = λ name count has. two name count (one name count has)
-
 abbrev HasRoomIn : List (List ℕ × ℕ) → Satellite → Type 0
 HasRoomIn rooms satellite = HasRoom satellite.name satellite.count rooms
 

@@ -8,17 +8,19 @@ use proofs.Words.{tail_of_items, Completes, made_in, RunState, state_next, step_
 use proofs.Words.{false-true, All, All-cons, Phase, LineStep, begins_epoch, past_of_line, Past, kept_in}
 use proofs.Words.{phase_of_stage, is_long, compact_open, phase_of, RawEpoch, Result, Ok, Err, ◌+◌}
 use proofs.Words.{ReadEpoch, Made, is_again, Count, epoch_begun, satellites_of_line, none-some}
-use proofs.{Words.Reading, following.{Collecting.{add_made, given-epochs, given-past}, ExpandedOn.phase_by}}
+use proofs.{Words.{LINE_LIMIT, Reading, ◌≤◌}, following.{Collecting.{add_made, given-epochs, given-past}, ExpandedOn.phase_by}}
 use proofs.following.ExpandedOn.{satellites_expanded, expansion-collects, of_held}
-use proofs.steps.{EngineAnswers.as-read-short, Enough.{epochs-kept, known-room}, Given.counts-there}
+use proofs.steps.{EngineAnswers.{as-read-short, as-read-within}, EngineFaults.after-error, Enough.{epochs-kept, known-room}, Given.counts-there}
 use proofs.steps.{Given.{given-either, types-there}, HeldRows.{all-made, rows-of_types, satellites-before}}
 use proofs.steps.HeldRows.{types-of_rows}
 use Rattle.crx_compact.{proofs.reading.RawTailing.line-left, specs.HeldRows.past_of_tail}
 use Rattle.crx_compact.specs.OpenEpochs.{ColumnsState, HeldEpoch, Idle, Reading as ReadingOn, opened_raw, rows_before}
 use Rattle.crx_compact.specs.OpenEpochs.{tail_for_line, tail_held}
 use Rattle.crx_compact.specs.{Placing.{HaveTypesRoom, KeepsRooms}, ReadingRooms.{HaveCellsRoom, HeldColumns}}
-use Rattle.crx_filter.specs.DirectionParts.{DirectionParts, ComesAfter, answer_for, brings_nothing, state_by}
-use Rattle.crx_filter.specs.{ExpansionParts.expansion_parts, EpochRooms.{HaveEpochsRoom, HaveHeldRoom, HaveRoomInColumns, compact_epochs}}
+use Rattle.crx_filter.specs.DirectionParts.{DirectionParts, DirectionTakes, ComesAfter, answer_for, brings_nothing}
+use Rattle.crx_filter.specs.{CompactReaders.{ReadsCompactLine, compact_reader_parts}, DirectionParts.state_by}
+use Rattle.crx_filter.specs.{ExpansionParts.expansion_parts, EpochRooms.{HaveEpochsRoom, HaveHeldRoom, HaveRoomInColumns, KeepsRoomInColumns}}
+use Rattle.crx_filter.specs.EpochRooms.{compact_epochs}
 use Rattle.crx_filter.specs.{EpochRooms.rows_held, Rooms.{HasRoomInExpansion}}
 use Rattle.crx_filter.specs.Rooms.{HasRoomToBegin, may_begin, do_types_count}
 use Rattle.crx_filter.specs.{ExpansionParts.ExpansionState as Expansion}
@@ -63,7 +65,7 @@ expansion_of reader lines = record { reader = reader; lines = lines }
 
 -- ---- what stays
 
-pub room-after : (old new : HeldColumns) (epochs : List ObservationEpoch) → KeepsRooms old.rooms new.rooms
+room-after : (old new : HeldColumns) (epochs : List ObservationEpoch) → KeepsRooms old.rooms new.rooms
     → (HaveHeldRoom old → HaveHeldRoom new) → HaveRoomInColumns old epochs → HaveRoomInColumns new epochs
 room-after old new epochs kept held has = (epochs-kept old.rooms new.rooms epochs kept has.0, held has.1)
 
@@ -190,21 +192,19 @@ module _ (e : Expansion) (choices : Choices) (lines : List InputLine) (line : In
             (not-false _ both.1));
       }
 
-  -- what is known then of a line that was taken or refused
-  pub known-if_taken : (parts after : DirectionParts OpenRawEpoch (Option Tail)) (text : List ℕ)
-      (result : Result Bool Fault) (ready : List (List ℕ)) (columns : HeldColumns)
-      → parts ≡ expansion_parts e → as_read line ≡ Content text → IfOk result (λ b. record {
+  -- what is known then of a line that was taken
+  known-if_taken : (after : DirectionParts OpenRawEpoch (Option Tail)) (result : Result Bool Fault)
+      (ready : List (List ℕ)) (columns : HeldColumns) → as_read line ≡ Content line.content → IfOk result (λ b. record {
         answer = answer_for b;
         handed_out = ready;
         next = state_by choices (length lines + 1) after;
-      } ≡ state_next expansion (state_by choices (length lines) parts) (Content text))
+      } ≡ state_next expansion now (Content line.content))
       → after.kept ≡ tail_held columns.state → HaveRoomInColumns columns (compact_epochs choices lines)
       → IfOk result (λ b. HaveRoomInColumns columns (compact_epochs choices (with_next lines line)))
-  known-if_taken parts after text (Err fault) ready columns same is step kept held = tt
-  known-if_taken parts after text (Ok b) ready columns same is step kept held =
+  known-if_taken after (Err fault) ready columns is step kept held = tt
+  known-if_taken after (Ok b) ready columns is step kept held =
       let made = made_in expansion now.phase now.types now.kept (as_read line) in
-      let taken = step ∙ ap (λ (p : DirectionParts OpenRawEpoch (Option Tail)). state_next expansion
-      (state_by choices (length lines) p) (Content text)) same ∙ ap (state_next expansion now) (sym is) in (
+      let taken = step ∙ ap (state_next expansion now) (sym is) in (
         epochs-of_found choices (with_next lines line) columns.rooms
             (subst (HaveRoomAgain columns.rooms) (sym (given-epochs expansion of_held expansion_state choices
             (satellites_expanded choices) (expansion-collects choices) lines line (expansion_parts e) given
@@ -214,3 +214,31 @@ module _ (e : Expansion) (choices : Choices) (lines : List InputLine) (line : In
             (found-of_epochs choices lines columns.rooms held.0))),
         held.1,
       )
+
+-- a reader's answer to a line is that of an expansion
+pub reader-takes : (old new : CompactReader) (block : PendingLines) {served : Choices → Type 0} (number : ℕ)
+    (line : InputLine) (result : Result Bool Fault) (ready : List (List ℕ)) → length line.content ≤ LINE_LIMIT
+    → ReadsCompactLine old line.content result ready new → KeepsRoomInColumns old.columns.value new.columns.value
+    → DirectionTakes expansion (λ cs. cs) expansion_state served (compact_reader_parts old) number line
+    (HasRoomInExpansion old line.content) result ready (compact_reader_parts new) (λ choices. true) 0 0
+    (λ choices lines. HaveRoomInColumns old.columns.value (compact_epochs choices lines))
+    (λ choices lines. HaveRoomInColumns new.columns.value (compact_epochs choices lines))
+reader-takes old new block number line result ready short reads kept =
+    let later = λ (epochs : List ObservationEpoch). room-after old.columns.value new.columns.value epochs kept.rooms
+    kept.held in
+    record {
+      reads = record {
+        takes = λ choices number served. reads.takes choices number tt;
+        refuses = reads.refuses;
+        types = reads.types;
+        kept = reads.kept;
+        nothing = reads.nothing;
+      };
+      serving = λ choices served. refl;
+      counts = grind (arith, common_steps);
+      notes = λ choices lines given known counted. known-if_taken (expansion_of old block) choices lines line given
+          (compact_reader_parts new) result ready new.columns.value
+          (as-read-within line line.content short refl) (reads.takes choices (length lines) tt) refl
+          (later (compact_epochs choices lines) known);
+      stays = λ choices lines known. after-error result (later (compact_epochs choices lines) known);
+    }

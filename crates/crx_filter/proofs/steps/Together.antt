@@ -31,6 +31,12 @@ pub due-there : (s : Stage) (in_full due : Bool) → is_open_stage s ≡ true
     → is_full_where_due s in_full due ≡ true → in_full ≡ due
 due-there s in_full due e f = grind (arith, common_steps, false≢true)
 
+-- one that stays open is what it was
+pub still-served : (was s : Stage) (was_full in_full due : Bool) → is_open_stage was ≡ true → is_open_stage s ≡ true
+    → in_full ≡ was_full → is_full_where_due was was_full due ≡ true → is_full_where_due s in_full due ≡ true
+still-served was s was_full in_full due opened opens same served =
+    served-open s in_full due (same ∙ due-there was was_full due opened served)
+
 -- ---- together
 
 -- no epoch is open

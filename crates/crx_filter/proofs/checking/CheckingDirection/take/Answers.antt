@@ -1,18 +1,18 @@
-use Rattle.crx_filter.proofs.steps.CheckerSteps.{given-after, noted-next}
+use Rattle.crx_filter.proofs.steps.CheckerSteps.{noted-takes, refused-takes}
 use Rattle.crx_filter.proofs.steps.CheckerSteps.{nothing_kept, step-counting, step-named, refused-reads}
-use Rattle.crx_filter.proofs.steps.{CheckerSteps.{still-drained, taken-reads}, EngineAnswers.short-line}
+use Rattle.crx_filter.proofs.steps.{CheckerSteps.still-drained, EngineAnswers.short-line}
 use Rattle.{crx_lines.specs.Reading.{line_shown}, std.proofs.lemmas.Result.err_from_is_err_and}
 use Rattle.std.proofs.Common.{true≢false, sym, ◌∙◌}
 use Rattle.crx_filter.proofs.checking.CheckingDirection.take.Goals as goal
 
-pub returns-in_err-step-clause-reads : goal.returns-in_err-step-clause-reads
-returns-in_err-step-clause-reads c =
+pub returns-in_err-step : goal.returns-in_err-step
+returns-in_err-step c =
     let p = err_from_is_err_and c.from_residual.result c.from_residual.ensures.1 in
     let drained = rw (← c.self.view_is) at c.requires.asked.drained in
     let closed = rw (← c.self.view_is) at c.requires.closed in
-    rw (← c.self.view_is, p.1, p.2, ← c.bytes.ensures.content) (refused-reads _ c.self.inside.reader
+    rw (← c.self.view_is, p.1, p.2, ← c.bytes.ensures.content) (record { takes = refused-takes (refused-reads _ c.self.inside.reader
     c.take.new.self c.self.inside.noted.totals c.bytes.result.now _ _ c.in_err-step.ensures.reads.same closed
-    (c.in_err-step.ensures.reads.refuses nothing_kept) (still-drained c.self.inside.handed_out _ _ drained))
+    (c.in_err-step.ensures.reads.refuses nothing_kept) (still-drained c.self.inside.handed_out _ _ drained)) })
 
 pub note-requires-clause-observed : goal.note-requires-clause-observed
 note-requires-clause-observed c = step-counting _ _ _ _ _ _ c.in_ok-step.ensures.reads.steps
@@ -32,21 +32,14 @@ invariant_of-self-2 c =
       bounded = c.note.ensures.bounded;
     }
 
-pub returns-clause-reads : goal.returns-clause-reads
-returns-clause-reads c =
+pub returns : goal.returns
+returns c =
+    let line = line_shown c.args.line in
+    let was = c.self.inside in
     let takes = rw c.bytes.ensures.content at (c.in_ok-step.ensures.reads.takes nothing_kept) in
     let drained = rw (← c.self.view_is) at c.requires.asked.drained in
-    rw (← c.self.view_is) (taken-reads _ c.self.inside.reader c.take.new.self c.self.inside.noted.totals
-    (line_shown c.args.line).content _ c.note.new.self.totals c.in_ok-step.step takes
-    (c.note.ensures.totals _ _ takes) (still-drained c.self.inside.handed_out _ _ drained))
-
-pub returns-clause-knows : goal.returns-clause-knows
-returns-clause-knows c =
-    let line = line_shown c.args.line in
-    let takes = rw c.bytes.ensures.content at (c.in_ok-step.ensures.reads.takes nothing_kept) in
     let running = rw (← c.self.view_is) at c.requires.running in
-    rw (← c.self.view_is) (λ choices lines given known counted. noted-next choices _
-    c.self.inside.noted.totals
-    lines given.taken_as (given-after choices lines line _ given) _ known _ c.note.new.self.totals _ line _ _
-    running (short-line line c.args.line.short) takes (c.note.ensures.totals _ _ takes)
-    (c.note.ensures.standard _ _ takes) counted)
+    rw (← c.self.view_is) (record { takes = noted-takes was.reader c.take.new.self was.noted.totals
+        c.note.new.self.totals _ _ _ line c.in_ok-step.step _ running (short-line line c.args.line.short) takes
+        (c.note.ensures.totals _ _ takes) (c.note.ensures.standard _ _ takes)
+        (still-drained was.handed_out _ _ drained) c.note.ensures.count })

@@ -1,29 +1,40 @@
-use Rattle.crx_filter.proofs.Words.{common_steps, arith, ap, ◌∙◌, None}
-use Rattle.crx_compact.specs.Encoding.{EncoderState}
-use Rattle.crx_filter.proofs.steps.{CompactionKnows.{knows-epoch, knows-moved}, CompactionSteps.ended-read}
-use Rattle.crx_filter.proofs.steps.{CompactionSteps.{moved-read, refused-read}, Together.closed-together}
-use Rattle.crx_filter.proofs.steps.Together.{due-there, row-asked, row-closed, row-ends, row-moves}
-use Rattle.crx_filter.proofs.steps.Together.{row-together, served-closed}
-use Rattle.crx_lines.specs.Reading.{line_shown}
+use Rattle.crx_filter.proofs.Words.{ap, refl, sym, subst, ◌+◌, ◌∙◌, None}
+use Rattle.crx_compact.specs.{Encoding.EncoderState, Placing.{HaveRoom, KeepsRooms}}
+use Rattle.crx_filter.proofs.steps.CompactionKnows.{compaction_of, ended-takes, kept_in, moved-takes, refused-takes}
+use Rattle.crx_filter.proofs.steps.Together.{closed-together, due-there, row-asked, row-closed, row-ends, row-moves}
+use Rattle.crx_filter.proofs.steps.Together.{row-together, still-served}
+use Rattle.{crx_lines.specs.Reading.line_shown, std.proofs.lemmas.Result.err_from_is_err_and}
 use Rattle.crx_filter.proofs.compaction.CompactionDirection.go_on.Goals as goal
 
-pub returns-in_err-is_last-clause-reads : goal.returns-in_err-is_last-clause-reads
-returns-in_err-is_last-clause-reads c = grind (arith, common_steps, refused-read)
-
-pub returns-in_err-is_last-clause-serves : goal.returns-in_err-is_last-clause-serves
-returns-in_err-is_last-clause-serves c = grind (arith, common_steps)
+pub returns-in_err-is_last : goal.returns-in_err-is_last
+returns-in_err-is_last c =
+    let p = err_from_is_err_and c.from_residual.result c.from_residual.ensures.1 in
+    let was = c.self.inside in
+    let opened = rw (← c.self.view_is) at c.requires.open in
+    let row = rw c.bytes.ensures.content at c.in_err-is_last.ensures.refused in
+    rw (← c.self.view_is, p.1, p.2) (record { takes = refused-takes _ _ (compaction_of was.index was.reader was.encoder)
+        (compaction_of was.index c.take_row.new.reader c.take_row.new.encoder) (line_shown c.args.line) _
+        (row.refuses (kept_in was)) (λ lacks room. lacks (room.row opened)) row.types refl row.kept
+        (λ choices chosen. row.full _ chosen) row.nothing })
 
 pub invariant_of-self-then-not-is_last : goal.invariant_of-self-then-not-is_last
 invariant_of-self-then-not-is_last c =
     let opened = rw (← c.self.view_is) at c.requires.open in
     row-together c.in_ok-is_last.ensures.written c.self.invariant opened c.if-not-is_last.true
 
-pub returns-then-not-is_last-clause-reads : goal.returns-then-not-is_last-clause-reads
-returns-then-not-is_last-clause-reads c =
+pub returns-then-not-is_last : goal.returns-then-not-is_last
+returns-then-not-is_last c =
+    let was = c.self.inside in
+    let opened = rw (← c.self.view_is) at c.requires.open in
     let drained = rw (← c.self.view_is) at c.requires.asked.drained in
-    let row = c.in_ok-is_last.ensures.written in
-    rw (← c.self.view_is, row.written, ← c.bytes.ensures.content) (moved-read (row-moves row _
-    c.if-not-is_last.true).0 drained)
+    let row = rw c.bytes.ensures.content at c.in_ok-is_last.ensures.written in
+    let moves = row-moves row (kept_in was) c.if-not-is_last.true in
+    rw (← c.self.view_is) (record { takes = moved-takes _ _ (compaction_of was.index was.reader was.encoder)
+        (compaction_of was.index c.take_row.new.reader c.take_row.new.encoder) (line_shown c.args.line) _
+        c.args.line.short row.kept moves.0
+        (ap (λ (e : EncoderState). record { index = was.index; tail = e.before }) row.written)
+        (λ choices chosen. still-served _ _ _ _ _ opened moves.1 (ap (λ (e : EncoderState). e.in_full) row.written) chosen)
+        (ap (λ (e : EncoderState). e.pending) row.written ∙ drained) })
 
 pub end_epoch-requires : goal.end_epoch-requires
 end_epoch-requires c =
@@ -37,31 +48,16 @@ invariant_of-self-2 c =
     let ends = c.end_epoch.ensures.ends done.head done.held in
     closed-together _ _ (row-closed row c.if-not-is_last.false) ends.closed ends.rows
 
-pub returns-clause-reads : goal.returns-clause-reads
-returns-clause-reads c =
+pub returns : goal.returns
+returns c =
+    let was = c.self.inside in
     let opened = rw (← c.self.view_is) at c.requires.open in
-    let row = c.in_ok-is_last.ensures.written in
-    rw (← c.self.view_is, ← c.bytes.ensures.content) (ended-read (row-ends row _ c.if-not-is_last.false)
-    c.take_row.new.encoder c.end_epoch.new.encoder
-    (λ choices chosen. ap (λ (e : EncoderState). e.in_full) row.written ∙ due-there _ _ _ opened chosen)
-    (ap (λ (e : EncoderState). e.before) row.written) (ap (λ (e : EncoderState). e.rows) row.written)
-    c.end_epoch.ensures.ends)
-
-pub returns-clause-serves : goal.returns-clause-serves
-returns-clause-serves c = λ choices is. served-closed _ _ _
-    (row-closed c.in_ok-is_last.ensures.written c.if-not-is_last.false)
-
-pub returns-then-not-is_last-clause-knows : goal.returns-then-not-is_last-clause-knows
-returns-then-not-is_last-clause-knows c =
-    let row = c.in_ok-is_last.ensures.written in
-    rw (← c.self.view_is) (knows-moved c.self.inside _ (line_shown c.args.line) c.args.line.short
-    c.bytes.ensures.content _ c.take_row.new.encoder.rooms c.take_row.new.reader
-    (row-moves row _ c.if-not-is_last.true).0 row.kept)
-
-pub returns-clause-knows : goal.returns-clause-knows
-returns-clause-knows c =
-    let row = c.in_ok-is_last.ensures.written in
-    let done = row-ends row _ c.if-not-is_last.false in
-    rw (← c.self.view_is) (knows-epoch c.self.inside _ (line_shown c.args.line) c.args.line.short
-    c.bytes.ensures.content _ c.end_epoch.new.encoder.rooms c.take_row.new.reader c.take_row.new.encoder done
-    (ap (λ (e : EncoderState). e.rows) row.written) row.held row.kept (c.end_epoch.ensures.ends _ done.held).rooms)
+    let row = rw c.bytes.ensures.content at c.in_ok-is_last.ensures.written in
+    let done = row-ends row (kept_in was) c.if-not-is_last.false in
+    let ends = c.end_epoch.ensures.ends done.head done.held in
+    rw (← c.self.view_is) (record { takes = ended-takes _ _ (compaction_of was.index was.reader was.encoder)
+        (compaction_of (was.index + 1) c.take_row.new.reader c.end_epoch.new.encoder) (line_shown c.args.line) _
+        c.args.line.short (subst (KeepsRooms was.encoder.rooms) (sym ends.rooms) row.kept) done c.take_row.new.encoder
+        (λ choices chosen. ap (λ (e : EncoderState). e.in_full) row.written ∙ due-there _ _ _ opened chosen)
+        (ap (λ (e : EncoderState). e.before) row.written) (ap (λ (e : EncoderState). e.rows) row.written)
+        (subst (HaveRoom c.take_row.new.encoder.rows) (sym ends.rooms) row.held) ends refl })

@@ -1,49 +1,65 @@
-use Rattle.crx_filter.proofs.Words.{common_steps, arith, ap, sym, ◌∙◌, Choices}
-use Rattle.{crx_filter.proofs.Words.{is_at_every}, crx_compact.specs.Encoding.EncoderState}
-use Rattle.crx_filter.proofs.steps.CompactionKnows.{kept_in, knows-epoch, knows-event, knows-header}
-use Rattle.crx_filter.proofs.steps.{CompactionKnows.knows-moved, CompactionSteps.{ended-read, event-closed}}
-use Rattle.crx_filter.proofs.steps.CompactionSteps.{event-read, header-read, moved-read, of-event}
-use Rattle.crx_filter.proofs.steps.{CompactionSteps.refused-read}
-use Rattle.crx_filter.proofs.steps.Together.{begun-asked, begun-open, begun-rows, begun-together, begun-whole}
-use Rattle.crx_filter.proofs.steps.Together.{closed-together, none-there, same-together, served-closed}
-use Rattle.crx_filter.proofs.steps.Together.{served-open, begun-holds, begun-kept}
-use Rattle.crx_lines.specs.Reading.{line_shown}
+use Rattle.crx_filter.proofs.Words.{common_steps, arith, ap, refl, sym, subst, ◌∙◌, ◌≡◌, ◌+◌, Choices, Header}
+use Rattle.{crx_filter.proofs.Words.is_at_every, crx_compact.specs.{Encoding.EncoderState, Placing.{HaveRoom, KeepsRooms}}}
+use Rattle.crx_filter.proofs.steps.CompactionKnows.{compaction_of, copied-takes, ended-takes, kept_in, moved-takes}
+use Rattle.crx_filter.proofs.steps.{CompactionKnows.refused-takes, CompactionSteps.{not-first, of-copied}}
+use Rattle.crx_filter.proofs.steps.Together.{begun-asked, begun-holds, begun-kept, begun-open, begun-rows}
+use Rattle.crx_filter.proofs.steps.Together.{begun-together, begun-whole, closed-together, none-there}
+use Rattle.crx_filter.proofs.steps.Together.{same-together, served-closed, served-open}
+use Rattle.{crx_filter.proofs.compaction.CompactionDirection.take.Goals.After-begin, crx_lines.specs.Reading.line_shown}
 use Rattle.std.proofs.lemmas.Result.{err_from_is_err_and}
 use Rattle.crx_filter.proofs.compaction.CompactionDirection.take.Goals as goal
+
+-- an epoch that was begun is in full where it is due
+due : (c : After-begin) (choices : Choices) → choices ≡ c.args.options.now
+    → c.begin.new.self.in_full ≡ is_at_every choices.every c.self.inside.index
+due c choices chosen = ap (λ (e : EncoderState). e.in_full) c.begin.ensures.begun ∙ c.is_at_every.ensures
+    ∙ ap (λ n. is_at_every n c.self.inside.index) c.every.ensures.value
+    ∙ ap (λ (o : Choices). is_at_every o.every c.self.inside.index) (sym chosen)
 
 pub invariant_of-self : goal.invariant_of-self
 invariant_of-self c = same-together _ _ _ c.self.invariant c.in_err-take.ensures.reads.same
 
-pub returns-in_err-take-clause-reads : goal.returns-in_err-take-clause-reads
-returns-in_err-take-clause-reads c =
-    grind (arith, common_steps, refused-read, c.in_err-take.ensures.reads.refuses (kept_in c.self.inside))
-
-pub returns-in_err-take-clause-serves : goal.returns-in_err-take-clause-serves
-returns-in_err-take-clause-serves c = grind (arith, common_steps, served-closed)
+pub returns-in_err-take : goal.returns-in_err-take
+returns-in_err-take c =
+    let p = err_from_is_err_and c.from_residual.result c.from_residual.ensures.1 in
+    let was = c.self.inside in
+    let read = rw c.bytes.ensures.content at c.in_err-take.ensures.reads in
+    let drained = rw (← c.self.view_is) at c.requires.asked.drained in
+    let closed = rw (← c.self.view_is, ← read.same.stage) at c.requires.closed in
+    rw (← c.self.view_is, p.1, p.2) (record { takes = refused-takes _ _ (compaction_of was.index was.reader was.encoder)
+        (compaction_of was.index c.take.new.self was.encoder) (line_shown c.args.line) _ (read.refuses (kept_in was))
+        (λ lacks room. room.types lacks.0 lacks.1) read.same.types refl (λ name count has. has)
+        (λ choices chosen. served-closed _ _ _ closed) drained })
 
 pub invariant_of-self-in-Nothing : goal.invariant_of-self-in-Nothing
 invariant_of-self-in-Nothing c =
     let takes = c.in_ok-take.ensures.reads.takes (kept_in c.self.inside) in
     grind (arith, common_steps, closed-together, none-there, takes)
 
-pub returns-in-Nothing-clause-reads : goal.returns-in-Nothing-clause-reads
-returns-in-Nothing-clause-reads c =
-    grind (arith, common_steps, moved-read, c.in_ok-take.ensures.reads.takes (kept_in c.self.inside))
-
-pub returns-in-Nothing-clause-serves : goal.returns-in-Nothing-clause-serves
-returns-in-Nothing-clause-serves c =
-    served-closed _ _ _ (rw c.in-Nothing.is at (c.in_ok-take.ensures.reads.takes (kept_in c.self.inside))).1
+pub returns-in-Nothing : goal.returns-in-Nothing
+returns-in-Nothing c =
+    let was = c.self.inside in
+    let takes = rw (c.in-Nothing.is, c.bytes.ensures.content) at (c.in_ok-take.ensures.reads.takes (kept_in was)) in
+    let drained = rw (← c.self.view_is) at c.requires.asked.drained in
+    rw (← c.self.view_is) (record { takes = moved-takes _ _ (compaction_of was.index was.reader was.encoder)
+        (compaction_of was.index c.take.new.self was.encoder) (line_shown c.args.line) _ c.args.line.short
+        (λ name count has. has) takes.0 refl (λ choices chosen. served-closed _ _ _ takes.1) drained })
 
 pub invariant_of-self-then-is_in_epoch : goal.invariant_of-self-then-is_in_epoch
 invariant_of-self-then-is_in_epoch c =
     grind (arith, common_steps, begun-together, c.in_ok-take.ensures.reads.takes (kept_in c.self.inside))
 
-pub returns-then-is_in_epoch-clause-reads : goal.returns-then-is_in_epoch-clause-reads
-returns-then-is_in_epoch-clause-reads c =
-    grind (arith, common_steps, moved-read, begun-open, c.in_ok-take.ensures.reads.takes (kept_in c.self.inside))
-
-pub returns-then-is_in_epoch-clause-serves : goal.returns-then-is_in_epoch-clause-serves
-returns-then-is_in_epoch-clause-serves c = grind (arith, common_steps, served-open)
+pub returns-then-is_in_epoch : goal.returns-then-is_in_epoch
+returns-then-is_in_epoch c =
+    let was = c.self.inside in
+    let takes = rw (c.in-Begun.is, c.bytes.ensures.content) at (c.in_ok-take.ensures.reads.takes (kept_in was)) in
+    let begun = c.begin.ensures.begun in
+    let opened = sym c.is_in_epoch.ensures.value ∙ c.if-is_in_epoch.true in
+    rw (← c.self.view_is) (record { takes = moved-takes _ _ (compaction_of was.index was.reader was.encoder)
+        (compaction_of was.index c.take.new.self c.begin.new.self) (line_shown c.args.line) _ c.args.line.short
+        (begun-kept was.encoder takes begun) (begun-open _ _ _ _ takes opened) (rw begun refl)
+        (λ choices chosen. served-open _ _ _ (due (goal.at.returns-then-is_in_epoch c).After-begin choices chosen))
+        (ap (λ (e : EncoderState). e.pending) begun) })
 
 pub end_epoch-requires : goal.end_epoch-requires
 end_epoch-requires c =
@@ -58,112 +74,64 @@ invariant_of-self-in-Begun c =
     let ends = c.end_epoch.ensures.ends _ (begun-whole _ _ _ _ begins closed).held in
     closed-together _ _ closed ends.closed ends.rows
 
-pub returns-else-is_in_epoch-clause-reads : goal.returns-else-is_in_epoch-clause-reads
-returns-else-is_in_epoch-clause-reads c =
-    let begins = rw c.in-Begun.is at (c.in_ok-take.ensures.reads.takes (kept_in c.self.inside)) in
+pub returns-else-is_in_epoch : goal.returns-else-is_in_epoch
+returns-else-is_in_epoch c =
+    let was = c.self.inside in
+    let takes = rw (c.in-Begun.is, c.bytes.ensures.content) at (c.in_ok-take.ensures.reads.takes (kept_in was)) in
     let begun = c.begin.ensures.begun in
-    rw (← c.self.view_is, ← c.bytes.ensures.content) (ended-read (begun-whole _ _ _ _ begins
-    (sym c.is_in_epoch.ensures.value ∙ c.if-is_in_epoch.false)) c.begin.new.self c.end_epoch.new.encoder
-    (λ choices chosen. ap (λ (e : EncoderState). e.in_full) begun ∙ c.is_at_every.ensures
-    ∙ ap (λ n. is_at_every n c.self.inside.index) c.every.ensures.value
-    ∙ ap (λ (o : Choices). is_at_every o.every c.self.inside.index) (sym chosen))
-    (ap (λ (e : EncoderState). e.before) begun) (begun-rows c.self.inside.encoder begins begun)
-    c.end_epoch.ensures.ends)
-
-pub returns-else-is_in_epoch-clause-serves : goal.returns-else-is_in_epoch-clause-serves
-returns-else-is_in_epoch-clause-serves c = grind (arith, common_steps, served-closed)
+    let done = begun-whole _ _ _ _ takes (sym c.is_in_epoch.ensures.value ∙ c.if-is_in_epoch.false) in
+    let ends = c.end_epoch.ensures.ends done.head done.held in
+    rw (← c.self.view_is) (record { takes = ended-takes _ _ (compaction_of was.index was.reader was.encoder)
+        (compaction_of (was.index + 1) c.take.new.self c.end_epoch.new.encoder) (line_shown c.args.line) _
+        c.args.line.short (subst (KeepsRooms was.encoder.rooms) (sym ends.rooms) (begun-kept was.encoder takes begun))
+        done c.begin.new.self (due (goal.at.returns-else-is_in_epoch c).After-begin)
+        (ap (λ (e : EncoderState). e.before) begun) (begun-rows was.encoder takes begun)
+        (subst (HaveRoom c.begin.new.self.rows) (sym ends.rooms) (begun-holds was.encoder takes begun)) ends refl })
 
 pub invariant_of-self-then-is_first : goal.invariant_of-self-then-is_first
 invariant_of-self-then-is_first c =
     grind (arith, common_steps, closed-together, c.in_ok-take.ensures.reads.takes (kept_in c.self.inside))
 
-pub returns-then-is_first-clause-reads : goal.returns-then-is_first-clause-reads
-returns-then-is_first-clause-reads c =
-    grind (arith, common_steps, header-read, c.in_ok-take.ensures.reads.takes (kept_in c.self.inside))
-
-pub returns-then-is_first-clause-serves : goal.returns-then-is_first-clause-serves
-returns-then-is_first-clause-serves c =
-    served-closed _ _ _ (rw c.in-Header.is at (c.in_ok-take.ensures.reads.takes (kept_in c.self.inside))).0.closed
+pub returns-then-is_first : goal.returns-then-is_first
+returns-then-is_first c =
+    let was = c.self.inside in
+    let takes = rw (c.in-Header.is, c.bytes.ensures.content) at (c.in_ok-take.ensures.reads.takes (kept_in was)) in
+    rw (← c.self.view_is) (record { takes = copied-takes _ _ (compaction_of was.index was.reader was.encoder)
+        (compaction_of was.index c.take.new.self c.put_first_lines.new.self) (line_shown c.args.line) _
+        c.args.line.short (rw c.put_first_lines.ensures.put (λ name count has. has)) (Header c.in-Header.is_first)
+        c.date.result.now (λ e. absurd (cc (e))) (λ e. absurd (cc (e))) refl takes
+        (λ choices chosen. rw chosen (sym c.date.ensures.value))
+        (rw (c.if-is_first.true, c.put_first_lines.ensures.put) refl) refl })
 
 pub invariant_of-self-in-Header : goal.invariant_of-self-in-Header
 invariant_of-self-in-Header c =
     grind (arith, common_steps, closed-together, c.in_ok-take.ensures.reads.takes (kept_in c.self.inside))
 
-pub returns-else-is_first-clause-reads : goal.returns-else-is_first-clause-reads
-returns-else-is_first-clause-reads c =
-    grind (arith, common_steps, header-read, c.in_ok-take.ensures.reads.takes (kept_in c.self.inside))
-
-pub returns-else-is_first-clause-serves : goal.returns-else-is_first-clause-serves
-returns-else-is_first-clause-serves c =
-    served-closed _ _ _ (rw c.in-Header.is at (c.in_ok-take.ensures.reads.takes (kept_in c.self.inside))).0.closed
+pub returns-else-is_first : goal.returns-else-is_first
+returns-else-is_first c =
+    let was = c.self.inside in
+    let takes = rw (c.in-Header.is, c.bytes.ensures.content) at (c.in_ok-take.ensures.reads.takes (kept_in was)) in
+    rw (← c.self.view_is) (record { takes = copied-takes _ _ (compaction_of was.index was.reader was.encoder)
+        (compaction_of was.index c.take.new.self c.reset.new.self) (line_shown c.args.line) _
+        c.args.line.short (rw c.reset.ensures.emptied (λ name count has. has)) (Header c.in-Header.is_first)
+        c.args.options.now.date (λ e. absurd (cc (e))) (λ e. absurd (cc (e))) refl takes
+        (λ choices chosen. rw chosen refl) (rw (c.if-is_first.false, c.reset.ensures.emptied) refl) refl })
 
 pub invariant_of-self-in_default : goal.invariant_of-self-in_default
 invariant_of-self-in_default c =
+    let step = c.in_default in
     let takes = c.in_ok-take.ensures.reads.takes (kept_in c.self.inside) in
-    grind (arith, common_steps, closed-together, of-event, event-closed, takes)
+    let closed = (of-copied _ step.not-Nothing step.not-Begun c.in_ok-take.ensures.reads.steps takes).done.closed in
+    grind (arith, common_steps, closed-together, closed)
 
-pub returns-in_default-clause-reads : goal.returns-in_default-clause-reads
-returns-in_default-clause-reads c =
-    grind (arith, common_steps, of-event, event-read, c.in_ok-take.ensures.reads.takes (kept_in c.self.inside))
-
-pub returns-in_default-clause-serves : goal.returns-in_default-clause-serves
-returns-in_default-clause-serves c =
-    let takes = c.in_ok-take.ensures.reads.takes (kept_in c.self.inside) in
-    grind (arith, common_steps, of-event, event-closed, served-closed, takes)
-
-pub returns-in-Nothing-clause-knows : goal.returns-in-Nothing-clause-knows
-returns-in-Nothing-clause-knows c =
-    let inside = c.self.inside in
-    let takes = rw c.in-Nothing.is at (c.in_ok-take.ensures.reads.takes (kept_in inside)) in
-    rw (← c.self.view_is) (knows-moved inside _ (line_shown c.args.line) c.args.line.short
-    c.bytes.ensures.content _
-    inside.encoder.rooms _ takes.0 (λ name count has. has))
-
-pub returns-then-is_in_epoch-clause-knows : goal.returns-then-is_in_epoch-clause-knows
-returns-then-is_in_epoch-clause-knows c =
-    let inside = c.self.inside in
-    let takes = rw c.in-Begun.is at (c.in_ok-take.ensures.reads.takes (kept_in inside)) in
-    rw (← c.self.view_is) (knows-moved inside _ (line_shown c.args.line) c.args.line.short
-    c.bytes.ensures.content _
-    c.begin.new.self.rooms c.take.new.self (begun-open _ _ _ _ takes
-    (sym c.is_in_epoch.ensures.value ∙ c.if-is_in_epoch.true))
-    (begun-kept inside.encoder takes c.begin.ensures.begun))
-
-pub returns-else-is_in_epoch-clause-knows : goal.returns-else-is_in_epoch-clause-knows
-returns-else-is_in_epoch-clause-knows c =
-    let inside = c.self.inside in
-    let takes = rw c.in-Begun.is at (c.in_ok-take.ensures.reads.takes (kept_in inside)) in
-    let begun = c.begin.ensures.begun in
-    let done = begun-whole _ _ _ _ takes (sym c.is_in_epoch.ensures.value ∙ c.if-is_in_epoch.false) in
-    rw (← c.self.view_is) (knows-epoch inside _ (line_shown c.args.line) c.args.line.short
-    c.bytes.ensures.content _
-    c.end_epoch.new.encoder.rooms c.take.new.self c.begin.new.self
-    done (begun-rows inside.encoder takes begun) (begun-holds inside.encoder takes begun)
-    (begun-kept inside.encoder takes begun) (c.end_epoch.ensures.ends _ done.held).rooms)
-
-pub returns-then-is_first-clause-knows : goal.returns-then-is_first-clause-knows
-returns-then-is_first-clause-knows c =
-    let inside = c.self.inside in
-    let takes = rw c.in-Header.is at (c.in_ok-take.ensures.reads.takes (kept_in inside)) in
-    rw (← c.self.view_is) (knows-header inside _ (line_shown c.args.line) c.args.line.short
-    c.bytes.ensures.content _
-    c.put_first_lines.new.self.rooms _ takes.0
-    (rw c.put_first_lines.ensures.put (λ name count has. has)))
-
-pub returns-else-is_first-clause-knows : goal.returns-else-is_first-clause-knows
-returns-else-is_first-clause-knows c =
-    let inside = c.self.inside in
-    let takes = rw c.in-Header.is at (c.in_ok-take.ensures.reads.takes (kept_in inside)) in
-    rw (← c.self.view_is) (knows-header inside _ (line_shown c.args.line) c.args.line.short
-    c.bytes.ensures.content _
-    c.reset.new.self.rooms _ takes.0 (rw c.reset.ensures.emptied (λ name count has. has)))
-
-pub returns-in_default-clause-knows : goal.returns-in_default-clause-knows
-returns-in_default-clause-knows c =
-    let inside = c.self.inside in
-    let done = of-event _ c.in_ok-take.ensures.reads.steps c.in_default.not-Nothing c.in_default.not-Begun
-    c.in_default.not-Header (c.in_ok-take.ensures.reads.takes (kept_in inside)) in
-    rw (← c.self.view_is) (knows-event inside _ (line_shown c.args.line) c.args.line.short
-    c.bytes.ensures.content _
-    c.reset-in_default.new.self.rooms c.take.new.self done
-    (rw c.reset-in_default.ensures.emptied (λ name count has. has)))
+pub returns-in_default : goal.returns-in_default
+returns-in_default c =
+    let was = c.self.inside in
+    let step = c.in_default in
+    let takes = rw c.bytes.ensures.content at (c.in_ok-take.ensures.reads.takes (kept_in was)) in
+    rw (← c.self.view_is) (record { takes = copied-takes _ _ (compaction_of was.index was.reader was.encoder)
+        (compaction_of was.index c.take.new.self c.reset-in_default.new.self) (line_shown c.args.line) _
+        c.args.line.short (rw c.reset-in_default.ensures.emptied (λ name count has. has)) _
+        c.args.options.now.date step.not-Nothing step.not-Begun c.in_ok-take.ensures.reads.steps takes
+        (λ choices chosen. rw chosen refl)
+        (rw (not-first _ step.not-Header, c.reset-in_default.ensures.emptied) refl) refl })

@@ -10,13 +10,13 @@ returns-in-Err-clause-reads g c =
     let line = line_shown c.args.line in
     let stopped = refused-stops d.by_line _ c.self.inside.number _ _ _ (d.parts c.self.inside.direction) _ _ _ _ _ _ _ _
     (c.fail.ensures.fails Open refl refl) (sym c.in-Open.ensures.value) c.in-Open.ensures.held
-    (sym (c.begins_epoch.ensures.value ∙ ap begins_epoch c.bytes-in-Err.ensures.content)) c.in-Err.ensures.reads in
+    (sym (c.begins_epoch.ensures.value ∙ ap begins_epoch c.bytes-in-Err.ensures.content)) c.in-Err.ensures.takes.reads in
     let takes = refused-line d.by_line _ c.self.inside.number _ _ (d.parts c.self.inside.direction) _ _ _ _ _ _ _
-    stopped c.in-Err.ensures.reads in
+    stopped c.in-Err.ensures.takes.reads in
     rw (← c.self.view_is) (record {
       takes = takes;
       notes = notes-refused d.by_line d.chosen d.state_after_lines _ _ _ _
           (d.knows c.fail.new.self.direction) c.in-Open.ensures.passes
-          (λ lines known. c.fail.ensures.stays _ lines (c.in-Err.ensures.stays _ lines known)) line c.in-Err.fault _ _ _ _ _
+          (λ lines known. c.fail.ensures.stays _ lines (c.in-Err.ensures.takes.stays _ lines known)) line c.in-Err.fault _ _ _ _ _
           stopped (as-read-within line line.content c.args.line.short refl) takes.steps;
     })

@@ -1,11 +1,11 @@
-use Rattle.crx_filter.proofs.Words.{subst, sym, refl, length, List, ℕ, Ok}
-use Rattle.crx_compact.specs.OpenEpochs.{tail_held}
-use Rattle.crx_filter.proofs.steps.{EngineAnswers.as-read-within, EngineFaults.after-error}
-use Rattle.crx_filter.proofs.steps.ExpansionKnows.{expansion_of, known-if_taken, room-after}
-use Rattle.crx_filter.specs.{CompactReaders.compact_reader_parts, EpochRooms.compact_epochs}
-use Rattle.{crx_filter.specs.Rooms.HasRoomToBegin, crx_lines.specs.Reading.line_shown}
-use Rattle.std.proofs.lemmas.Result.{err_from_is_err_and}
+use Rattle.crx_filter.proofs.{Words.{common_steps, arith, ◌≡◌, []}, steps.ExpansionKnows.{expansion_of, reader-takes}}
+use Rattle.{crx_lines.specs.Reading.line_shown, std.proofs.lemmas.Result.err_from_is_err_and}
+use Rattle.crx_filter.{proofs.expansion.ExpansionDirection.take.Goals.After-read_between, specs.ExpansionParts.expansion_ready}
 use Rattle.crx_filter.proofs.expansion.ExpansionDirection.take.Goals as goal
+
+-- no line is ready beside one that is copied
+none : (c : After-read_between) → expansion_ready (expansion_of c.read_between.new.self c.self.inside.lines) ≡ []
+none c = grind (arith, common_steps)
 
 pub invariant_of-self : goal.invariant_of-self
 invariant_of-self c = c.read_between.ensures.unprinted c.self.inside.lines
@@ -16,34 +16,24 @@ invariant_of-self-2 c = c.read_between.ensures.unprinted c.self.inside.lines
 pub invariant_of-self-then-branch : goal.invariant_of-self-then-branch
 invariant_of-self-then-branch c = c.read_between.ensures.unprinted c.self.inside.lines
 
-pub returns-in_err-read_between-clause-stays : goal.returns-in_err-read_between-clause-stays
-returns-in_err-read_between-clause-stays c =
-    rw (← c.self.view_is) (λ choices lines known. after-error c.from_residual.result
-    (room-after c.self.inside.reader.columns.value c.read_between.new.self.columns.value (compact_epochs choices lines)
-    c.read_between.ensures.kept.rooms c.read_between.ensures.kept.held known))
+pub returns-in_err-read_between : goal.returns-in_err-read_between
+returns-in_err-read_between c =
+    let p = err_from_is_err_and c.from_residual.result c.from_residual.ensures.1 in
+    let at = (goal.at.returns-in_err-read_between c).After-read_between in
+    rw (← c.self.view_is, p.1, p.2, none at) (record { takes = reader-takes c.self.inside.reader
+        c.read_between.new.self c.self.inside.lines _ (line_shown c.args.line) _ _ c.args.line.short
+        (rw c.bytes.ensures.content at c.in_err-read_between.ensures.reads) c.read_between.ensures.kept })
 
-pub returns-then-branch-clause-knows : goal.returns-then-branch-clause-knows
-returns-then-branch-clause-knows c =
-    let old = c.self.inside in
-    let new = c.read_between.new.self in
-    rw (← c.self.view_is) (λ choices lines given known counted.
-    known-if_taken (expansion_of old.reader old.lines) choices lines (line_shown c.args.line) given
-    (compact_reader_parts old.reader) (compact_reader_parts new)
-    c.bytes.result.now (Ok c.in_ok-read_between.field-0) _ new.columns.value refl
-    (as-read-within (line_shown c.args.line) c.bytes.result.now c.args.line.short c.bytes.ensures.content)
-    (c.in_ok-read_between.ensures.reads.takes choices (length lines) tt) refl
-    (room-after old.reader.columns.value new.columns.value (compact_epochs choices lines)
-    c.read_between.ensures.kept.rooms c.read_between.ensures.kept.held known))
+pub returns-then-branch : goal.returns-then-branch
+returns-then-branch c = rw (← c.self.view_is, none (goal.at.returns-then-branch c).After-read_between) (record {
+  takes = reader-takes c.self.inside.reader c.read_between.new.self c.self.inside.lines _ (line_shown c.args.line) _
+      _ c.args.line.short (rw (c.if-branch.true, c.bytes.ensures.content) at c.in_ok-read_between.ensures.reads)
+      c.read_between.ensures.kept;
+})
 
-pub returns-clause-knows : goal.returns-clause-knows
-returns-clause-knows c =
-    let old = c.self.inside in
-    let new = c.read_between.new.self in
-    rw (← c.self.view_is) (λ choices lines given known counted.
-    known-if_taken (expansion_of old.reader old.lines) choices lines (line_shown c.args.line) given
-    (compact_reader_parts old.reader) (compact_reader_parts new)
-    c.bytes.result.now (Ok c.in_ok-read_between.field-0) _ new.columns.value refl
-    (as-read-within (line_shown c.args.line) c.bytes.result.now c.args.line.short c.bytes.ensures.content)
-    (c.in_ok-read_between.ensures.reads.takes choices (length lines) tt) refl
-    (room-after old.reader.columns.value new.columns.value (compact_epochs choices lines)
-    c.read_between.ensures.kept.rooms c.read_between.ensures.kept.held known))
+pub returns : goal.returns
+returns c = rw (← c.self.view_is, none (goal.at.returns c).After-read_between) (record {
+  takes = reader-takes c.self.inside.reader c.read_between.new.self c.self.inside.lines _ (line_shown c.args.line) _
+      _ c.args.line.short (rw (c.if-branch.false, c.bytes.ensures.content) at c.in_ok-read_between.ensures.reads)
+      c.read_between.ensures.kept;
+})

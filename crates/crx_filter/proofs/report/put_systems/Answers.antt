@@ -1,13 +1,13 @@
-use Rattle.crx_filter.proofs.{Reports.{counts-more, one-there}, Words.{◌++◌, length, take, ap, sym, ◌∙◌}}
-use Rattle.crx_filter.proofs.{Words.{arith, append_assoc, flat_map}, report.append_counts.Goals.in-Some}
-use Rattle.crx_filter.{proofs.report.append_counts.Goals.in_default, specs.meaning.Standard.count_text}
-use Rattle.crx_filter.proofs.report.append_counts.Goals as goal
+use Rattle.crx_filter.proofs.{Reports.{counts-more, one-there}, Words.{◌++◌, length, ap, sym, ◌∙◌}}
+use Rattle.crx_filter.proofs.{Words.arith, report.put_systems.Goals.in-Some}
+use Rattle.crx_filter.{proofs.report.put_systems.Goals.in_default, specs.meaning.Standard.count_text}
+use Rattle.std.specs.Prelude.{codes}
+use Rattle.crx_filter.proofs.report.put_systems.Goals as goal
 
 pub loop-index-preserved : goal.loop-index-preserved
 loop-index-preserved c =
     let types = c.args.types.now in
     let index = c.loop-index.index in
-    let old = c.args.text.now in
     let i = c.loop-index.invariant in
     elim c.match-entry.branch [
       | in-Some w ↦
@@ -15,8 +15,7 @@ loop-index-preserved c =
           let size = w.append_count.ensures.size in
           let longer = ap length w.text-is in (
             w.text-is ∙ w.append_count.ensures.value ∙ ap (λ t. t ++ count_text
-                (w.in-Some.letter, w.in-Some.count)) i.0 ∙ append_assoc old (flat_map count_text (take index
-                types)) (count_text (w.in-Some.letter, w.in-Some.count)) ∙ ap (λ t. old ++ t) (sym
+                (w.in-Some.letter, w.in-Some.count)) i.0 ∙ ap (λ t. codes "systems" ++ t) (sym
                 (counts-more types index (w.in-Some.letter, w.in-Some.count) found)),
             omega (arith, size, longer, i.1),
             i.2,
