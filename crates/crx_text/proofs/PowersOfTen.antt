@@ -73,5 +73,11 @@ pub small_number : (size count limit : ℕ) → count ≤ limit → size < 10 ^ 
 small_number size count limit few small = grind (arith, common_steps, pow-le-pow_right)
 
 -- what one digit more is to the number of the digits so far
-pub ruleset next_digit = (pow_left, next_is_small, ten_pow_pos, all_digits_next, digits_value_next,
-    one_more_digit)
+pub ruleset next_digit = (
+  pow_left,
+  next_is_small,
+  ten_pow_pos,
+  all_digits_next,
+  digits_value_next,
+  one_more_digit,
+)

@@ -94,7 +94,11 @@ pub missing_or_number_text : (decimals : ℕ) (text : List ℕ)
 missing_or_number_text = grind (arith, common_steps)
 
 -- the texts that a number may have, and those that a size may have
-pub ruleset number_parts = (number_of_other_width, number_of_width, missing_or_number_blank,
-    missing_or_number_text)
+pub ruleset number_parts = (
+  number_of_other_width,
+  number_of_width,
+  missing_or_number_blank,
+  missing_or_number_text,
+)
 
 pub ruleset size_parts = (size_of_short, size_of_pointless, size_of_parts, neither, first_passed, take_rest)

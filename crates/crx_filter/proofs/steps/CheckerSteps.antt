@@ -208,14 +208,14 @@ pub noted-takes : {served : Choices → Type 0} (before after : RinexReader) (to
     (λ choices lines. named_then ≡ first_not_standard 1 lines (printed_so_far lines))
 noted-takes before after totals then named named_then number line step ready running short takes totals_then
     standard none counts = record {
-  reads = taken-reads _ before after totals line.content ready then step takes totals_then none;
-  serving = λ choices served. refl;
-  counts = counts;
-  notes = λ choices lines given known counted. noted-next choices before totals lines given.taken_as
-      (given-after choices lines line (parts_with before (totals_held totals)) given) named known after then
-      named_then line step number running short takes totals_then standard counted;
-  stays = λ choices lines known. tt;
-}
+      reads = taken-reads _ before after totals line.content ready then step takes totals_then none;
+      serving = λ choices served. refl;
+      counts = counts;
+      notes = λ choices lines given known counted. noted-next choices before totals lines given.taken_as
+          (given-after choices lines line (parts_with before (totals_held totals)) given) named known after then
+          named_then line step number running short takes totals_then standard counted;
+      stays = λ choices lines known. tt;
+    }
 
 -- or has refused a line as its reader did
 pub refused-takes : {served : Choices → Type 0} {before after : DirectionParts OpenEpoch Totals} {number count : ℕ}

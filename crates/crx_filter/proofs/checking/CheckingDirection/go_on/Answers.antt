@@ -9,9 +9,11 @@ pub returns-in_err-step : goal.returns-in_err-step
 returns-in_err-step c =
     let p = err_from_is_err_and c.from_residual.result c.from_residual.ensures.1 in
     let drained = rw (← c.self.view_is) at c.requires.asked.drained in
-    rw (← c.self.view_is, p.1, p.2, ← c.bytes.ensures.content) (record { takes = refused-takes (rejected-reads _ c.self.inside.reader
-    c.take_row.new.reader c.self.inside.noted.totals c.bytes.result.now _ _ c.in_err-step.ensures.same
-    (c.in_err-step.ensures.refused nothing_kept) (still-drained c.self.inside.handed_out _ _ drained)) })
+    rw (← c.self.view_is, p.1, p.2, ← c.bytes.ensures.content) (record {
+      takes = refused-takes (rejected-reads _ c.self.inside.reader
+          c.take_row.new.reader c.self.inside.noted.totals c.bytes.result.now _ _ c.in_err-step.ensures.same
+          (c.in_err-step.ensures.refused nothing_kept) (still-drained c.self.inside.handed_out _ _ drained));
+    })
 
 pub note-requires-clause-observed : goal.note-requires-clause-observed
 note-requires-clause-observed c = grind (arith, common_steps, row-counting)
@@ -35,7 +37,9 @@ returns c =
     let takes = rw c.bytes.ensures.content at (c.in_ok-step.ensures.takes nothing_kept) in
     let drained = rw (← c.self.view_is) at c.requires.asked.drained in
     let running = open-runs _ (rw (← c.self.view_is) at c.requires.open) in
-    rw (← c.self.view_is) (record { takes = noted-takes was.reader c.take_row.new.reader was.noted.totals
-        c.note.new.self.totals _ _ _ line c.in_ok-step.step _ running (short-line line c.args.line.short) takes
-        (c.note.ensures.totals _ _ takes) (c.note.ensures.standard _ _ takes)
-        (still-drained was.handed_out _ _ drained) c.note.ensures.count })
+    rw (← c.self.view_is) (record {
+      takes = noted-takes was.reader c.take_row.new.reader was.noted.totals
+          c.note.new.self.totals _ _ _ line c.in_ok-step.step _ running (short-line line c.args.line.short) takes
+          (c.note.ensures.totals _ _ takes) (c.note.ensures.standard _ _ takes)
+          (still-drained was.handed_out _ _ drained) c.note.ensures.count;
+    })

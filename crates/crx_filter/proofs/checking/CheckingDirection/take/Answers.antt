@@ -10,9 +10,11 @@ returns-in_err-step c =
     let p = err_from_is_err_and c.from_residual.result c.from_residual.ensures.1 in
     let drained = rw (← c.self.view_is) at c.requires.asked.drained in
     let closed = rw (← c.self.view_is) at c.requires.closed in
-    rw (← c.self.view_is, p.1, p.2, ← c.bytes.ensures.content) (record { takes = refused-takes (refused-reads _ c.self.inside.reader
-    c.take.new.self c.self.inside.noted.totals c.bytes.result.now _ _ c.in_err-step.ensures.reads.same closed
-    (c.in_err-step.ensures.reads.refuses nothing_kept) (still-drained c.self.inside.handed_out _ _ drained)) })
+    rw (← c.self.view_is, p.1, p.2, ← c.bytes.ensures.content) (record {
+      takes = refused-takes (refused-reads _ c.self.inside.reader
+          c.take.new.self c.self.inside.noted.totals c.bytes.result.now _ _ c.in_err-step.ensures.reads.same closed
+          (c.in_err-step.ensures.reads.refuses nothing_kept) (still-drained c.self.inside.handed_out _ _ drained));
+    })
 
 pub note-requires-clause-observed : goal.note-requires-clause-observed
 note-requires-clause-observed c = step-counting _ _ _ _ _ _ c.in_ok-step.ensures.reads.steps
@@ -39,7 +41,9 @@ returns c =
     let takes = rw c.bytes.ensures.content at (c.in_ok-step.ensures.reads.takes nothing_kept) in
     let drained = rw (← c.self.view_is) at c.requires.asked.drained in
     let running = rw (← c.self.view_is) at c.requires.running in
-    rw (← c.self.view_is) (record { takes = noted-takes was.reader c.take.new.self was.noted.totals
-        c.note.new.self.totals _ _ _ line c.in_ok-step.step _ running (short-line line c.args.line.short) takes
-        (c.note.ensures.totals _ _ takes) (c.note.ensures.standard _ _ takes)
-        (still-drained was.handed_out _ _ drained) c.note.ensures.count })
+    rw (← c.self.view_is) (record {
+      takes = noted-takes was.reader c.take.new.self was.noted.totals
+          c.note.new.self.totals _ _ _ line c.in_ok-step.step _ running (short-line line c.args.line.short) takes
+          (c.note.ensures.totals _ _ takes) (c.note.ensures.standard _ _ takes)
+          (still-drained was.handed_out _ _ drained) c.note.ensures.count;
+    })

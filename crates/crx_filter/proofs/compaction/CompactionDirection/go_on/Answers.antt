@@ -12,10 +12,12 @@ returns-in_err-is_last c =
     let was = c.self.inside in
     let opened = rw (← c.self.view_is) at c.requires.open in
     let row = rw c.bytes.ensures.content at c.in_err-is_last.ensures.refused in
-    rw (← c.self.view_is, p.1, p.2) (record { takes = refused-takes _ _ (compaction_of was.index was.reader was.encoder)
-        (compaction_of was.index c.take_row.new.reader c.take_row.new.encoder) (line_shown c.args.line) _
-        (row.refuses (kept_in was)) (λ lacks room. lacks (room.row opened)) row.types refl row.kept
-        (λ choices chosen. row.full _ chosen) row.nothing })
+    rw (← c.self.view_is, p.1, p.2) (record {
+      takes = refused-takes _ _ (compaction_of was.index was.reader was.encoder)
+          (compaction_of was.index c.take_row.new.reader c.take_row.new.encoder) (line_shown c.args.line) _
+          (row.refuses (kept_in was)) (λ lacks room. lacks (room.row opened)) row.types refl row.kept
+          (λ choices chosen. row.full _ chosen) row.nothing;
+    })
 
 pub invariant_of-self-then-not-is_last : goal.invariant_of-self-then-not-is_last
 invariant_of-self-then-not-is_last c =
@@ -29,12 +31,14 @@ returns-then-not-is_last c =
     let drained = rw (← c.self.view_is) at c.requires.asked.drained in
     let row = rw c.bytes.ensures.content at c.in_ok-is_last.ensures.written in
     let moves = row-moves row (kept_in was) c.if-not-is_last.true in
-    rw (← c.self.view_is) (record { takes = moved-takes _ _ (compaction_of was.index was.reader was.encoder)
-        (compaction_of was.index c.take_row.new.reader c.take_row.new.encoder) (line_shown c.args.line) _
-        c.args.line.short row.kept moves.0
-        (ap (λ (e : EncoderState). record { index = was.index; tail = e.before }) row.written)
-        (λ choices chosen. still-served _ _ _ _ _ opened moves.1 (ap (λ (e : EncoderState). e.in_full) row.written) chosen)
-        (ap (λ (e : EncoderState). e.pending) row.written ∙ drained) })
+    rw (← c.self.view_is) (record {
+      takes = moved-takes _ _ (compaction_of was.index was.reader was.encoder)
+          (compaction_of was.index c.take_row.new.reader c.take_row.new.encoder) (line_shown c.args.line) _
+          c.args.line.short row.kept moves.0
+          (ap (λ (e : EncoderState). record { index = was.index; tail = e.before }) row.written)
+          (λ choices chosen. still-served _ _ _ _ _ opened moves.1 (ap (λ (e : EncoderState). e.in_full) row.written) chosen)
+          (ap (λ (e : EncoderState). e.pending) row.written ∙ drained);
+    })
 
 pub end_epoch-requires : goal.end_epoch-requires
 end_epoch-requires c =
@@ -55,9 +59,11 @@ returns c =
     let row = rw c.bytes.ensures.content at c.in_ok-is_last.ensures.written in
     let done = row-ends row (kept_in was) c.if-not-is_last.false in
     let ends = c.end_epoch.ensures.ends done.head done.held in
-    rw (← c.self.view_is) (record { takes = ended-takes _ _ (compaction_of was.index was.reader was.encoder)
-        (compaction_of (was.index + 1) c.take_row.new.reader c.end_epoch.new.encoder) (line_shown c.args.line) _
-        c.args.line.short (subst (KeepsRooms was.encoder.rooms) (sym ends.rooms) row.kept) done c.take_row.new.encoder
-        (λ choices chosen. ap (λ (e : EncoderState). e.in_full) row.written ∙ due-there _ _ _ opened chosen)
-        (ap (λ (e : EncoderState). e.before) row.written) (ap (λ (e : EncoderState). e.rows) row.written)
-        (subst (HaveRoom c.take_row.new.encoder.rows) (sym ends.rooms) row.held) ends refl })
+    rw (← c.self.view_is) (record {
+      takes = ended-takes _ _ (compaction_of was.index was.reader was.encoder)
+          (compaction_of (was.index + 1) c.take_row.new.reader c.end_epoch.new.encoder) (line_shown c.args.line) _
+          c.args.line.short (subst (KeepsRooms was.encoder.rooms) (sym ends.rooms) row.kept) done c.take_row.new.encoder
+          (λ choices chosen. ap (λ (e : EncoderState). e.in_full) row.written ∙ due-there _ _ _ opened chosen)
+          (ap (λ (e : EncoderState). e.before) row.written) (ap (λ (e : EncoderState). e.rows) row.written)
+          (subst (HaveRoom c.take_row.new.encoder.rows) (sym ends.rooms) row.held) ends refl;
+    })

@@ -26,10 +26,12 @@ returns-in_err-take c =
     let read = rw c.bytes.ensures.content at c.in_err-take.ensures.reads in
     let drained = rw (← c.self.view_is) at c.requires.asked.drained in
     let closed = rw (← c.self.view_is, ← read.same.stage) at c.requires.closed in
-    rw (← c.self.view_is, p.1, p.2) (record { takes = refused-takes _ _ (compaction_of was.index was.reader was.encoder)
-        (compaction_of was.index c.take.new.self was.encoder) (line_shown c.args.line) _ (read.refuses (kept_in was))
-        (λ lacks room. room.types lacks.0 lacks.1) read.same.types refl (λ name count has. has)
-        (λ choices chosen. served-closed _ _ _ closed) drained })
+    rw (← c.self.view_is, p.1, p.2) (record {
+      takes = refused-takes _ _ (compaction_of was.index was.reader was.encoder)
+          (compaction_of was.index c.take.new.self was.encoder) (line_shown c.args.line) _ (read.refuses (kept_in was))
+          (λ lacks room. room.types lacks.0 lacks.1) read.same.types refl (λ name count has. has)
+          (λ choices chosen. served-closed _ _ _ closed) drained;
+    })
 
 pub invariant_of-self-in-Nothing : goal.invariant_of-self-in-Nothing
 invariant_of-self-in-Nothing c =
@@ -41,9 +43,11 @@ returns-in-Nothing c =
     let was = c.self.inside in
     let takes = rw (c.in-Nothing.is, c.bytes.ensures.content) at (c.in_ok-take.ensures.reads.takes (kept_in was)) in
     let drained = rw (← c.self.view_is) at c.requires.asked.drained in
-    rw (← c.self.view_is) (record { takes = moved-takes _ _ (compaction_of was.index was.reader was.encoder)
-        (compaction_of was.index c.take.new.self was.encoder) (line_shown c.args.line) _ c.args.line.short
-        (λ name count has. has) takes.0 refl (λ choices chosen. served-closed _ _ _ takes.1) drained })
+    rw (← c.self.view_is) (record {
+      takes = moved-takes _ _ (compaction_of was.index was.reader was.encoder)
+          (compaction_of was.index c.take.new.self was.encoder) (line_shown c.args.line) _ c.args.line.short
+          (λ name count has. has) takes.0 refl (λ choices chosen. served-closed _ _ _ takes.1) drained;
+    })
 
 pub invariant_of-self-then-is_in_epoch : goal.invariant_of-self-then-is_in_epoch
 invariant_of-self-then-is_in_epoch c =
@@ -55,17 +59,21 @@ returns-then-is_in_epoch c =
     let takes = rw (c.in-Begun.is, c.bytes.ensures.content) at (c.in_ok-take.ensures.reads.takes (kept_in was)) in
     let begun = c.begin.ensures.begun in
     let opened = sym c.is_in_epoch.ensures.value ∙ c.if-is_in_epoch.true in
-    rw (← c.self.view_is) (record { takes = moved-takes _ _ (compaction_of was.index was.reader was.encoder)
-        (compaction_of was.index c.take.new.self c.begin.new.self) (line_shown c.args.line) _ c.args.line.short
-        (begun-kept was.encoder takes begun) (begun-open _ _ _ _ takes opened) (rw begun refl)
-        (λ choices chosen. served-open _ _ _ (due (goal.at.returns-then-is_in_epoch c).After-begin choices chosen))
-        (ap (λ (e : EncoderState). e.pending) begun) })
+    rw (← c.self.view_is) (record {
+      takes = moved-takes _ _ (compaction_of was.index was.reader was.encoder)
+          (compaction_of was.index c.take.new.self c.begin.new.self) (line_shown c.args.line) _ c.args.line.short
+          (begun-kept was.encoder takes begun) (begun-open _ _ _ _ takes opened) (rw begun refl)
+          (λ choices chosen. served-open _ _ _ (due (goal.at.returns-then-is_in_epoch c).After-begin choices chosen))
+          (ap (λ (e : EncoderState). e.pending) begun);
+    })
 
 pub end_epoch-requires : goal.end_epoch-requires
 end_epoch-requires c =
     let begins = rw c.in-Begun.is at (c.in_ok-take.ensures.reads.takes (kept_in c.self.inside)) in
-    record { whole = begun-asked c.self.inside.encoder begins c.begin.ensures.begun
-        (sym c.is_in_epoch.ensures.value ∙ c.if-is_in_epoch.false) }
+    record {
+      whole = begun-asked c.self.inside.encoder begins c.begin.ensures.begun
+          (sym c.is_in_epoch.ensures.value ∙ c.if-is_in_epoch.false);
+    }
 
 pub invariant_of-self-in-Begun : goal.invariant_of-self-in-Begun
 invariant_of-self-in-Begun c =
@@ -81,12 +89,14 @@ returns-else-is_in_epoch c =
     let begun = c.begin.ensures.begun in
     let done = begun-whole _ _ _ _ takes (sym c.is_in_epoch.ensures.value ∙ c.if-is_in_epoch.false) in
     let ends = c.end_epoch.ensures.ends done.head done.held in
-    rw (← c.self.view_is) (record { takes = ended-takes _ _ (compaction_of was.index was.reader was.encoder)
-        (compaction_of (was.index + 1) c.take.new.self c.end_epoch.new.encoder) (line_shown c.args.line) _
-        c.args.line.short (subst (KeepsRooms was.encoder.rooms) (sym ends.rooms) (begun-kept was.encoder takes begun))
-        done c.begin.new.self (due (goal.at.returns-else-is_in_epoch c).After-begin)
-        (ap (λ (e : EncoderState). e.before) begun) (begun-rows was.encoder takes begun)
-        (subst (HaveRoom c.begin.new.self.rows) (sym ends.rooms) (begun-holds was.encoder takes begun)) ends refl })
+    rw (← c.self.view_is) (record {
+      takes = ended-takes _ _ (compaction_of was.index was.reader was.encoder)
+          (compaction_of (was.index + 1) c.take.new.self c.end_epoch.new.encoder) (line_shown c.args.line) _
+          c.args.line.short (subst (KeepsRooms was.encoder.rooms) (sym ends.rooms) (begun-kept was.encoder takes begun))
+          done c.begin.new.self (due (goal.at.returns-else-is_in_epoch c).After-begin)
+          (ap (λ (e : EncoderState). e.before) begun) (begun-rows was.encoder takes begun)
+          (subst (HaveRoom c.begin.new.self.rows) (sym ends.rooms) (begun-holds was.encoder takes begun)) ends refl;
+    })
 
 pub invariant_of-self-then-is_first : goal.invariant_of-self-then-is_first
 invariant_of-self-then-is_first c =
@@ -96,12 +106,14 @@ pub returns-then-is_first : goal.returns-then-is_first
 returns-then-is_first c =
     let was = c.self.inside in
     let takes = rw (c.in-Header.is, c.bytes.ensures.content) at (c.in_ok-take.ensures.reads.takes (kept_in was)) in
-    rw (← c.self.view_is) (record { takes = copied-takes _ _ (compaction_of was.index was.reader was.encoder)
-        (compaction_of was.index c.take.new.self c.put_first_lines.new.self) (line_shown c.args.line) _
-        c.args.line.short (rw c.put_first_lines.ensures.put (λ name count has. has)) (Header c.in-Header.is_first)
-        c.date.result.now (λ e. absurd (cc (e))) (λ e. absurd (cc (e))) refl takes
-        (λ choices chosen. rw chosen (sym c.date.ensures.value))
-        (rw (c.if-is_first.true, c.put_first_lines.ensures.put) refl) refl })
+    rw (← c.self.view_is) (record {
+      takes = copied-takes _ _ (compaction_of was.index was.reader was.encoder)
+          (compaction_of was.index c.take.new.self c.put_first_lines.new.self) (line_shown c.args.line) _
+          c.args.line.short (rw c.put_first_lines.ensures.put (λ name count has. has)) (Header c.in-Header.is_first)
+          c.date.result.now (λ e. absurd (cc (e))) (λ e. absurd (cc (e))) refl takes
+          (λ choices chosen. rw chosen (sym c.date.ensures.value))
+          (rw (c.if-is_first.true, c.put_first_lines.ensures.put) refl) refl;
+    })
 
 pub invariant_of-self-in-Header : goal.invariant_of-self-in-Header
 invariant_of-self-in-Header c =
@@ -111,11 +123,13 @@ pub returns-else-is_first : goal.returns-else-is_first
 returns-else-is_first c =
     let was = c.self.inside in
     let takes = rw (c.in-Header.is, c.bytes.ensures.content) at (c.in_ok-take.ensures.reads.takes (kept_in was)) in
-    rw (← c.self.view_is) (record { takes = copied-takes _ _ (compaction_of was.index was.reader was.encoder)
-        (compaction_of was.index c.take.new.self c.reset.new.self) (line_shown c.args.line) _
-        c.args.line.short (rw c.reset.ensures.emptied (λ name count has. has)) (Header c.in-Header.is_first)
-        c.args.options.now.date (λ e. absurd (cc (e))) (λ e. absurd (cc (e))) refl takes
-        (λ choices chosen. rw chosen refl) (rw (c.if-is_first.false, c.reset.ensures.emptied) refl) refl })
+    rw (← c.self.view_is) (record {
+      takes = copied-takes _ _ (compaction_of was.index was.reader was.encoder)
+          (compaction_of was.index c.take.new.self c.reset.new.self) (line_shown c.args.line) _
+          c.args.line.short (rw c.reset.ensures.emptied (λ name count has. has)) (Header c.in-Header.is_first)
+          c.args.options.now.date (λ e. absurd (cc (e))) (λ e. absurd (cc (e))) refl takes
+          (λ choices chosen. rw chosen refl) (rw (c.if-is_first.false, c.reset.ensures.emptied) refl) refl;
+    })
 
 pub invariant_of-self-in_default : goal.invariant_of-self-in_default
 invariant_of-self-in_default c =
@@ -129,9 +143,11 @@ returns-in_default c =
     let was = c.self.inside in
     let step = c.in_default in
     let takes = rw c.bytes.ensures.content at (c.in_ok-take.ensures.reads.takes (kept_in was)) in
-    rw (← c.self.view_is) (record { takes = copied-takes _ _ (compaction_of was.index was.reader was.encoder)
-        (compaction_of was.index c.take.new.self c.reset-in_default.new.self) (line_shown c.args.line) _
-        c.args.line.short (rw c.reset-in_default.ensures.emptied (λ name count has. has)) _
-        c.args.options.now.date step.not-Nothing step.not-Begun c.in_ok-take.ensures.reads.steps takes
-        (λ choices chosen. rw chosen refl)
-        (rw (not-first _ step.not-Header, c.reset-in_default.ensures.emptied) refl) refl })
+    rw (← c.self.view_is) (record {
+      takes = copied-takes _ _ (compaction_of was.index was.reader was.encoder)
+          (compaction_of was.index c.take.new.self c.reset-in_default.new.self) (line_shown c.args.line) _
+          c.args.line.short (rw c.reset-in_default.ensures.emptied (λ name count has. has)) _
+          c.args.options.now.date step.not-Nothing step.not-Begun c.in_ok-take.ensures.reads.steps takes
+          (λ choices chosen. rw chosen refl)
+          (rw (not-first _ step.not-Header, c.reset-in_default.ensures.emptied) refl) refl;
+    })

@@ -46,24 +46,30 @@ concluded g c step goes answered =
 pub returns-then-conclude : goal.returns-then-conclude
 returns-then-conclude g c =
     let at = goal.at.returns-then-conclude g c in
-    rw (← c.self.view_is) (record { answers = concluded g at.After-conclude Steps.Ready
-        (goes g at.After-stage-stage) (rw c.if-conclude.true refl) })
+    rw (← c.self.view_is) (record {
+      answers = concluded g at.After-conclude Steps.Ready
+          (goes g at.After-stage-stage) (rw c.if-conclude.true refl);
+    })
 
 pub returns-in_default-fault_at_end : goal.returns-in_default-fault_at_end
 returns-in_default-fault_at_end g c =
     let at = goal.at.returns-in_default-fault_at_end g c in
-    rw (← c.self.view_is) (record { answers = concluded g at.After-conclude Steps.Quiet
-        (goes g at.After-stage-stage) (rw c.if-conclude.false refl) })
+    rw (← c.self.view_is) (record {
+      answers = concluded g at.After-conclude Steps.Quiet
+          (goes g at.After-stage-stage) (rw c.if-conclude.false refl);
+    })
 
 pub returns-then-skip-may_skip : goal.returns-then-skip-may_skip
 returns-then-skip-may_skip g c =
     let on = (and_parts _ _ (and_parts _ _ c.if-skip-may_skip.true).0).0 in
-    rw (← c.self.view_is) (record { answers = end-answered g.D.Direction _
-        (goes g (goal.at.returns-then-skip-may_skip g c).After-stage-stage) _ _
-        (grind (arith, common_steps, ends-skipped)) (λ lines come known. (
-          grind (arith, common_steps, ends-skipped),
-          g.D.Direction.skipping _ _ lines come.taken_as (sym c.skip.ensures.value ∙ on),
-        )) (λ choices lines known. tt) })
+    rw (← c.self.view_is) (record {
+      answers = end-answered g.D.Direction _
+          (goes g (goal.at.returns-then-skip-may_skip g c).After-stage-stage) _ _
+          (grind (arith, common_steps, ends-skipped)) (λ lines come known. (
+            grind (arith, common_steps, ends-skipped),
+            g.D.Direction.skipping _ _ lines come.taken_as (sym c.skip.ensures.value ∙ on),
+          )) (λ choices lines known. tt);
+    })
 
 pub returns : goal.returns
 returns g c =
@@ -75,18 +81,22 @@ returns g c =
     c.in_default.not-Ended gone.types closing c.in-Some.fault _ _ _ c.skip.ensures.value c.may_skip.ensures.value
     c.is_skippable.ensures.value (sym c.fault_at_end.ensures.value ∙ c.in-Some.is) gone.kept gone.stage
     c.if-skip-may_skip.false in
-    rw (← c.self.view_is) (record { answers = end-answered d _ (goes g (goal.at.returns g c).After-stage-stage) _ _
-        (record {
-          steps = rw gone.drained (steps (d.closing was.direction));
-          ended = rw gone.stage refl;
-          drained = λ none. gone.drained;
-          nothing = gone.drained;
-          choices = refl;
-        }) (λ lines come known. (rw gone.drained (steps (d.closing_after was.options lines)), tt))
-        (λ choices lines known. gone.stays choices lines known) })
+    rw (← c.self.view_is) (record {
+      answers = end-answered d _ (goes g (goal.at.returns g c).After-stage-stage) _ _
+          (record {
+            steps = rw gone.drained (steps (d.closing was.direction));
+            ended = rw gone.stage refl;
+            drained = λ none. gone.drained;
+            nothing = gone.drained;
+            choices = refl;
+          }) (λ lines come known. (rw gone.drained (steps (d.closing_after was.options lines)), tt))
+          (λ choices lines known. gone.stays choices lines known);
+    })
 
 pub returns-in-Ended : goal.returns-in-Ended
-returns-in-Ended g c = rw (← c.self.view_is) (record { answers = end-answered g.D.Direction _
-    (goes g (goal.at.returns-in-Ended g c).After-stage-stage) _ _
-    (grind (arith, common_steps)) (λ lines come known. (grind (arith, common_steps), tt))
-    (λ choices lines known. known) })
+returns-in-Ended g c = rw (← c.self.view_is) (record {
+  answers = end-answered g.D.Direction _
+      (goes g (goal.at.returns-in-Ended g c).After-stage-stage) _ _
+      (grind (arith, common_steps)) (λ lines come known. (grind (arith, common_steps), tt))
+      (λ choices lines known. known);
+})

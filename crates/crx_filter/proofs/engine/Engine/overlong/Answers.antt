@@ -19,12 +19,19 @@ returns-in_default g c =
     let made = ap (λ (ls : List (List ℕ)). step_made then.answer ls (engine_state d then)) stopped.drained ∙ stopped.steps ∙ sym failed.0 in
     rw (ap (λ (e : EngineParts _). e.answer) c.self-in_default.view_is, ← c.self.view_is) (record {
       stops = rw failed.0 stopped;
-      answers = λ line long. line-answered d _ (record { chosen = c.self.invariant.3; lawful = law;
-          enough = c.stage-stage.ensures.enough }) then line _ then.answer (as-read-long line long)
+      answers = λ line long. line-answered d _ (record {
+        chosen = c.self.invariant.3;
+        lawful = law;
+        enough = c.stage-stage.ensures.enough;
+      }) then line _ then.answer (as-read-long line long)
           (notes-refused d.by_line d.chosen d.state_after_lines _ _ _ _ (d.knows then.direction)
           c.stage-stage.ensures.passes (λ lines known. c.fail.ensures.stays _ lines known) line LineTooLong _ _
           (d.has_room c.self.inside.direction line.content) _ _ stopped (as-read-long line long) (inl made))
-          (record { steps = inl made; ended = stopped.ended; nothing = after-error _ stopped.drained;
-          choices = stopped.choices });
+          (record {
+            steps = inl made;
+            ended = stopped.ended;
+            nothing = after-error _ stopped.drained;
+            choices = stopped.choices;
+          });
       stays = λ choices lines known. after-error _ (c.fail.ensures.stays choices lines known);
     })
