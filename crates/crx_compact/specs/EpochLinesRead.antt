@@ -16,7 +16,7 @@ use Rattle.crx_compact.specs.Refusals.{AnswersRefusal}
 use Rattle.crx_compact.specs.Steps.{tail_named}
 use Rattle.crx_compact.specs.Tails.{RowTail}
 
--- everything is forgotten, and the memory is kept
+-- no epoch is known any more: the satellites that came wait for the next one, as those do that didn't come
 abbrev pub history_cleared : OpenHistory → OpenHistory
 history_cleared history = record history {
   text = [];

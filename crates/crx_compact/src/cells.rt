@@ -59,7 +59,7 @@ fn write_value_fast(arc: &mut ObsArc, value: Option<i64>, bytes: &mut [u8], at: 
 /// each. Arcs behind those of the values stay. Part of its callers, as a call takes up to 23 instructions for
 /// each line.
 #[inline(always)]
-pub fn write_cells(
+pub(crate) fn write_cells(
     arcs: &mut [ObsArc],
     values: &[Option<i64>],
     bytes: &mut [u8],

@@ -93,7 +93,7 @@ impl History {
         }
     }
 
-    /// Forgets everything; the memory is used again.
+    /// Forgets the epoch. Its satellites stay till the next one begins, and their memory is used again.
     pub(crate) fn clear(&mut self)
         ensures emptied { self.new ≡ history_cleared self.old }
     {
