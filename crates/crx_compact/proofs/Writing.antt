@@ -7,7 +7,7 @@ use Rattle.crx_compact.proofs.Words.{RowTail, Tail, AreRowsWritten, arith, among
 use Rattle.crx_compact.proofs.{ComeRows.{awaited-after, come-line, come-name, come-tail}}
 use Rattle.crx_compact.proofs.placing.SteppedRows.{last-is}
 use Rattle.std.proofs.lemmas.List.Elements.{All-push}
-use Rattle.crx_compact.specs.Placing.{IsWritten, row_of_parts, row_tail_named}
+use Rattle.crx_compact.specs.Placing.{IsLineWritten, row_of_parts, row_tail_named}
 
 -- a satellite has come where it has a row
 pub come-already : (after : Tail) (rows : List Row) (history : OpenHistory) (lines : List (List ℕ))
@@ -46,7 +46,7 @@ pub written-next : (after : Tail) (rows : List Row) (row : Row) (old new : OpenH
     (place : ℕ) (lines more : List (List ℕ)) (line : List ℕ) → placed ≡ old.satellites
     → AreRowsWritten after rows old lines → IsSoundRow row → has_satellite row.name rows ≡ false
     → HasCome row.name placed come → place ≡ length come.rows - 1
-    → IsWritten place row.values row.flags come new.satellites line → more ≡ lines ++ line ∷ []
+    → IsLineWritten place row.values row.flags come new.satellites line → more ≡ lines ++ line ∷ []
     → new.text ≡ old.text → new.clock ≡ old.clock → AreRowsWritten after (rows ++ row ∷ []) new more
 written-next after rows row old new come placed place lines more line same written sound fresh has at put longer text clock =
     let last = come-last row.name placed come come.rows place has refl at in

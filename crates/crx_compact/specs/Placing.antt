@@ -231,7 +231,7 @@ pub record MayWrite (place : ℕ) (values : List (Option ℤ)) (flags : List ℕ
   pub room : HasRoom row.name (length values) satellites.rooms
 
 -- it was written: what is stored of the satellite is that after the row, and this is its line
-pub record IsWritten (place : ℕ) (values : List (Option ℤ)) (flags : List ℕ) (old new : PlacedRows) (line : List ℕ)
+pub record IsLineWritten (place : ℕ) (values : List (Option ℤ)) (flags : List ℕ) (old new : PlacedRows) (line : List ℕ)
     : Type 0 where
   pub row : RowTail
   pub there : slice_get old.rows place ≡ Some row

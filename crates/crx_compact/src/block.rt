@@ -7,7 +7,7 @@ ghost use Rattle.std.specs.Option.{option_copied};
 ghost use Rattle.crx_base.specs.declared.limits.TheConstants.{LINE_LIMIT, TYPES_LIMIT};
 ghost use Rattle.crx_rinex.specs.meaning.Printing.{printed_row};
 ghost use Rattle.crx_compact.specs.Blocks.{HasTakenLine, KeepsItems, lines_text, no_lines};
-ghost use Rattle.crx_compact.specs.Placing.{IsWritten, MayWrite};
+ghost use Rattle.crx_compact.specs.Placing.{IsLineWritten, MayWrite};
 ghost use Rattle.crx_compact.specs.ShownRows.{shown_row};
 ghost use Rattle.crx_compact.specs.Tails.{RowTail};
 ghost use Rattle.crx_compact.specs.contracts.block.Block.{the_row};
@@ -147,7 +147,7 @@ impl Block {
     )
         requires left { 0 < self.old.left }
         requires may { MayWrite index values.now flags.now satellites.old }
-        ensures written { (line : List ℕ) × IsWritten index values.now flags.now satellites.old satellites.new line
+        ensures written { (line : List ℕ) × IsLineWritten index values.now flags.now satellites.old satellites.new line
             × (self.new.lines ≡ self.old.lines ++ line ∷ []) }
         ensures taken { HasTakenLine self.old self.new }
     {

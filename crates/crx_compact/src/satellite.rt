@@ -108,8 +108,8 @@ impl SatelliteHistory {
         self.grow(count)
     }
 
-    /// Does what [`SatelliteHistory::make_room`] does, where there is less room, and makes no more. All memory
-    /// is asked for first, so that after `AllocError` what is stored stays.
+    /// Does what [`SatelliteHistory::make_room`] does, where there is less room, and makes no more.
+    /// All memory is asked for first, so that after `AllocError` what is stored stays.
     #[cold]
     #[inline(never)]
     fn grow(&mut self, count: usize) -> Result<(), AllocError>

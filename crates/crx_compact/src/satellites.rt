@@ -15,7 +15,7 @@ ghost use Rattle.crx_compact.specs.Blocks.{IsLinePut};
 ghost use Rattle.crx_compact.specs.Entries.{Entry, IsFound, IsPutNext, IsRevived, KeepsTypes, key_of};
 ghost use Rattle.crx_compact.specs.EpochLinesRead.{HaveComeAgain};
 ghost use Rattle.crx_compact.specs.HeldRows.{IsAwaitedSatellite};
-ghost use Rattle.crx_compact.specs.Placing.{AnswersPlacing, AnswersRow, AsksRoom, HasAllowedCount, HasRoom, IsWritten, KeepsRest, MayWrite, SatelliteTail, padded, satellite_of};
+ghost use Rattle.crx_compact.specs.Placing.{AnswersPlacing, AnswersRow, AsksRoom, HasAllowedCount, HasRoom, IsLineWritten, KeepsRest, MayWrite, SatelliteTail, padded, satellite_of};
 ghost use Rattle.crx_compact.specs.ShownRows.{shown_row};
 ghost use Rattle.crx_compact.specs.Tails.{RowTail};
 ghost use Rattle.indexmap.specs.IndexMap.{IsUnique, spare};
@@ -238,7 +238,7 @@ impl Satellites {
     ) -> usize
         requires may { MayWrite index values.now flags.now self.old }
         requires room { at + (CELL_ROOM * length values.now + 2 * TYPES_LIMIT) < length bytes.old }
-        ensures { (line : List ℕ) × IsWritten index values.now flags.now self.old self.new line
+        ensures { (line : List ℕ) × IsLineWritten index values.now flags.now self.old self.new line
             × IsLinePut line (CELL_ROOM * length values.now + 2 * TYPES_LIMIT) at bytes.old bytes.new result }
     {
         let (_, satellite) = self.known.pair_mut(index);
