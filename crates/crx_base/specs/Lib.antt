@@ -1,1 +1,2 @@
 pub mod meaning
+pub mod Padded

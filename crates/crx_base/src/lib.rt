@@ -6,6 +6,8 @@ pub mod fault;
 pub mod laws;
 pub mod limits;
 pub mod options;
+pub mod padded;
 
 pub use fault::{At, Fault};
 pub use options::{BadDate, Options};
+pub use padded::{PADDING, Padded, PaddedCopy};
