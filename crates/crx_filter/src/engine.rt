@@ -7,7 +7,7 @@ ghost use Rattle.crx_filter.specs.DirectionParts.{EngineParts};
 
 use crate::direction::Direction;
 use crate::stage::Stage;
-use crx_base::{At, Fault, Options};
+use crx_base::{At, Fault, Options, Padded};
 use crx_lines::Line;
 use crx_rinex::begins_epoch;
 use crx_runs::{HandedOut, Step};
@@ -38,6 +38,7 @@ impl<D: Direction> Model for Engine<D> {
 
 impl<D: Direction> Engine<D> {
     ghost use Rattle.std.specs.Prelude.{◌+◌, List, [], length, OnErr, IfOk, false};
+    ghost use Rattle.crx_base.specs.Padded.{line_in};
     ghost use Rattle.crx_base.specs.meaning.AsRead.{Overlong};
     ghost use Rattle.crx_base.specs.meaning.Choices.{Choices};
     ghost use Rattle.crx_base.specs.meaning.Lines.{InputLine, is_long};
@@ -107,7 +108,7 @@ impl<D: Direction> Engine<D> {
         ensures stays { EngineKeepsNotes D.Direction self.old (answer_given result self.new.answer) self.new }
     {
         let Stage::Open = self.direction.stage() else {
-            return self.take_between(line.bytes(), line.number(), line.plain());
+            return self.take_between(line.padded(), line.number(), line.plain());
         };
         let taken = self.direction.go_on(line);
         self.number += 1;
@@ -125,12 +126,17 @@ impl<D: Direction> Engine<D> {
     /// Takes a line where no epoch is open as [`Engine::take_line`] does, by its parts. An answer that took
     /// its place within that one, or a place for the line, would be set to zero at every line.
     #[inline(never)]
-    fn take_between(&mut self, content: &[u8], number: u64, is_plain: bool) -> Option<HandedOut>
+    fn take_between(
+        &mut self,
+        content: Padded<'_>,
+        number: u64,
+        is_plain: bool,
+    ) -> Option<HandedOut>
         requires closed { is_open_stage (D.parts self.old.direction).stage ≡ false }
-        requires short { length content.now ≤ LINE_LIMIT }
+        requires short { length (line_in content) ≤ LINE_LIMIT }
         requires next { EngineAwaits D.Direction self.old number }
         ensures reads { EngineReads D.Direction self.old
-            (record { content = content.now; is_plain = is_plain }) result self.new }
+            (record { content = line_in content.entry; is_plain = is_plain }) result self.new }
         ensures stays { EngineKeepsNotes D.Direction self.old (answer_given result self.new.answer) self.new }
     {
         let line = Line::of(content, number, is_plain);
@@ -146,7 +152,8 @@ impl<D: Direction> Engine<D> {
             Ok(handed_out) => Some(handed_out),
             Err(fault) => {
                 let is_open = stage.is_in_epoch();
-                self.fail(stage.may_skip(), is_open, fault, begins_epoch(content));
+                let begins = begins_epoch(content.line());
+                self.fail(stage.may_skip(), is_open, fault, begins);
                 None
             }
         }

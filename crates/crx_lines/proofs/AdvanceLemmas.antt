@@ -14,7 +14,7 @@ use Rattle.crx_lines.{proofs.ReturnLemmas.length-without_return, specs.meaning.D
 use Rattle.crx_lines.specs.declared.{phase.Phase.TheVariants.{Open, Ended}}
 use Rattle.crx_base.specs.declared.fault.{At.At, Fault.{Fault, TheVariants.{InputTooLong, ReadFailed}}}
 use Rattle.crx_base.specs.{declared.limits.TheConstants.{LINE_LIMIT, INPUT_LIMIT}, meaning.Lines.Piece}
-use Rattle.crx_base.specs.meaning.Lines.{InputLine, line_of, is_long, without_return, ends_with_return}
+use Rattle.crx_base.specs.meaning.Lines.{line_of, is_long, without_return}
 
 -- the first bytes that were searched have no LF
 searched-no_feed : (held : List ℕ) (n : ℕ)
@@ -132,13 +132,6 @@ read-fault gave old held room taken passed at_end tally then s before after at f
     let within : before.passed + length (before.rest ++ s.given) ≤ INPUT_LIMIT =
     omega (arith, length-append before.rest s.given, ap length rest, s.taken_is, s.within, limit) in
     rw is (within, none, stops, bad)
-
--- the first line is the one whose content is in a part of the window
-pub shown-line : (front part content : List ℕ) (is_ended has_return is_plain : Bool) → front ++ part ≡ part
-    → content ≡ without_return part → has_return ≡ ends_with_return part → is_plain ≡
-    (is_ended && not has_return) → ◌≡◌ {A = InputLine} (record { content = content; is_plain = is_plain })
-    (line_of (record { bytes = front ++ part; is_ended = is_ended }))
-shown-line front part content is_ended has_return is_plain same is returns plain = cc
 
 -- ---- what the tests of a line that was read say
 

@@ -1,22 +1,11 @@
 -- A CR at the end of a text.
-use Rattle.std.proofs.Common.{rules, ◌≡◌, ◌≢◌, ◌==◌, ℕ, ◌+◌, ◌-◌, ◌≤◌, ◌<◌, true, false, List, [], ◌∷◌, ◌++◌}
-use Rattle.std.proofs.Common.{length, take, drop, get_or, slice_range, sym, ap, ◌∙◌, arith, eq-eqb}
+use Rattle.std.proofs.Common.{◌≡◌, ◌==◌, ℕ, ◌+◌, ◌-◌, ◌≤◌, ◌<◌, suc, Bool, ◌&&◌, not, List, [], ◌∷◌, length}
+use Rattle.std.proofs.Common.{take, drop, get_or, slice_range, slice_set, refl, ap, ◌∙◌, arith}
 use Rattle.std.proofs.{Common.{length-take, length-drop}, lemmas.{Grind.common_steps}}
-use Rattle.std.proofs.lemmas.List.{take-take, take_more, get_or-take, get_or-drop}
-use Rattle.crx_base.specs.meaning.Lines.{without_return, ends_with_return}
-
-pub without_return-cr : (xs : List ℕ) (x : ℕ) → (x == 13) ≡ true → without_return (xs ++ x ∷ []) ≡ xs
-without_return-cr (y ∷ z ∷ zs) x e = ap (λ l. y ∷ l) (without_return-cr _ x e)
-without_return-cr xs x e = grind (arith, common_steps)
-
-pub without_return-other : (xs : List ℕ) (x : ℕ) → (x == 13) ≡ false
-    → without_return (xs ++ x ∷ []) ≡ xs ++ x ∷ []
-without_return-other (y ∷ z ∷ zs) x e = ap (λ l. y ∷ l) (without_return-other (z ∷ zs) x e)
-without_return-other xs x e = grind (arith, common_steps)
-
-pub ends_with_return-push : (xs : List ℕ) (x : ℕ) → ends_with_return (xs ++ x ∷ []) ≡ (x == 13)
-ends_with_return-push (y ∷ z ∷ zs) x = ends_with_return-push (z ∷ zs) x
-ends_with_return-push xs x = grind (arith, common_steps)
+use Rattle.std.proofs.lemmas.List.{take-take, get_or-take, get_or-drop}
+use Rattle.crx_base.specs.meaning.Lines.{InputLine, line_of, without_return, ends_with_return}
+use Rattle.crx_lines.proofs.WindowLemmas.{untouched}
+use mir.Val.{bool_byte}
 
 -- at most one byte is taken off
 pub length-without_return : (xs : List ℕ)
@@ -24,47 +13,63 @@ pub length-without_return : (xs : List ℕ)
 length-without_return (x ∷ y ∷ ys) = grind (arith, common_steps, length-without_return (y ∷ ys))
 length-without_return xs = grind (arith, common_steps)
 
--- the first bytes of a part
-pub part-front : (xs : List ℕ) (start end n : ℕ)
-    → start + n ≤ end → slice_range xs start (start + n) ≡ take n (slice_range xs start end)
-part-front xs start end n inside = grind (arith, common_steps, take-take)
+-- the last byte tells
+ends_with_return-last : (x : ℕ) (xs : List ℕ) (d : ℕ)
+    → ends_with_return (x ∷ xs) ≡ (get_or (x ∷ xs) (length xs) d == 13)
+ends_with_return-last x [] d = refl
+ends_with_return-last x (y ∷ ys) d = ends_with_return-last y ys d
 
-pub part-get_or : (xs : List ℕ) (start end n d : ℕ)
-    → start + n < end → get_or (slice_range xs start end) n d ≡ get_or xs (start + n) d
-part-get_or xs start end n d inside = grind (arith, common_steps, get_or-take, get_or-drop)
+pub returned-last : (xs : List ℕ) (n d : ℕ) → length xs ≡ n + 1 → ends_with_return xs ≡ (get_or xs n d == 13)
+returned-last [] n d long = absurd (omega (arith, long))
+returned-last (x ∷ xs) n d long =
+    let len : length xs ≡ n = omega (arith, long) in
+    rw (← len) (ends_with_return-last x xs d)
 
--- the first bytes of a part are those before the last of them, and that one
-pub part-last : (xs : List ℕ) (start end n : ℕ) → 0 < n → start + n ≤ end → end ≤ length xs
-    → take n (slice_range xs start end) ≡ slice_range xs start (start + n - 1) ++ get_or xs
-    (start + n - 1) 0 ∷ []
-part-last xs start end n some inside within =
-    let held = slice_range xs start end in
-    let one : n ≡ (n - 1) + 1 = omega arith in
-    let at : start + (n - 1) ≡ start + n - 1 = omega arith in
-    let len : n - 1 < length held =
-    omega (arith, length-take (end - start) (drop start xs), length-drop start xs) in
-    ap (λ k. take k held) one ∙ take_more held (n - 1) 0 len ∙ ap (λ l. l ++ get_or held (n - 1) 0 ∷ [])
-    (sym (part-front xs start end (n - 1) (omega arith)) ∙ ap (λ k. slice_range xs start k) at) ∙ ap
-    (λ b. slice_range xs start (start + n - 1) ++ b ∷ []) (part-get_or xs start end (n - 1) 0 (omega arith)
-    ∙ ap (λ k. get_or xs k 0) at)
+returned-within : (xs : List ℕ) → bool_byte (ends_with_return xs) ≤ length xs
+returned-within (x ∷ y ∷ ys) = omega (arith, returned-within (y ∷ ys))
+returned-within xs = grind (arith, common_steps)
 
--- the first bytes of a part without the CR that ends them
-pub content-cr : (xs : List ℕ) (start end n : ℕ)
-    → 0 < n → start + n ≤ end → end ≤ length xs → get_or xs (start + n - 1) 0 ≡ 13
-    → (slice_range xs start (start + n - 1) ≡ without_return (take n (slice_range xs start end)))
-    × (true ≡ ends_with_return (take n (slice_range xs start end)))
-content-cr = search (rules, slice_range, eq-eqb, part-last, without_return-cr, ends_with_return-push)
+-- what is left is in front
+pub without_return-front : (xs : List ℕ) (n : ℕ)
+    → length xs ≡ n + bool_byte (ends_with_return xs) → without_return xs ≡ take n xs
+without_return-front (x ∷ y ∷ ys) (suc n) long =
+    ap (λ l. x ∷ l) (without_return-front (y ∷ ys) n (omega (arith, long)))
+without_return-front xs n long = grind (arith, common_steps)
 
--- the first bytes of a part that no CR ends
-pub content-other : (xs : List ℕ) (start end n : ℕ)
-    → 0 < n → start + n ≤ end → end ≤ length xs → get_or xs (start + n - 1) 0 ≢ 13
-    → (slice_range xs start (start + n) ≡ without_return (take n (slice_range xs start end)))
-    × (false ≡ ends_with_return (take n (slice_range xs start end)))
-content-other xs start end n some inside within other =
-    grind (arith, common_steps, part-last, without_return-other, ends_with_return-push)
+-- the first bytes of a part of the window, where it holds them
+module _ (xs : List ℕ) (start end n : ℕ) (inside : start + n ≤ end) (within : end ≤ length xs) where
+  abbrev first : List ℕ
+  first = take n (slice_range xs start end)
 
--- no byte at all
-pub content-none : (xs : List ℕ) (start end n : ℕ) → n ≡ 0
-    → (slice_range xs start (start + n) ≡ without_return (take n (slice_range xs start end)))
-    × (false ≡ ends_with_return (take n (slice_range xs start end)))
-content-none xs start end n none = grind arith
+  len : length first ≡ n
+  len = omega (
+    arith,
+    length-take n (slice_range xs start end),
+    length-take (end - start) (drop start xs),
+    length-drop start xs,
+  )
+
+  -- they end with CR where the last of them is one
+  pub last-byte : (d : ℕ) → 0 < n → ends_with_return (take n (slice_range xs start end))
+      ≡ (get_or xs (start + n - 1) d == 13)
+  last-byte d some =
+      let at : start + (n - 1) ≡ start + n - 1 = omega (arith, some) in
+      let byte : get_or first (n - 1) d ≡ get_or xs (start + n - 1) d =
+      rw (← at) (grind (arith, common_steps, get_or-take, get_or-drop)) in
+      returned-last first (n - 1) d (omega (arith, len, some)) ∙ ap (λ b. b == 13) byte
+
+  -- as a line, where a blank was put behind its content
+  pub cut-line : (place : ℕ) (has_return is_ended : Bool)
+      → has_return ≡ ends_with_return (take n (slice_range xs start end))
+      → place ≡ start + n - bool_byte has_return → ◌≡◌ {A = InputLine}
+      (record {
+        content = slice_range (slice_set xs place 32) start place;
+        is_plain = is_ended && not has_return;
+      })
+      (line_of (record { bytes = take n (slice_range xs start end); is_ended = is_ended }))
+  cut-line place has_return is_ended returned at =
+      let some : bool_byte has_return ≤ n = rw returned (omega (arith, len, returned-within first)) in
+      let content : slice_range xs start place ≡ without_return first =
+      rw (without_return-front first (place - start) (rw (← returned) (omega (arith, len, some, at))))
+      (grind (arith, common_steps, take-take)) in
+      grind (arith, common_steps, untouched, content, returned)

@@ -1,8 +1,10 @@
 -- The bytes of a window, after a read past its end or a step of its start.
-use Rattle.std.proofs.Common.{◌≡◌, ℕ, ◌+◌, ◌-◌, ◌≤◌, List, ◌++◌, length, take, drop, slice_range, refl, sym}
-use Rattle.std.proofs.{Common.{ap, ◌∙◌, Result, OnErr, arith, append-nil}, Math.Seq.take-add}
+use Rattle.std.proofs.Common.{◌≡◌, ℕ, ◌+◌, ◌-◌, ◌≤◌, ◌<◌, ◌⊎◌, inl, inr, List, ◌++◌, length, take, drop}
+use Rattle.std.proofs.Common.{slice_range, slice_set, refl, sym, ap, ◌∙◌, Result, OnErr, arith, append-nil}
+use Rattle.std.proofs.Math.Seq.{take-add}
 use Rattle.std.proofs.lemmas.List.{take_at, drop_at, take-append-le, drop-append-le, drop-take, drop-drop}
-use Rattle.std.proofs.lemmas.List.{length-take-le, length-take, length-drop}
+use Rattle.std.proofs.lemmas.List.{length-take-le, length-take, length-drop, drop-set-lt, drop-set-add}
+use Rattle.std.proofs.lemmas.List.{take-set-le}
 use borrow.Rule.Slice.PartMut.{put_mid, post_of}
 
 -- n of the bytes that were read past the end are held too
@@ -46,3 +48,14 @@ unread xs ys start end k ordered within =
 -- what is so is so of any read that failed
 pub on_err : {X E P : Type 0} (r : Result X E) → P → OnErr r P
 on_err = grind arith
+
+-- a byte that is put in front of a part, or behind it, isn't of that part
+pub untouched : (xs : List ℕ) (start end place b : ℕ) → start ≤ end → (place < start) ⊎ (end ≤ place)
+    → slice_range (slice_set xs place b) start end ≡ slice_range xs start end
+untouched xs start end place b ordered (inl before) =
+    ap (take (end - start)) (drop-set-lt start xs place b before)
+untouched xs start end place b ordered (inr behind) =
+    let parts : place ≡ start + (place - start) = omega (arith, ordered, behind) in
+    ap (take (end - start)) (ap (λ k. drop start (slice_set xs k b)) parts
+    ∙ drop-set-add start xs (place - start) b)
+    ∙ take-set-le (end - start) (drop start xs) (place - start) b (omega (arith, ordered, behind))

@@ -3,6 +3,7 @@ use Rattle.std.specs.Prelude.{◌≡◌, ℕ, ◌+◌, ◌-◌, ◌<◌, ◌≤�
 use Rattle.std.specs.Prelude.{if◌then◌else◌, Option, Some, None, Result, Ok, Err, ◌≢◌, All, true}
 use Rattle.crx_lines.specs.meaning.Devices.{Tally, with_failure}
 use Rattle.crx_lines.specs.Devices.{with_end, tally_after_line}
+use Rattle.crx_base.specs.Padded.{line_in}
 use Rattle.crx_base.specs.meaning.Lines.{InputLine, Piece, line_of, is_long}
 use Rattle.crx_base.specs.declared.limits.TheConstants.{INPUT_LIMIT}
 use Rattle.crx_base.specs.declared.fault.At.{At}
@@ -18,7 +19,7 @@ HasNoFeed bytes = All (λ b. b ≢ 10) bytes
 
 -- what a line shows: its content, and whether LF alone ends it
 abbrev pub line_shown : Line → InputLine
-line_shown l = record { content = l.content.now; is_plain = l.is_plain }
+line_shown l = record { content = line_in l.content; is_plain = l.is_plain }
 
 -- a line's number
 abbrev pub line_number : Line → ℕ

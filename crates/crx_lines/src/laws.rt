@@ -1,11 +1,12 @@
 //! A law over the definitions of this crate: it is the contract of a function that does nothing.
-ghost use Rattle.std.specs.Prelude.{◌≡◌, ◌≤◌, length};
+ghost use Rattle.std.specs.Prelude.{◌≡◌, ◌+◌, ◌≤◌, length};
 ghost use Rattle.crx_lines.specs.Holdings.{line_reader_with, window_with};
 ghost use Rattle.crx_lines.specs.Window.{kept};
 ghost use Rattle.crx_lines.specs.declared.line.LineReader.{LineReader};
 ghost use Rattle.crx_lines.specs.declared.window.TheConstants.{SIZE};
 ghost use Rattle.crx_lines.specs.declared.window.Window.{Window};
 ghost use Rattle.crx_base.specs.declared.limits.TheConstants.{INPUT_LIMIT};
+ghost use Rattle.crx_base.specs.declared.padded.TheConstants.{PADDING};
 
 /// What a reader of lines holds, in full: one that takes over these parts of another is that other. So there
 /// is no part beside them, in which a record of the past lines could grow; its buffer has one size, and its
@@ -13,7 +14,7 @@ ghost use Rattle.crx_base.specs.declared.limits.TheConstants.{INPUT_LIMIT};
 pub fn line_reader_holds()
     ensures window { (one other : Window) → window_with one other ≡ other }
     ensures reader { (one other : LineReader) → line_reader_with one other ≡ other }
-    ensures size { (reader : LineReader) → length reader.window.value.bytes.items ≡ SIZE }
+    ensures size { (reader : LineReader) → length reader.window.value.bytes.items ≡ SIZE + PADDING }
     ensures kept { (reader : LineReader) → length (kept reader.window.value) ≤ SIZE }
     ensures passed { (reader : LineReader) → reader.passed ≤ INPUT_LIMIT }
     ensures number { (reader : LineReader) → reader.number ≤ INPUT_LIMIT }

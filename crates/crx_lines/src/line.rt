@@ -1,6 +1,7 @@
 //! Lines of an input, and what hands them out one after another.
 ghost use Rattle.std.specs.Prelude.{◌≡◌, ◌≢◌, ℕ, ◌+◌, ◌-◌, ◌<◌, ◌≤◌, ◌&&◌, ◌⊎◌, List, [], length, Option, Some, None, Ok, Err, IfOk, IfSome, Contains, if◌then◌else◌};
 ghost use Rattle.crx_lines.specs.meaning.Devices.{tally_of};
+ghost use Rattle.crx_base.specs.Padded.{line_in};
 ghost use Rattle.crx_base.specs.declared.fault.At.{At};
 ghost use Rattle.crx_lines.specs.Window.{kept};
 ghost use Rattle.crx_base.specs.declared.limits.TheConstants.{INPUT_LIMIT, LINE_LIMIT};
@@ -9,27 +10,27 @@ use crate::device::Source;
 use crate::feed::feed_from;
 use crate::phase::Phase;
 use crate::seek::seek;
-use crate::window::Window;
+use crate::window::{Cut, Window};
 use crx_base::limits::{INPUT_LIMIT, LINE_LIMIT};
-use crx_base::{At, Fault};
+use crx_base::{At, Fault, Padded};
 use std::alloc::{AllocError, Global};
 
 /// A line: its content without the line end, its number and how it ends.
 #[derive(Clone, Copy)]
 pub struct Line<'a> {
-    content: &'a [u8],
+    content: Padded<'a>,
     number: u64,
     is_plain: bool,
-    ghost short: { length content.now ≤ LINE_LIMIT },
+    ghost short: { length (line_in content) ≤ LINE_LIMIT },
 }
 
 impl<'a> Line<'a> {
     ghost use Rattle.crx_lines.specs.Reading.{line_shown, line_number};
 
     /// A line of this content, without its line end.
-    pub fn of(content: &'a [u8], number: u64, is_plain: bool) -> Line<'a>
-        requires { length content.now ≤ LINE_LIMIT }
-        ensures shown { line_shown result ≡ record { content = content.now; is_plain = is_plain } }
+    pub fn of(content: Padded<'a>, number: u64, is_plain: bool) -> Line<'a>
+        requires { length (line_in content) ≤ LINE_LIMIT }
+        ensures shown { line_shown result ≡ record { content = line_in content.entry; is_plain = is_plain } }
         ensures number { line_number result ≡ number }
     {
         Line {
@@ -43,6 +44,14 @@ impl<'a> Line<'a> {
     pub fn bytes(&self) -> &'a [u8]
         ensures content { result.now ≡ (line_shown self.now).content }
         ensures limit { length result.now ≤ LINE_LIMIT }
+    {
+        self.content.line()
+    }
+
+    /// The line's content with a blank and more bytes behind it.
+    pub fn padded(&self) -> Padded<'a>
+        ensures content { line_in result ≡ (line_shown self.now).content }
+        ensures limit { length (line_in result) ≤ LINE_LIMIT }
     {
         self.content
     }
@@ -60,14 +69,6 @@ impl<'a> Line<'a> {
     {
         self.is_plain
     }
-}
-
-/// Where a line's content is in the window, and whether LF alone ends the line.
-#[derive(Clone, Copy)]
-struct Part {
-    from: usize,
-    to: usize,
-    is_plain: bool,
 }
 
 /// Hands out the lines of an input one after another, from a buffer of its own.
@@ -89,7 +90,8 @@ impl LineReader {
     ghost use Rattle.std.specs.Io.BufRead.{Rests};
     ghost use Rattle.crx_lines.specs.contracts.line.LineReader.{the_row};
     ghost use Rattle.crx_lines.specs.Reading.{AnswersHeld, ReaderAnswers, ReaderState, line_shown, line_number};
-    ghost use Rattle.crx_lines.specs.Readers.{IsPlace, TakesNextLine, part_shown, reading};
+    ghost use Rattle.crx_lines.specs.Readers.{CanBeLent, TakesNextLine, reading};
+    ghost use Rattle.crx_lines.specs.Window.{cut_shown};
 
     /// A reader before its input's first line.
     pub fn new(alloc: Global) -> Result<LineReader, AllocError>
@@ -112,42 +114,37 @@ impl LineReader {
         self.number
     }
 
-    /// Takes the next line where its LF is held. Its content stays in the window, at the place that is
-    /// answered. `None` says that no LF is held, and nothing has changed then.
+    /// Takes the next line where its LF is held. Its content stays in the window, where the answer says.
+    /// `None` says that no LF is held, and nothing has changed then.
     #[inline(always)]
-    fn advance_held(&mut self) -> Result<Option<Part>, At>
+    fn advance_held(&mut self) -> Result<Option<Cut>, At>
         requires { self.old.phase ≡ Phase.Open }
-        ensures answers { AnswersHeld (part_shown self.new.window.value.bytes.items) (λ _. self.new.number)
+        ensures answers { AnswersHeld (cut_shown self.new.window.value.bytes.items) (λ _. self.new.number)
             (reading self.old) result (reading self.new) }
-        ensures place { IfOk result (λ next. IfSome next IsPlace) }
+        ensures place { IfOk result (λ next. IfSome next (CanBeLent self.new.window.value.bytes.items)) }
         ensures none { result ≡ Ok None → Contains (kept self.old.window.value) 10 → ⊥ }
     {
         let Some(len) = feed_from(self.window.as_slice(), 0) else {
             return Ok(None);
         };
-        let place = self.window.content(len);
-        self.window.skip(len + 1);
+        let cut = self.window.take_line(len, true);
         self.passed += len as u64 + 1;
         self.number += 1;
-        if place.to - place.from > LINE_LIMIT {
+        if cut.to - cut.from > LINE_LIMIT {
             return Err(At {
                 line: self.number,
                 fault: Fault::LineTooLong,
             });
         }
-        Ok(Some(Part {
-            from: place.from,
-            to: place.to,
-            is_plain: !place.has_return,
-        }))
+        Ok(Some(cut))
     }
 
     /// Gives the next line where its end may still have to be read.
     #[inline(never)]
-    fn advance_by_reading<R: Source>(&mut self, reader: &mut R) -> Result<Option<Part>, At>
+    fn advance_by_reading<R: Source>(&mut self, reader: &mut R) -> Result<Option<Cut>, At>
         requires { self.old.phase ≡ Phase.Open }
         ensures answers { TakesNextLine R.Source self.old self.new reader.old reader.new result }
-        ensures place { IfOk result (λ next. IfSome next IsPlace) }
+        ensures place { IfOk result (λ next. IfSome next (CanBeLent self.new.window.value.bytes.items)) }
         ensures unasked { Contains (kept self.old.window.value) 10 → reader.new ≡ reader.old }
     {
         let room = INPUT_LIMIT - self.passed - self.window.as_slice().len() as u64;
@@ -166,9 +163,8 @@ impl LineReader {
             self.phase = Phase::Ended;
             return Ok(None);
         }
-        let place = self.window.content(found.len);
         let held = found.len + usize::from(found.is_ended);
-        self.window.skip(held);
+        let cut = self.window.take_line(found.len, found.is_ended);
         self.passed += found.passed + held as u64;
         self.number += 1;
         // Lines may come after a line with an end; after one without, the input is over.
@@ -178,17 +174,13 @@ impl LineReader {
             Phase::Ended
         };
         // Bytes of a line that is too long were discarded, or its content in the window is too long.
-        if (found.passed > 0) | (place.to - place.from > LINE_LIMIT) {
+        if (found.passed > 0) | (cut.to - cut.from > LINE_LIMIT) {
             return Err(At {
                 line: self.number,
                 fault: Fault::LineTooLong,
             });
         }
-        Ok(Some(Part {
-            from: place.from,
-            to: place.to,
-            is_plain: found.is_ended & !place.has_return,
-        }))
+        Ok(Some(cut))
     }
 
     /// Hands out the next line of what is kept and what `reader` gives after it, until the next call.
@@ -222,12 +214,12 @@ impl LineReader {
             Phase::Open => {}
         }
         match self.advance_by_reading(reader)? {
-            Some(part) => {
+            Some(cut) => {
                 let number = self.number;
                 Ok(Some(Line {
-                    content: self.window.part(part.from, part.to),
+                    content: self.window.padded(cut),
                     number,
-                    is_plain: part.is_plain,
+                    is_plain: cut.is_plain,
                 }))
             }
             None => Ok(None),
@@ -250,12 +242,12 @@ impl LineReader {
             Phase::Open => {}
         }
         match self.advance_held()? {
-            Some(part) => {
+            Some(cut) => {
                 let number = self.number;
                 Ok(Some(Line {
-                    content: self.window.part(part.from, part.to),
+                    content: self.window.padded(cut),
                     number,
-                    is_plain: part.is_plain,
+                    is_plain: cut.is_plain,
                 }))
             }
             None => Ok(None),

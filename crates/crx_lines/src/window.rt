@@ -1,12 +1,15 @@
 //! The buffer of a reader of lines: bytes that were given and are pending, and room after them.
-ghost use Rattle.std.specs.Prelude.{◌≡◌, ℕ, ◌+◌, ◌-◌, ◌<◌, ◌≤◌, List, [], ◌++◌, length, take, drop, slice_range, IfOk, OnOk, OnErr};
+ghost use Rattle.std.specs.Prelude.{◌≡◌, ℕ, ◌+◌, ◌-◌, ◌<◌, ◌≤◌, List, [], ◌++◌, length, take, drop, slice_range, IfOk, OnOk, OnErr, MatchBool, if◌then◌else◌};
 ghost use Rattle.crx_lines.specs.meaning.Devices.{ends_after, one_more};
-ghost use Rattle.crx_base.specs.meaning.Lines.{ends_with_return, without_return};
 ghost use Rattle.crx_base.specs.declared.limits.TheConstants.{LINE_LIMIT};
+ghost use Rattle.crx_base.specs.declared.padded.TheConstants.{PADDING};
+ghost use Rattle.crx_base.specs.meaning.Lines.{line_of};
 ghost use Rattle.crx_lines.specs.declared.window.TheConstants.{LEAST_ROOM, SIZE};
 
 use crate::device::{ReadFailed, Source};
+use crx_base::Padded;
 use crx_base::limits::LINE_LIMIT;
+use crx_base::padded::PADDING;
 use std::alloc::{AllocError, Global};
 
 /// How many bytes are held at once: some hundreds of lines of common files.
@@ -19,15 +22,15 @@ const PIECE: usize = 2048;
 /// The room that a read finds at least, where something is held: a line's content, CR and LF.
 const LEAST_ROOM: usize = LINE_LIMIT + 2;
 
-/// Where a line's content is in the window, and whether one CR follows it.
+/// Where the content of a line that was taken is in the window, and whether LF alone ended the line.
 #[derive(Clone, Copy)]
-pub(crate) struct Place {
+pub(crate) struct Cut {
     pub(crate) from: usize,
     pub(crate) to: usize,
-    pub(crate) has_return: bool,
+    pub(crate) is_plain: bool,
 }
 
-/// The bytes from `start` to `end` are given and pending.
+/// The bytes from `start` to `end` are given and pending. Those from `SIZE` on are behind all lines.
 #[derive(Drop)]
 pub(crate) struct Window {
     bytes: Vec<u8>,
@@ -35,20 +38,22 @@ pub(crate) struct Window {
     end: usize,
     ghost ordered: { start ≤ end },
     ghost within: { end ≤ SIZE },
-    ghost whole: { length bytes.items ≡ SIZE },
+    ghost whole: { length bytes.items ≡ SIZE + PADDING },
 }
 
 impl Window {
-    ghost use Rattle.crx_lines.specs.Window.{kept};
+    ghost use Rattle.crx_base.specs.Padded.{line_in};
+    ghost use Rattle.crx_lines.specs.Window.{IsCut, cut_shown, kept};
 
     /// An empty window. Its memory is never on the stack.
     pub(crate) fn new(alloc: Global) -> Result<Window, AllocError>
         ensures { IfOk result (λ window. kept window ≡ []) }
     {
-        let mut bytes = Vec::with_capacity(alloc, SIZE)?;
+        let mut bytes = Vec::with_capacity(alloc, SIZE + PADDING)?;
         for piece in 0..SIZE / PIECE {
             bytes.resize((piece + 1) * PIECE, 0)?;
         }
+        bytes.resize(SIZE + PADDING, 0)?;
         Ok(Window {
             bytes,
             start: 0,
@@ -63,51 +68,34 @@ impl Window {
         &self.bytes[self.start..self.end]
     }
 
-    /// The bytes at these places, pending or not.
-    pub(crate) fn part(&self, from: usize, to: usize) -> &[u8]
-        requires ordered { from ≤ to }
-        requires within { to ≤ SIZE }
-        ensures value { result.now ≡ slice_range self.now.bytes.items from to }
-        ensures len { length result.now ≡ to - from }
+    /// The content of a line that was taken, while its bytes are there.
+    pub(crate) fn padded(&self, cut: Cut) -> Padded<'_>
+        requires { IsCut self.now.bytes.items cut }
+        ensures value { line_in result ≡ (cut_shown self.now.bytes.items cut).content }
     {
-        &self.bytes[from..to]
+        Padded::of(&self.bytes[cut.from..], cut.to - cut.from)
     }
 
-    /// Where the first bytes are, one CR at their end left out.
-    pub(crate) fn content(&self, len: usize) -> Place
-        requires { len ≤ length (kept self.now) }
-        ensures ordered { result.from ≤ result.to }
-        ensures within { result.to ≤ SIZE }
-        ensures value { slice_range self.now.bytes.items result.from result.to
-            ≡ without_return (take len (kept self.now)) }
-        ensures len { length (slice_range self.now.bytes.items result.from result.to)
-            ≡ result.to - result.from }
-        ensures has_return { result.has_return ≡ ends_with_return (take len (kept self.now)) }
+    /// Takes a line of so many bytes, and the LF behind them where one ends it; else they are all that is
+    /// held. A blank is behind its content then, in place of the LF, or of a CR before it.
+    pub(crate) fn take_line(&mut self, len: usize, is_ended: bool) -> Cut
+        requires { MatchBool is_ended (len < length (kept self.old)) (len ≡ length (kept self.old)) }
+        ensures cut { IsCut self.new.bytes.items result }
+        ensures shown { cut_shown self.new.bytes.items result
+            ≡ line_of (record { bytes = take len (kept self.old); is_ended = is_ended }) }
+        ensures kept { kept self.new ≡ drop (len + (if is_ended then 1 else 0)) (kept self.old) }
     {
         let from = self.start;
-        let to = from + len;
-        let bytes = self.bytes.as_slice();
-        if len > 0 && bytes[to - 1] == b'\r' {
-            return Place {
-                from,
-                to: to - 1,
-                has_return: true,
-            };
-        }
-        Place {
+        let end = from + len;
+        let has_return = len > 0 && self.bytes[end - 1] == b'\r';
+        let to = end - usize::from(has_return);
+        self.bytes[to] = b' ';
+        self.start = end + usize::from(is_ended);
+        Cut {
             from,
             to,
-            has_return: false,
+            is_plain: is_ended & !has_return,
         }
-    }
-
-    /// Lets go of the first bytes.
-    pub(crate) fn skip(&mut self, count: usize)
-        requires { count ≤ length (kept self.old) }
-        ensures kept { kept self.new ≡ drop count (kept self.old) }
-        ensures bytes { self.new.bytes.items ≡ self.old.bytes.items }
-    {
-        self.start += count;
     }
 
     /// Lets go of all bytes.

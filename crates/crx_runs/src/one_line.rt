@@ -1,6 +1,7 @@
 //! One line of the input, through an engine to the writer and the messages.
 
 ghost use Rattle.std.specs.Prelude.{◌≡◌, ◌⊎◌, ◌≤◌, List, [], ◌∷◌, None, IfOk, IfErr, OnOk, true};
+ghost use Rattle.crx_base.specs.Padded.{line_in};
 ghost use Rattle.crx_base.specs.meaning.Lines.{InputLine, is_long};
 ghost use Rattle.crx_lines.specs.Reading.{line_shown, line_number};
 ghost use Rattle.crx_base.specs.declared.fault.At.{At};
@@ -14,7 +15,7 @@ ghost use Rattle.crx_runs.specs.meaning.Spans.{span};
 use crate::engine::{Engine, HandedOut, Step};
 use crate::message::{MESSAGE_LIMIT, Severity, put_message};
 use crate::ready_lines::{write_handed_out, write_ready};
-use crx_base::At;
+use crx_base::{At, Padded};
 use crx_lines::{Line, Sink, write_all_counted};
 
 /// What ended a run.
@@ -190,7 +191,7 @@ pub fn take_line<E: Engine, W: Sink, M: Sink>(
             engine,
             writer,
             messages,
-            line.bytes(),
+            line.padded(),
             line.number(),
             line.plain(),
         ),
@@ -205,12 +206,12 @@ fn take_by_answer<E: Engine, W: Sink, M: Sink>(
     engine: &mut E,
     writer: &mut W,
     messages: &mut M,
-    content: &[u8],
+    content: Padded<'_>,
     number: u64,
     is_plain: bool,
 ) -> Result<bool, Halt>
-    requires { HoldsAnswer E.Engine engine.old content.now number is_plain }
-    ensures done { AnswerIsDone E.Engine engine.old engine.new content.now is_plain
+    requires { HoldsAnswer E.Engine engine.old (line_in content) number is_plain }
+    ensures done { AnswerIsDone E.Engine engine.old engine.new (line_in content.entry) is_plain
         (span W.Sink writer.old writer.new) (span M.Sink messages.old messages.new) result }
     ensures told { (messages.new ≡ messages.old) ⊎ HandsOnFirst W.Sink writer.old }
     ensures awaited { W.is_awaited writer.new ≡ W.is_awaited writer.old }
@@ -234,12 +235,12 @@ fn take_stored_answer<E: Engine, W: Sink, M: Sink>(
     engine: &mut E,
     writer: &mut W,
     messages: &mut M,
-    content: &[u8],
+    content: Padded<'_>,
     number: u64,
     is_plain: bool,
 ) -> Result<bool, Halt>
-    requires { HoldsAnswer E.Engine engine.old content.now number is_plain }
-    ensures done { AnswerIsDone E.Engine engine.old engine.new content.now is_plain
+    requires { HoldsAnswer E.Engine engine.old (line_in content) number is_plain }
+    ensures done { AnswerIsDone E.Engine engine.old engine.new (line_in content.entry) is_plain
         (span W.Sink writer.old writer.new) (span M.Sink messages.old messages.new) result }
     ensures told { (messages.new ≡ messages.old) ⊎ HandsOnFirst W.Sink writer.old }
     ensures awaited { W.is_awaited writer.new ≡ W.is_awaited writer.old }

@@ -31,6 +31,7 @@ pending_with one other = record one {
 abbrev pub held_with : Held → Held → Held
 held_with one other = record one {
   tail = piece_with one.tail other.tail;
+  copy = other.copy;
   number = other.number;
   warned = other.warned;
   limit = other.limit;

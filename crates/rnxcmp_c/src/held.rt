@@ -3,6 +3,7 @@
 use crate::limits::READY_LIMIT;
 use crate::pending::Pending;
 use crate::piece::Piece;
+use crx_base::PaddedCopy;
 use std::alloc::{AllocError, Global};
 
 /// What is held between two calls.
@@ -10,6 +11,8 @@ use std::alloc::{AllocError, Global};
 pub struct Held {
     /// The bytes after the last LF, as far as they are kept.
     pub(crate) tail: Piece,
+    /// Where a line is copied to that is taken, since nothing is behind the bytes that are fed.
+    pub(crate) copy: Box<PaddedCopy>,
     /// The number of the last line that was taken, 0 before the first.
     pub(crate) number: u64,
     /// Whether a warning was reported.
@@ -43,8 +46,10 @@ impl Held {
         ensures { IfOk result (HoldsNothing limit) }
     {
         let tail = Piece::new(alloc)?;
+        let copy = Box::new(alloc, PaddedCopy::new())?;
         Ok(Held {
             tail,
+            copy,
             number: 0,
             warned: false,
             limit,

@@ -14,7 +14,7 @@ use crate::held::{Held, Mark};
 use crate::pending::Pending;
 use crate::stop::Stop;
 use crx_base::limits::LINE_LIMIT;
-use crx_base::{At, Fault};
+use crx_base::{At, Fault, PaddedCopy};
 use crx_lines::Line;
 use crx_lines::feed::feed_from;
 use crx_runs::Engine;
@@ -38,11 +38,12 @@ fn content_of(bytes: &[u8]) -> (&[u8], bool)
 }
 
 /// Gives a line to an engine, by what is kept of its bytes and whether an LF followed them; whether there was
-/// a warning.
+/// a warning. It is copied to where a blank and more bytes are behind it.
 fn offer_line<E: Engine>(
     engine: &mut E,
     output: &mut Pending,
     messages: &mut Pending,
+    copy: &mut PaddedCopy,
     bytes: &[u8],
     number: u64,
     is_ended: bool,
@@ -61,12 +62,8 @@ fn offer_line<E: Engine>(
         return take_overlong(engine, output, messages, number);
     }
     let is_plain = is_ended && !has_return;
-    take_line(
-        engine,
-        output,
-        messages,
-        Line::of(content, number, is_plain),
-    )
+    let line = Line::of(copy.of(content), number, is_plain);
+    take_line(engine, output, messages, line)
 }
 
 /// Counts the output since a mark, whatever the step of a line came to: where it is more than there may be,
@@ -113,6 +110,7 @@ fn take_within<E: Engine>(engine: &mut E, held: &mut Held, is_ended: bool) -> Re
         engine,
         &mut held.output,
         &mut held.messages,
+        &mut held.copy,
         held.tail.as_slice(),
         number,
         is_ended,

@@ -1,5 +1,6 @@
 use Rattle.std.proofs.lemmas.Grind.{common_steps}
 use Rattle.std.proofs.Common.{◌≡◌, false, Ok, subst, arith}
+use Rattle.crx_base.specs.Padded.{line_in}
 use Rattle.crx_runs.proofs.LinesTaken.{line-settled}
 use Rattle.crx_runs.specs.Taking.{HasAnswered, IsLine, KeepsLines}
 use Rattle.crx_runs.specs.declared.engine.Step.TheVariants.{Warned}
@@ -10,7 +11,7 @@ returns-in-Ok-Warned-default-false-clause-done g c = λ before answered.
     let now = c.args.engine.now in
     let notice = c.in-Ok-Warned-default-false.notice in
     let is : g.E.Engine.answer now ≡ Ok (Warned notice false) = grind (arith, common_steps) in
-    let line = IsLine c.args.content.now c.args.is_plain in
+    let line = IsLine (line_in c.args.content) c.args.is_plain in
     let a : HasAnswered g.E.Engine before now line (g.E.Engine.ready now) (Ok (Warned notice false)) =
     subst (HasAnswered g.E.Engine before now _ _) is answered in
     let kept : KeepsLines g.E.Engine now now = search in

@@ -45,7 +45,7 @@ shown-is = grind arith
 pub returns-in-None-clause-taken : goal.returns-in-None-clause-taken
 returns-in-None-clause-taken g c =
     let a = rw c.in-None.is at (answered g (goal.at.returns-in-None-clause-taken g c).After-take) in
-    let same = shown-is (line_shown c.args.line) _ _ c.bytes-in-None.ensures.content c.plain.ensures.value in
+    let same = shown-is (line_shown c.args.line) _ _ c.padded.ensures.content c.plain.ensures.value in
     subst (λ (s : InputLine). LineIsTaken g.E.Engine c.args.engine.now c.take_by_answer.new.engine
     (λ l. l ≡ s) (span g.W.Sink c.args.writer.now c.take_by_answer.new.writer)
     (span g.M.Sink c.args.messages.now c.take_by_answer.new.messages) c.take_by_answer.result) same

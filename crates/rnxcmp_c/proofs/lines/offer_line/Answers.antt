@@ -27,7 +27,7 @@ returns-clause-step g c = λ lines whole shown kept.
     let messages = c.args.messages.now in
     let all = whole-where_not_long c.args.bytes.now whole kept
     (rw c.content_of-has_return.ensures.content at c.if-content-gt-LINE_LIMIT.false) in
-    let same : line_shown c.of.result ≡ piece_line c.args.bytes.now c.args.is_ended =
+    let same : line_shown c.of-line.result ≡ piece_line c.args.bytes.now c.args.is_ended =
     elim c.if-is_ended.branch [ then-is_ended w ↦ search rules | else-is_ended w ↦ search rules ] in
     subst (λ (line : InputLine). LineIsGiven taken.result (g.E.Engine.filter c.args.engine.now)
     (g.E.Engine.shows taken.new.engine) lines line output taken.new.writer messages taken.new.messages)

@@ -11,8 +11,9 @@ returns-in-Err g c =
     let stopped = refused-stops d.by_line _ c.self.inside.number _ _ _ (d.parts c.self.inside.direction) _ _ _ _ _ _ _ _
     (c.fail.ensures.fails _ c.may_skip.ensures.value c.is_in_epoch-is_open.ensures.value)
     (sym c.stage-stage.ensures.value) c.stage-stage.ensures.held
-    (sym (c.begins_epoch.ensures.value ∙ ap (λ (l : InputLine). begins_epoch l.content)
-    (sym c.of-line.ensures.shown))) c.in-Err.ensures.takes.reads in
+    (sym (c.begins_epoch-begins.ensures.value ∙ ap begins_epoch c.line.ensures.value
+    ∙ ap (λ (l : InputLine). begins_epoch l.content) (sym c.of-line.ensures.shown)))
+    c.in-Err.ensures.takes.reads in
     let takes = refused-line d.by_line _ c.self.inside.number _ _ (d.parts c.self.inside.direction) _ _ _ _ _ _ _
     stopped c.in-Err.ensures.takes.reads in
     rw (← c.self.view_is, ← c.of-line.ensures.shown) (record {

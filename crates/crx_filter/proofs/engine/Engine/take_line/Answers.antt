@@ -10,7 +10,8 @@ returns-in-Err-clause-reads g c =
     let line = line_shown c.args.line in
     let stopped = refused-stops d.by_line _ c.self.inside.number _ _ _ (d.parts c.self.inside.direction) _ _ _ _ _ _ _ _
     (c.fail.ensures.fails Open refl refl) (sym c.in-Open.ensures.value) c.in-Open.ensures.held
-    (sym (c.begins_epoch.ensures.value ∙ ap begins_epoch c.bytes-in-Err.ensures.content)) c.in-Err.ensures.takes.reads in
+    (sym (c.begins_epoch.ensures.value ∙ ap begins_epoch c.bytes.ensures.content))
+    c.in-Err.ensures.takes.reads in
     let takes = refused-line d.by_line _ c.self.inside.number _ _ (d.parts c.self.inside.direction) _ _ _ _ _ _ _
     stopped c.in-Err.ensures.takes.reads in
     rw (← c.self.view_is) (record {

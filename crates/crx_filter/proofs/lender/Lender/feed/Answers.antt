@@ -9,9 +9,10 @@ use Rattle.crx_filter.proofs.lender.Lender.feed.Goals as goal
 
 -- the line is answered by what it hands out
 fed : (g : Over) (c : After-take_line g) (out : Option HandedOut) → c.take_line.result ≡ out
-    → LineIsAnswered g.D.Direction c.self.inside.engine (line_shown c.args.line) (Content c.args.line.content.now)
-    (answer_given out c.take_line.new.self.answer) (lines_handed_out out c.args.line.content.now
-    (engine_ready g.D.Direction c.take_line.new.self)) c.take_line.new.self
+    → LineIsAnswered g.D.Direction c.self.inside.engine (line_shown c.args.line)
+    (Content (line_shown c.args.line).content) (answer_given out c.take_line.new.self.answer)
+    (lines_handed_out out (line_shown c.args.line).content (engine_ready g.D.Direction c.take_line.new.self))
+    c.take_line.new.self
 fed g c out is =
     let line = line_shown c.args.line in
     let took = c.take_line.ensures in
@@ -45,6 +46,6 @@ returns-in-Some-Lines-clause-answers g c =
 pub returns-in-Some-AsItIs-clause-answers : goal.returns-in-Some-AsItIs-clause-answers
 returns-in-Some-AsItIs-clause-answers g c =
     let at = (goal.at.returns-in-Some-AsItIs-clause-answers g c).After-take_line in
-    let text : c.append.new.text ≡ c.args.line.content.now = grind (arith, common_steps) in
+    let text : c.append.new.text ≡ (line_shown c.args.line).content = grind (arith, common_steps) in
     rw (← c.self.view_is, text)
     (fed g at (Some AsItIs) (c.in-Some-AsItIs.is ∙ ap (λ o. Some o) c.in-Some-AsItIs.field-0-is))

@@ -1,12 +1,11 @@
-use Rattle.std.proofs.Common.{◌≡◌, ℕ, ◌+◌, ◌-◌, ◌≤◌, ⊎_elim, inl, inr, List, [], ◌∷◌, ◌++◌, Err, length, take}
-use Rattle.std.proofs.{Common.{drop, slice_range, sym, ap, ◌∙◌, refl, arith, rules}, lemmas.List.length-drop}
+use Rattle.std.proofs.Common.{◌≡◌, ℕ, ◌+◌, ◌-◌, ◌≤◌, ⊎_elim, inl, inr, cond, List, [], ◌∷◌, ◌++◌, Err, length}
+use Rattle.std.proofs.{Common.{take, drop, sym, ap, ◌∙◌, refl, arith, rules}, lemmas.List.length-drop}
 use Rattle.crx_lines.proofs.AdvanceLemmas.{piece_at, passed-within, takes, some-byte, whole-piece, held-is}
 use Rattle.crx_lines.proofs.AdvanceLemmas.{some-read, too-long, none-passed, content-long, over-fault}
-use Rattle.crx_lines.proofs.{AdvanceLemmas.{read-fault, shown-line}, DeviceLemmas.{tally-same, tally-line}}
+use Rattle.crx_lines.proofs.{AdvanceLemmas.{read-fault}, DeviceLemmas.{tally-same, tally-line}}
 use Rattle.crx_lines.{proofs.SeekLemmas.Seeking-sum, specs.{Readers.reading, Window.kept}}
 use Rattle.crx_base.specs.declared.fault.Fault.TheVariants.{InputTooLong, ReadFailed}
-use Rattle.crx_base.specs.{declared.limits.TheConstants.INPUT_LIMIT, meaning.Lines.without_return}
-use Rattle.crx_base.specs.meaning.Lines.{ends_with_return}
+use Rattle.crx_base.specs.{declared.limits.TheConstants.INPUT_LIMIT, meaning.Lines.{InputLine, line_of}}
 use Rattle.crx_lines.proofs.line.LineReader.advance_by_reading.Goals.{then-found-2, else-found-2}
 use Rattle.crx_lines.proofs.line.LineReader.advance_by_reading.Goals as goal
 
@@ -84,15 +83,16 @@ invariant_of-self-2 g c =
     let bound = passed-within gave start held _ taken found.passed found.len at_end s found.is_ended
     _ c.in-Ok.ensures.end (held-is found.len _ _ c.from.ensures) c.args.self.now.passed
     (omega (arith, ap length (ap kept c.deref_mut.ensures.value), ap length shown, c.args.self.now.limit)) in
-    let now = c.skip.ensures.kept
-    ∙ ap (λ w. drop (found.len + c.from.result) (kept w)) c.deref_mut-2.ensures.value in
+    let count = held-is found.len _ found.is_ended c.from.ensures in
+    let now = c.take_line-cut.ensures.kept ∙ ap (λ w. drop (found.len + cond found.is_ended 1 0) (kept w))
+    c.deref_mut-2.ensures.value ∙ ap (λ n. drop n held) (sym count) in
     record {
       counted = omega (arith, byte, c.args.self.now.counted);
       limit = omega (arith, bound, ap length now, length-drop (found.len + c.from.result) held);
     }
 
-pub returns-then-found-place-clause-answers : goal.returns-then-found-place-clause-answers
-returns-then-found-place-clause-answers g c =
+pub returns-then-found-cut-clause-answers : goal.returns-then-found-cut-clause-answers
+returns-then-found-cut-clause-answers g c =
     let old = c.args.self.now in
     let same = ap kept c.deref_mut.ensures.value in
     let shown = c.as_slice.ensures.value ∙ ap kept c.deref.ensures in
@@ -106,24 +106,26 @@ returns-then-found-place-clause-answers g c =
     let taken = c.in-Ok.ensures.ok.0 in
     let s = c.in-Ok.ensures.ok.1 in
     let some = some-read found.passed found.len found.is_ended c.if-found.false in
-    let now = c.skip.ensures.kept
-    ∙ ap (λ w. drop (found.len + c.from.result) (kept w)) c.deref_mut-2.ensures.value in
-    let place = c.content-place.result in
-    let content = slice_range c.deref-2.result.now.bytes.items place.from place.to in
-    let over = ⊎_elim (λ h. inl h) (λ h. inr (omega (arith, h, c.content-place.ensures.len)))
-    (too-long found.passed (place.to - place.from) c.if-found-place.true) in
+    let count = held-is found.len _ found.is_ended c.from.ensures in
+    let now = c.take_line-cut.ensures.kept ∙ ap (λ w. drop (found.len + cond found.is_ended 1 0) (kept w))
+    c.deref_mut-2.ensures.value ∙ ap (λ n. drop n held) (sym count) in
+    let cut = c.take_line-cut.result in
+    let line = c.take_line-cut.ensures.shown
+    ∙ ap (λ w. line_of (record { bytes = take found.len (kept w); is_ended = found.is_ended }))
+    c.deref_mut-2.ensures.value in
+    let over = ⊎_elim (λ h. inl h) (λ h. inr (omega (arith, h, c.take_line-cut.ensures.cut.3)))
+    (too-long found.passed (cut.to - cut.from) c.if-found-cut.true) in
     let piece = piece_at s.front held found.len found.is_ended in (
       s.given,
       s.lead,
       (
         piece,
         takes gave start held _ taken found.passed found.len at_end s found.is_ended c.in-Ok.ensures.end some
-            (reading old) _ _ (sym same) (held-is found.len _ _ c.from.ensures) now refl
+            (reading old) _ _ (sym same) count now refl
             (omega (arith, limit)) refl
             (elim c.if-found-2.branch [ then-found-2 w ↦ search rules | else-found-2 w ↦ search rules ]),
-        content-long gave start held _ taken found.passed found.len at_end s found.is_ended content
-            (c.content-place.ensures.value ∙ ap (λ w. without_return (take found.len (kept w)))
-            c.deref-2.ensures) over,
+        content-long gave start held _ taken found.passed found.len at_end s found.is_ended _
+            (ap (λ (l : InputLine). l.content) line) over,
         refl,
         tally-line found.is_ended _ _ _ _ (c.in-Ok.ensures.good (inl (search rules))) c.in-Ok.ensures.ends,
       ),
@@ -144,28 +146,24 @@ returns-clause-answers g c =
     let taken = c.in-Ok.ensures.ok.0 in
     let s = c.in-Ok.ensures.ok.1 in
     let some = some-read found.passed found.len found.is_ended c.if-found.false in
-    let now = c.skip.ensures.kept
-    ∙ ap (λ w. drop (found.len + c.from.result) (kept w)) c.deref_mut-2.ensures.value in
-    let place = c.content-place.result in
-    let none = none-passed found.passed (place.to - place.from) c.if-found-place.false in
+    let count = held-is found.len _ found.is_ended c.from.ensures in
+    let now = c.take_line-cut.ensures.kept ∙ ap (λ w. drop (found.len + cond found.is_ended 1 0) (kept w))
+    c.deref_mut-2.ensures.value ∙ ap (λ n. drop n held) (sym count) in
+    let line = c.take_line-cut.ensures.shown
+    ∙ ap (λ w. line_of (record { bytes = take found.len (kept w); is_ended = found.is_ended }))
+    c.deref_mut-2.ensures.value in
+    let none = none-passed found.passed _ c.if-found-cut.false in
     let whole = whole-piece gave start held _ taken found.passed found.len at_end s none in
-    let bytes = c.skip.ensures.bytes ∙ ap (λ w. w.bytes.items)
-    (c.deref_mut-2.ensures.value ∙ sym c.deref-2.ensures) in
-    let content = ap (λ l. slice_range l place.from place.to) bytes ∙ c.content-place.ensures.value ∙ ap
-    (λ w. without_return (take found.len (kept w))) c.deref-2.ensures in
-    let returns = c.content-place.ensures.has_return ∙ ap (λ w. ends_with_return (take found.len (kept w)))
-    c.deref-2.ensures in
     let piece = piece_at s.front held found.len found.is_ended in (
       s.given,
       s.lead,
       (
         piece,
         takes gave start held _ taken found.passed found.len at_end s found.is_ended c.in-Ok.ensures.end some
-            (reading old) _ _ (sym same) (held-is found.len _ _ c.from.ensures) now refl
+            (reading old) _ _ (sym same) count now refl
             (omega (arith, limit)) refl
             (elim c.if-found-2.branch [ then-found-2 w ↦ search rules | else-found-2 w ↦ search rules ]),
-        shown-line s.front (take found.len held) _ found.is_ended place.has_return _ whole
-            content returns refl,
+        line ∙ ap (λ bytes. line_of (record { bytes = bytes; is_ended = found.is_ended })) (sym whole),
         refl,
         tally-line found.is_ended _ _ _ _ (c.in-Ok.ensures.good (inl (search rules))) c.in-Ok.ensures.ends,
       ),

@@ -1,14 +1,27 @@
-use Rattle.std.proofs.Common.{◌≡◌, ℕ, true, not, ◌+◌, ◌<◌, List, [], inr, length, take, drop, slice_range, sym, ap}
-use Rattle.std.proofs.Common.{◌∙◌, refl, arith, subst}
-use Rattle.crx_base.specs.{declared.limits.TheConstants.LINE_LIMIT, meaning.Lines.without_return}
-use Rattle.crx_base.specs.meaning.Lines.{ends_with_return}
-use Rattle.crx_lines.proofs.AdvanceLemmas.{piece_at, takes, whole-piece, content-long, shown-line}
+use Rattle.std.proofs.Common.{◌≡◌, ℕ, true, ◌+◌, List, [], inr, take, drop, IsTrue, sym, ap, ◌∙◌, refl}
+use Rattle.std.proofs.{Common.{arith, subst}, lemmas.Bool.lt-ltb}
+use Rattle.crx_base.specs.{declared.limits.TheConstants.LINE_LIMIT, meaning.Lines.{Piece, line_of, is_long}}
+use Rattle.crx_lines.proofs.AdvanceLemmas.{piece_at, takes, whole-piece}
 use Rattle.crx_lines.proofs.SeekLemmas.{Seeking-start, Seeking-searched}
-use Rattle.crx_lines.specs.{Readers.reading, Reading.{ReaderState, TakesPiece}, Window.kept}
+use Rattle.crx_lines.specs.{Readers.reading, Reading.{ReaderState, TakesPiece}, Window.{cut_shown, kept}}
+use Rattle.crx_lines.proofs.line.LineReader.advance_held.Goals.{After-take_line-cut}
 use Rattle.crx_lines.proofs.line.LineReader.advance_held.Goals as goal
 
-pub returns-then-place-gt-LINE_LIMIT-clause-answers : goal.returns-then-place-gt-LINE_LIMIT-clause-answers
-returns-then-place-gt-LINE_LIMIT-clause-answers c =
+abbrev after : After-take_line-cut → ReaderState
+after c =
+    let old = c.args.self.now in
+    record {
+      rest = kept c.take_line-cut.new.self;
+      passed = old.passed + (c.in-Some.len + 1);
+      number = old.number + 1;
+      phase = old.phase;
+    }
+
+-- the line that was taken is the first of what was kept
+taken : (c : After-take_line-cut) → (p : Piece) × (p.is_ended ≡ true)
+    × TakesPiece (reading c.args.self.now) [] ⊥ p (after c)
+    × (cut_shown c.take_line-cut.new.self.bytes.items c.take_line-cut.result ≡ line_of p)
+taken c =
     let old = c.args.self.now in
     let held = kept old.window.value in
     let len = c.in-Some.len in
@@ -18,63 +31,34 @@ returns-then-place-gt-LINE_LIMIT-clause-answers c =
     let s = Seeking-searched gave held held 0 0 0 0 len
     (Seeking-start gave held 0 refl) (omega (arith, feed.within))
     feed.first in
-    let after : ReaderState = record {
-      rest = kept c.skip.new.self;
-      passed = old.passed + (len + 1);
-      number = old.number + 1;
-      phase = old.phase;
-    } in
-    let now = c.skip.ensures.kept ∙ ap (λ w. drop (len + 1) (kept w)) c.deref_mut.ensures.value in
-    let content = slice_range c.deref-2.result.now.bytes.items c.content-place.result.from
-    c.content-place.result.to in
-    let long : LINE_LIMIT < length content = let over =
-    c.if-place-gt-LINE_LIMIT.true in let e = c.content-place.ensures.len in omega (arith, over, e) in
+    let cut = c.take_line-cut.ensures in
+    let now = cut.kept ∙ ap (λ w. drop (len + 1) (kept w)) c.deref_mut.ensures.value in
+    let whole = whole-piece gave held held 0 0 0 len ⊥ s refl in
     let piece = piece_at s.front held len true in (
-      refl,
       piece,
       refl,
-      subst (λ given. TakesPiece (reading old) given ⊥ piece after) s.lead (takes gave held held 0 0 0 len ⊥ s true
-          (feed.within.1, feed.found) (inr refl) (reading old) after (len + 1) refl refl now (omega arith)
+      subst (λ given. TakesPiece (reading old) given ⊥ piece (after c)) s.lead
+          (takes gave held held 0 0 0 len ⊥ s true (feed.within.1, feed.found) (inr refl) (reading old)
+          (after c) (len + 1) refl refl now (omega arith)
           (let limit = old.limit in omega (arith, limit)) refl c.requires),
-      content-long gave held held 0 0 0 len ⊥ s true content
-          (c.content-place.ensures.value ∙ ap (λ w. without_return (take len (kept w))) c.deref-2.ensures)
-          (inr long),
+      cut.shown ∙ ap (λ w. line_of (record { bytes = take len (kept w); is_ended = true }))
+          c.deref_mut.ensures.value ∙ ap (λ bytes. line_of (record { bytes = bytes; is_ended = true })) (sym whole),
+    )
+
+pub returns-then-cut-gt-LINE_LIMIT-clause-answers : goal.returns-then-cut-gt-LINE_LIMIT-clause-answers
+returns-then-cut-gt-LINE_LIMIT-clause-answers c =
+    let t = taken (goal.at.returns-then-cut-gt-LINE_LIMIT-clause-answers c).After-take_line-cut in
+    let over = c.if-cut-gt-LINE_LIMIT.true in
+    let long = c.take_line-cut.ensures.cut.3 in (
+      refl,
+      t.0,
+      t.1,
+      t.2,
+      subst (λ l. IsTrue (is_long l)) t.3 (lt-ltb LINE_LIMIT _ (omega (arith, over, long))),
       refl,
     )
 
 pub returns-clause-answers : goal.returns-clause-answers
 returns-clause-answers c =
-    let old = c.args.self.now in
-    let held = kept old.window.value in
-    let len = c.in-Some.len in
-    let place = c.content-place.result in
-    let shown = c.as_slice.ensures.value ∙ ap kept c.deref.ensures in
-    let gave = λ (given : List ℕ). given ≡ [] in
-    let feed = rw shown at c.in-Some.ensures in
-    let s = Seeking-searched gave held held 0 0 0 0 len
-    (Seeking-start gave held 0 refl) (omega (arith, feed.within))
-    feed.first in
-    let after : ReaderState = record {
-      rest = kept c.skip.new.self;
-      passed = old.passed + (len + 1);
-      number = old.number + 1;
-      phase = old.phase;
-    } in
-    let now = c.skip.ensures.kept ∙ ap (λ w. drop (len + 1) (kept w)) c.deref_mut.ensures.value in
-    let bytes = c.skip.ensures.bytes ∙ ap (λ w. w.bytes.items)
-    (c.deref_mut.ensures.value ∙ sym c.deref-2.ensures) in
-    let content = ap (λ l. slice_range l place.from place.to) bytes ∙ c.content-place.ensures.value ∙ ap
-    (λ w. without_return (take len (kept w))) c.deref-2.ensures in
-    let returns = c.content-place.ensures.has_return ∙ ap (λ w. ends_with_return (take len (kept w)))
-    c.deref-2.ensures in
-    let whole = whole-piece gave held held 0 0 0 len ⊥ s refl in
-    let piece = piece_at s.front held len true in (
-      piece,
-      refl,
-      subst (λ given. TakesPiece (reading old) given ⊥ piece after) s.lead (takes gave held held 0 0 0 len ⊥ s true
-          (feed.within.1, feed.found) (inr refl) (reading old) after (len + 1) refl refl now (omega arith)
-          (let limit = old.limit in omega (arith, limit)) refl c.requires),
-      shown-line s.front (take len held) _ true place.has_return (not place.has_return) whole content
-          returns refl,
-      refl,
-    )
+    let t = taken (goal.at.returns-clause-answers c).After-take_line-cut in
+    (t.0, t.1, t.2, t.3, refl)

@@ -6,10 +6,10 @@ use Rattle.crx_lines.proofs.line.LineReader.next_held.Goals as goal
 err-not-none : (at : At) → ◌≡◌ {A = Result (Option Line) At} (Err at) (Ok None) → ⊥
 err-not-none at e = cc
 
-pub returns-in_err-part : goal.returns-in_err-part
-returns-in_err-part c =
+pub returns-in_err-cut : goal.returns-in_err-cut
+returns-in_err-cut c =
     let p = err_from_is_err_and c.from_residual.result c.from_residual.ensures.1 in
-    let found = c.in_err-part.ensures.answers in
+    let found = c.in_err-cut.ensures.answers in
     rw (p.1, p.2) (
       (refl, (λ _. tt), found),
       record {
