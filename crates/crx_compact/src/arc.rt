@@ -1,9 +1,11 @@
 //! Arcs: Hatanaka's Compact RINEX 3.0, data arcs. An arc's values become codes and come back from them by
 //! running differences: an arc is stored as its order and its latest differences of order 0, 1, .. up to it.
 
-ghost use Rattle.std.specs.Prelude.{◌≡◌, ◌≤◌, ◌<◌, ◌+◌, ◌*◌, ◌^◌, ◌++◌, ◌∷◌, [], ℤ, List, Option, None, Some, Ok, Err, length, take, IfSome, OnSome, IfNone, OnOk, OnErr, IsTrue};
+ghost use Rattle.std.specs.Prelude.{◌≡◌, ◌≤◌, ◌<◌, ◌+◌, ◌*◌, ◌^◌, ◌++◌, ◌∷◌, [], ℤ, List, Option, None, Some, Ok, Err, length, take, IfSome, OnSome, IfNone, OnOk, OnErr, IsTrue, ◌↔◌};
 ghost use Rattle.crx_text.specs.Codes.{IsPrintable, IsShort};
 ghost use Rattle.crx_text.specs.meaning.Numbers.{IsMissingOrWithin, IsWithin};
+ghost use Rattle.crx_compact.specs.ArcTails.{HasThird};
+ghost use Rattle.crx_base.specs.declared.fault.Fault.TheVariants.{OutOfRange};
 ghost use Rattle.crx_compact.specs.Arcs.{AreBelow, IsBelow, value_bound};
 ghost use Rattle.crx_compact.specs.meaning.Differences.{code_at, newest};
 ghost use Rattle.crx_compact.specs.meaning.ArcValues.{is_within, value_of};
@@ -102,7 +104,7 @@ fn value_after(differences: &[i64], number: i64) -> i64
 /// have from their fourth value on. The two numbers are compared as one.
 #[inline(always)]
 fn is_third(order: u8, count: u8) -> bool
-    ensures third { IsTrue result → (order ≡ 3) × (count ≡ 4) }
+    ensures third { IsTrue result ↔ ((order ≡ 3) × (count ≡ 4)) }
 {
     u16::from_le_bytes([order, count]) == u16::from_le_bytes([3, 4])
 }
@@ -163,7 +165,7 @@ impl<const WIDTH: usize> Arc<WIDTH> {
         ensures code { IfSome result (λ number. code_of_value (Some value) self.old ≡ Step number) }
         ensures short { IfSome result IsShort }
         ensures arc { OnSome result (self.new ≡ arc_of_value (Some value) self.old) }
-        ensures none { IfNone result (self.new ≡ self.old) }
+        ensures none { IfNone result ((self.new ≡ self.old) × (HasThird self.old → ⊥)) }
     {
         if !is_third(self.order, self.count) {
             return None;
@@ -232,7 +234,8 @@ impl<const WIDTH: usize> Arc<WIDTH> {
         ensures value { IfSome result
             (λ value. value_of_code WIDTH (Step number) self.old ≡ Ok (Some value)) }
         ensures arc { OnSome result (self.new ≡ arc_of_code (Step number) self.old) }
-        ensures none { IfNone result (self.new ≡ self.old) }
+        ensures none { IfNone result ((self.new ≡ self.old)
+            × (HasThird self.old → value_of_code WIDTH (Step number) self.old ≡ Err OutOfRange)) }
     {
         if !is_third(self.order, self.count) {
             return None;

@@ -1,4 +1,4 @@
-use Rattle.std.proofs.{lemmas.Grind.common_steps, Common.{rules, take, sym, ap, subst, ◌∙◌, arith, ℕ}}
+use Rattle.std.proofs.{lemmas.Grind.common_steps, Common.{rules, take, sym, ap, subst, ◌∙◌, arith, refl, ℕ}}
 use Rattle.crx_compact.specs.{meaning.Differences.newest, Arcs.{IsArcInRange}}
 use Rattle.crx_compact.specs.ArcSteps.{differences_after}
 use Rattle.crx_compact.proofs.arcs.Running.{IsLast, OntoThird, by-after, goes-on-kept}
@@ -35,11 +35,16 @@ invariant_of-self g c =
     simp (same-bits, fits, o.zeroth_before, o.first_before, o.second_before, o.second, o.first, o.value)
     at c.is_within.ensures in
     subst (λ (n : ℕ). IsArcInRange g.row.WIDTH c.self.inside.order n (take n c.put_four.new.differences))
-    (sym (c.is_third.ensures.third c.if-not-is_third.false).1)
+    (sym (c.is_third.ensures.third.0 c.if-not-is_third.false).1)
     (goes-on-kept _ c.self.inside.order c.self.inside.count 3 ds _ _ (last g at) c.self.invariant
     ((within-is _ _).0 (sym is ∙ c.if-not-is_within.false))
     (put ∙ o.sums ∙ by-after c.args.number (take 3 ds)
     ∙ ap (λ v. differences_after v (take 3 ds)) (sym (ap newest o.sums))))
+
+pub returns-then-not-is_within-clause-none : goal.returns-then-not-is_within-clause-none
+returns-then-not-is_within-clause-none g c =
+    let o = onto g (goal.at.returns-then-not-is_within-clause-none g c).Else-not-is_third in
+    (refl, λ has. search rules)
 
 pub returns : goal.returns
 returns g c =

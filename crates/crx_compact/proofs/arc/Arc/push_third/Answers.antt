@@ -36,14 +36,14 @@ invariant_of-self g c =
     simp (same-bits, fits, t.zeroth_before, t.first_before, t.second_before, t.first, t.second, t.third)
     at c.put_four.ensures in
     subst (λ (n : ℕ). IsArcInRange g.row.WIDTH c.self.inside.order n (take n c.put_four.new.differences))
-    (sym (c.is_third.ensures.third c.if-not-is_third.false).1)
+    (sym (c.is_third.ensures.third.0 c.if-not-is_third.false).1)
     (goes-on-kept _ c.self.inside.order c.self.inside.count 3 ds _ _ (last g at) c.self.invariant c.requires
     (put ∙ sym (after-three ds c.args.value (search rules))))
 
 pub returns : goal.returns
 returns g c =
     let at = (goal.at.returns g c).Else-not-is_third in
-    let third = c.is_third.ensures.third c.if-not-is_third.false in
+    let third = c.is_third.ensures.third.0 c.if-not-is_third.false in
     let ds = c.self.inside.differences in
     let t = to g at in
     let fits = c.ranges.value in
