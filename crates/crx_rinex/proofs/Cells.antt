@@ -1,21 +1,31 @@
 -- The cells of a satellite line, taken one by one.
-use Rattle.std.proofs.Common.{◌≡◌, ℕ, ℤ, ◌+◌, ◌-◌, ◌*◌, ◌<◌, ◌≤◌, All, List, [], ◌∷◌, ◌++◌, Option}
-use Rattle.std.proofs.Common.{Some, None, length, take, drop, replicate, get_or, refl, ap, sym, ◌∙◌, arith}
-use Rattle.std.proofs.{Common.{suc, zero, Bool, true, Err, MatchBool}, lemmas.Bool.and_from}
+use Rattle.std.proofs.Common.{◌≡◌, inl, inr, ℕ, ℤ, ◌+◌, ◌-◌, ◌*◌, ◌<◌, ◌≤◌, ◌&&◌, false, All, List, [], ◌∷◌}
+use Rattle.std.proofs.Common.{◌++◌, Option}
+use Rattle.std.proofs.Common.{Some, None, length, take, drop, replicate, get_or, map, refl, ap, sym, ◌∙◌}
+use Rattle.std.proofs.Common.{arith, subst}
+use Rattle.std.proofs.{Common.{suc, zero, Bool, true, cond, nat_lt, Err, MatchBool, append_assoc, append-nil}}
+use Rattle.std.proofs.{lemmas.Bool.{and_from, cases_lt, le-ltb, lt-ltb}, Math.{Bool.and-true, Seq.take-add}}
 use Rattle.std.proofs.lemmas.{Grind.common_steps, List.{take_more_set, length-set, take_at, take-append-le}}
-use Rattle.std.proofs.lemmas.List.{drop_all, length-drop, get_or_default, get_or_past, take-take}
-use Rattle.std.proofs.lemmas.List.{length-replicate, take-replicate, Folds.concat-append}
-use Rattle.std.{specs.List.concat}
-use Rattle.std.specs.{List.list_all, Prelude.slice_set}
+use Rattle.std.proofs.lemmas.List.{drop_all, drop-drop, drop-replicate, drop-set, drop-set-lt, drop-take}
+use Rattle.std.proofs.lemmas.List.{length-drop, get_or_past, get_or-append-add}
+use Rattle.std.proofs.lemmas.List.{length-replicate, length-take, length-take-le, take-replicate, take-take}
+use Rattle.std.proofs.lemmas.List.{take_all, take_rest}
+use Rattle.std.proofs.lemmas.{List.{Elements.{All-append, All-replicate, filter-append}, Folds.{concat-append, list_all-append}}}
+use Rattle.std.proofs.lemmas.{Simd.length-put_chunk}
+use Rattle.std.specs.{List.{concat, list_all, range_with_len}, Prelude.{filter, is_some, slice_set}}
+use Rattle.std.specs.{Simd.Lanes.put_chunk}
+use lib.Lanes.{sel_l, top}
+use Rattle.crx_text.proofs.Blanks.{columns_are}
 use Rattle.crx_text.proofs.EachPlace.{each_place-more, index-each_place, length-each_place}
-use Rattle.crx_text.specs.{meaning.Columns.{character_at, is_blank}}
+use Rattle.crx_text.specs.{meaning.Columns.{character_at, columns}}
 use Rattle.crx_text.specs.meaning.{EachPlace.each_place, Numbers.{observation_of, number_of, IsValue}}
 use Rattle.crx_text.specs.meaning.Texts.{is_kept}
-use Rattle.crx_rinex.specs.SatelliteLines.{blank_row, row_by_cells, with_flags, AreAllRead}
-use Rattle.crx_rinex.specs.{SatelliteLines.AreCellsRead, meaning.{Observations.Row, SatelliteLines.all_some}}
+use Rattle.crx_rinex.specs.SatelliteLines.{blank_row, row_by_cells, with_flags, AreCellsRead, AreEmptyFrom}
+use Rattle.crx_rinex.specs.{SatelliteLines.{AreFirstRead, ArePaired, IsRowOf}}
+use Rattle.crx_rinex.specs.{meaning.{Observations.Row, SatelliteLines.all_some}}
 use Rattle.crx_rinex.specs.meaning.SatelliteLines.{values_in, flags_at, flags_in, field, row_with, IsSoundRow}
 use Rattle.crx_header.specs.meaning.{ObservationTypes.IsAllowedCount, Satellites.is_identifier}
-use Rattle.crx_base.specs.declared.fault.Fault.TheVariants.{BadField}
+use Rattle.crx_base.specs.declared.fault.Fault.TheVariants.{BadField, BadFlags}
 
 -- one value more
 pub all_some-push : (xs : List (Option (Option ℤ))) (vs : List (Option ℤ)) (v : Option ℤ)
@@ -57,51 +67,210 @@ field_inside line k h =
     let e : 16 * k + 3 + 1 - 1 ≡ 16 * k + 3 = omega arith in
     rw e (take-append-le 14 _ _ (omega (arith, length-drop (16 * k + 3) line)))
 
--- what is read of a line begins with that field
-pub read_inside : (line : List ℕ) (k n : ℕ) → 14 ≤ n → 16 * k + 3 + 14 ≤ length line
-    → take 14 (take (16 * k + 3 + n - (16 * k + 3)) (drop (16 * k + 3) line)) ≡ field line k
-read_inside line k n long h =
-    let width : 16 * k + 3 + n - (16 * k + 3) ≡ n = omega arith in
-    ap (λ n. take 14 (take n (drop (16 * k + 3) line))) width
-    ∙ take-take 14 n _ long ∙ sym (field_inside line k (omega (arith, h)))
-
--- two indicators more
-pub pair_pushed : (line : List ℕ) (k : ℕ) (flags : List ℕ) (a b : ℕ) → 2 * k + 1 < length flags
-    → take (2 * k) flags ≡ flags_in k line → a ≡ character_at line (16 * k + 18)
-    → b ≡ character_at line (16 * k + 19)
-    → take (2 * (k + 1)) (slice_set (slice_set flags (2 * k) a) (2 * k + 1) b) ≡ flags_in (k + 1) line
-pair_pushed line k flags a b room h ha hb = grind (arith, common_steps, take_more_set, flags_in_more)
-
--- a character inside the line
-pub inside : (line : List ℕ) (i column : ℕ) → i < length line → i ≡ column - 1
-    → get_or line i 0 ≡ character_at line column
-inside line i column within is = grind (arith, common_steps, get_or_default, get_or)
-
--- and one past its end
-pub past : (line : List ℕ) (column : ℕ) → length line < column → 32 ≡ character_at line column
-past line column h = sym (get_or_past line _ 32 (omega arith))
+-- a cell's columns are its field and its two indicators
+pub cell_parts : (field cell : List ℕ) (a b : ℕ) → length field ≡ 14 → cell ≡ field ++ a ∷ b ∷ []
+    → (take 14 cell ≡ field) × (get_or (cell ++ cell) 14 0 ≡ a) × (get_or (cell ++ cell) 15 0 ≡ b)
+cell_parts field cell a b long is =
+    let whole : List ℕ = field ++ a ∷ b ∷ [] in
+    let at : (i : ℕ) → get_or (whole ++ cell) (length field + i) 0 ≡ get_or (a ∷ b ∷ cell) i 0 =
+    λ i. ap (λ t. get_or t (length field + i) 0) (append_assoc field (a ∷ b ∷ []) cell)
+    ∙ get_or-append-add field (a ∷ b ∷ cell) i 0 in (
+      ap (take 14) is ∙ take-append-le 14 field _ (omega (arith, long)) ∙ take_all 14 field (omega
+          (arith, long)),
+      ap (λ t. get_or (t ++ cell) 14 0) is ∙ ap (λ n. get_or (whole ++ cell) n 0) (omega (arith, long))
+          ∙ at 0,
+      ap (λ t. get_or (t ++ cell) 15 0) is ∙ ap (λ n. get_or (whole ++ cell) n 0) (omega (arith, long))
+          ∙ at 1,
+    )
 
 -- one cell more
-pub cells_more : (line : List ℕ) (values : List (Option ℤ)) (flags : List ℕ) (k a b : ℕ) (value : Option ℤ)
-    → AreCellsRead k line values flags → k < length values
-    → observation_of (field line k) ≡ Some value → IsValue value
-    → a ≡ character_at line (16 * k + 18) → b ≡ character_at line (16 * k + 19)
-    → AreCellsRead (k + 1) line (slice_set values k value) (slice_set (slice_set flags (2 * k) a) (2 * k + 1)
-    b)
-cells_more = grind (arith, common_steps, take_more_set, length-set, values_in_more, pair_pushed)
+pub cells_more : (line : List ℕ) (values : List (Option ℤ)) (flags flags_after : List ℕ) (k : ℕ)
+    (value : Option ℤ) → AreCellsRead k line values flags → k < length values
+    → observation_of (field line k) ≡ Some value → IsValue value → length flags_after ≡ length flags
+    → take (2 * (k + 1)) flags_after ≡ take (2 * k) flags ++ flags_at line k
+    → AreCellsRead (k + 1) line (slice_set values k value) flags_after
+cells_more = grind (arith, common_steps, take_more_set, length-set, values_in_more, flags_in_more)
 
--- once the last is read
-pub cells_whole : (line : List ℕ) (values : List (Option ℤ)) (flags : List ℕ) (k m : ℕ)
-    → AreCellsRead k line values flags → k ≡ m → length values ≡ m
-    → list_all is_blank (drop (16 * m + 3) line) ≡ true → AreAllRead m line values flags
-cells_whole line values flags k m h all long ended = grind (arith, common_steps)
+drop_past : (i : ℕ) (xs ys : List ℕ) (n : ℕ) → i + length ys ≤ n → drop n (put_chunk i xs ys) ≡ drop n xs
+drop_past zero (x ∷ xs) (y ∷ ys) (suc n) h = drop_past zero xs ys n (omega (arith, h))
+drop_past (suc i) (x ∷ xs) ys (suc n) h = drop_past i xs ys n (omega (arith, h))
+drop_past i xs ys n h = grind (arith, common_steps)
 
--- what is after it decides
-pub cells_end : (line : List ℕ) (values : List (Option ℤ)) (flags : List ℕ) (k m : ℕ) (b : Bool)
-    → AreCellsRead k line values flags → k ≡ m → length values ≡ m
-    → b ≡ list_all is_blank (drop (16 * m + 3) line)
-    → MatchBool b (AreAllRead m line values flags) (row_by_cells m line ≡ Err BadField)
-cells_end = grind (arith, common_steps, cells_whole)
+-- one before those that are empty
+pub keeps_empty : (values : List (Option ℤ)) (flags : List ℕ) (k n : ℕ) (value : Option ℤ) (pair : List ℕ)
+    → length pair ≡ 2 → k + 1 ≤ n → AreEmptyFrom n values flags
+    → AreEmptyFrom n (slice_set values k value) (put_chunk (2 * k) flags pair)
+keeps_empty = grind (arith, common_steps, length-set, length-put_chunk, drop-set-lt, drop_past)
+
+-- and one that becomes empty itself
+pub more_empty : (values : List (Option ℤ)) (flags : List ℕ) (k : ℕ) → AreEmptyFrom (k + 1) values flags
+    → AreEmptyFrom k (slice_set values k None) (slice_set (slice_set flags (2 * k) 32) (2 * k + 1) 32)
+more_empty values flags k empty =
+    let within : k < length values = omega (arith, empty.within) in
+    let pairs = empty.pairs.0 in
+    let place : suc (suc (2 * k)) ≡ 2 * (k + 1) = omega arith in
+    let one : 2 * k + 1 ≡ suc (2 * k) = omega arith in
+    let count : length values - k ≡ suc (length values - (k + 1)) = omega (arith, within) in
+    let twice : 2 * (length values - k) ≡ suc (suc (2 * (length values - (k + 1)))) = omega (arith, within) in
+    record {
+      pairs = grind (arith, common_steps, length-set);
+      within = omega (arith, within, length-set values k None);
+      missing = drop-set values k None within ∙ ap (λ t. None ∷ t) empty.missing
+          ∙ ap (λ n. replicate n None) (sym count ∙ ap (λ n. n - k) (sym (length-set values k None)));
+      blank = ap (λ i. drop (2 * k) (slice_set (slice_set flags (2 * k) 32) i 32)) one
+          ∙ drop_pair flags (2 * k) (omega (arith, within, pairs)) ∙ ap (λ n. 32 ∷ 32 ∷ drop n flags) place
+          ∙ ap (λ t. 32 ∷ 32 ∷ t) empty.blank
+          ∙ ap (λ n. replicate n 32) (sym twice ∙ ap (λ n. 2 * (n - k)) (sym (length-set values k None)));
+    }
+  where
+    drop_pair : (fs : List ℕ) (i : ℕ) → suc i < length fs
+        → drop i (slice_set (slice_set fs i 32) (suc i) 32) ≡ 32 ∷ 32 ∷ drop (suc (suc i)) fs
+    drop_pair (x ∷ y ∷ fs) zero h = refl
+    drop_pair (x ∷ fs) (suc i) h = drop_pair fs i (omega (arith, h))
+    drop_pair fs i h = absurd (omega (arith, h))
+
+-- no cell is behind the last
+pub all_paired : (values : List (Option ℤ)) (flags : List ℕ) → ArePaired values flags
+    → AreEmptyFrom (length values) values flags
+all_paired = grind (arith, common_steps, drop_all)
+
+-- later cells are empty too
+pub less_empty : (values : List (Option ℤ)) (flags : List ℕ) (first later : ℕ)
+    → AreEmptyFrom first values flags
+    → first ≤ later → later ≤ length values → AreEmptyFrom later values flags
+less_empty values flags first later empty less within =
+    let sum : first + (later - first) ≡ later = omega (arith, less) in
+    let twice : 2 * first + 2 * (later - first) ≡ 2 * later = omega (arith, less) in
+    let rest : length values - first - (later - first) ≡ length values - later = omega (arith, less) in
+    let pairs : 2 * (length values - first) - 2 * (later - first) ≡ 2 * (length values - later) = omega
+    (arith, less) in
+    record {
+      pairs = empty.pairs;
+      within = within;
+      missing = ap (λ n. drop n values) (sym sum) ∙ sym (drop-drop (later - first) first values)
+          ∙ ap (drop (later - first)) empty.missing ∙ drop-replicate (later - first)
+          (length values - first) None
+          ∙ ap (λ n. replicate n None) rest;
+      blank = ap (λ n. drop n flags) (sym twice) ∙ sym (drop-drop (2 * (later - first)) (2 * first) flags)
+          ∙ ap (drop (2 * (later - first))) empty.blank
+          ∙ drop-replicate (2 * (later - first)) (2 * (length values - first)) 32 ∙ ap
+          (λ n. replicate n 32) pairs;
+    }
+
+-- where they are missing, they aren't counted
+pub observed : (values : List (Option ℤ)) (flags : List ℕ) (first m : ℕ) → AreEmptyFrom first values flags
+    → first ≤ m → length (filter is_some (take first values)) ≡ length (filter is_some (take m values))
+observed values flags first m empty within =
+    let sum : first + (m - first) ≡ m = omega (arith, within) in
+    sym (ap (λ n. length (filter is_some (take n values))) (sym sum)
+    ∙ ap (λ t. length (filter is_some t)) (take-add first (m - first) values ∙ ap
+    (λ t. take first values ++ take (m - first) t) empty.missing)
+    ∙ ap length (filter-append is_some (take first values) (take (m - first) (replicate
+    (length values - first) None)))
+    ∙ ap (λ t. length (filter is_some (take first values) ++ t)) (none (m - first) (length values - first))
+    ∙ ap length (append-nil _))
+  where
+    none : (a b : ℕ) → filter is_some (take a (replicate {A = Option ℤ} b None)) ≡ []
+    none (suc a) (suc b) = none a b
+    none a b = grind (arith, common_steps)
+
+-- the columns of a whole cell
+pub whole_columns : (line bytes : List ℕ) (start : ℕ) → take (length line) bytes ≡ line
+    → start + 16 ≤ length line → take 16 (take (length bytes - start) (drop start bytes)) ≡ columns line
+    (start + 1) 16
+whole_columns line bytes start is room =
+    let place : start + 1 - 1 ≡ start = omega arith in
+    let sum : start + (length line - start) ≡ length line = omega (arith, room) in
+    ap (take 16) (take_rest bytes start)
+    ∙ sym (rw place (take-append-le 16 (drop start line) _ (omega (arith, room, length-drop start line))
+    ∙ ap (λ t. take 16 (drop start t)) (sym is) ∙ ap (λ n. take 16 (drop start (take n bytes))) (sym sum)
+    ∙ ap (take 16) (drop-take start (length line - start) bytes)
+    ∙ take-take 16 (length line - start) (drop start bytes) (omega (arith, room))))
+
+-- lanes below a place, and blanks
+first_lanes : (left i : ℕ) (xs : List ℕ)
+    → sel_l (map (λ j. top 7 (cond (nat_lt j left) 255 0)) (range_with_len i (length xs))) xs (replicate
+    (length xs) 32)
+    ≡ take (left - i) xs ++ replicate (length xs - (left - i)) 32
+first_lanes left i [] = grind (arith, common_steps)
+first_lanes left i (x ∷ xs) = elim (cases_lt i left) [
+  | inl near ↦
+      let yes : nat_lt i left ≡ true = lt-ltb i left near in
+      let more : left - i ≡ suc (left - (i + 1)) = omega (arith, near) in
+      let count : length (x ∷ xs) - (left - i) ≡ length xs - (left - (i + 1)) = omega (arith, near) in
+      rw (yes, count, more) (ap (λ t. x ∷ t) (first_lanes left (i + 1) xs))
+  | inr far ↦
+      let no : nat_lt i left ≡ false = le-ltb i left far in
+      let none : left - i ≡ 0 = omega (arith, far) in
+      let next : left - (i + 1) ≡ 0 = omega (arith, far) in
+      let all : length (x ∷ xs) - (left - i) ≡ suc (length xs) = omega (arith, far) in
+      let rest : length xs - (left - (i + 1)) ≡ length xs = omega (arith, far) in
+      rw (no, all, none) (ap (λ t. 32 ∷ t) (first_lanes left (i + 1) xs ∙ rw (rest, next) refl))
+]
+
+-- the columns of a cell that the line's end cuts
+pub cut_columns : (line bytes : List ℕ) (start left : ℕ) → take (length line) bytes ≡ line
+    → start + 16 ≤ length bytes → length line < start + 16 → left ≡ length line - start
+    → sel_l (map (λ j. top 7 (cond (nat_lt j left) 255 0)) (range_with_len 0 16))
+    (take 16 (take (length bytes - start) (drop start bytes))) (replicate 16 32) ≡ columns line (start + 1) 16
+cut_columns line bytes start left is room cut rest =
+    let xs : List ℕ = take 16 (drop start bytes) in
+    let long : length xs ≡ 16 = length-take-le 16 _ (omega (arith, room, length-drop start bytes)) in
+    let place : start + 1 - 1 ≡ start = omega arith in
+    let part : take 16 (drop start line) ≡ take left xs = elim (cases_lt (length line) start) [
+      | inr inside ↦
+          let sum : start + left ≡ length line = omega (arith, inside, rest) in
+          ap (λ t. take 16 (drop start t)) (sym is) ∙ ap (λ n. take 16 (drop start (take n bytes))) (sym sum)
+          ∙ ap (take 16) (drop-take start left bytes)
+          ∙ take_all 16 (take left (drop start bytes)) (omega (
+            arith,
+            cut,
+            rest,
+            length-take left
+                (drop start bytes),
+          ))
+          ∙ sym (take-take left 16 (drop start bytes) (omega (arith, cut, rest)))
+      | inl past ↦
+          let none : left ≡ 0 = omega (arith, past, rest) in
+          ap (take 16) (drop_all start line (omega (arith, past))) ∙ ap (λ n. take n xs) (sym none)
+    ] in
+    let whole : left - 0 ≡ left = omega arith in
+    let wide : length (take left xs) ≡ left = length-take-le left xs (omega (arith, cut, long, rest)) in
+    ap (λ t. sel_l (map (λ j. top 7 (cond (nat_lt j left) 255 0)) (range_with_len 0 16)) (take 16 t)
+    (replicate 16 32))
+    (take_rest bytes start)
+    ∙ subst (λ (n : ℕ). sel_l (map (λ j. top 7 (cond (nat_lt j left) 255 0)) (range_with_len 0 n)) xs
+    (replicate n 32)
+    ≡ take (left - 0) xs ++ replicate (n - (left - 0)) 32) long (first_lanes left 0 xs)
+    ∙ ap (λ k. take k xs ++ replicate (16 - k) 32) whole ∙ sym (columns_are line (start + 1) 16 ∙ rw
+    (place, part, wide) refl)
+
+flags_past : (line : List ℕ) (k : ℕ) → length line ≤ 16 * k + 3 → flags_at line k ≡ 32 ∷ 32 ∷ []
+flags_past line k h =
+    let at : (column : ℕ) → 16 * k + 18 ≤ column → character_at line column ≡ 32 =
+    λ column far. get_or_past line _ 32 (omega (arith, far)) in
+    rw (at (16 * k + 18) (omega arith), at (16 * k + 19) (omega arith)) refl
+
+-- cells past the line's end
+cells_past : (line : List ℕ) (n d : ℕ) (vs : List (Option ℤ)) (fs : List ℕ) → (1 ≤ d
+    → length line ≤ 16 * n + 3)
+    → values_in n line ≡ Some vs → flags_in n line ≡ fs
+    → (values_in (n + d) line ≡ Some (vs ++ replicate d None)) × (flags_in (n + d) line ≡ fs ++ replicate
+    (2 * d) 32)
+cells_past line n (suc d) vs fs short values flags =
+    let end : length line ≤ 16 * n + 3 = short (omega arith) in
+    let place : n + 1 + d ≡ n + suc d = omega arith in
+    let pair : 2 * suc d ≡ suc (suc (2 * d)) = omega arith in
+    let rest = cells_past line (n + 1) d (vs ++ None ∷ []) (fs ++ 32 ∷ 32 ∷ []) (λ _. omega (arith, end))
+    (values_in_more line n vs None values (field_past line n end))
+    (flags_in_more line n ∙ ap (λ t. t ++ flags_at line n) flags ∙ ap (λ t. fs ++ t)
+    (flags_past line n end)) in (
+      ap (λ m. values_in m line) (sym place) ∙ rest.0 ∙ ap Some (append_assoc vs (None ∷ [])
+          (replicate d None)),
+      ap (λ m. flags_in m line) (sym place) ∙ rest.1 ∙ append_assoc fs (32 ∷ 32 ∷ []) (replicate (2 * d) 32)
+          ∙ ap (λ m. fs ++ replicate m 32) (sym pair),
+    )
+cells_past line n d vs fs short values flags = grind (arith, common_steps, append-nil)
 
 -- a field that spells nothing
 pub cells_none : (line : List ℕ) (k m : ℕ) → k < m → observation_of (field line k) ≡ None
@@ -111,6 +280,46 @@ cells_none line k m less none = ap (row_with m line) (values_in_none line k m le
 all_kept_blanks : (n : ℕ) → list_all is_kept (replicate n 32) ≡ true
 all_kept_blanks zero = refl
 all_kept_blanks (suc n) = all_kept_blanks n
+
+-- a row whose cells that the line reaches were read, after which the others became empty: its indicators
+-- decide
+pub row_made : (line : List ℕ) (read_values values : List (Option ℤ)) (read_flags flags : List ℕ) (n m : ℕ)
+    (b : Bool)
+    → AreFirstRead n m line read_values read_flags → AreEmptyFrom n values flags → m ≤ length values
+    → take n values ≡ take n read_values → take (2 * n) flags ≡ take (2 * n) read_flags
+    → b ≡ list_all is_kept (take (2 * n) flags)
+    → MatchBool b (IsRowOf m line (take m values) (take (2 * m) flags)) (row_by_cells m line ≡ Err BadFlags)
+row_made line read_values values read_flags flags n m b read empty within same_values same_flags kept =
+    let d : ℕ = m - n in
+    let sum : n + d ≡ m = omega (arith, read.within) in
+    let past = cells_past line n d (take n values) (take (2 * n) flags) (λ some. read.ends (omega
+    (arith, some)))
+    (read.cells.values_read ∙ ap Some (sym same_values)) (sym (same_flags ∙ read.cells.flags_read)) in
+    let twice : 2 * n + 2 * d ≡ 2 * m = omega (arith, sum) in
+    let vs : take m values ≡ take n values ++ replicate d None = ap (λ i. take i values) (sym sum)
+    ∙ take-add n d values
+    ∙ ap (λ t. take n values ++ take d t) empty.missing ∙ ap (λ t. take n values ++ t)
+    (take-replicate d (length values - n) None (omega (arith, sum, within))) in
+    let fs : take (2 * m) flags ≡ take (2 * n) flags ++ replicate (2 * d) 32 = ap (λ i. take i flags)
+    (sym twice)
+    ∙ take-add (2 * n) (2 * d) flags ∙ ap (λ t. take (2 * n) flags ++ take (2 * d) t) empty.blank
+    ∙ ap (λ t. take (2 * n) flags ++ t) (take-replicate (2 * d) (2 * (length values - n)) 32 (omega
+    (arith, sum, within))) in
+    by_kept (take m values) (take (2 * m) flags) b
+    (ap (λ i. values_in i line) (sym sum) ∙ past.0 ∙ ap Some (sym vs)) (ap (λ i. flags_in i line) (sym sum)
+    ∙ past.1 ∙ sym fs)
+    (subst (All IsValue) (sym vs) (All-append IsValue (take n values) (replicate d None)
+    (subst (All IsValue) (sym same_values) read.cells.ranged) (All-replicate IsValue d None tt)))
+    (ap (list_all is_kept) fs ∙ list_all-append is_kept (take (2 * n) flags) _ ∙ ap (λ b. list_all is_kept
+    (take (2 * n) flags) && b)
+    (all_kept_blanks (2 * d)) ∙ and-true _ ∙ sym kept)
+  where
+    by_kept : (vs : List (Option ℤ)) (fs : List ℕ) (b : Bool) → values_in m line ≡ Some vs → flags_in m line
+        ≡ fs
+        → All IsValue vs → list_all is_kept fs ≡ b → MatchBool b (IsRowOf m line vs fs) (row_by_cells m line
+        ≡ Err BadFlags)
+    by_kept vs fs b found pairs ranged kept =
+        let ended = read.ended in grind (arith, common_steps)
 
 -- a row of sound cells
 pub sound-cells : (name : List ℕ) (values : List (Option ℤ)) (flags : List ℕ) (m : ℕ)
@@ -134,6 +343,11 @@ sound-written = grind (arith, common_steps, take_at, sound-cells)
 pub sound-blank : (name : List ℕ) (m : ℕ) → is_identifier name ≡ true → IsAllowedCount m
     → IsSoundRow (blank_row name m)
 sound-blank name m named small = grind (arith, common_steps, length-replicate, all_kept_blanks)
+
+-- cells that are all empty
+pub empty-cleared : (n : ℕ) → n ≤ 400 → AreEmptyFrom 0 (replicate {A = Option ℤ} n None) (replicate {A = ℕ}
+    (2 * n) 32)
+empty-cleared n small = grind (arith, common_steps, length-replicate)
 
 -- and so is one that takes its blanks out of longer lists of them
 pub sound-cleared : (name : List ℕ) (m n : ℕ) → is_identifier name ≡ true → IsAllowedCount m → m ≤ n

@@ -1,4 +1,5 @@
 pub mod Cells
+pub mod CutLines
 pub mod Lines
 pub mod Steady
 pub mod OpenEpochs

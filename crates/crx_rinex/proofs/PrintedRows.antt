@@ -55,7 +55,7 @@ at-padded (suc k) [] (suc p) = at-padded k [] p
 at-padded k (c ∷ cs) (suc p) = at-padded k cs p
 at-padded k text p = grind (arith, common_steps)
 
-at-column : (text : List ℕ) (first width p : ℕ) → p < width
+pub at-column : (text : List ℕ) (first width p : ℕ) → p < width
     → at (columns text first width) p ≡ at text (first - 1 + p)
 at-column text first width p less = grind (arith, common_steps, get_or-take, at-padded, at-drop)
 
@@ -84,7 +84,7 @@ two_columns : (line : List ℕ) (n : ℕ)
 two_columns line n = grind (arith, common_steps, columns-are)
 
 -- a cell, and the columns after it
-cell_split : (line : List ℕ) (k n : ℕ) → columns line (16 * k + 3 + 1) (16 * suc n) ≡ field line k
+pub cell_split : (line : List ℕ) (k n : ℕ) → columns line (16 * k + 3 + 1) (16 * suc n) ≡ field line k
     ++ character_at line (16 * k + 18) ∷ character_at line (16 * k + 19) ∷ columns line (16 * (k + 1) + 3 + 1) (16 * n)
 cell_split line k n =
     let width : 16 * suc n ≡ 14 + (2 + 16 * n) = omega arith in

@@ -28,6 +28,7 @@ abbrev pub row_buffer_with : RowBufferInside → RowBufferInside → RowBufferIn
 row_buffer_with one other = record one {
   name = other.name;
   count = other.count;
+  filled = other.filled;
   values = other.values;
   flags = other.flags;
 }

@@ -1,5 +1,6 @@
 -- Beside meaning/SatelliteLines: what code and proofs see of it.
-use Rattle.std.specs.Prelude.{ℕ, ℤ, ◌≡◌, ◌≤◌, ◌+◌, ◌*◌, ◌-◌, All, List, ◌++◌, Option, None, Some, Result, Ok, true}
+use Rattle.std.specs.Prelude.{ℕ, ℤ, ◌≡◌, ◌≤◌, ◌+◌, ◌*◌, ◌-◌, ◌<◌, All, List, ◌++◌, Option, None, Some}
+use Rattle.std.specs.Prelude.{Result, Ok, true}
 use Rattle.std.specs.Prelude.{length, replicate, slice_set, take, drop}
 use Rattle.std.specs.List.{list_all}
 use Rattle.crx_text.specs.meaning.Columns.{columns, is_blank}
@@ -26,7 +27,20 @@ with_flags row flags = record row { flags = flags ++ replicate (2 * length row.v
 abbrev pub ArePaired : List (Option ℤ) → List ℕ → Type 0
 ArePaired values flags = (length flags ≡ 2 * length values) × (length values ≤ TYPES_LIMIT)
 
--- the first so many cells of a line are read: their values, which fit their columns, and their indicators are at their
+-- the cells from one on have no value, and blank indicators
+pub record AreEmptyFrom (first : ℕ) (values : List (Option ℤ)) (flags : List ℕ) : Type 0 where
+  pub pairs : ArePaired values flags
+  pub within : first ≤ length values
+  pub missing : drop first values ≡ replicate (length values - first) None
+  pub blank : drop (2 * first) flags ≡ replicate (2 * (length values - first)) 32
+
+-- cells that were empty from one on, or from one after it, still are
+abbrev pub KeepsEmptyFrom : ℕ → List (Option ℤ) → List ℕ → List (Option ℤ) → List ℕ → Type 0
+KeepsEmptyFrom first values flags new_values new_flags =
+    (n : ℕ) → first ≤ n → AreEmptyFrom n values flags → AreEmptyFrom n new_values new_flags
+
+-- the first so many cells of a line are read: their values, which fit their columns, and their indicators
+-- are at their
 -- places
 pub record AreCellsRead (count : ℕ) (line : List ℕ) (values : List (Option ℤ)) (flags : List ℕ) : Type 0 where
   pub pairs : ArePaired values flags
@@ -35,20 +49,28 @@ pub record AreCellsRead (count : ℕ) (line : List ℕ) (values : List (Option �
   pub flags_read : take (2 * count) flags ≡ flags_in count line
   pub ranged : All IsValue (take count values)
 
--- all m cells of a line are read, and nothing is after them
-pub record AreAllRead (m : ℕ) (line : List ℕ) (values : List (Option ℤ)) (flags : List ℕ) : Type 0 where
-  pub values_read : values_in m line ≡ Some values
-  pub flags_read : flags ≡ flags_in m line
-  pub ranged : All IsValue values
+-- the first so many of m cells of a line are read, the line reaches no other, and nothing is after the
+-- last of the m
+pub record AreFirstRead (first m : ℕ) (line : List ℕ) (values : List (Option ℤ))
+    (flags : List ℕ) : Type 0 where
+  pub cells : AreCellsRead first line values flags
+  pub within : first ≤ m
+  pub ends : first < m → length line ≤ CELL_WIDTH * first + NAME_WIDTH
   pub ended : list_all is_blank (drop (CELL_WIDTH * m + NAME_WIDTH) line) ≡ true
 
 -- what m cells make of a line: a row, or its first fault
 abbrev pub row_by_cells : ℕ → List ℕ → Result Row Fault
 row_by_cells m line = row_with m line (values_in m line)
 
--- the values and the indicators are those of the row that m cells make of a line; each value fits its columns, and each
+-- the values and the indicators are those of the row that m cells make of a line; each value fits its
+-- columns, and each
 -- indicator may be there
 pub record IsRowOf (m : ℕ) (line : List ℕ) (values : List (Option ℤ)) (flags : List ℕ) : Type 0 where
-  pub row : row_by_cells m line ≡ Ok (record { name = columns line 1 NAME_WIDTH; values = values; flags = flags })
+  pub row : row_by_cells m line ≡ Ok (record {
+    name = columns line 1 NAME_WIDTH;
+    values = values;
+    flags =
+        flags;
+  })
   pub ranged : All IsValue values
   pub kept : list_all is_kept flags ≡ true

@@ -1,27 +1,34 @@
 //! The row of the satellite line that was read last, in memory that is used again. RINEX 3.05, table A3.
 
-ghost use Rattle.std.specs.Prelude.{◌≡◌, ◌≤◌, ◌*◌, codes, length, take, Ok, Err, OnOk, IfErr};
-ghost use Rattle.crx_base.specs.declared.limits.TheConstants.{NAME_WIDTH, TYPES_LIMIT};
+ghost use Rattle.std.specs.Prelude.{ℕ, List, None, Some, ◌≡◌, ◌≤◌, ◌<◌, ◌*◌, ◌+◌, ◌-◌, ◌/◌, codes, length, max, take, Ok, Err, OnOk, IfErr, IfSome, MatchBool};
+ghost use Rattle.std.specs.Bool.{OnTrue};
+ghost use Rattle.crx_base.specs.Padded.{line_in};
+ghost use Rattle.crx_base.specs.declared.limits.TheConstants.{CELL_WIDTH, NAME_WIDTH, OBSERVATION_WIDTH, TYPES_LIMIT};
+ghost use Rattle.crx_text.specs.meaning.Columns.{columns};
+ghost use Rattle.crx_text.specs.meaning.Numbers.{observation_of, IsValue};
 ghost use Rattle.crx_rinex.specs.meaning.Observations.{observations_of};
 ghost use Rattle.crx_rinex.specs.meaning.Printing.{printed_row};
-ghost use Rattle.crx_rinex.specs.SatelliteLines.{blank_row, row_by_cells, IsRowOf};
-ghost use Rattle.crx_rinex.specs.meaning.SatelliteLines.{row_of, IsSoundRow};
+ghost use Rattle.crx_rinex.specs.SatelliteLines.{blank_row, row_by_cells, AreCellsRead, AreEmptyFrom, AreFirstRead, ArePaired, IsRowOf, KeepsEmptyFrom};
+ghost use Rattle.crx_rinex.specs.meaning.SatelliteLines.{field, row_of, IsSoundRow};
 
-use crate::satellite_row::{print_row, read_cells};
-use crx_base::Fault;
-use crx_base::limits::{NAME_WIDTH, TYPES_LIMIT};
-use crx_header::{Types, identifier, types_of_satellite};
-use crx_text::Text;
+use crate::satellite_row::{present, print_row};
+use crx_base::limits::{CELL_WIDTH, NAME_WIDTH, OBSERVATION_WIDTH, TYPES_LIMIT};
+use crx_base::{Fault, Padded};
+use crx_header::{Types, after_columns, all_blank, identifier, types_of_satellite};
+use crx_text::{Text, all_kept, obs_read, obs_read_into};
 use std::marker::Model;
+use std::simd::prelude::*;
 
 /// The row of the satellite line that was read last. It has room for every row, so that reading one takes no
 /// memory.
 #[derive(Drop)]
 pub struct RowBuffer {
     name: [u8; NAME_WIDTH],
-    /// How many types the row has. The values and indicators after theirs are of earlier rows, and mean
-    /// nothing.
+    /// How many types the row has.
     count: usize,
+    /// How many of the first cells may have something: all behind them are empty, so that a row costs what its
+    /// line costs, and not what its types cost.
+    filled: usize,
     values: [Option<i64>; TYPES_LIMIT],
     flags: [u8; 2 * TYPES_LIMIT],
 }
@@ -31,12 +38,13 @@ impl Model for RowBuffer {
     ghost use Rattle.crx_base.specs.declared.limits.TheConstants.{TYPES_LIMIT};
     ghost use Rattle.crx_rinex.specs.meaning.Observations.{Row};
     ghost use Rattle.crx_rinex.specs.meaning.SatelliteLines.{IsSoundRow};
+    ghost use Rattle.crx_rinex.specs.SatelliteLines.{AreEmptyFrom};
 
     ghost Value = { Row };
 
     ghost view = { λ row. record { name = row.name; values = take row.count row.values; flags = take (2 * row.count) row.flags } };
 
-    ghost invariant = { λ row. IsSoundRow (record { name = row.name; values = take row.count row.values; flags = take (2 * row.count) row.flags }) × (row.count ≤ TYPES_LIMIT) };
+    ghost invariant = { λ row. IsSoundRow (record { name = row.name; values = take row.count row.values; flags = take (2 * row.count) row.flags }) × (row.count ≤ TYPES_LIMIT) × (row.filled ≤ row.count) × AreEmptyFrom row.filled row.values row.flags };
 }
 
 impl RowBuffer {
@@ -47,6 +55,7 @@ impl RowBuffer {
         RowBuffer {
             name: *b"G01",
             count: 1,
+            filled: 0,
             values: [None; TYPES_LIMIT],
             flags: [b' '; 2 * TYPES_LIMIT],
         }
@@ -59,20 +68,27 @@ impl RowBuffer {
     /// cell; then `BadFlags` where an indicator is outside the characters 32 to 126, or is `&`. The row after
     /// a fault means nothing.
     #[inline(always)]
-    pub fn read(&mut self, types: &Types, line: &[u8]) -> Result<(), Fault>
-        ensures ok { OnOk result (row_of types.now line.now ≡ Ok self.new) }
-        ensures err { IfErr result (λ fault. row_of types.now line.now ≡ Err fault) }
+    pub fn read(&mut self, types: &Types, line: Padded<'_>) -> Result<(), Fault>
+        ensures ok { OnOk result (row_of types.now (line_in line.entry) ≡ Ok self.new) }
+        ensures err { IfErr result (λ fault. row_of types.now (line_in line.entry) ≡ Err fault) }
     {
-        let Some(count) = types_of_satellite(types, line) else {
+        let Some(count) = types_of_satellite(types, line.line()) else {
             return Err(Fault::BadSatellite);
         };
         self.count = count;
-        if let Err(fault) = read_first_cells(line, count, &mut self.values, &mut self.flags) {
+        if let Err(fault) = read_cells(
+            line,
+            count,
+            &mut self.filled,
+            &mut self.values,
+            &mut self.flags,
+        ) {
+            self.filled = 0;
             self.values = [None; TYPES_LIMIT];
             self.flags = [b' '; 2 * TYPES_LIMIT];
             return Err(fault);
         }
-        self.name = identifier(line, 1);
+        self.name = identifier(line.line(), 1);
         Ok(())
     }
 
@@ -108,10 +124,7 @@ impl RowBuffer {
         ensures value { result ≡ observations_of self.now }
         ensures within { result ≤ TYPES_LIMIT }
     {
-        self.values[..self.count]
-            .iter()
-            .filter(|value| value.is_some())
-            .count()
+        present(&self.values[..self.filled])
     }
 
     /// Replaces a text by the printed satellite line, without blanks at its end.
@@ -127,21 +140,144 @@ impl RowBuffer {
     }
 }
 
-/// Reads the cells of a satellite line of so many types into the first values and indicators, as
-/// [`read_cells`] does.
+/// Reads so many cells of a satellite line, and looks at what is after the last. `BadField` comes where a
+/// field is neither blank nor a number, or something is after the last cell; then `BadFlags` where an
+/// indicator may not be there. Before and after, cells from a place on are empty: where the line ends before
+/// that place, the cells between are made empty. Part of its caller, as a call takes some 8 instructions.
 #[inline(always)]
-fn read_first_cells(
-    line: &[u8],
+pub(crate) fn read_cells(
+    line: Padded<'_>,
     count: usize,
+    filled: &mut usize,
     values: &mut [Option<i64>],
     flags: &mut [u8],
 ) -> Result<(), Fault>
-    requires few { count ≤ TYPES_LIMIT }
-    requires values { count ≤ length values.old }
-    requires flags { 2 * count ≤ length flags.old }
-    ensures ok { OnOk result (IsRowOf count line.now (take count values.new) (take (2 * count) flags.new)) }
+    requires few { count ≤ length values.old }
+    requires empty { AreEmptyFrom filled.old values.old flags.old }
+    ensures ok { OnOk result (IsRowOf count (line_in line.entry) (take count values.new) (take (2 * count) flags.new)) }
+    ensures empty { OnOk result (AreEmptyFrom filled.new values.new flags.new) }
+    ensures within { OnOk result (filled.new ≤ count) }
+    ensures err { IfErr result (λ fault. row_by_cells count (line_in line.entry) ≡ Err fault) }
     ensures lengths { (length values.new ≡ length values.old) × (length flags.new ≡ length flags.old) }
-    ensures err { IfErr result (λ fault. row_by_cells count line.now ≡ Err fault) }
 {
-    read_cells(line, &mut values[..count], &mut flags[..2 * count])
+    let Some(reached) = read_first_cells(line, count, values, flags) else {
+        return Err(Fault::BadField);
+    };
+    empty_cells(reached, *filled, values, flags);
+    *filled = reached;
+    if !all_kept(&flags[..2 * reached]) {
+        return Err(Fault::BadFlags);
+    }
+    Ok(())
+}
+
+/// Reads those of so many cells that the line reaches, and gives how many: the whole ones, and the one that
+/// its end cuts, or it looks at what is after the last. `None` where a field is neither blank nor a number,
+/// or something is there.
+#[inline(always)]
+fn read_first_cells(
+    line: Padded<'_>,
+    count: usize,
+    values: &mut [Option<i64>],
+    flags: &mut [u8],
+) -> Option<usize>
+    requires paired { ArePaired values.old flags.old }
+    requires within { count ≤ length values.old }
+    ensures read { IfSome result (λ first. AreFirstRead first count (line_in line.entry) values.new flags.new) }
+    ensures others { IfSome result (λ first. KeepsEmptyFrom first values.old flags.old values.new flags.new) }
+    ensures refused { result ≡ None → row_by_cells count (line_in line.entry) ≡ Err Fault.BadField }
+{
+    let whole = count.min(line.len().saturating_sub(NAME_WIDTH) / CELL_WIDTH);
+    for k in 0..whole {
+        let cell = u8x16::from_slice(&line.padded()[CELL_WIDTH * k + NAME_WIDTH..]);
+        if !read_cell(cell, k, values, flags) {
+            return None;
+        }
+    }
+    if whole == count {
+        if all_blank(after_columns(line.line(), CELL_WIDTH * count + NAME_WIDTH)) {
+            return Some(whole);
+        }
+        return None;
+    }
+    if read_cell(cut_columns(line), whole, values, flags) {
+        return Some(whole + 1);
+    }
+    None
+}
+
+/// Puts the value and the indicators of a cell's columns at the cell's place; `false` where its field is
+/// neither blank nor a number. The two indicators are one store.
+#[inline(always)]
+fn read_cell(cell: u8x16, k: usize, values: &mut [Option<i64>], flags: &mut [u8]) -> bool
+    requires within { k < length values.old }
+    requires paired { ArePaired values.old flags.old }
+    ensures read { (line : List ℕ) → AreCellsRead k line values.old flags.old
+        → cell ≡ columns line (CELL_WIDTH * k + NAME_WIDTH + 1) CELL_WIDTH
+        → MatchBool result (AreCellsRead (k + 1) line values.new flags.new) (observation_of (field line k) ≡ None) }
+    ensures others { KeepsEmptyFrom (k + 1) values.old flags.old values.new flags.new }
+{
+    if !read_value(cell, &mut values[k]) {
+        return false;
+    }
+    cell.extract::<OBSERVATION_WIDTH, 2>()
+        .copy_to_slice(&mut flags[2 * k..]);
+    true
+}
+
+/// Reads the value in a cell's columns, in whatever spelling, into a place; `false` where there is none.
+#[inline(always)]
+fn read_value(cell: u8x16, value: &mut Option<i64>) -> bool
+    ensures read { MatchBool result (observation_of (take OBSERVATION_WIDTH cell) ≡ Some value.new)
+        (observation_of (take OBSERVATION_WIDTH cell) ≡ None) }
+    ensures ranged { OnTrue result (IsValue value.new) }
+{
+    obs_read_into(&cell.to_array(), value) || read_other_value(cell, value)
+}
+
+/// Reads a value that isn't spelt as files mostly have it.
+#[inline(never)]
+fn read_other_value(cell: u8x16, value: &mut Option<i64>) -> bool
+    ensures read { MatchBool result (observation_of (take OBSERVATION_WIDTH cell) ≡ Some value.new)
+        (observation_of (take OBSERVATION_WIDTH cell) ≡ None) }
+    ensures ranged { OnTrue result (IsValue value.new) }
+{
+    let text = cell.to_array();
+    let Ok(other) = obs_read(&text[..OBSERVATION_WIDTH]) else {
+        return false;
+    };
+    *value = other;
+    true
+}
+
+/// The columns after those of the last whole cell: the ones that are behind the line's end are blank.
+#[inline(always)]
+fn cut_columns(line: Padded<'_>) -> u8x16
+    ensures { result ≡ columns (line_in line.entry) (CELL_WIDTH * ((length (line_in line.entry) - NAME_WIDTH) / CELL_WIDTH)
+        + NAME_WIDTH + 1) CELL_WIDTH }
+{
+    let after_name = line.len().saturating_sub(NAME_WIDTH);
+    let left = after_name % CELL_WIDTH;
+    let cell = u8x16::from_slice(&line.padded()[after_name - left + NAME_WIDTH..]);
+    let places = u8x16::from_array([0, 1, 2, 3, 4, 5, 6, 7, 8, 9, 10, 11, 12, 13, 14, 15]);
+    places
+        .simd_lt(u8x16::splat(left as u8))
+        .select(cell, u8x16::splat(b' '))
+}
+
+/// Makes cells empty, from one on, where those from another one on are.
+#[inline(always)]
+fn empty_cells(first: usize, end: usize, values: &mut [Option<i64>], flags: &mut [u8])
+    requires others { AreEmptyFrom (max first end) values.old flags.old }
+    ensures empty { AreEmptyFrom first values.new flags.new }
+    ensures values { take first values.new ≡ take first values.old }
+    ensures flags { take (2 * first) flags.new ≡ take (2 * first) flags.old }
+{
+    let mut k = end;
+    while k > first {
+        k -= 1;
+        values[k] = None;
+        flags[2 * k] = b' ';
+        flags[2 * k + 1] = b' ';
+    }
 }

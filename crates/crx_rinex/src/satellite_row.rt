@@ -1,29 +1,26 @@
 //! Satellite lines. RINEX 3.05, table A3, OBSERVATION record, A1,I2.2,m(F14.3,I1,I1).
 
-ghost use Rattle.std.specs.Prelude.{◌≡◌, ◌≤◌, ◌<◌, ◌+◌, ◌-◌, ◌*◌, ◌++◌, ◌⊎◌, true, None, Some, Ok, Err, is_some, length, All, IfOk, IfErr, IfSome, OnOk, MatchBool, MatchResult, slice_get, take};
-ghost use Rattle.std.specs.Bool.{OnTrue, OnFalse};
+ghost use Rattle.std.specs.Prelude.{◌≡◌, ◌≤◌, ◌<◌, ◌+◌, ◌*◌, ◌++◌, ◌⊎◌, true, Ok, Err, filter, is_some, length, All, IfOk, IfErr, OnOk, MatchResult, slice_get, take};
 ghost use Rattle.std.specs.List.{list_all};
 ghost use Rattle.std.specs.Option.{ForSome};
-ghost use Rattle.crx_base.specs.declared.limits.TheConstants.{CELL_WIDTH, NAME_WIDTH, OBSERVATION_WIDTH, TYPES_LIMIT};
-ghost use Rattle.crx_text.specs.meaning.Numbers.{observation_of, IsValue};
+ghost use Rattle.crx_base.specs.declared.limits.TheConstants.{CELL_WIDTH, NAME_WIDTH, TYPES_LIMIT};
+ghost use Rattle.crx_text.specs.meaning.Numbers.{IsValue};
 ghost use Rattle.crx_text.specs.Numbers.{IsObservation};
 ghost use Rattle.crx_text.specs.meaning.Texts.{is_kept};
 ghost use Rattle.crx_header.specs.meaning.ObservationTypes.{IsAllowedCount};
 ghost use Rattle.crx_rinex.specs.meaning.Observations.{observations_of};
 ghost use Rattle.crx_rinex.specs.meaning.Printing.{printed_row};
 ghost use Rattle.crx_text.specs.meaning.PrintedCells.{printed_cells};
-ghost use Rattle.crx_rinex.specs.SatelliteLines.{blank_row, row_by_cells, with_flags, with_value, AreAllRead, AreCellsRead, ArePaired, IsRowOf};
-ghost use Rattle.crx_rinex.specs.meaning.SatelliteLines.{field, row_of, IsSoundRow};
+ghost use Rattle.crx_rinex.specs.SatelliteLines.{blank_row, row_by_cells, with_flags, with_value, ArePaired, IsRowOf};
+ghost use Rattle.crx_rinex.specs.meaning.SatelliteLines.{row_of, IsSoundRow};
 ghost use Rattle.crx_header.specs.meaning.Satellites.{is_identifier, types_of_satellite};
 
-use crx_base::Fault;
-use crx_base::limits::{CELL_WIDTH, NAME_WIDTH, OBSERVATION_WIDTH, TYPES_LIMIT};
-use crx_header::{
-    Types, after_columns, all_blank, identifier, padded, put_flags, types_of_satellite,
-};
+use crate::row_buffer::read_cells;
+use crx_base::limits::{CELL_WIDTH, LINE_LIMIT, NAME_WIDTH, TYPES_LIMIT};
+use crx_base::{Fault, PaddedCopy};
+use crx_header::{Types, after_columns, all_blank, identifier, put_flags, types_of_satellite};
 use crx_text::appending::append;
-use crx_text::columns::character;
-use crx_text::{Text, all_kept, obs_print_cell, obs_read, obs_read_into};
+use crx_text::{Text, obs_print_cell};
 use std::alloc::Global;
 use std::marker::Model;
 
@@ -69,7 +66,7 @@ impl SatRow {
         let Ok(mut flags) = vec![in alloc; b' '; 2 * m] else {
             return Err(Fault::OutOfMemory);
         };
-        read_cells(line, &mut values, &mut flags)?;
+        read_any_line(line, &mut values, &mut flags)?;
         Ok(SatRow {
             name: identifier(line, 1),
             values,
@@ -153,7 +150,7 @@ impl SatRow {
         ensures value { result ≡ observations_of self.now }
         ensures within { result ≤ TYPES_LIMIT }
     {
-        self.values.iter().filter(|value| value.is_some()).count()
+        present(&self.values)
     }
 
     /// Replaces a text by the printed satellite line, without blanks at its end.
@@ -163,6 +160,14 @@ impl SatRow {
     {
         print_row(self.name, &self.values, &self.flags, text);
     }
+}
+
+/// How many of some values aren't missing.
+pub(crate) fn present(values: &[Option<i64>]) -> usize
+    ensures value { result ≡ length (filter is_some values.now) }
+    ensures within { result ≤ length values.now }
+{
+    values.iter().filter(|value| value.is_some()).count()
 }
 
 /// Replaces a text by the printed line of a row, without blanks at its end.
@@ -181,124 +186,19 @@ pub(crate) fn print_row(
     text.trim_end_blanks();
 }
 
-/// Reads the cells of a satellite line, and looks at what is after the last. `BadField` comes where a field
-/// is neither blank nor a number, or something is after the last cell; then `BadFlags` where an indicator may
-/// not be there. Part of its callers, as a call takes some 8 instructions for each line.
-#[inline(always)]
-pub(crate) fn read_cells(
-    line: &[u8],
-    values: &mut [Option<i64>],
-    flags: &mut [u8],
-) -> Result<(), Fault>
+/// Reads the cells of a line of any length, as [`read_cells`] does: all of them are within its first bytes.
+fn read_any_line(line: &[u8], values: &mut [Option<i64>], flags: &mut [u8]) -> Result<(), Fault>
     requires { ArePaired values.old flags.old }
     ensures ok { OnOk result (IsRowOf (length values.old) line.now values.new flags.new) }
     ensures err { IfErr result (λ fault. row_by_cells (length values.old) line.now ≡ Err fault) }
 {
-    let first = split_plain_cells(line, values, flags);
-    if !take_last_cell(line, first, values, flags)
-        && !read_other_cells(line, first, values, flags)
-    {
+    if !all_blank(after_columns(line, LINE_LIMIT)) {
         return Err(Fault::BadField);
     }
-    if !all_kept(flags) {
-        return Err(Fault::BadFlags);
-    }
-    Ok(())
-}
-
-/// Takes the values and the indicators out of a line's first cells, and gives how many: it stops where a cell
-/// isn't within the line, or its field isn't written as files mostly have it. One by one, each as an `Option`
-/// of a value and its indicators, a cell takes 16 instructions more: that is set to zero, and then tested and
-/// copied part by part. The two indicators are one load and one store.
-fn split_plain_cells(line: &[u8], values: &mut [Option<i64>], flags: &mut [u8]) -> usize
-    requires { ArePaired values.old flags.old }
-    ensures { AreCellsRead result line.now values.new flags.new }
-{
-    let count = values
-        .len()
-        .min(line.len().saturating_sub(NAME_WIDTH) / CELL_WIDTH);
-    for k in 0..count {
-        let start = CELL_WIDTH * k + NAME_WIDTH;
-        let end = start + CELL_WIDTH;
-        if !obs_read_into(&line[start..end], &mut values[k]) {
-            return k;
-        }
-        let (lock, strength) = (line[end - 2], line[end - 1]);
-        flags[2 * k] = lock;
-        flags[2 * k + 1] = strength;
-    }
-    count
-}
-
-/// Takes the last cell, where those before it have been read, and the line ends with the cell's value: mostly
-/// both of its indicators are blank, and blanks at a line's end are cut. `true` also where all cells have
-/// been read, and the line ends with them; `false` leaves all as it was.
-#[inline(always)]
-fn take_last_cell(line: &[u8], first: usize, values: &mut [Option<i64>], flags: &mut [u8]) -> bool
-    requires { AreCellsRead first line.now values.old flags.old }
-    ensures read { OnTrue result (AreAllRead (length values.old) line.now values.new flags.new) }
-    ensures same { OnFalse result ((values.new ≡ values.old) × (flags.new ≡ flags.old)) }
-{
-    let start = CELL_WIDTH * first + NAME_WIDTH;
-    if first == values.len() {
-        return line.len() <= start;
-    }
-    if first + 1 != values.len() || line.len() != start + OBSERVATION_WIDTH {
-        return false;
-    }
-    // The compiler knows the length of this part: with the rest of the line it tests the length again, by 7
-    // instructions a line.
-    if !obs_read_into(&line[start..start + OBSERVATION_WIDTH], &mut values[first]) {
-        return false;
-    }
-    flags[2 * first] = b' ';
-    flags[2 * first + 1] = b' ';
-    true
-}
-
-/// Reads the cells from one on, where those before it have been read, and looks at what is after the last:
-/// `false` where a field is neither blank nor a number, or where something is there. Most of these cells are
-/// past the line's end, or cut by it: blanks at a line's end are cut.
-#[inline(never)]
-#[tactic(auto, using(crate::proofs::Cells::cells_none, crate::proofs::Cells::cells_end))]
-fn read_other_cells(line: &[u8], first: usize, values: &mut [Option<i64>], flags: &mut [u8]) -> bool
-    requires { AreCellsRead first line.now values.old flags.old }
-    ensures { MatchBool result (AreAllRead (length values.old) line.now values.new flags.new)
-        (row_by_cells (length values.old) line.now ≡ Err Fault.BadField) }
-{
-    for k in first..values.len() {
-        let start = CELL_WIDTH * k + NAME_WIDTH;
-        if line.len() <= start {
-            values[k] = None;
-            flags[2 * k] = b' ';
-            flags[2 * k + 1] = b' ';
-            continue;
-        }
-        let Some(value) = observation(line, k) else {
-            return false;
-        };
-        values[k] = value;
-        flags[2 * k] = character(line, CELL_WIDTH * k + (NAME_WIDTH + OBSERVATION_WIDTH + 1));
-        flags[2 * k + 1] = character(line, CELL_WIDTH * k + (NAME_WIDTH + OBSERVATION_WIDTH + 2));
-    }
-    all_blank(after_columns(line, CELL_WIDTH * values.len() + NAME_WIDTH))
-}
-
-/// The value of type k, from 0; `None` where its field is neither blank nor a number of format F14.3. Most of
-/// these fields end with the line, and are read out of it: their copy would take some 30 instructions more.
-#[inline(always)]
-fn observation(line: &[u8], k: usize) -> Option<Option<i64>>
-    requires { k < TYPES_LIMIT }
-    ensures value { result ≡ observation_of (field line.now k) }
-    ensures ranged { IfSome result IsValue }
-{
-    let start = CELL_WIDTH * k + NAME_WIDTH;
-    let end = start + OBSERVATION_WIDTH;
-    if end <= line.len() {
-        obs_read(&line[start..end]).ok()
-    } else {
-        obs_read(&padded::<OBSERVATION_WIDTH>(line, start + 1)).ok()
-    }
+    let mut copy = PaddedCopy::new();
+    let first = copy.of(&line[..LINE_LIMIT.min(line.len())]);
+    let mut filled = values.len();
+    read_cells(first, values.len(), &mut filled, values, flags)
 }
 
 /// Prints cells in place of the bytes from an index on, each value in its columns, and its two indicators,
