@@ -1,18 +1,12 @@
 -- Texts and identifiers by their characters.
-use Rattle.crx_compact.proofs.Words.{◌≡◌, suc, ◌<◌, ◌≤◌, ◌⊎◌, ◌∷◌, true, ◌++◌, Some, None, ◌||◌, sym, refl}
-use Rattle.crx_compact.proofs.Words.{zero, List, take, Bool, Option, nat_eq, length, arith, at, is_kept, ℕ}
-use Rattle.crx_compact.proofs.Words.{not-suc-le-zero, le_of_suc-le-suc, without_end_blanks, is_ascii_digit}
-use Rattle.crx_compact.proofs.Words.{[], if◌then◌else◌, list_all, and_parts, by_position, bytes_eq, is_system}
-use Rattle.crx_compact.proofs.Words.{is_identifier, cases_lt}
-use Rattle.std.proofs.lemmas.Slice.Eq.{bytes_eq-Decides}
+use Rattle.crx_compact.proofs.Words.{◌≡◌, suc, ◌≤◌, ◌∷◌, true, ◌++◌, Some, None, sym, refl}
+use Rattle.crx_compact.proofs.Words.{zero, List, take, Bool, Option, length, arith, at, is_kept, ℕ}
+use Rattle.crx_compact.proofs.Words.{without_end_blanks, is_identifier, get_or_past, common_steps}
+use Rattle.crx_compact.proofs.Words.{[], if◌then◌else◌, list_all, and_parts, by_position, bytes_eq}
+use Rattle.std.proofs.lemmas.{Slice.Eq.bytes_eq-Decides, List.length-take}
 
 pub at-take_past : (n : ℕ) (text : List ℕ) (p : ℕ) → n ≤ p → at (take n text) p ≡ 32
-at-take_past (suc n) (c ∷ cs) zero h = absurd (not-suc-le-zero h)
-at-take_past (suc n) (c ∷ cs) (suc p) h = at-take_past n cs p (le_of_suc-le-suc h)
-at-take_past n text p h = refl
-
-pub within-or_past : (n p : ℕ) → (p < n) ⊎ (n ≤ p)
-within-or_past n p = cases_lt p n
+at-take_past n text p h = get_or_past (take n text) p 32 (omega (arith, h, length-take n text))
 
 pub list_all-at : (p : ℕ → Bool)
     → p 32 ≡ true → (text : List ℕ) → list_all p text ≡ true → (k : ℕ) → p (at text k) ≡ true
@@ -62,13 +56,7 @@ bytes_eq-is a b h = (bytes_eq-Decides a b).0 h
 pub length-is : (name : List ℕ) → is_identifier name ≡ true → length name ≡ 3
 length-is name h = grind arith
 
-system-kept : (c : ℕ) → is_system c ≡ true → is_kept c ≡ true
-system-kept c h = grind (arith, h)
-
-second-kept : (c : ℕ) → (is_ascii_digit c || nat_eq c 32) ≡ true → is_kept c ≡ true
-second-kept c h = grind (arith, h)
-
 pub name-kept : (name : List ℕ) → length name ≡ 3 → is_identifier name ≡ true → list_all is_kept name ≡ true
 name-kept [] e h = refl
-name-kept (a ∷ b ∷ c ∷ []) e h = grind (arith, and_parts, system-kept, second-kept)
+name-kept (a ∷ b ∷ c ∷ []) e h = grind (arith, common_steps, and_parts)
 name-kept name e h = absurd (omega (arith, e))

@@ -1,30 +1,14 @@
 -- A satellite's indicators and cells by another count of types.
-use Rattle.crx_compact.proofs.Words.{◌≡◌, ◌≤◌, ◌<◌, ◌⊎◌, refl, ℕ, zero, suc, ◌-◌, List, [], ◌∷◌, ◌++◌}
+use Rattle.crx_compact.proofs.Words.{◌≡◌, ◌≤◌, refl, ℕ, zero, suc, ◌-◌, List, [], ◌∷◌, ◌++◌}
 use Rattle.crx_compact.proofs.Words.{length, take, replicate, Option, None, ◌*◌, list_all, sym, ◌∙◌, ap}
-use Rattle.crx_compact.proofs.Words.{arith, inl, inr, length-take-le, take-take, take_all, LINE_LIMIT}
-use Rattle.crx_compact.proofs.Words.{without_end_blanks, is_kept, at, at-without_end_blanks, list_all-from_at}
-use Rattle.crx_compact.proofs.Characters.{all-take, at-take_past, list_all-at, same_characters}
+use Rattle.crx_compact.proofs.Words.{arith, length-take-le, take-take, take_all, LINE_LIMIT}
+use Rattle.crx_compact.proofs.Words.{without_end_blanks, is_kept, at-without_end_blanks, list_all-from_at}
+use Rattle.crx_compact.proofs.{Characters.{all-take, list_all-at, same_characters}, SoundTexts.same-cut}
 use Rattle.crx_compact.proofs.{Words.{few_kept, ArcTail}, PlaceByPlace.{at-padded, at-take}}
-use Rattle.crx_compact.proofs.Characters.{within-or_past}
 use Rattle.std.proofs.{lemmas.List.length-take, lemmas.Grind.common_steps}
 use Rattle.crx_compact.specs.{HeldRows.AreHeldFlags, Placing.{SatelliteTail, cells_for, resized}}
 
 -- ---- indicators
-
--- the indicators of fewer types
-pub shorter-flags : (flags : List ℕ) (m n : ℕ) → n ≤ m
-    → without_end_blanks (take n flags) ≡ without_end_blanks (take n (without_end_blanks (take m flags)))
-shorter-flags flags m n h =
-    same_characters (take n flags) (take n (without_end_blanks (take m flags)))
-    (λ p. by_place p (within-or_past n p))
-  where
-    by_place : (p : ℕ) → (p < n) ⊎ (n ≤ p)
-        → at (take n flags) p ≡ at (take n (without_end_blanks (take m flags))) p
-    by_place p (inl k) = at-take n flags p k
-        ∙ sym (at-take n (without_end_blanks (take m flags)) p k
-        ∙ at-without_end_blanks (take m flags) p ∙ at-take m flags p (omega (arith, h, k)))
-    by_place p (inr k) = at-take_past n flags p k
-        ∙ sym (at-take_past n (without_end_blanks (take m flags)) p k)
 
 -- ---- cells
 
@@ -60,8 +44,7 @@ stored indicators arcs count =
 pub fewer-held : (flags : List ℕ) (m n : ℕ) → n ≤ m
     → AreHeldFlags (take m flags) → AreHeldFlags (take n flags)
 fewer-held flags m n h held =
-    let few : length (take n flags) ≤ length (take m flags) =
-    omega (arith, h, length-take n flags, length-take m flags) in
+    let few : length (take n flags) ≤ length (take m flags) = grind (arith, common_steps, length-take) in
     let most = held.within in
     record {
       within = omega (arith, few, most);
@@ -72,7 +55,7 @@ fewer-held flags m n h held =
 pub fewer-types : (indicators : List ℕ) (arcs : List (Option ArcTail)) (count n : ℕ)
     → n ≤ count → count ≤ length arcs → stored indicators arcs n ≡ resized n (stored indicators arcs count)
 fewer-types indicators arcs count n h k =
-    grind (arith, shorter-cells, length-take-le, take-take, shorter-flags)
+    grind (arith, shorter-cells, length-take-le, take-take, same-cut, at-without_end_blanks, at-take)
 
 pub more-held : (flags more : List ℕ) (k : ℕ) → more ≡ flags ++ replicate k 32
     → length more ≤ LINE_LIMIT → AreHeldFlags flags → AreHeldFlags more

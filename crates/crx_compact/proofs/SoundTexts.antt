@@ -1,14 +1,13 @@
 -- Blanks at the end of texts, and what is held of indicators.
-use Rattle.crx_compact.proofs.Words.{◌≡◌, patched, columns, few_kept, and_parts, and_from, list_all}
-use Rattle.crx_compact.proofs.Words.{◌≤◌, ℕ, suc, ◌*◌, ◌∷◌, ap, inl, inr, ◌∙◌, ◌<◌, ◌+◌, ◌-◌, ◌⊎◌, at}
-use Rattle.crx_compact.proofs.Words.{refl, true, List, length, take, arith, is_kept, Bool, drop, zero}
-use Rattle.crx_compact.proofs.Words.{[], replicate, IsAllowedCount, length-columns, flags_held}
+use Rattle.crx_compact.proofs.Words.{◌≡◌, patched, columns, few_kept, list_all, ◌≤◌, ℕ, ◌*◌, ◌∷◌, ap, ◌∙◌}
+use Rattle.crx_compact.proofs.Words.{◌<◌, ◌+◌, ◌-◌, at, refl, true, List, length, take, arith, is_kept, Bool}
+use Rattle.crx_compact.proofs.Words.{drop, [], replicate, IsAllowedCount, length-columns, flags_held}
+use Rattle.crx_compact.proofs.Words.{common_steps, by_position, ◌++◌, list_all-from_at, at-drop}
 use Rattle.crx_compact.proofs.Words.{at-without_end_blanks, columns-are, without_end_blanks, text_difference}
-use Rattle.crx_compact.proofs.Characters.{all-take, list_all-append, at-take_past, at-by_position}
+use Rattle.crx_compact.proofs.Characters.{all-take, list_all-at, at-take_past, at-by_position}
 use Rattle.crx_compact.proofs.{Words.{cases_lt, rules, AreHeldFlags}, PlaceByPlace.{at-padded, at-take}}
 use Rattle.crx_compact.proofs.Characters.{same_characters}
 use Rattle.std.proofs.{lemmas.Bool.Decides.Decides-eqb, lemmas.List.length-take}
-use Rattle.crx_compact.proofs.Words.{by_position}
 
 -- ---- blanks at the end
 
@@ -25,11 +24,12 @@ difference-trimmed old new = search (rules, same_characters, at-by_position, at-
 -- texts with the same first characters are the same as far as these go
 pub same-cut : (n : ℕ) (xs ys : List ℕ) → ((p : ℕ) → p < n → at xs p ≡ at ys p)
     → without_end_blanks (take n xs) ≡ without_end_blanks (take n ys)
-same-cut n xs ys h = same_characters (take n xs) (take n ys) (λ p. by_place p (cases_lt p n))
-  where
-    by_place : (p : ℕ) → (p < n) ⊎ (n ≤ p) → at (take n xs) p ≡ at (take n ys) p
-    by_place p (inl k) = cc (at-take n xs p k, h p k, at-take n ys p k)
-    by_place p (inr k) = cc (at-take_past n xs p k, at-take_past n ys p k)
+same-cut n xs ys h = grind (arith, common_steps, same_characters, cases_lt, at-take, at-take_past)
+
+-- a text with nothing but blanks from a place on is what comes before it, but for the blanks at its end
+pub cut-all : (n : ℕ) (text : List ℕ) → ((p : ℕ) → at text (n + p) ≡ 32)
+    → without_end_blanks (take n text) ≡ without_end_blanks text
+cut-all n text h = same_characters (take n text) text (λ p. grind (arith, at-take, at-take_past, h (p - n)))
 
 -- the first columns by their characters
 pub first-columns : (n : ℕ) (text given : List ℕ) → length given ≡ n
@@ -42,18 +42,10 @@ pub same-columns : (n : ℕ) (xs ys : List ℕ) → ((p : ℕ) → p < n → at 
 same-columns n xs ys h = search (rules, first-columns, columns, length-columns, at-take, at-padded)
 
 -- a test that a blank meets, of all characters of columns
-all-drop : (p : ℕ → Bool) (n : ℕ) (xs : List ℕ) → list_all p xs ≡ true → list_all p (drop n xs) ≡ true
-all-drop p zero xs h = h
-all-drop p (suc n) [] h = refl
-all-drop p (suc n) (x ∷ xs) h = all-drop p n xs (and_parts (p x) (list_all p xs) h).1
-
-all-blanks : (p : ℕ → Bool) (n : ℕ) → p 32 ≡ true → list_all p (replicate n 32) ≡ true
-all-blanks p zero e = refl
-all-blanks p (suc n) e = and_from (p 32) (list_all p (replicate n 32)) e (all-blanks p n e)
-
 pub all-columns : (p : ℕ → Bool) (text : List ℕ) (first width : ℕ)
     → p 32 ≡ true → list_all p text ≡ true → list_all p (columns text first width) ≡ true
-all-columns p text first width e h = search (rules, all-take, list_all-append, all-drop, all-blanks)
+all-columns p text first width e h = all-take p width (drop (first - 1) text ++ replicate width 32)
+    (list_all-from_at p _ (λ k. grind (arith, at-padded, at-drop, list_all-at p e text h (first - 1 + k))))
 
 -- ---- indicators
 

@@ -3,8 +3,8 @@
 use Rattle.crx_compact.proofs.Words.{◌≡◌, is_blank, character_of, each_place, latest_mark, overlaid}
 use Rattle.crx_compact.proofs.Words.{refl, ◌≢◌, zero, List, length, mark_of, patched, shown, longest, columns}
 use Rattle.crx_compact.proofs.Words.{ℕ, suc, ◌≤◌, [], ◌∷◌, All, ◌∙◌, ap, at, ◌<◌, map, take}
-use Rattle.crx_compact.proofs.Words.{if◌then◌else◌, arith, not-suc-le-zero, text_difference, index-each_place}
-use Rattle.crx_compact.proofs.Words.{le_of_suc-le-suc, without_end_blanks, by_position, at-without_end_blanks}
+use Rattle.crx_compact.proofs.Words.{if◌then◌else◌, arith, text_difference, index-each_place, get_or_past}
+use Rattle.crx_compact.proofs.Words.{without_end_blanks, by_position, at-without_end_blanks}
 use Rattle.crx_compact.proofs.{Words.{rules, patched_in_turn}, SoundTexts.{same-columns}}
 use Rattle.crx_compact.proofs.Characters.{same_characters, at-by_position, at-take_past}
 use Rattle.crx_compact.proofs.PlaceByPlace.{at-take}
@@ -29,9 +29,7 @@ patched-difference old new h = same_characters (by_position character_of old (te
 -- ---- marks over one another
 
 pub at_past : (text : List ℕ) (p : ℕ) → length text ≤ p → at text p ≡ 32
-at_past [] p h = refl
-at_past (c ∷ cs) zero h = absurd (not-suc-le-zero h)
-at_past (c ∷ cs) (suc p) h = at_past cs p (le_of_suc-le-suc h)
+at_past text p h = get_or_past text p 32 h
 
 past_longest : (marks : List (List ℕ)) (p : ℕ) → longest marks ≤ p → latest_mark marks p ≡ 32
 past_longest [] p h = refl
