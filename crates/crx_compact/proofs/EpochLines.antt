@@ -11,7 +11,7 @@ use Rattle.crx_compact.proofs.Words.{NamesSatellites, ◌or_else◌with◌, sate
 use Rattle.crx_compact.proofs.Words.{at-without_end_blanks, satellites_few, unwrap_or}
 use Rattle.crx_compact.proofs.EpochTexts.{blank-after, ends-within}
 use Rattle.crx_compact.specs.declared.history.TheConstants.{EPOCH_TEXT_LIMIT}
-use Rattle.crx_compact.proofs.{Identifiers.{AreNew, new-before, not-among}, Results.{no-err, if-err, if-true}}
+use Rattle.crx_compact.proofs.{Identifiers.{AreNew, new-before}, Results.{no-err, if-err, if-true}}
 
 -- whether no identifier is there twice
 abbrev pub differ : List (List ℕ) → Bool
@@ -59,7 +59,7 @@ satellites-facts types earlier (n ∷ ns) given e =
     let others = satellites_named types (n ∷ earlier) ns in
     let step = satellite-before types earlier n (types_of_satellite types n) others given refl e in
     let rest = satellites-facts types (n ∷ earlier) ns step.from step.first in
-    grind (arith, common_steps, new-before, and_from, is_among, not-among)
+    grind (arith, common_steps, new-before, and_from, is_among)
 
 -- so many satellites of an epoch text, or its first fault
 abbrev pub satellites_counted : List Count → List ℕ → Option ℕ → Result (List Satellite) Fault

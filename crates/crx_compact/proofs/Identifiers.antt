@@ -43,13 +43,8 @@ new-after f name earlier [] h k = tt
 new-after f name earlier (x ∷ xs) h k =
     grind (arith, new-after f name earlier xs h.1 (or_parts (bytes_eq (f x) name) (is_among f name xs) k).1)
 
--- and without the newest one
+-- and without the newest one, which is none of theirs
 pub new-before : {X : Type 0} (f : X → List ℕ) (name : List ℕ) (earlier : List (List ℕ)) (xs : List X)
-    → AreNew f (name ∷ earlier) xs → AreNew f earlier xs
-new-before f name earlier [] h = tt
+    → AreNew f (name ∷ earlier) xs → AreNew f earlier xs × (is_among f name xs ≡ false)
+new-before f name earlier [] h = (tt, refl)
 new-before f name earlier (x ∷ xs) h = grind (arith, new-before f name earlier xs h.1)
-
-pub not-among : {X : Type 0} (f : X → List ℕ) (name : List ℕ) (earlier : List (List ℕ)) (xs : List X)
-    → AreNew f (name ∷ earlier) xs → is_among f name xs ≡ false
-not-among f name earlier [] h = refl
-not-among f name earlier (x ∷ xs) h = grind (arith, not-among f name earlier xs h.1)
