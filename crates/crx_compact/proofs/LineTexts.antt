@@ -1,7 +1,7 @@
 -- Lines that a text is cut into, each followed by LF.
 use Rattle.crx_compact.proofs.Words.{◌≡◌, ◌≤◌, ◌<◌, ℕ, zero, suc, ◌+◌, ◌-◌, List, [], ◌∷◌, ◌++◌, length, set}
 use Rattle.crx_compact.proofs.Words.{take, drop, get_or, slice_get, Some, ap, arith, drop-append_seam, rules}
-use Rattle.crx_compact.proofs.Words.{take-take, ◌∙◌, length-append, length-set, length-take-le, take_more_set, cut}
+use Rattle.crx_compact.proofs.Words.{take-take, length-append, length-set, length-take-le, take_more_set, cut}
 use Rattle.crx_compact.proofs.Words.{AreCut, HasFront, common_steps}
 use Rattle.std.proofs.lemmas.List.{drop-append-le, drop-drop, drop-set, drop-take, drop_more}
 use Rattle.std.proofs.{Common.append_assoc, lemmas.List.{take-append-drop, take-append-le, length-drop}}
@@ -37,18 +37,6 @@ pub text-more : (lines : List (List ℕ)) (line : List ℕ)
 text-more [] line = simp append_assoc
 text-more (first ∷ lines) line = grind (arith, common_steps, append_assoc, lines_text, text-more lines line)
 
--- a line that was put after others
-pub record Pushed (lengths lengths' text text' line : List ℕ) (past past_bytes : ℕ) : Type 0 where
-  pub is : cut (drop past lengths') (drop past_bytes text')
-      ≡ cut (drop past lengths) (drop past_bytes text) ++ line ∷ []
-  pub still : AreCut lengths' text' past past_bytes
-
-pub line-pushed : (lengths lengths' text text' line : List ℕ) (past past_bytes : ℕ)
-    → AreCut lengths text past past_bytes → lengths' ≡ lengths ++ length line ∷ []
-    → text' ≡ text ++ (line ++ 10 ∷ []) → Pushed lengths lengths' text text' line past past_bytes
-line-pushed lengths lengths' text text' line past past_bytes c longer more =
-    grind (arith, drop-append-le, cut-more, length-append, text-more)
-
 -- ---- the next line
 
 -- what is behind a place of the first bytes
@@ -76,8 +64,7 @@ next-line lengths bytes filled past past_bytes count c kept past_within here =
     let there : drop past lengths ≡ count ∷ counts = cc (drop_more lengths past count past_within) in
     let first = first-ended count counts rest (rw there at c.whole) in
     let long = length-take-le filled bytes kept in
-    let within : past_bytes + count < filled =
-    omega (arith, long, length-drop past_bytes text, first.within) in
+    let within : past_bytes + count < filled = grind (arith, common_steps, length-drop) in
     let next : past_bytes + count + 1 ≡ past_bytes + suc count = omega arith in
     let after : drop (past_bytes + count + 1) text ≡ drop (suc count) rest =
     cc (drop-drop (suc count) past_bytes text) in
@@ -99,56 +86,46 @@ none-left lengths bytes filled past within = grind (arith, common_steps, cut, dr
 pub none-cut : (lengths bytes : List ℕ) (many filled : ℕ)
     → many ≤ length lengths → filled ≤ length bytes → AreCut (take many lengths) (take filled bytes) many filled
 none-cut lengths bytes many filled counted within =
-    let all = length-take-le many lengths counted in
-    let long = length-take-le filled bytes within in
-    let none = none-left (take many lengths) bytes filled many (omega (arith, all)) in
-    let rest : drop filled (take filled bytes) ≡ [] = drop_of_length-le (take filled bytes) (omega (arith, long)) in
-    record { past_within = omega (arith, all); bytes_within = omega (arith, long); whole = cc (none, rest) }
+    grind (arith, common_steps, length-take-le, none-left, drop_of_length-le)
 
 -- ---- a line that was put after others
 
 -- a block with a line after the others
-pub record BlockPushed (lengths bytes new line : List ℕ) (many filled past past_bytes front memory : ℕ) : Type 0 where
-  pub is : cut (drop past (take (many + 1) (set lengths many (length line))))
-      (drop past_bytes (take (filled + (length line + 1)) new))
-      ≡ cut (drop past (take many lengths)) (drop past_bytes (take filled bytes)) ++ line ∷ []
-  pub still : IsBlock (set lengths many (length line)) new (many + 1) (filled + (length line + 1)) past past_bytes front memory
+pub record BlockPushed (lengths bytes new line : List ℕ)
+    (count many filled past past_bytes front memory : ℕ) : Type 0
+  where
+    pub is : cut (drop past (take (many + 1) (set lengths many count)))
+        (drop past_bytes (take (filled + (count + 1)) new))
+        ≡ cut (drop past (take many lengths)) (drop past_bytes (take filled bytes)) ++ line ∷ []
+    pub still : IsBlock (set lengths many count) new (many + 1) (filled + (count + 1)) past past_bytes
+        front memory
 
-pub block-pushed : (lengths bytes new line : List ℕ) (many filled past past_bytes front memory memory' : ℕ)
-    → IsBlock lengths bytes many filled past past_bytes front memory → memory' ≡ memory → 0 < FIRST_LINES + LINES_LIMIT - many
-    → length line < LINE_ROOM → take (filled + (length line + 1)) new ≡ take filled bytes ++ (line ++ 10 ∷ [])
-    → filled + (length line + 1) ≤ length new
-    → BlockPushed lengths bytes new line many filled past past_bytes front memory'
-block-pushed lengths bytes new line many filled past past_bytes front memory memory' block held left short put long =
-    let place = block.4 in
-    let counted = length-set lengths many (length line) in
-    let pushed = line-pushed (take many lengths) _ (take filled bytes) _ line past past_bytes block.0
-    (take_more_set lengths many (length line) (omega (arith, left, place.3))) put in
-    record {
-      is = pushed.is;
-      still = (
-        pushed.still,
-        omega (arith, left, place.3, counted),
-        long,
-        block.3,
-        (omega (arith, place.0), omega (arith, place.1), omega (arith, place, short), omega (arith, counted, place.3), held ∙ place.4),
-      );
-    }
+pub block-pushed : (lengths bytes new line : List ℕ)
+    (count many filled past past_bytes front memory memory' : ℕ)
+    → IsBlock lengths bytes many filled past past_bytes front memory → memory' ≡ memory
+    → 0 < FIRST_LINES + LINES_LIMIT - many → count ≡ length line → count < LINE_ROOM
+    → take (filled + (count + 1)) new ≡ take filled bytes ++ (line ++ 10 ∷ [])
+    → filled + (count + 1) ≤ length new
+    → BlockPushed lengths bytes new line count many filled past past_bytes front memory'
+block-pushed lengths bytes new line count many filled past past_bytes front memory memory' block held left
+    counts short put long =
+    grind (arith, common_steps, length-set, take_more_set, drop-append-le, cut-more, length-append, text-more)
 
 -- the line of a row, which was written after so many bytes and then ended
-pub row-pushed : (lengths bytes used new line : List ℕ) (many filled room count past past_bytes front memory memory' : ℕ)
-    → IsBlock lengths bytes many filled past past_bytes front memory → memory' ≡ memory → 0 < FIRST_LINES + LINES_LIMIT - many
-    → room < LINE_ROOM → take filled used ≡ take filled bytes → filled ≤ length used → IsLinePut line room filled used new count
-    → (count ≡ length line) × BlockPushed lengths bytes (set new (filled + count) 10) line many filled past past_bytes front memory'
-row-pushed lengths bytes used new line many filled room count past past_bytes front memory memory' block held left short same within put =
-    let counted : count ≡ length line = counted-line new used line filled count put.written put.within within in
-    let more : filled + (length line + 1) ≡ filled + count + 1 = omega (arith, counted) in
+pub row-pushed : (lengths bytes used new line : List ℕ)
+    (many filled room count past past_bytes front memory memory' : ℕ)
+    → IsBlock lengths bytes many filled past past_bytes front memory → memory' ≡ memory
+    → 0 < FIRST_LINES + LINES_LIMIT - many → room < LINE_ROOM → take filled used ≡ take filled bytes
+    → filled ≤ length used → IsLinePut line room filled used new count → BlockPushed lengths bytes
+    (set new (filled + count) 10) line count many filled past past_bytes front memory'
+row-pushed lengths bytes used new line many filled room count past past_bytes front memory memory' block held
+    left short same within put =
+    let more : filled + (count + 1) ≡ filled + count + 1 = omega arith in
     let ended = line-ended new used line filled count put.written put.within in
-    let long = length-set new (filled + count) 10 in (
-      counted,
-      block-pushed lengths bytes (set new (filled + count) 10) line many filled past past_bytes front memory memory' block held left
-          (omega (arith, counted, put.short, short)) (cc (more, ended, same)) (omega (arith, counted, long, put.within)),
-    )
+    let long = length-set new (filled + count) 10 in
+    block-pushed lengths bytes (set new (filled + count) 10) line count many filled past past_bytes front
+    memory memory' block held left (counted-line new used line filled count put.written put.within within)
+    (omega (arith, put.short, short)) (cc (more, ended, same)) (omega (arith, long, put.within))
 
 -- ---- lines in front
 
