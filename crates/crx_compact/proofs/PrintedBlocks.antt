@@ -2,19 +2,18 @@
 use Rattle.crx_compact.proofs.Words.{◌≡◌, ◌++◌, ◌∷◌, ◌+◌, [], List, ℕ, length, Some, slice_get, arith, take_all, printed_epoch}
 use Rattle.crx_compact.proofs.Words.{OpenHistory, tail_of_history, lines_to, shown_epoch, rules, Tail, RowTail}
 use Rattle.crx_compact.proofs.Words.{columns, HEAD_WIDTH, printed_head, printed_row, shown_row, shown_value, IsRowRead, PendingLines}
-use Rattle.crx_compact.proofs.Words.{◌<◌, ◌-◌, ◌∙◌, ap, sym, subst, refl, Bool, Expected, ColumnsState, columns_state}
-use Rattle.crx_compact.proofs.Words.{Option, Idle, Reading, false≢true, is_idle, with_rows}
+use Rattle.crx_compact.proofs.Words.{◌<◌, ◌-◌, ◌∙◌, ap, sym, refl, Bool, Expected, ColumnsState, columns_state}
+use Rattle.crx_compact.proofs.Words.{Option, Idle, Reading, with_rows}
 use Rattle.crx_compact.proofs.{reading.Stages.state-rows}
-use Rattle.crx_compact.specs.OpenEpochs.{OpenRawEpoch, tail_so_far}
 use Rattle.crx_compact.specs.{OpenLines.IsLineTaken, PrintedBlocks.ArePrinted}
-use Rattle.crx_compact.proofs.{RowByRow.printed-next, reading.StepsByCode.printed-shown}
+use Rattle.crx_compact.proofs.{RowByRow.printed-next}
 use Rattle.crx_compact.specs.{Blocks.{HasTakenLine}, PrintedBlocks.IsPrinted}
 use Rattle.std.proofs.lemmas.List.{take-set-le}
 
 -- all lines are those of the epoch
 pub block-whole : (tail : Tail) (lines : List (List ℕ)) → lines ≡ lines_to (length tail.rows) tail
     → lines ≡ printed_epoch (shown_epoch tail (length tail.rows))
-block-whole tail lines is = grind (arith, take_all, printed-shown)
+block-whole tail lines is = grind (arith, take_all)
 
 -- one row more
 pub row-printed : (tail : Tail) (count : ℕ) (row : RowTail) (old new : PendingLines)
@@ -50,17 +49,11 @@ printed-before is_kept expected after count come history new line is_whole state
 
 -- ---- which epoch is open
 
-abbrev begun_in : OpenRawEpoch → ColumnsState → OpenRawEpoch
-begun_in begun (Idle tail) = begun
-begun_in begun (Reading other) = other
-
 -- what is printed of an epoch whose clock line and first so many rows have come
 pub rows-printed : (tail : Tail) (count : ℕ) (state : ColumnsState) (block : PendingLines)
     → state ≡ Reading (with_rows tail count) → IsPrinted count tail block → ArePrinted state block
-rows-printed tail count state block e printed = λ begun is come.
-    subst (λ (b : OpenRawEpoch). IsPrinted b.count (tail_so_far b) block)
-    (ap (begun_in (with_rows tail count)) (sym e ∙ is)) printed
+rows-printed tail count state block e printed = grind arith
 
 -- nothing is printed between two epochs
 pub idle-unprinted : (held : Option Tail) (state : ColumnsState) (block : PendingLines) → state ≡ Idle held → ArePrinted state block
-idle-unprinted held state block e = λ begun is come. absurd (false≢true (ap is_idle (sym is ∙ e)))
+idle-unprinted held state block e = grind arith

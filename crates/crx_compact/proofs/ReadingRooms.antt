@@ -1,6 +1,6 @@
 -- The room that an epoch's lines need, by its satellites and by its rows.
-use Rattle.crx_compact.proofs.Words.{arith, length-map, refl, sym, ◌∙◌, ap, subst, ◌≡◌, ℕ, List, Option, Some, Ok, Err, Result}
-use Rattle.crx_compact.proofs.Words.{length, length-each_place, Fault, Count, Content, and_then}
+use Rattle.crx_compact.proofs.Words.{arith, length-map, sym, ◌∙◌, ap, subst, ◌≡◌, ℕ, List, Option, Some, Ok, Err, Result}
+use Rattle.crx_compact.proofs.Words.{length, length-each_place, Fault, Count, Content, and_then, common_steps}
 use Rattle.crx_compact.proofs.Words.{past_of_tail, satellites_of_line, Satellite, before_clock, first_step, opening}
 use Rattle.crx_compact.proofs.Words.{tail_for_line, tail_opened, HasRoom, HaveTypesRoom, padded, cell_of_tail}
 use Rattle.crx_compact.proofs.Words.{tail_named, tail_of_history, OpenHistory, RowTail, Tail}
@@ -38,29 +38,14 @@ cells-room before satellites rooms h =
 opened-rows : (before : Tail) (line : List ℕ) (begun : OpenRawEpoch) (r : Result (List Satellite) Fault)
     → opening (and_then r (λ ss. Ok (before_clock (tail_opened before line ss)))) ≡ Going begun
     → (ss : List Satellite) × (r ≡ Ok ss) × (rows_before before ss ≡ begun.rows)
-opened-rows before line begun (Ok ss) e =
-    let same : before_clock (tail_opened before line ss) ≡ begun = cc (e) in
-    (ss, refl, ap (λ (b : OpenRawEpoch). b.rows) same)
-opened-rows before line begun (Err fault) e = absurd (cc)
+opened-rows before line begun r h4 = grind (arith, common_steps)
 
 -- an epoch line was read after a history, or refused
 pub room-asked : (types : List Count) (line : List ℕ) (held : Option Tail) (old new : OpenHistory)
     (answer : Result (Unit {0}) Fault) → tail_for_line held line ≡ Some (tail_of_history old)
     → AnswersEpochLine types line old new answer
     → AsksRoomToBegin (first_step types held (Content line)) old.satellites.rooms new.satellites.rooms answer
-room-asked types line held old new (Ok done) e h =
-    let before = tail_of_history old in
-    record {
-      memory = tt;
-      unasked = tt;
-      known = λ begun step has. refl;
-      room = λ begun step.
-          let opened = opened-rows before line begun (satellites_of_line types (past_of_tail before) line)
-          (sym (ap (λ (o : Option Tail). opening (opened_raw types line o)) e) ∙ step) in
-          subst (λ rows. HaveCellsRoom rows new.satellites.rooms) opened.2 (cells-room before opened.0 _
-          (subst (λ ss. HaveTypesRoom ss new.satellites.rooms) (cc (h.ok.read, opened.1)) h.ok.room));
-      kept = h.rooms;
-    }
+room-asked types line held old new (Ok done) e h = grind (arith, common_steps, opened-rows, cells-room)
 room-asked types line held old new (Err fault) e h =
     let before = tail_of_history old in
     record {

@@ -42,9 +42,7 @@ one-more : (before : Tail) (text : List ℕ) (arc : Option ArcTail)
     (rows : List RowTail) (read : ReadRow) (lines : List ReadLine) (count : ℕ) (p : Place (List ReadRow))
     → after_lines (suc (suc count)) (rows_placed before text arc (rows ++ (held_row before read).tail ∷ []) p)
     ≡ after_lines (suc count) (rows_placed before text arc rows (after_lines 1 (row_onto read lines p)))
-one-more before text arc rows read lines count (Done more n) = search (rules, append_assoc, held_row)
-one-more before text arc rows read lines count (Fails n q) = grind arith
-one-more before text arc rows read lines count NeedsMore = refl
+one-more before text arc rows read lines count p = grind (arith, common_steps, append_assoc)
 
 -- what is behind the first rows
 get-next : {X : Type 0} (xs ys : List X) (x : X) → slice_get (xs ++ x ∷ ys) (length xs) ≡ Some x
@@ -86,8 +84,7 @@ rows-steps before text arc rows (s ∷ ss) count (Content line ∷ lines) =
     step (Err q) next = ap {B = Place HeldEpoch} (λ k. Fails k q) (omega arith)
     step (Ok read) next =
         let left : RowTail = (held_row before read).tail in
-        let many : suc (length rows) ≡ length (rows ++ left ∷ []) =
-        omega (arith, length-append rows (left ∷ [])) in
+        let many : suc (length rows) ≡ length (rows ++ left ∷ []) = search (rules, length-append) in
         let set = set-next rows opened (padded s (tail_named s.name before)) left in
         let more = rows_read (past_of_tail before) ss lines in
         cc (next read, one-more before text arc rows read lines count more)

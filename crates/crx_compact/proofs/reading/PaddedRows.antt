@@ -1,13 +1,13 @@
 -- The rows of an open epoch: a satellite's line is read after the row that the epoch line leaves of it as
 -- after what is kept of the satellite, and what it leaves shows its row.
-use Rattle.crx_compact.proofs.Words.{◌≡◌, take, None, Some, suc, ◌<◌, ◌*◌, ◌∷◌, map, Err, ◌∙◌, at, Tail, []}
+use Rattle.crx_compact.proofs.Words.{◌≡◌, None, Some, suc, ◌<◌, ◌*◌, ◌∷◌, map, Err, ◌∙◌, Tail, []}
 use Rattle.crx_compact.proofs.Words.{Satellite, are_marks, flags_held, tail_named, ap, length-map, each_place}
 use Rattle.crx_compact.proofs.Words.{cells_read, columns, shown_value, past_of_row, after_cells, common_steps}
 use Rattle.crx_compact.proofs.Words.{held_from, BadFlags, and_then, ReadCell, cells_of, shown_row, Truncated}
 use Rattle.crx_compact.proofs.Words.{refl, slice_index_or, index-each_place, ◌otherwise◌next◌, value_at_place}
 use Rattle.crx_compact.proofs.Words.{ℕ, zero, Bool, List, Option, Result, arith, Fault, padded, length, rules}
 use Rattle.crx_compact.proofs.Words.{held_row, row_held, patched, Missing, ReadRow, ArcTail, RowTail, HeldRow}
-use Rattle.crx_compact.proofs.Words.{Ok, arcs_of_tail, past_of_tail, satellite_of, character_of, begins_epoch}
+use Rattle.crx_compact.proofs.Words.{Ok, arcs_of_tail, past_of_tail, satellite_of, begins_epoch}
 use Rattle.crx_compact.proofs.Words.{row_of_cells, cell_of_tail, if◌then◌else◌, value_of_code, flags_of_tail}
 use Rattle.crx_compact.proofs.Words.{arc_of_code, at-without_end_blanks, length-each_place, OBSERVATION_WIDTH}
 use Rattle.crx_compact.proofs.SoundTexts.{same-cut}
@@ -33,13 +33,7 @@ padded-cell s kept place h = grind (arith, common_steps, index-each_place, cell-
 -- indicators past those of its types don't matter to those of its types
 flags-padded : (count : ℕ) (flags marks : List ℕ)
     → flags_held count (patched (flags_held count flags) marks) ≡ flags_held count (patched flags marks)
-flags-padded count flags marks =
-    same-cut (2 * count) (patched (flags_held count flags) marks) (patched flags marks) (λ p less.
-    let held = at-without_end_blanks (take (2 * count) flags) p ∙ at-take (2 * count) flags p less in
-    cc (at-patched (flags_held count flags) marks p, at-patched flags marks p))
-  where
-    at-patched : (old new : List ℕ) (p : ℕ) → at (patched old new) p ≡ character_of (at old p) (at new p)
-    at-patched old new p = at-without_end_blanks _ p ∙ at-by_position character_of refl old new p
+flags-padded count flags marks = search (rules, same-cut, at-without_end_blanks, at-take, at-by_position)
 
 columns-padded : (count : ℕ) (flags marks : List ℕ) → columns
     (patched (flags_held count flags) marks) 1 (2 * count) ≡ columns (patched flags marks) 1 (2 * count)

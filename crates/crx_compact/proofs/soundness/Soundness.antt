@@ -267,14 +267,10 @@ facts-against types given past_of lines read count same e =
 abbrev pub block_for : List ℕ → List RawEpoch → List RawEpoch
 block_for line older = if begins_epoch line then [] else block_of older
 
-given-block : (older : List RawEpoch) (line : List ℕ) (past : Past)
-    → past_of_line older line ≡ Some past → past ≡ past_of_block (block_for line older)
-given-block older line past e = grind arith
-
 pub epoch-facts : (types : List Count) (older : List RawEpoch) (lines : List ReadLine) (read : ReadEpoch)
     (count : ℕ) → epoch_at types older lines ≡ Done read count
     → EpochFacts types (past_of_line older) (λ line. past_of_block (block_for line older)) lines read count
-epoch-facts types older lines read count e = grind (arith, facts-against, given-block)
+epoch-facts types older lines read count e = grind (arith, facts-against)
 
 -- ---- the law
 
