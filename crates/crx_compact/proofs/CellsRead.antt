@@ -26,10 +26,6 @@ cells-within f g (text ∷ texts) h =
     (λ place c less. h (suc place) c (omega (arith, less))) in
     grind (arith, h 0)
 
-pub cells-same : (f g : Values) → ((place : ℕ) (c : Code) → f place c ≡ g place c)
-    → (texts : List (List ℕ)) → cells_read f texts ≡ cells_read g texts
-cells-same f g h texts = cells-within f g texts (λ place c less. h place c)
-
 -- ---- one cell more
 
 arcs-more : (before : List (Option ArcTail)) (codes : List Code) (code : Code)
@@ -85,7 +81,6 @@ read-next first line rest rest' k arcs arcs' made taken s h read made_is rest_is
     let c : ReadCell = record { code = read.code; value = read.value } in
     let next : drop k first ≡ old ∷ later = from-place None k first h in
     let there = arc-there first line rest k arcs s h in
-    let given : value_of_code OBSERVATION_WIDTH read.code old ≡ Ok read.value = cc (there, read.given) in
     let both = map-append shown_value so_far (arc ∷ []) in
     let values = map-append (λ (q : ReadCell). q.value) s.cells (c ∷ []) in
     let many = made-count first s.cells k s.counted in

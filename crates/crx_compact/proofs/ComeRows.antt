@@ -1,15 +1,15 @@
 -- Rows that come one by one, each after what is stored of its satellite: the row of the epoch before, or a
 -- blank one.
 use Rattle.crx_compact.proofs.Words.{rules, ◌≡◌, ◌++◌, ◌∷◌, [], ℕ, List, Bool, true, false, not, Some, Result}
-use Rattle.crx_compact.proofs.Words.{IfOk, length, take, slice_get, refl, if◌then◌else◌, ap, sym, ◌∙◌, arith}
-use Rattle.crx_compact.proofs.Words.{unwrap_or, bytes_eq, is_among, Row, Satellite, PlacedRows, padded}
+use Rattle.crx_compact.proofs.Words.{IfOk, length, take, slice_get, refl, ap, sym, ◌∙◌, arith}
+use Rattle.crx_compact.proofs.Words.{bytes_eq, is_among, Row, Satellite, PlacedRows, padded}
 use Rattle.crx_compact.proofs.Words.{padded_among, row_or_blank, row_line_after, row_line_in, row_tail_after}
 use Rattle.crx_compact.proofs.Words.{row_tail_in, RowTail, are_different, take_all, slice_get_within}
 use Rattle.crx_compact.proofs.Characters.{bytes_eq-is}
 use Rattle.std.proofs.Common.{IsOk}
 use Rattle.std.proofs.{lemmas.Bool.or_parts, lemmas.Option.get_or_from_slice_get, lemmas.Grind.common_steps}
 use Rattle.crx_header.proofs.Apart.{other_way, new_at}
-use Rattle.crx_compact.specs.Placing.{HasCome, empty_row, row_tail_named}
+use Rattle.crx_compact.specs.Placing.{HasCome, row_tail_named}
 
 -- ---- a blank row is none
 
@@ -30,15 +30,9 @@ come-padded rest before satellite same = grind arith
 
 -- ---- the identifier of the row that has come
 
-found-name : (name : List ℕ) (rest : List RowTail) (row : RowTail) (b : Bool) → bytes_eq row.name name ≡ b
-    → (row_or_blank name rest).name ≡ name
-    → (unwrap_or (if b then Some row else row_tail_named name rest) (empty_row name)).name ≡ name
-found-name name rest row true is deeper = bytes_eq-is row.name name is
-found-name name rest row false is deeper = deeper
-
 pub come-name : (name : List ℕ) (rest : List RowTail) → (row_or_blank name rest).name ≡ name
 come-name name [] = refl
-come-name name (row ∷ rest) = found-name name rest row (bytes_eq row.name name) refl (come-name name rest)
+come-name name (row ∷ rest) = grind (arith, common_steps, bytes_eq-is, come-name name rest)
 
 -- ---- one that hasn't come yet comes
 

@@ -1,20 +1,18 @@
 -- The marks of a satellite line, and the row that its cells and marks make.
 use Rattle.crx_compact.proofs.Words.{◌≡◌, refl, ℕ, suc, ◌*◌, Bool, true, false, List, [], ◌∷◌, ℤ, length, map}
-use Rattle.crx_compact.proofs.Words.{drop, slice_index_or, Option, None, Result, Ok, Err, if◌then◌else◌, ◌==◌}
+use Rattle.crx_compact.proofs.Words.{drop, slice_index_or, Option, None, Result, Ok, Err, ◌==◌, BadFlags}
 use Rattle.crx_compact.proofs.Words.{zero, list_all, sym, ◌∙◌, ap, arith, rules, length-map, columns}
 use Rattle.crx_compact.proofs.Words.{without_end_blanks, is_kept, is_printable, patched, Code, Fault}
-use Rattle.crx_compact.proofs.Words.{BadFlags, Truncated, BadField, and_then, before_all, begins_epoch}
+use Rattle.crx_compact.proofs.Words.{BadField, and_then, before_all, begins_epoch, Tail, cell_of_tail}
 use Rattle.crx_compact.proofs.Words.{◌otherwise◌next◌, Satellite, ReadCell, after_cells, cells_of, cells_read}
 use Rattle.crx_compact.proofs.Words.{cell_read, ReadRow, are_marks, row_of_cells, Past, ArcTail, RowTail}
-use Rattle.crx_compact.proofs.Words.{Tail, shown_value, cell_of_tail, flags_held, flags_of_tail, tail_named}
-use Rattle.crx_compact.proofs.Words.{shown_row, HeldRow, held_row, past_of_tail, arcs_of_tail, held_from}
+use Rattle.crx_compact.proofs.Words.{flags_held, tail_named, shown_row, arcs_of_tail, held_from, columns-are}
+use Rattle.crx_compact.proofs.Words.{list_all-from_at, length-columns, code_of, common_steps}
 use Rattle.crx_compact.proofs.Words.{past_of_row, row_held, value_at_place, at, at-without_end_blanks}
-use Rattle.crx_compact.proofs.Words.{columns-are, list_all-from_at, length-columns, code_of}
-use Rattle.crx_compact.proofs.{CellsRead.cells-same, Results.{ok-same, and_then-ok, before-ok}}
-use Rattle.crx_compact.proofs.{SoundTexts.{held-columns, patched-trimmed}, PlaceByPlace.{at-padded, at-take}}
+use Rattle.crx_compact.proofs.{CellsRead.cells-within, Results.{ok-same, and_then-ok, before-ok}}
+use Rattle.crx_compact.proofs.{SoundTexts.{held-columns}, PlaceByPlace.{at-padded, at-take}}
 use Rattle.crx_compact.proofs.Characters.{list_all-at, at-by_position}
 use Rattle.std.specs.Prelude.{OnOk}
-use Rattle.std.proofs.Math.Path.{fun_ext}
 use Rattle.crx_compact.specs.{HeldRows.{row_after, row_held_from}, Cells.CellsAreRead}
 use Rattle.crx_text.specs.meaning.Codes.{after_cell}
 
@@ -50,11 +48,6 @@ columns-held count flags = columns-are (flags_held count flags) 1
 abbrev pub row_with_marks : Past → Satellite → List ℕ → List ReadCell → Result ReadRow Fault
 row_with_marks past satellite marks cells = are_marks satellite.count marks otherwise Err BadFlags next Ok
     (row_of_cells past satellite.name marks cells)
-
-pub line-fault : (arcs : List (Option ArcTail)) (flags : List ℕ) (satellite : Satellite)
-    (line : List ℕ) (fault : Fault) → begins_epoch line ≡ false → cells_read (value_at_place arcs)
-    (cells_of satellite.count line) ≡ Err fault → row_held_from arcs flags satellite line ≡ Err fault
-line-fault arcs flags satellite line fault h e = (cc (h, e))
 
 -- the marks decide after the cells
 line-marks : (arcs : List (Option ArcTail))
@@ -93,18 +86,14 @@ pub line-held : (arcs : List (Option ArcTail)) (flags : List ℕ) (satellite : S
     })
 line-held arcs flags satellite line left at name held h read e same columned =
     let text : List ℕ = without_end_blanks held in
-    let t : text ≡ flags_held satellite.count (patched flags (drop at line)) =
-    ap without_end_blanks columned ∙ held-columns satellite.count (patched flags (drop at line)) in
+    let t : text ≡ flags_held satellite.count (patched flags (drop at line)) = search (rules, held-columns) in
     let marked : List ℕ = patched flags (drop at line) in
-    let count : length read.cells ≡ satellite.count =
-    search (rules, cells-count, value_at_place, cells_of, texts-count, read.good) in
-    let many : length left ≡ satellite.count = sym (length-map left shown_value)
-    ∙ ap length read.shown ∙ length-map read.cells (λ (c : ReadCell). c.value) ∙ count in
+    let count : length read.cells ≡ satellite.count = search (rules, cells-count, texts-count) in
+    let many : length left ≡ satellite.count = grind (arith, common_steps, length-map) in
     let kept : text ≡ flags_held (length (map (λ (c : ReadCell). c.code) read.cells)) marked = t ∙ ap (λ n.
     flags_held n marked) (sym (length-map read.cells (λ (c : ReadCell). c.code) ∙ count)) in
     let shown : columns text 1 (2 * length left) ≡ columns marked 1 (2 * length read.cells) =
-    ap (λ n. columns text 1 (2 * n)) many ∙ ap (λ (q : List ℕ). columns q 1 (2 * satellite.count)) t
-    ∙ columns-held satellite.count marked ∙ ap (λ n. columns marked 1 (2 * n)) (sym count) in
+    grind (arith, common_steps, columns-held) in
     cc (line-marks arcs flags satellite line at read.cells true h read.good read.marks e)
 
 -- ---- by what was kept of the whole epoch before
@@ -113,26 +102,11 @@ pub cell-by_kept : (kept : Option RowTail) (place : ℕ)
     → slice_index_or (arcs_of_tail kept) place None ≡ cell_of_tail place kept
 cell-by_kept kept place = grind arith
 
-row-decided : (tail : Tail)
-    (satellite : Satellite) (marks : List ℕ) (begins good : Bool) (r : Result (List ReadCell) Fault)
-    → ◌≡◌ {A = Result HeldRow Fault} (and_then (if begins then Err Truncated else and_then r (λ cells. good
-    otherwise Err BadFlags next Ok (row_of_cells (past_of_row (arcs_of_tail (tail_named satellite.name tail))
-    (flags_of_tail (tail_named satellite.name tail))) satellite.name marks cells))) (λ read. Ok (held_from
-    (arcs_of_tail (tail_named satellite.name tail)) (flags_of_tail (tail_named satellite.name tail)) read)))
-    (and_then (if begins then Err Truncated else and_then r (λ cells. good otherwise Err BadFlags next Ok
-    (row_of_cells (past_of_tail tail) satellite.name marks cells))) (λ read. Ok (held_row tail read)))
-row-decided tail satellite marks begins good r = grind arith
-
 pub row-by_tail : (tail : Tail) (satellite : Satellite) (line : List ℕ)
     → row_held (tail_named satellite.name tail) satellite line ≡ row_after tail satellite line
-row-by_tail tail satellite line = grind (arith, cells-same, cell-by_kept, row-decided)
+row-by_tail tail satellite line = grind (arith, common_steps, cell-by_kept, cells-within)
 
 -- ---- what is reported, by a result
 
 pub on-both : {X E : Type 0} (r : Result X E) {P Q R : Type 0} → (P → Q → R) → OnOk r P → OnOk r Q → OnOk r R
 on-both r f p q = grind arith
-
--- blanks at the end of the indicators before a line don't count
-pub row-trimmed : (arcs : List (Option ArcTail)) (flags : List ℕ) (satellite : Satellite) (line : List ℕ)
-    → row_held_from arcs (without_end_blanks flags) satellite line ≡ row_held_from arcs flags satellite line
-row-trimmed arcs flags satellite line = grind (arith, fun_ext, patched-trimmed)

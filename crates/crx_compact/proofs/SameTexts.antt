@@ -59,9 +59,6 @@ same_ends n xs ys narrow some few long first last =
     let ys-end = take_all n (drop m ys) (omega (arith, length-drop m ys)) in
     cc (take-append-drop m xs, take-append-drop m ys)
 
-matched : (b : Bool) (P : Type 0) → (b ≡ true → P) → (b ≡ false → P → ⊥) → MatchBool b P (P → ⊥)
-matched b P where_true where_false = grind arith
-
 -- where the first ends are the same, the last ones decide
 pub last-ends_decide : (n : ℕ) (xs ys : List ℕ) → n ≤ 64 → n ≤ length xs
     → length xs ≤ n + n → length ys ≡ length xs → others (take n xs) (take n ys) ≡ 0 → MatchBool
@@ -71,4 +68,4 @@ last-ends_decide n xs ys narrow some few long first = grind (arith, same_ends, a
 -- where they aren't, the texts are others
 pub first-ends_decide : (n : ℕ) (xs ys : List ℕ) → (others (take n xs) (take n ys) ≡ 0 → ⊥)
     → MatchBool (nat_eq (others (take n xs) (take n ys)) 0) (xs ≡ ys) (xs ≢ ys)
-first-ends_decide n xs ys other = grind (arith, common_steps, matched, alike)
+first-ends_decide n xs ys other = grind (arith, common_steps, alike)

@@ -1,12 +1,13 @@
 -- A satellite's line read in place of what is stored of the satellite.
+use Rattle.std.proofs.Math.Path.{fun_ext}
 use Rattle.crx_compact.proofs.Words.{list_all, ◌≡◌, ◌≤◌, refl, ℕ, ◌*◌, true, false, List, [], length, take}
 use Rattle.crx_compact.proofs.Words.{drop, Option, Result, Ok, Err, ap, arith, length-take-le, Fault}
 use Rattle.crx_compact.proofs.Words.{BadFlags, columns, is_blank, without_end_blanks, patched, at}
 use Rattle.crx_compact.proofs.Words.{begins_epoch, are_marks, cells_of, cells_read, ArcTail, value_at_place}
 use Rattle.crx_compact.proofs.Words.{HeldRow, shown_row, RowTail, CellsAreRead, row_held_from}
 use Rattle.std.proofs.Math.Seq.{drop-nil}
-use Rattle.crx_compact.proofs.SoundTexts.{first-columns}
-use Rattle.crx_compact.proofs.Marks.{columns-left, line-fault, line-held, row-trimmed}
+use Rattle.crx_compact.proofs.SoundTexts.{first-columns, patched-trimmed}
+use Rattle.crx_compact.proofs.Marks.{columns-left, line-held}
 
 -- how the line of a satellite of which so many types are stored is read
 abbrev pub stored_read : List ℕ → List (Option ArcTail) → ℕ → List ℕ → List ℕ → Result HeldRow Fault
@@ -18,7 +19,7 @@ counted : (indicators : List ℕ) (arcs : List (Option ArcTail)) (count : ℕ) (
     → count ≤ length arcs → stored_read indicators arcs count line name
     ≡ row_held_from (take count arcs) (take (2 * count) indicators)
     (record { name = name; count = count }) line
-counted indicators arcs count line name h = grind (arith, length-take-le, row-trimmed)
+counted indicators arcs count line name h = grind (arith, length-take-le, fun_ext, patched-trimmed)
 
 -- what is kept of the satellite afterwards
 abbrev kept_row : List ℕ → List (Option ArcTail) → ℕ → List ℕ → RowTail
@@ -45,7 +46,7 @@ pub cells-refused : (indicators : List ℕ) (arcs : List (Option ArcTail)) (coun
     (fault : Fault) → count ≤ length arcs → begins_epoch line ≡ false
     → cells_read (value_at_place (take count arcs)) (cells_of count line) ≡ Err fault
     → (name : List ℕ) → stored_read indicators arcs count line name ≡ Err fault
-cells-refused indicators arcs count line fault h other e name = grind (arith, counted, line-fault)
+cells-refused indicators arcs count line fault h other e name = grind (arith, counted)
 
 pub flags-refused : (indicators : List ℕ) (arcs left : List (Option ArcTail)) (count : ℕ)
     (line : List ℕ) (at : ℕ) (fault : Fault) → count ≤ length arcs → begins_epoch line ≡ false

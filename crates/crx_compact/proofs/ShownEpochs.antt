@@ -1,7 +1,7 @@
 -- The epoch that a history shows, row by row: its rows are of the satellites that its text announces.
 use Rattle.crx_compact.proofs.Words.{◌≡◌, slice_get, length-map, map-append, take-take, Satellite, option_map}
 use Rattle.crx_compact.proofs.Words.{refl, ℕ, List, take, Some, None, true, ◌==◌, Result, arith, Fault, Epoch}
-use Rattle.crx_compact.proofs.Words.{◌<◌, [], Ok, ℤ, ◌≤◌, ◌+◌, ◌∷◌, map, sym, ◌∙◌, ap, Tail, Row}
+use Rattle.crx_compact.proofs.Words.{◌<◌, [], Ok, ℤ, ◌≤◌, ◌+◌, ◌∷◌, map, sym, ◌∙◌, ap, Tail, Row, rules}
 use Rattle.crx_compact.proofs.Words.{length, Option, is_ok, take_all, take-map, BadEpoch, with_row, shown_row}
 use Rattle.crx_compact.proofs.Words.{false, slice_index_or, slice_get_within, length-take-le, tail_of_history}
 use Rattle.crx_compact.proofs.Words.{slice_get-map, satellites_of, has_satellite, AreRowsSoFar, satellite_of}
@@ -83,10 +83,8 @@ first-rows next satellites m n h few =
       head = refl;
       announced = h.announced;
       counted = length-map (take m next.rows) shown_row ∙ length-take-le m next.rows (omega (arith, h.left));
-      named = first-same (λ (r : Row). r.name) (λ (s : Satellite). s.name) next.rows satellites m n few
-          h.named;
-      sized = first-same (λ (r : Row). length r.values) (λ (s : Satellite). s.count) next.rows satellites m n
-          few h.sized;
+      named = search (rules, first-same);
+      sized = search (rules, first-same);
       within = omega (arith, h.within);
       left = omega (arith, h.left);
     }

@@ -1,7 +1,7 @@
 -- The row that a history shows, filled value by value.
 use Rattle.crx_compact.proofs.Words.{◌≡◌, ◌<◌, ℕ, suc, ◌+◌, ◌-◌, ◌*◌, ℤ, List, [], ◌∷◌, ◌++◌, length}
-use Rattle.crx_compact.proofs.Words.{map, take, replicate, slice_set, Option, None, slice_get}
-use Rattle.crx_compact.proofs.Words.{Some, ◌∙◌, arith, append-nil, length-map, length-take-le, map-append}
+use Rattle.crx_compact.proofs.Words.{map, take, replicate, slice_set, Option, None, slice_get, common_steps}
+use Rattle.crx_compact.proofs.Words.{Some, arith, append-nil, length-map, length-take-le, map-append}
 use Rattle.crx_compact.proofs.Words.{take_all, slice_get_within, Row, shown_row, shown_value, ArcTail}
 use Rattle.crx_compact.proofs.Making.{taken_more}
 use Rattle.crx_text.proofs.Blanks.{columns_are}
@@ -32,8 +32,7 @@ row-more name flags cells count k row arc is here many =
     let m : ℕ = count - (k + 1) in
     let left : count - k ≡ suc m = omega (arith, inside, many) in
     let before : List (Option ℤ) = map shown_value (take k cells) in
-    let so_many : length before ≡ k =
-    length-map (take k cells) shown_value ∙ length-take-le k cells (omega (arith, inside)) in
+    let so_many : length before ≡ k = grind (arith, common_steps, length-map, length-take-le) in
     let taken = taken_more cells k arc here in
     let next = set-next before (replicate m None) None (shown_value arc) in
     cc (is, map-append shown_value (take k cells) (arc ∷ []))

@@ -1,4 +1,5 @@
 -- An epoch whose rows are written one by one: one row more.
+use Rattle.crx_compact.proofs.Words.{common_steps}
 use Rattle.crx_compact.proofs.Words.{◌≡◌, ◌-◌, ◌++◌, ◌∷◌, [], ℕ, List, Bool, Some, true, false, not, length}
 use Rattle.crx_compact.proofs.Words.{slice_get, slice_set, refl, same_Some, ap, sym, ◌∙◌, not-true, map-append}
 use Rattle.crx_compact.proofs.Words.{is_among, has_satellite, Row, IsSoundRow, OpenHistory, PlacedRows}
@@ -51,8 +52,7 @@ pub written-next : (after : Tail) (rows : List Row) (row : Row) (old new : OpenH
 written-next after rows row old new come placed place lines more line same written sound fresh has at put longer text clock =
     let last = come-last row.name placed come come.rows place has refl at in
     let is = same_Some put.row (row_or_blank row.name placed.rest) (sym put.there ∙ last.there) in
-    let own : row_of_parts put.row.name row.values row.flags ≡ row =
-    ap (λ (n : List ℕ). row_of_parts n row.values row.flags) (ap (λ (t : RowTail). t.name) is ∙ last.named) in
+    let own : row_of_parts put.row.name row.values row.flags ≡ row = grind (arith, common_steps) in
     let awaited = λ (name : List ℕ) (absent : has_satellite name rows ≡ false).
     ap (λ (p : PlacedRows). row_tail_named name p.rest) same ∙ written.others name absent in
     let next = awaited-after (λ (r : Row). r.name) rows row after.rows placed come awaited has in
