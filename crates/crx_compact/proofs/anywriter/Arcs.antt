@@ -1,7 +1,7 @@
 -- An arc, whoever wrote it: its code gives its newest value, and leaves its tail.
 use Rattle.crx_compact.proofs.Words.{◌≡◌, refl, ℕ, ℤ, List, [], ◌∷◌, Option, Some, None, Ok, ap, sym, ◌∙◌, length, min}
 use Rattle.crx_compact.proofs.Words.{subst, inl, inr, difference, value_of_code, arc_of_code, differences_of, values_of}
-use Rattle.crx_compact.proofs.Words.{IsWithin, IsMissingOrWithin, ArcTail, in_range}
+use Rattle.crx_compact.proofs.Words.{IsWithin, IsMissingOrWithin, ArcTail, in_range, arith, common_steps}
 use Rattle.crx_compact.proofs.arcs.Inversion.{numbers_of, value-numbers}
 use Rattle.crx_compact.proofs.arcs.Stepping.{values-by_tail, first-differences}
 use Rattle.crx_compact.proofs.arcs.{Weights.difference-zero, Bounds.within-is}
@@ -41,14 +41,10 @@ next width n x y ys h = record {
   leaves = ap {B = Option ArcTail} Some (step n x y ys);
 }
 
-first : (width n : ℕ) (x : ℤ) (before : Option Arc) → IsWithin width x
-    → Goes width before (Some (record { order = n; newest = x; older = [] }))
-first width n x before h = record { value = within width x h; leaves = cc (first-differences n x) }
-
 by_older : (width n : ℕ) (x : ℤ) (older : List ℤ) (before : Option Arc) → IsWithin width x
     → MayFollow before (Some (record { order = n; newest = x; older = older }))
     → Goes width before (Some (record { order = n; newest = x; older = older }))
-by_older width n x [] before h f = first width n x before h
+by_older width n x [] before h f = grind (arith, common_steps, within, first-differences)
 by_older width n x (y ∷ ys) before h (inl e) = absurd (cc e)
 by_older width n x (y ∷ ys) before h (inr e) =
     subst (λ b. Goes width b (Some (record { order = n; newest = x; older = y ∷ ys }))) e (next width n x y ys h)

@@ -1,6 +1,6 @@
 -- The lines of an epoch, whoever wrote them, read as that epoch.
 use Rattle.crx_compact.proofs.Words.{◌≡◌, refl, ℕ, List, [], ◌∷◌, ◌++◌, Bool, true, false, Option, Some, Ok, map, length, arith, ap, sym, ◌∙◌, ◌+◌}
-use Rattle.crx_compact.proofs.Words.{list_all, AllByRecursion, length-map, option_map, unwrap_or, if◌then◌else◌}
+use Rattle.crx_compact.proofs.Words.{list_all, AllByRecursion, length-map, unwrap_or, if◌then◌else◌}
 use Rattle.crx_compact.proofs.Words.{Count, IsWholeEpoch, epoch_text, at-without_end_blanks, without_end_blanks, patched, is_printable}
 use Rattle.crx_compact.proofs.Words.{ReadLine, Content, Done, Place, RawRow, RawEpoch, ReadRow, rows_read, epoch_at, epoch_after, clock_line_read}
 use Rattle.crx_compact.proofs.Words.{Satellite, satellites_of_line, begins_epoch, past_of_tail, Tail, no_tail, tail_left, tail_for_line}
@@ -73,10 +73,6 @@ full-no_event types e line h made =
     grind (arith, common_steps, and_parts, if_some, head-counted types e h) in
     flag-mark (at line 31) (at e.head 31) (cc (at-by_position character_of refl [] line 31)) flag
 
-pub base-found : (before : Option WrittenEpoch) (line : List ℕ)
-    → tail_for_line (option_map epoch_left before) line ≡ option_map epoch_left (goes_on_from before line)
-base-found before line = grind arith
-
 -- the tail that a line goes on from is that of the epoch which it goes on from
 pub tail-for : (before : Option WrittenEpoch) (tail : Option Tail) (line : List ℕ) (base : WrittenEpoch)
     → IsLeft before tail → goes_on_from before line ≡ Some base
@@ -120,8 +116,7 @@ module _ (types : List Count) (base now : WrittenEpoch) (line clock : List ℕ) 
       pick false e f = rw e refl
       pick true e f =
           let start : base ≡ nothing_written = same_Some base nothing_written (sym f) in
-          let made : patched [] line ≡ without_end_blanks (epoch_text (epoch_now now)) =
-          ap (λ b. patched (epoch_text (epoch_now b)) line) (sym start) ∙ h.marked in
+          let made : patched [] line ≡ without_end_blanks (epoch_text (epoch_now now)) = search (rules) in
           rw (e, full-no_event types (epoch_now now) line whole made) refl
 
   rows-good : RowsRead base now.rows lines

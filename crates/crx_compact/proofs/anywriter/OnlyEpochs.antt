@@ -1,5 +1,5 @@
 -- The lines that are read as an epoch are ones that some writer may write for it.
-use Rattle.crx_compact.proofs.Words.{◌≡◌, refl, ℕ, zero, suc, List, [], ◌∷◌, ◌++◌, Bool, true, false, Option, Some, None, Result, Ok, map, length, arith, ap, sym, ◌∙◌, ◌*◌, ◌+◌, ◌-◌, ◌<◌, ◌≤◌, ◌⊎◌, inl, inr, drop, subst}
+use Rattle.crx_compact.proofs.Words.{◌≡◌, refl, ℕ, zero, suc, List, [], ◌∷◌, ◌++◌, Bool, true, false, Option, Some, None, Result, Ok, map, length, arith, ap, sym, ◌∙◌, ◌*◌, ◌+◌, ◌-◌, ◌<◌, ◌≤◌, ◌⊎◌, inl, inr, subst}
 use Rattle.crx_compact.proofs.Words.{AllByRecursion, option_map, flat_map, if◌then◌else◌, cases_lt, length-append, same_Some, each_place, named}
 use Rattle.crx_compact.proofs.Words.{ReadLine, Content, Overlong, Done, first_line, rules, by_position}
 use Rattle.crx_compact.proofs.Words.{Fault, Count, Row, ReadRow, Satellite, IsWholeEpoch, types_of_satellite}
@@ -17,7 +17,7 @@ use Rattle.crx_compact.specs.AnyWriter.{epoch_left}
 use Rattle.crx_compact.proofs.{EpochTexts.blank-after, Words.{columns-are, unwrap_or, Tail, Past}}
 use Rattle.crx_compact.specs.AnyWriter.{row_before}
 use Rattle.crx_compact.specs.AnyWriter.{ReadsSomebodysEpoch}
-use Rattle.crx_compact.proofs.anywriter.{OnlyRows.{row-back, arc-back, columns-all}, Epochs.base-found}
+use Rattle.crx_compact.proofs.anywriter.{OnlyRows.{row-back, arc-back, columns-all}}
 
 -- ---- a line that was read
 
@@ -83,9 +83,6 @@ few-here types rows s (Some r) h e k =
 abbrev joined : List (List ℕ) → List ℕ
 joined names = flat_map (λ (n : List ℕ). n) names
 
-at-column : (text : List ℕ) (first width p : ℕ) → p < width → at (columns text first width) p ≡ at text (first - 1 + p)
-at-column text first width p less = at-take width _ p less ∙ at-padded width (drop (first - 1) text) p ∙ at-drop (first - 1) text p
-
 -- columns after others
 columns-append : (text : List ℕ) (k m n : ℕ)
     → columns text (k + 1) m ++ columns text (k + m + 1) n ≡ columns text (k + 1) (m + n)
@@ -94,11 +91,10 @@ columns-append text k m n = sym (columns-are text (k + 1) (m + n) _
   where
     by_place : (p : ℕ) → p < m + n → (p < m) ⊎ (m ≤ p)
         → at text (k + 1 - 1 + p) ≡ at (columns text (k + 1) m ++ columns text (k + m + 1) n) p
-    by_place p less (inl few) = grind (arith, at-column, at-append, length-columns)
+    by_place p less (inl few) = grind (arith, at-take, at-padded, at-drop, at-append, length-columns)
     by_place p less (inr more) =
         let here : p ≡ m + (p - m) = omega (arith, more) in
-        let place : k + m + 1 - 1 + (p - m) ≡ k + 1 - 1 + p = omega (arith, more) in
-        grind (arith, at-column, at-append_past, length-columns)
+        grind (arith, at-take, at-padded, at-drop, at-append_past, length-columns)
 
 -- identifiers one after another
 names-joined : (text : List ℕ) (k count : ℕ)
@@ -126,7 +122,7 @@ given-base : (before : Option WrittenEpoch) (tail : Option Tail) (line : List �
     → tail ≡ option_map epoch_left before → option_map past_of_tail (tail_for_line tail line) ≡ Some past
     → (past ≡ past_of_tail (epoch_left (base_for before line)))
     × (goes_on_from before line ≡ Some (base_for before line))
-given-base before tail line past left e = grind (arith, base-found)
+given-base before tail line past left e = grind (arith)
 
 base-typed : (types : List Count) (before : Option WrittenEpoch) (line : List ℕ) (base : WrittenEpoch)
     → ((b : WrittenEpoch) → before ≡ Some b → IsWholeEpoch types (epoch_now b)) → goes_on_from before line ≡ Some base

@@ -1,18 +1,19 @@
 -- Each line that is read is one that some writer may write.
-use Rattle.crx_compact.proofs.Words.{◌≡◌, refl, ℕ, ℤ, zero, suc, List, [], ◌∷◌, ◌++◌, true, Option, Some, None, Ok, map, length, min, arith, ap, sym, ◌∙◌, ◌*◌, ◌+◌, ◌<◌, ◌≤◌, ◌⊎◌, inl, inr, drop}
+use Rattle.crx_compact.proofs.Words.{◌≡◌, refl, ℕ, ℤ, zero, suc, List, [], ◌∷◌, ◌++◌, Option, Some, None, Ok, map, length, min, arith, ap, sym, ◌∙◌, ◌*◌, ◌+◌, ◌≤◌, inl, inr, drop}
 use Rattle.crx_compact.proofs.Words.{list_all, slice_index_or, ReadCell, cells_of, after_cells, first_cell, after_cell, is_blank}
 use Rattle.crx_compact.proofs.Words.{Code, Missing, Start, Step, code_of, difference, value_of_code}
-use Rattle.crx_compact.proofs.Words.{without_end_blanks, before_end_blanks, length-map, rules}
+use Rattle.crx_compact.proofs.Words.{without_end_blanks, before_end_blanks, length-map, rules, replicate}
 use Rattle.crx_compact.proofs.arcs.Inversion.{numbers_of}
 use Rattle.crx_compact.proofs.arcs.Stepping.{values-by_tail, numbers-values}
 use Rattle.crx_compact.proofs.soundness.Soundness.{AreReadCells, RowFacts, line-facts}
 use Rattle.crx_compact.proofs.{EpochTexts.blank-after, PlaceByPlace.at-padded}
-use Rattle.crx_compact.proofs.Words.{ArcTail, length-columns, Satellite}
+use Rattle.crx_compact.proofs.Words.{ArcTail, Satellite}
 use Rattle.crx_compact.specs.ArcSteps.{arc_after_number, value_of_tail}
 use Rattle.crx_compact.proofs.Words.{ReadRow, past_of_tail, tail_named, cell_of_tail, flags_of_tail, OBSERVATION_WIDTH, columns, is_printable}
-use Rattle.crx_compact.proofs.Words.{at, at-without_end_blanks, patched, character_of, and_parts, cases_lt, ◌-◌}
-use Rattle.crx_compact.proofs.Characters.{same_characters, at-by_position}
-use Rattle.crx_compact.proofs.{PlaceByPlace.at-take, wayback.Overlays.at_past, SoundTexts.{patched-trimmed, trimmed-again}}
+use Rattle.crx_compact.proofs.Words.{at, at-without_end_blanks, patched, and_parts, true}
+use Rattle.crx_compact.proofs.Characters.{at-by_position}
+use Rattle.crx_compact.proofs.{wayback.Overlays.at_past}
+use Rattle.crx_compact.proofs.SoundTexts.{patched-trimmed, trimmed-again, same-cut, cut-all}
 use Rattle.crx_compact.specs.meaning.AnyWriter.{Arc, WrittenEpoch, code_now, MayFollow, arc_in, flags_in}
 use Rattle.crx_compact.specs.AnyWriter.{value_now, arc_left, epoch_left, row_before, IsSomebodysRow, ReadsSomebodysRow}
 use Rattle.crx_compact.proofs.anywriter.Rows.{tail-found, cell-found, flags-found}
@@ -113,26 +114,16 @@ line-back (suc n) line =
 
 -- ---- a satellite's line
 
-both-blank : (a b : ℕ) → a ≡ 32 → b ≡ 32 → character_of a b ≡ 32
-both-blank a b e f = grind (arith, e, f)
-
 -- columns of a text that has nothing but blanks past them are the text, but for the blanks at its end
 pub columns-all : (n : ℕ) (text : List ℕ) → ((p : ℕ) → at text (n + p) ≡ 32)
     → without_end_blanks (columns text 1 n) ≡ without_end_blanks text
-columns-all n text h = same_characters (columns text 1 n) text (λ p. by_place p (cases_lt p n))
-  where
-    by_place : (p : ℕ) → (p < n) ⊎ (n ≤ p) → at (columns text 1 n) p ≡ at text p
-    by_place p (inl less) = at-take n _ p less ∙ at-padded n text p
-    by_place p (inr more) =
-        let place : n + (p - n) ≡ p = omega (arith, more) in
-        at_past (columns text 1 n) p (omega (arith, more, length-columns text 1 n)) ∙ sym (h (p - n))
-        ∙ ap (at text) place
+columns-all n text h =
+    same-cut n (text ++ replicate n 32) text (λ p less. at-padded n text p) ∙ cut-all n text h
 
 -- marks with nothing but blanks past some columns, over a text that ends there, make a text that ends there
 pub patched-blank : (k : ℕ) (old m : List ℕ) → length old ≤ k → list_all is_blank (drop k m) ≡ true → (p : ℕ)
     → at (patched old m) (k + p) ≡ 32
-patched-blank k old m h b p =
-    grind (arith, at-without_end_blanks, at-by_position, both-blank, at_past, blank-after)
+patched-blank k old m h b p = grind (arith, at-without_end_blanks, at-by_position, at_past, blank-after)
 
 pub row-back : (before : WrittenEpoch) (satellite : Satellite) (line : List ℕ) (read : ReadRow)
     → length (flags_in (row_before before satellite)) ≤ 2 * satellite.count

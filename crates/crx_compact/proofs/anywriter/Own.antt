@@ -1,8 +1,8 @@
 -- Our own writer's epochs are ones that any writer may write.
 use Rattle.std.proofs.lemmas.List.Folds.{flat_map-map}
-use Rattle.crx_compact.proofs.Words.{◌≡◌, refl, ℕ, ℤ, zero, suc, List, [], ◌∷◌, Bool, true, false, Option, Some, None, map, length, arith, ap, sym, ◌∙◌, ◌*◌, ◌≤◌, drop, subst}
+use Rattle.crx_compact.proofs.Words.{◌≡◌, refl, ℕ, ℤ, zero, suc, List, [], ◌∷◌, Bool, true, false, Option, Some, None, map, length, arith, ap, sym, ◌∙◌, ◌≤◌, drop, subst}
 use Rattle.crx_compact.proofs.Words.{list_all, AllByRecursion, option_map, rules, if◌then◌else◌, slice_index_or, get_or_past}
-use Rattle.crx_compact.proofs.Words.{Count, Row, Epoch, Marked, AreWhole, IsWholeEpoch, epoch_text, newest_text, since_full, run_of, arc_of, clock_arc, row_named, back_to, stretch, named, codes_of, indicators_before, satellite_line, epoch_line, compact_epoch}
+use Rattle.crx_compact.proofs.Words.{Count, Row, Epoch, Marked, AreWhole, IsWholeEpoch, epoch_text, newest_text, since_full, run_of, arc_of, clock_arc, row_named, stretch, named, codes_of, indicators_before, satellite_line, epoch_line, compact_epoch}
 use Rattle.crx_compact.proofs.Words.{at-without_end_blanks, without_end_blanks, patched, text_difference}
 use Rattle.crx_compact.proofs.Words.{is_blank, begins_epoch}
 use Rattle.crx_compact.proofs.Words.{code_at, code_text, code_of-code_text, WRITTEN_ORDER, each_place, map-each_place, index-each_place, each_place-same, length-each_place}
@@ -93,10 +93,6 @@ flags-left full name older r = refl
 patched-again : (old new : List ℕ) → IsUnmarked new → patched old (text_difference old new) ≡ without_end_blanks new
 patched-again old new h = search (rules, same_characters, at-by_position, at-without_end_blanks, character-mark)
 
-before-short : (types : List Count) (name : List ℕ) (r : Row) (rs : List Row) → AllByRecursion (IsRowOf types name) (r ∷ rs)
-    → length (indicators_before (r ∷ rs)) ≤ 2 * length r.values
-before-short types name r rs h = grind arith
-
 no-more : (n : ℕ) (old new : List ℕ) → length old ≤ n → length new ≤ n
     → list_all is_blank (drop n (text_difference old new)) ≡ true
 no-more n old new h k = search (rules, drop_of_length-le, difference-length)
@@ -122,7 +118,7 @@ row-line types found r rs h arcs flags =
       spelled = search (rules, map-each_place, each_place-same, code_of-code_text, code-written);
       written = grind (arith, trimmed-again, flat_map-map);
       marked = grind (arith, patched-again, unmarked);
-      no_more = grind (arith, many, no-more, before-short);
+      no_more = grind (arith, many, no-more);
       follows = λ j. rw (arcs j) (search (rules, follows-at, follow));
     }
 
@@ -150,26 +146,19 @@ old-same : (types : List Count) (full : Bool) (e : Epoch) (older : List Marked)
 old-same types false e (m ∷ older) h = ap epoch_text (epoch-same types m.in_full m.epoch older h.1.0)
 old-same types full e older h = refl
 
-clock-left : (full : Bool) (older : List Marked) → (base_of full older).clock ≡ arc_written (stretch
-    (map (λ (q : Epoch). q.clock) (map (λ (m : Marked). m.epoch) (if full then [] else back_to (λ (m : Marked). m.in_full) older))))
-clock-left full older = grind arith
-
 lines-after : (types : List Count) (full : Bool) (e : Epoch) (older : List Marked)
     → AreWhole types (since_full (marked full e ∷ older))
     → AreLinesAfter (base_of full older) (epoch_written (marked full e) older) (epoch_line (marked full e) older)
     (code_text (code_at WRITTEN_ORDER (clock_arc (marked full e ∷ older))))
     (map (λ (r : Row). satellite_line (run_of r.name (marked full e ∷ older)) r) e.rows)
 lines-after types full e older h =
-    let code = code_at WRITTEN_ORDER (clock_arc (marked full e ∷ older)) in
     let printable = clock-printable types (since_full (marked full e ∷ older)) h in
-    let clocks = map (λ (q : Epoch). q.clock) (map (λ (m : Marked). m.epoch)
-    (if full then [] else back_to (λ (m : Marked). m.in_full) older)) in
     record {
       marked = ap (λ t. patched t (epoch_line (marked full e) older)) (old-same types full e older h)
           ∙ patched-again (if full then [] else newest_text older) (epoch_text e) (unmarked (epoch_text e) (text-kept types e h.0))
           ∙ ap (λ q. without_end_blanks (epoch_text q)) (sym (epoch-same types full e older h.0));
       spelled = grind (arith, no-end_blanks, code-characters, printable, code_of-code_text, code-written);
-      follows = grind (arith, clock-left, follow);
+      follows = grind (arith, follow);
       satellites = rows-here types full e older h e.rows (each-own (λ (r : Row). r.name) e.rows h.0.sound.apart);
     }
 

@@ -1,6 +1,6 @@
 -- A satellite's line, whoever wrote it, reads as its row.
 use Rattle.crx_compact.proofs.Words.{◌≡◌, refl, ℕ, ℤ, zero, suc, List, [], ◌∷◌, true, false, Option, Some, None, Result, Ok, map, length, arith, ap, sym, ◌∙◌, ◌*◌, ◌+◌, drop}
-use Rattle.crx_compact.proofs.Words.{list_all, length-map, slice_index_or, option_map, rules}
+use Rattle.crx_compact.proofs.Words.{list_all, length-map, slice_index_or, option_map, rules, common_steps}
 use Rattle.crx_compact.proofs.Words.{Code, Missing, Fault, code_of, cells_of, after_cells, cells_read, ReadCell, IsValue, OBSERVATION_WIDTH}
 use Rattle.crx_compact.proofs.Words.{without_end_blanks, patched, character_of, by_position, at, at-without_end_blanks, at-drop, list_all-from_at, is_blank, is_kept, is_printable}
 use Rattle.crx_compact.proofs.Words.{IsSoundRow, satellite_line_read, row_of_cells, past_of_tail, raw_row_tail_after, tail_named, cell_of_tail, flags_of_tail}
@@ -42,9 +42,6 @@ flags-found None = refl
 flags-found (Some r) = refl
 
 -- ---- its codes
-
-pub count-same : (ts : List (List ℕ)) (arcs : List (Option Arc)) → map code_of ts ≡ codes_wanted arcs → length ts ≡ length arcs
-count-same ts arcs e = grind (arith, length-map)
 
 are-texts : (ts : List (List ℕ)) (arcs : List (Option Arc)) → map code_of ts ≡ codes_wanted arcs → AreTexts ts
 are-texts [] arcs e = tt
@@ -114,7 +111,7 @@ module _ (before : WrittenEpoch) (now : WrittenRow) (line : List ℕ) (sound : I
   marks = after_cells (length now.arcs) line
 
   count : length h.texts ≡ length now.arcs
-  count = count-same h.texts now.arcs h.spelled
+  count = grind (arith, common_steps, length-map)
 
   texts : AreTexts h.texts
   texts = are-texts h.texts now.arcs h.spelled

@@ -9,7 +9,7 @@ use Rattle.crx_compact.proofs.Words.{code_text, Marked, cell_text, AreWhole, clo
 use Rattle.crx_compact.proofs.Words.{epoch_line, newest_text, DIGITS_LIMIT, CLOCK_WIDTH, character_at}
 use Rattle.crx_compact.proofs.Words.{length-each_place, OBSERVATION_WIDTH, indicators_before}
 use Rattle.crx_compact.proofs.Words.{negsuc, length, value_in, code_at, arc_of, codes_of, IsWithin, few_kept}
-use Rattle.crx_compact.proofs.Words.{flat_map, neg_ℤ, common_steps, rules, length-append}
+use Rattle.crx_compact.proofs.Words.{flat_map, common_steps, rules, length-append}
 use Rattle.crx_compact.proofs.wayback.Facts.{IsTypedRow, typed-rows, text-begins}
 use Rattle.crx_compact.proofs.{Lists.all-from, Words.◌&&◌}
 use Rattle.crx_compact.proofs.wayback.Rows.{IsRowOf, run-rows}
@@ -33,19 +33,14 @@ signed-length : (k b : ℕ) (z : ℤ)
 signed-length k b (pos n) some few h near = search (rules, pow-le-pow_right, length-decimal-le)
 signed-length k b (negsuc n) some few h near = search (rules, pow-le-pow_right, length-decimal-le)
 
--- a number that fits its columns: a minus takes the place of a digit
-within-length : (j : ℕ) (z : ℤ) → 0 < j → j + 1 ≤ DIGITS_LIMIT → IsWithin (j + 2) z
-    → length (signed_decimal z) ≤ j + 1
-within-length j (pos n) some few h = grind (arith, common_steps, ten-more, length-decimal-le)
-within-length j (negsuc n) some few h = grind (arith, common_steps, neg_ℤ, ten-more, length-decimal-le)
-
 -- a code of an arc whose values fit so many columns: a first value has two characters before it, and a
 -- difference one digit more than a value
 pub code-length : (j : ℕ) (xs : List ℤ)
     → 0 < j → j + 2 ≤ DIGITS_LIMIT → doubled WRITTEN_ORDER (10 ^ (j + 1)) < 10 ^ (j + 2)
     → AllByRecursion (IsWithin (j + 2)) xs → length (code_text (code_at WRITTEN_ORDER xs)) ≤ j + 3
 code-length j [] some few h all = omega arith
-code-length j (x ∷ []) some few h all = grind (arith, common_steps, within-length, decimal_digit)
+code-length j (x ∷ []) some few h all =
+    grind (arith, common_steps, ten-more, length-decimal-le, decimal_digit)
 code-length j (x ∷ y ∷ ys) some few h all =
     let b = 10 ^ (j + 1) in
     let same : j + 2 - 1 ≡ j + 1 = omega arith in
