@@ -1,11 +1,11 @@
 -- What runs bring back, save and judge follows from what they are, by the laws.
 use Rattle.crx_filter.proofs.Words.{common_steps, arith, ℕ, ◌≡◌, List, ◌++◌, Option, None, sym, subst, ◌∙◌}
 use Rattle.crx_filter.proofs.Words.{lines_of, At, Choices, compacted, expanded, FilterResult, findings_of}
-use Rattle.crx_filter.proofs.{Words.{checked_by, checked, Device, IsResult}, damage.DamageStays.all-saved}
+use Rattle.crx_filter.proofs.Words.{checked_by, checked, Device, IsResult}
 use Rattle.crx_filter.proofs.standard.CheckStandard.{named-where_not, standard-exactly_where_same}
 use Rattle.crx_filter.proofs.anywriter.ComesBack.{normal-comes_back, standard-comes_back, comes-back}
 use Rattle.crx_filter.specs.meaning.Lossless.{WritesOutputOf}
-use Rattle.crx_filter.specs.meaning.Promises.{Keeps, BringsBackWhatWasCompacted, SavesAllElse}
+use Rattle.crx_filter.specs.meaning.Promises.{Keeps, BringsBackWhatWasCompacted}
 use Rattle.crx_filter.specs.meaning.{Promises.JudgesStandard, Standard.{Findings, report_status}}
 use Rattle.{crx_runs.specs.meaning.{Filters.Filter, Runs.Runs, Spans.Input}, std.specs.Prelude.◌↔◌}
 
@@ -38,14 +38,6 @@ pub brings-back : (expanding : Choices) (writer messages : Device) (status : ℕ
     → BringsBackWhatWasCompacted writer messages status fault text
 brings-back expanding writer messages status fault text ran file compacting dated same =
     grind (arith, common_steps, expanded, compacted, standard-comes_back, normal-comes_back, comes-back)
-
--- ---- damage
-
-pub saves-all_else : (expanding : Choices) (writer messages : Device) (status : ℕ) (fault : Option At)
-    (damaged : List ℕ) → IsResult (expanded damaged expanding) writer messages status fault → SavesAllElse
-    expanding writer messages status fault damaged
-saves-all_else expanding writer messages status fault damaged ran before s skips damage =
-    (expanded damaged expanding, all-saved before s damaged expanding skips damage, ran)
 
 -- ---- standard files
 

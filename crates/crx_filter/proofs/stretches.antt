@@ -5,4 +5,3 @@ pub mod StretchesRead
 pub mod StretchesCut
 pub mod StretchesSaved
 pub mod OwnStretches
-pub mod StretchesKept

@@ -1,8 +1,8 @@
 -- What compactions, expansions and checks promise follows from what their results are, by the laws.
 use Rattle.crx_filter.proofs.Words
 use Words.{common_steps, arith, ℕ, ◌≡◌, List, ◌++◌, map, Option, None, reverse, refl, ap, sym, ◌∙◌, subst}
-use Words.{append-nil, lines_of, as_read, At, Choices, Epoch, ReadEpoch, compacted, expanded, checked, Device}
-use Words.{whole_rinex, whole_compact, FilterResult, IsResult, WholeReading, warnings_in, notices_text}
+use Words.{append-nil, lines_of, as_read, At, Choices, Epoch, ReadEpoch, compacted, expanded, checked}
+use Words.{whole_rinex, whole_compact, FilterResult, WholeReading, warnings_in, notices_text}
 use Rattle.crx_filter.proofs.accounts.{OfFile.file-accounted, OfText.text-accounted, Shortness.short-blocks}
 use Rattle.crx_filter.proofs.anywriter.{AnyRun.reads-any, OnlyTexts.only-text}
 use Rattle.crx_filter.proofs.wayback.{Canonical.same-compaction, ExpandedStandard.expanded-standard}
@@ -10,7 +10,7 @@ use Rattle.crx_filter.proofs.anywriter.ComesBack.{texts-of_units}
 use Rattle.crx_filter.proofs.standard.{CheckStandard.named-where_not, Lossless.what-passes}
 use Rattle.crx_filter.specs.meaning.Accounts.{AccountsForFile, AccountsForText, HasShortBlocks}
 use Rattle.crx_filter.specs.meaning.ByResults.{CompactionKeeps, ExpansionKeeps, CheckKeeps}
-use Rattle.crx_filter.specs.meaning.ByResults.{RanWith, GivesBackWhatPasses}
+use Rattle.crx_filter.specs.meaning.ByResults.{GivesBackWhatPasses}
 use Rattle.crx_runs.specs.meaning.{Messages.error_text, Results.status_after}
 
 -- ---- nothing is lost in silence
@@ -48,26 +48,6 @@ accounts-for_text choices text good =
         status = ap (status_after (reverse (warnings_in whole.items))) good;
       },
     )
-
--- ---- in runs
-
-pub file-ends : (choices : Choices) (writer messages : Device) (status : ℕ) (fault : Option At) (file : List ℕ)
-    → IsResult (compacted file choices) writer messages status fault
-    → RanWith (AccountsForFile choices) writer messages status fault file
-file-ends choices writer messages status fault file ran =
-    (compacted file choices, ran, accounts-for_file choices file)
-
-pub blocks-end : (choices : Choices) (writer messages : Device) (status : ℕ) (fault : Option At) (file : List ℕ)
-    → IsResult (compacted file choices) writer messages status fault
-    → RanWith (HasShortBlocks choices) writer messages status fault file
-blocks-end choices writer messages status fault file ran =
-    (compacted file choices, ran, short-blocks choices file)
-
-pub text-ends : (choices : Choices) (writer messages : Device) (status : ℕ) (fault : Option At) (text : List ℕ)
-    → IsResult (expanded text choices) writer messages status fault
-    → RanWith (AccountsForText choices.skip) writer messages status fault text
-text-ends choices writer messages status fault text ran =
-    (expanded text choices, ran, accounts-for_text choices text)
 
 -- ---- by what holds of a result
 

@@ -1,15 +1,16 @@
 -- What was compacted comes back: its compact text is one that any writer may write.
 use Rattle.crx_filter.proofs
-use proofs.Words.{common_steps, arith, ℕ, ◌≡◌, true, false, List, map, Option, None, ap, sym, ◌∙◌, lines_of}
+use proofs.Words.{common_steps, arith, ℕ, ◌≡◌, true, false, List, map, None, ap, sym, ◌∙◌, lines_of}
 use proofs.Words.{lines_text}
-use proofs.Words.{pieces_of, as_read, At, Epoch, FileUnit, Choices, is_date, compacted, expanded, Item}
+use proofs.Words.{pieces_of, as_read, Epoch, FileUnit, Choices, is_date, compacted, expanded, Item}
 use proofs.Words.{WholeReading}
-use proofs.Words.{FilterResult, IsResult, Device, compact_lines, printed_items, whole_of, IsStandard}
+use proofs.Words.{FilterResult, compact_lines, printed_items, whole_of, IsStandard}
 use proofs.Words.{HaveNoReturns, written_well}
 use proofs.anywriter.{AnyText.any-text, OwnText.{own-items, units-printed, whole-items}}
 use proofs.wayback.{Canonical.same-compaction, Converse.{lines-plain, all-plain, contents-plain}, NormalForm.printed-clean, Units.{compacts, settled, no-returns, units_in}}
 use proofs.wayback.{Standard.{NoReturn, plain-no_return, plain-text, same-reading, whole-copied}, WayBack.{IsSettled, whole-settled}}
-use Rattle.crx_filter.specs.{meaning.{Canonical.IsCanonical, UnitsAndText.{TextsOfUnits, ReadsUnits}}, WayBack.{ComesBack, NormalFormComesBack, StandardComesBack}}
+use Rattle.crx_filter.specs.meaning.{Canonical.IsCanonical, UnitsAndText.TextsOfUnits}
+use Rattle.crx_filter.specs.WayBack.{ComesBack, NormalFormComesBack, StandardComesBack}
 
 -- what was accepted comes back from its compact text
 pub items-back : (items : List (Item Epoch)) (compacting expanding : Choices) → is_date compacting.date ≡ true
@@ -68,9 +69,3 @@ canonical one other choices dated h k = (
 pub texts-of_units : (units : List (FileUnit Epoch)) (compacting expanding : Choices)
     → TextsOfUnits units compacting expanding
 texts-of_units units compacting expanding h = search (compacts, items-back, settled, no-returns)
-
-pub reads-units : (expanding : Choices) (writer messages : Device) (status : ℕ)
-    (fault : Option At) (text : List ℕ) → IsResult (expanded text expanding) writer messages status fault
-    → ReadsUnits writer messages status fault text
-reads-units expanding writer messages status fault text ran units compacting dated h same =
-    grind (arith, items-back, settled, no-returns)

@@ -1,10 +1,10 @@
 -- What passes a check comes back.
 use Rattle.crx_filter.proofs.Words
-use Words.{ℕ, ◌≡◌, List, Option, Some, None, refl, ap, sym, ◌∙◌, lines_of, At, Choices, expanded, whole_of}
+use Words.{ℕ, ◌≡◌, List, Option, Some, None, refl, ap, sym, ◌∙◌, lines_of, At, whole_of}
 use Words.{findings_of, checked_by, checked, FilterResult, IsResult, Device}
 use Rattle.crx_filter.proofs.standard.CheckStandard.{named-where_not, none-where_0}
 use Rattle.crx_filter.{proofs.anywriter.ComesBack.standard-comes_back, specs.meaning.Standard.Findings}
-use Rattle.crx_filter.specs.meaning.Lossless.{WhatPassesComesBack, SaysThatItComesBack, BringsBackWhatPasses}
+use Rattle.crx_filter.specs.meaning.Lossless.{WhatPassesComesBack, SaysThatItComesBack}
 
 -- a check answers 0 only where no fault ended it, and no line was named
 passed : (o : Option At) (found : Findings) → FilterResult.status (checked_by o found) ≡ 0
@@ -22,9 +22,3 @@ what-passes file e compacting expanding dated = standard-comes_back file compact
 pub says-so : (writer messages : Device) (status : ℕ) (fault : Option At) (file : List ℕ)
     → IsResult (checked file) writer messages status fault → SaysThatItComesBack status file
 says-so writer messages status fault file ran zero_status = what-passes file (sym ran.status_is ∙ zero_status)
-
-pub brings-back_passed : (expanding : Choices) (writer messages : Device) (status : ℕ) (fault : Option At)
-    (text : List ℕ) → IsResult (expanded text expanding) writer messages status fault
-    → BringsBackWhatPasses writer messages status fault text
-brings-back_passed expanding writer messages status fault text ran file compacting dated e same =
-    rw (← ap (λ t. expanded t expanding) same ∙ what-passes file e compacting expanding dated) ran

@@ -3,12 +3,12 @@
 use Rattle.crx_filter.proofs
 use proofs.Words.{common_steps, [], ℕ, ◌≡◌, ◌+◌, Bool, true, List, ◌∷◌, ◌++◌, map, length, drop, Option, None}
 use proofs.Words.{refl, ap, ◌∙◌, subst, arith, ⊤, AllByRecursion, list_all, and_parts, not-true, HasNoFeed}
-use proofs.Words.{Piece, InputLine, line_of, lines_text, ReadLine, At, Count, types_of, IsWholeEpoch, Epoch}
+use proofs.Words.{Piece, InputLine, line_of, lines_text, ReadLine, Count, types_of, IsWholeEpoch, Epoch}
 use proofs.Words.{FileUnit, HeaderLine, EventRecord, Observation, printed_unit, ReadEpoch, Choices}
 use proofs.Words.{compact_place, raws_kept, first_lines, whole_compact, expanded_unit, expanded, Item}
 use proofs.Words.{Accepted, Warned, is_at_start, header_has_ended, records_left, records_count_types}
 use proofs.Words.{declaring_lines, types_in_force, WholeReading, reading_from, ended_reading, printed_items}
-use proofs.Words.{OfCopiedLine, OfCopiedLines, HaveNoReturns, written_lines, IsResult, Device, ItemsAreRead}
+use proofs.Words.{OfCopiedLine, OfCopiedLines, HaveNoReturns, written_lines, ItemsAreRead}
 use proofs.{Words.{IsInPlace, AreInPlace, compact_reading}, reading.Each.{all-parts, all-drop}}
 use proofs.reading.{ForwardCompact.{compact-forward, compact_beginning}, KeptThroughout.within-kept}
 use proofs.reading.{Resuming.by_place, Stopping.reading-stopped, WhatStands.{OfHere, of-unit, of-compact}}
@@ -18,7 +18,7 @@ use proofs.wayback.{Cut.first-cut, ExpandedWhole.{AreGoodEpochs, epochs-good}, N
 use proofs.{reading.Each.all-from, wayback.First.printable-no_feed}
 use proofs.wayback.{Standard.{NoReturn, not-ended}, WayBack.{IsSettled, closes, written-all}}
 use Rattle.crx_filter.specs.meaning.{Expanded.rinex_unit, WrittenStandard.{has_plain_lines, rinex_items}}
-use Rattle.crx_filter.specs.meaning.WrittenStandard.{WhatIsExpandedIsStandard, WroteStandard}
+use Rattle.crx_filter.specs.meaning.WrittenStandard.{WhatIsExpandedIsStandard}
 
 -- ---- the units of compact text, as units of RINEX, have the same header, events and types in force
 
@@ -200,10 +200,3 @@ expanded-standard text choices good = grind (
   settled-standard,
   plain-copied,
 )
-
--- ---- in runs
-
-pub wrote-standard : (choices : Choices)
-    (writer messages : Device) (status : ℕ) (fault : Option At) (text : List ℕ)
-    → fault ≡ None → IsResult (expanded text choices) writer messages status fault → WroteStandard writer
-wrote-standard choices writer messages status fault text good ran = grind (arith, expanded-standard)

@@ -3,14 +3,14 @@ use Rattle.crx_filter.proofs.Words
 use Words.{common_steps, arith, ℕ, ◌≡◌, List, [], ◌∷◌, map, Option, None, refl, ap, sym, ◌∙◌, lines_of}
 use Words.{lines_text, as_read, At, Epoch, FileUnit, Choices, compacted, Item}
 use Words.{WholeReading, printed_items, whole_of, IsStandard, OfCopiedLines, HaveNoReturns}
-use Words.{written_well, warnings_in, IsResult, Device, AreInPlace}
+use Words.{written_well, warnings_in, AreInPlace}
 use Rattle.crx_filter.proofs.wayback.NormalForm.{printed-again, accepted-all, whole-none, settled-standard}
 pub use Rattle.crx_filter.proofs.wayback.Carried.{units_in}
 use Rattle.crx_filter.proofs.wayback.Standard.{whole-copied, plain-no_return, plain-text, NoReturn}
 use Rattle.crx_filter.proofs.wayback.{Canonical.compacted-by, WayBack.{IsSettled, whole-settled}}
 use Rattle.crx_filter.{proofs.wayback.Cut.CanStand, specs.meaning.UnitsAndText.{CanBeCopied, as_items}}
 use Rattle.crx_filter.specs.meaning.UnitsAndText.{AreInOrder, MakeAFile, rinex_text, compact_text}
-use Rattle.crx_filter.specs.meaning.UnitsAndText.{WritesUnits, IsStandardByUnits}
+use Rattle.crx_filter.specs.meaning.UnitsAndText.{IsStandardByUnits}
 
 -- ---- units in order are items that are settled
 
@@ -53,13 +53,6 @@ whole-text units h = printed-again (as_items units) (settled units h) (no-return
 pub compacts : (units : List (FileUnit Epoch)) (choices : Choices) → MakeAFile units
     → compacted (rinex_text units) choices ≡ written_well (compact_text choices units)
 compacts units choices h = search (whole-text, compacted-by, none-warned)
-
--- ---- in runs
-
-pub writes-units : (choices : Choices) (writer messages : Device) (status : ℕ)
-    (fault : Option At) (file : List ℕ) → IsResult (compacted file choices) writer messages status fault
-    → WritesUnits choices writer messages status fault file
-writes-units choices writer messages status fault file ran units h same = grind (arith, compacts)
 
 -- ---- a standard file is the text of its units
 

@@ -1,9 +1,8 @@
 use Rattle.crx_filter.proofs.Words.{◌≡◌, [], ap, OpenEpoch, RunState, Written, compaction_state, compacted}
-use Rattle.crx_filter.proofs.{Words.{compaction_filter, Device}, Kept.{kept, writes-output}}
-use Rattle.crx_filter.proofs.{following.Lawful.compaction-lawful, wayback.Canonical.depends-on_normal}
-use Rattle.crx_filter.proofs.accounts.ByResults.{blocks-end, file-ends}
-use Rattle.crx_filter.{proofs.wayback.Units.writes-units, specs.CompactionParts.CompactionState}
-use Rattle.crx_filter.specs.{CompactorState.compacting_state, DirectionParts.EngineParts}
+use Rattle.crx_filter.proofs.{Words.{compaction_filter, Device, ℕ, List, IsResult}, Kept.kept}
+use Rattle.crx_filter.proofs.{following.Lawful.compaction-lawful, accounts.ByResults.compaction-keeps}
+use Rattle.crx_filter.specs.{CompactionParts.CompactionState, CompactorState.compacting_state}
+use Rattle.crx_filter.specs.DirectionParts.{EngineParts}
 use Rattle.crx_runs.specs.meaning.{Runs.Runs, Spans.{Input, reader_span, span}}
 use Rattle.std.proofs.lemmas.Result.{IfOk-weaker}
 use Rattle.crx_filter.proofs.filters.compact.Goals as goal
@@ -22,13 +21,15 @@ returns g c =
     fault = c.start.ensures.runs (compaction_filter choices) (compaction-lawful choices)
     (IfOk-weaker c.new.result _ (λ (e : EngineParts CompactionState). compaction_filter e.options ≡
     compaction_filter choices) (λ e is. ap compaction_filter (same e is)) c.new.ensures.state) in
+    let keeps = λ (file : List ℕ) (is : IsResult (compacted file choices) writer messages status fault).
+    compaction-keeps (λ whole. IsResult whole writer messages status fault) choices file is in
     record {
       runs = ran;
-      units = kept ran (writes-units choices writer messages status fault);
-      canonical = kept ran (depends-on_normal choices writer messages status fault);
-      written = kept ran (writes-output (λ bytes. compacted bytes choices) writer messages status fault);
-      accounted = kept ran (file-ends choices writer messages status fault);
-      blocks = kept ran (blocks-end choices writer messages status fault);
+      units = kept ran (λ file is. (keeps file is).units);
+      canonical = kept ran (λ file is. (keeps file is).canonical);
+      written = kept ran (λ file is. is.output);
+      accounted = kept ran (λ file is. (keeps file is).accounted);
+      blocks = kept ran (λ file is. (keeps file is).blocks);
     }
 
 pub start-requires-clause-lawful : goal.start-requires-clause-lawful

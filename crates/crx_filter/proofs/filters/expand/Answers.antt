@@ -1,12 +1,11 @@
-use Rattle.crx_filter.proofs.{stretches.StretchesKept.{keeps-undamaged, writes-whole_units}, Words.{◌≡◌}}
-use Rattle.crx_filter.proofs.Words.{[], Option, ap, OpenRawEpoch, Tail, expansion_state, RunState}
-use Rattle.crx_filter.proofs.Words.{expanded, expansion_filter, Device, IsResult}
-use Rattle.crx_filter.proofs.anywriter.AnyRun.{reads-any, reads-no_other}
-use Rattle.crx_filter.proofs.{Kept.{kept, writes-output, brings-back, saves-all_else}, following.Lawful.expansion-lawful}
-use Rattle.crx_filter.proofs.{standard.Lossless.brings-back_passed, wayback.ExpandedStandard.wrote-standard}
-use Rattle.crx_filter.proofs.accounts.ByResults.{text-ends}
-use Rattle.crx_filter.{proofs.anywriter.ComesBack.reads-units, specs.DirectionParts.EngineParts}
-use Rattle.crx_filter.specs.{ExpanderState.expanding_state, ExpansionParts.ExpansionState as Expansion}
+use Rattle.crx_filter.proofs.Words.{◌≡◌, ℕ, List, [], Option, ap, sym, ◌∙◌, OpenRawEpoch, Tail, RunState}
+use Rattle.crx_filter.proofs.Words.{expansion_state, expanded, expansion_filter, Device, IsResult}
+use Rattle.crx_filter.proofs.{Kept.{kept, brings-back}, following.Lawful.expansion-lawful}
+use Rattle.crx_filter.proofs.{accounts.ByResults.{expansion-keeps, gives-back}, damage.DamageStays.all-saved}
+use Rattle.crx_filter.proofs.anywriter.{AnyText.first-units, OnlyTexts.only-text}
+use Rattle.crx_filter.proofs.{stretches.StretchesSaved.rest-kept, wayback.ExpandedStandard.expanded-standard}
+use Rattle.crx_filter.specs.{DirectionParts.EngineParts, ExpanderState.expanding_state}
+use Rattle.crx_filter.specs.{ExpansionParts.ExpansionState as Expansion}
 use Rattle.crx_runs.specs.meaning.{Runs.Runs, Spans.{Input, reader_span, span}}
 use Rattle.std.proofs.lemmas.Result.{IfOk-weaker}
 use Rattle.crx_filter.proofs.filters.expand.Goals as goal
@@ -26,19 +25,27 @@ returns g c =
     (IfOk-weaker c.new.result (λ (e : EngineParts Expansion). expanding_state e ≡ expansion_state choices [])
     (λ (e : EngineParts Expansion). expansion_filter e.options ≡ expansion_filter choices)
     (λ e is. ap expansion_filter (same e is)) c.new.ensures.state) in
+    let keeps = λ (text : List ℕ) (is : IsResult (expanded text choices) writer messages status fault).
+    expansion-keeps (λ whole. IsResult whole writer messages status fault) choices text is in
     record {
       runs = ran;
-      lossless = kept ran (brings-back_passed choices writer messages status fault);
-      units = kept ran (reads-units choices writer messages status fault);
-      any_writer = kept ran (λ text ran. reads-any (λ whole. IsResult whole writer messages status fault) choices text ran);
-      no_other = kept ran (reads-no_other choices writer messages status fault);
-      standard = λ good. wrote-standard choices writer messages status fault ran.0 good (ran.2.good good).5;
+      lossless = kept ran (gives-back (λ whole. IsResult whole writer messages status fault) choices);
+      units = kept ran (λ text is. (keeps text is).units);
+      any_writer = kept ran (λ text is. (keeps text is).any_writer);
+      no_other = kept ran (λ text is zero. only-text text choices (sym is.status_is ∙ zero));
+      standard = λ good.
+          let is = (ran.2.good good).5 in
+          (_, is.output, (expanded-standard ran.0 choices (sym is.fault_is ∙ good)).standard);
       way_back = kept ran (brings-back choices writer messages status fault);
-      salvage = kept ran (saves-all_else choices writer messages status fault);
-      damage = kept ran (keeps-undamaged choices writer messages status fault);
-      whole_units = kept ran (writes-whole_units choices writer messages status fault);
-      written = kept ran (writes-output (λ bytes. expanded bytes choices) writer messages status fault);
-      accounted = kept ran (text-ends choices writer messages status fault);
+      salvage = kept ran (λ text is before s skips damage.
+          (_, all-saved before s text choices skips damage, is));
+      damage = kept ran (λ text is before stretches skips damage.
+          (_, rest-kept before stretches text choices skips damage, is));
+      whole_units = kept ran (λ text is units placed begun.
+          let begins = first-units units text choices placed begun in
+          (begins.rest, rw (← begins.same) is.output));
+      written = kept ran (λ text is. is.output);
+      accounted = kept ran (λ text is. (keeps text is).accounted);
     }
 
 pub start-requires-clause-lawful : goal.start-requires-clause-lawful
