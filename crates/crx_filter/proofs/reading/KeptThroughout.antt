@@ -1,8 +1,8 @@
 -- What each step of a reading keeps holds of all that it has accepted.
 use Rattle.crx_filter.proofs.Words.{ℕ, zero, suc, ◌≡◌, ◌+◌, max, Bool, true, List, [], ◌∷◌, drop, ReadLine}
-use Rattle.crx_filter.proofs.Words.{At, Place, Done, FileUnit, Item, Accepted, Warned, Reading, is_skipped}
-use Rattle.crx_filter.proofs.Words.{can_go_on, looked_for, after_fault, reading_within, by_bool}
-use Rattle.crx_filter.proofs.Words.{refl, ⊤, Stop, AtLines, AtFault, Looking, arith, length, Option, Some}
+use Rattle.crx_filter.proofs.Words.{At, Place, Done, Fails, FileUnit, Item, Accepted, Warned, Reading}
+use Rattle.crx_filter.proofs.Words.{is_skipped, can_go_on, looked_for, after_fault, reading_within, by_bool}
+use Rattle.crx_filter.proofs.Words.{refl, Stop, AtLines, AtFault, Looking, arith, length, Option, Some}
 use Rattle.crx_filter.proofs.Words.{None, Fault}
 use Rattle.crx_filter.proofs.Words.{WholeReading, reading_from, whole_reading, ended_reading, ended_with}
 use Rattle.crx_filter.proofs.Words.{fault_at_end}
@@ -25,13 +25,14 @@ module _ {E : Type 0} (place : List (Item E) → List ReadLine → Place (FileUn
     pub passed : (items : List (Item E)) (lines : List ReadLine) (at : At) (n : ℕ)
         → is_skipped skip items at.fault ≡ true → Keeps items lines → Keeps (Warned at ∷ items) (drop n lines)
 
-  abbrev IsLeft : Stop → List ReadLine → Type 0
-  IsLeft (AtLines number rest) lines = lines ≡ rest
-  IsLeft (Looking number) lines = lines ≡ []
-  IsLeft (AtFault at) lines = ⊤
+  -- the lines that are left there, and at a fault what is at them
+  abbrev IsLeft : List (Item E) → Stop → List ReadLine → Type 0
+  IsLeft items (AtLines number rest) lines = lines ≡ rest
+  IsLeft items (Looking number) lines = lines ≡ []
+  IsLeft items (AtFault at) lines = (offset : ℕ) × (place items lines ≡ Fails offset at.fault)
 
   abbrev pub KeptAt : Reading E → Type 0
-  KeptAt r = (lines : List ReadLine) × Keeps r.items lines × IsLeft r.stop lines
+  KeptAt r = (lines : List ReadLine) × Keeps r.items lines × IsLeft r.items r.stop lines
 
   pub looked-kept : (items : List (Item E)) (read : ℕ → List ReadLine → Reading E) (number : ℕ) (lines : List ReadLine)
       → ((n : ℕ) → Keeps items (drop n lines)) → ((n : ℕ) (ls : List ReadLine) → Keeps items ls → KeptAt (read n ls))
@@ -53,7 +54,7 @@ module _ {E : Type 0} (place : List (Item E) → List ReadLine → Place (FileUn
       (λ on. rw (on, after_fault) (looked-kept (Warned at ∷ items) (reading_within place skip units (Warned at ∷ items))
       (number + max offset 1) (drop (max offset 1) lines)
       (λ n. rw (drop-drop n (max offset 1) lines) (k.passed items lines at (max offset 1 + n) on h))
-      (within-kept k units (Warned at ∷ items)))) (λ off. rw (off, after_fault) (lines, h, tt))))
+      (within-kept k units (Warned at ∷ items)))) (λ off. rw (off, after_fault) (lines, h, (offset, e)))))
       (λ e. rw (within-wanted place skip units items number lines e) (lines, h, refl))
 
   -- ---- the end
