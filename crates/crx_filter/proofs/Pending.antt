@@ -2,7 +2,9 @@
 use Rattle.crx_filter.proofs.Words.{◌≡◌, ℕ, false, List, [], ReadLine, RunState, Direction, Choices}
 use Rattle.crx_filter.proofs.Words.{Count, LineStep, state_next, is_again, arith, common_steps, None}
 use Rattle.crx_filter.{proofs.Words.{Made, noticed_by, failed_by, step_of_made}, specs.Laws.is_ready}
-use Rattle.crx_filter.specs.LineByLine.{answer_of_lines, Phase, state_end_with}
+use Rattle.crx_filter.proofs.Words.{true, ◌∷◌, ◌⊎◌, inl, inr, refl, map, as_read, InputLine, At, Notice}
+use Rattle.crx_filter.specs.{EngineLines.HasTaken, LineByLine.{answer_of_lines, Phase, state_end_with}}
+use Rattle.crx_runs.specs.Engines.{Awaited, IsAwaited}
 
 -- what is seen in a phase, some types in force and this kept
 abbrev pub state_in : {O K : Type 0} → Choices → ℕ → Phase O → List Count → K → RunState O K
@@ -17,6 +19,19 @@ failed-lines lines = grind (arith, common_steps)
 
 pub again-lines : (lines : List (List ℕ)) → is_again (answer_of_lines lines) ≡ false
 again-lines lines = grind (arith, common_steps)
+
+-- an engine that has taken some lines has come to them; or the next one comes a second time, after a warning
+pub taken-either : {U O K : Type 0} (direction : Direction U O K) (state_after : List ReadLine → RunState O K)
+    (now : RunState O K) (lines : List InputLine) (notices : List Awaited) (line : InputLine)
+    → HasTaken direction state_after now lines notices → IsAwaited notices line
+    → ((notices ≡ []) × (now ≡ state_after (map as_read lines)))
+    ⊎ ((notice : At) × (notices ≡ record { notice = notice; line = line } ∷ [])
+    × (record { answer = Notice notice true; handed_out = []; next = now }
+    ≡ state_next direction (state_after (map as_read lines)) (as_read line)))
+taken-either direction state_after now lines [] line taken awaited = inl (refl, taken)
+taken-either direction state_after now lines (a ∷ []) line taken awaited =
+    rw (← awaited) (inr (a.notice, refl, taken))
+taken-either direction state_after now lines (a ∷ b ∷ others) line taken awaited = absurd taken
 
 -- only a step that is ready hands out lines
 module _ {U O K : Type 0} (direction : Direction U O K) (before : RunState O K) where

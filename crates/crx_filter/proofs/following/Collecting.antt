@@ -7,11 +7,10 @@ use proofs.Words.{Observation, Place, Choices, Item, Count, types_in_force, RunS
 use proofs.Words.{Moves, Rejects, Direction, Notice, LineStep, made_in, kept_in, state_next, step_of_made}
 use proofs.Words.{is_again, fed, with_next, Content, Overlong}
 use proofs.Words.{LineTooLong, not-true, false-true, At, state_of, Reading, Some}
-use proofs.{Pending.again-lines, following.Following.{AgreeOn, IsCarriedOut, IsSameEpoch, fed-once}}
-use proofs.following.Following.{fed-twice, failed-skipped, failed-ends}
+use proofs.{Pending.{again-lines, taken-either}, following.Following.{AgreeOn, IsCarriedOut, IsSameEpoch}}
+use proofs.following.Following.{fed-once, fed-twice, failed-skipped, failed-ends}
 use Rattle.crx_filter.specs.DirectionParts.{DirectionParts, ComesAfter, brings_nothing, state_by}
-use Rattle.crx_filter.specs.{EngineLines.HasTaken, LineByLine.{Repeats, answer_of_lines}}
-use Rattle.{crx_filter.specs.meaning.Memory.accepted_epochs, crx_runs.specs.Engines.{Awaited, IsAwaited}}
+use Rattle.crx_filter.specs.{LineByLine.{Repeats, answer_of_lines}, meaning.Memory.accepted_epochs}
 
 -- what a direction keeps, and what is kept of the epochs
 pub record Collected (K V : Type 0) : Type 0 where
@@ -161,7 +160,13 @@ module _ {U O K V : Type 0} (direction : Direction U O K) (epoch_of : U → V) w
         → epochs_after (map as_read (with_next lines line)) ≡ add_made epoch_of
         (epochs_after (map as_read lines)) (made_in direction seen.phase seen.types seen.kept (as_read line))
     given-epochs once = ap epochs_after (map-append as_read lines (line ∷ []))
-        ∙ collects (map as_read lines) (as_read line) ∙ by_notices given.notices given.has_taken given.awaited
+        ∙ collects (map as_read lines) (as_read line) ∙ elim (taken-either direction (state_after choices)
+        seen lines given.notices line given.has_taken given.awaited) as
+        (λ _. epochs_fed before epochs (as_read line) ≡ now) [
+          | inl h ↦ subst (λ (s : RunState O K). epochs_fed s epochs (as_read line) ≡ now) h.1
+              (epochs-once seen epochs (as_read line) once)
+          | inr h ↦ epochs-twice before epochs (as_read line) seen h.0 h.2
+        ]
       where
         before : RunState O K
         before = state_after choices (map as_read lines)
@@ -169,15 +174,8 @@ module _ {U O K V : Type 0} (direction : Direction U O K) (epoch_of : U → V) w
         epochs : List V
         epochs = epochs_after (map as_read lines)
 
-        by_notices : (notices : List Awaited) → HasTaken direction (state_after choices) seen lines notices
-            → IsAwaited notices line → epochs_fed before epochs (as_read line) ≡ add_made epoch_of epochs
-            (made_in direction seen.phase seen.types seen.kept (as_read line))
-        by_notices [] taken awaited = subst (λ (s : RunState O K). epochs_fed s epochs (as_read line)
-            ≡ add_made epoch_of epochs (made_in direction seen.phase seen.types seen.kept (as_read line))) taken
-            (epochs-once seen epochs (as_read line) once)
-        by_notices (a ∷ []) taken awaited = epochs-twice before epochs (as_read line) seen a.notice
-            (taken ∙ ap (λ (l : InputLine). state_next direction before (as_read l)) awaited)
-        by_notices (a ∷ b ∷ others) taken awaited = absurd taken
+        now : List V
+        now = add_made epoch_of epochs (made_in direction seen.phase seen.types seen.kept (as_read line))
 
     pub given-past : ((types : List Count) (kept : K)
         → direction.begins types kept Overlong ≡ Rejects LineTooLong)

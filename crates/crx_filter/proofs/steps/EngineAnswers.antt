@@ -17,7 +17,7 @@ use Rattle.crx_filter.specs.EngineState.{LineIsAnswered, engine_seen, engine_sta
 use Rattle.crx_filter.specs.{Laws.is_ready, LineByLine.state_end_with, declared.direction.Direction.Ghosts}
 use Rattle.crx_runs.specs.Engines.{Awaited, IsAwaited, awaited_notices, EngineAnswers, Concludes}
 use Rattle.crx_runs.specs.{declared.engine.Step.{Step, TheVariants.Warned}, meaning.Filters.Filter}
-use proofs.Pending.{again-lines, quiet-next, quiet-end}
+use proofs.Pending.{again-lines, quiet-next, quiet-end, taken-either}
 use proofs.steps.EngineLemmas.{repeats, repeats-end}
 use proofs.following.Following.{fed-once as feeds-once, fed-twice as feeds-twice, failed-ends, failed-skipped}
 
@@ -140,13 +140,6 @@ module _ {U O K : Type 0} {direction : Direction U O K} {closing_after : List In
         (awaited_notices notices) → EngineAnswers filter shows ready lines notices line result
     ran-out shows ready notices number at result is fault place same allowed = grind (arith, common_steps)
 
-  -- where a line comes a second time, the first time it gave the warning
-  first-step : (before : RunState O K) (lines : List InputLine) (a : Awaited) (line : InputLine)
-      → HasTaken direction state_after_lines before lines (a ∷ []) → a.line ≡ line
-      → record { answer = Notice a.notice true; handed_out = []; next = before }
-      ≡ state_next direction (state_after_lines (map as_read lines)) (as_read line)
-  first-step before lines a line taken awaited = grind (arith, common_steps)
-
   -- an engine's own step is an answer
   answers-step : (shows : List InputLine → List Awaited → Type 0) (before now : RunState O K)
       (lines : List InputLine) (notices : List Awaited) (line : InputLine) (ready : List (List ℕ))
@@ -155,17 +148,13 @@ module _ {U O K : Type 0} {direction : Direction U O K} {closing_after : List In
       ns) → HasTaken direction state_after_lines before lines notices → IsAwaited notices line
       → step_made result ready now ≡ state_next direction before (as_read line)
       → EngineAnswers filter shows ready lines notices line result
-  answers-step shows before now lines [] line ready result showing taken awaited e =
-      first-time lines line shows now ready showing result
-      (subst (λ (s : RunState O K). step_made result ready now ≡ state_next direction s (as_read line)) taken
-      e)
-  answers-step shows before now lines (a ∷ []) line ready result showing taken awaited e =
-      subst (λ (l : InputLine). EngineAnswers filter shows ready lines
-      (record { notice = a.notice; line = l } ∷ []) line result) (sym awaited)
-      (second-time lines line shows now ready showing a.notice before result
-      (first-step before lines a line taken awaited) e)
-  answers-step shows before now lines (a ∷ b ∷ others) line ready result showing taken awaited e =
-      absurd taken
+  answers-step shows before now lines notices line ready result showing taken awaited e =
+      elim (taken-either direction state_after_lines before lines notices line taken awaited) as
+      (λ _. EngineAnswers filter shows ready lines notices line result) [
+        | inl h ↦ rw h.0 (first-time lines line shows now ready showing result (subst (λ (s : RunState O K).
+            step_made result ready now ≡ state_next direction s (as_read line)) h.1 e))
+        | inr h ↦ rw h.1 (second-time lines line shows now ready showing h.0 before result h.2 e)
+      ]
 
   -- memory that ran out where the line needs more is one
   answers-lost : (shows : List InputLine → List Awaited → Type 0) (before now : RunState O K)
@@ -173,19 +162,17 @@ module _ {U O K : Type 0} {direction : Direction U O K} {closing_after : List In
       (result : Result Step At) (room : Type 0) → HasTaken direction state_after_lines before lines notices
       → IsAwaited notices line → needs lines line ≡ true → RanOut direction before (as_read line) room result now
       → EngineAnswers filter shows ready lines notices line result
-  answers-lost shows before now lines [] line ready result room taken awaited needed r =
-      ran-out lines line shows ready [] before.number r.at result r.is r.fault r.place
-      (ap (λ (s : RunState O K). s.number) taken ∙ goes.number lines)
-      (goes.memory_first lines line needed
-      (subst (λ (s : RunState O K). takes_memory direction s (as_read line) ≡ true) taken r.allowed))
-  answers-lost shows before now lines (a ∷ []) line ready result room taken awaited needed r =
-      let one = first-step before lines a line taken awaited in
-      let again = comes-again direction (state_after_lines (map as_read lines)) before
-      (as_read line) a.notice [] one in
-      ran-out lines line shows ready (a ∷ []) before.number r.at result r.is r.fault r.place
-      (again.number ∙ goes.number lines) (goes.memory_again lines line before a.notice needed one r.allowed)
-  answers-lost shows before now lines (a ∷ b ∷ others) line ready result room taken awaited needed r =
-      absurd taken
+  answers-lost shows before now lines notices line ready result room taken awaited needed r =
+      elim (taken-either direction state_after_lines before lines notices line taken awaited) as
+      (λ _. EngineAnswers filter shows ready lines notices line result) [
+        | inl h ↦ rw h.0 (ran-out lines line shows ready [] before.number r.at result r.is r.fault r.place
+            (ap (λ (s : RunState O K). s.number) h.1 ∙ goes.number lines) (goes.memory_first lines line needed
+            (subst (λ (s : RunState O K). takes_memory direction s (as_read line) ≡ true) h.1 r.allowed)))
+        | inr h ↦ rw h.1 (ran-out lines line shows ready (record { notice = h.0; line = line } ∷ [])
+            before.number r.at result r.is r.fault r.place ((comes-again direction (state_after_lines
+            (map as_read lines)) before (as_read line) h.0 [] h.2).number ∙ goes.number lines)
+            (goes.memory_again lines line before h.0 needed h.2 r.allowed))
+      ]
 
   -- ---- the end of the input
 

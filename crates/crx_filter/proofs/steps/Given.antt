@@ -2,13 +2,13 @@
 -- seen
 -- then.
 use Rattle.crx_filter.proofs
-use proofs.Words.{common_steps, arith, ◌≡◌, ◌⊎◌, inl, inr, subst, true, List, [], ◌∷◌, map, length, Option}
+use proofs.Words.{common_steps, arith, ◌≡◌, ◌⊎◌, inl, inr, true, List, [], map, length, Option}
 use proofs.Words.{InputLine}
 use proofs.Words.{ReadLine, as_read, Choices, Item, Reading, types_in_force, RunState, Direction, phase_of}
 use proofs.Words.{phase_of_stage}
-use Rattle.crx_filter.specs.{DirectionParts.{DirectionParts, ComesAfter, state_by}, EngineLines.HasTaken}
+use Rattle.crx_filter.specs.DirectionParts.{DirectionParts, ComesAfter, state_by}
 use Rattle.crx_filter.specs.{Rooms.do_types_count, meaning.Memory.are_types_awaited}
-use Rattle.crx_runs.specs.Engines.{Awaited, IsAwaited}
+use proofs.Pending.{taken-either}
 use proofs.steps.{EngineAnswers.{ComesAgain, comes-again}, Enough.{never-counted, types-awaited}}
 
 module _ {U O K : Type 0} (direction : Direction U O K) {chosen : Choices → Choices}
@@ -22,14 +22,12 @@ module _ {U O K : Type 0} (direction : Direction U O K) {chosen : Choices → Ch
   before = state_after choices (map as_read lines)
 
   pub given-either : (seen ≡ before) ⊎ ComesAgain direction before seen (as_read line)
-  given-either = by_notices given.notices given.has_taken given.awaited
-    where
-      by_notices : (notices : List Awaited) → HasTaken direction (state_after choices) seen lines notices
-          → IsAwaited notices line → (seen ≡ before) ⊎ ComesAgain direction before seen (as_read line)
-      by_notices [] taken awaited = inl taken
-      by_notices (a ∷ []) taken awaited = inr (subst (λ (l : InputLine). ComesAgain direction before seen
-          (as_read l)) awaited (comes-again direction before seen (as_read a.line) a.notice [] taken))
-      by_notices (a ∷ b ∷ others) taken awaited = absurd taken
+  given-either = elim (taken-either direction (state_after choices) seen lines given.notices line
+      given.has_taken given.awaited) as
+      (λ _. (seen ≡ before) ⊎ ComesAgain direction before seen (as_read line)) [
+        | inl h ↦ inl h.1
+        | inr h ↦ inr (comes-again direction before seen (as_read line) h.0 [] h.2)
+      ]
 
   -- the types in force are the same
   pub types-there : parts.types ≡ before.types
