@@ -50,12 +50,6 @@ pub part-printed : (made : Made ObservationEpoch OpenEpoch) (before after : Rine
 part-printed made before after line takes is_last =
     grind (arith, common_steps, in-epoch, last_line, row-printed)
 
-pub whole-printed : (made : Made ObservationEpoch OpenEpoch) (before after : RinexReader) (line : List ℕ)
-    → TakesRinexLine made before line Steps.Epoch after → IsLastRow after
-    → last_line (printed_made made) ≡ printed_row after.row
-whole-printed made before after line takes is_last =
-    grind (arith, common_steps, last_line, printed_made, printed_epoch, epoch_by_rows, same_Some, row-printed)
-
 -- a line that is copied is given back
 pub copied-printed : (made : Made ObservationEpoch OpenEpoch) (line : List ℕ) → printed_made made ≡ line ∷ []
     → true ≡ bytes_eq line (last_line (printed_made made))
@@ -68,13 +62,9 @@ pub row-made : (made : Made ObservationEpoch OpenEpoch) (before after : RinexRea
 row-made made before after line step (inl e) takes has =
     let row = subst (λ s. HasRow s line after) e has in
     (part-printed made before after line (subst (λ s. TakesRinexLine made before line s after) e takes) row.0, row.1)
-row-made made before after line step (inr e) takes has =
-    let row = subst (λ s. HasRow s line after) e has in
-    (whole-printed made before after line (subst (λ s. TakesRinexLine made before line s after) e takes) row.0, row.1)
+row-made made before after line step (inr e) takes has = grind (arith, common_steps, same_Some, row-printed)
 
 -- what a check asks of a row is there, where the row was counted and was read out of its line
 pub has_row : (step : RinexStep) (observed : ℕ) (line : List ℕ) (reader : RinexReader)
     → IsCounting step observed reader → (is_row step ≡ true → LastRowIsReadFrom line reader) → HasRow step line reader
-has_row Steps.Row observed line reader counting read = ((counting.rows, counting.is_last), read refl)
-has_row Steps.Epoch observed line reader counting read = ((counting.rows, counting.is_last), read refl)
-has_row step observed line reader counting read = tt
+has_row step observed line reader h5 h6 = grind (arith, common_steps)

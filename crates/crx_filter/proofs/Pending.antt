@@ -3,7 +3,7 @@ use Rattle.crx_filter.proofs.Words.{◌≡◌, ℕ, false, List, [], ReadLine, R
 use Rattle.crx_filter.proofs.Words.{Count, LineStep, state_next, is_again, arith, common_steps, None}
 use Rattle.crx_filter.{proofs.Words.{Made, noticed_by, failed_by, step_of_made}, specs.Laws.is_ready}
 use Rattle.crx_filter.proofs.Words.{true, ◌∷◌, ◌⊎◌, inl, inr, refl, map, as_read, InputLine, At, Notice}
-use Rattle.crx_filter.specs.{EngineLines.HasTaken, LineByLine.{answer_of_lines, Phase, state_end_with}}
+use Rattle.crx_filter.specs.{EngineLines.HasTaken, LineByLine.{answer_of_lines, Phase}}
 use Rattle.crx_runs.specs.Engines.{Awaited, IsAwaited}
 
 -- what is seen in a phase, some types in force and this kept
@@ -43,9 +43,3 @@ module _ {U O K : Type 0} (direction : Direction U O K) (before : RunState O K) 
   pub quiet-next : (line : ReadLine) (step : LineStep O K) → step ≡ state_next direction before line
       → is_ready step.answer ≡ false → step.handed_out ≡ []
   quiet-next line step e quiet = grind (arith, common_steps, quiet-made)
-
--- nor does an end hand out any where it isn't ready
-module _ {U O K : Type 0} (direction : Direction U O K) (closing : List (List ℕ)) where
-  pub quiet-end : (before : RunState O K) → is_ready (state_end_with direction closing before).answer ≡ false
-      → (state_end_with direction closing before).handed_out ≡ []
-  quiet-end before quiet = grind (arith, common_steps)

@@ -4,7 +4,7 @@ use Words.{common_steps, ◌≡◌, ◌⊎◌, inl, inr, ℕ, ◌+◌, ◌<◌, 
 use Words.{Option, Some, Result, Ok, Err, ap, subst, ◌∙◌, arith, ⊤, character_at}
 use Words.{Fault, Row, Epoch as ObservationEpoch, HeadLine, EventHead, EpochHead, ObservationHead}
 use Words.{event_head, epoch_head, head_of, begins_epoch, is_event_line, records_in, OpenEpoch, beginning_of}
-use Words.{opened, epoch_of, Whole, has_satellite, Count, row_of, EventLine, Written, made_of_epoch_step}
+use Words.{opened, has_satellite, Count, row_of, EventLine, Written, made_of_epoch_step}
 use Words.{made_of_beginning, records_announced, Made, Completes, is_open_stage, made_at, CompletedEpoch}
 use Words.{MovesReader, RinexReader, Stage, Open}
 use Rattle.crx_filter.specs.{RinexReaders.BeginsEpoch, RinexStages.is_rinex_stage}
@@ -12,10 +12,6 @@ use Rattle.crx_filter.specs.declared.stage.Stage.TheVariants.{Between, Looking}
 use Rattle.crx_rinex.specs.EpochPlaces.{whole_or_going}
 
 -- ---- an epoch is whole, or wants rows
-
-whole-now : (so_far : OpenEpoch)
-    → length so_far.rows ≡ so_far.head.count → whole_or_going so_far ≡ Whole (epoch_of so_far)
-whole-now so_far full = grind (arith, common_steps)
 
 -- ---- what a reader has then
 
@@ -59,12 +55,6 @@ pub stays-open : (stage : Stage) (held : Option ObservationHead) (head : Observa
     → is_rinex_stage stage held count rows ≡ true
 stays-open stage held head count rows is is_head counted more = grind arith
 
-new-made : (r : RinexReader) (head : ObservationHead) (line : List ℕ) (kept : Written) (row : Row)
-    → IsInEpoch r head → begins_epoch line ≡ false → row_of r.types line ≡ Ok row
-    → has_satellite row.name r.rows.rows ≡ false → made_at r line kept
-    ≡ made_of_epoch_step (whole_or_going (open_by_rows r.types head (r.rows.rows ++ row ∷ [])))
-new-made r head line kept row at other read new = grind arith
-
 -- the row is the last one of its epoch
 pub last-row-taken : (before after : RinexReader) (head : ObservationHead) (line : List ℕ) (kept : Written)
     → is_open_stage before.stage ≡ true → before.head ≡ Some head → row_of before.types line ≡ Ok before.row
@@ -72,7 +62,7 @@ pub last-row-taken : (before after : RinexReader) (head : ObservationHead) (line
     → before.count + 1 ≡ head.count → HasParts after before.types head (before.rows.rows ++ before.row ∷ [])
     → after.stage ≡ Between → CompletedEpoch (made_at before line kept) line before after
 last-row-taken before after head line kept is held read other new full parts stage =
-    grind (arith, common_steps, in-its-epoch, whole-now, new-made)
+    grind (arith, common_steps, in-its-epoch)
 
 -- or others are to come
 pub row-taken : (before after : RinexReader) (head : ObservationHead) (line : List ℕ) (kept : Written)
@@ -81,7 +71,7 @@ pub row-taken : (before after : RinexReader) (head : ObservationHead) (line : Li
     → before.count + 1 < head.count → HasParts after before.types head (before.rows.rows ++ before.row ∷ [])
     → after.stage ≡ Open → MovesReader (made_at before line kept) before after
 row-taken before after head line kept is held read other new part parts stage =
-    grind (arith, in-its-epoch, part-taken, new-made)
+    grind (arith, in-its-epoch, part-taken)
 
 -- ---- where an epoch or an event may begin
 
@@ -130,7 +120,7 @@ pub begun-whole : (before after : RinexReader) (line : List ℕ) (kept : Written
     → HasParts after before.types head [] → after.stage ≡ Between
     → BeginsEpoch (made_at before line kept) line before after
 begun-whole before after line kept head begins read none parts stage =
-    grind (arith, begun-made, whole-now, inr, begin-made, of-head)
+    grind (arith, begun-made, inr, begin-made, of-head)
 
 -- or rows are to come
 pub begun-part : (before after : RinexReader) (line : List ℕ) (kept : Written) (head : ObservationHead)

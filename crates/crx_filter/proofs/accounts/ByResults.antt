@@ -1,17 +1,17 @@
 -- What compactions, expansions and checks promise follows from what their results are, by the laws.
 use Rattle.crx_filter.proofs.Words
-use Words.{common_steps, arith, ℕ, ◌≡◌, List, ◌++◌, map, Option, None, reverse, refl, ap, sym, ◌∙◌, subst}
-use Words.{append-nil, lines_of, as_read, At, Choices, Epoch, ReadEpoch, compacted, expanded, checked}
-use Words.{whole_rinex, whole_compact, FilterResult, WholeReading, warnings_in, notices_text}
+use Words.{common_steps, arith, ℕ, ◌≡◌, List, ◌++◌, Option, None, ap, sym, ◌∙◌, subst}
+use Words.{append-nil, At, Choices, compacted, expanded, checked}
+use Words.{FilterResult, notices_text}
 use Rattle.crx_filter.proofs.accounts.{OfFile.file-accounted, OfText.text-accounted, Shortness.short-blocks}
 use Rattle.crx_filter.proofs.anywriter.{AnyRun.reads-any, OnlyTexts.only-text}
 use Rattle.crx_filter.proofs.wayback.{Canonical.same-compaction, ExpandedStandard.expanded-standard}
 use Rattle.crx_filter.proofs.anywriter.ComesBack.{texts-of_units}
 use Rattle.crx_filter.proofs.standard.{CheckStandard.named-where_not, Lossless.what-passes}
-use Rattle.crx_filter.specs.meaning.Accounts.{AccountsForFile, AccountsForText, HasShortBlocks}
+use Rattle.crx_filter.specs.meaning.Accounts.{AccountsForFile, AccountsForText}
 use Rattle.crx_filter.specs.meaning.ByResults.{CompactionKeeps, ExpansionKeeps, CheckKeeps}
 use Rattle.crx_filter.specs.meaning.ByResults.{GivesBackWhatPasses}
-use Rattle.crx_runs.specs.meaning.{Messages.error_text, Results.status_after}
+use Rattle.crx_runs.specs.meaning.{Messages.error_text}
 
 -- ---- nothing is lost in silence
 
@@ -22,32 +22,10 @@ no-error warnings fault good =
 
 pub accounts-for_file : (choices : Choices) (file : List ℕ)
     → AccountsForFile choices file (compacted file choices)
-accounts-for_file choices file good =
-    let lines = map as_read (lines_of file) in
-    let whole : WholeReading Epoch = whole_rinex choices.skip lines in
-    record {
-      lines_are = file-accounted choices.skip lines good;
-      output = refl;
-      messages = no-error (reverse (warnings_in whole.items)) whole.fault good;
-      status = ap (status_after (reverse (warnings_in whole.items))) good;
-    }
+accounts-for_file choices file good = grind (arith, common_steps, file-accounted, no-error)
 
 pub accounts-for_text : (choices : Choices) (text : List ℕ) → AccountsForText choices.skip text (expanded text choices)
-accounts-for_text choices text good =
-    let lines = map as_read (lines_of text) in
-    let whole : WholeReading ReadEpoch = whole_compact choices.skip lines in
-    let (first, second, rest, is, own) = text-accounted choices.skip lines good in (
-      first,
-      second,
-      rest,
-      is,
-      record {
-        lines_are = own;
-        output = refl;
-        messages = no-error (reverse (warnings_in whole.items)) whole.fault good;
-        status = ap (status_after (reverse (warnings_in whole.items))) good;
-      },
-    )
+accounts-for_text choices text good = grind (arith, common_steps, text-accounted, no-error)
 
 -- ---- by what holds of a result
 
@@ -78,7 +56,4 @@ expansion-keeps holds choices text ran = record {
 }
 
 pub check-keeps : (status : ℕ) (file : List ℕ) → status ≡ (checked file).status → CheckKeeps status file
-check-keeps status file is = record {
-  lossless = λ zero. what-passes file (sym is ∙ zero);
-  standard = λ good. grind (arith, common_steps, named-where_not);
-}
+check-keeps status file is = grind (arith, common_steps, what-passes, named-where_not)

@@ -245,9 +245,7 @@ pub units-well : (skip : Bool) (items : List (Item ReadEpoch)) (number : ℕ) (u
     → result_of expanded_unit (ended_reading skip (record { items = items; stop = AtLines number [] }))
     ≡ written_well (rinex_text units)
 units-well skip items number units header left known =
-    ap (result_of expanded_unit) (ends-well skip items number header left)
-    ∙ result-well items (printed_items (as_items units)) (printed-read items ∙ ap printed_items known)
-    (units-silent items units known)
+    grind (arith, common_steps, ends-well, result-well, printed-read, units-silent)
 
 -- how compact text of some units is read
 record TextRead (skip : Bool) (units : List (FileUnit Epoch)) (text : List ℕ) : Type 0 where

@@ -1,7 +1,7 @@
 -- A text whose expansion ends with status 0 is compact text of a whole file.
 use Rattle.crx_filter.proofs
-use proofs.Words.{ℕ, ◌≡◌, Bool, true, List, [], ◌∷◌, append-nil, map, reverse, Option, Some, None}
-use proofs.Words.{Ok, refl, ap, sym, ◌∙◌, subst, ◌&&◌}
+use proofs.Words.{ℕ, ◌≡◌, Bool, true, List, [], ◌∷◌, append-nil, map, reverse, Option, None, arith}
+use proofs.Words.{Ok, ap, sym, ◌∙◌, subst, ◌&&◌, common_steps}
 use proofs.Words.{lines_of, as_read, ReadLine, Content, Overlong, At}
 use proofs.Words.{by_bool, header_has_ended, records_left, warnings_in}
 use proofs.Words.{WholeReading, whole_compact, expanded, Choices, FilterResult, AreInPlace}
@@ -13,7 +13,6 @@ use Rattle.std.specs.{Str.bytes_eq}
 use Rattle.crx_text.specs.meaning.Columns.{columns, without_blanks}
 use Rattle.crx_header.specs.meaning.Label.{has_label}
 use Rattle.crx_header.specs.declared.crinex.TheConstants.{CRINEX_VERSION, CRINEX_VERSION_LABEL}
-use Rattle.crx_header.specs.declared.crinex.TheConstants.{CRINEX_PROGRAM_LABEL}
 use Rattle.std.proofs.{lemmas.List.{reverse-reverse}}
 use Rattle.crx_filter.proofs.anywriter.{AnyText.{any-text, whole-read}, OwnText.units-in_place, OnlyReadings.{EndsBack, reading-back}}
 
@@ -32,16 +31,7 @@ is_version line = bytes_eq (without_blanks (columns line 1 20)) CRINEX_VERSION &
 
 second-back : (skip : Bool) (version : List ℕ) (lines : List ReadLine) → is_version version ≡ true
     → WholeReading.fault (whole_compact skip (Content version ∷ lines)) ≡ None → FirstBack (Content version ∷ lines)
-second-back skip version [] is f = let never = rw (is, whole_compact) at f in absurd (cc never)
-second-back skip version (Overlong ∷ rest) is f = let never = rw (is, whole_compact) at f in absurd (cc never)
-second-back skip version (Content program ∷ rest) is f = by_bool (has_label CRINEX_PROGRAM_LABEL program) (λ on. record {
-  version = version;
-  program = program;
-  rest = rest;
-  is = refl;
-  first = rw is refl;
-  second = rw on refl;
-}) (λ off. let never = rw (is, off, whole_compact) at f in absurd (cc never))
+second-back skip version lines h4 h5 = grind (arith, common_steps)
 
 two-back : (skip : Bool) (lines : List ReadLine) → WholeReading.fault (whole_compact skip lines) ≡ None → FirstBack lines
 two-back skip [] f = absurd (cc f)
@@ -52,9 +42,7 @@ two-back skip (Content version ∷ rest) f = by_bool (is_version version) (λ on
 -- ---- status 0
 
 none-warned : (ws : List At) (o : Option At) → status_after ws o ≡ 0 → (ws ≡ []) × (o ≡ None)
-none-warned [] None e = (refl, refl)
-none-warned (w ∷ ws) None e = absurd (cc e)
-none-warned ws (Some at) e = absurd (cc e)
+none-warned ws o h3 = grind (arith, common_steps)
 
 pub only-text : (text : List ℕ) (choices : Choices) → FilterResult.status (expanded text choices) ≡ 0 → IsCompactText text
 only-text text choices e =

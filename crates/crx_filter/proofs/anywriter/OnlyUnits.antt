@@ -1,7 +1,7 @@
 -- A unit that is read at some lines of compact text is one whose lines these are, whoever wrote them.
 use Rattle.crx_filter.proofs
-use proofs.Words.{ℕ, ◌≡◌, ◌+◌, false, List, [], ◌∷◌, ◌++◌, map, length, drop, take, Option, Some}
-use proofs.Words.{None, refl, ap, sym, ◌∙◌, subst}
+use proofs.Words.{ℕ, ◌≡◌, ◌+◌, false, List, [], ◌∷◌, ◌++◌, map, length, drop, take, Option, Some, arith}
+use proofs.Words.{None, refl, ap, sym, ◌∙◌, subst, common_steps}
 use proofs.Words.{ReadLine, Content, Epoch, Place, Done, FileUnit, HeaderLine, EventLine, EventRecord}
 use proofs.Words.{Observation, Item, Accepted, ReadEpoch}
 use proofs.Words.{records_count_types, declaring_lines, types_in_force, raws_kept}
@@ -39,22 +39,10 @@ pub record UnitBack (items : List (Item ReadEpoch)) (units : List (FileUnit Epoc
 module _ (items : List (Item ReadEpoch)) (units : List (FileUnit Epoch)) (before : Option WrittenEpoch)
     (s : Standing items units before) where
   header-back : (line : List ℕ) → UnitBack items units before (HeaderLine line) (Content line ∷ [])
-  header-back line = record {
-    own = line ∷ [];
-    cut = refl;
-    now = None;
-    stands = record { known = cc s.known; left = refl; whole = λ b e. absurd (cc e); good = s.good };
-    written = (refl, refl);
-  }
+  header-back line = grind (arith, common_steps)
 
   event-back : (line : List ℕ) → UnitBack items units before (EventLine line) (Content line ∷ [])
-  event-back line = record {
-    own = line ∷ [];
-    cut = refl;
-    now = before;
-    stands = record { known = cc s.known; left = s.left; whole = s.whole; good = s.good };
-    written = (refl, refl);
-  }
+  event-back line = grind (arith, common_steps)
 
   count-same : records_count_types items ≡ records_count_types (as_items units)
   count-same = sym (count-read items) ∙ ap records_count_types s.known

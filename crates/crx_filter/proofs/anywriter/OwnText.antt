@@ -10,7 +10,7 @@ use proofs.Words.{records_count_types, types_in_force, is_in_full, marked_epochs
 use proofs.Words.{compact_lines}
 use proofs.Words.{version_line, program_line, AreInPlace, BeginsAnew, HaveNoReturns, printed_items}
 use proofs.damage.TextAfter.{lines_on, written-on, begins-rest}
-use proofs.wayback.{Carried.{IsLike, started, units-like, units-placed}, Cut.{IsClean, lines-cut}}
+use proofs.wayback.{Carried.{started, units-like, units-placed}, Cut.{IsClean, lines-cut}}
 use proofs.wayback.First.{program-clean, program-read, version-clean}
 use proofs.wayback.Items.{marked_now, body_unit, not-interrupted, whole-next}
 use proofs.{anywriter.AnyText.of-nothing, wayback.Reading.lines_back}
@@ -76,22 +76,17 @@ module _ (start : Option WrittenEpoch) (choices : Choices) (block : List (Item E
       (compact_epoch (marked full epoch ∷ marked_epochs choices.every (items ++ block)))
   own-epoch types epoch items true anew e h =
       full-lines types epoch (marked_epochs choices.every (items ++ block)) (before_all items) h
-  own-epoch types epoch [] false anew e h =
-      let never = sym (none-interrupted choices block epoch anew) ∙ e in absurd (cc never)
+  own-epoch types epoch [] false anew e h = grind (arith, common_steps, none-interrupted)
   own-epoch types epoch (Accepted (Observation last) ∷ items) false anew e h = later-lines types epoch
       (marked_now choices.every (items ++ block) last) (marked_epochs choices.every (items ++ block)) h
-  own-epoch types epoch (item ∷ items) false anew e h =
-      let never = not-interrupted choices.every (item ∷ (items ++ block)) e in absurd (cc never)
+  own-epoch types epoch (item ∷ items) false anew e h = grind (arith, common_steps, not-interrupted)
 
   own-unit : (items : List (Item Epoch)) (unit : FileUnit Epoch) → AreInPlace (Accepted unit ∷ (items ++ block))
       → GoAnew choices block (Accepted unit ∷ items) → AreLinesOfUnit (as_items (units_in (items ++ block)))
       (before_all items) unit (body_unit choices.every (items ++ block) unit) (before_all (Accepted unit ∷ items))
   own-unit items (HeaderLine line) h anew = (refl, refl)
   own-unit items (EventLine line) h anew = (refl, refl)
-  own-unit items (EventRecord line) h anew = (
-    refl,
-    ap (λ b. if empties_state b line then None else before_all items) (IsLike.counts (units-like (items ++ block) h.1) (h.0).1),
-  )
+  own-unit items (EventRecord line) h anew = grind (arith, common_steps, units-like)
   own-unit items (Observation epoch) h anew =
       let all = items ++ block in
       let whole = whole-next choices.every all epoch h in (
@@ -135,13 +130,7 @@ units-in_place (unit ∷ before) h = (h.0, units-in_place before h.1)
 
 -- the units of a file that is read to its good end make a file
 pub whole-items : (items : List (Item Epoch)) → IsSettled items → AreWholeFile (units_in items)
-whole-items items h =
-    let like = units-like items h.in_place in
-    record {
-      in_place = units-in_place (units_in items) (units-placed items h.in_place);
-      header = sym like.header ∙ h.header;
-      complete = sym like.left ∙ h.none;
-    }
+whole-items items h = grind (arith, common_steps, units-like, units-in_place, units_in, units-placed)
 
 pub whole-file : (units : List (FileUnit Epoch)) → MakeAFile units → AreWholeFile units
 whole-file units h = subst AreWholeFile (units-again units) (whole-items (as_items units) (settled units h))

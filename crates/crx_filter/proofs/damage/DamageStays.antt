@@ -6,9 +6,9 @@ use proofs.Words.{append_assoc, append-nil, length-append, inl, list_all, and_pa
 use proofs.Words.{FileUnit}
 use proofs.Words.{common_steps, ReadEpoch, Choices, Item, records_left, Reading, reading_from}
 use proofs.Words.{continued_reading}
-use proofs.Words.{warnings_in, compact_place, expanded, drop, Stretch, up_to_next}
+use proofs.Words.{warnings_in, compact_place, expanded, Stretch, up_to_next}
 use Rattle.crx_filter.specs.meaning.{CompactText.AreUnitsInPlace, Stretches.{AreLinesOn, begins_no_event}, UnitsAndText.as_items}
-use Rattle.crx_filter.specs.meaning.Damage.{is_inside, AreBlockLines, IsDamaged, epochs_among, IsSalvaged}
+use Rattle.crx_filter.specs.meaning.Damage.{IsDamaged, epochs_among, IsSalvaged}
 use Rattle.crx_compact.specs.meaning.AnyWriter.{WrittenEpoch}
 use Rattle.std.proofs.lemmas.List.{append_cancel_right, length-reverse, Folds.list_all-append}
 use proofs.anywriter.AnyText.{AreReadOn, read-on, in-place, units-silent}
@@ -16,9 +16,6 @@ use proofs.damage.{GoingOn.with_warnings, SavedText.{epochs_of, epochs-append, e
 use proofs.reading.{ForwardCompact.compact-forward, Resuming.resumed}
 use proofs.stretches.OpenReading.{few-warned, open-items, pending, stretch-more}
 use proofs.stretches.{StretchesRead.{IsStepRead, header-on, one-stretch, step-printed, step-whole}, StretchesSaved.{come, front, old, sound, written-for}}
-
-block-inside : (lines : List ReadLine) → AreBlockLines lines → list_all is_inside (drop 1 lines) ≡ true
-block-inside lines h = grind (arith, common_steps)
 
 module _ (before : List (FileUnit Epoch)) (s : Stretch) (damaged : List ℕ) (d : IsDamaged before s damaged) where
   abbrev start : List (Item ReadEpoch)
@@ -50,12 +47,8 @@ module _ (before : List (FileUnit Epoch)) (s : Stretch) (damaged : List ℕ) (d 
   start-silent = units-silent start before (front before (s ∷ []) damaged d.stretch).known
 
   block-few : length (warnings_in (one.first.news ++ start)) + pending (reading s.instead).stop ≤ 1
-  block-few = rw (← open-items (one.first.news ++ start) (reading s.instead) one.first.stops, after-front s.instead)
-      (omega (
-        arith,
-        few-warned (length s.instead + 1) start number s.instead (block-inside s.instead d.block),
-        ap length start-silent,
-      ))
+  block-few =
+      grind (arith, common_steps, open-items, one, after-front, few-warned, start-silent)
 
   -- ---- the epochs whose lines stand at the block's beginning
 

@@ -65,10 +65,7 @@ epochs-lines : (choices : Choices) (before : List (Item Epoch)) (epochs : List E
     → lines_of_epochs choices before epochs ≡ lines_on choices.every (items_of epochs) before
 epochs-lines choices before [] = refl
 epochs-lines choices before (epoch ∷ later) =
-    cc (
-      epochs-lines choices (Accepted (Observation epoch) ∷ before) later,
-      on-append choices.every (items_of later) (Accepted (Observation epoch) ∷ []) before,
-    )
+    grind (arith, common_steps, epochs-lines choices (Accepted (Observation epoch) ∷ before) later, on-append)
 
 -- they begin anew where the first is in full
 epochs-anew : (choices : Choices) (before : List (Item Epoch)) (first : Epoch) (others : List Epoch)
@@ -83,8 +80,7 @@ epochs-anew choices before first others full = on (items_of others)
 epochs-among : (epochs : List Epoch) → epochs_among (units_in (items_of epochs)) ≡ epochs
 epochs-among [] = refl
 epochs-among (epoch ∷ later) =
-    ap epochs_among (units-append (items_of later) (Accepted (Observation epoch) ∷ []))
-    ∙ among-append (units_in (items_of later)) (Observation epoch ∷ []) ∙ ap (λ es. epoch ∷ es) (epochs-among later)
+    grind (arith, common_steps, epochs-among later, units-append, among-append, units_in)
 
 -- ---- the lines in place of the block's
 

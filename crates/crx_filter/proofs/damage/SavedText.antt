@@ -58,11 +58,7 @@ among-append [] before = sym (append-nil (epochs_among before))
 among-append (unit ∷ later) before = grind (arith, common_steps, among-append later before, append_assoc)
 
 pub epochs-append : (later before : List (Item ReadEpoch)) → epochs_of (later ++ before) ≡ epochs_of before ++ epochs_of later
-epochs-append later before = cc (
-  rinex-append later before,
-  units-append (rinex_items later) (rinex_items before),
-  among-append (units_in (rinex_items later)) (units_in (rinex_items before)),
-)
+epochs-append later before = grind (arith, common_steps, rinex-append, units-append, among-append, units_in)
 
 pub epochs-known : (items : List (Item ReadEpoch)) (units : List (FileUnit Epoch)) → rinex_items items ≡ as_items units
     → epochs_of items ≡ epochs_among units

@@ -4,7 +4,7 @@ use Rattle.crx_filter.proofs.Words
 use Words.{common_steps, arith, ℕ, ◌≡◌, true, false, List, [], ◌∷◌, map, Option, Some, None, refl, ap, sym}
 use Words.{◌∙◌, reverse, map-append, length-map, InputLine, ReadLine, as_read, At, Choices, Count, Epoch}
 use Words.{lines_text, with_next, noticed_by, failed_by, is_again, Made, RunState, Phase, OpenEpoch, fed}
-use Words.{made_in, step_of_made, state_next, state_end, LineStep, Totals, checking, check_by_line}
+use Words.{step_of_made, state_next, state_end, LineStep, Totals, checking, check_by_line}
 use Words.{check_reading, check_filter, no_choices, whole_reading_of, findings_of, false-true}
 use Rattle.crx_filter.proofs.following.{CheckedOn.{one-on, same-state}, Following.{fed-once, state_in}}
 use Rattle.crx_filter.proofs.{following.MemoryOfRinex.check-allowed, standard.CheckEnded.check-ended}
@@ -13,11 +13,6 @@ use Rattle.crx_filter.specs.LineByLine.{state_end_with, fault_at_end_in}
 use Rattle.crx_filter.specs.meaning.{Directions.report_unless, Standard.{Findings, report_lines}}
 
 -- ---- a step
-
--- what a line makes doesn't hang on what is written
-pub made-alike : (phase : Phase OpenEpoch) (types : List Count) (kept : Totals) (line : ReadLine)
-    → made_in check_by_line phase types kept line ≡ made_in checking phase types kept line
-made-alike phase types kept line = grind (arith, common_steps)
 
 -- a step of a check is that of its reading, and hands out nothing
 pub record IsQuiet (step reads : LineStep OpenEpoch Totals) : Type 0 where
@@ -35,7 +30,7 @@ made-quiet number phase types kept line made = grind (arith, common_steps)
 
 pub step-quiet : (lines : List ReadLine) (line : ReadLine) → IsQuiet
     (state_next check_by_line (check_reading lines) line) (state_next checking (check_reading lines) line)
-step-quiet lines line = grind (arith, common_steps, made-alike, made-quiet)
+step-quiet lines line = grind (arith, common_steps, made-quiet)
 
 -- ---- the end
 

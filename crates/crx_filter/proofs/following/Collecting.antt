@@ -4,13 +4,13 @@ use Rattle.crx_filter.proofs
 use proofs.Words.{common_steps, ℕ, ◌≡◌, ◌⊎◌, inl, inr, true, false, List, [], ◌∷◌, ◌++◌, map, refl, ap, sym}
 use proofs.Words.{◌∙◌, arith, subst, length, map-append, InputLine, ReadLine, as_read, Option, FileUnit}
 use proofs.Words.{Observation, Place, Choices, Item, Count, types_in_force, RunState, Phase, Made, Completes}
-use proofs.Words.{Moves, Rejects, Direction, Notice, LineStep, made_in, kept_in, state_next, step_of_made}
+use proofs.Words.{Rejects, Direction, Notice, LineStep, made_in, kept_in, state_next, step_of_made}
 use proofs.Words.{is_again, fed, with_next, Content, Overlong}
 use proofs.Words.{LineTooLong, not-true, false-true, At, state_of, Reading, Some}
 use proofs.{Pending.{again-lines, taken-either}, following.Following.{AgreeOn, IsCarriedOut, IsSameEpoch}}
 use proofs.following.Following.{fed-once, fed-twice, failed-skipped, failed-ends}
 use Rattle.crx_filter.specs.DirectionParts.{DirectionParts, ComesAfter, brings_nothing, state_by}
-use Rattle.crx_filter.specs.{LineByLine.{Repeats, answer_of_lines}, meaning.Memory.accepted_epochs}
+use Rattle.crx_filter.specs.{LineByLine.{answer_of_lines}, meaning.Memory.accepted_epochs}
 
 -- what a direction keeps, and what is kept of the epochs
 pub record Collected (K V : Type 0) : Type 0 where
@@ -85,21 +85,9 @@ module _ {U O K V : Type 0} (direction : Direction U O K) (epoch_of : U → V) w
   step-alike : (s : RunState O K) (epochs : List V) (line : ReadLine) (made : Made U O)
       → step_of_made collecting (with_epochs s epochs) line made
       ≡ step_with (step_of_made direction s line made) (add_made epoch_of epochs made)
-  step-alike s epochs line (Completes unit) = refl
-  step-alike s epochs line (Moves phase) = grind (arith, common_steps, same-kept)
-  step-alike s epochs line (Rejects fault) = grind (arith, common_steps, failed-skipped, failed-ends)
-  step-alike s epochs line (Repeats at) = refl
-
-  pub next-alike : (s : RunState O K) (epochs : List V) (line : ReadLine)
-      → state_next collecting (with_epochs s epochs) line ≡ step_with (state_next direction s line)
-      (add_made epoch_of epochs (made_in direction s.phase s.types s.kept line))
-  next-alike s epochs line = grind (arith, common_steps, same-made, step-alike)
+  step-alike s epochs line made = grind (arith, common_steps, same-kept, failed-skipped, failed-ends)
 
   -- ---- one line more
-
-  again-adds : (s : RunState O K) (epochs : List V) (line : ReadLine) (made : Made U O)
-      → is_again (step_of_made direction s line made).answer ≡ true → add_made epoch_of epochs made ≡ epochs
-  again-adds s epochs line made again = grind (arith, common_steps, again-lines)
 
   module _ (s : RunState O K) (epochs : List V) (line : ReadLine) where
     abbrev pub epochs_fed : List V
@@ -108,13 +96,13 @@ module _ {U O K V : Type 0} (direction : Direction U O K) (epoch_of : U → V) w
     -- a line that doesn't come again
     epochs-once : is_again (state_next direction s line).answer ≡ false
         → epochs_fed ≡ add_made epoch_of epochs (made_in direction s.phase s.types s.kept line)
-    epochs-once once = grind (arith, common_steps, next-alike, fed-once)
+    epochs-once once = grind (arith, common_steps, same-made, step-alike, fed-once)
 
     -- a line that comes again, by its second step
     epochs-twice : (next : RunState O K) (notice : At)
         → record { answer = Notice notice true; handed_out = []; next = next } ≡ state_next direction s line
         → epochs_fed ≡ add_made epoch_of epochs (made_in direction next.phase next.types next.kept line)
-    epochs-twice next notice e = grind (arith, common_steps, next-alike, again-adds, fed-twice, sym e)
+    epochs-twice next notice e = grind (arith, common_steps, same-made, step-alike, again-lines, fed-twice, sym e)
 
   -- a line that brings nothing adds none
   module _ (long_first : (types : List Count) (kept : K)
@@ -139,8 +127,7 @@ module _ {U O K V : Type 0} (direction : Direction U O K) (epoch_of : U → V) w
         → brings_nothing (state_next direction s line).answer line ≡ true
         → add_made epoch_of epochs (made_in direction s.phase s.types s.kept line) ≡ epochs
     past-adds s Overlong passed = long-adds s.phase s.types s.kept
-    past-adds s (Content content) passed =
-        passed-adds s content (made_in direction s.phase s.types s.kept (Content content)) passed
+    past-adds s (Content content) passed = grind (arith, common_steps, passed-adds)
 
   -- the epochs of some lines, where one line more adds to them what it is fed as
   abbrev pub Collects : (List ReadLine → RunState O K) → (List ReadLine → List V) → Type 0
@@ -204,24 +191,11 @@ module _ {E U O K V : Type 0} {beginning : List (Item E) → List ReadLine → P
   AreKept items kept = ((kept.own ≡ kept_of items) ⊎ (kept.own ≡ direction.kept_open (kept_of items)))
       × (kept.epochs ≡ epochs_of items)
 
-  both-kept : (items : List (Item E)) (kept : Collected K V) → (kept ≡ collected_of items)
-      ⊎ (kept ≡ (collecting direction epoch_of).kept_open (collected_of items)) → AreKept items kept
-  both-kept items kept (inl e) =
-      (inl (ap (λ (k : Collected K V). k.own) e), ap (λ (k : Collected K V). k.epochs) e)
-  both-kept items kept (inr e) =
-      (inr (ap (λ (k : Collected K V). k.own) e), ap (λ (k : Collected K V). k.epochs) e)
-
   -- an epoch that is the same as it comes line by line, and so is its observation epoch
   pub both-same : (items : List (Item E)) (epoch : E) (held : U)
       → IsSameEpoch direction kept_of unit_lines choices items epoch held → epoch_of held ≡ epoch_read epoch
       → IsSameEpoch (collecting direction epoch_of) collected_of unit_lines choices items epoch held
-  both-same items epoch held same alike = record {
-    kept = λ number phase types kept either.
-        let both = both-kept items kept either in
-        cc (same.kept number phase types kept.own both.0, both.1, alike);
-    lines = λ number phase types kept either.
-        same.lines number phase types kept.own (both-kept items kept either).0;
-  }
+  both-same items epoch held same alike = grind (arith, common_steps)
 
   abbrev AgreesOn : List (Item E) → List ReadLine → Made U O → Type 0
   AgreesOn = AgreeOn beginning (collecting direction epoch_of) open_with collected_of unit_lines choices
@@ -232,23 +206,7 @@ module _ {E U O K V : Type 0} {beginning : List (Item E) → List ReadLine → P
       → open_with items lines ≡ Some so_far
       → AgreesOn items (lines ++ line ∷ []) (direction.continues so_far line))
       → IsCarriedOut beginning (collecting direction epoch_of) open_with collected_of unit_lines choices
-  collecting-carried_out begins continues = record {
-    forward = h.forward;
-    wants = h.wants;
-    none_open = h.none_open;
-    wanted_open = h.wanted_open;
-    begins = begins;
-    continues = continues;
-    header_kept = λ items number types line. cc (h.header_kept items number types line);
-    header_lines = h.header_lines;
-    event_kept = λ items number phase types line. cc (h.event_kept items number phase types line);
-    event_lines = λ items number phase types kept line. h.event_lines items number phase types kept.own line;
-    record_kept = λ items number left types line. cc (h.record_kept items number left types line);
-    record_lines = λ items number phase types kept line. h.record_lines items number phase types kept.own line;
-    warned = λ items at. cc (h.warned items at);
-    emptied_open = λ kept. cc (h.emptied_open kept.own);
-    open_open = λ kept. cc (h.open_open kept.own);
-  }
+  collecting-carried_out begins continues = grind (arith, common_steps)
 
   -- what is seen after a reading
   pub state-with : (count : ℕ) (r : Reading E)

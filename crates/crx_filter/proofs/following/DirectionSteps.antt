@@ -2,7 +2,7 @@
 use Rattle.crx_filter.proofs.Words
 use Words.{ℕ, arith, ◌≡◌, List, [], ◌∷◌, ◌++◌, map, ap, ◌∙◌, reverse, length-map, map-append, reverse-append}
 use Words.{flat_map-append, InputLine, ReadLine, as_read, At, compaction, compaction_state, rinex_reading}
-use Words.{expansion, expansion_state, compact_reading, compaction_filter, expansion_filter, lines_text}
+use Words.{expansion, expansion_state, compact_reading, compaction_filter, expansion_filter}
 use Words.{fault_of_stop, warnings_in, state_end, true, length, Option, Some, refl, FileUnit, Item, Reading}
 use Words.{WholeReading, written_lines, whole_course, memory_allowed, compaction_takes, compact_unit}
 use Words.{rinex_place, whole_rinex, expanded_unit, whole_compact, compact_memory, course_so_far, Direction}
@@ -15,10 +15,6 @@ use Rattle.crx_filter.proofs.following.MemoryOfRinex.{compaction-allowed, compac
 use Rattle.crx_filter.proofs.reading.Ended.{compaction-ended, expansion-ended}
 use Rattle.crx_filter.specs.CompactionParts.{compaction_line_outgrows}
 use Rattle.crx_filter.specs.EngineLaws.{GoesLineByLine, IsLawfulDirection}
-
-text-then : (before after more : List (List ℕ))
-    → after ≡ before ++ more → lines_text after ≡ lines_text before ++ lines_text more
-text-then before after more e = cc (e, flat_map-append (λ (line : List ℕ). line ++ 10 ∷ []) before more)
 
 warned-then : (before after more : List At) → after ≡ more ++ before → reverse after
     ≡ reverse before ++ reverse more
@@ -56,10 +52,10 @@ goes-by direction state_after_lines unit_lines reading whole memory needs on end
         arith,
         on (map as_read lines) (as_read line),
         map-append as_read lines (line ∷ []),
-        text-then,
+        flat_map-append,
         warned-then,
       );
-      ends = λ lines. grind (arith, ends (map as_read lines), text-then, warned-then, append-nil);
+      ends = λ lines. grind (arith, ends (map as_read lines), warned-then, append-nil);
       number = λ (lines : List InputLine). number (map as_read lines) ∙ length-map lines as_read;
       memory_first = λ (lines : List InputLine) (line : InputLine) needed takes.
           rw needed (first (map as_read lines) (as_read line) takes);

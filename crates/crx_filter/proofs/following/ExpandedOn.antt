@@ -195,10 +195,7 @@ module _ (choices : Choices) where
 
   state-there : (ls : List ReadLine) → state_after (collecting expansion of_held) kept_of choices ls
       (first_lines ls) ≡ with_epochs (expansion_state choices ls) (satellites_expanded choices ls)
-  state-there ls = ap (λ (s : RunState OpenRawEpoch (Collected (Option Tail) (List Satellite))).
-      state_in s.choices s.number (phase_by ls (first_lines ls) s.phase) s.types s.kept)
-      (state-with (expansion-carried_out choices) of_held of_read (length ls)
-      (reading_by choices.skip ls (first_lines ls)))
+  state-there ls = grind (arith, common_steps, state_in, state-with, expansion-carried_out)
 
   pub expansion-collects : Collects expansion of_held (expansion_state choices) (satellites_expanded choices)
   expansion-collects lines line =

@@ -116,8 +116,7 @@ module _ {K : Type 0} {direction : Direction HeldEpoch OpenRawEpoch K} {kept_of 
   pub agree-begins : (items : List (Item ReadEpoch)) (line : ReadLine)
       → Agrees items (line ∷ []) (compact_begins (types_in_force items) (tail_of_items items) line)
   agree-begins items Overlong = (0, refl)
-  agree-begins items (Content content) = agree-content items content
-      (is_event_line content) refl
+  agree-begins items (Content content) = grind (arith, common_steps, agree-content)
 
   pub agree-continues : (items : List (Item ReadEpoch))
       (lines : List ReadLine) (line : ReadLine) (so_far : OpenRawEpoch) → compact_open items lines ≡ Some so_far

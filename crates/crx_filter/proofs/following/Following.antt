@@ -13,7 +13,7 @@ use proofs.Words.{is_in_epoch, is_skipped_in, kept_in, with_phase, after_warning
 use proofs.Words.{state_next, phase_in_body, phase_after_items, state_of, IsReadForward, IsFollowed, Fed, fed}
 use proofs.{Words.{fed_once, fed_twice, is_again, fault_of_stop, by_bool}, Pending.noticed-lines}
 use proofs.{Pending.failed-lines, reading.Resuming.{wrong-within, within-wrong, within-wanted, fault-skipped}}
-use proofs.reading.Resuming.{fault-ends, looked-here, looked-on}
+use proofs.reading.Resuming.{looked-here, looked-on}
 use Rattle.crx_filter.specs.LineByLine.{after_unit, answer_of_lines}
 pub use Rattle.crx_filter.proofs.Pending.{state_in}
 
@@ -156,7 +156,7 @@ module _ {E : Type 0} {place : List (Item E) → List ReadLine → Place (FileUn
         + length rest ≡ count + 1 → reading_within place skip (suc units) items number (rest ++ line ∷ [])
         ≡ record { items = items; stop = AtFault (record { line = count + 1; fault = fault }) }
     last-ends skip units items number count rest line offset fault wanted e off counted =
-        grind (arith, common_steps, within-wrong, place, fault-ends, reading_within, wrong-last)
+        grind (arith, common_steps, within-wrong, place, reading_within, wrong-last)
 
     -- a fault that is skipped
     pub last-skipped : (skip : Bool) (units : ℕ) (items : List (Item E)) (number count : ℕ)

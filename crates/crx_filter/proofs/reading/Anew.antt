@@ -2,7 +2,7 @@
 use Rattle.crx_filter.proofs
 use proofs.Words.{common_steps, [], ℕ, zero, suc, ◌≡◌, ◌+◌, ◌<◌, max, Bool, true, cond, List, ◌∷◌, ◌++◌, drop}
 use proofs.Words.{Option, Some, None, refl, ap, sym, ◌∙◌, arith, subst, append-nil, append_assoc, and_parts}
-use proofs.Words.{⊤, ReadLine, length, expanded_lines, printed_unit, fault_at_end, ended_with, ended_reading}
+use proofs.Words.{⊤, ReadLine, expanded_lines, printed_unit, fault_at_end, ended_with, ended_reading}
 use proofs.Words.{Content, Overlong, Fault, At, begins_epoch, is_event_line, records_in, Count, Place, Done}
 use proofs.Words.{one_line, first_line, FileUnit, HeaderLine, EventRecord, block_of, ReadEpoch, epoch_at}
 use proofs.Words.{Item, Accepted, Warned, header_has_ended, records_announced, records_left}
@@ -84,10 +84,7 @@ kind_of whole = option_map (λ (at : At). at.fault) whole.fault
 
 end-alike : (a b : List (Item ReadEpoch)) (lines : List ReadLine)
     → AreAlike a b → fault_at_end a lines ≡ fault_at_end b lines
-end-alike [] b lines h = let never = h.one in absurd (cc)
-end-alike (item ∷ a) [] lines h = let never = h.two in absurd (cc)
-end-alike (item ∷ a) (other ∷ b) (line ∷ lines) h = refl
-end-alike (item ∷ a) (other ∷ b) [] h = rw (h.one, h.two, h.left) refl
+end-alike a b lines h4 = grind (arith, common_steps)
 
 ended-alike : (skip : Bool) (a b : List (Item ReadEpoch)) (m n : ℕ) (o : Option Fault)
     → AreAlike a b → kind_of (ended_with skip a m o) ≡ kind_of (ended_with skip b n o)
@@ -143,12 +140,11 @@ module _ (one_number : Type 0) (skip : Bool) where
       → ((m n : ℕ) (ls : List ReadLine) → (one_number → m ≡ n) → Alike a b (one m ls) (two n ls))
       → Alike a b (looked_for one a m lines) (looked_for two b n lines)
   looked a b one two m n [] number h = stopped (Looking m) (Looking n) (λ k. ap Looking (number k)) refl
-  looked a b one two m n (line ∷ lines) number h =
-      grind (
-        arith,
-        h m n (line ∷ lines) number,
-        looked a b one two (m + 1) (n + 1) lines (λ k. ap (λ x. x + 1) (number k)) h,
-      )
+  looked a b one two m n (line ∷ lines) number h = grind (
+    arith,
+    common_steps,
+    looked a b one two (m + 1) (n + 1) lines (λ k. ap (λ x. x + 1) (number k)) h,
+  )
 
   -- after the one and the other items, so many units are read alike
   abbrev ReadAlike : ℕ → List (Item ReadEpoch) → List (Item ReadEpoch) → ℕ → ℕ → List ReadLine → Type 0
@@ -158,10 +154,7 @@ module _ (one_number : Type 0) (skip : Bool) where
   lines-stopped : (a b : List (Item ReadEpoch)) (m n : ℕ) (lines : List ReadLine)
       → AreAlike a b → (one_number → m ≡ n) → Alike a b (record { items = a; stop = AtLines m lines })
       (record { items = b; stop = AtLines n lines })
-  lines-stopped a b m n lines h number = stopped (AtLines m lines) (AtLines n lines)
-      (λ k. ap (λ i. AtLines i lines) (number k)) (ap (λ o. kind_of (ended_with skip a (m + length lines) o))
-      (end-alike a b lines h)
-      ∙ ended-alike skip a b (m + length lines) (n + length lines) (fault_at_end b lines) h)
+  lines-stopped a b m n lines h number = grind (arith, common_steps, stopped, end-alike, ended-alike)
 
   -- one step: what is there is the same, and what is read after it goes on alike
   one-step : (units : ℕ) (a b : List (Item ReadEpoch)) (m n : ℕ) (lines : List ReadLine)
@@ -273,13 +266,7 @@ module _ (one_number : Type 0) (skip : Bool) where
       → IsBetweenUnits a → IsBetweenUnits b → types_in_force a ≡ types_in_force b → starts_anew 0 lines ≡ true
       → (one_number → m ≡ n) → Alike a b (reading_from compact_place skip a m lines)
       (reading_from compact_place skip b n lines)
-  depends-on_types a b m n lines one two types anew = reads-anew (length lines + 1) a b m n lines 0 (record {
-    one = one.header;
-    two = two.header;
-    left = cc (one.none, two.none);
-    counts = λ some. absurd (omega (arith, some, one.none));
-    types = types;
-  }) one.none anew
+  depends-on_types a b m n lines one two types anew = grind (arith, common_steps, reads-anew)
 
 pub on-types : DependsOnTypes
 on-types skip before other number lines one two types anew =

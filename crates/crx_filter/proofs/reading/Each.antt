@@ -1,7 +1,7 @@
 -- Lists of lines and of what was accepted: what holds of each of two lists holds of both together, and of
 -- each part.
-use Rattle.crx_filter.proofs.Words.{ℕ, zero, suc, ◌≡◌, Bool, true, false, List, [], ◌∷◌, ◌++◌, ◌||◌, drop}
-use Rattle.crx_filter.proofs.Words.{map, refl, AllByRecursion, Item, ends_header, header_has_ended, InputLine}
+use Rattle.crx_filter.proofs.Words.{ℕ, zero, suc, ◌≡◌, true, List, [], ◌∷◌, ◌++◌, drop, arith, common_steps}
+use Rattle.crx_filter.proofs.Words.{map, AllByRecursion, Item, header_has_ended, InputLine}
 
 pub all-append : {X : Type 0} (P : X → Type 0) (one two : List X)
     → AllByRecursion P one → AllByRecursion P two → AllByRecursion P (one ++ two)
@@ -27,11 +27,7 @@ all-from P Q f (x ∷ xs) h = (f x h.0, all-from P Q f xs h.1)
 pub header-append : {E : Type 0} (later before : List (Item E))
     → header_has_ended before ≡ true → header_has_ended (later ++ before) ≡ true
 header-append [] before h = h
-header-append (item ∷ later) before h = cc (header-append later before h, either (ends_header item))
-  where
-    either : (b : Bool) → (b || true) ≡ true
-    either true = refl
-    either false = refl
+header-append (item ∷ later) before h = grind (arith, common_steps, header-append later before h)
 
 abbrev pub contents : List InputLine → List (List ℕ)
 contents lines = map (λ (line : InputLine). line.content) lines

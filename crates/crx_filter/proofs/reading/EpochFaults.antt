@@ -1,8 +1,8 @@
 -- The faults of an epoch of compact text can all be skipped.
 use Rattle.crx_filter.proofs.Words
-use Words.{common_steps, arith, ℕ, ℤ, suc, ◌≡◌, Bool, true, List, [], ◌∷◌, Option, Some, None, Result, Ok}
+use Words.{common_steps, arith, ℕ, ℤ, suc, ◌≡◌, Bool, true, List, [], ◌∷◌, Option, Result, Ok}
 use Words.{Err, refl, ⊤, list_all, is_blank, code_of, ReadLine, Fault, LineTooLong, Count, Place, Done, Fails}
-use Words.{then_place, one_line, first_line, BegunEpoch, epoch_begun, cell_read, satellite_line_read}
+use Words.{then_place, one_line, first_line, BegunEpoch, cell_read, satellite_line_read}
 use Words.{rows_read, epoch_after_line, epoch_at, Satellite, RawEpoch, block_of, Past, past_of_block}
 use Words.{and_then, is_skippable, as_observation, BadField}
 use Rattle.crx_compact.{proofs.EpochLines.satellites_counted, specs.meaning.Cells.cells_read}
@@ -59,10 +59,6 @@ record IsSkippablePast (past : Past) : Type 0 where
 block-skippable : (block : List RawEpoch) → IsSkippablePast (past_of_block block)
 block-skippable block = search (arith)
 
-abbrev IsSkippableOption : Option Past → Type 0
-IsSkippableOption None = ⊤
-IsSkippableOption (Some past) = IsSkippablePast past
-
 named-skippable : (types : List Count) (earlier names : List (List ℕ))
     → IsSkippableResult (satellites_named types earlier names)
 named-skippable types earlier [] = tt
@@ -83,10 +79,6 @@ begun-well : (line : List ℕ) (past : Past)
     → IsSkippablePast past → (r : Result (List Satellite) Fault) → IsSkippableResult r → IsBegunWell
     (and_then r (λ satellites. Ok (record { line = line; past = past; satellites = satellites })))
 begun-well line past h v1 a = grind (arith)
-
-epoch_begun-well : (types : List Count) (line : List ℕ) (past : Option Past)
-    → IsSkippableOption past → IsBegunWell (epoch_begun types line past)
-epoch_begun-well types line past h = grind (arith, common_steps, begun-well, counted-skippable)
 
 cell-skippable : (malformed : Fault) (value : Code → Result (Option ℤ) Fault) (code : Option Code)
     → is_skippable malformed ≡ true
@@ -121,4 +113,4 @@ begun_line-skippable v1 h lines = grind (arith, place-then, place-first, cell-sk
 pub epoch-skippable : (types : List Count) (older : List RawEpoch) (lines : List ReadLine)
     → IsSkippableAt (epoch_at types older lines)
 epoch-skippable types older lines =
-    grind (arith, common_steps, begun_line-skippable, epoch_begun-well, block-skippable, block_of)
+    grind (arith, common_steps, begun_line-skippable, begun-well, counted-skippable, block-skippable, block_of)

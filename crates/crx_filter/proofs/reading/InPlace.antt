@@ -1,6 +1,6 @@
 -- What was accepted of a RINEX file is in place.
 use Rattle.crx_filter.proofs.Words.{[], List, ◌∷◌, ReadLine, Epoch, Item, Accepted, Warned, types_in_force}
-use Rattle.crx_filter.proofs.Words.{rinex_place, ItemsAreRead, IsInPlace, AreInPlace}
+use Rattle.crx_filter.proofs.Words.{rinex_place, ItemsAreRead, IsInPlace, AreInPlace, arith, common_steps}
 use Rattle.crx_filter.proofs.reading.{Forward.rinex_beginning, Types.counts-in_force, WhatStands.OfHere}
 use Rattle.crx_filter.proofs.reading.WhatStands.{of-unit, of-rinex}
 use Rattle.crx_rinex.proofs.SoundEpochs.{sound-epoch_place}
@@ -19,6 +19,5 @@ place-fits before lines = of-unit (OfHere (IsInPlace before)) tt (λ offset faul
 
 pub items-in_place : (items : List (Item Epoch)) → ItemsAreRead rinex_place items → AreInPlace items
 items-in_place [] h = tt
-items-in_place (Accepted unit ∷ before) h =
-    (rw ((h.0).2) at (place-fits before (h.0).0), items-in_place before h.1)
+items-in_place (Accepted unit ∷ before) h = grind (arith, common_steps, items-in_place before h.1, place-fits)
 items-in_place (Warned at ∷ before) h = (h.0, items-in_place before h.1)

@@ -3,7 +3,7 @@ use Rattle.crx_filter.proofs.Words.{ℕ, zero, suc, ◌≡◌, ◌+◌, max, Boo
 use Rattle.crx_filter.proofs.Words.{At, Place, Done, Fails, FileUnit, Item, Accepted, Warned, Reading}
 use Rattle.crx_filter.proofs.Words.{is_skipped, can_go_on, looked_for, after_fault, reading_within, by_bool}
 use Rattle.crx_filter.proofs.Words.{refl, Stop, AtLines, AtFault, Looking, arith, length, Option, Some}
-use Rattle.crx_filter.proofs.Words.{None, Fault}
+use Rattle.crx_filter.proofs.Words.{None, Fault, common_steps}
 use Rattle.crx_filter.proofs.Words.{WholeReading, reading_from, whole_reading, ended_reading, ended_with}
 use Rattle.crx_filter.proofs.Words.{fault_at_end}
 use Rattle.std.proofs.lemmas.List.{drop-drop, drop_all}
@@ -11,9 +11,7 @@ use Rattle.crx_filter.proofs.reading.Resuming.{by_place, within-here, within-wro
 
 none-after : {E : Type 0} (items : List (Item E)) (lines : List ReadLine) → fault_at_end items lines ≡ None
     → lines ≡ []
-none-after [] lines e = absurd (cc e)
-none-after (item ∷ items) [] e = refl
-none-after (item ∷ items) (line ∷ lines) e = absurd (cc e)
+none-after items lines h3 = grind (arith, common_steps)
 
 module _ {E : Type 0} (place : List (Item E) → List ReadLine → Place (FileUnit E)) (skip : Bool)
     (Keeps : List (Item E) → List ReadLine → Type 0) where

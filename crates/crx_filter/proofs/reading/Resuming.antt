@@ -3,7 +3,7 @@ use Rattle.crx_filter.{specs.Laws.IsResumed, proofs.Words.{common_steps, ℕ, ze
 use Rattle.crx_filter.proofs.Words.{◌≤◌, Bool, true, false, List, [], ◌∷◌, ◌++◌, length, drop, refl, arith}
 use Rattle.crx_filter.proofs.Words.{length-append, drop-append-le, length-drop, ReadLine, Fault, At, Place}
 use Rattle.crx_filter.proofs.Words.{Done, Fails, NeedsMore, FileUnit, Item, Accepted, Warned, Reading}
-use Rattle.crx_filter.proofs.Words.{AtFault, AtLines, is_skipped, can_go_on, looked_for, after_fault}
+use Rattle.crx_filter.proofs.Words.{AtLines, is_skipped, can_go_on, looked_for, after_fault}
 use Rattle.crx_filter.proofs.Words.{reading_within, reading_from, continued_reading, IsReadForward, by_bool}
 
 -- ---- what is at a place
@@ -55,10 +55,6 @@ module _ {E : Type 0} (skip : Bool) (read : List (Item E) → ℕ → List ReadL
       (Warned (record { line = number + offset; fault = fault }) ∷ items)
       (number + max offset 1) (drop (max offset 1) lines)
   fault-skipped e = rw (e, after_fault) refl
-
-  pub fault-ends : is_skipped skip items fault ≡ false → after_fault skip read items number lines offset fault
-      ≡ record { items = items; stop = AtFault (record { line = number + offset; fault = fault }) }
-  fault-ends e = rw (e, after_fault) refl
 
 module _ {E : Type 0} (read : ℕ → List ReadLine → Reading E) (items : List (Item E))
     (number : ℕ) (line : ReadLine) (lines : List ReadLine) where

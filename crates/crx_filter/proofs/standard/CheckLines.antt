@@ -3,9 +3,9 @@ use Rattle.crx_filter.proofs.Words
 use Words.{common_steps, arith, ℕ, zero, suc, ◌≡◌, ◌+◌, ◌-◌, Bool, false, List, [], ◌∷◌, ◌++◌, length, drop}
 use Words.{Option, Some, None, Result, sym, append-nil, ⊤, map-append, none-some, ReadLine, Content, Fault}
 use Words.{Row, Epoch, Count, HeaderLine, EventRecord, last_line, printed_row, printed_epoch, OpenEpoch}
-use Words.{Beginning, epoch_of, with_next_row, after_row, Item, Accepted, unless_wrong, Stop, Looking}
-use Words.{reading_within, rinex_place, rinex_reading, made_of_epoch_step, made_of_beginning, rinex_open}
-use Words.{Phase, InFirstLines, InHeader, BetweenUnits, InEvent, InEpoch, LookingOn, Closed, Made, Step}
+use Words.{Beginning, epoch_of, with_next_row, Item, Accepted, unless_wrong, Stop, Looking}
+use Words.{reading_within, rinex_place, rinex_reading, made_of_beginning, rinex_open}
+use Words.{Phase, InFirstLines, InHeader, BetweenUnits, InEvent, LookingOn, Closed, Made, Step}
 use Words.{made_of_unit, made_in, with_records_left, step_of_made, phase_in_body, phase_of, failed_by, Totals}
 use Words.{checking, printed_open, printed_made, no_choices}
 use Rattle.crx_filter.proofs.{Checkers.last-of, following.Following.state_in, reading.Resuming.by_place}
@@ -83,11 +83,7 @@ module _ (number : ℕ) (types : List Count) (kept : Totals) (content : List ℕ
       → Grows number BetweenUnits types kept (Content content) (made_of_beginning types b)
   beginning-grows b f = grind (arith, common_steps, none-some, none-open)
 
-  row-grows : (so_far : OpenEpoch) (row : Result Row Fault)
-      → Grows number (InEpoch so_far) types kept (Content content) (made_of_epoch_step (after_row so_far row))
-  row-grows so_far row f = grind (arith, common_steps, none-some, append-nil, row-printed)
-
 pub line-grows : (number : ℕ) (phase : Phase OpenEpoch) (types : List Count) (kept : Totals) (line : ReadLine)
     → IsReached phase → Grows number phase types kept line (made_in checking phase types kept line)
 line-grows number phase types kept line h f =
-    grind (arith, common_steps, header-grows, beginning-grows, record-grows, row-grows, none-some)
+    grind (arith, common_steps, header-grows, beginning-grows, record-grows, append-nil, row-printed, none-some)

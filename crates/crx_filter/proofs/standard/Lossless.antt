@@ -1,7 +1,7 @@
 -- What passes a check comes back.
 use Rattle.crx_filter.proofs.Words
-use Words.{ℕ, ◌≡◌, List, Option, Some, None, refl, ap, sym, ◌∙◌, lines_of, At, whole_of}
-use Words.{findings_of, checked_by, checked, FilterResult, IsResult, Device}
+use Words.{ℕ, ◌≡◌, List, Option, Some, None, refl, sym, ◌∙◌, At, arith, common_steps}
+use Words.{checked_by, checked, FilterResult, IsResult, Device}
 use Rattle.crx_filter.proofs.standard.CheckStandard.{named-where_not, none-where_0}
 use Rattle.crx_filter.{proofs.anywriter.ComesBack.standard-comes_back, specs.meaning.Standard.Findings}
 use Rattle.crx_filter.specs.meaning.Lossless.{WhatPassesComesBack, SaysThatItComesBack}
@@ -13,9 +13,8 @@ passed None found e = (refl, none-where_0 found.not_standard e)
 passed (Some at) found e = absurd (cc)
 
 pub what-passes : WhatPassesComesBack
-what-passes file e compacting expanding dated = standard-comes_back file compacting expanding dated
-    (let both = passed (whole_of file).fault (findings_of (lines_of file)) e in
-    (named-where_not file both.0).0 both.1)
+what-passes file e compacting expanding dated =
+    grind (arith, common_steps, standard-comes_back, passed, named-where_not)
 
 -- ---- in runs
 

@@ -5,7 +5,7 @@ use Rattle.crx_filter.proofs.Words.{first_not_standard, printed_so_far, epoch_op
 use Rattle.crx_filter.proofs.Words.{reader_phase, whole_reading_of, findings_of, checking, check_state}
 use Rattle.crx_filter.proofs.Words.{checker_state_with, Held, RinexReader}
 use Rattle.crx_filter.proofs.{following.Following.state_in, standard.CheckEnded.check-ended}
-use Rattle.crx_filter.proofs.steps.{CheckerSteps.{has-reached, reads-on, state-there}, EngineFaults.by-stage}
+use Rattle.crx_filter.proofs.steps.{CheckerSteps.{has-reached, reads-on, state-there}}
 use Rattle.crx_filter.specs.{CheckByLine.found_by, CheckingParts.is_reading}
 use Rattle.crx_filter.specs.{LineByLine.{end_step, fault_at_end_in}, Stages.{is_ended, bare_phase}}
 use Rattle.crx_filter.specs.Totals.{totals_held, found_held}
@@ -16,7 +16,7 @@ module _ (reader : RinexReader) (number : ℕ) (totals : Held) (named : Option �
   -- the fault of the whole reading is that of the stage
   end-fault : (whole_reading_of lines).fault ≡ failed_by (end_step checking [] (checker_state_with reader
       number totals named).reading (fault_at_end_in (bare_phase reader.stage))).answer
-  end-fault = grind (arith, common_steps, check-ended, by-stage)
+  end-fault = grind (arith, common_steps, check-ended)
 
   pub good-end : fault_at_end_in (bare_phase reader.stage) ≡ None → (whole_reading_of lines).fault ≡ None
   good-end is = end-fault ∙ rw is refl

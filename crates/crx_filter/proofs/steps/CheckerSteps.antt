@@ -9,13 +9,13 @@ use proofs.Words.{RinexReader, RinexStep, false-true, first_not_standard, printe
 use proofs.Words.{phase_of_stage, epoch_open, ◌≤◌, is_open_stage, is_row, drop, Row as ObservationRow, Ok}
 use proofs.Words.{Err, IsSameReader, Choices, length-drop, check_by_line, check_reading, map, length}
 use proofs.Words.{false≢true, Written, state_next, Begun, Bool, Rejects, bytes_eq, has_satellite}
-use proofs.{Words.{may_take_memory, inl, inr, ◌||◌, ◌++◌, ◌∷◌}, following.CheckGoes.{made-alike, made-quiet}}
+use proofs.{Words.{inl, inr, ◌||◌, ◌++◌, ◌∷◌}, following.CheckGoes.{made-quiet}}
 use proofs.following.{CheckedOn.{checked-on, same-state}, Following.state_in}
 use proofs.standard.{CheckEnded.kept-always, CheckLines.{IsReached, Grows, line-grows, phase-reached}}
 use proofs.steps.{CompactionSteps.parts_with, EngineAnswers.as-read-short}
 use Rattle.crx_filter.{proofs.steps.Given.given-either, specs.CheckByLine.totals_made}
 use Rattle.crx_filter.specs.{CheckingParts.{AreNamed, is_reading}, CompactionByLine.is_before_header}
-use Rattle.crx_filter.specs.{CompactionByLine.is_next_row, DirectionParts.{DirectionParts, DirectionTakes, Reads}}
+use Rattle.crx_filter.specs.{DirectionParts.{DirectionParts, DirectionTakes, Reads}}
 use Rattle.crx_filter.specs.{DirectionParts.{ComesAfter, brings_nothing, state_by}, LineByLine.Quiet as LineQuiet}
 use Rattle.crx_filter.specs.{Rooms.{HaveTypes, LackTypes}, RinexReaders.RefusesRinexLine, Stages.is_ended, Totals.IsBehindARow}
 use Rattle.crx_filter.specs.{Totals.{IsCounting, totals_held, HasPrinted}, meaning.Directions.fault_so_far}
@@ -92,28 +92,18 @@ pub took-line : (before after : RinexReader) (number : ℕ) (totals then : Held)
     line.content)))) (number + 1) → checker_state_with before number totals named ≡ check_state lines
     → (fault_so_far (with_next lines line) ≡ None) × (checker_state_with after (number + 1) then named_then
     ≡ check_state (with_next lines line))
-took-line before after number totals then named named_then line step lines short takes totals_then named_is
-    same = grind (
-      arith,
-      common_steps,
-      as-read-short line short,
-      made-same (reader_phase before) before.types (totals_held totals) (Content line.content),
-      steps-to no_choices number (totals_held totals) (as_read line) line.content before after
-          (made_there before line.content) step takes,
-      made-quiet number (reader_phase before) before.types (totals_held totals) (as_read line)
-          (made_there before line.content),
-      (checked-on lines line).fault,
-      (checked-on lines line).next,
-    )
+took-line before after number totals then named named_then line step lines short takes totals_then named_is same = grind (
+  arith,
+  common_steps,
+  as-read-short,
+  made-same,
+  steps-to,
+  made-quiet,
+  (checked-on lines line).fault,
+  (checked-on lines line).next,
+)
 
 -- ---- what a check's direction answers
-
--- where no epoch is open, what a line of an epoch takes doesn't count
-in-no-epoch : (before : RinexReader) (content : List ℕ) → is_open_stage before.stage ≡ false
-    → may_take_memory before.types (λ first. false) is_next_row (reader_phase before) (Content content) ≡ true
-    → may_take_memory before.types (λ first. false) (λ so_far line. false) (reader_phase before)
-    (Content content) ≡ true
-in-no-epoch before content closed takes = grind (arith, common_steps, false≢true)
 
 module _ (serves : Choices → Type 0) (before after : RinexReader) (totals : Held) (content : List ℕ)
     (ready : List (List ℕ)) where
@@ -121,20 +111,20 @@ module _ (serves : Choices → Type 0) (before after : RinexReader) (totals : He
       → made_there before content ≡ Rejects fault → ready ≡ []
       → Reads check_by_line serves (parts_with before (totals_held totals)) content room (Err fault) ready
       (parts_with after (totals_held totals))
-  rejected-reads fault same rejects none = grind (arith, common_steps, made-alike, made-same)
+  rejected-reads fault same rejects none = grind (arith, common_steps, made-same)
 
   pub refused-reads : (fault : Fault) → IsSameReader before after → is_open_stage before.stage ≡ false
       → RefusesRinexLine (made_there before content) before content (LackTypes before.stage before.types) fault
       → ready ≡ [] → Reads check_by_line serves (parts_with before (totals_held totals)) content
       (HaveTypes before.stage before.types) (Err fault) ready
       (parts_with after (totals_held totals))
-  refused-reads fault same closed refuses none = grind (arith, common_steps, rejected-reads, in-no-epoch)
+  refused-reads fault same closed refuses none = grind (arith, common_steps, rejected-reads, false≢true)
 
   taken-reads : {room : Type 0} (then : Held) (step : RinexStep) → IsTaken before content step after
       → AreTotals before content totals then → ready ≡ []
       → Reads check_by_line serves (parts_with before (totals_held totals)) content room (Ok false) ready
       (parts_with after (totals_held then))
-  taken-reads then step takes totals_then none = grind (arith, common_steps, made-alike, made-same, steps-to)
+  taken-reads then step takes totals_then none = grind (arith, common_steps, made-same, steps-to)
 
 -- ---- what a check knows
 
@@ -143,11 +133,6 @@ made-never : (number : ℕ) (phase : Phase OpenEpoch) (types : List Count) (kept
     (made : Made ObservationEpoch OpenEpoch) → brings_nothing (step_of_made check_by_line
     (state_in no_choices number phase types kept) (Content content) made).answer (Content content) ≡ false
 made-never number phase types kept content made = grind (arith, common_steps)
-
-never-passed : (number : ℕ) (phase : Phase OpenEpoch) (types : List Count) (kept : Totals) (line : ReadLine)
-    → IsReached phase → brings_nothing (state_next check_by_line (state_in no_choices number phase types kept)
-    line).answer line ≡ false
-never-passed number phase types kept line reached = grind (arith, common_steps, reached, made-never)
 
 -- it reads on where no fault has ended it
 pub reads-on : (begun : Option OpenEpoch) (stage : Stage) → IsReached (phase_of_stage begun stage)
@@ -168,7 +153,7 @@ module _ (choices : Choices) (lines : List InputLine) (line : InputLine)
   -- and none is passed over
   pub passes-nothing : {X : Type 0} → brings_nothing (state_next check_by_line
       (state_by choices (length lines) parts) (as_read line)).answer (as_read line) ≡ true → X
-  passes-nothing passed = grind (arith, common_steps, false-true, never-passed, phase-reached, given-after)
+  passes-nothing passed = grind (arith, common_steps, false-true, reached, made-never, phase-reached, given-after)
 
 module _ (choices : Choices) (before : RinexReader) (totals : Held) (lines : List InputLine)
     (taken : no_choices ≡ choices) (is : state_in choices (length lines) (reader_phase before) before.types
@@ -224,13 +209,7 @@ pub refused-takes : {served : Choices → Type 0} {before after : DirectionParts
     → Reads check_by_line served before line.content room (Err fault) ready after
     → DirectionTakes check_by_line (λ choices. no_choices) (λ choices. check_reading) served before number line room
     (Err fault) ready after (λ choices. true) count count knows knows
-refused-takes reads = record {
-  reads = reads;
-  serving = λ choices served. refl;
-  counts = omega arith;
-  notes = λ choices lines given known counted. tt;
-  stays = λ choices lines known. known;
-}
+refused-takes reads = grind (arith, common_steps)
 
 -- ---- names and counts
 
@@ -283,9 +262,7 @@ module _ (made : Made ObservationEpoch OpenEpoch) (before after : RinexReader) (
       → TakesRinexLine made before line step after
       → (step ≡ Begun → (name : List ℕ) → has_identifier names name ≡ false)
       → is_open_stage after.stage ≡ true → AreNamed names after.rows.rows
-  step-named names step no_row takes empty is_open =
-      let begun = step-begun step no_row takes is_open in
-      none-named names after.rows.rows begun.1 (empty begun.0)
+  step-named names step no_row takes empty is_open = grind (arith, common_steps, step-begun, none-named)
 
 -- all six lines of a report were handed out where none is pending, and only there
 pub none-pending : (handed_out : ℕ) (found : Findings) → 6 ≤ handed_out

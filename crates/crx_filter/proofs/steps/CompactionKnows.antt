@@ -9,17 +9,17 @@ use proofs.Words.{rinex_reading, Reading, RunState, Made, Completes}
 use proofs.Words.{made_in, state_next, step_of_made, is_again, compaction, compaction_state, rinex_open}
 use proofs.Words.{Written, with_next}
 use proofs.Words.{RinexReader, made_at, reader_phase, MovesReader}
-use proofs.Words.{CompletedEpoch, Completed, FileUnit, epoch_by_rows, Fault, Bool, None, ◌++◌, common_steps, arith}
+use proofs.Words.{CompletedEpoch, Completed, FileUnit, epoch_by_rows, Fault, Bool, ◌++◌, common_steps, arith}
 use proofs.Words.{compact_written, written_kept, is_at_every}
-use proofs.Words.{Moves, is_long}
+use proofs.Words.{is_long}
 use proofs.{Words.{LINE_LIMIT, ◌≤◌}, Pending.again-lines}
 use proofs.following.{Collecting.{add_made, given-epochs, given-past}, CompactedOn.as_it_is}
 use proofs.following.CompactedOn.{compaction-collects, epochs_collected}
-use proofs.steps.CompactionSteps.{AddsHeld, completed-reads, is_first_line, moved-reads, of-copied, refused-read}
+use proofs.steps.CompactionSteps.{AddsHeld, is_first_line, of-copied}
 use proofs.Words.{Begun, Nothing, RinexStep, TakesRinexLine, false, is_row}
 use proofs.steps.{EngineAnswers.{as-read-within, as-read-short}, Together.served-closed}
 use proofs.steps.{Enough.{epochs-kept, known-room}, Given.{counts-there, types-there}}
-use Rattle.crx_compact.specs.{Encoding.{EncoderState, EndsEpoch, forgotten}, Placing.{HasRoom, HaveRoom, HaveTypesRoom}}
+use Rattle.crx_compact.specs.{Encoding.{EncoderState, EndsEpoch, forgotten}, Placing.{HasRoom, HaveRoom}}
 use Rattle.crx_compact.specs.Placing.{KeepsRooms}
 use Rattle.crx_filter.specs.CompactionParts.{CompactionState, compaction_line_outgrows, compaction_parts}
 use Rattle.crx_filter.specs.CompactionParts.{is_full_where_due}
@@ -28,17 +28,16 @@ use Rattle.crx_header.specs.meaning.CompactHeader.{lines_before_header}
 use Rattle.crx_filter.specs.DirectionParts.{ComesAfter, DirectionTakes, brings_nothing, state_by}
 use Rattle.crx_filter.specs.{EpochRooms.{HaveEpochsRoom, rinex_epochs}, Rooms.HasRoomForRow}
 use Rattle.crx_filter.specs.{Rooms.HasRoomInCompaction, meaning.Memory.{are_known, are_types_awaited}}
-use Rattle.crx_filter.specs.meaning.Memory.{accepted_epochs, brought_by_row, satellite_of_row, satellites_had}
+use Rattle.crx_filter.specs.meaning.Memory.{accepted_epochs, brought_by_row, satellite_of_row}
 use Rattle.crx_filter.specs.declared.compaction.Compaction.TheInside.{Inside as Compaction}
-use Rattle.std.proofs.lemmas.{Bool.{not-false, or_parts}, List.Elements.{All-cons, All-map}}
+use Rattle.std.proofs.lemmas.{Bool.{not-false, or_parts}, List.Elements.{All-map}}
 use Rattle.std.specs.Prelude.{IfOk}
 
 -- ---- the epochs after one line more
 
 all-added : (rooms : List (List ℕ × ℕ)) (epochs : List Epoch) (made : Made Epoch OpenEpoch)
     → AddsHeld rooms made → HaveEpochsRoom rooms epochs → HaveEpochsRoom rooms (add_made as_it_is epochs made)
-all-added rooms epochs (Completes (Observation epoch)) adds all =
-    All-cons (λ (e : Epoch). HaveTypesRoom (satellites_had e) rooms) epoch epochs adds all
+all-added rooms epochs (Completes (Observation epoch)) adds all = grind (arith, common_steps)
 all-added rooms epochs made adds all = all
 
 module _ (choices : Choices) (lines : List InputLine) (line : InputLine) (before : CompactionState)
@@ -144,14 +143,8 @@ module _ (served : Choices → Type 0) (room : Type 0) (before after : Compactio
       → after.reader.types ≡ before.reader.types → after.index ≡ before.index
       → KeepsRooms before.encoder.rooms after.encoder.rooms
       → ((choices : Choices) → served choices → serves_in after choices ≡ true) → ready ≡ [] → Takes (Err fault) ready
-  refused-takes refuses enough typed counted kept serving none = record {
-    reads = refused-read before.reader after.reader refuses enough typed counted none;
-    serving = serving;
-    counts = omega (arith, counted);
-    notes = λ choices lines given known counted. tt;
-    stays = λ choices lines known. epochs-kept before.encoder.rooms after.encoder.rooms (rinex_epochs choices lines)
-        kept known;
-  }
+  refused-takes refuses enough typed counted kept serving none =
+      grind (arith, common_steps, epochs-kept)
 
   module _ (short : length line.content ≤ LINE_LIMIT) (kept : KeepsRooms before.encoder.rooms after.encoder.rooms) where
     noted : (makes : Made Epoch OpenEpoch) → made ≡ makes → ((s : RunState OpenEpoch Written)
@@ -170,13 +163,7 @@ module _ (served : Choices → Type 0) (room : Type 0) (before after : Compactio
     pub moved-takes : {ready : List (List ℕ)} → MovesReader made before.reader after.reader
         → kept_of after ≡ kept_of before
         → ((choices : Choices) → served choices → serves_in after choices ≡ true) → ready ≡ [] → Takes (Ok false) ready
-    moved-takes moves same serving none = record {
-      reads = moved-reads moves.moved moves.types_then moves.goes_on same none;
-      serving = serving;
-      counts = omega (arith, ap (λ (w : Written). w.index) same);
-      notes = noted (Moves (reader_phase after.reader)) moves.moved (λ s. refl) tt;
-      stays = λ choices lines known. tt;
-    }
+    moved-takes moves same serving none = grind (arith, common_steps, noted)
 
     -- it completes a unit
     unit-takes : (unit : FileUnit Epoch) {ready : List (List ℕ)} → Completed made unit before.reader after.reader
@@ -184,13 +171,8 @@ module _ (served : Choices → Type 0) (room : Type 0) (before after : Compactio
         → (ready ≡ compact_written (state_by choices number (compaction_parts before)) unit)
         × (kept_of after ≡ written_kept (state_by choices number (compaction_parts before)) unit))
         → after.index ≤ before.index + 1 → Takes (Ok true) ready
-    unit-takes unit done adds written counted = record {
-      reads = completed-reads unit done.unit_made done.phase_then done.types_then written;
-      serving = λ choices is. served-closed after.reader.stage _ _ done.closed;
-      counts = counted;
-      notes = noted (Completes unit) done.unit_made (λ s. again-lines (compaction.written s unit)) adds;
-      stays = λ choices lines known. tt;
-    }
+    unit-takes unit done adds written counted =
+        grind (arith, common_steps, served-closed, noted, again-lines)
 
     -- it is copied, and everything is forgotten
     pub copied-takes : (step : RinexStep) (date : List ℕ) → (step ≡ Nothing → ⊥) → (step ≡ Begun → ⊥)

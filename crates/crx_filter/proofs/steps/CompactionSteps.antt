@@ -1,36 +1,17 @@
 -- What a compaction makes of a line: a fault, another stage, a line that is copied, or an epoch.
 use Rattle.crx_filter.proofs.Words
-use Words.{common_steps, arith, ◌≡◌, ◌⊎◌, ℕ, ◌+◌, true, false, List, [], Some, None, Ok, Err, ◌++◌, ◌∷◌}
-use Words.{refl, ap, sym, ◌∙◌, Fault, ObservationEpoch, Bool, OpenEpoch, EventLine, EventRecord, HeaderLine}
-use Words.{FileUnit, Observation, Choices, Phase, RunState, Written, compact_written, compaction, written_kept}
-use Words.{Made, Completes, Moves, phase_after, types_after, phase_of_stage, epoch_open, is_row, made_at, Completed}
+use Words.{common_steps, arith, ◌≡◌, ℕ, ◌+◌, false, List, [], None, ◌++◌, ◌∷◌}
+use Words.{refl, ap, sym, ◌∙◌, ObservationEpoch, Bool, OpenEpoch, EventLine, EventRecord, HeaderLine}
+use Words.{FileUnit, Observation, Phase, RunState, Written, compact_written, written_kept}
+use Words.{Made, Completes, epoch_open, is_row, Completed}
 use Words.{TakesRinexLine, RinexStep, Nothing, Header, Begun, reader_phase, RinexReader, true≢false}
 use Rattle.crx_compact.specs.Placing.{HaveTypesRoom}
 use Rattle.crx_filter.specs.CompactionByLine.{is_before_header}
-use Rattle.crx_filter.specs.DirectionParts.{DirectionParts, Reads, made_at_parts, state_by}
-use Rattle.crx_filter.specs.{RinexReaders.RefusesRinexLine, Stages.is_ended, meaning.Memory.satellites_had}
+use Rattle.crx_filter.specs.DirectionParts.{DirectionParts}
+use Rattle.crx_filter.specs.{meaning.Memory.satellites_had}
 use Rattle.crx_filter.specs.declared.rinex_reader.RinexStep.TheVariants.{Event, Record}
 use Rattle.crx_header.specs.meaning.CompactHeader.{lines_before_header}
 use Rattle.std.specs.Prelude.{⊤}
-
--- ---- a line's step, by what it makes
-
-module _ {serves : Choices → Type 0} {before after : DirectionParts OpenEpoch Written} {line : List ℕ}
-    {room : Type 0} {ready : List (List ℕ)} where
-  -- nothing is to be written after it
-  pub moved-reads : made_at_parts compaction before line ≡ Moves (phase_of_stage after.begun after.stage)
-      → after.types ≡ before.types → is_ended after.stage ≡ false → after.kept ≡ before.kept → ready ≡ []
-      → Reads compaction serves before line room (Ok false) ready after
-  moved-reads moved typed goes_on same none = grind (arith, common_steps, phase_of_stage)
-
-  -- it completes a unit
-  pub completed-reads : (unit : FileUnit ObservationEpoch) → made_at_parts compaction before line ≡ Completes
-      unit → phase_of_stage after.begun after.stage ≡ phase_after (phase_of_stage before.begun before.stage)
-      unit → after.types ≡ types_after (phase_of_stage before.begun before.stage) before.types unit
-      → ((choices : Choices) (number : ℕ) → serves choices → (ready ≡ compact_written
-      (state_by choices number before) unit) × (after.kept ≡ written_kept (state_by choices number before)
-      unit)) → Reads compaction serves before line room (Ok true) ready after
-  completed-reads unit made phased typed written = grind (arith, common_steps, phase_of_stage)
 
 -- ---- a line's step, by the reader
 
@@ -43,14 +24,6 @@ AddsHeld rooms made = ⊤
 abbrev pub parts_with : {K : Type 0} → RinexReader → K → DirectionParts OpenEpoch K
 parts_with reader kept =
     record { stage = reader.stage; begun = epoch_open reader; types = reader.types; kept = kept }
-
--- the reader refuses it
-pub refused-read : {serves : Choices → Type 0} (before after : RinexReader) {kept now : Written}
-    {line : List ℕ} {lacks room : Type 0} {ready : List (List ℕ)} {fault : Fault} → RefusesRinexLine
-    (made_at before line kept) before line lacks fault → (lacks → room → ⊥) → after.types ≡ before.types
-    → now.index ≡ kept.index → ready ≡ [] → Reads compaction
-    serves (parts_with before kept) line room (Err fault) ready (parts_with after now)
-refused-read before after known enough typed counted none = grind (arith, common_steps)
 
 -- whether a line is the header's first one, before which others are written
 abbrev pub is_first_line : RinexStep → Bool

@@ -4,20 +4,20 @@ use Rattle.crx_filter.proofs
 use proofs.Words.{common_steps, arith, ℕ, ◌≡◌, inl, inr, ◌+◌, true, false, List, [], ◌∷◌, map, length, Some}
 use proofs.Words.{Result, Ok, Err, refl, ap, sym, subst, ◌∙◌, append-nil, ◌≤◌, rules, and_parts, reverse}
 use proofs.Words.{◌&&◌, InputLine, is_long, ReadLine, Content, Overlong, as_read, At, OutOfMemory, LINE_LIMIT}
-use proofs.Words.{Choices, with_next, step_made, Steps, is_again, Fed, fed_once, fed_twice, fed, LookingOn}
+use proofs.Words.{Choices, step_made, Steps, is_again, fed_once, fed_twice, fed, LookingOn}
 use proofs.Words.{RunState, Direction, Made, Rejects, Notice, LineStep, made_in, may_skip, is_in_epoch}
 use proofs.Words.{is_skipped_in, step_of_made, state_next, takes_memory, can_go_on, is_skippable, ◌++◌}
 use proofs.Words.{by_bool, Completes, false≢true, answer_of_step, noticed_by, false-true}
 use proofs.Words.{after_warning, failed_by, Bool}
 use Rattle.std.specs.Prelude.{IfOk}
 use Rattle.crx_filter.specs.DirectionParts.{EngineParts, HasClosed, IsAfterLines, ComesAfter, TakesLine}
-use Rattle.crx_filter.specs.{EngineLaws.{FollowsBy, GoesLineByLine}, EngineLines.HasTaken, EngineSteps.RanOut}
+use Rattle.crx_filter.specs.{EngineLaws.{GoesLineByLine}, EngineLines.HasTaken, EngineSteps.RanOut}
 use Rattle.crx_filter.specs.EngineState.{EndIsAnswered, EngineGoes, EngineKeepsNotes, EngineNotes, KnowsAfter}
 use Rattle.crx_filter.specs.EngineState.{LineIsAnswered, engine_seen, engine_state, engine_took}
 use Rattle.crx_filter.specs.{Laws.is_ready, LineByLine.state_end_with, declared.direction.Direction.Ghosts}
 use Rattle.crx_runs.specs.Engines.{Awaited, IsAwaited, awaited_notices, EngineAnswers, Concludes}
 use Rattle.crx_runs.specs.{declared.engine.Step.{Step, TheVariants.Warned}, meaning.Filters.Filter}
-use proofs.Pending.{again-lines, quiet-next, quiet-end, taken-either}
+use proofs.Pending.{again-lines, quiet-next, taken-either}
 use proofs.steps.EngineLemmas.{repeats, repeats-end}
 use proofs.following.Following.{fed-once as feeds-once, fed-twice as feeds-twice, failed-ends, failed-skipped}
 
@@ -89,11 +89,6 @@ module _ {U O K : Type 0} {direction : Direction U O K} {closing_after : List In
     abbrev first : RunState O K
     first = state_after_lines (map as_read lines)
 
-    -- what the filter makes of the line, by what it was fed as
-    follows-fed : (f : Fed O K) → fed direction first (as_read line) ≡ f
-        → FollowsBy filter lines line (state_after_lines (map as_read (with_next lines line))) f
-    follows-fed f e = grind (arith, common_steps, as_read, with_next)
-
     module _ (shows : List InputLine → List Awaited → Type 0) (now : RunState O K) (ready : List (List ℕ))
         (showing : (ls : List InputLine) (ns : List Awaited) → HasTaken direction state_after_lines now ls ns
         → shows ls ns) where
@@ -108,13 +103,13 @@ module _ {U O K : Type 0} {direction : Direction U O K} {closing_after : List In
           → is_again (answer_of_step result) ≡ false → (is_ready (answer_of_step result) ≡ false → ready ≡ [])
           → EngineAnswers filter shows ready lines notices line result
       fed-answers notices warned result e noted once quiet =
-          grind (arith, common_steps, follows-fed, append-nil)
+          grind (arith, common_steps, append-nil)
 
       -- the first time
       first-time : (result : Result Step At) → step_made result ready now ≡ state_next direction first
           (as_read line) → EngineAnswers filter shows ready lines [] line result
       first-time result s =
-          grind (arith, common_steps, fed-answers, fed-once, fed-again, quiet-next, follows-fed)
+          grind (arith, common_steps, fed-answers, fed-once, fed-again, quiet-next)
 
       -- the second time, after a warning
       second-time : (notice : At) (before : RunState O K) (result : Result Step At) → record
@@ -180,7 +175,7 @@ module _ {U O K : Type 0} {direction : Direction U O K} {closing_after : List In
       (result : Result Step At) → HasTaken direction state_after_lines before lines [] → step_made result
       ready now ≡ state_end_with direction (closing_after lines) before → Concludes filter ready lines result
   concludes before now lines ready result taken e =
-      grind (arith, common_steps, goes.ends, quiet-end, append-nil)
+      grind (arith, common_steps, goes.ends, append-nil)
 
 -- ---- lines as they are seen
 
@@ -275,13 +270,8 @@ module _ {D : Type 0} (d : Ghosts D) (before : EngineParts D) (goes : EngineGoes
       (result : Result Step At) → as_read line ≡ read → EngineNotes d before line result after
       → TakesLine d.by_line (engine_state d before) read (d.has_room before.direction line.content) result ready
       (engine_state d after) → LineIsAnswered d before line read result ready after
-  line-answered after line read result is notes takes = record {
-    takes = takes;
-    answers = λ lines notices took awaited. engine-answers after line read result takes.choices is notes lines notices
-        took awaited takes.steps;
-    by_seen = answers-seen after line read result takes.choices is notes;
-    repeated = λ at ended. repeats d.by_line _ _ read _ _ result at takes.steps ended;
-  }
+  line-answered after line read result is notes takes =
+      grind (arith, common_steps, engine-answers, answers-seen, repeats)
 
   -- and so is the end of the input, where a good end hands out what is to be handed out
   pub end-answered : (after : EngineParts D) {ready : List (List ℕ)} (result : Result Step At)

@@ -2,21 +2,21 @@
 use Rattle.crx_filter.proofs.Words
 use Rattle.crx_filter.specs
 use Words.{common_steps, arith, ◌≡◌, ℕ, ◌+◌, Bool, true, false, ◌&&◌, List, [], Option, Some, None, Result}
-use Words.{Ok, Err, inl, refl, Content, Overlong, At, Fault, LineTooLong, Count, Choices, RunState, Direction}
-use Words.{Rejects, made_in, RunEnded, is_skipped_in, may_skip, is_skippable, failed_step, state_next}
+use Words.{Ok, Err, refl, Content, Overlong, At, Fault, LineTooLong, Count, Choices, RunState, Direction}
+use Words.{Rejects, made_in, is_skipped_in, may_skip, is_skippable, failed_step, state_next}
 use Words.{begins_epoch, step_made, is_held, phase_of_stage, Stage, false≢true, InputLine, with_next}
 use Words.{ReadLine, Steps, as_read, length}
 use specs.DirectionParts.{DirectionParts, state_by, Reads, AnswersToFault, HasStopped, TakesLine, handed_out_by}
-use specs.{DirectionParts.{ComesAfter, KnowsStill, brings_nothing}, EngineState.{KnowsAfter, is_refusal}}
+use specs.{DirectionParts.{ComesAfter, KnowsStill}, EngineState.{KnowsAfter}}
 use specs.{DirectionParts.hands_out, EngineSteps.answer_of_step, LineByLine.{end_step, answer_of_lines}}
 use specs.{LineByLine.fault_at_end_in, LineByLine.state_end_with, Stages.{bare_phase, is_settled}}
 use specs.declared.stage.Stage.TheVariants.{Looking, Closed, Ended}
-use Rattle.crx_filter.proofs.{Pending.state_in, steps.EngineLemmas.{failed-at, fatal-counts, out-fatal}}
-use Rattle.crx_filter.proofs.steps.EngineLemmas.{no-skip, ran-out}
+use Rattle.crx_filter.proofs.{steps.EngineLemmas.{fatal-counts, out-fatal}}
+use Rattle.crx_filter.proofs.steps.EngineLemmas.{ran-out}
 use Rattle.crx_runs.specs.declared.engine.Step.{Step, TheVariants.{Warned}}
-use Rattle.std.proofs.Common.{OnErr, IfErr, IfOk}
+use Rattle.std.proofs.Common.{OnErr, IfOk}
 use Rattle.crx_runs.specs.Engines.{answer_given, lines_handed_out}
-use Rattle.crx_runs.specs.declared.engine.HandedOut.{HandedOut, TheVariants.{Nothing, Lines, AsItIs}}
+use Rattle.crx_runs.specs.declared.engine.HandedOut.{HandedOut}
 
 -- no fault is answered where one has ended the run, or after the end
 pub not-settled : (stage : Stage) → (stage ≡ Looking → ⊥) → (stage ≡ Closed → ⊥)
@@ -34,19 +34,6 @@ pub notes-handed : (knows : List InputLine → Type 0) (lines : List InputLine) 
     → KnowsAfter knows lines line (answer_given (Some out) stored)
 notes-handed knows lines line out stored known = grind (arith, common_steps)
 
--- a line with a warning that doesn't come again brings nothing
-warned-passed : {U O K : Type 0} (direction : Direction U O K) (before after : RunState O K) (line : ReadLine)
-    (ready : List (List ℕ)) (notice : At)
-    → step_made (Ok (Warned notice false)) ready after ≡ state_next direction before line
-    → brings_nothing (state_next direction before line).answer line ≡ true
-warned-passed direction before after line ready notice steps = grind (arith, common_steps)
-
--- what is answered to a fault is a warning or that fault
-refused-so : {U O K : Type 0} (direction : Direction U O K) (before after : RunState O K) (line : ReadLine)
-    (fault : Fault) (result : Result Step At) (ready : List (List ℕ))
-    → HasStopped (failed_step direction before line fault) result ready before after → is_refusal result ≡ true
-refused-so direction before after line fault result ready stopped = grind (arith, common_steps, failed_step)
-
 module _ {U O K : Type 0} (direction : Direction U O K) (chosen : Choices → Choices)
     (state_after_lines : Choices → List ReadLine → RunState O K) (choices : Choices) (number : ℕ)
     (before : DirectionParts O K) (knew knows : Choices → List InputLine → Type 0)
@@ -62,7 +49,7 @@ module _ {U O K : Type 0} (direction : Direction U O K) (chosen : Choices → Ch
       → ComesAfter direction chosen state_after_lines choices lines line before → knew choices lines
       → KnowsAfter (knows choices) lines line result
   notes-refused fault result read room ready after stopped is steps lines counted given known =
-      grind (arith, common_steps, warned-passed, refused-so, false≢true)
+      grind (arith, common_steps, false≢true)
 
 module _ {U O K : Type 0} (direction : Direction U O K) where
   -- a line was taken that hands something out, or nothing
@@ -80,7 +67,7 @@ module _ {U O K : Type 0} (direction : Direction U O K) where
       → step_made result [] after ≡ failed_step direction before (Content line) fault
       → is_skippable fault ≡ false → result ≡ Err (record { line = before.number + 1; fault = fault })
   fatal-answer before after line fault result step fatal =
-      grind (arith, common_steps, no-skip, may_skip, is_skippable, failed_step, failed-at, step)
+      grind (arith, common_steps, may_skip, is_skippable, failed_step, step)
 
   -- a fault that a line was refused with is answered so
   pub refused-stops : (choices : Choices) (last : ℕ) (stage : Stage) (fault : Fault) (goes_on : Bool)
@@ -140,21 +127,13 @@ module _ {U O K : Type 0} (direction : Direction U O K) where
 
   -- ---- the end of the input
 
-  module _ (closing : List (List ℕ)) where
-    pub by-stage : (choices : Choices) (number : ℕ) (stage : Stage) (begun : Option O) (types : List Count)
-        (kept : K) → is_held stage begun ≡ true → ((at : At) → stage ≡ Ended at → ⊥)
-        → state_end_with direction closing (state_in choices number (phase_of_stage begun stage) types kept)
-        ≡ end_step direction closing (state_in choices number (phase_of_stage begun stage) types kept)
-        (fault_at_end_in (bare_phase stage))
-    by-stage choices number stage begun types kept held going = grind (arith, common_steps)
-
   module _ (choices : Choices) (number : ℕ) (before after : DirectionParts O K) (stage : Stage)
       (was : stage ≡ before.stage) (held : is_held stage before.begun ≡ true)
       (going : (at : At) → stage ≡ Ended at → ⊥) (typed : after.types ≡ before.types)
       (closing : List (List ℕ)) where
     ends : state_end_with direction closing (state_by choices number before)
         ≡ end_step direction closing (state_by choices number before) (fault_at_end_in (bare_phase stage))
-    ends = grind (arith, common_steps, by-stage)
+    ends = grind (arith, common_steps)
 
     skips : (fault : Fault) (a b c : Bool) → a ≡ choices.skip → b ≡ may_skip (bare_phase stage)
         → c ≡ is_skippable fault → is_skipped_in (state_by choices number before) fault ≡ ((a && b) && c)

@@ -1,17 +1,14 @@
 -- Facts of an engine's steps in either direction: held epochs, faults that count, memory that ran out, a
 -- fault that is answered again.
-use Rattle.crx_filter.proofs.Words.{common_steps, arith, ◌≡◌, ℕ, ◌+◌, Bool, true, false, List, Result, Err}
-use Rattle.crx_filter.proofs.Words.{ap, ◌&&◌, ReadLine, At, Fault, OutOfMemory, RunEnded, RunState, Direction}
-use Rattle.crx_filter.proofs.Words.{Failed, may_skip, is_skipped_in, failed_step, takes_memory, is_skippable}
-use Rattle.crx_filter.{proofs.Words.{answer_of_step, step_made, Steps}, specs.EngineSteps.RanOut}
+use Rattle.crx_filter.proofs.Words.{common_steps, arith, ◌≡◌, ℕ, ◌+◌, true, false, List, Result, Err}
+use Rattle.crx_filter.proofs.Words.{ap, ReadLine, At, Fault, OutOfMemory, RunEnded, RunState, Direction}
+use Rattle.crx_filter.proofs.Words.{may_skip, is_skipped_in, failed_step, takes_memory, is_skippable}
+use Rattle.crx_filter.{proofs.Words.{step_made, Steps}, specs.EngineSteps.RanOut}
 use Rattle.{crx_filter.specs.LineByLine.state_end_with, crx_runs.specs.declared.engine.Step.Step}
 
 -- memory that ran out isn't skipped
 pub out-fatal : (fault : Fault) → fault ≡ OutOfMemory → is_skippable fault ≡ false
 out-fatal fault is = ap is_skippable is
-
-pub no-skip : (a b c : Bool) → c ≡ false → (a && (b && c)) ≡ false
-no-skip a b c e = grind (arith, common_steps)
 
 -- a line whose fault isn't skipped counts
 pub fatal-counts : {U O K : Type 0} (direction : Direction U O K) (before after : RunState O K) (line :
@@ -19,7 +16,7 @@ pub fatal-counts : {U O K : Type 0} (direction : Direction U O K) (before after 
     handed_out after ≡ failed_step direction before line fault → is_skippable fault ≡ false → after.number ≡
     before.number + 1
 fatal-counts {O = O} {K = K} direction before after line fault result handed_out step fatal =
-    grind (arith, common_steps, is_skipped_in, no-skip, may_skip, is_skippable, failed_step)
+    grind (arith, common_steps, is_skipped_in, may_skip, is_skippable, failed_step)
 
 pub ran-out : {U O K : Type 0} (direction : Direction U O K) (before after : RunState O K) (line : ReadLine)
     (room : Type 0) (result : Result Step At) (fault : Fault) → fault ≡ OutOfMemory → result ≡ Err
@@ -29,18 +26,14 @@ ran-out direction before after line room result fault out is allowed lacked coun
 
 -- ---- a fault that ended the run is answered again
 
--- an answer that the run has failed is the fault that ended it
-pub failed-at : (r : Result Step At) (at : At) → answer_of_step r ≡ Failed at → r ≡ Err at
-failed-at r at e = grind (arith, common_steps)
-
 pub repeats : {U O K : Type 0} (direction : Direction U O K)
     (before after : RunState O K) (line : ReadLine) (room : Type 0) (ready : List (List ℕ))
     (result : Result Step At) (at : At) → Steps direction before line room result ready after
     → before.phase ≡ RunEnded at → result ≡ Err at
-repeats direction before after line room ready result at known is = grind (arith, common_steps, failed-at)
+repeats direction before after line room ready result at known is = grind (arith, common_steps)
 
 pub repeats-end : {U O K : Type 0} (direction : Direction U O K) (before after : RunState O K)
     (closing ready : List (List ℕ)) (result : Result Step At) (at : At) → step_made result ready after
     ≡ state_end_with direction closing before → before.phase ≡ RunEnded at → result ≡ Err at
 repeats-end direction before after closing ready result at step is =
-    grind (arith, common_steps, failed-at)
+    grind (arith, common_steps)

@@ -1,16 +1,16 @@
 -- Where each satellite that a line brings was in an epoch before, with as many types, there is room for it.
 use Rattle.crx_filter.proofs.Words.{common_steps, arith, ℕ, ◌≡◌, Bool, true, List, [], ◌∷◌, ◌&&◌}
 use Rattle.crx_filter.proofs.Words.{All, All-head, All-tail, and_parts, by_bool}
-use Rattle.crx_filter.proofs.Words.{false-true, bytes_eq, Epoch, Satellite, ◌⊎◌}
-use Rattle.crx_filter.proofs.Words.{not, Option, ReadLine, At, Item, Reading}
-use Rattle.crx_filter.proofs.Words.{Phase, InHeader, Ended, LookingOn}
+use Rattle.crx_filter.proofs.Words.{false-true, bytes_eq, Epoch, Satellite}
+use Rattle.crx_filter.proofs.Words.{not, Option, ReadLine, Item, Reading}
+use Rattle.crx_filter.proofs.Words.{InHeader}
 use Rattle.crx_filter.proofs.Words.{phase_in_body, types_in_force}
 use Rattle.crx_filter.proofs.Words.{phase_of}
 use Rattle.crx_compact.specs.Placing.{HasRoom, HaveTypesRoom, KeepsRooms}
 use Rattle.crx_filter.specs.{EpochRooms.HaveEpochsRoom, Rooms.do_types_count, Stages.phase_of_stage}
 use Rattle.crx_filter.specs.{declared.stage.Stage.Stage, meaning.Memory.{are_known, are_types_awaited}}
 use Rattle.crx_filter.specs.meaning.Memory.{has_satellite_for, satellites_had}
-use Rattle.std.proofs.lemmas.{Bool.leb-true, List.{Elements.{All-weaker}}}
+use Rattle.std.proofs.lemmas.{Bool.leb-true}
 use Rattle.std.proofs.lemmas.List.Sums.{AllPass-from_list_all}
 use Rattle.std.proofs.Common.{get_or}
 use Rattle.std.{proofs.lemmas.Slice.Eq.bytes_eq-Decides, specs.{List.list_any, Prelude.{nat_le, nat_lt}}}
@@ -21,17 +21,9 @@ use Rattle.std.specs.Prelude.{◌||◌, if◌then◌else◌}
 abbrev HasRoomIn : List (List ℕ × ℕ) → Satellite → Type 0
 HasRoomIn rooms satellite = HasRoom satellite.name satellite.count rooms
 
-pub types-kept : (before after : List (List ℕ × ℕ)) (satellites : List Satellite) → KeepsRooms before after
-    → HaveTypesRoom satellites before → HaveTypesRoom satellites after
-types-kept before after satellites kept held = All-weaker (HasRoomIn before) (HasRoomIn after)
-    (λ (s : Satellite). kept s.name s.count) satellites held
-
 pub epochs-kept : (before after : List (List ℕ × ℕ)) (epochs : List Epoch) → KeepsRooms before after
     → HaveEpochsRoom before epochs → HaveEpochsRoom after epochs
-epochs-kept before after epochs kept held =
-    All-weaker (λ (epoch : Epoch). HaveTypesRoom (satellites_had epoch) before)
-    (λ (epoch : Epoch). HaveTypesRoom (satellites_had epoch) after)
-    (λ (epoch : Epoch). types-kept before after (satellites_had epoch) kept) epochs held
+epochs-kept before after epochs kept held = grind (arith, common_steps)
 
 -- ---- epochs before
 
@@ -78,13 +70,8 @@ awaited-there : {O : Type 0} (ended first : Bool) (left : ℕ) (counted : Bool) 
     → do_types_count stage ≡ true → (not ended || (nat_lt 0 left && counted)) ≡ true
 awaited-there ended first left counted found held stage same counts = grind (arith, common_steps)
 
-pub never-counted : {O : Type 0} (held : Option O) (stage : Stage) (phase : Phase O)
-    → phase_of_stage held stage ≡ phase
-    → (phase ≡ LookingOn) ⊎ ((at : At) × (phase ≡ Ended at)) → do_types_count stage ≡ true → ⊥
-never-counted held stage phase same either counts = grind (arith, common_steps)
-
 pub types-awaited : {E O : Type 0} (open_with : List (Item E) → List ReadLine → Option O) (r : Reading E)
     (held : Option O) (stage : Stage) → phase_of_stage held stage ≡ phase_of open_with r
     → do_types_count stage ≡ true → types_in_force r.items ≡ [] → are_types_awaited r.items ≡ true
 types-awaited open_with r held stage same counts none =
-    grind (arith, common_steps, never-counted, awaited-there)
+    grind (arith, common_steps, awaited-there)

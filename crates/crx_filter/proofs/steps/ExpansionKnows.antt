@@ -74,8 +74,7 @@ room-after old new epochs kept held has = (epochs-kept old.rooms new.rooms epoch
 newest-has : (state : ColumnsState) (tail : Tail) (rooms : List (List ℕ × ℕ)) → tail_held state ≡ Some tail
     → HaveCellsRoom (rows_held state) rooms → HaveCellsRoom tail.rows rooms
 newest-has (Idle None) tail rooms e has = absurd (none-some tail e)
-newest-has (Idle (Some held)) tail rooms e has =
-    subst (λ (t : Tail). HaveCellsRoom t.rows rooms) (same_Some held tail e) has
+newest-has (Idle (Some held)) tail rooms e has = grind (arith, common_steps, same_Some)
 newest-has (ReadingOn begun) tail rooms e has = absurd (none-some tail e)
 
 -- after a line that was taken, with what it makes

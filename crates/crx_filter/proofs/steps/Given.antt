@@ -9,7 +9,7 @@ use proofs.Words.{phase_of_stage}
 use Rattle.crx_filter.specs.DirectionParts.{DirectionParts, ComesAfter, state_by}
 use Rattle.crx_filter.specs.{Rooms.do_types_count, meaning.Memory.are_types_awaited}
 use proofs.Pending.{taken-either}
-use proofs.steps.{EngineAnswers.{ComesAgain, comes-again}, Enough.{never-counted, types-awaited}}
+use proofs.steps.{EngineAnswers.{ComesAgain, comes-again}, Enough.{types-awaited}}
 
 module _ {U O K : Type 0} (direction : Direction U O K) {chosen : Choices → Choices}
     (state_after : Choices → List ReadLine → RunState O K) (choices : Choices) (lines : List InputLine)
@@ -40,4 +40,4 @@ module _ {U O K : Type 0} (direction : Direction U O K) {chosen : Choices → Ch
       → phase_of_stage parts.begun parts.stage ≡ phase_of open_with r)
       → do_types_count parts.stage ≡ true → parts.types ≡ [] → are_types_awaited r.items ≡ true
   counts-there open_with r types phase counts none =
-      grind (arith, common_steps, given-either, types-awaited, types-there, never-counted)
+      grind (arith, common_steps, given-either, types-awaited, types-there)

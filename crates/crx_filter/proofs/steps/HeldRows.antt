@@ -16,7 +16,7 @@ use Rattle.crx_compact.specs.ReadingRooms.{HaveCellsRoom, HeldColumns}
 use Rattle.crx_compact.specs.{Tails.RowTail, meaning.{Cells.ReadCell, CompactPlaces.ReadRow}}
 use Rattle.crx_compact.specs.meaning.CompactPlaces.{clock_line_read}
 use Rattle.{crx_filter.specs.EpochRooms.{HaveHeldRoom, rows_held}, crx_text.proofs.EachPlace.length-each_place}
-use Rattle.std.{proofs.lemmas.List.Elements.{All-map, All-weaker}, specs.Prelude.{⊤, slice_get}}
+use Rattle.std.{proofs.lemmas.List.Elements.{All-map}, specs.Prelude.{⊤, slice_get}}
 
 -- ---- rows as satellites
 
@@ -104,12 +104,9 @@ step-satellites begun line = by_clock begun.clock
 
 step-held : (satellites : List Satellite) (rooms : List (List ℕ × ℕ)) (step : RawStep)
     → StepHas satellites step → HaveTypesRoom satellites rooms → HaveCellsRoom (rows_held (state_after step)) rooms
-step-held satellites rooms (Going begun) same has =
-    rows-of_types begun.rows rooms (subst (λ ss. HaveTypesRoom ss rooms) (sym same) has)
-step-held satellites rooms (Whole held) same has =
-    rows-of_types held.tail.rows rooms (subst (λ ss. HaveTypesRoom ss rooms) (sym same) has)
-step-held satellites rooms (Faulty fault) same has =
-    All-nil (λ (row : RowTail). HasRoom row.name (length row.cells) rooms)
+step-held satellites rooms (Going begun) same has = grind (arith, common_steps, rows-of_types)
+step-held satellites rooms (Whole held) same has = grind (arith, common_steps, rows-of_types)
+step-held satellites rooms (Faulty fault) same has = grind (arith, common_steps)
 
 held-on : (state : ColumnsState) (line : List ℕ) (rooms : List (List ℕ × ℕ)) → HaveCellsRoom (rows_held state) rooms
     → HaveCellsRoom (rows_held (state_after (step_in state (Content line)))) rooms
@@ -119,10 +116,7 @@ held-on (Reading begun) line rooms has = step-held (map satellite_of_tail begun.
 
 cells-kept : (rows : List RowTail) (before after : List (List ℕ × ℕ)) → KeepsRooms before after
     → HaveCellsRoom rows before → HaveCellsRoom rows after
-cells-kept rows before after kept has =
-    All-weaker (λ (row : RowTail). HasRoom row.name (length row.cells) before)
-    (λ (row : RowTail). HasRoom row.name (length row.cells) after)
-    (λ (row : RowTail). kept row.name (length row.cells)) rows has
+cells-kept rows before after kept has = grind (arith, common_steps)
 
 -- a line of an open epoch was taken
 pub printed-held : (old new : HeldColumns) (line : List ℕ) (is_whole : Bool) (lines : List (List ℕ))

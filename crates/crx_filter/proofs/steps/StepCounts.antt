@@ -2,7 +2,7 @@
 use Rattle.crx_filter.proofs.Words.{common_steps, arith, ◌≡◌, inl, inr, ℕ, ◌+◌, true, false, List, [], Result}
 use Rattle.crx_filter.proofs.Words.{length, length-append, InputLine, sym, subst, ⊤, ReadLine, At, Direction}
 use Rattle.crx_filter.proofs.Words.{RunState, Made, Answer, Notice, Failed, LineStep, made_in, step_of_made}
-use Rattle.crx_filter.proofs.{Words.{Steps, answer_of_step, step_made}, Pending.{quiet-end, quiet-next}}
+use Rattle.crx_filter.proofs.{Words.{Steps, answer_of_step, step_made}, Pending.{quiet-next}}
 use Rattle.crx_filter.specs.{Laws.is_ready, LineByLine.state_end_with}
 use Rattle.crx_runs.specs.Engines.{Awaited, EngineAnswers, taken_after, IsDrainedAfter}
 use Rattle.{crx_runs.specs.{declared.engine.Step.Step, meaning.Filters.Filter}, std.proofs.Common.IfOk}
@@ -58,4 +58,4 @@ pub end-drained : {U O K : Type 0} (direction : Direction U O K) (closing ready 
     (before now : RunState O K) (result : Result Step At)
     → step_made result ready now ≡ state_end_with direction closing before
     → IfOk result (λ s. IsDrainedAfter s ready)
-end-drained direction closing ready before now result e = grind (arith, common_steps, quiet-end)
+end-drained direction closing ready before now result e = grind (arith, common_steps)

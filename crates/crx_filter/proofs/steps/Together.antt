@@ -1,8 +1,8 @@
 -- How the parts of a compaction belong together after a line, and what is said of a row that it takes.
 use Rattle.crx_filter.proofs.Words
 use Words.{common_steps, arith, ◌≡◌, ◌++◌, ◌∷◌, [], ℕ, Bool, true, false, not, List}
-use Words.{if◌then◌else◌, Fault, OutOfMemory, None, Option, Ok, sym, ap, subst, ◌∙◌, true≢false, false≢true}
-use Words.{length, is_some, begins_epoch, ObservationHead, Some, has_satellite, ObservationEpoch, OpenEpoch}
+use Words.{if◌then◌else◌, Fault, OutOfMemory, None, Ok, sym, ap, subst, ◌∙◌, true≢false, false≢true}
+use Words.{length, begins_epoch, has_satellite, ObservationEpoch, OpenEpoch}
 use Words.{row_of, Written, is_row, made_at, CompletedEpoch, IsSameReader, MovesReader, TakesRinexLine, Made}
 use Words.{is_open_stage, RinexReader, RinexStep, Stage, Row as ObservationRow}
 use Rattle.crx_compact.specs.{Encoding.{EncoderState, forgotten}, Placing.{HasRoom, HaveRoom, KeepsRooms}}
@@ -190,11 +190,4 @@ module _ {made : Made ObservationEpoch OpenEpoch} {line : List ℕ} {before afte
   begun-together opened = grind (arith, common_steps, open-together, begun-rows, begun-holds)
 
   pub begun-asked : is_open_stage after.stage ≡ false → HasWholeEpoch after new
-  begun-asked closed =
-      let done = begun-whole made line before after begins closed in
-      record {
-        begun = ap (λ (e : EncoderState). e.is_open) begun;
-        head = done.head;
-        held = done.held;
-        counted = ap length begun-rows ∙ done.counted;
-      }
+  begun-asked closed = grind (arith, common_steps, begun-whole, begun-rows)

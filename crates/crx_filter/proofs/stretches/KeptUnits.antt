@@ -1,11 +1,11 @@
 -- Units that are kept after a damaged stretch, whoever wrote them: they are read as themselves, whatever was
 -- read of the stretch.
 use Rattle.crx_filter.proofs
-use proofs.Words.{ℕ, ◌≡◌, ◌+◌, ◌≤◌, At, true, List, [], ◌∷◌, ◌++◌, map, length, Option, None, refl, sym, ◌∙◌}
-use proofs.Words.{arith, append-nil, inl, and_parts, ReadLine, Content, Epoch, FileUnit, HeaderLine}
-use proofs.Words.{EventLine, EventRecord, Observation, begins_epoch, ReadEpoch, Item, header_has_ended}
+use proofs.Words.{ℕ, ◌≡◌, ◌+◌, ◌≤◌, At, true, List, [], ◌∷◌, ◌++◌, map, length, Option, None, refl, ◌∙◌}
+use proofs.Words.{arith, append-nil, inl, and_parts, ReadLine, Content, Epoch, FileUnit, common_steps}
+use proofs.Words.{begins_epoch, ReadEpoch, Item, header_has_ended}
 use proofs.Words.{records_left, types_in_force, Reading, AtLines, reading_from, compact_place, raws_kept}
-use proofs.Words.{IsBetweenUnits, AreInPlace, IsInPlace, by_bool}
+use proofs.Words.{IsBetweenUnits, AreInPlace, IsInPlace}
 use proofs.anywriter.AnyText.{none-left, AreReadOn, read-on}
 use proofs.{reading.{ForwardCompact.compact-forward, Resuming.resumed}, wayback.Carried.{IsLike, started}}
 use proofs.stretches.OpenReading.{IsOpen, open-continued, pending}
@@ -22,10 +22,7 @@ BeginWithMark [] = ⊥
 BeginWithMark (line ∷ others) = begins_epoch line ≡ true
 
 epoch-begins : (now : WrittenEpoch) (lines : List (List ℕ)) → AreEpochLines None now lines → BeginWithMark lines
-epoch-begins now [] h = absurd h
-epoch-begins now (line ∷ []) h = absurd h
-epoch-begins now (line ∷ clock ∷ rows) h = by_bool (begins_epoch line)
-    (λ on. on) (λ off. let never = rw off at h.1 in absurd (cc never))
+epoch-begins now lines h3 = grind (arith, common_steps)
 
 more-begin : (lines more : List (List ℕ)) → BeginWithMark lines → BeginWithMark (lines ++ more)
 more-begin [] more h = absurd h
@@ -34,17 +31,12 @@ more-begin (line ∷ others) more h = h
 unit-begins : (block : List (FileUnit Epoch)) (unit : FileUnit Epoch) (lines : List (List ℕ)) (now : Option WrittenEpoch)
     → IsInPlace (as_items block) unit → header_has_ended (as_items block) ≡ true → records_left (as_items block) ≡ 0
     → AreLinesOfUnit (as_items block) None unit lines now → BeginWithMark lines
-unit-begins block (HeaderLine line) lines now h header left k = let never = sym h.0 ∙ header in absurd (cc never)
-unit-begins block (EventLine line) lines now h header left k =
-    rw k.0 ((and_parts (begins_epoch line) _ h.2).0)
-unit-begins block (EventRecord line) lines now h header left k = absurd (omega (arith, h.1, left))
-unit-begins block (Observation epoch) lines now h header left k = epoch-begins k.0 lines k.3
+unit-begins block unit lines now h5 h6 h7 h8 = grind (arith, common_steps, and_parts, epoch-begins)
 
 pub units-begin : (block units : List (FileUnit Epoch)) (unit : FileUnit Epoch) (lines : List (List ℕ)) (now : Option WrittenEpoch)
     → AreInPlace (as_items (unit ∷ (units ++ block))) → header_has_ended (as_items block) ≡ true
     → records_left (as_items block) ≡ 0 → AreLinesOn block None (unit ∷ units) lines now → BeginWithMark lines
-units-begin block [] unit lines now h header left k =
-    rw (k.4, (k.3).0) (unit-begins block unit k.2 now h.0 header left (rw (k.3).1 at k.5))
+units-begin block [] unit lines now h header left k = grind (arith, common_steps, unit-begins)
 units-begin block (next ∷ units) unit lines now h header left k =
     rw k.4 (more-begin k.1 k.2 (units-begin block units next k.1 k.0 h.1 header left k.3))
 
@@ -67,13 +59,7 @@ pub record CanGoOnAs (block : List (FileUnit Epoch)) (items : List (Item ReadEpo
   pub types : types_in_force items ≡ types_in_force (as_items block)
 
 pub like-block : (block : List (FileUnit Epoch)) (items : List (Item ReadEpoch)) → CanGoOnAs block items → IsLike items block
-like-block block items h = record {
-  header = (h.between).header ∙ sym h.header;
-  start = started items (h.between).header ∙ sym (started (as_items block) h.header);
-  left = (h.between).none ∙ sym h.left;
-  counts = λ some. absurd (omega (arith, some, (h.between).none));
-  types = h.types;
-}
+like-block block items h = grind (arith, common_steps, started)
 
 pub units-kept : (block kept : List (FileUnit Epoch)) (lines : List (List ℕ)) (last : Option WrittenEpoch)
     (items : List (Item ReadEpoch)) (so_far : List ReadLine) → CanGoOnAs block items → AreInPlace (as_items (kept ++ block))

@@ -142,14 +142,13 @@ none-found : (read : ℕ → List ReadLine → Reading ReadEpoch) (items : List 
     → (last : ℕ) × (looked_for read items number lines ≡ record { items = items; stop = Looking last })
 none-found read items number [] h = (number, refl)
 none-found read items number (Overlong ∷ lines) h = absurd (cc h)
-none-found read items number (Content line ∷ lines) h =
-    grind (
-      arith,
-      and_parts,
-      not-true,
-      none-found read items (number + 1) lines (and_parts (is_inside
-          (Content line)) _ h).1,
-    )
+none-found read items number (Content line ∷ lines) h = grind (
+  arith,
+  common_steps,
+  none-found read items (number + 1) lines (and_parts (is_inside (Content line)) _ h).1,
+  and_parts,
+  not-true,
+)
 
 inside-from : (n : ℕ) (lines : List ReadLine) → 0 < n → list_all is_inside (drop 1 lines) ≡ true
     → list_all is_inside (drop n lines) ≡ true

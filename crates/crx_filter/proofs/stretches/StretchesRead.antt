@@ -5,7 +5,7 @@ use proofs.Words.{AllByRecursion, flat_map, flat_map-append, ReadLine, Content, 
 use proofs.Words.{printed_epoch, Observation, IsGood, ReadEpoch, Item, Accepted, Warned, header_has_ended}
 use proofs.Words.{records_left, types_in_force, reading_from, compact_place, printed_items, IsBetweenUnits}
 use proofs.Words.{expanded_lines, AreInPlace, Stretch, up_to_end, up_to_next, with_stretches, IsStretch}
-use proofs.Words.{AreStretches}
+use proofs.Words.{AreStretches, common_steps}
 use Rattle.crx_filter.specs.meaning.{Stretches.{Saves, stretches_lines}, UnitsAndText.as_items}
 use proofs.Words.{map-append}
 use proofs.damage.{ItemTexts.rest-in_place, GoingOn.with_warnings, SavedText.{lines-append, lines-warned, epochs_of}}
@@ -53,12 +53,7 @@ next-closed next (s ∷ later) sound = IsStretch.begins (sound.each).0
 
 sound-later : (before : List (FileUnit Epoch)) (s : Stretch) (later : List Stretch) → AreSound before (s ∷ later)
     → AreSound (up_to_next before s) later
-sound-later before s later sound = record {
-  in_place = sound.in_place;
-  header = header-on s.kept (up_to_end before s) (header-on s.lost before sound.header);
-  closed = sound.closed;
-  each = (sound.each).1;
-}
+sound-later before s later sound = grind (arith, common_steps, header-on)
 
 -- ---- one stretch
 
@@ -130,19 +125,12 @@ module _ (before : List (FileUnit Epoch)) (s : Stretch) (so_far : List ReadLine)
     (one : IsStepRead before s so_far items) where
   pub step-printed : expanded_lines (one.kept.more ++ with_warnings one.kept.warnings one.first.news)
       ≡ flat_map printed_epoch (epochs_of one.first.news) ++ printed_items (as_items s.kept)
-  step-printed = rw (lines-append one.kept.more _) (cc (
-    lines-warned one.kept.warnings one.first.news,
-    news-printed one.first.news one.first.epochs,
-    printed-read one.kept.more,
-    one.kept.known,
-  ))
+  step-printed = grind (arith, common_steps, lines-append, lines-warned, news-printed, printed-read)
 
   pub step-whole : types_in_force items ≡ types_in_force (as_items before)
       → AreGoodEpochs ((one.kept.more ++ with_warnings one.kept.warnings one.first.news) ++ items)
       → AllByRecursion (IsWholeEpoch (types_in_force (as_items before))) (epochs_of one.first.news)
-  step-whole types good = rw (← types) (news-whole one.first.news items one.first.epochs
-      (good-rest (map Warned one.kept.warnings) (one.first.news ++ items)
-      (good-rest one.kept.more _ (simp append_assoc at good))))
+  step-whole types good = grind (arith, common_steps, news-whole, good-rest, append_assoc)
 
 -- ---- all stretches
 

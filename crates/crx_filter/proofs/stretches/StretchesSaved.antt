@@ -1,8 +1,8 @@
 -- What an expansion that skips faults writes and reports of a text that is damaged in stretches.
 use Rattle.crx_filter.proofs
-use proofs.Words.{ℕ, ◌≡◌, ◌+◌, true, List, [], ◌∷◌, ◌++◌, map, length, reverse, None, refl, ap, ◌∙◌, subst}
-use proofs.Words.{append-nil, inl, lines_of, lines_text, ReadLine, Content, as_read, Epoch, FileUnit, ReadEpoch, Choices}
-use proofs.Words.{Item, Reading, reading_from, ended_reading, compact_place, expanded}
+use proofs.Words.{ℕ, ◌≡◌, ◌+◌, true, List, [], ◌∷◌, ◌++◌, map, reverse, None, refl, ap, ◌∙◌, subst, arith}
+use proofs.Words.{append-nil, lines_of, lines_text, ReadLine, Content, as_read, Epoch, FileUnit, ReadEpoch, Choices}
+use proofs.Words.{Item, Reading, reading_from, ended_reading, compact_place, expanded, common_steps}
 use proofs.Words.{whole_compact, printed_items, warnings_in, notices_text, expanded_lines, ItemsAreRead, FilterResult, Stretch}
 use proofs.Words.{with_stretches}
 use Rattle.crx_filter.specs.meaning.{Stretches.{HasStretches, KeepsTheRest, stretches_lines}, UnitsAndText.as_items}
@@ -28,12 +28,7 @@ pub record IsWrittenFor (before : List (FileUnit Epoch)) (items more : List (Ite
 module _ (before : List (FileUnit Epoch)) (stretches : List Stretch) (damaged : List ℕ)
     (d : HasStretches before stretches damaged) where
   pub sound : AreSound before stretches
-  sound = record {
-    in_place = in-place (with_stretches before stretches) (d.file).in_place;
-    header = d.header;
-    closed = (d.file).complete;
-    each = d.each;
-  }
+  sound = grind (arith, common_steps, in-place)
 
   -- how the lines before the first stretch are read
   pub front : AreRead true 3 before (d.text).lines (d.text).last
@@ -43,14 +38,7 @@ module _ (before : List (FileUnit Epoch)) (stretches : List Stretch) (damaged : 
   old = map Content (d.text).lines
 
   pub come : WereReadAs old front.items before
-  come = record {
-    stops = inl (3 + length (d.text).lines, [], refl, compact-forward.wants front.items, front.reads);
-    between = record {
-      header = (front.like).header ∙ d.header;
-      none = (front.like).left ∙ next-closed before stretches sound;
-    };
-    types = (front.like).types;
-  }
+  come = grind (arith, common_steps, compact-forward, front, next-closed, sound)
 
   pub written-for : (expanding : Choices) → expanding.skip ≡ true → (lines : List ReadLine)
       → old ++ stretches_lines stretches ≡ lines → (more : List (Item ReadEpoch)) (after : List (FileUnit Epoch))

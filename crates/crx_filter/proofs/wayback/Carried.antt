@@ -57,14 +57,6 @@ record-here beginning items line other ended_reading e some good = grind arith
 
 -- ---- one unit after another
 
--- one unit more, which takes all lines there
-one-unit : {E : Type 0} (place : List (Item E) → List ReadLine → Place (FileUnit E)) → IsReadForward place
-    → (skip : Bool) (items : List (Item E)) (number : ℕ) (lines : List ReadLine) (unit : FileUnit E)
-    → place items lines ≡ Done unit (length lines) → reading_from place skip items number lines
-    ≡ record { items = Accepted unit ∷ items; stop = AtLines (number + length lines) [] }
-one-unit place h skip items number lines unit e =
-    grind (arith, enough-units, within-here, drop_all, within-wanted)
-
 -- so many lines were read to their end, after some items
 abbrev pub AllRead : {E : Type 0} → (List (Item E) → List ReadLine → Place (FileUnit E)) → Bool
     → List (Item E) → ℕ
@@ -79,4 +71,4 @@ pub unit-more : {E : Type 0} (place : List (Item E) → List ReadLine → Place 
     → AllRead place skip before number first items → place items (map Content more) ≡ Done unit (length more)
     → AllRead place skip before number (first ++ more) (Accepted unit ∷ items)
 unit-more place h skip before items number first more unit e f =
-    grind (arith, map-append, resumed, one-unit, length-map, length-append)
+    grind (arith, map-append, resumed, enough-units, within-here, drop_all, within-wanted, length-map, length-append)

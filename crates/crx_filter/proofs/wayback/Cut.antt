@@ -4,7 +4,7 @@ use Rattle.crx_filter.proofs.Words
 use Words.{common_steps, arith, ℕ, ◌≡◌, ◌≢◌, ◌≤◌, true, false, cond, ◌⊎◌, List, [], ◌∷◌, map, length, refl}
 use Words.{ap, append_assoc, ⊤, ◌==◌, AllByRecursion, All-head, All-tail, All-cons, All-nil, ltb-false}
 use Words.{eqb_tells, Piece, InputLine, pieces_of, onto_first, ends_with_return, without_return, line_of}
-use Words.{lines_of, HasNoFeed, ReadLine, Content, Overlong, as_read, LINE_LIMIT, lines_text, by_bool}
+use Words.{lines_of, HasNoFeed, ReadLine, Content, Overlong, as_read, LINE_LIMIT, lines_text}
 use Rattle.{crx_lines.proofs.PieceLemmas.{pieces-first, NoFeed}, std.proofs.lemmas.Bool.le-ltb}
 
 -- a line that is read as it was written
@@ -67,8 +67,7 @@ no_feed-without_return (b ∷ c ∷ bs) h = All-cons NoFeed b _
 pieces-stand : (ps : List Piece)
     → AllByRecursion FeedsNone ps → AllByRecursion (OfContent CanStand) (map as_read (map line_of ps))
 pieces-stand [] h = tt
-pieces-stand (p ∷ ps) h =
-    (grind (arith, by_bool, ltb-false, no_feed-without_return p.bytes h.0), pieces-stand ps h.1)
+pieces-stand (p ∷ ps) h = grind (arith, common_steps, pieces-stand ps h.1, ltb-false, no_feed-without_return)
 
 pub input-stands : (input : List ℕ) → AllByRecursion (OfContent CanStand) (map as_read (lines_of input))
 input-stands input = pieces-stand (pieces_of input) (pieces-no_feed input)

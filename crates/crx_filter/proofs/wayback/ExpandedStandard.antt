@@ -1,11 +1,11 @@
 -- What an expansion writes is standard: what was read of compact text is in place, as units of RINEX, and
 -- what is copied is a line.
 use Rattle.crx_filter.proofs
-use proofs.Words.{common_steps, [], ℕ, ◌≡◌, ◌+◌, Bool, true, List, ◌∷◌, ◌++◌, map, length, drop, Option, None}
+use proofs.Words.{common_steps, [], ℕ, ◌≡◌, ◌+◌, Bool, true, List, ◌∷◌, ◌++◌, map, length, drop, None}
 use proofs.Words.{refl, ap, ◌∙◌, subst, arith, ⊤, AllByRecursion, list_all, and_parts, not-true, HasNoFeed}
 use proofs.Words.{Piece, InputLine, line_of, lines_text, ReadLine, Count, types_of, IsWholeEpoch, Epoch}
 use proofs.Words.{FileUnit, HeaderLine, EventRecord, Observation, printed_unit, ReadEpoch, Choices}
-use proofs.Words.{compact_place, raws_kept, first_lines, whole_compact, expanded_unit, expanded, Item}
+use proofs.Words.{compact_place, raws_kept, first_lines, whole_compact, expanded_unit, Item}
 use proofs.Words.{Accepted, Warned, is_at_start, header_has_ended, records_left, records_count_types}
 use proofs.Words.{declaring_lines, types_in_force, WholeReading, reading_from, ended_reading, printed_items}
 use proofs.Words.{OfCopiedLine, OfCopiedLines, HaveNoReturns, written_lines, ItemsAreRead}

@@ -1,8 +1,8 @@
 -- What was accepted of compact text: each epoch is whole, by the types in force where it was read.
 use Rattle.crx_filter.proofs.Words
 use Words.{[], ℕ, ◌≡◌, List, ◌∷◌, ⊤, AllByRecursion, ReadLine, Count, Done, FileUnit, HeaderLine, EventLine}
-use Words.{EventRecord, Observation, RawEpoch, ReadEpoch, epoch_at, IsGood, Item, Accepted, Warned}
-use Words.{records_count_types, types_in_force, raws_kept, empties_state, compact_place, ItemsAreRead}
+use Words.{EventRecord, Observation, RawEpoch, ReadEpoch, epoch_at, IsGood, Item, Accepted, Warned, arith}
+use Words.{types_in_force, raws_kept, compact_place, ItemsAreRead, common_steps}
 use Rattle.crx_filter.proofs.reading.{ForwardCompact.compact_beginning, Types.counts-in_force}
 use Rattle.crx_filter.proofs.reading.WhatStands.{OfHere, chosen, of-unit, of-compact}
 use Rattle.crx_compact.{proofs.soundness.Goodness.reads-whole, specs.ReadingLaws.HasPrintableMarks}
@@ -44,8 +44,7 @@ marks-printable [] h = tt
 marks-printable (Accepted (HeaderLine line) ∷ before) h = tt
 marks-printable (Accepted (EventLine line) ∷ before) h = marks-printable before h
 marks-printable (Accepted (EventRecord line) ∷ before) h =
-    chosen (λ raws. AllByRecursion HasPrintableMarks raws)
-    (empties_state (records_count_types before) line) [] (raws_kept before) tt (marks-printable before h)
+    grind (arith, common_steps, marks-printable before h, chosen)
 marks-printable (Accepted (Observation read) ∷ before) h = ((h.0).marks, marks-printable before h.1)
 marks-printable (Warned at ∷ before) h = tt
 

@@ -14,7 +14,7 @@ use proofs.{following.Following.body-place, reading.{Forward.rinex-forward}}
 use proofs.reading.{Forward.rinex_beginning, KeptThroughout.within-kept, WhatWasRead.of-ended}
 use proofs.wayback.Carried.{units_in, units-like, units-placed, header-here, record-here, AllRead, unit-more}
 use proofs.reading.{Ending.closes-well}
-use proofs.Words.{Bool, IsInPlace, records_left, ended_reading}
+use proofs.Words.{Bool, IsInPlace, ended_reading, common_steps}
 use Rattle.crx_filter.specs.meaning.UnitsAndText.{as_items}
 use proofs.wayback.Converse.{lines-plain, epoch-printable, all-plain, contents-plain}
 use proofs.wayback.{Cut.{IsClean, CanStand, lines-cut}, WayBack.{IsSettled, whole-settled, written-all, copied-clean, epoch-clean}}
@@ -31,8 +31,7 @@ stands : (items : List (Item Epoch)) (unit : FileUnit Epoch) → IsInPlace items
 stands items (HeaderLine line) h = header-here rinex_beginning items line h.0 h.1
 stands items (EventLine line) h = body-place rinex_beginning items (Content line ∷ []) h.0 h.1
     ∙ event-stands (types_in_force items) line _ refl h.3 h.2
-stands items (EventRecord line) h = record-here rinex_beginning items line
-    (records_left items) h.0 refl h.1 h.2
+stands items (EventRecord line) h = grind (arith, common_steps, record-here, rinex_beginning)
 stands items (Observation epoch) h =
     let lines = map Content (printed_epoch epoch) in
     let counted : length epoch.rows + 1 ≡ length (printed_epoch epoch) = omega

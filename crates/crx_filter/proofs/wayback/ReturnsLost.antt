@@ -1,13 +1,13 @@
 -- A file comes back byte for byte only where no copied line ends in CR: else it comes back with fewer bytes
 -- 13. So it is standard.
 use Rattle.crx_filter.proofs
-use proofs.Words.{ℕ, ◌≡◌, ◌+◌, ◌<◌, ◌≤◌, Bool, true, false, List, [], ◌∷◌, map, drop, Option, refl}
-use proofs.Words.{arith, ◌⊎◌, inl, AllByRecursion, list_all, HasNoFeed, ends_with_return, without_return}
+use proofs.Words.{ℕ, ◌≡◌, ◌+◌, ◌<◌, ◌≤◌, Bool, true, List, [], ◌∷◌, map, drop, Option, refl}
+use proofs.Words.{arith, ◌⊎◌, inl, AllByRecursion, list_all, HasNoFeed, without_return}
 use proofs.Words.{lines_of, ReadLine, as_read, is_printable, Epoch, printed_epoch, lines_text}
 use proofs.Words.{Observation, ReadEpoch, compact_epoch, LinesCanStand, IsGood}
 use proofs.Words.{Choices, is_date, Item, Accepted, Warned, types_in_force, WholeReading, reading_from}
-use proofs.Words.{FilterResult, marked_epochs, compact_lines, version_line, program_line, compact_place}
-use proofs.Words.{first_lines, whole_compact, expanded, expanded_lines, AreInPlace}
+use proofs.Words.{marked_epochs, compact_lines, version_line, program_line, compact_place}
+use proofs.Words.{first_lines, whole_compact, expanded_lines, AreInPlace}
 use proofs.Words.{HaveNoReturns, OfCopiedLine, FileUnit}
 use proofs.reading.{Each.{all-from}, Resuming.by_place, WhatWasRead.{items-read, of-ended}}
 use proofs.{anywriter.ComesBack.standard-where_kept, wayback.{Converse.epoch-printable, Items.{marked_now, body_unit, epoch-stands}}}
@@ -40,11 +40,6 @@ whole-good skip lines = by_place (first_lines lines) (λ two count e.
     rw (e, whole_compact) (of-ended AreGoodEpochs skip r.items r.stop good (λ at on. good)))
     (λ offset fault e. rw (e, whole_compact) tt) (λ e. rw (e, whole_compact) tt)
 
--- an expansion writes no more of them than it reads
-expanded-returns : (text : List ℕ) (choices : Choices)
-    → returns (FilterResult.output (expanded text choices)) ≤ returns_read (map as_read (lines_of text))
-expanded-returns text choices = search (written-returns, whole-good, in-text, compact-within)
-
 -- ---- compact text
 
 -- what is left of copied lines once one CR is taken off the end of each
@@ -60,14 +55,9 @@ left-all (Warned at ∷ before) = left-all before
 abbrev KeepsOrLoses : List (Item Epoch) → Type 0
 KeepsOrLoses items = HaveNoReturns items ⊎ (left_copied items < returns_copied items)
 
-one-line : (line : List ℕ) (before : List (Item Epoch)) → KeepsOrLoses before
-    → ((ends_with_return line ≡ false) × HaveNoReturns before)
-    ⊎ (returns (without_return line) + left_copied before < returns line + returns_copied before)
-one-line line before h = grind (arith, returns-fewer, left-all, returns-kept)
-
 keeps-or_loses : (items : List (Item Epoch)) → KeepsOrLoses items
 keeps-or_loses [] = inl tt
-keeps-or_loses (Accepted unit ∷ before) = grind (arith, one-line, keeps-or_loses before)
+keeps-or_loses (Accepted unit ∷ before) = grind (arith, returns-fewer, left-all, returns-kept, keeps-or_loses before)
 keeps-or_loses (Warned at ∷ before) = keeps-or_loses before
 
 -- the lines of compact text after its first two
@@ -130,7 +120,10 @@ standard-where_same input compacting expanding dated good same = grind (
   same-reading,
   keeps-or_loses,
   standard-where_kept,
-  expanded-returns,
+  written-returns,
+  whole-good,
+  in-text,
+  compact-within,
   compacted-returns,
   whole-settled,
   rinex-within,

@@ -1,7 +1,7 @@
 -- The two texts of units that make a file; and each standard file is such a text.
 use Rattle.crx_filter.proofs.Words
-use Words.{common_steps, arith, ℕ, ◌≡◌, List, [], ◌∷◌, map, Option, None, refl, ap, sym, ◌∙◌, lines_of}
-use Words.{lines_text, as_read, At, Epoch, FileUnit, Choices, compacted, Item}
+use Words.{common_steps, arith, ℕ, ◌≡◌, List, [], ◌∷◌, map, None, refl, ap, sym, ◌∙◌, lines_of}
+use Words.{lines_text, as_read, Epoch, FileUnit, Choices, compacted, Item}
 use Words.{WholeReading, printed_items, whole_of, IsStandard, OfCopiedLines, HaveNoReturns}
 use Words.{written_well, warnings_in, AreInPlace}
 use Rattle.crx_filter.proofs.wayback.NormalForm.{printed-again, accepted-all, whole-none, settled-standard}
