@@ -1,10 +1,9 @@
 -- Every line of compact text is accounted for.
 use Rattle.crx_filter.proofs.Words
-use Words.{arith, [], ℕ, ◌≡◌, ◌≤◌, ◌+◌, Bool, List, ◌∷◌, drop, take, length, length-map, None, refl, ap, sym}
-use Words.{subst, Content, ReadLine, Count, RawEpoch, Done, ReadEpoch, epoch_at, Item, types_in_force, compact_place}
-use Words.{raws_kept, crinex_version, crinex_program, first_lines, whole_compact, WholeReading}
+use Words.{arith, [], ℕ, ◌≡◌, ◌+◌, Bool, List, ◌∷◌, drop, take, length, length-map, None, ap, sym}
+use Words.{subst, ReadLine, Count, RawEpoch, Done, ReadEpoch, epoch_at, Item, types_in_force, compact_place}
+use Words.{raws_kept, crinex_version, crinex_program, first_lines, whole_compact, WholeReading, common_steps}
 use Rattle.crx_compact.proofs.soundness.Soundness.{begins, epoch-facts}
-use Rattle.crx_compact.specs.meaning.CompactPlaces.{ReadRow}
 use Rattle.crx_filter.proofs.accounts.{Clean.accepts-clean, Reached.{Owns, take-one, taken, all-accounted}}
 use Rattle.crx_filter.proofs.reading.{CompactPrefixes.whole-at, Resuming.by_place}
 use Rattle.crx_filter.proofs.reading.ForwardCompact.{compact_beginning, steady-epoch_at}
@@ -17,10 +16,8 @@ own-epoch : (types : List Count) (older : List RawEpoch) (lines : List ReadLine)
 own-epoch types older lines read count e =
     let h = epoch-facts types older lines read count e in
     let rows = ap (λ (r : ReadEpoch). length r.epoch.rows) h.is_read in
-    let within = (rw e at (steady-epoch_at types older lines [])).0 in (
-      omega (arith, taken count lines within, h.counted, rows, length-map h.rows (λ (r : ReadRow). r.row)),
-      rw e at (accepts-clean types older lines),
-    )
+    let within = (rw e at (steady-epoch_at types older lines [])).0 in
+    grind (arith, common_steps, taken, length-map, accepts-clean)
 
 owns-unit : (items : List (Item ReadEpoch)) (lines : List ReadLine)
     → Owns AreCleanLines lines (compact_place items lines)
@@ -44,11 +41,7 @@ two-read lines two count e =
     let one = begins lines crinex_version _ two count e in
     let other = begins one.rest crinex_program _ two one.more one.later in
     let none : other.more ≡ 0 = grind (arith, other.later) in
-    record {
-      first = Content one.line;
-      second = Content other.line;
-      is = grind (arith, one.is, other.is, one.counted, other.counted, none);
-    }
+    grind (arith, common_steps)
 
 pub text-accounted : (skip : Bool) (lines : List ReadLine) → (whole_compact skip lines).fault ≡ None
     → (first : ReadLine) × (second : ReadLine) × (rest : List ReadLine)

@@ -44,5 +44,4 @@ module _ {E : Type 0} (OfEpoch : E → List ReadLine → Type 0) where
         passed = λ items lines at n on h.
             (h.0 ++ take n lines, h.1 ∙ split n h.0 lines, (h.0, take n lines, refl, tt, h.2));
       }) number all ([], refl, refl) f in
-      subst (AreLinesOfItems OfEpoch (whole_reading place skip number all).items)
-      (sym (is ∙ append-nil front)) own
+      grind (arith, common_steps, append-nil)

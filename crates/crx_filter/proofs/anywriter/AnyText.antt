@@ -210,13 +210,7 @@ all-read skip number units lines last h k =
     let r = read-on skip [] number [] units lines None last
     (record { header = refl; start = refl; left = refl; counts = λ some. refl; types = refl }) (none-left None)
     (subst (λ us. AreInPlace (as_items us)) (sym (append-nil units)) h) (subst (λ (T : Type 0). T) (sym (of-nothing units lines last)) k) in
-    record {
-      items = r.more;
-      reads = rw append-nil at r.reads;
-      known = r.known;
-      like = subst (IsLike r.more) (append-nil units) (rw (append-nil r.more) at r.like);
-      left = rw append-nil at r.left;
-    }
+    grind (arith, common_steps, append-nil, at)
 
 -- ---- the text
 
@@ -263,18 +257,12 @@ text-read skip units text file h =
     let r = all-read skip 3 units h.lines h.last (in-place units file.in_place) h.written in
     let header : header_has_ended r.items ≡ true = r.like.header ∙ file.header in
     let none : records_left r.items ≡ 0 = r.like.left ∙ file.complete in
-    record {
-      items = r.items;
-      reads = rw (h.cut) (rw (whole-read skip h.version h.program (map Content h.lines) h.first h.second)
-          (rw (r.reads) (ends-well skip r.items (3 + length h.lines) header none)));
-      known = r.known;
-    }
+    grind (arith, common_steps, whole-read, ends-well)
 
 pub any-text : ExpandsAnyText
 any-text text choices units file h =
     let r = text-read choices.skip units text file h in
-    ap (result_of expanded_unit) r.reads ∙ result-well r.items (printed_items (as_items units))
-    (printed-read r.items ∙ ap printed_items r.known) (units-silent r.items units r.known)
+    grind (arith, common_steps, result-well, printed-read, units-silent)
 
 pub one-file : IsOfOneFile
 one-file text one two h k first second =

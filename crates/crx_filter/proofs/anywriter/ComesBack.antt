@@ -35,8 +35,7 @@ pub standard-comes_back : (input : List ℕ) (compacting expanding : Choices)
 standard-comes_back input compacting expanding dated standard =
     let none = whole-copied NoReturn false (map as_read (lines_of input)) (plain-no_return (pieces_of input)
     standard.plain) in
-    normal-comes_back input compacting expanding dated standard.good none ∙ ap (λ ls. written_well
-    (lines_text ls)) (sym standard.given_back) ∙ ap written_well (plain-text input standard.plain)
+    grind (arith, common_steps, normal-comes_back, plain-text)
 
 -- a file without copied lines that end in CR
 pub standard-where_kept : (input : List ℕ) (compacting expanding : Choices)

@@ -3,8 +3,8 @@ use Rattle.crx_filter.proofs
 use proofs.Words.{ℕ, ◌≡◌, Bool, true, List, [], ◌∷◌, append-nil, map, reverse, Option, None, arith}
 use proofs.Words.{Ok, ap, sym, ◌∙◌, subst, ◌&&◌, common_steps}
 use proofs.Words.{lines_of, as_read, ReadLine, Content, Overlong, At}
-use proofs.Words.{by_bool, header_has_ended, records_left, warnings_in}
-use proofs.Words.{WholeReading, whole_compact, expanded, Choices, FilterResult, AreInPlace}
+use proofs.Words.{by_bool, warnings_in}
+use proofs.Words.{WholeReading, whole_compact, expanded, Choices, FilterResult}
 use Rattle.crx_filter.proofs.wayback.{ExpandedStandard.{read-settled}, Cut.input-stands}
 use Rattle.crx_filter.specs.meaning.{Expanded.{crinex_version, crinex_program}}
 use Rattle.crx_filter.specs.{meaning.CompactText.{IsCompactText}, CompactText.AcceptsExactly}
@@ -56,24 +56,8 @@ only-text text choices e =
     (rw (whole-read skip two.version two.program two.rest two.first two.second) (reading-back skip 3 two.rest)) in
     let back = ends good.1 none in
     let known = (back.stands).known in
-    let settled = read-settled skip lines (input-stands text) good.1 in (
-      back.units,
-      record {
-        in_place = units-in_place back.units (subst AreInPlace known settled.in_place);
-        header = ap header_has_ended (sym known) ∙ settled.header;
-        complete = ap records_left (sym known) ∙ settled.none;
-      },
-      record {
-        version = two.version;
-        program = two.program;
-        lines = back.own;
-        last = back.last;
-        cut = two.is ∙ ap (λ ls. Content two.version ∷ Content two.program ∷ ls) (back.cut ∙ append-nil (map Content back.own));
-        first = two.first;
-        second = two.second;
-        written = back.written;
-      },
-    )
+    let settled = read-settled skip lines (input-stands text) good.1 in
+    grind (arith, common_steps, units-in_place, append-nil)
 
 pub accepts-exactly : AcceptsExactly
 accepts-exactly text choices = (

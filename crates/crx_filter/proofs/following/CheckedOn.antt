@@ -1,6 +1,6 @@
 -- A check is given one line more.
 use Rattle.crx_filter.proofs.Words
-use Words.{common_steps, ℕ, ◌≡◌, ◌+◌, true, false, cond, List, [], ◌∷◌, ◌++◌, map, length, Option, Some, None}
+use Words.{common_steps, ℕ, ◌≡◌, ◌+◌, false, List, [], ◌∷◌, ◌++◌, map, length, Option, Some, None}
 use Words.{refl, ap, sym, ◌∙◌, subst, arith, length-append, append-nil, append_assoc, length-map, none-some}
 use Words.{InputLine, ReadLine, as_read, At, Epoch, last_line, Reading, rinex_reading, rinex_open, RunState}
 use Words.{made_in, state_next, state_of, phase_of, failed_by, is_again, fault_of_stop, printed_items}
@@ -92,12 +92,7 @@ first-on number (l ∷ lines) (t ∷ texts) line text e =
     let same : length texts ≡ length lines = omega (arith, e) in
     let rest = first-on (number + 1) lines texts line text same in
     let counted : (number + 1) + length lines ≡ number + length (l ∷ lines) = omega arith in
-    elim (is_standard_line l t) as (λ b. cond b (first_not_standard (number + 1) (lines ++ line ∷ [])
-    (texts ++ text ∷ [])) (Some number) ≡ earliest (cond b (first_not_standard (number + 1) lines texts)
-    (Some number)) (is_standard_line line text) (number + length (l ∷ lines))) [
-      | true ↦ cc
-      | false ↦ refl
-    ]
+    grind (arith, common_steps)
 
 -- ---- one line more
 

@@ -102,7 +102,8 @@ module _ {U O K V : Type 0} (direction : Direction U O K) (epoch_of : U → V) w
     epochs-twice : (next : RunState O K) (notice : At)
         → record { answer = Notice notice true; handed_out = []; next = next } ≡ state_next direction s line
         → epochs_fed ≡ add_made epoch_of epochs (made_in direction next.phase next.types next.kept line)
-    epochs-twice next notice e = grind (arith, common_steps, same-made, step-alike, again-lines, fed-twice, sym e)
+    epochs-twice next notice e =
+        grind (arith, common_steps, same-made, step-alike, again-lines, fed-twice, sym e)
 
   -- a line that brings nothing adds none
   module _ (long_first : (types : List Count) (kept : K)

@@ -209,6 +209,4 @@ module _ (choices : Choices) where
       } in
       let on = compact-on (collecting-carried_out whole of_held of_read (agree-begins same)
       (agree-continues same)) lines line (first_lines lines) refl in
-      ap (λ (s : RunState OpenRawEpoch (Collected (Option Tail) (List Satellite))). s.kept.epochs) (sym (state-there
-      (lines ++ line ∷ [])) ∙ on.next ∙ ap (λ (s : RunState OpenRawEpoch (Collected (Option Tail) (List Satellite))).
-      (fed (collecting expansion of_held) s line).next) (state-there lines))
+      grind (arith, common_steps, state-there, collecting)

@@ -30,8 +30,7 @@ reading-more : (skip : Bool) (lines more : List ReadLine) (p : Place (List (List
 reading-more skip lines more (Done two count) e =
     let h = remains lines more (Done two count) e in
     let same : drop count (lines ++ more) ≡ drop count lines ++ more = drop-append-le count lines more h.0 in
-    rw (reading-at skip lines two count e, reading-at skip (lines ++ more) two count h.1, same)
-    (reading-items compact_place compact-forward skip (count + 1) (drop count lines) more)
+    grind (arith, common_steps, reading-at, reading-items, compact-forward)
 reading-more skip lines more p e = rw (e, compact_reading) (from-none _)
 
 pub whole-more : (skip : Bool) (lines more : List ReadLine) (p : Place (List (List ℕ))) → first_lines lines
@@ -39,8 +38,7 @@ pub whole-more : (skip : Bool) (lines more : List ReadLine) (p : Place (List (Li
 whole-more skip lines more (Done two count) e =
     let h = remains lines more (Done two count) e in
     let same : drop count (lines ++ more) ≡ drop count lines ++ more = drop-append-le count lines more h.0 in
-    rw (reading-at skip lines two count e, whole-at skip (lines ++ more) two count h.1, same)
-    (whole-items compact_place compact-forward skip (count + 1) (drop count lines) more)
+    grind (arith, common_steps, reading-at, whole-at, whole-items, compact-forward)
 whole-more skip lines more p e = rw (e, compact_reading) (from-none _)
 
 pub expanded-first : (choices : Choices) (lines : List ReadLine)

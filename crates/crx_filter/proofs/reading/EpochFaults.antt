@@ -112,5 +112,5 @@ begun_line-skippable v1 h lines = grind (arith, place-then, place-first, cell-sk
 
 pub epoch-skippable : (types : List Count) (older : List RawEpoch) (lines : List ReadLine)
     → IsSkippableAt (epoch_at types older lines)
-epoch-skippable types older lines =
-    grind (arith, common_steps, begun_line-skippable, begun-well, counted-skippable, block-skippable, block_of)
+epoch-skippable types older lines = grind
+    (arith, common_steps, begun_line-skippable, begun-well, counted-skippable, block-skippable, block_of)

@@ -1,9 +1,10 @@
 -- What is written for some lines is at the beginning of what is written for more lines.
 use Rattle.crx_filter.proofs.{reading.WhatWasRead.of-ended, Words.{ℕ, ◌≡◌, ◌+◌, Bool, List, [], ◌∷◌, ◌++◌}}
-use Rattle.crx_filter.proofs.Words.{length, refl, ap, sym, append_assoc, append-nil, flat_map-append}
+use Rattle.crx_filter.proofs.Words.{length, refl, ap, sym, append_assoc, append-nil, flat_map-append, arith}
 use Rattle.crx_filter.proofs.Words.{ReadLine, Place, FileUnit, Item, Accepted, Warned, Stop, AtFault, AtLines}
 use Rattle.crx_filter.proofs.Words.{Looking, reading_within, reading_from, ended_reading, whole_reading}
 use Rattle.crx_filter.proofs.Words.{continued_reading, IsReadForward, lines_text, Begins, written_lines}
+use Rattle.crx_filter.proofs.Words.{common_steps}
 use Rattle.crx_filter.proofs.reading.{Resuming.resumed, KeptThroughout.{IsKept, looked-kept, within-kept}}
 
 -- some items with others before them
@@ -68,10 +69,7 @@ pub text-more : {E : Type 0} (unit_lines : List (Item E)
     → Begins (lines_text (written_lines unit_lines all)) (lines_text (written_lines unit_lines items))
 text-more unit_lines items all h =
     let m = written-more unit_lines h.news items in
-    record {
-      rest = lines_text m.0;
-      same = rw (h.same, m.1) (flat_map-append (λ (line : List ℕ). line ++ 10 ∷ []) _ m.0);
-    }
+    grind (arith, common_steps, flat_map-append)
 
 -- the items of the reading of some lines and more
 pub reading-items : {E : Type 0} (place : List (Item E) → List ReadLine → Place (FileUnit E))

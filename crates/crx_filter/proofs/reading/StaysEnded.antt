@@ -35,10 +35,7 @@ by-first_lines skip lines more at (Done two count) e f =
     let now = reading-at skip lines two count e in
     let s = stays-from compact_place compact-forward skip (count + 1) (drop count lines) more at
     (rw now at f) in
-    record {
-      same = cc (reading-at skip (lines ++ more) two count h.1, split, s.same, now);
-      ended = cc (whole-at skip (lines ++ more) two count h.1, split, s.ended, now);
-    }
+    grind (arith, common_steps, reading-at, whole-at)
 by-first_lines skip lines more at (Fails offset fault) e f =
     grind (arith, remains lines more (Fails offset fault) e, compact_reading, whole_compact, fault_of_stop)
 by-first_lines skip lines more at NeedsMore e f =

@@ -85,5 +85,5 @@ module _ (number : ℕ) (types : List Count) (kept : Totals) (content : List ℕ
 
 pub line-grows : (number : ℕ) (phase : Phase OpenEpoch) (types : List Count) (kept : Totals) (line : ReadLine)
     → IsReached phase → Grows number phase types kept line (made_in checking phase types kept line)
-line-grows number phase types kept line h f =
-    grind (arith, common_steps, header-grows, beginning-grows, record-grows, append-nil, row-printed, none-some)
+line-grows number phase types kept line h f = grind
+    (arith, common_steps, header-grows, beginning-grows, record-grows, append-nil, row-printed, none-some)

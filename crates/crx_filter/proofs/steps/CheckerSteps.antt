@@ -92,16 +92,17 @@ pub took-line : (before after : RinexReader) (number : ℕ) (totals then : Held)
     line.content)))) (number + 1) → checker_state_with before number totals named ≡ check_state lines
     → (fault_so_far (with_next lines line) ≡ None) × (checker_state_with after (number + 1) then named_then
     ≡ check_state (with_next lines line))
-took-line before after number totals then named named_then line step lines short takes totals_then named_is same = grind (
-  arith,
-  common_steps,
-  as-read-short,
-  made-same,
-  steps-to,
-  made-quiet,
-  (checked-on lines line).fault,
-  (checked-on lines line).next,
-)
+took-line before after number totals then named named_then line step lines short takes totals_then named_is
+    same = grind (
+      arith,
+      common_steps,
+      as-read-short,
+      made-same,
+      steps-to,
+      made-quiet,
+      (checked-on lines line).fault,
+      (checked-on lines line).next,
+    )
 
 -- ---- what a check's direction answers
 
@@ -128,12 +129,6 @@ module _ (serves : Choices → Type 0) (before after : RinexReader) (totals : He
 
 -- ---- what a check knows
 
--- no fault is skipped, and a line that is too long has one
-made-never : (number : ℕ) (phase : Phase OpenEpoch) (types : List Count) (kept : Totals) (content : List ℕ)
-    (made : Made ObservationEpoch OpenEpoch) → brings_nothing (step_of_made check_by_line
-    (state_in no_choices number phase types kept) (Content content) made).answer (Content content) ≡ false
-made-never number phase types kept content made = grind (arith, common_steps)
-
 -- it reads on where no fault has ended it
 pub reads-on : (begun : Option OpenEpoch) (stage : Stage) → IsReached (phase_of_stage begun stage)
     → is_ended stage ≡ false → is_reading (phase_of_stage begun stage) ≡ true
@@ -153,7 +148,7 @@ module _ (choices : Choices) (lines : List InputLine) (line : InputLine)
   -- and none is passed over
   pub passes-nothing : {X : Type 0} → brings_nothing (state_next check_by_line
       (state_by choices (length lines) parts) (as_read line)).answer (as_read line) ≡ true → X
-  passes-nothing passed = grind (arith, common_steps, false-true, reached, made-never, phase-reached, given-after)
+  passes-nothing passed = grind (arith, common_steps, false-true, reached, phase-reached, given-after)
 
 module _ (choices : Choices) (before : RinexReader) (totals : Held) (lines : List InputLine)
     (taken : no_choices ≡ choices) (is : state_in choices (length lines) (reader_phase before) before.types

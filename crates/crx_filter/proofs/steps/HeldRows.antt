@@ -1,5 +1,5 @@
 -- The rows of the epoch whose compact lines come have room, line by line.
-use Rattle.crx_filter.proofs.Words.{common_steps, arith, ◌≡◌, Bool, refl, sym, ap, ◌∙◌}
+use Rattle.crx_filter.proofs.Words.{common_steps, arith, ◌≡◌, Bool, refl, sym}
 use Rattle.crx_filter.proofs.Words.{subst, ℕ, List, [], ◌∷◌, length, map, Option, Some, None, Result, Ok, Err}
 use Rattle.crx_filter.proofs.Words.{length-map, Fault, Content, Satellite, Tail, All, All-nil, All-cons}
 use Rattle.crx_filter.proofs.Words.{All-head, All-tail, OpenRawEpoch, next_step, RawStep, satellite_line_read}
@@ -13,7 +13,7 @@ use Rattle.crx_compact.specs.OpenEpochs.{raw_step_with_clock, raw_step_with_row,
 use Rattle.crx_compact.specs.OpenEpochs.{state_after}
 use Rattle.crx_compact.specs.Placing.{HasRoom, HaveTypesRoom, KeepsRooms, satellite_of as satellite_of_tail}
 use Rattle.crx_compact.specs.ReadingRooms.{HaveCellsRoom, HeldColumns}
-use Rattle.crx_compact.specs.{Tails.RowTail, meaning.{Cells.ReadCell, CompactPlaces.ReadRow}}
+use Rattle.crx_compact.specs.{Tails.RowTail, meaning.{Cells.ReadCell}}
 use Rattle.crx_compact.specs.meaning.CompactPlaces.{clock_line_read}
 use Rattle.{crx_filter.specs.EpochRooms.{HaveHeldRoom, rows_held}, crx_text.proofs.EachPlace.length-each_place}
 use Rattle.std.{proofs.lemmas.List.Elements.{All-map}, specs.Prelude.{⊤, slice_get}}
@@ -63,11 +63,8 @@ left-row row line held e =
     (λ read. Ok (held_from row.cells row.flags read)) held e in
     let facts = line-facts past (satellite_of_tail row) line step.from step.first in
     let same = ok-same (held_from row.cells row.flags step.from) held step.next in
-    let codes = length-map facts.cells (λ (c : ReadCell). c.code) in (
-      sym (ap (λ (h : HeldRow). h.tail.name) same) ∙ sym (ap (λ (r : ReadRow). r.raw.name) facts.is_read),
-      sym (ap (λ (h : HeldRow). length h.tail.cells) same) ∙ length-each_place (length step.from.raw.codes) _
-          ∙ sym (ap (λ (r : ReadRow). length r.raw.codes) facts.is_read) ∙ codes ∙ facts.counted,
-    )
+    let codes = length-map facts.cells (λ (c : ReadCell). c.code) in
+    grind (arith, common_steps, length-each_place)
 
 step-satellites : (begun : OpenRawEpoch) (line : List ℕ)
     → StepHas (map satellite_of_tail begun.rows) (next_step begun (Content line))

@@ -154,12 +154,7 @@ module _ {before after : RinexReader} {encoder new : EncoderState} {line : List 
     pub row-asked : is_last ≡ true → HasWholeEpoch after new
     row-asked is =
         let done = row-ends (record { index = 0; tail = None }) is in
-        record {
-          begun = still-open;
-          head = done.head;
-          held = done.held;
-          counted = ap (λ (e : EncoderState). length e.rows) row.written ∙ done.counted;
-        }
+        grind (arith, common_steps, still-open)
 
 -- ---- the line of an epoch
 

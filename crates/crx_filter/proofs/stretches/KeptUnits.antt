@@ -5,14 +5,14 @@ use proofs.Words.{ℕ, ◌≡◌, ◌+◌, ◌≤◌, At, true, List, [], ◌∷
 use proofs.Words.{arith, append-nil, inl, and_parts, ReadLine, Content, Epoch, FileUnit, common_steps}
 use proofs.Words.{begins_epoch, ReadEpoch, Item, header_has_ended}
 use proofs.Words.{records_left, types_in_force, Reading, AtLines, reading_from, compact_place, raws_kept}
-use proofs.Words.{IsBetweenUnits, AreInPlace, IsInPlace}
+use proofs.Words.{IsBetweenUnits, AreInPlace}
 use proofs.anywriter.AnyText.{none-left, AreReadOn, read-on}
 use proofs.{reading.{ForwardCompact.compact-forward, Resuming.resumed}, wayback.Carried.{IsLike, started}}
 use proofs.stretches.OpenReading.{IsOpen, open-continued, pending}
 use proofs.damage.GoingOn.{with_warnings, warned-between, warned-types}
 use Rattle.crx_compact.proofs.Words.{tail_left}
 use Rattle.crx_compact.specs.meaning.AnyWriter.{WrittenEpoch, AreEpochLines}
-use Rattle.crx_filter.specs.meaning.{CompactText.AreLinesOfUnit, Stretches.AreLinesOn, UnitsAndText.as_items}
+use Rattle.crx_filter.specs.meaning.{Stretches.AreLinesOn, UnitsAndText.as_items}
 use Rattle.crx_filter.specs.meaning.WrittenStandard.{rinex_items}
 
 -- ---- their first line begins with >
@@ -28,15 +28,10 @@ more-begin : (lines more : List (List ℕ)) → BeginWithMark lines → BeginWit
 more-begin [] more h = absurd h
 more-begin (line ∷ others) more h = h
 
-unit-begins : (block : List (FileUnit Epoch)) (unit : FileUnit Epoch) (lines : List (List ℕ)) (now : Option WrittenEpoch)
-    → IsInPlace (as_items block) unit → header_has_ended (as_items block) ≡ true → records_left (as_items block) ≡ 0
-    → AreLinesOfUnit (as_items block) None unit lines now → BeginWithMark lines
-unit-begins block unit lines now h5 h6 h7 h8 = grind (arith, common_steps, and_parts, epoch-begins)
-
 pub units-begin : (block units : List (FileUnit Epoch)) (unit : FileUnit Epoch) (lines : List (List ℕ)) (now : Option WrittenEpoch)
     → AreInPlace (as_items (unit ∷ (units ++ block))) → header_has_ended (as_items block) ≡ true
     → records_left (as_items block) ≡ 0 → AreLinesOn block None (unit ∷ units) lines now → BeginWithMark lines
-units-begin block [] unit lines now h header left k = grind (arith, common_steps, unit-begins)
+units-begin block [] unit lines now h header left k = grind (arith, common_steps, and_parts, epoch-begins)
 units-begin block (next ∷ units) unit lines now h header left k =
     rw k.4 (more-begin k.1 k.2 (units-begin block units next k.1 k.0 h.1 header left k.3))
 

@@ -3,7 +3,7 @@
 use Rattle.crx_filter.proofs
 use proofs.Words.{ℕ, ◌≡◌, inr, true, false, List, [], ◌∷◌, ◌++◌, map, Option, None, refl, ap, sym, ◌∙◌}
 use proofs.Words.{subst, arith, AllByRecursion, flat_map, printed_epoch, list_all, and_parts, by_bool}
-use proofs.Words.{InputLine, lines_of, lines_text}
+use proofs.Words.{InputLine, lines_of, lines_text, common_steps}
 use proofs.Words.{Content, as_read, version_line, program_line, Epoch, FileUnit, IsWholeEpoch, EventLine}
 use proofs.Words.{Observation}
 use proofs.Words.{Choices, is_date, Item, Accepted, Warned, is_at_start, header_has_ended, records_left}
@@ -161,10 +161,7 @@ own-as choices before [] h good closed = record { all = refl; each = tt }
 own-as choices before (s ∷ later) h good closed =
     let next = up_to_own_next before s in
     let rest = own-as choices next later h.1 good closed in
-    record {
-      all = ap (λ us. with_stretches us (as_stretches choices.every next later)) (sym (units-next before s)) ∙ rest.all;
-      each = (one-stretch choices before s later h (good-up_to next later good).in_place closed, rw (← units-next before s) rest.each);
-    }
+    grind (arith, common_steps, as_stretches, units-next, one-stretch, good-up_to, good)
 
 -- ---- what is saved of it
 

@@ -1,8 +1,8 @@
 -- What an expansion that skips faults writes and reports of a text that is damaged in stretches.
 use Rattle.crx_filter.proofs
 use proofs.Words.{ℕ, ◌≡◌, ◌+◌, true, List, [], ◌∷◌, ◌++◌, map, reverse, None, refl, ap, ◌∙◌, subst, arith}
-use proofs.Words.{append-nil, lines_of, lines_text, ReadLine, Content, as_read, Epoch, FileUnit, ReadEpoch, Choices}
-use proofs.Words.{Item, Reading, reading_from, ended_reading, compact_place, expanded, common_steps}
+use proofs.Words.{append-nil, lines_of, lines_text, ReadLine, Content, as_read, Epoch, FileUnit, ReadEpoch}
+use proofs.Words.{Choices, Item, Reading, reading_from, ended_reading, compact_place, expanded, common_steps}
 use proofs.Words.{whole_compact, printed_items, warnings_in, notices_text, expanded_lines, ItemsAreRead, FilterResult, Stretch}
 use proofs.Words.{with_stretches}
 use Rattle.crx_filter.specs.meaning.{Stretches.{HasStretches, KeepsTheRest, stretches_lines}, UnitsAndText.as_items}
@@ -74,12 +74,4 @@ rest-kept before stretches damaged expanding skips d =
     let r = stretches-read before stretches (old before stretches damaged d) start (sound before stretches damaged d)
     (come before stretches damaged d) in
     let w = written-for before stretches damaged d expanding skips _ refl r.more (with_stretches before stretches) r.come in
-    rw w.is (record {
-      lines = expanded_lines r.more;
-      saves = r.saves w.good;
-      warnings = reverse (warnings_in (with_warnings w.end.warnings (r.more ++ start)));
-      output = refl;
-      messages = refl;
-      status = refl;
-      fault = refl;
-    })
+    grind (arith, common_steps, with_warnings)

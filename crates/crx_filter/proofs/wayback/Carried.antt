@@ -70,5 +70,14 @@ pub unit-more : {E : Type 0} (place : List (Item E) → List ReadLine → Place 
     (unit : FileUnit E)
     → AllRead place skip before number first items → place items (map Content more) ≡ Done unit (length more)
     → AllRead place skip before number (first ++ more) (Accepted unit ∷ items)
-unit-more place h skip before items number first more unit e f =
-    grind (arith, map-append, resumed, enough-units, within-here, drop_all, within-wanted, length-map, length-append)
+unit-more place h skip before items number first more unit e f = grind (
+  arith,
+  map-append,
+  resumed,
+  enough-units,
+  within-here,
+  drop_all,
+  within-wanted,
+  length-map,
+  length-append,
+)

@@ -57,7 +57,8 @@ KeepsOrLoses items = HaveNoReturns items ⊎ (left_copied items < returns_copied
 
 keeps-or_loses : (items : List (Item Epoch)) → KeepsOrLoses items
 keeps-or_loses [] = inl tt
-keeps-or_loses (Accepted unit ∷ before) = grind (arith, returns-fewer, left-all, returns-kept, keeps-or_loses before)
+keeps-or_loses (Accepted unit ∷ before) = grind
+    (arith, returns-fewer, left-all, returns-kept, keeps-or_loses before)
 keeps-or_loses (Warned at ∷ before) = keeps-or_loses before
 
 -- the lines of compact text after its first two
