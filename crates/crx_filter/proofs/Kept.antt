@@ -1,5 +1,5 @@
 -- What runs bring back, save and judge follows from what they are, by the laws.
-use Rattle.crx_filter.proofs.Words.{common_steps, arith, ℕ, ◌≡◌, List, ◌++◌, Option, None, sym, subst, ◌∙◌}
+use Rattle.crx_filter.proofs.Words.{common_steps, arith, ℕ, ◌≡◌, List, Option, None, sym, subst, ◌∙◌}
 use Rattle.crx_filter.proofs.Words.{lines_of, At, Choices, compacted, expanded, FilterResult, findings_of}
 use Rattle.crx_filter.proofs.Words.{checked_by, checked, Device, IsResult}
 use Rattle.crx_filter.proofs.standard.CheckStandard.{named-where_not, standard-exactly_where_same}
@@ -15,15 +15,7 @@ pub kept : {result_of : List ℕ → FilterResult} {filter : Filter} {promise : 
     → Runs result_of filter input writer messages status fault
     → ((text : List ℕ) → IsResult (result_of text) writer messages status fault → promise text)
     → Keeps promise input writer messages fault
-kept (given, gave, r) keeps = (
-  given,
-  gave,
-  record {
-    whole = λ read wrote reported memory rest none within.
-        keeps (given ++ rest) (r.whole read wrote reported memory rest none within);
-    good = λ e. keeps given (r.good e).5;
-  },
-)
+kept h1 h2 = grind (arith)
 
 -- it wrote the output of its input's result
 pub writes-output : (result_of : List ℕ → FilterResult) (writer messages : Device) (status : ℕ) (fault : Option At)

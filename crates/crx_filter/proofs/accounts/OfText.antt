@@ -1,6 +1,6 @@
 -- Every line of compact text is accounted for.
 use Rattle.crx_filter.proofs.Words
-use Words.{arith, [], ℕ, ◌≡◌, ◌+◌, Bool, List, ◌∷◌, drop, take, length, length-map, None, ap, sym}
+use Words.{arith, [], ℕ, ◌≡◌, ◌+◌, Bool, List, ◌∷◌, drop, take, length-map, None, sym}
 use Words.{subst, ReadLine, Count, RawEpoch, Done, ReadEpoch, epoch_at, Item, types_in_force, compact_place}
 use Words.{raws_kept, crinex_version, crinex_program, first_lines, whole_compact, WholeReading, common_steps}
 use Rattle.crx_compact.proofs.soundness.Soundness.{begins, epoch-facts}
@@ -15,7 +15,6 @@ own-epoch : (types : List Count) (older : List RawEpoch) (lines : List ReadLine)
     (count : ℕ) → epoch_at types older lines ≡ Done read count → AreCleanLines read (take count lines)
 own-epoch types older lines read count e =
     let h = epoch-facts types older lines read count e in
-    let rows = ap (λ (r : ReadEpoch). length r.epoch.rows) h.is_read in
     let within = (rw e at (steady-epoch_at types older lines [])).0 in
     grind (arith, common_steps, taken, length-map, accepts-clean)
 
@@ -40,7 +39,6 @@ two-read : (lines : List ReadLine) (two : List (List ℕ)) (count : ℕ) → fir
 two-read lines two count e =
     let one = begins lines crinex_version _ two count e in
     let other = begins one.rest crinex_program _ two one.more one.later in
-    let none : other.more ≡ 0 = grind (arith, other.later) in
     grind (arith, common_steps)
 
 pub text-accounted : (skip : Bool) (lines : List ReadLine) → (whole_compact skip lines).fault ≡ None

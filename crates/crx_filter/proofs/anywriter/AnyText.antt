@@ -255,7 +255,6 @@ text-read : (skip : Bool) (units : List (FileUnit Epoch)) (text : List ℕ) → 
     → TextRead skip units text
 text-read skip units text file h =
     let r = all-read skip 3 units h.lines h.last (in-place units file.in_place) h.written in
-    let header : header_has_ended r.items ≡ true = r.like.header ∙ file.header in
     let none : records_left r.items ≡ 0 = r.like.left ∙ file.complete in
     grind (arith, common_steps, whole-read, ends-well)
 

@@ -55,7 +55,6 @@ only-text text choices e =
     let ends : EndsBack two.rest w = subst (λ ls. EndsBack two.rest (whole_compact skip ls)) (sym two.is)
     (rw (whole-read skip two.version two.program two.rest two.first two.second) (reading-back skip 3 two.rest)) in
     let back = ends good.1 none in
-    let known = (back.stands).known in
     let settled = read-settled skip lines (input-stands text) good.1 in
     grind (arith, common_steps, units-in_place, append-nil)
 

@@ -2,10 +2,10 @@
 -- and then its report.
 use Rattle.crx_filter.proofs.Words
 use Words.{common_steps, arith, ℕ, ◌≡◌, true, false, List, [], ◌∷◌, map, Option, Some, None, refl, ap, sym}
-use Words.{◌∙◌, reverse, map-append, length-map, InputLine, ReadLine, as_read, At, Choices, Count, Epoch}
-use Words.{lines_text, with_next, noticed_by, failed_by, is_again, Made, RunState, Phase, OpenEpoch, fed}
+use Words.{◌∙◌, map-append, length-map, InputLine, ReadLine, as_read, At, Choices, Count, Epoch}
+use Words.{lines_text, with_next, noticed_by, failed_by, is_again, Made, Phase, OpenEpoch, fed}
 use Words.{step_of_made, state_next, state_end, LineStep, Totals, checking, check_by_line}
-use Words.{check_reading, check_filter, no_choices, whole_reading_of, findings_of, false-true}
+use Words.{check_reading, check_filter, no_choices, findings_of, false-true}
 use Rattle.crx_filter.proofs.following.{CheckedOn.{one-on, same-state}, Following.{fed-once, state_in}}
 use Rattle.crx_filter.proofs.{following.MemoryOfRinex.check-allowed, standard.CheckEnded.check-ended}
 use Rattle.crx_filter.specs.EngineLaws.{EndsLineByLine, FollowsBy, GoesLineByLine}
@@ -69,18 +69,7 @@ check-follows lines line = grind (
 
 check-ends : (lines : List InputLine) → EndsLineByLine check_filter lines
     (state_end_with check_by_line (report_lines (findings_of lines)) (check_reading (map as_read lines)))
-check-ends lines =
-    let s = check_reading (map as_read lines) in
-    let end = end-reported (report_lines (findings_of lines)) s.number s.phase s.types s.kept in
-    let fault = (check-ended lines).fault
-    ∙ ap (λ (state : RunState OpenEpoch Totals). failed_by (state_end checking state).answer) (same-state
-    lines) ∙ sym end.failed in
-    record {
-      output = report-text (findings_of lines) (whole_reading_of lines).fault _
-          (λ none. end.good (sym fault ∙ none)) (λ at is. end.bad at (sym fault ∙ is));
-      warnings = ap reverse (sym end.noticed);
-      fault = fault;
-    }
+check-ends lines = grind (arith, end-reported, check-ended, same-state, report-text)
 
 pub check-goes : (choices : Choices) → no_choices ≡ choices → GoesLineByLine check_by_line
     (λ lines. report_lines (findings_of lines)) check_reading (λ lines line. true) check_filter

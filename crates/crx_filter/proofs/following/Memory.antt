@@ -2,11 +2,11 @@
 use Rattle.crx_filter.proofs.Words
 use Words.{common_steps, ℕ, suc, ◌≡◌, ◌+◌, Bool, true, false, not, cond, List, [], ◌∷◌, ◌++◌, length, Option}
 use Words.{Some, None, refl, ap, sym, subst, ◌∙◌, arith, ◌&&◌, nat_lt, is_some, ReadLine, Content, Overlong}
-use Words.{Fault, At, begins_epoch, is_event_line, Count, count_in, is_types_line, Place, NeedsMore}
-use Words.{first_line, one_line, FileUnit, HeaderLine, Choices, Item, Warned, is_at_start, header_has_ended}
+use Words.{At, begins_epoch, is_event_line, Count, count_in, is_types_line, Place, NeedsMore}
+use Words.{first_line, FileUnit, Choices, Item, Warned, is_at_start, header_has_ended}
 use Words.{records_left, records_count_types, types_in_force, memory_allowed, place_takes, Stop, AtFault}
 use Words.{AtLines, Looking, can_go_on, event_record, header_line, header_line_fault, types_fault}
-use Words.{unless_wrong, is_again, BetweenUnits, Direction, Rejects, InEpoch, InEvent}
+use Words.{is_again, BetweenUnits, Direction, Rejects, InEpoch, InEvent}
 use Words.{InHeader, Made, Notice, Phase, RunState, Step, after_warning, is_in_epoch, is_skipped_in, kept_in}
 use Words.{phase_after_items, state_next, state_of, step_of_made, may_take_memory, takes_memory, rules}
 use Words.{none-some, noticed_by, and_parts, by_bool, false-true}
@@ -38,15 +38,7 @@ header-takes : {E : Type 0} (takes : ℕ → Bool) (items : List (Item E)) (is_f
     (header_line_fault is_first line))) ≡ true
     → place_takes takes items 0 (first_line (Content line ∷ []) (header_line is_first)) ≡ true
 header-takes {E = E} takes items is_first line h =
-    let each = and_parts (are_lacking (types_in_force items)) _ h in
-    by_fault (header_line_fault is_first line) refl each.0 each.1
-  where
-    by_fault : (o : Option Fault) → header_line_fault is_first line ≡ o
-        → are_lacking (types_in_force items) ≡ true → (is_some (count_of_types_line line) && is_none o) ≡ true
-        → place_takes {E = E} takes items 0 (one_line (unless_wrong (HeaderLine line) o)) ≡ true
-    by_fault None e l h =
-        let well = counts-well line (and_parts (is_some (count_of_types_line line)) true h).0 in cc (l, well.0)
-    by_fault (Some fault) e l h = false-true (and_parts (is_some (count_of_types_line line)) false h).1
+    search (rules, and_parts, counts-well, false-true)
 
 -- a record of an event
 record-takes : {E : Type 0} (takes : ℕ → Bool) (items : List (Item E)) (line : List ℕ)

@@ -283,14 +283,5 @@ module _ {D : Type 0} (d : Ghosts D) (before : EngineParts D) (goes : EngineGoes
       ≡ state_end_with d.by_line (d.closing_after before.options lines) (engine_state d before))
       × IfOk result (λ step. d.has_found after.direction lines))
       → EngineKeepsNotes d before result after → EndIsAnswered d before result ready after
-  end-answered after {ready = ready} result ends closing stays = record {
-    ends = ends;
-    concludes = λ lines took. concludes goes.lawful (engine_state d before) (engine_state d after) lines ready result
-        took.0 (closing lines (after-lines lines took) took.1).0;
-    by_seen = λ lines seen there.
-        concludes goes.lawful (engine_state d before) (engine_state d after) lines ready result seen
-        (ends.steps ∙ ap (λ (ls : List (List ℕ)). state_end_with d.by_line ls (engine_state d before)) there);
-    found = λ lines took. (closing lines (after-lines lines took) took.1).1;
-    repeated = λ at ended. repeats-end d.by_line _ _ _ ready result at ends.steps ended;
-    stays = stays;
-  }
+  end-answered after {ready = ready} result ends closing stays =
+      search (rules, concludes, after-lines, repeats-end)

@@ -89,15 +89,7 @@ module _ {U O K : Type 0} (direction : Direction U O K) where
       (state_by choices last before) after → Reads direction serves before line room (Err fault) given parts
       → TakesLine direction (state_by choices last before) (Content line) room result ready after
   refused-line choices last fault serves before parts line room result given ready after stopped reads =
-      grind (
-        arith,
-        common_steps,
-        out-fatal fault,
-        ran-out direction (state_by choices last before) after (Content line) room result fault,
-        fatal-answer (state_by choices last before) after line fault result,
-        fatal-counts direction (state_by choices last before) after (Content line) fault result [],
-        after-error,
-      )
+      grind (arith, out-fatal, ran-out, fatal-answer, fatal-counts, after-error)
 
   -- a line that is too long is a fault wherever lines are read
   made-too_long : ((types : List Count) (kept : K) → direction.begins types kept Overlong ≡ Rejects

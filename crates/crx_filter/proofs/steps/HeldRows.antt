@@ -3,7 +3,7 @@ use Rattle.crx_filter.proofs.Words.{common_steps, arith, ◌≡◌, Bool, refl, 
 use Rattle.crx_filter.proofs.Words.{subst, ℕ, List, [], ◌∷◌, length, map, Option, Some, None, Result, Ok, Err}
 use Rattle.crx_filter.proofs.Words.{length-map, Fault, Content, Satellite, Tail, All, All-nil, All-cons}
 use Rattle.crx_filter.proofs.Words.{All-head, All-tail, OpenRawEpoch, next_step, RawStep, satellite_line_read}
-use Rattle.crx_compact.proofs.{Results.{and_then-ok, ok-same}, reading.Announced.satellites-set}
+use Rattle.crx_compact.proofs.{Results.{and_then-ok}, reading.Announced.satellites-set}
 use Rattle.crx_compact.{proofs.soundness.Soundness.line-facts, specs.HeldRows.{HeldRow, held_from}}
 use Rattle.crx_compact.specs.HeldRows.{past_of_row, row_held}
 use Rattle.crx_compact.specs.OpenEpochs.{ColumnsState, Idle, Reading, Going, Whole, Faulty}
@@ -62,7 +62,6 @@ left-row row line held e =
     let step = and_then-ok (satellite_line_read past (satellite_of_tail row) line)
     (λ read. Ok (held_from row.cells row.flags read)) held e in
     let facts = line-facts past (satellite_of_tail row) line step.from step.first in
-    let same = ok-same (held_from row.cells row.flags step.from) held step.next in
     let codes = length-map facts.cells (λ (c : ReadCell). c.code) in
     grind (arith, common_steps, length-each_place)
 

@@ -7,7 +7,7 @@ use Words.{arith, length-append, map-append, ReadLine, Content, Epoch, Place}
 use Words.{Done, FileUnit, HeaderLine, EventRecord, Item, Accepted, Warned}
 use Words.{is_at_start, header_has_ended, records_left, records_count_types, types_in_force}
 use Words.{types_fault, header_line_fault, unit_place, AtLines, reading_from, IsReadForward, AreInPlace}
-use Rattle.crx_filter.proofs.reading.{Resuming.{resumed, within-here, within-wanted, enough-units}}
+use Rattle.crx_filter.proofs.reading.{Resuming.{resumed, within-here, enough-units}}
 use Rattle.crx_filter.specs.meaning.UnitsAndText.{as_items}
 use Rattle.{crx_header.proofs.Counts.types_of-push, std.proofs.lemmas.List.drop_all}
 
@@ -70,14 +70,5 @@ pub unit-more : {E : Type 0} (place : List (Item E) → List ReadLine → Place 
     (unit : FileUnit E)
     → AllRead place skip before number first items → place items (map Content more) ≡ Done unit (length more)
     → AllRead place skip before number (first ++ more) (Accepted unit ∷ items)
-unit-more place h skip before items number first more unit e f = grind (
-  arith,
-  map-append,
-  resumed,
-  enough-units,
-  within-here,
-  drop_all,
-  within-wanted,
-  length-map,
-  length-append,
-)
+unit-more place h skip before items number first more unit e f = grind
+    (arith, map-append, resumed, enough-units, within-here, drop_all, length-map, length-append)
