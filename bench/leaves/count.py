@@ -84,10 +84,6 @@ CASES = [
 ] + [
     ("code_before_blank, no code", "code_before_blank", [" " * 20] * LINES, 20),
 ] + [
-    ("step_before_blank, %d digits" % digits, "step_before_blank", [line + " 1234567" for line in numbers(digits)], 1) for digits in (1, 2, 4, 6, 7)
-] + [
-    ("step_before_blank, %d digits, last of a line" % digits, "step_before_blank", numbers(digits), 1) for digits in (1, 2, 4, 6)
-] + [
     ("next_line, 330 columns, a byte", "next_line", [("%08d" % k) + "x" * 322 for k in range(20 * LINES)], 331),
     ("next_line, 8000 columns, a byte", "next_line", [("%08d" % k) + "x" * 7992 for k in range(LINES)], 8001),
 ] + [

@@ -1,5 +1,5 @@
 -- The cells of a line, read from left to right.
-use Rattle.crx_compact.proofs.Words.{◌≡◌, ◌≤◌, ◌<◌, refl, ℕ, suc, ◌+◌, ◌-◌, ℤ, List, [], ◌∷◌, ◌++◌, length}
+use Rattle.crx_compact.proofs.Words.{◌≡◌, ◌≤◌, ◌<◌, refl, ℕ, suc, ◌+◌, ℤ, List, [], ◌∷◌, ◌++◌, length}
 use Rattle.crx_compact.proofs.Words.{map, take, drop, slice_index_or, Option, None, Result, Ok, Err, ◌∙◌, ap}
 use Rattle.crx_compact.proofs.Words.{arith, rules, append-nil, length-map, map-append, length-each_place}
 use Rattle.crx_compact.proofs.Words.{code_of, Code, Fault, BadField, ReadCell}
@@ -45,16 +45,15 @@ codes_in cells = map (λ (c : ReadCell). c.code) cells
 abbrev values_in : List ReadCell → List (Option ℤ)
 values_in cells = map (λ (c : ReadCell). c.value) cells
 
--- the cells up to a place are read, a rest of the line is left, and so are the first arcs from the place on
+-- the cells before a place of the line are read, and the first arcs from the last one on are left
 pub record ReadUpTo (first : List (Option ArcTail))
-    (line rest : List ℕ) (k : ℕ) (arcs : List (Option ArcTail)) : Type 0 where
+    (line : List ℕ) (at k : ℕ) (arcs : List (Option ArcTail)) : Type 0 where
   pub cells : List ReadCell
   pub counted : length cells ≡ k
   pub so_far : cells_read (value_at_place first) (cells_of (length first) line)
-      ≡ onto cells (cells_read (value_at_place (drop k first)) (cells_of (length (drop k first)) rest))
-  pub marks : after_cells (length first) line ≡ after_cells (length (drop k first)) rest
-  pub at : ℕ
-  pub left : rest ≡ drop at line
+      ≡ onto cells
+      (cells_read (value_at_place (drop k first)) (cells_of (length (drop k first)) (drop at line)))
+  pub marks : after_cells (length first) line ≡ after_cells (length (drop k first)) (drop at line)
   pub within : at ≤ length line
   pub made : arcs ≡ arcs_of_codes first (codes_in cells) ++ drop k first
   pub shown : map shown_value (arcs_of_codes first (codes_in cells)) ≡ values_in cells
@@ -64,23 +63,23 @@ made-count : (first : List (Option ArcTail)) (cells : List ReadCell) (k : ℕ) �
     → length (arcs_of_codes first (codes_in cells)) ≡ k
 made-count first cells k e = search (rules, length-each_place, length-map)
 
-arc-there : (first : List (Option ArcTail)) (line rest : List ℕ) (k : ℕ) (arcs : List (Option ArcTail))
-    → ReadUpTo first line rest k arcs → k < length first
+arc-there : (first : List (Option ArcTail)) (line : List ℕ) (at k : ℕ) (arcs : List (Option ArcTail))
+    → ReadUpTo first line at k arcs → k < length first
     → slice_index_or arcs k None ≡ slice_index_or first k None
-arc-there first line rest k arcs s h = grind (arith, common_steps, from-place, made-count, get_or-append_seam)
+arc-there first line at k arcs s h = grind (arith, common_steps, from-place, made-count, get_or-append_seam)
 
 -- the next cell, and the arcs with its own in its place
-pub read-next : (first : List (Option ArcTail)) (line rest rest' : List ℕ) (k : ℕ) (arcs arcs' made : List
-    (Option ArcTail)) (taken : ℕ) → ReadUpTo first line rest k arcs → k < length first → IsCellRead arcs
-    k rest arcs made taken → arcs' ≡ made → rest' ≡ drop taken rest → ReadUpTo first line rest' (k + 1) arcs'
-read-next first line rest rest' k arcs arcs' made taken s h read made_is rest_is =
+pub read-next : (first : List (Option ArcTail)) (line : List ℕ) (at k : ℕ) (arcs arcs' made : List
+    (Option ArcTail)) (taken : ℕ) → ReadUpTo first line at k arcs → k < length first → IsCellRead arcs
+    k (drop at line) arcs made taken → arcs' ≡ made → ReadUpTo first line (at + taken) (k + 1) arcs'
+read-next first line at k arcs arcs' made taken s h read made_is =
     let old : Option ArcTail = slice_index_or first k None in
     let arc : Option ArcTail = arc_of_code read.code old in
     let so_far : List (Option ArcTail) = arcs_of_codes first (codes_in s.cells) in
     let later : List (Option ArcTail) = drop (k + 1) first in
     let c : ReadCell = record { code = read.code; value = read.value } in
     let next : drop k first ≡ old ∷ later = from-place None k first h in
-    let there = arc-there first line rest k arcs s h in
+    let there = arc-there first line at k arcs s h in
     let both = map-append shown_value so_far (arc ∷ []) in
     let values = map-append (λ (q : ReadCell). q.value) s.cells (c ∷ []) in
     let many = made-count first s.cells k s.counted in
@@ -90,14 +89,15 @@ read-next first line rest rest' k arcs arcs' made taken s h read made_is rest_is
     search (rules, length-append, onto-more, drop-drop, length-drop, set-append_seam, append_assoc)
 
 -- a fault of the next cell is that of them all
-pub next-refused : (first : List (Option ArcTail)) (line rest : List ℕ) (k : ℕ) (arcs : List (Option ArcTail))
-    (fault : Fault) → ReadUpTo first line rest k arcs → k < length first
-    → cell_read BadField (value_at_place arcs k) (code_of (first_cell rest)) ≡ Err fault
+pub next-refused : (first : List (Option ArcTail)) (line : List ℕ) (at k : ℕ) (arcs : List (Option ArcTail))
+    (fault : Fault) → ReadUpTo first line at k arcs → k < length first
+    → cell_read BadField (value_at_place arcs k) (code_of (first_cell (drop at line))) ≡ Err fault
     → cells_read (value_at_place first) (cells_of (length first) line) ≡ Err fault
-next-refused first line rest k arcs fault s h refused =
+next-refused first line at k arcs fault s h refused =
     let there = ap (λ (arc : Option ArcTail).
-    cell_read BadField (λ code. value_of_code OBSERVATION_WIDTH code arc) (code_of (first_cell rest)))
-    (arc-there first line rest k arcs s h) in
+    cell_read BadField (λ code. value_of_code OBSERVATION_WIDTH code arc)
+    (code_of (first_cell (drop at line))))
+    (arc-there first line at k arcs s h) in
     let step = rw (from-place None k first h) at s.so_far in
     cc (onto-err s.cells fault)
 
@@ -112,21 +112,18 @@ pub first-refused : (count : ℕ) (arcs : List (Option ArcTail)) (k : ℕ) (rest
     → cell_read BadField (value_at_place (take count arcs) k) (code_of (first_cell rest)) ≡ Err fault
 first-refused count arcs k rest fault less refused = search (rules, get_or-take)
 
-pub read-none : (first : List (Option ArcTail)) (line : List ℕ) → ReadUpTo first line line 0 first
+pub read-none : (first : List (Option ArcTail)) (line : List ℕ) → ReadUpTo first line 0 0 first
 read-none first line =
     record {
       cells = [];
       counted = refl;
       so_far = refl;
       marks = refl;
-      at = 0;
-      left = refl;
       within = omega arith;
       made = refl;
       shown = refl;
     }
 
-pub read-all : (first : List (Option ArcTail)) (line rest : List ℕ) (k : ℕ) (arcs : List (Option ArcTail))
-    → ReadUpTo first line rest k arcs → k ≡ length first
-    → CellsAreRead first (length first) line arcs (length line - length rest)
-read-all first line rest k arcs s end = grind (arith, common_steps, onto-ok, append-nil)
+pub read-all : (first : List (Option ArcTail)) (line : List ℕ) (at k : ℕ) (arcs : List (Option ArcTail))
+    → ReadUpTo first line at k arcs → k ≡ length first → CellsAreRead first (length first) line arcs at
+read-all first line at k arcs s end = grind (arith, common_steps, onto-ok, append-nil)

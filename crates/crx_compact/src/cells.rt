@@ -5,6 +5,7 @@ ghost use Rattle.crx_text.specs.meaning.Columns.{columns};
 ghost use Rattle.crx_text.specs.meaning.PrintedCells.{printed_cells};
 ghost use Rattle.crx_text.specs.meaning.Numbers.{IsValue};
 ghost use Rattle.crx_base.specs.declared.limits.TheConstants.{CELL_WIDTH, OBSERVATION_WIDTH};
+ghost use Rattle.crx_base.specs.Padded.{line_in};
 ghost use Rattle.crx_compact.specs.ArcSteps.{arc_of_code, shown_value, value_of_code};
 ghost use Rattle.crx_text.specs.Codes.{IsShort};
 ghost use Rattle.crx_compact.specs.declared.cells.TheConstants.{CELL_ROOM};
@@ -14,9 +15,9 @@ ghost use Rattle.crx_base.specs.declared.fault.Fault.TheVariants.{BadField};
 ghost use Rattle.crx_text.specs.declared.code.Code.TheVariants.{Missing, Step};
 
 use crate::arc::ObsArc;
-use crx_base::Fault;
 use crx_base::limits::{CELL_WIDTH, DIGITS_LIMIT};
-use crx_text::{Code, code_before_blank, obs_print_cell, step_before_blank, write_cell};
+use crx_base::{Fault, Padded};
+use crx_text::{Code, cell_length, code_before_blank, obs_print_cell, step_of_length, write_cell};
 
 /// The room for a cell in a satellite line: a code with its order, `&` and minus, and three bytes more, since
 /// digits are written four at a time. The cell's blank is one of the three.
@@ -113,32 +114,32 @@ fn apply_step(arc: &mut ObsArc, number: i64) -> Option<i64>
     }
 }
 
-/// Reads the cell that a text begins with, where it has no code or a difference, as most cells do; `None`
-/// where it has another code, has more than six digits, or has a fault, and then the arcs are as they were.
-/// Most differences are of order 3, for which there is a form of its own.
+/// Reads the cell at a place of a line, where it has no code or a difference, as most cells do, and gives how
+/// much of the line it takes with its blank; `None` where it has another code, has more than six digits, or
+/// has a fault, and then the arcs are as they were. Most differences are of order 3, for which there is a
+/// form of its own.
 ///
-/// Six digits and the blank after them are within a row of eight characters, and are read at once, the minus
-/// having been put aside. That takes 52 instructions; digit by digit one digit takes 60 and six take 115
-/// (bench/README.md).
+/// Where the cell ends is known before its number is read, so that the next cell needn't wait for the number,
+/// and the blank behind the line makes the last cell one like the others. This saves a tenth of the time of
+/// expanding lines of four types, and two mispredicted branches a line.
 #[inline(always)]
-fn read_cell_fast(arcs: &mut [ObsArc], index: usize, text: &[u8]) -> Option<usize>
+fn read_cell_fast(arcs: &mut [ObsArc], index: usize, line: Padded<'_>, at: usize) -> Option<usize>
     requires within { index < length arcs.old }
-    ensures { MayReadCell index text.now arcs.old arcs.new result }
+    requires before { at ≤ length (line_in line) }
+    ensures { MayReadCell index (drop at (line_in line.entry)) arcs.old arcs.new result }
 {
-    let Some(first) = text.first() else {
+    let characters = cell_length(line, at);
+    let taken = characters + usize::from(at + characters < line.len());
+    if characters == 0 {
         arcs[index].end();
-        return Some(0);
-    };
-    if *first == b' ' {
-        arcs[index].end();
-        return Some(1);
+        return Some(taken);
     }
-    let (number, end) = step_before_blank(text)?;
+    let number = step_of_length(line, at, characters)?;
     if arcs[index].apply_third(number).is_some() {
-        return Some(end);
+        return Some(taken);
     }
     apply_step(&mut arcs[index], number)?;
-    Some(end)
+    Some(taken)
 }
 
 /// Reads a cell of a line for each of the first so many arcs, which go on by them, and gives the index at
@@ -150,24 +151,28 @@ fn read_cell_fast(arcs: &mut [ObsArc], index: usize, text: &[u8]) -> Option<usiz
 /// The calls for the few other cells are in the loop: a loop without calls, meant to keep all in registers,
 /// took more instructions (.2 a byte of RINEX, bench/README.md).
 #[inline(always)]
-pub(crate) fn read_cells(arcs: &mut [ObsArc], count: usize, line: &[u8]) -> Result<usize, Fault>
+pub(crate) fn read_cells(
+    arcs: &mut [ObsArc],
+    count: usize,
+    line: Padded<'_>,
+) -> Result<usize, Fault>
     requires fitting { count ≤ length arcs.old }
-    ensures ok { IfOk result (λ at.
-        CellsAreRead (take count arcs.old) count line.now (take count arcs.new) at) }
-    ensures err { IfErr result (λ fault.
-        cells_read (value_at_place (take count arcs.old)) (cells_of count line.now) ≡ Err fault) }
+    ensures ok { IfOk result (λ at. CellsAreRead (take count arcs.old) count (line_in line.entry)
+        (take count arcs.new) at) }
+    ensures err { IfErr result (λ fault. cells_read (value_at_place (take count arcs.old))
+        (cells_of count (line_in line.entry)) ≡ Err fault) }
 {
-    let mut rest = line;
+    let mut at = 0;
     for index in 0..count {
-        match read_cell_fast(arcs, index, rest) {
-            Some(length) => rest = &rest[length..],
+        match read_cell_fast(arcs, index, line, at) {
+            Some(length) => at += length,
             None => {
-                let length = read_cell(arcs, index, rest)?;
-                rest = &rest[length..];
+                let length = read_cell(arcs, index, &line.line()[at..])?;
+                at += length;
             }
         }
     }
-    Ok(line.len() - rest.len())
+    Ok(at)
 }
 
 /// Prints the newest values of arcs, each with its two indicators, in place of the bytes from an index on,

@@ -4,6 +4,7 @@
 ghost use Rattle.std.specs.Prelude.{◌≡◌, ◌≤◌, ◌<◌, ◌∷◌, List, [], Some, None, true, false, length, IfOk, IfErr, OnOk, OnErr, Err};
 ghost use Rattle.crx_rinex.specs.Epochs.{is_full_epoch};
 ghost use Rattle.std.specs.Prelude.{◌⊎◌};
+ghost use Rattle.crx_base.specs.Padded.{line_in};
 ghost use Rattle.crx_base.specs.meaning.AsRead.{Content, ReadLine};
 ghost use Rattle.crx_header.specs.meaning.ObservationTypes.{Count};
 ghost use Rattle.crx_rinex.specs.meaning.Places.{Fails};
@@ -26,7 +27,7 @@ ghost use Rattle.crx_compact.specs.Steps.{lines_after_tail, tail_after, tail_wri
 use crate::block::Block;
 use crate::coded::Coded;
 use crate::history::History;
-use crx_base::Fault;
+use crx_base::{Fault, Padded, PaddedCopy};
 use crx_header::Types;
 use crx_rinex::{Epoch, begins_epoch};
 use crx_text::Text;
@@ -231,11 +232,13 @@ impl Columns {
             → AnswersLine types older lines (Content line.now) self.new.state result }
         ensures kept { KeepsRooms self.old.rooms self.new.rooms }
     {
+        let mut copy = PaddedCopy::new();
+        let padded = copy.of(line);
         match take_line(
             &mut self.history,
             &mut self.expected,
             &mut self.count,
-            line,
+            padded,
             &mut self.scratch,
         ) {
             Ok(false) => Ok(None),
@@ -266,12 +269,14 @@ impl Columns {
     /// of the epoch that are in the block already; after a refusal the block has no lines. `true` says that
     /// it is the last one, and that the printed lines of the epoch are ready; no epoch is made of them.
     #[inline(always)]
-    pub fn feed_into(&mut self, line: &[u8], lines: &mut Block) -> Result<bool, Fault>
-        requires short { length line.now ≤ LINE_LIMIT }
+    pub fn feed_into(&mut self, line: Padded<'_>, lines: &mut Block) -> Result<bool, Fault>
+        requires short { length (line_in line) ≤ LINE_LIMIT }
         requires printed { ArePrinted self.old.state lines.old }
         ensures made { IfOk result (λ is_whole.
-            HasPrintedLines (step_in self.old.state (Content line.now)) self.new.state is_whole lines.new.lines) }
-        ensures refused { IfErr result (λ fault. step_in self.old.state (Content line.now) ≡ Faulty fault) }
+            HasPrintedLines (step_in self.old.state (Content (line_in line.entry))) self.new.state is_whole
+            lines.new.lines) }
+        ensures refused { IfErr result (λ fault.
+            step_in self.old.state (Content (line_in line.entry)) ≡ Faulty fault) }
         ensures emptied { OnErr result ((self.new.state ≡ Idle None) × (lines.new.lines ≡ [])) }
         ensures printed { ArePrinted self.new.state lines.new }
         ensures rooms { KeepsRooms self.old.rooms self.new.rooms }
@@ -310,20 +315,21 @@ fn take_line(
     history: &mut History,
     expected: &mut Expected,
     count: &mut usize,
-    line: &[u8],
+    line: Padded<'_>,
     scratch: &mut Text,
 ) -> Result<bool, Fault>
     requires sound { IsSoundState expected.old count.old history.old }
-    requires short { length line.now ≤ LINE_LIMIT }
-    ensures ok { IfOk result (IsLineTaken line.now expected.old count.old history.old expected.new count.new history.new) }
+    requires short { length (line_in line) ≤ LINE_LIMIT }
+    ensures ok { IfOk result (IsLineTaken (line_in line.entry) expected.old count.old history.old expected.new
+        count.new history.new) }
     ensures err { IfErr result (λ fault.
-        step_at expected.old count.old history.old (Content line.now) ≡ Faulty fault) }
+        step_at expected.old count.old history.old (Content (line_in line.entry)) ≡ Faulty fault) }
     ensures rooms { KeepsRooms history.old.satellites.rooms history.new.satellites.rooms }
 {
     match *expected {
         Expected::EpochLine => Err(Fault::NotAnEpoch),
         Expected::ClockLine => {
-            history.read_clock(line)?;
+            history.read_clock(line.line())?;
             *expected = Expected::SatelliteLine;
             *count = 0;
             Ok(history.count() == 0)

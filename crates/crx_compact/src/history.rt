@@ -3,6 +3,7 @@
 
 ghost use Rattle.std.specs.Prelude.{List, ℕ, flat_map, ◌≡◌, ◌≤◌, ◌<◌, ◌+◌, ◌-◌, ◌*◌, ◌++◌, ◌∷◌, if◌then◌else◌, [], true, false, None, Some, Ok, Err, All, length, take, map, slice_get, is_some, OnOk, OnErr, IfOk, IfErr};
 ghost use Rattle.crx_text.specs.meaning.Columns.{columns, without_end_blanks};
+ghost use Rattle.crx_base.specs.Padded.{line_in};
 ghost use Rattle.crx_base.specs.declared.limits.TheConstants.{HEAD_WIDTH, LINE_LIMIT, NAME_WIDTH, SATELLITES_LIMIT};
 ghost use Rattle.crx_header.specs.meaning.EpochColumns.{begins_epoch, epoch_count};
 ghost use Rattle.crx_rinex.specs.Epochs.{is_full_epoch};
@@ -32,8 +33,8 @@ use crate::block::Block;
 use crate::refusals::prepare_names;
 use crate::satellite::put_first;
 use crate::satellites::Satellites;
-use crx_base::Fault;
 use crx_base::limits::{HEAD_WIDTH, LINE_LIMIT, NAME_WIDTH, SATELLITES_LIMIT, TYPES_LIMIT};
+use crx_base::{Fault, Padded};
 use crx_header::{Types, after_columns, all_blank, identifier, padded};
 use crx_rinex::{Epoch, EpochLine, SatRow, begins_epoch, print_head, types_of_satellite};
 use crx_text::columns::end_trimmed;
@@ -274,16 +275,16 @@ impl History {
     pub(crate) fn read_row(
         &mut self,
         index: usize,
-        line: &[u8],
+        line: Padded<'_>,
         scratch: &mut Text,
     ) -> Result<(), Fault>
-        requires short { length line.now ≤ LINE_LIMIT }
+        requires short { length (line_in line) ≤ LINE_LIMIT }
         requires within { index < length self.old.satellites.rows }
         requires allowed { All HasAllowedCount self.old.satellites.rows }
-        ensures answer { AnswersRow index line.now self.old.satellites self.new.satellites result }
+        ensures answer { AnswersRow index (line_in line.entry) self.old.satellites self.new.satellites result }
         ensures others { self.new ≡ record self.old { satellites = self.new.satellites } }
     {
-        if begins_epoch(line) {
+        if begins_epoch(line.line()) {
             return Err(Fault::Truncated);
         }
         self.satellites.read_line(index, line, scratch)

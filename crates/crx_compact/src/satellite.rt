@@ -10,6 +10,7 @@ ghost use Rattle.crx_header.specs.meaning.EpochColumns.{begins_epoch};
 ghost use Rattle.crx_header.specs.meaning.ObservationTypes.{IsAllowedCount};
 ghost use Rattle.crx_header.specs.meaning.Satellites.{is_identifier};
 ghost use Rattle.crx_rinex.specs.meaning.Printing.{printed_row};
+ghost use Rattle.crx_base.specs.Padded.{line_in};
 ghost use Rattle.crx_compact.specs.declared.cells.TheConstants.{CELL_ROOM};
 ghost use Rattle.crx_compact.specs.Cells.{arcs_of_cells, codes_of_cells};
 ghost use Rattle.crx_compact.specs.HeldRows.{AreHeldFlags};
@@ -23,8 +24,8 @@ ghost use Rattle.crx_compact.specs.ShownRows.{shown_row};
 use crate::arc::ObsArc;
 use crate::cells::{print_cells, read_cells, write_cells};
 use crate::same::is_same_text;
-use crx_base::Fault;
 use crx_base::limits::{CELL_WIDTH, NAME_WIDTH};
+use crx_base::{Fault, Padded};
 use crx_header::{after_columns, all_blank, put_identifier};
 use crx_rinex::{SatRow, put_flags};
 use crx_text::block::put_text;
@@ -204,14 +205,14 @@ impl SatelliteHistory {
     /// `OutOfRange` as by [`ObsArc::apply`]; then `BadFlags` where the marks hold a character outside 32 to
     /// 126, or anything but blanks past two for each type.
     #[inline(always)]
-    pub(crate) fn read(&mut self, line: &[u8], scratch: &mut Text) -> Result<(), Fault>
-        requires short { length line.now ≤ LINE_LIMIT }
-        requires other { begins_epoch line.now ≡ false }
+    pub(crate) fn read(&mut self, line: Padded<'_>, scratch: &mut Text) -> Result<(), Fault>
+        requires short { length (line_in line) ≤ LINE_LIMIT }
+        requires other { begins_epoch (line_in line) ≡ false }
         requires allowed { IsAllowedCount (length self.old.cells) }
-        ensures { AnswersReading line.now self.old self.new result }
+        ensures { AnswersReading (line_in line.entry) self.old self.new result }
     {
         let at = read_cells(&mut self.arcs, self.count, line)?;
-        let marks = &line[at..];
+        let marks = &line.line()[at..];
         if marks.is_empty() {
             return Ok(());
         }

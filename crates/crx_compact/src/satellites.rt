@@ -5,6 +5,7 @@ ghost use Rattle.std.specs.Bool.{OnTrue};
 ghost use Rattle.std.specs.List.{flat_map};
 ghost use Rattle.std.specs.Map.{lookup};
 ghost use Rattle.std.specs.Str.{bytes_eq};
+ghost use Rattle.crx_base.specs.Padded.{line_in};
 ghost use Rattle.crx_base.specs.declared.limits.TheConstants.{CELL_WIDTH, HEAD_WIDTH, LINE_LIMIT, NAME_WIDTH, TYPES_LIMIT};
 ghost use Rattle.crx_header.specs.meaning.EpochColumns.{begins_epoch};
 ghost use Rattle.crx_header.specs.meaning.ObservationTypes.{IsAllowedCount};
@@ -21,8 +22,8 @@ ghost use Rattle.crx_compact.specs.Tails.{RowTail};
 ghost use Rattle.indexmap.specs.IndexMap.{IsUnique, spare};
 
 use crate::satellite::SatelliteHistory;
-use crx_base::Fault;
 use crx_base::limits::{CELL_WIDTH, HEAD_WIDTH, LINE_LIMIT, NAME_WIDTH};
+use crx_base::{Fault, Padded};
 use crx_header::{Types, is_same_identifier, put_identifier};
 use crx_rinex::SatRow;
 use crx_text::Text;
@@ -252,14 +253,14 @@ impl Satellites {
     pub(crate) fn read_line(
         &mut self,
         index: usize,
-        line: &[u8],
+        line: Padded<'_>,
         scratch: &mut Text,
     ) -> Result<(), Fault>
         requires within { index < length self.old.rows }
         requires allowed { All HasAllowedCount self.old.rows }
-        requires short { length line.now ≤ LINE_LIMIT }
-        requires other { begins_epoch line.now ≡ false }
-        ensures { AnswersRow index line.now self.old self.new result }
+        requires short { length (line_in line) ≤ LINE_LIMIT }
+        requires other { begins_epoch (line_in line) ≡ false }
+        ensures { AnswersRow index (line_in line.entry) self.old self.new result }
     {
         let (_, satellite) = self.known.pair_mut(index);
         satellite.read(line, scratch)

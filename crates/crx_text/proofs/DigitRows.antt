@@ -5,7 +5,7 @@ use Rattle.std.proofs.Common.{take, drop, get_or, subst, Fits, w8, refl, sym, ap
 use Rattle.std.proofs.{Math.Nat.mul-le-mul_right, lemmas.Bool.{agree_below_at, and_parts}}
 use Rattle.std.proofs.lemmas.{Bool.{le-leb, Decides.nat_tests}, Grind.common_steps, List.length-append}
 use Rattle.std.proofs.lemmas.List.{length-take-le, take-append-drop, take-take, get_or-take, take-append-le}
-use Rattle.std.proofs.lemmas.{List.{take-map, Sums.{prefix_len-le-length, prefix_len_stops}}, Simd.mask_l-mod}
+use Rattle.std.proofs.lemmas.{List.{take-map, Sums.{prefix_len_stops}}, Simd.mask_l-mod}
 use Rattle.std.{proofs.lemmas.Simd.trailing_mask_l, specs.{Char.is_ascii_digit, List.range_with_len}}
 use Rattle.std.specs.{List.prefix_len, Str.{all_ascii_digits, Parse.{digits_value, digits_value_after}}}
 use lib.{Count.count_trailing_zeros, Lanes.{Each1, chunk, pick_l, mask_l, top, zip2, dots, all_below}}
@@ -245,29 +245,3 @@ first_digits_of text size count few long count_is size_is =
     let stop = prefix_len_stops is_ascii_digit row 0 (omega (arith, eight, count_is)) in
     sym (ap is_ascii_digit (get_or-take 8 text count 0 (omega arith)))
     ∙ (ap (λ n. is_ascii_digit (get_or row n 0)) count_is ∙ stop))
-
--- ---- the same of fewer characters than a row has, with zeros after them
-
-pub padded_prefix : (text : List ℕ) (more : ℕ)
-    → prefix_len is_ascii_digit (text ++ replicate more 0) ≡ prefix_len is_ascii_digit text
-padded_prefix [] zero = refl
-padded_prefix [] (suc more) = refl
-padded_prefix (c ∷ cs) more = ap (λ n. cond (is_ascii_digit c) (1 + n) 0) (padded_prefix cs more)
-
-module _ (text : List ℕ) (more size count : ℕ)
-    (count_is : count ≡ prefix_len is_ascii_digit (text ++ replicate more 0)) where
-  pub few_within : count ≤ length text
-  few_within = omega (arith, count_is, padded_prefix text more, prefix_len-le-length is_ascii_digit text)
-
-  pub few_digits : all_ascii_digits (take count (text ++ replicate more 0)) ≡ true
-  few_digits = rw count_is (prefix_digits (text ++ replicate more 0))
-
-  pub few_digits_of : length text < 8
-      → size ≡ digits_value 10 (take count (text ++ replicate more 0)) → HasFirstDigits text size count
-  few_digits_of short size_is =
-      let front = take-append-le count text _ few_within in
-      let same = count_is ∙ padded_prefix text more in
-      digits_found text size count (omega (arith, few_within, short)) few_within
-      (ap all_ascii_digits (sym front) ∙ few_digits) (size_is ∙ ap (digits_value_after 10 0) front) (λ less.
-      ap (λ n. is_ascii_digit (get_or text n 0)) same
-      ∙ prefix_len_stops is_ascii_digit text 0 (omega (arith, same, less)))

@@ -2,6 +2,7 @@ pub mod Blanks
 pub mod Characters
 pub mod CopiedTexts
 pub mod EndBlanks
+pub mod FirstCells
 pub mod LaneTexts
 pub mod LaneWords
 pub mod PositionParts

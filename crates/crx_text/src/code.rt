@@ -1,14 +1,17 @@
 //! Codes of numbers: Hatanaka's Compact RINEX 3.0, the codes of satellite lines and of the clock line.
 
-ghost use Rattle.std.specs.Prelude.{◌≡◌, ◌+◌, ◌<◌, ◌≤◌, [], ◌∷◌, ◌++◌, ◌↔◌, Some, length, take, drop, IfOk, IfSome, OnOk, OnErr, IsErr};
+ghost use Rattle.std.specs.Prelude.{◌≡◌, ◌+◌, ◌<◌, ◌≤◌, [], ◌∷◌, ◌++◌, ◌↔◌, Some, length, take, drop, IfOk, IfSome, OnOk, OnErr, OnSome, IsErr};
 ghost use Rattle.std.specs.Option.{option_map};
 ghost use Rattle.std.specs.Result.{result_ok};
 
-use crate::code_digits::{digits_before_blank, few_digits_before_blank, write_signed};
+use crate::code_digits::{digits_before_blank, row_number, write_signed};
 use crate::digits::{signed, split_minus};
+use crate::lanes::LANES;
 use crate::number::BadField;
 use crate::text::{Text, TextFull};
+use crx_base::Padded;
 use crx_base::limits::{DIGITS_LIMIT, LINE_LIMIT, ORDER_LIMIT};
+use std::simd::prelude::*;
 
 /// What stands for a value in compact text.
 #[derive(Clone, Copy, Debug, PartialEq, Eq)]
@@ -29,7 +32,9 @@ pub enum Code {
 ghost use Rattle.crx_text.specs.Codes.{IsPrintable, IsShort};
 ghost use Rattle.crx_text.specs.meaning.Codes.{after_cell, code_of, code_text, coded_number, first_cell};
 ghost use Rattle.crx_text.specs.declared.code.Code.TheVariants.{Step};
+ghost use Rattle.crx_base.specs.Padded.{line_in};
 ghost use Rattle.crx_base.specs.declared.limits.TheConstants.{LINE_LIMIT};
+ghost use Rattle.crx_text.specs.declared.lanes.TheConstants.{LANES};
 
 /// The most bytes that are written with a code: an order, `&`, a minus, the digits, and three more, since
 /// digits are written four at a time.
@@ -134,19 +139,38 @@ pub fn code_before_blank(line: &[u8]) -> Result<(Code, usize), BadField>
     }
 }
 
-/// Reads a difference up to a line's first blank, or up to its end, and answers it with the index after that
-/// blank, or of the line's end. `None` comes where the cell is another code or none, and also where
-/// [`code_before_blank`] is to read it: of seven digits or more.
+/// How many characters the cell at a place of a line has, where they are fewer than 16; else 16. A bit above
+/// those of the 16 characters ends the search, so that the compiler needn't ask whether there is one.
 #[inline(always)]
-pub fn step_before_blank(line: &[u8]) -> Option<(i64, usize)>
-    ensures value { IfSome result (λ cell. code_of (first_cell line.now) ≡ Some (Step cell.0)) }
-    ensures next { IfSome result (λ cell. drop cell.1 line.now ≡ after_cell line.now) }
-    ensures within { IfSome result (λ cell. cell.1 ≤ length line.now) }
-    ensures short { IfSome result (λ cell. IsShort cell.0) }
+pub fn cell_length(line: Padded<'_>, at: usize) -> usize
+    requires within { at ≤ length (line_in line) }
+    ensures value { result < LANES → result ≡ length (first_cell (drop at (line_in line.entry))) }
+    ensures most { result ≤ LANES }
 {
-    let (is_below, digits) = split_minus(line);
-    let (size, next) = few_digits_before_blank(digits)?;
-    Some((signed(is_below, size), next + usize::from(is_below)))
+    let blanks = u8x16::from_slice(&line.padded()[at..])
+        .simd_eq(u8x16::splat(b' '))
+        .to_bitmask();
+    (blanks | 0x10000).trailing_zeros() as usize
+}
+
+/// Reads the difference that is the cell at a place of a line, of so many characters as [`cell_length`] says.
+/// `None` comes where the cell is another code or none, and also where [`code_before_blank`] is to read it:
+/// of seven digits or more.
+#[inline(always)]
+pub fn step_of_length(line: Padded<'_>, at: usize, characters: usize) -> Option<i64>
+    requires within { at ≤ length (line_in line) }
+    requires counted { characters < LANES → characters ≡ length (first_cell (drop at (line_in line))) }
+    ensures value { IfSome result (λ number.
+        code_of (first_cell (drop at (line_in line.entry))) ≡ Some (Step number)) }
+    ensures short { IfSome result IsShort }
+    ensures few { OnSome result (characters < LANES) }
+{
+    let (is_below, digits) = split_minus(&line.padded()[at..]);
+    let (size, count) = row_number(digits)?;
+    if count + usize::from(is_below) != characters {
+        return None;
+    }
+    Some(signed(is_below, size))
 }
 
 // The number up to a text's first blank, and the index after that blank; None where it is none.

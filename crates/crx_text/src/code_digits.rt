@@ -1,16 +1,12 @@
 //! The digits of codes: read up to a blank, and written one after another.
 
 ghost use Rattle.std.specs.Prelude.{◌≡◌, ◌+◌, ◌-◌, ◌*◌, ◌/◌, ◌%◌, ◌<◌, ◌≤◌, ◌^◌, Some, [], ◌∷◌, ◌++◌, length, take, drop, decimal, IfSome};
-ghost use Rattle.std.specs.Char.{is_ascii_digit};
 ghost use Rattle.std.specs.Fmt.{signed_decimal};
 ghost use Rattle.std.specs.Int.{to_le_bytes, w32};
-ghost use Rattle.std.specs.List.{prefix_len};
-ghost use Rattle.std.specs.Str.Parse.{digits_value};
-ghost use Rattle.crx_text.specs.FirstDigits.{HasFirstDigits, IsDigitsCell, ReadsDigits};
+ghost use Rattle.crx_text.specs.FirstDigits.{HasFirstDigits, ReadsDigits};
 ghost use Rattle.crx_text.specs.declared.code_digits.TheConstants.{FEW, ROW};
 ghost use Rattle.crx_base.specs.declared.limits.TheConstants.{DIGITS_LIMIT};
 
-use crate::copies::copy_text;
 use crx_base::limits::DIGITS_LIMIT;
 use std::simd::prelude::*;
 
@@ -21,10 +17,6 @@ use std::simd::prelude::*;
 pub(crate) fn digits_before_blank(text: &[u8]) -> Option<(u64, usize)>
     ensures { ReadsDigits text.now result }
 {
-    if let Some(cell) = few_digits_before_blank(text) {
-        return Some(cell);
-    }
-    // Numbers of seven digits or more, and what is no number, are read digit by digit.
     let (size, count) = first_digits(text);
     if count == 0 {
         return None;
@@ -32,37 +24,6 @@ pub(crate) fn digits_before_blank(text: &[u8]) -> Option<(u64, usize)>
     if count > DIGITS_LIMIT {
         return None;
     }
-    ended_digits(text, size, count)
-}
-
-// What `digits_before_blank` gives, where at most six digits are before a blank, or before the text's end;
-// else None, whatever there is. Six digits are two groups of three, which one product joins, and most codes
-// have no more: `step_before_blank` takes 52 instructions for one, and digit by digit it would take 60
-// to 115. Where fewer characters than a row has are left of a line, they are copied into a row: a line's last
-// code takes some 60 instructions so, and 50 to 100 digit by digit (bench/README.md).
-#[inline(always)]
-pub(crate) fn few_digits_before_blank(text: &[u8]) -> Option<(u64, usize)>
-    ensures { IfSome result (IsDigitsCell text.now) }
-{
-    if text.len() >= ROW {
-        let (size, count) = row_number(text)?;
-        return ended_digits(text, size, count);
-    }
-    let mut characters = [0; ROW];
-    copy_text(&mut characters[..text.len()], text);
-    let (size, count) = row_number(&characters)?;
-    ended_digits(text, size, count)
-}
-
-// The number of so many first digits, and the index after its blank or of the text's end; None where
-// something else is after them.
-#[inline(always)]
-fn ended_digits(text: &[u8], size: u64, count: usize) -> Option<(u64, usize)>
-    requires digits { HasFirstDigits text.now size count }
-    requires some { 0 < count }
-    requires few { count ≤ DIGITS_LIMIT }
-    ensures { ReadsDigits text.now result }
-{
     if count == text.len() {
         return Some((size, count));
     }
@@ -129,11 +90,10 @@ static SCALES: [u64; FEW + 1] = [
 // bytes 0, which are no digits. The two groups of three digits are weighed by one product, whose upper half
 // is their sum.
 #[inline(always)]
-fn row_number(text: &[u8]) -> Option<(u64, usize)>
+pub(crate) fn row_number(text: &[u8]) -> Option<(u64, usize)>
     requires { ROW ≤ length text.now }
     ensures few { IfSome result (λ cell. (0 < cell.1) × (cell.1 ≤ FEW)) }
-    ensures count { IfSome result (λ cell. cell.1 ≡ prefix_len is_ascii_digit (take ROW text.now)) }
-    ensures size { IfSome result (λ cell. cell.0 ≡ digits_value 10 (take cell.1 (take ROW text.now))) }
+    ensures digits { IfSome result (λ cell. HasFirstDigits text.now cell.0 cell.1) }
 {
     let row = u8x8::from_slice(text).shuffle(
         u8x8::splat(0),

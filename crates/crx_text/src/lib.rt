@@ -20,7 +20,9 @@ pub mod laws;
 pub mod number;
 pub mod text;
 
-pub use code::{Code, code_before_blank, code_print, code_read, step_before_blank, write_cell};
+pub use code::{
+    Code, cell_length, code_before_blank, code_print, code_read, step_of_length, write_cell,
+};
 pub use copies::{copy_text, put_blanks};
 pub use crx_base::{At, Fault};
 pub use crx_lines::{

@@ -1,5 +1,81 @@
-use Rattle.std.proofs.{Common.rules, lemmas.List.{set-set, set-get_or}}
+use Rattle.std.proofs.Common.{rules, w64, OnSome, arith, ◌≡◌, ◌+◌, ◌≤◌, ◌∙◌, Bool, true, false, ltb}
+use Rattle.std.proofs.Common.{ℕ, List, [], ◌∷◌, ap, sym, refl, drop, length}
+use Rattle.std.proofs.lemmas.Int.{to_z-of_z}
+use Rattle.std.proofs.lemmas.List.{get_or_default, set-set, set-get_or}
+use mir.Val.{SFits, bool_byte}
+use Rattle.crx_base.specs.Padded.{line_in}
+use Rattle.crx_text.proofs.FirstCells.{next_cell, next_within}
+use Rattle.crx_text.specs.meaning.Codes.{after_cell, first_cell}
+use Rattle.crx_text.specs.declared.code.Code.TheVariants.{Step}
+use Rattle.crx_compact.proofs.Words.{ArcTail, IfSome, None, OBSERVATION_WIDTH, Ok, Option, Some, arc_of_code}
+use Rattle.crx_compact.proofs.Words.{code_of, is_some, slice_index_or, slice_set, value_of_code, ℤ}
+use Rattle.crx_compact.specs.Cells.{IsCellRead}
 use Rattle.crx_compact.proofs.cells.read_cell_fast.Goals as goal
 
+-- what a cell takes with its blank, where one is in the line
+taken : (line : List ℕ) (at n len more : ℕ) → at ≤ length line → n ≡ length (first_cell (drop at line))
+    → len ≡ length line → more ≡ bool_byte (ltb (at + n) len)
+    → (drop (n + more) (drop at line) ≡ after_cell (drop at line)) × (n + more ≤ length (drop at line))
+taken line at n len more before counted whole is = go (ltb (at + n) len) refl
+  where
+    go : (b : Bool) → ltb (at + n) len ≡ b
+        → (drop (n + more) (drop at line) ≡ after_cell (drop at line)) × (n + more ≤ length (drop at line))
+    go true e =
+        let in_line = ap (ltb (at + n)) (sym whole) ∙ e in
+        let next = next_cell line at n counted true in_line in
+        rw (is ∙ ap bool_byte e) (next, next_within line at n counted true before in_line)
+    go false e =
+        let in_line = ap (ltb (at + n)) (sym whole) ∙ e in
+        let next = next_cell line at n counted false in_line in
+        rw (is ∙ ap bool_byte e) (next, next_within line at n counted false before in_line)
+
+nothing : (xs : List ℕ) → 0 ≡ length xs → xs ≡ []
+nothing [] none = refl
+nothing (x ∷ xs) none = absurd (omega (arith, none))
+
+pub returns-then-characters-eq0 : goal.returns-then-characters-eq0
+returns-then-characters-eq0 c =
+    let counted = c.cell_length-characters.ensures.value (omega arith) in
+    let none = nothing (first_cell (drop c.args.at (line_in c.args.line)))
+    (sym c.if-characters-eq0.true ∙ counted) in
+    let next = taken _ _ _ _ _ c.requires.before counted c.len.ensures.value c.from.ensures in
+    search (rules, set-set, set-get_or, none, next.0, next.1)
+
+-- a difference, and the same as it is held, whose value is there
+stepped : (before : List (Option ArcTail)) (place : ℕ) (text : List ℕ) (number held : ℤ) (answer : Option ℤ)
+    (old arc : Option ArcTail) (taken : ℕ)
+    → IfSome answer (λ value. value_of_code OBSERVATION_WIDTH (Step held) old ≡ Ok (Some value))
+    → OnSome answer (arc ≡ arc_of_code (Step held) old) → slice_index_or before place None ≡ old
+    → held ≡ number → true ≡ is_some answer → code_of (first_cell text) ≡ Some (Step number)
+    → drop taken text ≡ after_cell text → taken ≤ length text
+    → IsCellRead before place text before (slice_set before place arc) taken
+stepped before place text number held (Some v) old arc taken given arc_is there is some formed after within =
+    record {
+      code = Step number;
+      value = Some v;
+      formed = formed;
+      given = rw (there, ← is) given;
+      left = ap (slice_set before place) (rw (there, ← is) arc_is);
+      after = after;
+      within = within;
+    }
+stepped before place text number held None old arc taken given arc_is there is some formed after within =
+    absurd (cc)
+
+pub returns-then-is_some : goal.returns-then-is_some
+returns-then-is_some c =
+    let counted = c.cell_length-characters.ensures.value c.in_ok-number.ensures.few in
+    let next = taken _ _ _ _ _ c.requires.before counted c.len.ensures.value c.from.ensures in
+    let fits : SFits w64 c.in_ok-number.number = search rules in
+    record {
+      some = stepped c.args.arcs.now c.args.index _ c.in_ok-number.number _ c.apply_third.result _ _ _
+          c.apply_third.ensures.value c.apply_third.ensures.arc (get_or_default _ _ None _ c.requires.within)
+          (to_z-of_z w64 _ fits) c.if-is_some.ensures c.in_ok-number.ensures.value next.0 next.1;
+      none = tt;
+    }
+
 pub returns : goal.returns
-returns c = search (rules, set-set, set-get_or)
+returns c =
+    let counted = c.cell_length-characters.ensures.value c.in_ok-number.ensures.few in
+    let next = taken _ _ _ _ _ c.requires.before counted c.len.ensures.value c.from.ensures in
+    search (rules, set-set, set-get_or, next.0, next.1)

@@ -1,23 +1,25 @@
-use Rattle.crx_compact.proofs.Words.{rules, List, Err, ℕ, ap, ◌≡◌, ◌<◌, ◌∙◌, arith, length, subst, take}
+use Rattle.crx_compact.proofs.Words.{rules, Err, ap, ◌≡◌, ◌<◌, arith, drop, length, subst, take}
 use Rattle.crx_compact.proofs.Words.{err_from_is_err_and, length-take-le, value_at_place, cells_of}
 use Rattle.crx_compact.proofs.CellsRead.{first-read, first-refused, read-none, read-next, next-refused}
 use Rattle.crx_compact.proofs.{Words.cells_read, CellsRead.read-all}
 use Rattle.crx_compact.proofs.cells.read_cells.Goals.{in-Some, in-None+in_ok-length-in-None}
-use Rattle.std.proofs.{Common.Bor, lemmas.List.take_rest}
+use Rattle.crx_base.specs.Padded.{line_in}
+use Rattle.std.proofs.lemmas.List.{take_rest}
 use Rattle.crx_compact.proofs.cells.read_cells.Goals as goal
 
 pub loop-index-init : goal.loop-index-init
-loop-index-init c = read-none (take c.args.count c.args.arcs.now) c.args.line.now
+loop-index-init c = read-none (take c.args.count c.args.arcs.now) (line_in c.args.line)
 
 pub returns-in_err-length-in-None-clause-err : goal.returns-in_err-length-in-None-clause-err
 returns-in_err-length-in-None-clause-err c =
     let p = err_from_is_err_and c.from_residual.result c.from_residual.ensures.1 in
     let many = length-take-le c.args.count c.args.arcs.now c.requires.fitting in
     rw (p.1, p.2) (subst (λ n. cells_read (value_at_place (take c.args.count c.args.arcs.now)) (cells_of n
-    c.args.line.now) ≡ Err c.in_err-length-in-None.field-0.0) many (next-refused _ _ _ _ _ _
+    (line_in c.args.line)) ≡ Err c.in_err-length-in-None.field-0.0) many (next-refused _ _ _ _ _ _
     c.loop-index.invariant (omega (arith, many, c.loop-index-test.true)) (first-refused c.args.count
-    c.loop-index.arcs c.loop-index.index c.loop-index.rest.now _ c.loop-index-test.true (rw
-    c.in-None.ensures.none at c.in_err-length-in-None.ensures.err))))
+    c.loop-index.arcs c.loop-index.index (drop c.loop-index.at (line_in c.args.line)) _
+    c.loop-index-test.true (rw (c.in-None.ensures.none, take_rest c.line.result.now c.loop-index.at, c.line.ensures.value)
+    at c.in_err-length-in-None.ensures.err))))
 
 pub loop-index-preserved : goal.loop-index-preserved
 loop-index-preserved c =
@@ -25,15 +27,14 @@ loop-index-preserved c =
     omega (arith, length-take-le c.args.count c.args.arcs.now c.requires.fitting, c.loop-index-test.true) in
     elim c.match-read_cell_fast.branch [
       | in-Some w ↦
-          read-next _ _ _ _ _ _ _ _ w.in-Some.length c.loop-index.invariant within
+          rw w.at-is (read-next _ _ _ _ _ _ _ w.in-Some.length c.loop-index.invariant within
           (first-read c.args.count _ _ _ _ _ c.loop-index-test.true w.in-Some.ensures.some)
-          (ap (take c.args.count) w.arcs-is)
-          (ap {B = List ℕ} (λ (b : Bor (List ℕ)). b.now) w.rest-is ∙ take_rest c.loop-index.rest.now w.in-Some.length)
+          (ap (take c.args.count) w.arcs-is))
       | in-None+in_ok-length-in-None w ↦
-          read-next _ _ _ _ _ _ _ _ w.in_ok-length-in-None.length c.loop-index.invariant within
+          rw w.at-is (read-next _ _ _ _ _ _ _ w.in_ok-length-in-None.length c.loop-index.invariant within
           (first-read c.args.count _ _ _ _ _ c.loop-index-test.true
-          (rw w.in-None.ensures.none at w.in_ok-length-in-None.ensures.ok)) (ap (take c.args.count) w.arcs-is)
-          (ap {B = List ℕ} (λ (b : Bor (List ℕ)). b.now) w.rest-is ∙ take_rest c.loop-index.rest.now w.in_ok-length-in-None.length)
+          (rw (w.in-None.ensures.none, take_rest w.line.result.now c.loop-index.at, w.line.ensures.value)
+          at w.in_ok-length-in-None.ensures.ok)) (ap (take c.args.count) w.arcs-is))
     ]
 
 pub returns-clause-ok : goal.returns-clause-ok

@@ -5,6 +5,7 @@ use Rattle.crx_compact.proofs.{PrintedBlocks.rows-kept}
 use Rattle.crx_compact.proofs.reading.Announced.{row-announced, rows-allowed, rows-few}
 use Rattle.crx_compact.proofs.reading.StepsByCode.{row-faulty, row-stepped}
 use Rattle.crx_compact.specs.OpenEpochs.{Faulty}
+use Rattle.crx_base.specs.Padded.{line_in}
 use Rattle.crx_compact.proofs.columns.take_line.Goals as goal
 
 pub read_row-requires-clause-allowed : goal.read_row-requires-clause-allowed
@@ -15,8 +16,9 @@ returns-in_err-read_row-in-SatelliteLine-clause-err c =
     let p = err_from_is_err_and c.from_residual-in_err-read_row-in-SatelliteLine.result
     c.from_residual-in_err-read_row-in-SatelliteLine.ensures.1 in
     rw (p.1, p.2) (subst (λ (s : Expected). step_at s c.args.count.now c.args.history.now (Content
-    c.args.line.now) ≡ Faulty c.in_err-read_row-in-SatelliteLine.field-0.0) (sym c.in-SatelliteLine.is) (row-faulty
-    (tail_of_history c.args.history.now) c.args.count.now c.args.line.now c.in_err-read_row-in-SatelliteLine.field-0.0
+    (line_in c.args.line)) ≡ Faulty c.in_err-read_row-in-SatelliteLine.field-0.0) (sym c.in-SatelliteLine.is) (row-faulty
+    (tail_of_history c.args.history.now) c.args.count.now (line_in c.args.line)
+    c.in_err-read_row-in-SatelliteLine.field-0.0
     (rw c.in-SatelliteLine.is at c.requires.sound).1 c.in_err-read_row-in-SatelliteLine.ensures.answer.err))
 
 pub overflow_add-count : goal.overflow_add-count

@@ -1,5 +1,5 @@
 use Rattle.crx_compact.proofs.Words.{rules, ◌≡◌, ◌∙◌, ◌<◌, ◌⊎◌, sym, ap, subst, arith, length, Ok, Err, Some}
-use Rattle.crx_compact.proofs.Words.{None, eqb-true, OutOfMemory, Content, HasMade, step_in}
+use Rattle.crx_compact.proofs.Words.{None, eqb-true, OutOfMemory, Content, HasMade, begins_epoch, step_in}
 use Rattle.crx_compact.proofs.reading.Stages.{row-was_awaited, rows-left, state-rows, step-by-stage}
 use Rattle.crx_compact.proofs.Words.{step_with_rows, tail_of_history, Tail, HeldColumns}
 use Rattle.crx_compact.proofs.reading.{Blocks.{more-block, more-refused}, NoMemory.no-memory-in-epoch}
@@ -26,7 +26,7 @@ returns-in-Err-epoch-clause-memory c = λ out.
     let come : new.count ≡ length new.history.satellites.rows =
     eqb-true new.count (length new.history.satellites.rows) (sym rows.whole ∙ c.in-Ok-true.field-0-test) in
     let some : 0 < length new.history.satellites.rows = c.in-Err-epoch.ensures.memory in (
-      rows.start,
+      ap begins_epoch (sym c.of-padded.ensures.line) ∙ rows.start,
       row-was_awaited inside.is_kept inside.expected inside.count inside.history c.args.self.now.state
           (ap (λ (held : HeldColumns). held.state) c.self.view_is) (rows.awaited (omega (arith, come, some))),
       step-whole _ (tail_of_history new.history) new.count

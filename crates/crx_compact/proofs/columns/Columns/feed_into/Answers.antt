@@ -4,6 +4,7 @@ use Rattle.crx_compact.proofs.Words.{HasMade, HeldColumns, step_in}
 use Rattle.crx_compact.proofs.{Words.{tail_of_history}, PrintedBlocks.{block-whole, idle-unprinted, printed-before, rows-printed}}
 use Rattle.crx_compact.proofs.reading.Stages.{rows-left, state-rows, step-by-stage}
 use Rattle.crx_compact.proofs.reading.StepsByCode.{made-more, printed-whole}
+use Rattle.crx_base.specs.Padded.{line_in}
 use Rattle.crx_compact.proofs.columns.Columns.feed_into.Goals as goal
 
 pub returns-then-not-is_whole-clause-made : goal.returns-then-not-is_whole-clause-made
@@ -13,8 +14,8 @@ returns-then-not-is_whole-clause-made c =
     let left : new.count < length new.history.satellites.rows =
     rows-left new.count (length new.history.satellites.rows) (sym rows.whole ∙ (search c.if-not-is_whole))
     rows.within in
-    subst (λ s. HasMade (step_in c.args.self.now.state (Content c.args.line.now)) s None) (sym (state-rows
-    c.self.inside.is_kept new.expected new.count new.history rows.rows)) (made-more _ (tail_of_history
+    subst (λ s. HasMade (step_in c.args.self.now.state (Content (line_in c.args.line))) s None)
+    (sym (state-rows c.self.inside.is_kept new.expected new.count new.history rows.rows)) (made-more _ (tail_of_history
     new.history) new.count (search (rules, step-by-stage, c.self.view_is, c.in-Ok.ensures.ok)) left)
 
 pub returns-else-not-is_whole-clause-made : goal.returns-else-not-is_whole-clause-made
@@ -34,8 +35,8 @@ pub print-requires-clause-before : goal.print-requires-clause-before
 print-requires-clause-before c = λ some.
     let inside = c.self.inside in
     let new = c.take_line.new in
-    printed-before inside.is_kept inside.expected new.expected inside.count new.count inside.history new.history c.args.line.now
-    c.in-Ok.is_whole c.args.self.now.state c.args.lines.now (ap (λ (held : HeldColumns). held.state) c.self.view_is)
+    printed-before inside.is_kept inside.expected new.expected inside.count new.count inside.history
+    new.history (line_in c.args.line) c.in-Ok.is_whole c.args.self.now.state c.args.lines.now (ap (λ (held : HeldColumns). held.state) c.self.view_is)
     c.requires.printed c.in-Ok.ensures.ok some
 
 pub returns-then-not-is_whole-clause-printed : goal.returns-then-not-is_whole-clause-printed

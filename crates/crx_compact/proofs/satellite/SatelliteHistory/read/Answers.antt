@@ -2,6 +2,7 @@ use Rattle.crx_compact.proofs.SatelliteLines.{cells-refused, flags-refused, indi
 use Rattle.crx_compact.proofs.Words.{arith, common_steps, rules, length-take-le, take_at, err_from_is_err_and}
 use Rattle.crx_compact.proofs.{Marks.{none-there, on-both}, SatelliteLines.stored-read}
 use Rattle.std.proofs.{lemmas.List.take_rest, lemmas.Result.IfErr-weaker}
+use Rattle.crx_base.specs.Padded.{line_in}
 use Rattle.crx_compact.proofs.satellite.SatelliteHistory.read.Goals as goal
 
 pub returns-in_err-at : goal.returns-in_err-at
@@ -10,8 +11,8 @@ returns-in_err-at c =
     rw (p.1, p.2, ← c.self.view_is) (record {
       ok = tt;
       err = cells-refused c.self.inside.indicators.items c.self.inside.arcs.items
-          c.self.inside.count c.args.line.now _ c.self.invariant.1 c.requires.other (rw (c.deref_mut.ensures.value)
-          at c.in_err-at.ensures.err);
+          c.self.inside.count (line_in c.args.line) _ c.self.invariant.1 c.requires.other
+          (rw (c.deref_mut.ensures.value) at c.in_err-at.ensures.err);
       sized = search (rules, length-take-le, take_at);
       room = grind (arith, common_steps);
     })
@@ -27,12 +28,13 @@ returns-then-is_empty c = record {
 pub returns : goal.returns
 returns c =
     let at = c.in_ok-at.at in
-    let refused = rw (take_rest c.args.line.now at) at c.patch_indicators.ensures.err in
+    let refused = rw (take_rest c.line.result.now at, c.line.ensures.value)
+    at c.patch_indicators.ensures.err in
     record {
       ok = search (rules, take_rest, take_at, on-both, stored-read);
       err = rw (← c.self.view_is) (
           IfErr-weaker c.patch_indicators.result _ _ (λ fault. flags-refused c.self.inside.indicators.items
-          c.self.inside.arcs.items _ c.self.inside.count c.args.line.now at fault c.self.invariant.1
+          c.self.inside.arcs.items _ c.self.inside.count (line_in c.args.line) at fault c.self.invariant.1
           c.requires.other (rw (c.deref_mut.ensures.value) at c.in_ok-at.ensures.ok)) refused);
       sized = search (rules, length-take-le, take_at);
       room = grind (arith, common_steps);

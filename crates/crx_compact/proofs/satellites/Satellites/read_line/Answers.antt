@@ -3,6 +3,7 @@ use Rattle.crx_compact.proofs.RowByRow.{all-at}
 use Rattle.std.proofs.{Common.{subst}, lemmas.Result.{on_ok_weaker, IfErr-weaker}}
 use Rattle.crx_compact.specs.{Placing.{HasAllowedCount, row_tail_of}, Tails.RowTail}
 use Rattle.crx_compact.proofs.placing.SteppedRows.{order-kept, rest-kept, row-at, rows-changed}
+use Rattle.crx_base.specs.Padded.{line_in}
 use Rattle.crx_compact.proofs.satellites.Satellites.read_line.Goals as goal
 
 pub read-requires-clause-allowed : goal.read-requires-clause-allowed
@@ -32,9 +33,11 @@ returns c =
         sized = c.read.ensures.sized;
         rows = rows-changed self.known self.placed self.live within there c.read.new.self;
       }) c.read.ensures.ok;
-      err = IfErr-weaker c.read.result (λ (fault : Fault). (name : List ℕ) → row_held (Some (row_tail_of name satellite))
-          (satellite_of (row_tail_of name satellite)) c.args.line.now ≡ Err fault) _ (λ fault held row also.
-          subst (λ (row : RowTail). row_held (Some row) (satellite_of row) c.args.line.now ≡ Err fault) (at.is row also)
+      err = IfErr-weaker c.read.result (λ (fault : Fault). (name : List ℕ)
+          → row_held (Some (row_tail_of name satellite)) (satellite_of (row_tail_of name satellite))
+          (line_in c.args.line) ≡ Err fault) _ (λ fault held row also.
+          subst (λ (row : RowTail). row_held (Some row) (satellite_of row) (line_in c.args.line) ≡ Err fault)
+          (at.is row also)
           (held name)) c.read.ensures.err;
       rooms = (rest-kept self.known self.placed self.live within there c.read.new.self c.self.invariant
           c.pair_mut-satellite.ensures.unique (omega (arith, c.read.ensures.room))).rooms.forth;

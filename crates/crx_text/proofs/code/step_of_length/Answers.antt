@@ -1,0 +1,55 @@
+use Rattle.std.proofs.Common.{arith, ◌≡◌, ◌+◌, ◌-◌, ◌<◌, ◌≤◌, ℕ, List, Bool, Some, length, take, drop, w64}
+use Rattle.std.proofs.{Common.{ap, sym, ◌∙◌}, lemmas.{Grind.common_steps, Int.to_z-of_z}}
+use Rattle.std.specs.{Option.option_map, Str.Parse.starts_with_minus}
+use Rattle.crx_text.proofs.CellNumbers.{code_of-number, coded_number-cell}
+use Rattle.crx_text.proofs.{FirstCells.{same_cell}, PowersOfTen.small_number}
+use Rattle.crx_text.specs.{Codes.counted_digits, FirstDigits.HasFirstDigits}
+use Rattle.crx_text.specs.{declared.code.Code.TheVariants.Step, meaning.Codes.{code_of, first_cell}}
+use Rattle.crx_text.specs.meaning.Numbers.{signed_number, without_minus}
+use mir.Val.{bool_byte}
+use Rattle.crx_text.proofs.code.step_of_length.Goals as goal
+
+-- the cell after its minus
+after_minus : (text : List ℕ) → length (first_cell text)
+    ≡ bool_byte (starts_with_minus text) + length (first_cell (without_minus text))
+after_minus = grind (arith, common_steps, bool_byte)
+
+-- digits that are all of their cell
+all_digits : (text : List ℕ) (size count : ℕ) → HasFirstDigits text size count → 0 < count → count ≤ 6
+    → length (first_cell text) ≡ count → counted_digits (first_cell text) ≡ Some size
+all_digits text size count first some few whole =
+    grind (arith, common_steps, first.long, first.digits, first.value)
+
+step_is : (text digits : List ℕ) (is_below : Bool) (size count : ℕ) → is_below ≡ starts_with_minus text
+    → digits ≡ without_minus text → HasFirstDigits digits size count → 0 < count → count ≤ 6
+    → count + bool_byte is_below ≡ length (first_cell text)
+    → code_of (first_cell text) ≡ Some (Step (signed_number is_below size))
+step_is text digits is_below size count sign rest first some few whole =
+    let counted = all_digits digits size count first some few
+    (omega (arith, whole, after_minus text, ap bool_byte sign, ap (λ t. length (first_cell t)) rest)) in
+    rw sign (code_of-number _ _ (coded_number-cell text digits rest ∙ ap (option_map _) counted))
+
+pub signed-requires : goal.signed-requires
+signed-requires c =
+    let read = c.in_ok-size.ensures in
+    omega (arith, small_number _ _ 6 read.few.1 read.digits.small)
+
+pub returns-clause-value : goal.returns-clause-value
+returns-clause-value c =
+    let p = c.padded.ensures in
+    let minus = c.split_minus-is_below.ensures in
+    let read = c.in_ok-size.ensures in
+    let same = same_cell _ _ c.args.at p.line p.blank p.room c.requires.within in
+    let less : c.args.characters < 16 = grind (arith, common_steps) in
+    let bytes = c.padded.result.now in
+    let is = step_is (take (length bytes - c.args.at) (drop c.args.at bytes))
+    c.split_minus-is_below.result.1.now c.split_minus-is_below.result.0 c.in_ok-size.size c.in_ok-size.count minus.sign minus.rest read.digits
+    read.few.0 read.few.1 (ap (λ n. c.in_ok-size.count + n) (sym c.from.ensures) ∙ c.if-count-from.false
+    ∙ c.requires.counted less ∙ ap length (sym same)) in
+    grind (arith, common_steps, w64, to_z-of_z, same, is)
+
+pub returns-clause-short : goal.returns-clause-short
+returns-clause-short c =
+    let read = c.in_ok-size.ensures in
+    let small = small_number _ _ 18 (omega (arith, read.few.1)) read.digits.small in
+    grind (arith, common_steps, w64, to_z-of_z, small)
