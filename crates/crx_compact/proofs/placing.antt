@@ -1,11 +1,11 @@
 -- The satellites of a history in one map: those that have come, those that haven't, and those that mean
 -- nothing.
+pub mod Orders
 pub mod Ranges
 pub mod Rooms
 pub mod PutNext
 pub mod EntryChanges
 pub mod Found
-pub mod Revived
 pub mod Again
 pub mod Coming
 pub mod Prepared

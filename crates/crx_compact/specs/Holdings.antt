@@ -22,10 +22,11 @@ satellite_with one other = record one {
 abbrev pub satellites_with : SatellitesInside → SatellitesInside → SatellitesInside
 satellites_with one other = record one {
   known = other.known;
+  order = other.order;
+  places = other.places;
   placed = other.placed;
   live = other.live;
-  ahead = other.ahead;
-  last = other.last;
+  hints = other.hints;
   alloc = other.alloc;
 }
 

@@ -18,10 +18,11 @@ use crx_header::{Types, identifier};
 use crx_rinex::types_of_satellite;
 
 /// How many places there are for marks of identifiers.
-const MARKS: usize = 2048;
+pub(crate) const MARKS: usize = 2048;
 
 /// The place of an identifier's mark. The 770 identifiers that there are have 760 places: few share one.
-fn place_of_mark(name: [u8; NAME_WIDTH]) -> usize
+#[inline(always)]
+pub(crate) fn place_of_mark(name: [u8; NAME_WIDTH]) -> usize
     ensures value { result ≡ mark_place name }
     ensures within { result < MARKS }
 {

@@ -1,6 +1,6 @@
 //! The satellites of a history, in the order of the file: Hatanaka's Compact RINEX 3.0.
 
-ghost use Rattle.std.specs.Prelude.{List, ℕ, All, ◌≡◌, ◌≤◌, ◌<◌, ◌+◌, ◌*◌, ◌^◌, ◌++◌, ◌∷◌, [], true, false, is_some, None, Some, Ok, Err, length, take, map, slice_get, slice_set, OnOk, OnErr, IfOk, IfErr, IfSome, IsOk, IsTrue, ◌↔◌};
+ghost use Rattle.std.specs.Prelude.{List, ℕ, All, ◌≡◌, ◌≤◌, ◌<◌, ◌+◌, ◌*◌, ◌++◌, ◌∷◌, ◌⊎◌, [], true, false, is_some, None, Some, Ok, Err, length, take, map, slice_get, slice_index_or, slice_set, swap, vec_capacity, vec_len, OnOk, OnErr, IfOk, IfErr, IfSome, IsOk, IsTrue, ◌↔◌};
 ghost use Rattle.std.specs.Bool.{OnTrue};
 ghost use Rattle.std.specs.List.{flat_map};
 ghost use Rattle.std.specs.Map.{lookup};
@@ -13,7 +13,7 @@ ghost use Rattle.crx_header.specs.meaning.Satellites.{is_among, is_identifier};
 ghost use Rattle.crx_rinex.specs.meaning.Printing.{printed_row};
 ghost use Rattle.crx_compact.specs.declared.cells.TheConstants.{CELL_ROOM};
 ghost use Rattle.crx_compact.specs.Blocks.{IsLinePut};
-ghost use Rattle.crx_compact.specs.Entries.{Entry, IsFound, IsPutNext, IsRevived, KeepsTypes, key_of};
+ghost use Rattle.crx_compact.specs.Entries.{Entry, IsAt, IsFound, IsOrder, KeepsTypes, key_of};
 ghost use Rattle.crx_compact.specs.EpochLinesRead.{HaveComeAgain};
 ghost use Rattle.crx_compact.specs.HeldRows.{IsAwaitedSatellite};
 ghost use Rattle.crx_compact.specs.Placing.{AnswersPlacing, AnswersRow, AsksRoom, HasAllowedCount, HasRoom, IsLineWritten, KeepsRest, MayWrite, SatelliteTail, padded, satellite_of};
@@ -21,6 +21,7 @@ ghost use Rattle.crx_compact.specs.ShownRows.{shown_row};
 ghost use Rattle.crx_compact.specs.Tails.{RowTail};
 ghost use Rattle.indexmap.specs.IndexMap.{IsUnique, spare};
 
+use crate::refusals::{MARKS, place_of_mark};
 use crate::satellite::SatelliteHistory;
 use crx_base::limits::{CELL_WIDTH, HEAD_WIDTH, LINE_LIMIT, NAME_WIDTH};
 use crx_base::{Fault, Padded};
@@ -31,37 +32,39 @@ use indexmap::IndexMap;
 use std::alloc::{AllocError, Global};
 use std::marker::Model;
 
-/// The satellites of a history, by their identifiers. While an epoch is open, those whose rows have come are
-/// the first ones, in the order of the file; then come those of the epoch before that haven't come yet. What
-/// is stored of all others means nothing; its memory is used again when the satellite comes back.
+/// The satellites of a history, by their identifiers. Each stays in the map where it came first. The memory
+/// of one that means nothing is used again when the satellite comes back.
 #[derive(Drop)]
 pub struct Satellites {
     known: IndexMap<[u8; NAME_WIDTH], SatelliteHistory>,
+    /// The indices of all. While an epoch is open, those whose rows have come are the first ones, in the
+    /// order of the file. Then come those of the epoch before that haven't come yet, and those that mean nothing.
+    order: Vec<usize>,
+    /// At each index, its place in the order.
+    places: Vec<usize>,
     /// How many have come.
     placed: usize,
     /// How many mean something: those that have come, and those of the epoch before that haven't.
     live: usize,
-    /// Where the last satellite was found that wasn't the next one: how far behind that, and at which index;
-    /// where an epoch begins, the index before the first one. These two are for speed alone.
-    ahead: usize,
-    last: usize,
+    /// By the place of an identifier's mark, the index where it mostly is. This is for speed alone: a look-up
+    /// by the map takes 100 instructions.
+    hints: [u16; MARKS],
     alloc: Global,
 }
 
 impl Model for Satellites {
-    ghost use Rattle.std.specs.Prelude.{◌≤◌, drop, length, map, take};
-    ghost use Rattle.crx_compact.specs.Placing.{PlacedRows, room_of_entry, row_of_entry};
+    ghost use Rattle.std.specs.Prelude.{◌≤◌, length};
+    ghost use Rattle.crx_compact.specs.Entries.{IsOrder, in_order, placed_rows};
+    ghost use Rattle.crx_compact.specs.Placing.{PlacedRows};
 
     ghost Value = { PlacedRows };
 
-    ghost view = { λ satellites. record {
-      rows = map row_of_entry (take satellites.placed satellites.known.entries);
-      rest = map row_of_entry (drop satellites.placed (take satellites.live satellites.known.entries));
-      rooms = map room_of_entry satellites.known.entries;
-    } };
+    ghost view = { λ satellites. placed_rows satellites.placed satellites.live
+        (in_order satellites.order.items satellites.known.entries) satellites.known.entries };
 
     ghost invariant = { λ satellites. (satellites.placed ≤ satellites.live)
-        × (satellites.live ≤ length satellites.known.entries) };
+        × (satellites.live ≤ length satellites.known.entries)
+        × IsOrder satellites.order.items satellites.places.items (length satellites.known.entries) };
 }
 
 impl Satellites {
@@ -71,10 +74,11 @@ impl Satellites {
     {
         Satellites {
             known: IndexMap::new(alloc),
+            order: Vec::new(alloc),
+            places: Vec::new(alloc),
             placed: 0,
             live: 0,
-            ahead: 1,
-            last: usize::MAX,
+            hints: [0; MARKS],
             alloc,
         }
     }
@@ -85,7 +89,6 @@ impl Satellites {
     {
         self.live = self.placed;
         self.placed = 0;
-        self.last = usize::MAX;
     }
 
     /// How many have come.
@@ -106,12 +109,15 @@ impl Satellites {
     pub(crate) fn place(&mut self, name: &[u8; NAME_WIDTH], count: usize) -> Option<bool>
         ensures { AnswersPlacing name.now count self.old self.new result }
     {
-        if self.placed < self.live && is_same_identifier(key_at(&self.known, self.placed), *name) {
-            if !has_room_at(&self.known, self.placed, count) {
-                return None;
+        if self.placed < self.live {
+            let next = number_at(&self.order, self.placed);
+            if is_same_identifier(key_at(&self.known, next), *name) {
+                if !has_room_at(&self.known, next, count) {
+                    return None;
+                }
+                self.placed += 1;
+                return Some(true);
             }
-            self.placed += 1;
-            return Some(true);
         }
         self.bring(name, count)
     }
@@ -122,37 +128,26 @@ impl Satellites {
     fn bring(&mut self, name: &[u8; NAME_WIDTH], count: usize) -> Option<bool>
         ensures { AnswersPlacing name.now count self.old self.new result }
     {
-        let name = *name;
-        // A satellite that isn't the next one is mostly at one of two indices. Where another one came before
-        // it, it was exchanged with that, and is where the last one was found; where some of the epoch before
-        // are gone, it is as far behind as the last one was. A look-up by the map takes 100 instructions.
-        let last = self.last;
-        let near = if last < self.known.len()
-            && is_same_identifier(key_at(&self.known, last), name)
-        {
-            last
-        } else {
-            self.placed.saturating_add(self.ahead)
-        };
-        let Some(found) = find(&self.known, near, name) else {
+        let near = usize::from(self.hints[place_of_mark(*name)]);
+        let Some(found) = find(&self.known, near, *name) else {
             return None;
         };
-        if found < self.placed {
+        let place = number_at(&self.places, found);
+        if place < self.placed {
             return Some(false);
         }
         if !has_room_at(&self.known, found, count) {
             return None;
         }
-        if found < self.live {
-            put_next(&mut self.known, self.placed, found);
-            self.ahead = found - self.placed;
-            self.last = found;
+        if place < self.live {
+            exchange(&mut self.order, &mut self.places, self.placed, place);
             self.placed += 1;
             return Some(true);
         }
-        revive(&mut self.known, self.live, found);
-        put_next(&mut self.known, self.placed, self.live);
-        self.last = self.live;
+        let (_, satellite) = self.known.pair_mut(found);
+        satellite.resize(0);
+        exchange(&mut self.order, &mut self.places, self.live, place);
+        exchange(&mut self.order, &mut self.places, self.placed, self.live);
         self.live += 1;
         self.placed += 1;
         Some(true)
@@ -174,38 +169,44 @@ impl Satellites {
         }
         // No identifier is there twice: the length's clauses say so.
         let _count = self.known.len();
-        if !keep_types(&self.known, count, types) {
+        if !keep_types(&self.known, &self.order, count, types) {
             return false;
         }
         self.placed = count;
         true
     }
 
-    /// Asks for room for a satellite of so many types, which mostly is the one behind that of the call
-    /// before. No row changes, and after `Ok` the satellite is known.
+    /// Asks for room for a satellite of so many types. No row changes, and after `Ok` it is known.
     #[inline(always)]
     pub(crate) fn prepare(&mut self, name: [u8; NAME_WIDTH], count: usize) -> Result<(), AllocError>
         requires allowed { count ≤ TYPES_LIMIT }
         ensures asked { AsksRoom (HasRoom name count) self.old self.new result }
         ensures known { HasRoom name count self.old.rooms → IsOk result }
     {
-        let near = self.last.wrapping_add(1);
-        let found = find_or_add(&mut self.known, near, name, self.alloc)?;
-        self.last = found;
+        let mark = place_of_mark(name);
+        let near = usize::from(self.hints[mark]);
+        let found = find_or_add(
+            &mut self.known,
+            &mut self.order,
+            &mut self.places,
+            near,
+            name,
+            self.alloc,
+        )?;
+        self.hints[mark] = u16::try_from(found).unwrap_or(0);
         let (_, satellite) = self.known.pair_mut(found);
         satellite.make_room(count)
     }
 
-    /// Puts the identifiers of the satellites that have come behind the columns of an epoch line. They are
-    /// beside each other in the map: to ask for each by its index takes 5 instructions more.
+    /// Puts the identifiers of the satellites that have come behind the columns of an epoch line.
     pub(crate) fn put_names(&self, text: &mut [u8])
         requires within { HEAD_WIDTH + NAME_WIDTH * length self.now.rows ≤ length text.old }
         ensures { take (HEAD_WIDTH + NAME_WIDTH * length self.now.rows) text.new
             ≡ take HEAD_WIDTH text.old ++ flat_map (λ (row : RowTail). row.name) self.now.rows }
     {
-        let names = &self.known.keys().as_slice()[..self.placed];
-        for index in 0..names.len() {
-            put_identifier(text, HEAD_WIDTH + NAME_WIDTH * index, names[index]);
+        for index in 0..self.placed {
+            let name = key_at(&self.known, number_at(&self.order, index));
+            put_identifier(text, HEAD_WIDTH + NAME_WIDTH * index, name);
         }
     }
 
@@ -220,7 +221,7 @@ impl Satellites {
             → self.new.rows ≡ before ++ padded (record { name = row.name; count = count }) (Some row) ∷ [] }
         ensures kept { KeepsRest self.old self.new }
     {
-        let (_, satellite) = self.known.pair_mut(self.placed - 1);
+        let (_, satellite) = self.known.pair_mut(number_at(&self.order, self.placed - 1));
         satellite.resize(count);
     }
 
@@ -242,7 +243,7 @@ impl Satellites {
         ensures { (line : List ℕ) × IsLineWritten index values.now flags.now self.old self.new line
             × IsLinePut line (CELL_ROOM * length values.now + 2 * TYPES_LIMIT) at bytes.old bytes.new result }
     {
-        let (_, satellite) = self.known.pair_mut(index);
+        let (_, satellite) = self.known.pair_mut(number_at(&self.order, index));
         let marks = satellite.mark(values.len(), flags, scratch);
         satellite.write_line(values, marks, bytes, at)
     }
@@ -262,7 +263,7 @@ impl Satellites {
         requires other { begins_epoch (line_in line) ≡ false }
         ensures { AnswersRow index (line_in line.entry) self.old self.new result }
     {
-        let (_, satellite) = self.known.pair_mut(index);
+        let (_, satellite) = self.known.pair_mut(number_at(&self.order, index));
         satellite.read(line, scratch)
     }
 
@@ -277,7 +278,7 @@ impl Satellites {
             × IsLinePut (printed_row (shown_row row)) (NAME_WIDTH + CELL_WIDTH * length row.cells)
             at bytes.old bytes.new result }
     {
-        let (name, satellite) = self.known.get_index(index).unwrap();
+        let (name, satellite) = self.known.get_index(number_at(&self.order, index)).unwrap();
         satellite.print_line(*name, bytes, at)
     }
 
@@ -289,9 +290,18 @@ impl Satellites {
         ensures ok { IfOk result (λ row. (old : RowTail) → slice_get self.now.rows index ≡ Some old
             → row ≡ shown_row old) }
     {
-        let (name, satellite) = self.known.get_index(index).unwrap();
+        let (name, satellite) = self.known.get_index(number_at(&self.order, index)).unwrap();
         satellite.row(alloc, *name)
     }
+}
+
+/// The number at an index.
+#[inline(always)]
+fn number_at(numbers: &Vec<usize>, index: usize) -> usize
+    requires within { index < length numbers.now.items }
+    ensures value { result ≡ slice_index_or numbers.now.items index 0 }
+{
+    numbers[index]
 }
 
 /// The identifier at an index.
@@ -308,20 +318,25 @@ fn key_at(map: &IndexMap<[u8; NAME_WIDTH], SatelliteHistory>, index: usize) -> [
     map.keys().as_slice()[index]
 }
 
-/// Whether each of the first so many satellites has as many types as its system has now. Each has the form of
-/// an identifier, so its letter alone is read: this saves 10 instructions for each of them.
+/// Whether each of the first so many satellites of an order has as many types as its system has now. Each has
+/// the form of an identifier, so its letter alone is read: this saves 10 instructions for each of them.
 fn keep_types(
     map: &IndexMap<[u8; NAME_WIDTH], SatelliteHistory>,
+    order: &Vec<usize>,
     count: usize,
     types: &Types,
 ) -> bool
-    requires within { count ≤ length map.now.entries }
-    requires named { (index : ℕ) (entry : Entry) → index < count → slice_get map.now.entries index ≡ Some entry
+    requires within { count ≤ length order.now.items }
+    requires below { (place : ℕ) → place < count
+        → slice_index_or order.now.items place 0 < length map.now.entries }
+    requires named { (place : ℕ) (entry : Entry) → place < count
+        → slice_get map.now.entries (slice_index_or order.now.items place 0) ≡ Some entry
         → is_identifier (key_of entry) ≡ true }
-    ensures kept { OnTrue result ((index : ℕ) → index < count → KeepsTypes types.now index map.now.entries) }
+    ensures kept { OnTrue result ((place : ℕ) → place < count
+        → KeepsTypes types.now order.now.items place map.now.entries) }
 {
-    for index in 0..count {
-        let (name, satellite) = map.get_index(index).unwrap();
+    for place in 0..count {
+        let (name, satellite) = map.get_index(number_at(order, place)).unwrap();
         let Some(found) = types.count(name[0]) else {
             return false;
         };
@@ -355,9 +370,9 @@ fn find(
     near: usize,
     name: [u8; NAME_WIDTH],
 ) -> Option<usize>
-    ensures found { IfSome result (λ found. IsFound name found map.now.entries map.now.entries) }
+    ensures found { IfSome result (IsAt name map.now.entries) }
     ensures unknown { result ≡ None → is_some (lookup (bytes_eq name) map.now.entries) ≡ false }
-    ensures small { IfSome result (λ found. found < 2 ^ 63) }
+    ensures unique { IsUnique bytes_eq map.now }
 {
     let count = map.len();
     if near < count && is_same_identifier(key_at(map, near), name) {
@@ -367,52 +382,53 @@ fn find(
 }
 
 /// The index of the satellite with an identifier, which is added behind the others where it isn't known. It
-/// is looked for at one index first.
+/// is looked for at one index first. All memory is asked for before anything changes.
 fn find_or_add(
     map: &mut IndexMap<[u8; NAME_WIDTH], SatelliteHistory>,
+    order: &mut Vec<usize>,
+    places: &mut Vec<usize>,
     near: usize,
     name: [u8; NAME_WIDTH],
     alloc: Global,
 ) -> Result<usize, AllocError>
+    requires order { IsOrder order.old.items places.old.items (length map.old.entries) }
+    ensures order { IsOrder order.new.items places.new.items (length map.new.entries) }
     ensures found { IfOk result (λ found. IsFound name found map.old.entries map.new.entries) }
-    ensures unknown { OnErr result ((is_among key_of name map.old.entries ≡ false)
-        × (map.new.entries ≡ map.old.entries)) }
-    ensures asked { OnErr result (spare map.old ≡ 0) }
+    ensures front { take (length order.old.items) order.new.items ≡ order.old.items }
+    ensures unknown { OnErr result ((is_among key_of name map.old.entries ≡ false) × ((spare map.old ≡ 0)
+        ⊎ ((vec_capacity order.old < vec_len order.old + 1)
+        ⊎ (vec_capacity places.old < vec_len places.old + 1)))) }
+    ensures same { OnErr result ((map.new.entries ≡ map.old.entries) × (order.new.items ≡ order.old.items)) }
     ensures unique { IsUnique bytes_eq map.new }
-    ensures small { IfOk result (λ found. found < 2 ^ 63) }
 {
     let count = map.len();
     if let Some(found) = find(map, near, name) {
         return Ok(found);
     }
+    order.reserve(1)?;
+    places.reserve(1)?;
     match map.insert(name, SatelliteHistory::new(alloc)) {
-        Ok(_) => Ok(count),
+        Ok(_) => {
+            order.push_reserved(count);
+            places.push_reserved(count);
+            Ok(count)
+        }
         Err(_) => Err(AllocError),
     }
 }
 
-/// Makes a satellite that means nothing the first one behind those that do, with nothing stored.
-fn revive(map: &mut IndexMap<[u8; NAME_WIDTH], SatelliteHistory>, live: usize, found: usize)
-    requires behind { live ≤ found }
-    requires within { found < length map.old.entries }
-    ensures revived { IsRevived live found map.old.entries map.new.entries }
+/// Exchanges what is at two places of an order.
+#[inline(always)]
+fn exchange(order: &mut Vec<usize>, places: &mut Vec<usize>, one: usize, other: usize)
+    requires order { IsOrder order.old.items places.old.items (length order.old.items) }
+    requires within { (one < length order.old.items) × (other < length order.old.items) }
+    ensures order { IsOrder order.new.items places.new.items (length order.old.items) }
+    ensures exchanged { order.new.items ≡ swap order.old.items other one }
 {
-    let (_, satellite) = map.pair_mut(found);
-    satellite.resize(0);
-    if found != live {
-        map.swap_indices(found, live);
-    }
-}
-
-/// Makes a satellite of the epoch before the next one of those that have come.
-fn put_next(map: &mut IndexMap<[u8; NAME_WIDTH], SatelliteHistory>, placed: usize, found: usize)
-    requires behind { placed ≤ found }
-    requires within { found < length map.old.entries }
-    ensures put { IsPutNext placed found map.old.entries map.new.entries }
-{
-    // No identifier is there twice: the length's clauses say so.
-    let _count = map.len();
-    if found != placed {
-        map.swap_indices(found, placed);
-    }
+    let first = number_at(order, one);
+    let second = number_at(order, other);
+    order[other] = first;
+    order[one] = second;
+    places[first] = other;
+    places[second] = one;
 }

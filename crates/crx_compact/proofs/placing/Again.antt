@@ -2,21 +2,25 @@
 use Rattle.crx_compact.proofs.Words.{◌≡◌, ℕ, ◌<◌, ◌≤◌, List, [], Some, length, take, option_map, ap, sym}
 use Rattle.crx_compact.proofs.Words.{◌∙◌, arith, refl, subst, bytes_eq, Count, padded, satellite_of, RowTail}
 use Rattle.crx_compact.proofs.{Characters.length-is, RowByRow.all-at}
+use Rattle.crx_compact.proofs.placing.Orders.{apart-in_order, length-in_order, there-in_order}
 use Rattle.crx_compact.proofs.{placing.EntryChanges.room-here, placing.Ranges.{found-in_range, named-map}}
-use Rattle.crx_compact.proofs.placing.SteppedRows.{among-placed, row-at, rows-counted, rows_of}
+use Rattle.crx_compact.proofs.placing.SteppedRows.{among-placed, row-at, row-here, rows-counted, rows_of}
 use Rattle.std.proofs.{lemmas.Option.{get_or_from_slice_get, slice_get-map}, lemmas.Grind.common_steps}
 use Rattle.std.proofs.Common.{All, get_or, map, slice_get, true}
 use Rattle.indexmap.specs.IndexMap.{IndexMap, IsUnique}
-use Rattle.crx_compact.specs.{Entries.{Entry, KeepsTypes, placed_rows}, HeldRows.IsAwaitedSatellite}
+use Rattle.crx_compact.specs.{Entries.{Entry, IsOrder, KeepsTypes, in_order, placed_rows}, HeldRows.IsAwaitedSatellite}
 use Rattle.crx_compact.specs.EpochLinesRead.{HaveComeAgain, IsAgain}
 use Rattle.crx_compact.specs.Placing.{SatelliteTail, row_of_entry, row_tail_named}
 use Rattle.crx_header.specs.meaning.ObservationTypes.{count_of}
 use Rattle.crx_header.specs.meaning.Satellites.{is_identifier, types_of_satellite}
 
 -- where no row has come, no satellite has
-pub none-placed : (placed live : ℕ) (es : List Entry) → (placed ≤ live) × (live ≤ length es)
-    → rows_of placed es ≡ [] → placed ≡ 0
-none-placed placed live es order none = omega (arith, ap length none, rows-counted placed es (omega arith))
+pub none-placed : (placed live : ℕ) {order places : List ℕ} (es : List Entry)
+    → (placed ≤ live) × (live ≤ length es) × IsOrder order places (length es)
+    → rows_of placed (in_order order es) ≡ [] → placed ≡ 0
+none-placed placed live {order} es is none =
+    let counted = rows-counted placed (in_order order es) (omega (arith, is.0, is.1, length-in_order es is.2)) in
+    omega (arith, ap length none, counted)
 
 -- an identifier's system is known by its letter
 pub typed-named : (types : List Count) (name : List ℕ) → is_identifier name ≡ true
@@ -34,29 +38,33 @@ named-before live es awaited index e less all there =
     (slice_get-map satellite_of (rows_of live es) index ∙ ap (option_map satellite_of) row.there))
 
 module _ {S : Type 0} (m : IndexMap (List ℕ) SatelliteTail S) (unique : IsUnique bytes_eq m)
-    (types : List Count) (live : ℕ)
-    (kept : (index : ℕ) → index < live → KeepsTypes types index m.entries) where
-  one-again : (i : ℕ) → i < live → (k : KeepsTypes types i m.entries)
-      → IsAgain types (placed_rows 0 live m.entries) (row_of_entry k.entry)
+    {order places : List ℕ} (is : IsOrder order places (length m.entries)) (types : List Count) (live : ℕ)
+    (within : live ≤ length m.entries)
+    (kept : (place : ℕ) → place < live → KeepsTypes types order place m.entries) where
+  one-again : (i : ℕ) → i < live → (k : KeepsTypes types order i m.entries)
+      → IsAgain types (placed_rows 0 live (in_order order m.entries) m.entries) (row_of_entry k.entry)
   one-again i less k =
       let e = k.entry in
-      let there : row_tail_named e.0 (rows_of live m.entries) ≡ Some (row_of_entry e) =
-      named-map (λ (row : RowTail). row.name) row_of_entry e.0 (take live m.entries)
-      ∙ ap (option_map row_of_entry)
-      (found-in_range 0 live m.entries i e unique k.there (omega arith) less) in
+      let os = in_order order m.entries in
+      let there : row_tail_named e.0 (rows_of live os) ≡ Some (row_of_entry e) =
+      named-map (λ (row : RowTail). row.name) row_of_entry e.0 (take live os)
+      ∙ ap (option_map row_of_entry) (found-in_range 0 live os i e (apart-in_order m.entries is unique)
+      (there-in_order m.entries is i e (omega (arith, less, within)) k.there) (omega arith) less) in
       record {
         typed = k.typed;
         own = ap (padded (satellite_of (row_of_entry e))) there ∙ k.own;
-        room = room-here m i e.0 e.1 e.1 unique k.there (length e.1.cells) k.room;
+        room = room-here m (get_or order i 0) e.0 e.1 e.1 unique k.there (length e.1.cells) k.room;
       }
 
-  pub come-again : HaveComeAgain types (placed_rows 0 live m.entries) (placed_rows live live m.entries)
+  pub come-again : HaveComeAgain types (placed_rows 0 live (in_order order m.entries) m.entries)
+      (placed_rows live live (in_order order m.entries) m.entries)
   come-again = record {
     rows = refl;
     rooms = refl;
     again = λ i d less.
-        let below = among-placed live i m.entries less in
-        let at = row-at live less (kept i below).there in
-        subst (IsAgain types (placed_rows 0 live m.entries)) (sym (get_or_from_slice_get (rows_of live
-        m.entries) i (row_of_entry (kept i below).entry) d at.there)) (one-again i below (kept i below));
+        let os = in_order order m.entries in
+        let below = among-placed live i os less in
+        let at = row-here m.entries is live less refl (kept i below).there in
+        subst (IsAgain types (placed_rows 0 live os m.entries)) (sym (get_or_from_slice_get (rows_of live
+        os) i (row_of_entry (kept i below).entry) d at.there)) (one-again i below (kept i below));
   }

@@ -8,7 +8,7 @@ use Rattle.std.proofs.{lemmas.Map.Entries.hash_map_get_place, lemmas.Option.{sam
 use Rattle.std.specs.{Cmp.IsEquivalence, Str.bytes_eq}
 use Rattle.indexmap.proofs.CallerLemmas.{updates-with_value_at}
 use Rattle.indexmap.specs.IndexMap.{IndexMap, IsUnique, get, set_value_at}
-use Rattle.crx_compact.specs.Entries.{Entry, IsFound, rooms_of}
+use Rattle.crx_compact.specs.Entries.{Entry, IsAt, rooms_of}
 use Rattle.crx_compact.specs.Placing.{HasRoom, KeepsRooms, SatelliteTail}
 use Rattle.crx_compact.proofs.Characters.{bytes_eq-same}
 use Rattle.crx_compact.proofs.placing.Rooms.{known-room, room-from_look_up, rooms-kept}
@@ -89,7 +89,7 @@ module _ {S : Type 0} (m : IndexMap (List ℕ) SatelliteTail S) (i : ℕ) (name 
 -- ---- the room of a satellite that is found
 
 module _ {S : Type 0} (m : IndexMap (List ℕ) SatelliteTail S) (found : ℕ) (name : List ℕ)
-    (is : IsFound name found m.entries m.entries) (unique : IsUnique bytes_eq m) (count : ℕ) (has : Bool)
+    (is : IsAt name m.entries found) (unique : IsUnique bytes_eq m) (count : ℕ) (has : Bool)
     (answer : (entry : Entry) → slice_get m.entries found ≡ Some entry → IsTrue has ↔ (count ≤ entry.1.room))
   where
     pub enough-room : has ≡ true → HasRoom name count (rooms_of m.entries)

@@ -3,35 +3,31 @@ use Rattle.std.proofs.Common.{◌≡◌, ℕ, List, [], ◌∷◌, ◌++◌, len
 use Rattle.std.proofs.Common.{Option, Some, None, IfSome, is_some, refl, ap, sym, ◌∙◌, arith}
 use Rattle.std.proofs.{Common.{Bool, false}, lemmas.Bool.cases_Bool, lemmas.Slice.Eq.bytes_eq-Decides}
 use Rattle.std.proofs.lemmas.Grind.{common_steps}
-use Rattle.std.proofs.{lemmas.List.{take-append-le, length-map}, lemmas.List.Quantifiers.position-Some}
+use Rattle.std.proofs.{lemmas.List.length-map, Math.Seq.take-append_seam, lemmas.List.Quantifiers.position-Some}
 use Rattle.std.proofs.lemmas.Option.{get_or_from_slice_get, none-some, slice_get-map}
 use Rattle.std.specs.{Str.bytes_eq, Map.{keys_of, lookup}}
 use Rattle.crx_header.specs.meaning.Satellites.{is_among}
 use Rattle.crx_header.proofs.Apart.{other_way}
-use Rattle.crx_compact.specs.{Entries.{Entry, IsFound, key_of}, Placing.SatelliteTail}
+use Rattle.crx_compact.specs.{Entries.{Entry, IsAt, IsFound, key_of}, Placing.SatelliteTail}
 use Rattle.crx_compact.proofs.{RowByRow.is-there, placing.Rooms.{rooms-kept}}
-
-pub found-there : (name : List ℕ) (i : ℕ) (es : List Entry) (satellite : SatelliteTail)
-    → slice_get es i ≡ Some (name, satellite) → IsFound name i es es
-found-there name i es satellite there = grind (arith, common_steps)
 
 -- where another identifier is there, which is the same
 pub found-same : (name other : List ℕ) (i : ℕ) (es : List Entry) → (satellite : SatelliteTail)
-    × (slice_get es i ≡ Some (other, satellite)) → other ≡ name → IsFound name i es es
-found-same name other i es there same = found-there name i es there.0 (cc (there.1, same))
+    × (slice_get es i ≡ Some (other, satellite)) → other ≡ name → IsAt name es i
+found-same name other i es there same = record { satellite = there.0; there = cc (there.1, same) }
 
 found-by_look_up : (name : List ℕ) (i : ℕ) (es : List Entry)
-    → position (bytes_eq name) (keys_of es) ≡ Some i → IsFound name i es es
+    → position (bytes_eq name) (keys_of es) ≡ Some i → IsAt name es i
 found-by_look_up name i es is =
     let at = position-Some (bytes_eq name) (keys_of es) i [] is in
     let entry = is-there es i (omega (arith, at.0, length-map es key_of)) in
     let same : name ≡ key_of entry.item = (bytes_eq-Decides name (get_or (keys_of es) i [])).0 at.1
     ∙ get_or_from_slice_get (keys_of es) i (key_of entry.item) []
     (cc (slice_get-map key_of es i, entry.there)) in
-    found-there name i es entry.item.1 (entry.there ∙ ap (λ (n : List ℕ). Some (n, entry.item.1)) (sym same))
+    found-same name (key_of entry.item) i es (entry.item.1, entry.there) (sym same)
 
 pub found-if_some : (name : List ℕ) (es : List Entry) (r : Option ℕ)
-    → position (bytes_eq name) (keys_of es) ≡ r → IfSome r (λ i. IsFound name i es es)
+    → position (bytes_eq name) (keys_of es) ≡ r → IfSome r (IsAt name es)
 found-if_some name es None is = tt
 found-if_some name es (Some i) is = found-by_look_up name i es is
 
@@ -47,10 +43,8 @@ look_up-more test (e ∷ es) more satellite h = grind (arith, common_steps, look
 pub found-added : (name : List ℕ) (satellite : SatelliteTail) (es new : List Entry)
     → new ≡ es ++ (name, satellite) ∷ [] → satellite.room ≡ 0 → IsFound name (length es) es new
 found-added name satellite es new is none = record {
-  satellite = satellite;
-  there = ap (λ xs. slice_get xs (length es)) is ∙ at-seam es _;
-  front = λ count within. ap (take count) is ∙ take-append-le count es _ within;
-  known = λ within. absurd (omega (arith, within));
+  at = record { satellite = satellite; there = ap (λ xs. slice_get xs (length es)) is ∙ at-seam es _ };
+  known = ap (take (length es)) is ∙ take-append_seam es ((name, satellite) ∷ []);
   rooms = rooms-kept es new (λ other found known. (
     found,
     ap (lookup (bytes_eq other)) is

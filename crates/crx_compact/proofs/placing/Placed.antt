@@ -1,34 +1,52 @@
 -- What is answered of a satellite that comes.
-use Rattle.crx_compact.proofs.Words.{◌≡◌, ℕ, ◌+◌, ◌<◌, ◌≤◌, Bool, true, false, not, List, length, slice_get}
+use Rattle.crx_compact.proofs.Words.{◌≡◌, slice_index_or, take, ℕ, ◌+◌, ◌<◌, ◌≤◌, Bool, true, false, not, List, length, slice_get}
 use Rattle.crx_compact.proofs.Words.{Some, None, ap, arith, refl, sym, true≢false, rules, bytes_eq, is_among}
-use Rattle.crx_compact.proofs.{Words.{PlacedRows, RowTail}, placing.EntryChanges.{enough-room, little-room}}
-use Rattle.crx_compact.proofs.placing.Coming.{come-anew, come-awaited, is-new, repeated, unknown-no_row}
+use Rattle.crx_compact.proofs.{Words.{PlacedRows, RowTail}, placing.EntryChanges.{changed-is, enough-room, little-room}}
+use Rattle.crx_compact.proofs.placing.Coming.{come-anew, emptied, come-awaited, is-new, repeated, unknown-no_row}
+use Rattle.crx_compact.proofs.placing.EntryChanges.{rooms-changed, rooms-changed-back}
 use Rattle.crx_compact.proofs.placing.Rooms.{unknown}
-use Rattle.std.proofs.Common.{IsTrue, ◌↔◌}
-use Rattle.indexmap.specs.IndexMap.{IndexMap, IsUnique}
-use Rattle.crx_compact.specs.Entries.{Entry, IsFound, IsPutNext, IsRevived, key_of, placed_rows}
-use Rattle.crx_compact.specs.Placing.{AnswersPlacing, HasAskedRoom, HasSameRooms, IsPlaced, SatelliteTail}
+use Rattle.std.proofs.{Common.{IsTrue, ◌↔◌, List, ◌∙◌, length-set, map, set, slice_get, subst, swap}}
+use Rattle.std.proofs.lemmas.List.{Edits.length-swap, length-map}
+use Rattle.std.specs.{List.IsDistinct, Map.keys_of}
+use Rattle.indexmap.proofs.ReorderLemmas.{map-swap}
+use Rattle.crx_compact.proofs.placing.Orders.{apart-in_order, set-in_order, there-in_order}
+use Rattle.crx_compact.proofs.placing.PutNext.{put-exchanged, revived-front, revived-there}
+use Rattle.crx_compact.specs.Entries.{IsAt, IsOrder, entry_at, in_order, rooms_of}
+use Rattle.indexmap.proofs.CallerLemmas.{keys-with_value_at}
+use Rattle.indexmap.specs.{IndexMap.{IndexMap, IsUnique, set_value_at}, Layout.length-set_value_at}
+use Rattle.crx_compact.specs.Entries.{Entry, IsPutNext, key_of, placed_rows}
+use Rattle.crx_compact.specs.Placing.{AnswersPlacing, HasAskedRoom, HasCome, HasSameRooms, IsPlaced, SatelliteTail}
 
 same-rooms : (rooms : List (List ℕ × ℕ)) → HasSameRooms rooms rooms
 same-rooms rooms = record { forth = λ name count has. has; back = λ name count has. has }
 
 -- it isn't known
-pub placed-unknown : {name : List ℕ} {count : ℕ} (placed live : ℕ) (es : List Entry) → is_among key_of name es
-    ≡ false → AnswersPlacing name count (placed_rows placed live es) (placed_rows placed live es) None
-placed-unknown {name} {count} placed live es none = search (rules, unknown-no_row, unknown, same-rooms)
+pub placed-unknown : {name : List ℕ} {count : ℕ} (placed live : ℕ) (os es : List Entry) → is_among key_of name os
+    ≡ false → is_among key_of name es ≡ false
+    → AnswersPlacing name count (placed_rows placed live os es) (placed_rows placed live os es) None
+placed-unknown {name} {count} placed live os es absent none = search (rules, unknown-no_row, unknown, same-rooms)
 
-module _ {S : Type 0} (m : IndexMap (List ℕ) SatelliteTail S) {name : List ℕ} {placed live found : ℕ}
-    (is : IsFound name found m.entries m.entries) (unique : IsUnique bytes_eq m)
-    (order : (placed ≤ live) × (live ≤ length m.entries)) where
-  within : placed ≤ length m.entries
-  within = let few = order.0 in let all = order.1 in omega (arith, few, all)
+module _ {S : Type 0} (m : IndexMap (List ℕ) SatelliteTail S) (unique : IsUnique bytes_eq m)
+    {order places : List ℕ} (is : IsOrder order places (length m.entries)) (placed live : ℕ) {name : List ℕ}
+    {index : ℕ} (at : IsAt name m.entries index) {place : ℕ}
+    (stands : (slice_index_or order place 0 ≡ index) × (place < length m.entries)) where
+  abbrev now : PlacedRows
+  now = placed_rows placed live (in_order order m.entries) m.entries
+
+  abbrev here : IsAt name (in_order order m.entries) place
+  here = record {
+    satellite = at.satellite;
+    there = there-in_order m.entries is place _ stands.1 (ap (slice_get m.entries) stands.0 ∙ at.there);
+  }
+
+  apart : IsDistinct bytes_eq (keys_of (in_order order m.entries))
+  apart = apart-in_order m.entries is unique
 
   -- it has come already
-  pub placed-again : {count : ℕ} → found < placed → AnswersPlacing name count
-      (placed_rows placed live m.entries) (placed_rows placed live m.entries) (Some false)
+  pub placed-again : {count : ℕ} → place < placed → AnswersPlacing name count now now (Some false)
   placed-again before = record {
     placed = record {
-      answer = cc (repeated name placed live found m.entries m.entries is before within);
+      answer = cc (repeated name placed live place (in_order order m.entries) m.entries m.entries here before);
       come = λ new. absurd (true≢false (sym new));
       repeated = λ old. refl;
       room = λ new. absurd (true≢false (sym new));
@@ -37,47 +55,84 @@ module _ {S : Type 0} (m : IndexMap (List ℕ) SatelliteTail S) {name : List ℕ
     rooms = same-rooms _;
   }
 
-  module _ (behind : placed ≤ found) {count : ℕ} {has : Bool}
-      (answer : (entry : Entry) → slice_get m.entries found ≡ Some entry
+  module _ (behind : placed ≤ place) {count : ℕ} {has : Bool}
+      (answer : (entry : Entry) → slice_get m.entries index ≡ Some entry
       → IsTrue has ↔ (count ≤ entry.1.room)) where
-    new-here : is_among (λ (row : RowTail). row.name) name (placed_rows placed live m.entries).rows ≡ false
-    new-here = is-new name placed live found m.entries m.entries is unique behind within
+    new-here : is_among (λ (row : RowTail). row.name) name
+        now.rows ≡ false
+    new-here = is-new name placed live place (in_order order m.entries) m.entries m.entries here apart behind
 
     -- it has too little room
-    pub placed-not : has ≡ false → AnswersPlacing name count
-        (placed_rows placed live m.entries) (placed_rows placed live m.entries) None
+    pub placed-not : has ≡ false → AnswersPlacing name count now now None
     placed-not full = search (rules, new-here, little-room, same-rooms)
 
-    -- one of the epoch before comes
-    pub placed-next : has ≡ true
-        → found < live → {new : List Entry} → IsPutNext placed found m.entries new → AnswersPlacing name count
-        (placed_rows placed live m.entries) (placed_rows (placed + 1) live new) (Some true)
-    placed-next roomy before {new} put = record {
+    -- it has come, and no satellite has less room
+    come : has ≡ true → {rows rest : List RowTail} {rooms : List (List ℕ × ℕ)}
+        → HasSameRooms (rooms_of m.entries) rooms
+        → HasCome name now
+        (record { rows = rows; rest = rest; rooms = rooms })
+        → AnswersPlacing name count now
+        (record { rows = rows; rest = rest; rooms = rooms }) (Some true)
+    come roomy rooms has-come = record {
       placed = record {
         answer = sym (ap not new-here);
-        come = λ t. come-awaited name placed live found _ _ is new unique behind before order.1 put;
+        come = λ t. has-come;
         repeated = λ old. absurd (true≢false old);
-        room = λ t. put.rooms name count (enough-room m found name is unique count has answer roomy);
+        room = λ t. rooms.forth name count (enough-room m index name at unique count has answer roomy);
       };
       unplaced = λ none. absurd (cc none);
-      rooms = record { forth = put.rooms; back = put.back };
+      rooms = rooms;
     }
 
+    -- one of the epoch before comes
+    pub placed-next : has ≡ true → place < live → {new : List Entry}
+        → IsPutNext placed place (in_order order m.entries) new
+        → AnswersPlacing name count now
+        (placed_rows (placed + 1) live new m.entries) (Some true)
+    placed-next roomy before {new} put = come roomy (same-rooms _)
+        (come-awaited name placed live place _ m.entries m.entries here apart new behind before put)
+
+    -- the same, by the order's exchange
+    pub placed-exchanged : has ≡ true → place < live → {next : List ℕ} → next ≡ swap order place placed
+        → AnswersPlacing name count now
+        (placed_rows (placed + 1) live (in_order next m.entries) m.entries) (Some true)
+    placed-exchanged roomy before {next} e = placed-next roomy before
+        (subst (IsPutNext placed place _) (sym (ap (map (entry_at m.entries)) e ∙ map-swap _ order place placed))
+        (put-exchanged placed place _ behind (omega (arith, stands, is.counted, length-map order (entry_at m.entries)))
+        apart))
+
     -- any other one comes
-    pub placed-anew : has ≡ true → live ≤ found → {revived new : List Entry}
-        → IsRevived live found m.entries revived → IsPutNext placed live revived new → AnswersPlacing
-        name count (placed_rows placed live m.entries) (placed_rows (placed + 1) (live + 1) new) (Some true)
-    placed-anew roomy beyond {revived} {new} anew put = record {
-      placed = record {
-        answer = sym (ap not new-here);
-        come = λ t. come-anew name placed live found _ _ is _ new unique order.0 beyond order.1 anew put;
-        repeated = λ old. absurd (true≢false old);
-        room = λ t. put.rooms name count
-            (anew.rooms name count (enough-room m found name is unique count has answer roomy));
-      };
-      unplaced = λ none. absurd (cc none);
-      rooms = search rules;
-    }
+    pub placed-anew : has ≡ true → placed ≤ live → live ≤ place → {after : SatelliteTail} → after ≡ emptied at.satellite
+        → {moved next others : List ℕ} → moved ≡ swap order place live → IsOrder moved others (length m.entries)
+        → next ≡ swap moved live placed
+        → AnswersPlacing name count now
+        (placed_rows (placed + 1) (live + 1) (in_order next (set_value_at m.entries index after))
+        (set_value_at m.entries index after)) (Some true)
+    placed-anew roomy few beyond {after} empty {moved} {next} {others} e ordered f =
+        let es = set_value_at m.entries index after in
+        let blank : Entry = (name, after) in
+        let changed : in_order order es ≡ set (in_order order m.entries) place blank =
+        ap (in_order order) (changed-is m.entries index name at.satellite after at.there)
+        ∙ ap (λ i. in_order order (set m.entries i blank)) (sym stands.0)
+        ∙ set-in_order m.entries is place blank stands.1 in
+        let moved-is : in_order moved es ≡ swap (set (in_order order m.entries) place blank) place live =
+        ap (map (entry_at es)) e ∙ map-swap _ order place live ∙ ap (λ o. swap o place live) changed in
+        let long = length-set_value_at m.entries index after in
+        let below : place < length (in_order order m.entries) =
+        omega (arith, stands, is.counted, length-map order (entry_at m.entries)) in
+        let room = ap (λ (s : SatelliteTail). s.room) empty in
+        come roomy (record {
+          forth = rooms-changed m index name at.satellite after unique at.there (omega (arith, room));
+          back = rooms-changed-back m index name at.satellite after unique at.there (omega (arith, room));
+        }) (come-anew name placed live place (in_order order m.entries) m.entries es here apart (in_order moved es)
+        (in_order next es) few beyond (ap (λ o. slice_get o live) moved-is ∙ revived-there live place _ blank beyond below
+        ∙ ap (λ (s : SatelliteTail). Some (name, s)) empty)
+        (ap (take live) moved-is ∙ revived-front live place _ blank beyond below)
+        (subst (IsPutNext placed live (in_order moved es)) (sym (ap (map (entry_at es)) f ∙ map-swap _ moved live placed))
+        (put-exchanged placed live (in_order moved es) few
+        (omega (arith, stands, beyond, ordered.counted, length-map moved (entry_at es)))
+        (apart-in_order es (subst (IsOrder moved others) (sym long) ordered)
+        (subst (IsDistinct bytes_eq) (sym (keys-with_value_at m index after)) unique)))))
 
 -- one that had no room comes after room was asked for
 pub placed-asked : {name : List ℕ} {count : ℕ} {old asked new : PlacedRows} {is_new : Bool}

@@ -1,15 +1,12 @@
 -- A satellite gets more room, and no row changes.
-use Rattle.std.proofs.Common.{rules, ◌≡◌, ℕ, ◌≤◌, List, length, map, take, drop, slice_get, Some, ap}
-use Rattle.std.proofs.{Common.{◌∙◌, arith}, Math.Seq.map-set_same, lemmas.Grind.common_steps}
-use Rattle.std.proofs.{lemmas.List.{drop-map, length-take, take-map}, lemmas.Option.get_or_from_slice_get}
+use Rattle.crx_compact.proofs.Words.{take-take, length-take-le, slice_index_or}
+use Rattle.std.proofs.Common.{rules, ◌≡◌, ℕ, zero, suc, ◌<◌, ◌≤◌, List, [], ◌∷◌, length, map, take, drop, slice_get, Some, ap}
+use Rattle.std.proofs.{Common.{◌∙◌, arith, refl, sym, get_or}, Math.Seq.map-set_same, Math.ListN.get_or-map}
+use Rattle.std.proofs.{lemmas.List.{drop-map, get_or-take, length-take, take-map}, lemmas.Option.get_or_from_slice_get}
+use Rattle.std.proofs.lemmas.Grind.{common_steps}
 use Rattle.indexmap.specs.IndexMap.{set_value_at}
-use Rattle.crx_compact.specs.{Entries.{Entry, IsFound}, Placing.{HasAskedRoom, PlacedRows, SatelliteTail, row_of_entry}}
+use Rattle.crx_compact.specs.{Entries.{Entry, IsOrder, entry_at, in_order}, Placing.{HasAskedRoom, PlacedRows, SatelliteTail, row_of_entry}}
 use Rattle.crx_compact.proofs.placing.EntryChanges.{changed-is}
-
--- all that were there are still there
-pub none-lost : (name : List ℕ) (found : ℕ) (old new : List Entry) → IsFound name found old new
-    → length old ≤ length new
-none-lost name found old new is = grind (arith, common_steps, length-take)
 
 -- an entry that shows the same row changes no row
 pub rows-same : (es : List Entry) (i : ℕ) (name : List ℕ) (before after : SatelliteTail)
@@ -21,15 +18,46 @@ rows-same es i name before after there flags cells =
       after,
     ) (name, before) (search (rules, get_or_from_slice_get))
 
-module _ (name : List ℕ) (found : ℕ) (old known new : List Entry) (is : IsFound name found old known)
-    (same : map row_of_entry new ≡ map row_of_entry known) where
-  pub front-same : (count : ℕ) → count ≤ length old
-      → map row_of_entry (take count new) ≡ map row_of_entry (take count old)
-  front-same count within =
-      cc (take-map row_of_entry count new, same, take-map row_of_entry count known, is.front count within)
+-- the first ones of the entries show what those before showed
+pub rows-before : (es known new : List Entry) → take (length es) known ≡ es
+    → map row_of_entry new ≡ map row_of_entry known → take (length es) (map row_of_entry new) ≡ map row_of_entry es
+rows-before es known new front same = ap (take (length es)) same ∙ take-map row_of_entry (length es) known
+    ∙ ap (map row_of_entry) front
 
-  pub range-same : (placed live : ℕ) → live ≤ length old
-      → map row_of_entry (drop placed (take live new)) ≡ map row_of_entry (drop placed (take live old))
+-- all that were there are still there
+pub none-lost : (old new : List Entry) → take (length old) new ≡ old → length old ≤ length new
+none-lost old new is = grind (arith, common_steps, length-take)
+
+rows-front : (es new : List Entry) → take (length es) (map row_of_entry new) ≡ map row_of_entry es → (ks : List ℕ)
+    → ((q : ℕ) → q < length ks → slice_index_or ks q 0 < length es)
+    → map row_of_entry (in_order ks new) ≡ map row_of_entry (in_order ks es)
+rows-front es new front [] below = refl
+rows-front es new front (k ∷ ks) below =
+    let row : row_of_entry (entry_at new k) ≡ row_of_entry (entry_at es k) =
+    sym (get_or-map row_of_entry new k (entry_at [] 0))
+    ∙ sym (get_or-take (length es) (map row_of_entry new) k _ (below 0 (omega arith)))
+    ∙ ap (λ rows. get_or rows k (row_of_entry (entry_at [] 0))) front ∙ get_or-map row_of_entry es k (entry_at [] 0) in
+    cc (row, rows-front es new front ks (λ q less. below (suc q) (omega (arith, less))))
+
+-- the rows of an order are those of the longer one that begins with it
+module _ (order places longer : List ℕ) (es new : List Entry) (is : IsOrder order places (length es))
+    (begins : take (length order) longer ≡ order)
+    (front : take (length es) (map row_of_entry new) ≡ map row_of_entry es) where
+  pub front-same : (count : ℕ) → count ≤ length es
+      → map row_of_entry (take count (in_order longer new)) ≡ map row_of_entry (take count (in_order order es))
+  front-same count within =
+      let fits : count ≤ length order = omega (arith, within, is.counted) in
+      let ks : take count longer ≡ take count order =
+      sym (take-take count (length order) longer fits) ∙ ap (take count) begins in
+      ap (map row_of_entry) (take-map (entry_at new) count longer ∙ ap (map (entry_at new)) ks)
+      ∙ rows-front es new front (take count order) (λ q less.
+      let below : q < count = omega (arith, less, length-take-le count order fits) in
+      rw (get_or-take count order q 0 below) (is.index q (omega (arith, below, within))))
+      ∙ ap (map row_of_entry) (sym (take-map (entry_at es) count order))
+
+  pub range-same : (placed live : ℕ) → live ≤ length es
+      → map row_of_entry (drop placed (take live (in_order longer new)))
+      ≡ map row_of_entry (drop placed (take live (in_order order es)))
   range-same placed live within = cc (drop-map _ placed _, front-same live within, drop-map _ placed _)
 
 -- room that was asked for twice

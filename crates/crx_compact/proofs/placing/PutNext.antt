@@ -1,34 +1,62 @@
 -- A satellite that comes is put behind those that have come.
+use Rattle.crx_compact.proofs.placing.EntryChanges.{set-there}
+use Rattle.indexmap.proofs.IndexTableLemmas.Indexes.{swap_self}
+use Rattle.std.proofs.{Common.{◌≤◌, inl, inr, slice_get, Some, subst}, lemmas.Bool.cases_eq}
 use Rattle.std.proofs.Common.{◌≡◌, ℕ, suc, ◌+◌, ◌<◌, List, [], ◌∷◌, ◌++◌, length, take, set, sym, swap, ap}
 use Rattle.std.proofs.{Common.{◌∙◌, arith, length-set}, lemmas.List.{drop-set-lt, take-set-le, take_more_set}}
-use Rattle.std.proofs.{lemmas.List.Edits.length-swap, Math.Seq.take-set-lt, lemmas.Grind.common_steps}
-use Rattle.std.specs.{Str.bytes_eq, List.IsDistinct, Map.{keys_of, lookup}}
+use Rattle.std.proofs.{Math.Seq.take-set-lt, lemmas.Grind.common_steps}
+use Rattle.std.specs.{Str.bytes_eq, List.IsDistinct, Map.keys_of}
 use Rattle.crx_compact.specs.Entries.{Entry, IsPutNext, key_of}
-use Rattle.crx_compact.proofs.{placing.Ranges.{rest-brought, rest-next, swap-is}, placing.Rooms.rooms-kept}
-use Rattle.crx_compact.proofs.{Making.taken_more, RowByRow.is-there}
+use Rattle.crx_compact.proofs.placing.Ranges.{rest-brought, rest-next, swap-is}
+use Rattle.crx_compact.proofs.{Making.taken_more, RowByRow.{IsThere, is-there}}
 
 -- where it is there already
 pub put-same : (placed : ℕ) (es : List Entry) → IsPutNext placed placed es es
 put-same placed es = grind (arith, common_steps, taken_more, key_of, rest-next)
 
--- where it is brought from further behind
-pub put-brought : (placed found : ℕ) (old new : List Entry) → placed < found
-    → found < length old → new ≡ swap old found placed → IsDistinct bytes_eq (keys_of old) → ((name : List ℕ)
-    → lookup (bytes_eq name) new ≡ lookup (bytes_eq name) old) → IsPutNext placed found old new
-put-brought placed found old new before within is apart looked =
-    let first = is-there old placed (omega arith) in
-    let a = first.item in
-    let next : placed + 1 ≡ suc placed = omega arith in
-    record {
-      come = λ entry there. ap (take (placed + 1)) (is ∙ swap-is old found placed entry a there first.there)
-          ∙ take_more_set (set old found a) placed entry (omega (arith, length-set old found a))
-          ∙ ap (λ es. es ++ entry ∷ []) (take-set-le placed old found a (omega arith));
-      others = λ live entry other near there differs.
-          let moved = swap-is old found placed entry a there first.there in
-          let taken = take-set-lt live (set old found a) placed entry (omega arith) in
-          let dropped = drop-set-lt (placed + 1) (take live (set old found a)) placed entry (omega arith) in
-          cc (rest-brought placed live found old a entry other before near first.there there apart differs);
-      counted = ap length is ∙ length-swap old found placed;
-      rooms = rooms-kept old new (λ name satellite known. (satellite, looked name ∙ known, omega arith));
-      back = rooms-kept new old (λ name satellite known. (satellite, sym (looked name) ∙ known, omega arith));
-    }
+-- where it is exchanged with the first one that hasn't come
+pub put-exchanged : (placed found : ℕ) (old : List Entry) → placed ≤ found → found < length old
+    → IsDistinct bytes_eq (keys_of old) → IsPutNext placed found old (swap old found placed)
+put-exchanged placed found old order is apart =
+    elim (cases_eq placed found) [
+      | inl e ↦ rw (← e) (subst (IsPutNext placed placed old) (sym (swap_self old placed)) (put-same placed old))
+      | inr differs ↦ put-brought placed found old (omega (arith, order, differs)) is apart
+    ]
+  where
+    put-brought : (placed found : ℕ) (old : List Entry) → placed < found → found < length old
+        → IsDistinct bytes_eq (keys_of old) → IsPutNext placed found old (swap old found placed)
+    put-brought placed found old before is apart =
+        let first = is-there old placed (omega arith) in
+        let a = first.item in
+        let next : placed + 1 ≡ suc placed = omega arith in
+        record {
+          come = λ entry there. ap (take (placed + 1)) (swap-is old found placed entry a there first.there)
+              ∙ take_more_set (set old found a) placed entry (omega (arith, length-set old found a))
+              ∙ ap (λ es. es ++ entry ∷ []) (take-set-le placed old found a (omega arith));
+          others = λ live entry other near there differs.
+              let moved = swap-is old found placed entry a there first.there in
+              let taken = take-set-lt live (set old found a) placed entry (omega arith) in
+              let dropped = drop-set-lt (placed + 1) (take live (set old found a)) placed entry (omega arith) in
+              cc (rest-brought placed live found old a entry other before near first.there there apart differs);
+        }
+
+-- one that means nothing is brought to the first place behind those that do
+module _ (live place : ℕ) (old : List Entry) (blank : Entry) (behind : live ≤ place) (within : place < length old)
+  where
+    counted : length (set old place blank) ≡ length old
+    counted = length-set old place blank
+
+    first : IsThere (set old place blank) live
+    first = is-there (set old place blank) live (omega (arith, behind, within, counted))
+
+    revived : swap (set old place blank) place live ≡ set (set (set old place blank) place first.item) live blank
+    revived = swap-is (set old place blank) place live blank first.item (set-there old place blank within) first.there
+
+    pub revived-there : slice_get (swap (set old place blank) place live) live ≡ Some blank
+    revived-there = ap (λ es. slice_get es live) revived ∙ set-there (set (set old place blank) place first.item) live
+        blank (omega (arith, behind, within, counted, length-set (set old place blank) place first.item))
+
+    pub revived-front : take live (swap (set old place blank) place live) ≡ take live old
+    revived-front = ap (take live) revived
+        ∙ take-set-le live (set (set old place blank) place first.item) live blank (omega arith)
+        ∙ take-set-le live (set old place blank) place first.item behind ∙ take-set-le live old place blank behind

@@ -1,15 +1,17 @@
 -- What is stored of one satellite among those that have come changes: its row, and no other one.
 use Rattle.crx_compact.proofs.Words.{◌≡◌, ℕ, zero, suc, ◌-◌, ◌<◌, ◌≤◌, List, [], ◌∷◌, ◌++◌, length, map, take}
-use Rattle.crx_compact.proofs.Words.{slice_get, drop, Option, Some, None, refl, ap, ◌∙◌, arith, slice_set}
+use Rattle.crx_compact.proofs.Words.{slice_get, drop, Option, Some, None, refl, ap, sym, ◌∙◌, arith, slice_set}
 use Rattle.crx_compact.proofs.Words.{slice_index_or, bytes_eq, length-map, length-take-le}
 use Rattle.crx_compact.proofs.Words.{slice_get-map, index-each_place, without_end_blanks, each_place}
 use Rattle.crx_compact.proofs.Words.{text_difference, Row, ArcTail, cell_text, padded, flags_held}
 use Rattle.crx_compact.proofs.{Words.{row_line_after, row_tail_after, RowTail}, placing.Found.at-seam}
+use Rattle.crx_compact.proofs.placing.Orders.{set-in_order, there-in_order}
+use Rattle.std.proofs.Common.{set}
 use Rattle.crx_compact.proofs.placing.EntryChanges.{changed-is, rooms-changed, rooms-changed-back}
 use Rattle.std.specs.Prelude.{flat_map}
 use Rattle.std.proofs.{Math.Seq.{take-set-lt, set-append_seam}, lemmas.Grind.common_steps}
 use Rattle.std.proofs.lemmas.List.{drop-set-lt, map-set, length-take, length-append}
-use Rattle.crx_compact.specs.{Cells.{arcs_of_cells, codes_of_cells}, Entries.{Entry, placed_rows}}
+use Rattle.crx_compact.specs.{Cells.{arcs_of_cells, codes_of_cells}, Entries.{Entry, IsOrder, in_order, placed_rows}}
 use Rattle.crx_compact.specs.Placing.{KeepsRest, SatelliteTail, cells_for, row_tail_of, row_of_entry}
 use Rattle.indexmap.specs.{IndexMap.{IndexMap, IsUnique, set_value_at}, Layout.length-set_value_at}
 
@@ -29,6 +31,10 @@ rows-counted placed es within = length-map (take placed es) row_of_entry ∙ len
 pub among-placed : (placed i : ℕ) (es : List Entry) → i < length (rows_of placed es) → i < placed
 among-placed placed i es within = grind (arith, common_steps, length-map, row_of_entry, length-take)
 
+row-below : (placed : ℕ) {i : ℕ} (order : List ℕ) (es : List Entry) → i < length (rows_of placed (in_order order es))
+    → length order ≡ length es → i < length es
+row-below placed order es within counted = grind (arith, common_steps, length-map, row_of_entry, length-take)
+
 -- the row at an index is that of the entry there
 pub record IsRowAt (placed i : ℕ) (es : List Entry) (e : Entry) : Type 0 where
   pub below : i < placed
@@ -39,33 +45,47 @@ pub row-at : (placed : ℕ) {i : ℕ} {es : List Entry} {e : Entry} → i < leng
     → slice_get es i ≡ Some e → IsRowAt placed i es e
 row-at placed {i} {es} {e} within entry = grind (arith, common_steps, slice_get-map, get-take)
 
--- ---- what is stored of the satellite at an index changes
+pub row-here : {order places : List ℕ} (es : List Entry) → IsOrder order places (length es) → (placed : ℕ) {i : ℕ}
+    {index : ℕ} {e : Entry} → i < length (rows_of placed (in_order order es)) → index ≡ slice_index_or order i 0
+    → slice_get es index ≡ Some e → IsRowAt placed i (in_order order es) e
+row-here {order} es is placed {i} within same there = row-at placed within (there-in_order es is i _
+    (row-below placed order es within is.counted) (ap (slice_get es) (sym same) ∙ there))
 
-pub order-kept : {placed live : ℕ} (i : ℕ) (es : List Entry) (after : SatelliteTail)
-    → (placed ≤ live) × (live ≤ length es) → (placed ≤ live) × (live ≤ length (set_value_at es i after))
-order-kept i es after order = (order.0, omega (arith, order.1, length-set_value_at es i after))
+-- ---- what is stored of the satellite at a place changes
 
-module _ {S : Type 0} (m : IndexMap (List ℕ) SatelliteTail S) (placed live : ℕ) {i : ℕ} {name : List ℕ}
-    {before : SatelliteTail} (within : i < length (rows_of placed m.entries))
-    (there : slice_get m.entries i ≡ Some (name, before)) (after : SatelliteTail) where
-  pub rows-changed : rows_of placed (set_value_at m.entries i after)
-      ≡ slice_set (rows_of placed m.entries) i (row_tail_of name after)
-  rows-changed = grind (arith, common_steps, changed-is, row_of_entry, take-set-lt, among-placed, map-set)
+pub order-kept : {placed live : ℕ} {order places : List ℕ} (i : ℕ) (es : List Entry) (after : SatelliteTail)
+    → (placed ≤ live) × (live ≤ length es) × IsOrder order places (length es) → (placed ≤ live)
+    × (live ≤ length (set_value_at es i after)) × IsOrder order places (length (set_value_at es i after))
+order-kept i es after order = rw (length-set_value_at es i after) order
+
+module _ {S : Type 0} (m : IndexMap (List ℕ) SatelliteTail S) {order places : List ℕ}
+    (is : IsOrder order places (length m.entries)) (placed live : ℕ) {i index : ℕ} {name : List ℕ}
+    {before : SatelliteTail} (within : i < length (rows_of placed (in_order order m.entries)))
+    (same : index ≡ slice_index_or order i 0) (there : slice_get m.entries index ≡ Some (name, before))
+    (after : SatelliteTail) where
+  changed : in_order order (set_value_at m.entries index after) ≡ set (in_order order m.entries) i (name, after)
+  changed = ap (in_order order) (changed-is m.entries index name before after there)
+      ∙ ap (λ k. in_order order (set m.entries k (name, after))) same ∙ set-in_order m.entries is i (name, after) (row-below placed order m.entries within is.counted)
+
+  pub rows-changed : rows_of placed (in_order order (set_value_at m.entries index after))
+      ≡ slice_set (rows_of placed (in_order order m.entries)) i (row_tail_of name after)
+  rows-changed = ap (rows_of placed) changed ∙ grind (arith, common_steps, row_of_entry, take-set-lt, among-placed, map-set)
 
   -- and the rest stays
-  pub rest-kept : (placed ≤ live) × (live ≤ length m.entries)
-      → IsUnique bytes_eq m → before.room ≡ after.room → KeepsRest
-      (placed_rows placed live m.entries) (placed_rows placed live (set_value_at m.entries i after))
-  rest-kept order unique same =
+  pub rest-kept : placed ≤ live → IsUnique bytes_eq m → before.room ≡ after.room → KeepsRest
+      (placed_rows placed live (in_order order m.entries) m.entries)
+      (placed_rows placed live (in_order order (set_value_at m.entries index after))
+      (set_value_at m.entries index after))
+  rest-kept few unique roomy =
+      let os = in_order order m.entries in
       let below = among-placed placed i _ within in
       record {
-        rest = ap (λ es. map row_of_entry (drop placed (take live es)))
-            (changed-is m.entries i name before after there) ∙ ap (λ es. map row_of_entry (drop placed es))
-            (take-set-lt live m.entries i (name, after) (omega arith))
-            ∙ ap (map row_of_entry) (drop-set-lt placed (take live m.entries) i (name, after) below);
+        rest = ap (λ es. map row_of_entry (drop placed (take live es))) changed
+            ∙ ap (λ es. map row_of_entry (drop placed es)) (take-set-lt live os i (name, after) (omega (arith, few, below)))
+            ∙ ap (map row_of_entry) (drop-set-lt placed (take live os) i (name, after) below);
         rooms = record {
-          forth = rooms-changed m i name before after unique there (omega (arith, same));
-          back = rooms-changed-back m i name before after unique there (omega (arith, same));
+          forth = rooms-changed m index name before after unique there (omega (arith, roomy));
+          back = rooms-changed-back m index name before after unique there (omega (arith, roomy));
         };
       }
 

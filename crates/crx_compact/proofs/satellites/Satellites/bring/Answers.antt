@@ -1,51 +1,66 @@
-use Rattle.std.proofs.{Common.{arith, refl}, lemmas.Option.slice_get_within}
-use Rattle.crx_compact.proofs.placing.Placed.{placed-again, placed-anew, placed-next, placed-not}
-use Rattle.crx_compact.proofs.{placing.Found.not-found, placing.Placed.placed-unknown}
+use Rattle.std.proofs.{Common.{arith, ap, refl, rules, subst, sym, ◌∙◌}, lemmas.Option.{same_Some, slice_get_within}}
+use Rattle.indexmap.specs.Layout.{length-set_value_at}
+use Rattle.crx_compact.specs.Entries.{Entry, IsOrder}
+use Rattle.crx_compact.proofs.placing.{Coming.emptied, Found.not-found, Orders.{none-in_order, place-is}}
+use Rattle.crx_compact.proofs.placing.Placed.{placed-again, placed-anew, placed-exchanged, placed-not, placed-unknown}
 use Rattle.crx_compact.proofs.satellites.Satellites.bring.Goals as goal
 
 pub returns-in_default : goal.returns-in_default
 returns-in_default c =
-    rw (← c.self.view_is) (placed-unknown _ _ _ (not-found c.args.name.now _ (c.in_default.ensures.unknown
-    refl)))
+    let none = not-found c.args.name.now _ (c.in_default.ensures.unknown refl) in
+    rw (← c.self.view_is) (placed-unknown _ _ _ _ (none-in_order _ c.self.invariant.2 c.args.name.now none) none)
 
-pub returns-then-found-self : goal.returns-then-found-self
-returns-then-found-self c =
-    rw (← c.self.view_is)
-    (placed-again c.self.inside.known c.in-Some.ensures.found c.len.ensures.unique c.self.invariant
-    c.if-found-self.true)
+pub returns-then-place-self : goal.returns-then-place-self
+returns-then-place-self c =
+    let stands = place-is c.self.invariant.2 c.in-Some.ensures.found c.number_at-place.ensures.value in
+    rw (← c.self.view_is) (placed-again c.self.inside.known c.find.ensures.unique c.self.invariant.2 _ _
+    c.in-Some.ensures.found stands c.if-place-self.true)
 
 pub has_room_at-requires : goal.has_room_at-requires
-has_room_at-requires c = grind (arith, slice_get_within, c.in-Some.ensures.found.there)
+has_room_at-requires c = record { within = slice_get_within _ _ _ c.in-Some.ensures.found.there }
 
 pub returns-then-not-has_room_at : goal.returns-then-not-has_room_at
 returns-then-not-has_room_at c =
-    rw (← c.self.view_is)
-    (placed-not c.self.inside.known c.in-Some.ensures.found c.len.ensures.unique c.self.invariant
-    c.if-found-self.false c.has_room_at.ensures.value c.if-not-has_room_at.true)
+    let stands = place-is c.self.invariant.2 c.in-Some.ensures.found c.number_at-place.ensures.value in
+    rw (← c.self.view_is) (placed-not c.self.inside.known c.find.ensures.unique c.self.invariant.2 _ _
+    c.in-Some.ensures.found stands c.if-place-self.false c.has_room_at.ensures.value c.if-not-has_room_at.true)
 
-pub returns-then-found-self-2 : goal.returns-then-found-self-2
-returns-then-found-self-2 c =
-    rw (← c.self.view_is)
-    (placed-next c.self.inside.known c.in-Some.ensures.found c.len.ensures.unique c.self.invariant
-    c.if-found-self.false c.has_room_at.ensures.value c.if-not-has_room_at.false c.if-found-self-2.true
-    c.put_next.ensures.put)
+pub returns-then-place-self-2 : goal.returns-then-place-self-2
+returns-then-place-self-2 c =
+    let stands = place-is c.self.invariant.2 c.in-Some.ensures.found c.number_at-place.ensures.value in
+    rw (← c.self.view_is) (placed-exchanged c.self.inside.known c.find.ensures.unique c.self.invariant.2 _ _
+    c.in-Some.ensures.found stands c.if-place-self.false c.has_room_at.ensures.value c.if-not-has_room_at.false
+    c.if-place-self-2.true c.exchange.ensures.exchanged)
+
+pub pair_mut-satellite-requires : goal.pair_mut-satellite-requires
+pair_mut-satellite-requires c = slice_get_within _ _ _ c.in-Some.ensures.found.there
+
+pub exchange-requires-2-clause-within : goal.exchange-requires-2-clause-within
+exchange-requires-2-clause-within c =
+    let stands = place-is c.self.invariant.2 c.in-Some.ensures.found c.number_at-place.ensures.value in
+    grind (arith, stands.1, c.if-place-self-2.false, c.self.invariant.2.counted)
+
+pub exchange-requires-3-clause-within : goal.exchange-requires-3-clause-within
+exchange-requires-3-clause-within c =
+    let stands = place-is c.self.invariant.2 c.in-Some.ensures.found c.number_at-place.ensures.value in
+    grind (arith, stands.1, c.if-place-self-2.false, c.exchange-2.ensures.order.counted, c.self.invariant.2.counted)
 
 pub returns : goal.returns
 returns c =
-    rw (← c.self.view_is)
-    (placed-anew c.self.inside.known c.in-Some.ensures.found c.len.ensures.unique c.self.invariant
-    c.if-found-self.false c.has_room_at.ensures.value c.if-not-has_room_at.false c.if-found-self-2.false
-    c.revive.ensures.revived c.put_next-2.ensures.put)
-
-pub revive-requires-clause-within : goal.revive-requires-clause-within
-revive-requires-clause-within c = slice_get_within _ c.in-Some.found _ c.in-Some.ensures.found.there
-
-pub put_next-requires-2-clause-within : goal.put_next-requires-2-clause-within
-put_next-requires-2-clause-within c =
-    let near = slice_get_within c.self.inside.known.entries c.in-Some.found _
-    c.in-Some.ensures.found.there in
-    omega (arith, near, c.if-found-self-2.false, c.revive.ensures.revived.counted)
+    let found = c.in-Some.ensures.found in
+    let order = c.self.invariant.2 in
+    let same = same_Some _ _ (sym found.there ∙ c.pair_mut-satellite.ensures.value) in
+    rw (← c.self.view_is) (placed-anew c.self.inside.known c.find.ensures.unique order _ _ found
+    (place-is order found c.number_at-place.ensures.value) c.if-place-self.false c.has_room_at.ensures.value
+    c.if-not-has_room_at.false c.self.invariant.0 c.if-place-self-2.false
+    (c.resize.ensures.resized ∙ ap (λ (e : Entry). emptied e.1) (sym same)) c.exchange-2.ensures.exchanged
+    (subst (IsOrder _ _) order.counted c.exchange-2.ensures.order) c.exchange-3.ensures.exchanged)
 
 pub invariant_of-self-2 : goal.invariant_of-self-2
 invariant_of-self-2 c =
-    grind (arith, slice_get_within, c.revive.ensures.revived.counted, c.put_next-2.ensures.put.counted)
+    let stands = place-is c.self.invariant.2 c.in-Some.ensures.found c.number_at-place.ensures.value in
+    rw (length-set_value_at c.self.inside.known.entries c.in-Some.found c.resize.new.self) (
+      omega (arith, c.self.invariant.0),
+      omega (arith, stands.1, c.if-place-self-2.false),
+      subst (IsOrder _ _) (c.exchange-2.ensures.order.counted ∙ c.self.invariant.2.counted) c.exchange-3.ensures.order,
+    )

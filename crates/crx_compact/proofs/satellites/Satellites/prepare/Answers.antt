@@ -1,22 +1,11 @@
 use Rattle.std.proofs.Common.{rules, ◌≤◌, arith, subst, sym, ◌∙◌}
-use Rattle.std.proofs.{lemmas.Option.same_Some, lemmas.Result.on_ok_weaker}
-use Rattle.indexmap.specs.Layout.{length-set_value_at}
+use Rattle.std.proofs.{lemmas.Option.{same_Some, slice_get_within}, lemmas.Result.on_ok_weaker}
+use Rattle.indexmap.specs.{IndexMap.set_value_at, Layout.length-set_value_at}
 use Rattle.crx_compact.proofs.placing.EntryChanges.{has-room, room-there, rooms-changed}
-use Rattle.crx_compact.proofs.placing.Prepared.{front-same, none-lost, range-same, rows-same}
+use Rattle.crx_compact.proofs.placing.Prepared.{front-same, none-lost, range-same, rows-before, rows-same}
 use Rattle.crx_compact.proofs.placing.Rooms.{unknown}
 use Rattle.crx_compact.specs.{Entries.Entry}
 use Rattle.crx_compact.proofs.satellites.Satellites.prepare.Goals as goal
-
-pub invariant_of-self-2 : goal.invariant_of-self-2
-invariant_of-self-2 c =
-    let found = c.in_ok-found.ensures.found in
-    omega (arith, none-lost, found, c.self.invariant.1, c.self.invariant.0, length-set_value_at)
-
-pub returns-clause-asked : goal.returns-clause-asked
-returns-clause-asked c = record {
-  asked = search (rules, rows-same, front-same, range-same, rooms-changed);
-  room = on_ok_weaker c.make_room.result (search (rules, has-room)) c.make_room.ensures.room;
-}
 
 pub returns-in_err-found-clause-known : goal.returns-in_err-found-clause-known
 returns-in_err-found-clause-known c =
@@ -26,8 +15,45 @@ returns-in_err-found-clause-known c =
 pub returns-clause-known : goal.returns-clause-known
 returns-clause-known c =
     let is = c.in_ok-found.ensures.found in
-    let same = same_Some _ _ (sym is.there ∙ c.pair_mut-satellite.ensures.value) in
+    let same = same_Some _ _ (sym is.at.there ∙ c.pair_mut-satellite.ensures.value) in
     rw (← c.self.view_is)
     (λ has. c.make_room.ensures.known (subst (λ (e : Entry). c.args.count ≤ e.1.room) same
-    (room-there c.find_or_add.new.map c.in_ok-found.found c.args.name is.satellite c.make_room.new.self
-    c.find_or_add.ensures.unique is.there c.args.count (is.rooms c.args.name c.args.count has))))
+    (room-there c.find_or_add.new.map c.in_ok-found.found c.args.name is.at.satellite c.make_room.new.self
+    c.find_or_add.ensures.unique is.at.there c.args.count (is.rooms c.args.name c.args.count has))))
+
+pub pair_mut-satellite-requires : goal.pair_mut-satellite-requires
+pair_mut-satellite-requires c = slice_get_within _ _ _ c.in_ok-found.ensures.found.at.there
+
+pub invariant_of-self-2 : goal.invariant_of-self-2
+invariant_of-self-2 c =
+    let known = c.find_or_add.new.map.entries in
+    let more = none-lost c.self.inside.known.entries known c.in_ok-found.ensures.found.known in
+    let all = c.self.invariant.1 in
+    rw (length-set_value_at known c.in_ok-found.found c.make_room.new.self)
+    (c.self.invariant.0, omega (arith, all, more), c.find_or_add.ensures.order)
+
+pub returns-clause-asked : goal.returns-clause-asked
+returns-clause-asked c =
+    let self = c.self.inside in
+    let es = self.known.entries in
+    let few = c.self.invariant.0 in
+    let all = c.self.invariant.1 in
+    let is = c.in_ok-found.ensures.found in
+    let map = c.find_or_add.new.map in
+    let there = c.pair_mut-satellite.ensures.value in
+    let room = c.make_room.ensures in
+    let unique = c.find_or_add.ensures.unique in
+    let new = set_value_at map.entries c.in_ok-found.found c.make_room.new.self in
+    let front = rows-before es map.entries new is.known (rows-same map.entries c.in_ok-found.found _ _
+    c.make_room.new.self there room.flags room.cells) in
+    rw (← c.self.view_is) (record {
+      asked = record {
+        rows = front-same self.order.items self.places.items _ es new c.self.invariant.2 c.find_or_add.ensures.front front
+            self.placed (omega (arith, few, all));
+        rest = range-same self.order.items self.places.items _ es new c.self.invariant.2 c.find_or_add.ensures.front front
+            self.placed self.live all;
+        rooms = λ name count has. rooms-changed map c.in_ok-found.found _ _ _ unique there room.kept name count
+            (is.rooms name count has);
+      };
+      room = on_ok_weaker c.make_room.result (search (rules, has-room)) c.make_room.ensures.room;
+    })

@@ -1,0 +1,107 @@
+-- The entries of a map in an order of their indices.
+use Rattle.std.proofs.Common.{◌≡◌, ℕ, zero, suc, ◌+◌, ◌<◌, ◌≤◌, false, List, [], ◌∷◌, ◌++◌, length, map, set, swap}
+use Rattle.std.proofs.Common.{slice_get, get_or, Some, option_map, refl, ap, sym, ◌∙◌, inl, inr, arith, length-set}
+use Rattle.std.proofs.lemmas.Bool.{cases_Bool, cases_lt, cases_eq, false≢true}
+use Rattle.std.proofs.lemmas.List.{get_or-map, get_or-set_other, get_or-set_same, get_or_append_left, length-append, length-map}
+use Rattle.std.proofs.lemmas.List.Folds.{list_any_at, list_any_none}
+use Rattle.std.proofs.lemmas.Grind.{common_steps}
+use Rattle.std.proofs.lemmas.Map.Keys.{IsDistinct-from_apart, apart_from_distinct}
+use Rattle.std.proofs.lemmas.Option.{get_or_from_slice_get, slice_get-get_or, slice_get-map, slice_get_within}
+use Rattle.std.specs.{Str.bytes_eq, List.IsDistinct, Map.keys_of}
+use Rattle.crx_header.specs.meaning.Satellites.{is_among}
+use Rattle.crx_header.proofs.Apart.{other_way}
+use Rattle.crx_compact.specs.Entries.{Entry, IsAt, IsOrder, entry_at, in_order, key_of}
+
+-- the place of an index where a satellite is
+pub place-is : {order places : List ℕ} {es : List Entry} {name : List ℕ} {index place : ℕ}
+    → IsOrder order places (length es) → IsAt name es index → place ≡ get_or places index 0
+    → (get_or order place 0 ≡ index) × (place < length es)
+place-is {order} {places} {es} {name} {index} is at e =
+    let below = slice_get_within es index (name, at.satellite) at.there in
+    (ap (λ n. get_or order n 0) e ∙ is.back index below, rw e (is.place index below))
+
+module _ {order places : List ℕ} (es : List Entry) (is : IsOrder order places (length es)) where
+  pub length-in_order : length (in_order order es) ≡ length es
+  length-in_order = length-map order (entry_at es) ∙ is.counted
+
+  pub there-in_order : (place : ℕ) (e : Entry) → place < length es → slice_get es (get_or order place 0) ≡ Some e
+      → slice_get (in_order order es) place ≡ Some e
+  there-in_order place e within there =
+      slice_get-map (entry_at es) order place
+      ∙ ap (option_map (entry_at es)) (slice_get-get_or order place 0 (omega (arith, within, is.counted)))
+      ∙ ap Some (get_or_from_slice_get es _ e _ there)
+
+  -- one that isn't known isn't among them
+  pub none-in_order : (name : List ℕ) → is_among key_of name es ≡ false → is_among key_of name (in_order order es) ≡ false
+  none-in_order name none =
+      list_any_none (λ (e : Entry). bytes_eq (key_of e) name) (in_order order es) (λ i d less.
+      let below = is.index i (omega (arith, less, length-in_order)) in
+      rw (get_or-map (entry_at es) order i 0 d (omega (arith, less, length-map order (entry_at es))))
+      (elim (cases_Bool (bytes_eq (key_of (entry_at es (get_or order i 0))) name)) [
+        | inl t ↦ absurd (false≢true (sym none ∙ list_any_at (λ (e : Entry). bytes_eq (key_of e) name) es
+            (get_or order i 0) _ below t))
+        | inr f ↦ f
+      ]))
+
+  -- no two of them have one identifier
+  pub apart-in_order : IsDistinct bytes_eq (keys_of es) → IsDistinct bytes_eq (keys_of (in_order order es))
+  apart-in_order apart = IsDistinct-from_apart bytes_eq (keys_of (in_order order es)) (λ i j d less within.
+      let counted : length (keys_of (in_order order es)) ≡ length es =
+      length-map (in_order order es) key_of ∙ length-in_order in
+      let one = get_or order i 0 in
+      let other = get_or order j 0 in
+      let key : (k : ℕ) → k < length es → get_or (keys_of (in_order order es)) k d
+      ≡ get_or (keys_of es) (get_or order k 0) d = λ k below.
+      get_or-map key_of (in_order order es) k (entry_at es 0) d (omega (arith, below, length-in_order))
+      ∙ ap key_of (get_or-map (entry_at es) order k 0 _ (omega (arith, below, is.counted)))
+      ∙ sym (get_or-map key_of es (get_or order k 0) _ d (is.index k below)) in
+      let far : one ≡ other → ⊥ = λ e. omega (
+        arith,
+        less,
+        is.forth i (omega (arith, less, within, counted)),
+        is.forth j (omega (arith, within, counted)),
+        ap (λ n. get_or places n 0) e,
+      ) in
+      let keys : length (keys_of es) ≡ length es = length-map es key_of in
+      let low = is.index i (omega (arith, less, within, counted)) in
+      let high = is.index j (omega (arith, within, counted)) in
+      rw (key i (omega (arith, less, within, counted)), key j (omega (arith, within, counted)))
+      (elim (cases_lt one other) [
+        | inl before ↦ apart_from_distinct bytes_eq (keys_of es) one other d apart before (omega (arith, high, keys))
+        | inr after ↦ other_way (get_or (keys_of es) other d) (get_or (keys_of es) one d) (apart_from_distinct bytes_eq (keys_of es) other one d apart
+            (elim (cases_eq one other) [ inl e ↦ absurd (far e) | inr differs ↦ omega (arith, after, differs) ])
+            (omega (arith, low, keys)))
+      ]))
+
+  -- another entry at an index is in the index's place
+  pub set-in_order : (place : ℕ) (e : Entry) → place < length es → in_order order (set es (get_or order place 0) e)
+      ≡ set (in_order order es) place e
+  set-in_order place e within =
+      changed order place (omega (arith, within, is.counted)) (is.index place within)
+      (λ q below same. let a = is.forth q (omega (arith, below, is.counted)) in let b = is.forth place within in
+      let c = ap (λ n. get_or places n 0) same in omega (arith, a, b, c))
+    where
+      kept : (index : ℕ) (ks : List ℕ) → ((q : ℕ) → q < length ks → get_or ks q 0 ≡ index → ⊥)
+          → map (entry_at (set es index e)) ks ≡ map (entry_at es) ks
+      kept index [] h = refl
+      kept index (k ∷ ks) h =
+          rw (get_or-set_other es index k e _ (λ same. h 0 (omega arith) same))
+          (ap (λ r. entry_at es k ∷ r) (kept index ks (λ q below. h (suc q) (omega (arith, below)))))
+
+      changed : (ks : List ℕ) (p : ℕ) → p < length ks → get_or ks p 0 < length es
+          → ((q : ℕ) → q < length ks → get_or ks q 0 ≡ get_or ks p 0 → q ≡ p)
+          → map (entry_at (set es (get_or ks p 0) e)) ks ≡ set (map (entry_at es) ks) p e
+      changed [] p less below h = absurd (omega (arith, less))
+      changed (k ∷ ks) zero less below h =
+          rw (get_or-set_same es k e _ below) (ap (λ r. e ∷ r) (kept k ks (λ q under same.
+          let no = h (suc q) (omega (arith, under)) same in omega (arith, no))))
+      changed (k ∷ ks) (suc p) less below h =
+          rw (get_or-set_other es (get_or ks p 0) k e _ (λ same.
+          let no = h 0 (omega arith) same in omega (arith, no)))
+          (ap (λ r. entry_at es k ∷ r) (changed ks p (omega (arith, less)) below (λ q under same.
+          let one = h (suc q) (omega (arith, under)) same in omega (arith, one))))
+
+-- one more index is behind the others
+pub more-ordered : (order places : List ℕ) (count : ℕ) → IsOrder order places count
+    → IsOrder (order ++ count ∷ []) (places ++ count ∷ []) (count + 1)
+more-ordered order places count is = grind (arith, common_steps, get_or_append_left, length-append)
