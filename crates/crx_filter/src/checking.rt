@@ -2,6 +2,7 @@
 
 ghost use Rattle.std.specs.Prelude.{◌≡◌, ◌≤◌, ◌<◌, ◌+◌, ◌++◌, ◌∷◌, ℕ, List, [], true, false, length, OnErr, OnOk, IfErr, IfOk};
 ghost use Rattle.crx_base.specs.declared.limits.TheConstants.{INPUT_LIMIT, SATELLITES_LIMIT};
+ghost use Rattle.crx_base.specs.Padded.{line_in};
 ghost use Rattle.crx_lines.specs.Reading.{line_number, line_shown};
 ghost use Rattle.crx_header.specs.Identifiers.{has_identifier};
 ghost use Rattle.crx_rinex.specs.Printing.{last_line};
@@ -26,7 +27,7 @@ use crate::rinex_reader::{RinexReader, RinexStep};
 use crate::stage::Stage;
 use crate::totals::{counted, is_given_back};
 use crx_base::limits::VERSION_WIDTH;
-use crx_base::{Fault, Options};
+use crx_base::{Fault, Options, Padded};
 use crx_header::Identifiers;
 use crx_lines::Line;
 use crx_runs::HandedOut;
@@ -121,17 +122,18 @@ pub fn no_options() -> Options
 fn take_row(
     reader: &mut RinexReader,
     names: &mut Identifiers,
-    line: &[u8],
+    line: Padded<'_>,
 ) -> Result<RinexStep, Fault>
     requires open { is_open_stage reader.old.stage ≡ true }
     requires named { AreNamed names.old reader.old.rows.rows }
-    ensures takes { (kept : Written) → IfOk result
-        (λ step. TakesRinexLine (made_at reader.old line.now kept) reader.old line.now step reader.new) }
-    ensures refused { (kept : Written) → IfErr result (λ fault. made_at reader.old line.now kept ≡ Rejects fault) }
+    ensures takes { (kept : Written) → IfOk result (λ step. TakesRinexLine
+        (made_at reader.old (line_in line.entry) kept) reader.old (line_in line.entry) step reader.new) }
+    ensures refused { (kept : Written) → IfErr result
+        (λ fault. made_at reader.old (line_in line.entry) kept ≡ Rejects fault) }
     ensures steps { IfOk result (λ step. is_row step ≡ true) }
     ensures same { OnErr result (IsSameReader reader.old reader.new) }
     ensures named { is_open_stage reader.new.stage ≡ true → AreNamed names.new reader.new.rows.rows }
-    ensures read { OnOk result (LastRowIsReadFrom line.now reader.new) }
+    ensures read { OnOk result (LastRowIsReadFrom (line_in line.entry) reader.new) }
     ensures rows { OnOk result (reader.new.rows.rows ≡ reader.old.rows.rows ++ reader.new.row ∷ []) }
 {
     reader.read_row(line)?;
@@ -237,7 +239,7 @@ impl Direction for Checking {
 
     #[inline(always)]
     fn go_on(&mut self, line: Line<'_>) -> Result<bool, Fault> {
-        let step = take_row(&mut self.reader, &mut self.names, line.bytes())?;
+        let step = take_row(&mut self.reader, &mut self.names, line.padded())?;
         self.noted.note(&self.reader, step, line);
         Ok(false)
     }

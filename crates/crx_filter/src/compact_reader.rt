@@ -18,7 +18,7 @@ ghost use Rattle.crx_filter.specs.declared.stage.Stage.TheVariants.{Between, Loo
 use crate::first_lines::{check_program, check_version};
 use crate::stage::{Stage, after_header_line, counts_types, with_records_left};
 use crate::types_lines::{accept_header_line, accept_record};
-use crx_base::Fault;
+use crx_base::{Fault, Padded};
 use crx_compact::{Block, Columns};
 use crx_header::Types;
 use crx_header::epoch_columns::records_in;
@@ -35,6 +35,7 @@ pub struct CompactReader {
 }
 
 impl CompactReader {
+    ghost use Rattle.crx_base.specs.Padded.{line_in};
     ghost use Rattle.crx_filter.specs.CompactReaders.{ReadsCompactLine, compact_reader_parts, line_copied};
     ghost use Rattle.crx_filter.specs.DirectionParts.{state_by};
     ghost use Rattle.crx_filter.specs.ExpansionByLine.{expansion_state};
@@ -63,11 +64,11 @@ impl CompactReader {
     ///
     /// The refusals are those of [`Columns::feed_into`].
     #[inline(always)]
-    pub(crate) fn go_on(&mut self, line: &[u8], lines: &mut Block) -> Result<bool, Fault>
+    pub(crate) fn go_on(&mut self, line: Padded<'_>, lines: &mut Block) -> Result<bool, Fault>
         requires open { self.old.stage ≡ Open }
-        requires short { length line.now ≤ LINE_LIMIT }
+        requires short { length (line_in line) ≤ LINE_LIMIT }
         requires printed { ArePrinted self.old.columns.value.state lines.old }
-        ensures reads { ReadsCompactLine self.old line.now result
+        ensures reads { ReadsCompactLine self.old (line_in line.entry) result
             (if is_open_stage self.new.stage then [] else lines.new.lines) self.new }
         ensures printed { ArePrinted self.new.columns.value.state lines.new }
         ensures kept { KeepsRoomInColumns self.old.columns.value self.new.columns.value }

@@ -1,6 +1,7 @@
 //! Compaction, line by line: what a line of RINEX makes.
 
 ghost use Rattle.std.specs.Prelude.{◌≡◌, [], Some, IfOk, IfErr, true};
+ghost use Rattle.crx_base.specs.Padded.{line_in};
 ghost use Rattle.crx_compact.specs.Encoding.{EndsEpoch};
 ghost use Rattle.crx_rinex.specs.meaning.EpochLines.{ObservationHead};
 ghost use Rattle.crx_filter.specs.CompactionParts.{BelongTogether, HasRefusedRow, HasWholeEpoch, HasWrittenRow};
@@ -11,7 +12,7 @@ use crate::direction::Direction;
 use crate::lender::Lender;
 use crate::rinex_reader::{RinexReader, RinexStep};
 use crate::stage::Stage;
-use crx_base::{Fault, Options};
+use crx_base::{Fault, Options, Padded};
 use crx_compact::Encoder;
 use crx_lines::Line;
 use crx_runs::HandedOut;
@@ -63,14 +64,18 @@ fn is_at_every(every: Option<u32>, index: u64) -> bool
 /// Takes a line of an open epoch, whose row is written as soon as it is read: `true` says that it is the
 /// epoch's last. After a want of memory the open epoch is forgotten.
 #[inline(always)]
-fn take_row(reader: &mut RinexReader, encoder: &mut Encoder, line: &[u8]) -> Result<bool, Fault>
+fn take_row(
+    reader: &mut RinexReader,
+    encoder: &mut Encoder,
+    line: Padded<'_>,
+) -> Result<bool, Fault>
     requires together { BelongTogether reader.old encoder.old }
     requires open { is_open_stage reader.old.stage ≡ true }
     requires drained { encoder.old.pending ≡ [] }
-    ensures written { IfOk result
-        (λ is_last. HasWrittenRow reader.old encoder.old line.now is_last reader.new encoder.new) }
+    ensures written { IfOk result (λ is_last.
+        HasWrittenRow reader.old encoder.old (line_in line.entry) is_last reader.new encoder.new) }
     ensures refused { IfErr result
-        (λ fault. HasRefusedRow reader.old encoder.old line.now fault reader.new encoder.new) }
+        (λ fault. HasRefusedRow reader.old encoder.old (line_in line.entry) fault reader.new encoder.new) }
 {
     reader.read_row(line)?;
     match encoder.encode_row(&reader.row) {
@@ -168,7 +173,7 @@ impl Direction for Compaction {
 
     #[inline(always)]
     fn go_on(&mut self, line: Line<'_>) -> Result<bool, Fault> {
-        let is_last = take_row(&mut self.reader, &mut self.encoder, line.bytes())?;
+        let is_last = take_row(&mut self.reader, &mut self.encoder, line.padded())?;
         if !is_last {
             return Ok(false);
         }

@@ -114,7 +114,7 @@ impl Direction for Expansion {
 
     #[inline(always)]
     fn go_on(&mut self, line: Line<'_>) -> Result<bool, Fault> {
-        self.reader.go_on(line.bytes(), &mut self.lines)
+        self.reader.go_on(line.padded(), &mut self.lines)
     }
 
     fn take(&mut self, _options: &Options, line: Line<'_>) -> Result<HandedOut, Fault> {

@@ -7,7 +7,7 @@ ghost use Rattle.crx_filter.specs.RinexStages.{is_rinex_stage};
 
 use crate::stage::{Stage, after_header_line, counts_types, with_records_left};
 use crate::types_lines::{accept_header_line, accept_record};
-use crx_base::Fault;
+use crx_base::{Fault, Padded};
 use crx_header::Types;
 use crx_rinex::{EpochLine, Head, RowBuffer, RowsSoFar, begins_epoch};
 use std::alloc::Global;
@@ -55,6 +55,7 @@ pub struct RinexReader {
 
 impl RinexReader {
     ghost use Rattle.std.specs.Prelude.{◌⊎◌, ◌++◌, ◌∷◌, [], Ok, false, OnOk, IfOk, IfErr, OnErr};
+    ghost use Rattle.crx_base.specs.Padded.{line_in};
     ghost use Rattle.crx_base.specs.meaning.AsRead.{Content};
     ghost use Rattle.crx_header.specs.meaning.EpochColumns.{begins_epoch};
     ghost use Rattle.crx_rinex.specs.meaning.Epochs.{has_satellite};
@@ -151,18 +152,20 @@ impl RinexReader {
     /// [`RowBuffer::read`]. Whether the satellite has come already isn't looked at: where it has, the line's
     /// fault is `RepeatedSatellite`, else [`RinexReader::take_row`] takes the row.
     #[inline(always)]
-    pub fn read_row(&mut self, line: &[u8]) -> Result<(), Fault>
+    pub fn read_row(&mut self, line: Padded<'_>) -> Result<(), Fault>
         requires open { is_open_stage self.old.stage ≡ true }
-        ensures ok { OnOk result (row_of self.old.types line.now ≡ Ok self.new.row) }
-        ensures row { OnOk result (begins_epoch line.now ≡ false) }
+        ensures ok { OnOk result (row_of self.old.types (line_in line.entry) ≡ Ok self.new.row) }
+        ensures row { OnOk result (begins_epoch (line_in line.entry) ≡ false) }
         ensures repeated { (kept : Written) → OnOk result (has_satellite self.new.row.name self.old.rows.rows ≡ true
-            → made_at self.old line.now kept ≡ Rejects Fault.RepeatedSatellite) }
+            → made_at self.old (line_in line.entry) kept ≡ Rejects Fault.RepeatedSatellite) }
         ensures memory { OnOk result (has_satellite self.new.row.name self.old.rows.rows ≡ false
-            → may_take_memory self.old.types (λ first. false) is_next_row (reader_phase self.old) (Content line.now) ≡ true) }
-        ensures refused { (kept : Written) → IfErr result (λ fault. made_at self.old line.now kept ≡ Rejects fault) }
+            → may_take_memory self.old.types (λ first. false) is_next_row (reader_phase self.old)
+            (Content (line_in line.entry)) ≡ true) }
+        ensures refused { (kept : Written) → IfErr result
+            (λ fault. made_at self.old (line_in line.entry) kept ≡ Rejects fault) }
         ensures same { IsSameReader self.old self.new }
     {
-        if begins_epoch(line) {
+        if begins_epoch(line.line()) {
             return Err(Fault::Truncated);
         }
         self.row.read(&self.types, line)

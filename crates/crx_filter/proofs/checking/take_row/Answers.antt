@@ -1,5 +1,6 @@
 use Rattle.crx_filter.proofs.Words
 use Words.{◌≡◌, true, false, not, List, ap, ◌∙◌, Count, subst, sym, has_satellite, Row, row_of}
+use Rattle.crx_base.specs.Padded.{line_in}
 use Rattle.crx_filter.proofs.steps.{CheckerSteps.{named-next, named-still}, RowSteps.taken-from}
 use Rattle.{crx_filter.specs.CheckingParts.AreNamed, crx_header.specs.Identifiers.has_identifier}
 use Rattle.std.proofs.lemmas.Bool.{not-false, not-true}
@@ -17,7 +18,7 @@ pub returns-then-put-clause-takes : goal.returns-then-put-clause-takes
 returns-then-put-clause-takes c kept =
     let before = c.args.reader.now in
     let between = c.read_row.new.self in
-    let line = c.args.line.now in
+    let line = line_in c.args.line in
     let read = c.in_ok-read_row.ensures in
     let name = c.name.result.now in
     let put : not (has_identifier c.args.names.now name) ≡ true = sym c.put.ensures.new ∙ c.if-put.true in

@@ -1,4 +1,5 @@
 use Rattle.crx_filter.proofs.Words.{common_steps, arith}
+use Rattle.crx_base.specs.Padded.{line_in}
 use Rattle.crx_filter.proofs.steps.CheckerSteps.{noted-takes, refused-takes}
 use Rattle.crx_filter.proofs.steps.CheckerSteps.{nothing_kept, open-runs, row-counting, rejected-reads}
 use Rattle.crx_filter.proofs.steps.{CheckerSteps.still-drained, EngineAnswers.short-line}
@@ -9,9 +10,9 @@ pub returns-in_err-step : goal.returns-in_err-step
 returns-in_err-step c =
     let p = err_from_is_err_and c.from_residual.result c.from_residual.ensures.1 in
     let drained = rw (← c.self.view_is) at c.requires.asked.drained in
-    rw (← c.self.view_is, p.1, p.2, ← c.bytes.ensures.content) (record {
+    rw (← c.self.view_is, p.1, p.2, ← c.padded.ensures.content) (record {
       takes = refused-takes (rejected-reads _ c.self.inside.reader
-          c.take_row.new.reader c.self.inside.noted.totals c.bytes.result.now _ _ c.in_err-step.ensures.same
+          c.take_row.new.reader c.self.inside.noted.totals (line_in c.padded.result) _ _ c.in_err-step.ensures.same
           (c.in_err-step.ensures.refused nothing_kept) (still-drained c.self.inside.handed_out _ _ drained));
     })
 
@@ -19,11 +20,11 @@ pub note-requires-clause-observed : goal.note-requires-clause-observed
 note-requires-clause-observed c = grind (arith, common_steps, row-counting)
 
 pub note-requires-clause-read : goal.note-requires-clause-read
-note-requires-clause-read c is = rw c.bytes.ensures.content at c.in_ok-step.ensures.read
+note-requires-clause-read c is = rw c.padded.ensures.content at c.in_ok-step.ensures.read
 
 pub invariant_of-self-2 : goal.invariant_of-self-2
 invariant_of-self-2 c =
-    let takes = rw c.bytes.ensures.content at (c.in_ok-step.ensures.takes nothing_kept) in
+    let takes = rw c.padded.ensures.content at (c.in_ok-step.ensures.takes nothing_kept) in
     record {
       named = c.take_row.ensures.named;
       observed = c.note.ensures.observed _ _ takes;
@@ -34,7 +35,7 @@ pub returns : goal.returns
 returns c =
     let line = line_shown c.args.line in
     let was = c.self.inside in
-    let takes = rw c.bytes.ensures.content at (c.in_ok-step.ensures.takes nothing_kept) in
+    let takes = rw c.padded.ensures.content at (c.in_ok-step.ensures.takes nothing_kept) in
     let drained = rw (← c.self.view_is) at c.requires.asked.drained in
     let running = open-runs _ (rw (← c.self.view_is) at c.requires.open) in
     rw (← c.self.view_is) (record {

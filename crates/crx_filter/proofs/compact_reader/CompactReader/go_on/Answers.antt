@@ -6,7 +6,7 @@ pub returns-in-Ok-true-clause-kept : goal.returns-in-Ok-true-clause-kept
 returns-in-Ok-true-clause-kept c = record {
   rooms = search rules;
   held = λ held. printed-held c.deref_mut.result.now c.feed_into.new.self
-      c.args.line.now _ _ c.in-Ok-true.ensures.made c.feed_into.ensures.rooms
+      _ _ _ c.in-Ok-true.ensures.made c.feed_into.ensures.rooms
       (subst HaveHeldRoom (sym c.deref_mut.ensures.value) held);
 }
 
@@ -14,7 +14,7 @@ pub returns-in-Ok-false-clause-kept : goal.returns-in-Ok-false-clause-kept
 returns-in-Ok-false-clause-kept c = record {
   rooms = search rules;
   held = λ held. printed-held c.deref_mut.result.now c.feed_into.new.self
-      c.args.line.now _ _ c.in-Ok-false.ensures.made c.feed_into.ensures.rooms
+      _ _ _ c.in-Ok-false.ensures.made c.feed_into.ensures.rooms
       (subst HaveHeldRoom (sym c.deref_mut.ensures.value) held);
 }
 

@@ -11,7 +11,7 @@ returns-in_err-is_last c =
     let p = err_from_is_err_and c.from_residual.result c.from_residual.ensures.1 in
     let was = c.self.inside in
     let opened = rw (← c.self.view_is) at c.requires.open in
-    let row = rw c.bytes.ensures.content at c.in_err-is_last.ensures.refused in
+    let row = rw c.padded.ensures.content at c.in_err-is_last.ensures.refused in
     rw (← c.self.view_is, p.1, p.2) (record {
       takes = refused-takes _ _ (compaction_of was.index was.reader was.encoder)
           (compaction_of was.index c.take_row.new.reader c.take_row.new.encoder) (line_shown c.args.line) _
@@ -29,7 +29,7 @@ returns-then-not-is_last c =
     let was = c.self.inside in
     let opened = rw (← c.self.view_is) at c.requires.open in
     let drained = rw (← c.self.view_is) at c.requires.asked.drained in
-    let row = rw c.bytes.ensures.content at c.in_ok-is_last.ensures.written in
+    let row = rw c.padded.ensures.content at c.in_ok-is_last.ensures.written in
     let moves = row-moves row (kept_in was) c.if-not-is_last.true in
     rw (← c.self.view_is) (record {
       takes = moved-takes _ _ (compaction_of was.index was.reader was.encoder)
@@ -56,7 +56,7 @@ pub returns : goal.returns
 returns c =
     let was = c.self.inside in
     let opened = rw (← c.self.view_is) at c.requires.open in
-    let row = rw c.bytes.ensures.content at c.in_ok-is_last.ensures.written in
+    let row = rw c.padded.ensures.content at c.in_ok-is_last.ensures.written in
     let done = row-ends row (kept_in was) c.if-not-is_last.false in
     let ends = c.end_epoch.ensures.ends done.head done.held in
     rw (← c.self.view_is) (record {

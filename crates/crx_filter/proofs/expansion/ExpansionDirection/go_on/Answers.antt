@@ -4,7 +4,7 @@ use Rattle.crx_filter.proofs.expansion.ExpansionDirection.go_on.Goals as goal
 
 pub returns : goal.returns
 returns c =
-    let read = rw c.bytes.ensures.content at c.go_on.ensures.reads in
+    let read = rw c.padded.ensures.content at c.go_on.ensures.reads in
     rw (← c.self.view_is) (record {
       takes = reader-takes c.self.inside.reader c.go_on.new.self
           c.self.inside.lines _
