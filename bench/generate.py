@@ -246,6 +246,7 @@ def epochs(args, satellites, kinds, start, interval, rng):
     receiver = (math.radians(args.latitude), math.radians(args.longitude))
     horizon = math.sin(math.radians(args.mask))
     clock = ReceiverClock(rng)
+    places = random.Random(args.random)  # apart, so that the lines stay what they are without it
     with_clock = 0
     ticks = 0
     while True:
@@ -261,6 +262,9 @@ def epochs(args, satellites, kinds, start, interval, rng):
             line = satellite_line(satellite, kinds, distance, rate, sine, clock.offset * LIGHT, rng)
             if line is not None:
                 rows.append(line)
+        rows = [row for row in rows if places.random() >= args.left_out]
+        if args.shuffled:
+            places.shuffle(rows)
         has_clock = args.clock and (args.clock_epochs is None or with_clock < args.clock_epochs)
         with_clock += has_clock
         given = clock.offset if has_clock else None
@@ -284,6 +288,8 @@ def arguments():
     parser.add_argument("--kinds", default="CLDS", help="letters of CLDS: code, phase, Doppler, strength (CLDS)")
     parser.add_argument("--mask", type=float, default=5.0, help="lowest elevation in degrees (5)")
     parser.add_argument("--gaps", type=float, default=0.0005, help="chance of a gap after an epoch (0.0005)")
+    parser.add_argument("--left-out", type=float, default=0.0, help="chance of a satellite's line to be left out (0)")
+    parser.add_argument("--shuffled", action="store_true", help="another order of the satellites in each epoch")
     parser.add_argument("--clock", action="store_true", help="receiver clock offsets in the epoch lines")
     parser.add_argument("--clock-epochs", type=int, help="those of the first so many epochs alone")
     parser.add_argument("--latitude", type=float, default=47.0, help="degrees (47)")

@@ -3,6 +3,7 @@
 of as many types as may be. It prints the table of bench/README.md, and on how small a stack each command runs.
 
     bench/memory.py PROGRAM
+    bench/memory.py --empty         writes a file of 693 satellites of as many types, without values, to standard output
 """
 
 import random
@@ -50,6 +51,16 @@ def at_the_limits(path, types):
             file.writelines(name + "".join(cell() for _ in range(count)) + "\n" for name in NAMES)
 
 
+def without_values(types, epochs=20):
+    """Epochs of 99 satellites of each system, of so many types, whose lines are their identifiers alone."""
+    names = [name for name in NAMES if name[1:].isdigit() and name[1:] != "00"]
+    return "".join([
+        header_line("%9s%11s%-20s%-20s" % ("3.05", "", "OBSERVATION DATA", "M"), "RINEX VERSION / TYPE"), *types_lines(types),
+        header_line("", "END OF HEADER"),
+        *(f"> 2024 01 01 00 00 {epoch:2}.0000000  0{len(names):3}\n" + "\n".join(names) + "\n" for epoch in range(epochs)),
+    ])
+
+
 def resident(program, words, source, target):
     """Runs a command from a file to a file; the greatest resident size of another run of it, in kilobytes."""
     with source.open("rb") as given, target.open("wb") as made:
@@ -71,6 +82,9 @@ def smallest_stack(program, words, source):
 def main():
     if len(sys.argv) != 2:
         sys.exit(__doc__)
+    if sys.argv[1] == "--empty":
+        sys.stdout.write(without_values(MOST))
+        return
     program = Path(sys.argv[1]).resolve()
     with tempfile.TemporaryDirectory() as name:
         folder = Path(name)

@@ -1,185 +1,193 @@
 #!/usr/bin/env python3
-"""Times both directions of the program beside another program, `wc -l` and `cat`, interleaved, and prints medians.
+"""Measures the program beside other programs, over files of several forms, and prints a table of each thing that is measured.
 
-For each file of RINEX the program compacts it once, untimed, and expands that again, which has to give the file
-back. Then in each round these run once, one after the other, with their output to /dev/null:
+    make dist && bench/run.py --peer OLD/rnxcmp --peer PLAIN/cbase
+    bench/run.py --measures time --inputs "4 types" FILE.rnx
 
-    PROGRAM rnx2crx --date D < FILE
-    PROGRAM crx2rnx < COMPACT
-    PEER rnx2crx < FILE               (another program with these words, where one is named)
-    PEER crx2rnx < COMPACT
-    wc -l FILE
-    cat FILE | cat                    (through a pipe, so that the bytes really move)
-
-A round that isn't timed comes first and brings the files into the page cache. All rates are of the bytes of RINEX,
-those of the input where it is compacted and of the output where it is expanded. Exit statuses are checked in every
-run. With --instructions each filter runs once more on the smallest file under `valgrind --tool=callgrind`, which
-counts instructions. With --memory the program's greatest resident sizes are printed.
-
-Examples, at the top of the repository:
-    bench/run.py big.rnx
-    bench/run.py --sizes 10,100,500 --rounds 9 --instructions --memory
-    bench/run.py --sizes 100 --peer ../classic/cbase
+The program is the static one that `make dist` links, unless another is named. A peer is another program with the words rnx2crx, crx2rnx and,
+if it has one, check. For times, all programs run one after the other in each round, each way, with their output to /dev/null: what is printed
+is the least user and system time, on files of --megabytes where a form has a size. What is counted is counted by callgrind (valgrind) on a
+megabyte, and doesn't change with the machine's load. All that is a rate is of the bytes of RINEX. The compact text is the program's own, and
+has to expand to the file.
 """
+
 import argparse
-import datetime
-import filecmp
 import os
-import statistics
 import subprocess
 import sys
 import tempfile
-import time
+from pathlib import Path
 
-MEGABYTE = 1e6
-TOP = os.path.dirname(os.path.dirname(os.path.abspath(__file__)))
-
-
-def processor():
-    try:
-        with open("/proc/cpuinfo") as info:
-            for line in info:
-                if line.startswith("model name"):
-                    return line.split(":", 1)[1].strip()
-    except OSError:
-        pass
-    return "unknown"
-
-
-def seconds_of(command, path, out):
-    """Runs a command once, its input from a file; the seconds that it took. Stops where its status isn't 0."""
-    with open(path, "rb") as source:
-        begin = time.perf_counter()
-        done = subprocess.run(command, stdin=source, stdout=out, stderr=subprocess.PIPE)
-        seconds = time.perf_counter() - begin
-    if done.returncode != 0:
-        sys.exit("%s: status %d: %s" % (" ".join(command), done.returncode, done.stderr[:500].decode(errors="replace")))
-    return seconds
+HERE = Path(__file__).resolve().parent
+STATIC = HERE.parent / "out/machines/x86-64-v2/built/rnxcmp"
+WAYS = {"compacting": ["rnx2crx"], "expanding": ["crx2rnx"], "check": ["check"]}
+FEW = ["--interval", "1", "--bands", "1"]
+# Those of generate.py get a size; the others have their own.
+INPUTS = {
+    "16 to 20 types": ["generate.py"],
+    "8 types": ["generate.py", "--interval", "1", "--bands", "2"],
+    "4 types": ["generate.py", *FEW],
+    "4 types, a tenth left out": ["generate.py", *FEW, "--left-out", "0.1"],
+    "4 types, another order": ["generate.py", *FEW, "--shuffled"],
+    "693 satellites": ["reordered.py", "--satellites", "693", "--order", "same"],
+    "693, another order": ["reordered.py", "--satellites", "693", "--order", "shuffled"],
+    "693 of 400 types, no values": ["memory.py", "--empty"],
+    "38 KB": ["generate.py", "--epochs", "15", "--systems", "GR", "--bands", "2"],
+    "1.4 KB": ["generate.py", "--epochs", "3", "--systems", "G", "--bands", "1", "--satellites", "4"],
+}
 
 
-def seconds_of_pipe(path, out):
-    begin = time.perf_counter()
-    first = subprocess.Popen(["cat", path], stdout=subprocess.PIPE)
-    second = subprocess.Popen(["cat"], stdin=first.stdout, stdout=out)
-    first.stdout.close()
-    statuses = second.wait(), first.wait()
-    seconds = time.perf_counter() - begin
-    if statuses != (0, 0):
-        sys.exit("cat failed")
-    return seconds
+def made(folder, name, megabytes):
+    """The file of an input, its compact file, and its bytes and lines."""
+    words = INPUTS.get(name, ["cat", name])
+    rinex, compact = folder / "made.rnx", folder / "made.crx"
+    if words[0] == "generate.py" and "--epochs" not in words:
+        words = [*words, "--megabytes", str(megabytes)]
+    rinex.write_bytes(subprocess.run([HERE / words[0] if name in INPUTS else words[0], *words[1:]], stdout=subprocess.PIPE, check=True).stdout)
+    return rinex, compact, rinex.stat().st_size, rinex.read_bytes().count(b"\n")
+
+
+def compacted(program, rinex, compact):
+    """Compacts a file, and expands that again, which has to give the file back."""
+    with rinex.open("rb") as source, compact.open("wb") as out:
+        subprocess.run([program, "rnx2crx", "--date", "D"], stdin=source, stdout=out, check=True)
+    with compact.open("rb") as source:
+        if subprocess.run([program, "crx2rnx"], stdin=source, stdout=subprocess.PIPE, check=True).stdout != rinex.read_bytes():
+            sys.exit(f"{rinex}: expanding what was compacted gives another file")
+
+
+def used(command, path):
+    """What a run of a command over a file used, as the system counts it; None where its status isn't 0."""
+    with open(path, "rb") as source, open(os.devnull, "wb") as nothing:
+        files = [(os.POSIX_SPAWN_DUP2, source.fileno(), 0), *((os.POSIX_SPAWN_DUP2, nothing.fileno(), to) for to in (1, 2))]
+        _, status, usage = os.wait4(os.posix_spawn(command[0], command, os.environ, file_actions=files), 0)
+    return usage if status == 0 else None
+
+
+def counts(command, path, words=()):
+    """What callgrind counts in a run of a command over a file, by its short names: Ir are instructions."""
+    with tempfile.NamedTemporaryFile() as found, open(path, "rb") as source:
+        tool = ["valgrind", "--tool=callgrind", f"--callgrind-out-file={found.name}", *words]
+        subprocess.run([*tool, *command], stdin=source, stdout=subprocess.DEVNULL, stderr=subprocess.DEVNULL)
+        lines = dict(line.rstrip().split(": ", 1) for line in open(found.name) if line.startswith(("events:", "summary:")))
+    if "summary" not in lines:
+        sys.exit("callgrind gave no count")
+    return dict(zip(lines["events"].split(), map(int, lines["summary"].split())))
 
 
 def instructions(command, path):
-    """How many instructions a command takes on a file, as callgrind counts them."""
-    with tempfile.NamedTemporaryFile() as counts, open(path, "rb") as source, open(os.devnull, "wb") as nothing:
-        subprocess.run(["valgrind", "--tool=callgrind", "--callgrind-out-file=" + counts.name] + command,
-                       stdin=source, stdout=nothing, stderr=subprocess.DEVNULL)
-        for line in open(counts.name):
-            if line.startswith(("summary:", "totals:")):
-                return int(line.split()[1])
-    sys.exit("callgrind gave no count")
+    """How many instructions a command takes on a file."""
+    return counts(command, path)["Ir"]
 
 
 def greatest_memory(command, path):
-    """The greatest resident size of a command on a file, in kilobytes, as it stands shortly before the file's end."""
-    with open(path, "rb") as source, open(os.devnull, "wb") as nothing:
-        child = subprocess.Popen(command, stdin=subprocess.PIPE, stdout=nothing)
-        last = source.read(1 << 16)
-        while piece := source.read(1 << 16):
-            child.stdin.write(last)
-            last = piece
+    """The greatest resident size of a command on a file, in kilobytes, as it stands while it waits for the file's last byte."""
+    data = Path(path).read_bytes()
+    with subprocess.Popen(command, stdin=subprocess.PIPE, stdout=subprocess.DEVNULL) as child:
+        child.stdin.write(data[:-1])
         child.stdin.flush()
-        with open("/proc/%d/status" % child.pid) as status:
-            size = next(int(line.split()[1]) for line in status if line.startswith("VmHWM:"))
-        child.stdin.write(last)
-        child.stdin.close()
-        child.wait()
-    return size
+        state = {"State": "R"}
+        while not state["State"].startswith("S"):
+            state = dict(line.split(":\t") for line in Path(f"/proc/{child.pid}/status").read_text().splitlines())
+        child.stdin.write(data[-1:])
+    return int(state["VmHWM"].split()[0])
 
 
-def filters(args):
-    """The filters that are timed: a name, the command, and whether it reads compact text."""
-    compact, expand = ["rnx2crx", "--date", "D"], ["crx2rnx"]
-    found = [("rnxcmp rnx2crx", [args.program] + compact, False), ("rnxcmp crx2rnx", [args.program] + expand, True)]
-    if args.peer:
-        name = os.path.basename(args.peer)
-        found += [(name + " rnx2crx", [args.peer, "rnx2crx"], False), (name + " crx2rnx", [args.peer, "crx2rnx"], True)]
-    return found
+def least(runs, rounds):
+    """The least nanoseconds of user and system time of each run, one after the other in each round."""
+    taken = [[] for _ in runs]
+    for _ in range(rounds + 1):  # the first brings the files into the page cache
+        for times, (command, path) in zip(taken, runs):
+            usage = used(command, path)
+            times.append(1e9 * (usage.ru_utime + usage.ru_stime))
+    return [min(times[1:]) for times in taken]
 
 
-def made_compact(args, folder, path):
-    """Compacts a file, and expands that again, which has to give the file back; the compact file's name."""
-    compact, back = os.path.join(folder, "compact"), os.path.join(folder, "back")
-    (_, compaction, _), (_, expansion, _) = filters(args)[:2]
-    with open(compact, "wb") as out:
-        seconds_of(compaction, path, out)
-    with open(back, "wb") as out:
-        seconds_of(expansion, compact, out)
-    if not filecmp.cmp(path, back, shallow=False):
-        sys.exit("%s: expanding what was compacted gives another file" % path)
-    os.remove(back)
-    return compact
+def counted(runs, _):
+    """Of each run its instructions, mispredicted branches, and loads and stores that the first cache doesn't have."""
+    found = [counts(command, path, ("--branch-sim=yes", "--cache-sim=yes")) for command, path in runs]
+    return [(run["Ir"], run["Bcm"] + run["Bim"], run["D1mr"] + run["D1mw"]) for run in found]
 
 
-def time_file(args, folder, path, is_smallest):
-    size = os.path.getsize(path)
-    compact = made_compact(args, folder, path)
-    runs = [(name, lambda out, command=command, source=compact if expands else path: seconds_of(command, source, out))
-            for name, command, expands in filters(args)]
-    runs.append(("wc -l", lambda out: seconds_of(["wc", "-l", path], path, out)))
-    runs.append(("cat FILE | cat", lambda out: seconds_of_pipe(path, out)))
-    taken = {name: [] for name, _ in runs}
-    with open(os.devnull, "wb") as nothing:
-        for _, run in runs:
-            run(nothing)
-        for _ in range(args.rounds):
-            for name, run in runs:
-                taken[name].append(run(nothing))
-    medians = {name: statistics.median(seconds) for name, seconds in taken.items()}
-    print("RINEX %d bytes, compact text %d bytes (%.1f %%)" % (size, os.path.getsize(compact), 100.0 * os.path.getsize(compact) / max(size, 1)))
-    print("%-20s %9s %9s %9s %9s %9s" % ("command", "median s", "least s", "MB/s", "to wc -l", "to cat"))
-    for name, _ in runs:
-        median = medians[name]
-        print("%-20s %9.3f %9.3f %9.1f %9.2f %9.2f" % (name, median, min(taken[name]), size / MEGABYTE / median,
-                                                       median / medians["wc -l"], median / medians["cat FILE | cat"]))
-    for name, command, expands in filters(args):
-        source = compact if expands else path
-        if args.instructions and is_smallest:
-            print("%-20s %9.2f instructions a byte of RINEX" % (name, instructions(command, source) / size))
-        if args.memory and command[0] == args.program:
-            print("%-20s %9d KB resident at most" % (name, greatest_memory(command, source)))
-    print()
+def faults(runs, rounds):
+    return [min(used(command, path).ru_minflt for _ in range(rounds)) for command, path in runs]
+
+
+def resident(runs, _):
+    return [greatest_memory(command, path) for command, path in runs]
+
+
+# What measures; whether over large files; and of each of its figures the table's title, a factor, and what it is divided by.
+MEASURES = {
+    "time": (least, True, [("Nanoseconds a byte", 1, "bytes")]),
+    "counts": (counted, False, [("Instructions a byte", 1, "bytes"), ("Mispredicted branches a line", 1, "lines"), ("First-cache misses a MB", 1e6, "bytes")]),
+    "faults": (faults, False, [("Page faults", 1, None)]),
+    "memory": (resident, False, [("Resident, kB", 1, None)]),
+}
+
+
+def shown(figure):
+    return "" if figure is None else f"{figure:,.0f}" if figure >= 1000 else f"{figure:.3g}" if figure < 100 else f"{figure:.0f}"
+
+
+def measured(args, folder, measure, name):
+    """The figures of an input, for each table of a measure: of each way those of the program and the peers, None where a peer lacks the way."""
+    function, is_large, tables = MEASURES[measure]
+    rinex, compact, size, lines = made(folder, name, args.megabytes if is_large else 1)
+    compacted(args.programs[0], rinex, compact)
+    runs = [([program, *words], compact if way == "expanding" else rinex) for way, words in WAYS.items() for program in args.programs]
+    good = [run for run in runs if used(*run)]
+    figures = iter(function(good, args.rounds * (10 if size < 1e5 and measure == "time" else 1)))
+    found = [next(figures) if run in good else (None,) * len(tables) for run in runs]
+    whole = {"bytes": size, "lines": lines, None: 1}
+    for at, (_, factor, unit) in enumerate(tables):
+        each = [figure[at] if isinstance(figure, tuple) else figure for figure in found]
+        yield [figure if figure is None else factor * figure / whole[unit] for figure in each]
 
 
 def arguments():
     parser = argparse.ArgumentParser(description=__doc__, formatter_class=argparse.RawDescriptionHelpFormatter)
-    parser.add_argument("files", nargs="*", help="standard files of RINEX")
-    parser.add_argument("--sizes", default="", help="make files of so many megabytes by generate.py, too (as 10,100,500)")
-    parser.add_argument("--program", default=os.path.join(TOP, "crates", "rnxcmp", "out", "rnxcmp"))
-    parser.add_argument("--peer", help="another program with the words rnx2crx and crx2rnx, timed beside")
-    parser.add_argument("--rounds", type=int, default=5, help="how often each command is timed (5)")
-    parser.add_argument("--instructions", action="store_true", help="count instructions a byte of RINEX, too")
-    parser.add_argument("--memory", action="store_true", help="show the program's greatest resident sizes, too")
+    parser.add_argument("files", nargs="*", help="standard files of RINEX, measured too")
+    parser.add_argument("--program", default=STATIC)
+    parser.add_argument("--peer", action="append", default=[], help="another program, measured beside")
+    parser.add_argument("--inputs", nargs="*", default=list(INPUTS), choices=list(INPUTS), metavar="INPUT", help="these alone: " + ", ".join(INPUTS))
+    parser.add_argument("--measures", nargs="+", default=list(MEASURES), choices=list(MEASURES), help="these alone")
+    parser.add_argument("--megabytes", type=float, default=12, help="of the larger files that are timed (12)")
+    parser.add_argument("--rounds", type=int, default=21, help="how often each is timed (21); ten times as often below 100 KB")
+    parser.add_argument("--readme", action="store_true", help="put the tables into README.md")
     args = parser.parse_args()
-    args.sizes = [size for size in args.sizes.split(",") if size]
-    if args.rounds < 1:
-        parser.error("--rounds: at least 1")
-    if not args.files and not args.sizes:
-        parser.error("a file, or --sizes")
+    args.programs = [str(Path(program).resolve()) for program in (args.program, *args.peer)]
     return args
+
+
+def table(title, peers, rows):
+    """A table of rows: a name, and the figures of each way, of the program and its peers. Columns without figures are left out."""
+    heads = [title, *(head for way in WAYS for head in (way, *peers))]
+    rows = [[name, *map(shown, figures)] for name, figures in rows]
+    columns = [column for column in zip(heads, *rows) if any(column[1:])]
+    lines = [f"| {' | '.join(row)} |" for row in zip(*columns)]
+    return "\n".join([lines[0], "|---" + "|---:" * (len(columns) - 1) + "|", *lines[1:]])
+
+
+def put(title, shown_table):
+    """Puts a table into README.md, in place of that of the same title."""
+    page = HERE / "README.md"
+    text = page.read_text(encoding="utf-8")
+    begin = text.index(f"| {title} |")
+    page.write_text(text[:begin] + shown_table + text[text.index("\n\n", begin):], encoding="utf-8")
 
 
 def main():
     args = arguments()
-    print("%s, %d rounds, %s" % (datetime.date.today().isoformat(), args.rounds, processor()))
-    with tempfile.TemporaryDirectory() as folder:
-        files = list(args.files)
-        for size in args.sizes:
-            files.append(os.path.join(folder, size + ".rnx"))
-            subprocess.run([sys.executable, os.path.join(TOP, "bench", "generate.py"), "--megabytes", size, "-o", files[-1]], check=True)
-        smallest = min(files, key=os.path.getsize)
-        for path in files:
-            time_file(args, folder, path, path == smallest)
+    peers = ["peer"] if len(args.peer) == 1 else [Path(peer).resolve().parent.name for peer in args.peer]
+    with tempfile.TemporaryDirectory() as name:
+        for measure in args.measures:
+            rows = [(name_of, list(measured(args, Path(name), measure, name_of))) for name_of in (*args.inputs, *args.files)]
+            for at, (title, _, _) in enumerate(MEASURES[measure][2]):
+                one = table(title, peers, [(name_of, tables[at]) for name_of, tables in rows])
+                print(one, end="\n\n", flush=True)
+                if args.readme:
+                    put(title, one)
 
 
 if __name__ == "__main__":
