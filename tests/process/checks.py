@@ -1,5 +1,5 @@
-"""The program as a process, on the cases of cases.py, streams.py, in_time.py and sizes.py: what it writes, reports, answers and leaves (see
-tests/run.py)."""
+"""The program as a process, on the cases of cases.py, streams.py, in_time.py, sizes.py and window.py: what it writes, reports, answers and
+leaves (see tests/run.py)."""
 
 import os
 import re
@@ -13,6 +13,7 @@ from cases import BAD_INDICATOR, CASES, CLOSED, COMPACT_FIVE, DATED, FIVE, FULL,
 from in_time import CHECKS as IN_TIME  # noqa: E402
 from sizes import CHECKS as SIZES  # noqa: E402
 from streams import CHECKS  # noqa: E402
+from window import CHECKS as WINDOW  # noqa: E402
 
 
 def files_in(folder):
@@ -118,4 +119,4 @@ def checks(program):
     yield "compaction, short of memory", lambda: run_short_of_memory(program, DATED, FIVE, COMPACT_FIVE)
     yield "expansion, short of memory", lambda: run_short_of_memory(program, ["crx2rnx"], COMPACT_FIVE, FIVE)
     yield "a stack of 128 KiB", lambda: run_on_a_small_stack(program)
-    yield from ((name, lambda check=check: check(program)) for name, check in CHECKS + IN_TIME + SIZES)
+    yield from ((name, lambda check=check: check(program)) for name, check in CHECKS + IN_TIME + SIZES + WINDOW)
