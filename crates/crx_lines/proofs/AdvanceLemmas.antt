@@ -1,7 +1,7 @@
 -- What the search for a line's end found, as the first line of the input.
 use Rattle.std.proofs.Common.{rules, eqb, ltb, ◌||◌, ◌≡◌, ◌≢◌, ℕ, ◌+◌, ◌-◌, ◌<◌, ◌≤◌, Bool, true, false, not}
 use Rattle.std.proofs.Common.{◌&&◌, cond, List, [], ◌∷◌, ◌++◌, ◌⊎◌, length, take, drop, slice_index, IsTrue}
-use Rattle.std.proofs.Common.{MatchBool, sym, ap, ◌∙◌, subst, arith, ⊎_elim, append-nil, append_assoc}
+use Rattle.std.proofs.Common.{MatchBool, sym, ap, ◌∙◌, subst, arith, ⊎_elim, append_assoc}
 use Rattle.std.proofs.Common.{length-append, length-take, length-drop}
 use Rattle.std.proofs.lemmas.{Bool.{lt-ltb, Decides.nat_tests}, Grind.common_steps}
 use Rattle.std.proofs.lemmas.List.{get_or-take, take_at, nil_from_length}
@@ -88,9 +88,6 @@ module _ (gave : List ℕ → Type 0) (old held : List ℕ)
       → (0 < passed) ⊎ (LINE_LIMIT < length content)
       → IsTrue (is_long (line_of (piece_at s.front held len is_ended)))
   content-long = search (rules, length-append, lt-ltb, ⊎_elim, length-without_return, whole-piece)
-
-  pub nothing : passed ≡ 0 → len ≡ 0 → len ≡ length held → (held ≡ []) × (old ++ s.given ≡ [])
-  nothing none empty all = grind (arith, common_steps, nil_from_length, append-nil)
 
 -- no LF came within the limit, and a byte past it
 pub over-limit : (gave : List ℕ → Type 0) (old held : List ℕ) (room passed b so_far : ℕ)

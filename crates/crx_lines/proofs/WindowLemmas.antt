@@ -1,6 +1,6 @@
 -- The bytes of a window, after a read past its end or a step of its start.
 use Rattle.std.proofs.Common.{◌≡◌, ℕ, ◌+◌, ◌-◌, ◌≤◌, ◌<◌, ◌⊎◌, inl, inr, List, ◌++◌, length, take, drop}
-use Rattle.std.proofs.Common.{slice_range, slice_set, refl, sym, ap, ◌∙◌, Result, OnErr, arith, append-nil}
+use Rattle.std.proofs.Common.{slice_range, slice_set, refl, sym, ap, ◌∙◌, arith}
 use Rattle.std.proofs.Math.Seq.{take-add}
 use Rattle.std.proofs.lemmas.List.{take_at, drop_at, take-append-le, drop-append-le, drop-take, drop-drop}
 use Rattle.std.proofs.lemmas.List.{length-take-le, length-take, length-drop, drop-set-lt, drop-set-add}
@@ -36,18 +36,6 @@ passed xs start end count inside =
 -- a window holds no more than it spans
 pub length-kept : (xs : List ℕ) (start end : ℕ) → length (slice_range xs start end) ≤ end
 length-kept xs start end = omega (arith, length-take (end - start) (drop start xs))
-
--- what was read past the end is not held
-pub unread : (xs ys : List ℕ) (start end k : ℕ) → start ≤ end → end ≤ length xs
-    → slice_range (put_mid end k xs ys) start end ≡ slice_range xs start end
-unread xs ys start end k ordered within =
-    let same : end + 0 ≡ end = omega arith in
-    ap (slice_range _ start) (sym same)
-    ∙ grown xs ys start end k 0 ordered within (omega arith) ∙ append-nil _
-
--- what is so is so of any read that failed
-pub on_err : {X E P : Type 0} (r : Result X E) → P → OnErr r P
-on_err = grind arith
 
 -- a byte that is put in front of a part, or behind it, isn't of that part
 pub untouched : (xs : List ℕ) (start end place b : ℕ) → start ≤ end → (place < start) ⊎ (end ≤ place)

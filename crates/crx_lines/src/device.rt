@@ -239,12 +239,8 @@ impl<D> Std<D> {
         ensures ok { is_ok result ≡ is_ok flushed }
         ensures good { OnOk result (self.new.failures ≡ self.old.failures) }
         ensures failed { OnErr result (self.new.failures ≡ one_more self.old.failures) }
-        ensures flushed { self.new.flushed ≡ is_ok flushed }
-        ensures asked { self.new.flushes ≡ one_more self.old.flushes }
-        ensures inner { self.new.inner ≡ self.old.inner }
-        ensures ends { self.new.ends ≡ self.old.ends }
-        ensures awaited { self.new.is_awaited ≡ self.old.is_awaited }
-        ensures broken { self.new.is_broken ≡ self.old.is_broken }
+        ensures whole { self.new ≡ record self.old
+            { flushed = is_ok flushed; flushes = one_more self.old.flushes; failures = self.new.failures } }
     {
         self.flushed = flushed.is_ok();
         self.flushes = self.flushes.saturating_add(1);

@@ -3,13 +3,12 @@ ghost use Rattle.std.specs.Prelude.{◌≡◌, ℕ, ◌+◌, ◌<◌, ◌≤◌,
 ghost use Rattle.crx_lines.specs.meaning.Devices.{one_more};
 ghost use Rattle.crx_lines.specs.Window.{kept};
 ghost use Rattle.crx_lines.specs.Seeking.{Seeking};
-ghost use Rattle.crx_base.specs.declared.limits.TheConstants.{INPUT_LIMIT, LINE_LIMIT};
+ghost use Rattle.crx_base.specs.declared.limits.TheConstants.{INPUT_LIMIT};
 
 use crate::device::Source;
 use crate::feed::feed_from;
 use crate::window::{SIZE, Window};
 use crx_base::Fault;
-use crx_base::limits::LINE_LIMIT;
 
 /// The first line of an input: what was discarded of it, and what is in the window.
 #[derive(Clone, Copy)]
@@ -20,20 +19,6 @@ pub(crate) struct Found {
     pub(crate) len: usize,
     /// Whether an LF follows them, or the end.
     pub(crate) is_ended: bool,
-}
-
-/// Lets go of what is longer than a line and its end, and answers how many bytes that was.
-fn discarded(window: &mut Window) -> usize
-    ensures count { ((result ≡ 0) × (kept window.new ≡ kept window.old))
-        ⊎ ((result ≡ length (kept window.old)) × (LINE_LIMIT + 1 < result) × (kept window.new ≡ [])) }
-    ensures room { length (kept window.new) ≤ LINE_LIMIT + 1 }
-{
-    let count = window.as_slice().len();
-    if count <= LINE_LIMIT + 1 {
-        return 0;
-    }
-    window.clear();
-    count
 }
 
 /// Looks for the end of the line that the window begins with, asking `reader` while there is none.
@@ -77,7 +62,7 @@ pub(crate) fn seek<R: Source>(
                 is_ended: true,
             });
         }
-        passed += discarded(window) as u64;
+        passed += window.let_go_of_long() as u64;
         searched = window.as_slice().len();
         if taken == room {
             // One byte more is a fault; where there is none, the input has ended.

@@ -1,5 +1,5 @@
 //! The buffer of a reader of lines: bytes that were given and are pending, and room after them.
-ghost use Rattle.std.specs.Prelude.{◌≡◌, ℕ, ◌+◌, ◌-◌, ◌<◌, ◌≤◌, List, [], ◌++◌, length, take, drop, slice_range, IfOk, OnOk, OnErr, MatchBool, if◌then◌else◌};
+ghost use Rattle.std.specs.Prelude.{◌≡◌, ℕ, ◌+◌, ◌-◌, ◌<◌, ◌≤◌, ◌⊎◌, List, [], ◌++◌, length, take, drop, slice_range, IfOk, OnOk, OnErr, MatchBool, if◌then◌else◌};
 ghost use Rattle.crx_lines.specs.meaning.Devices.{ends_after, one_more};
 ghost use Rattle.crx_base.specs.declared.limits.TheConstants.{LINE_LIMIT};
 ghost use Rattle.crx_base.specs.declared.padded.TheConstants.{PADDING};
@@ -98,14 +98,19 @@ impl Window {
         }
     }
 
-    /// Lets go of all bytes.
-    pub(crate) fn clear(&mut self)
-        ensures kept { kept self.new ≡ [] }
-        ensures end { self.new.end ≡ 0 }
-        ensures bytes { self.new.bytes.items ≡ self.old.bytes.items }
+    /// Lets go of what is longer than a line and its end, and answers how many bytes that was.
+    pub(crate) fn let_go_of_long(&mut self) -> usize
+        ensures count { ((result ≡ 0) × (kept self.new ≡ kept self.old))
+            ⊎ ((result ≡ length (kept self.old)) × (LINE_LIMIT + 1 < result) × (kept self.new ≡ [])) }
+        ensures room { length (kept self.new) ≤ LINE_LIMIT + 1 }
     {
+        let count = self.end - self.start;
+        if count <= LINE_LIMIT + 1 {
+            return 0;
+        }
         self.start = 0;
         self.end = 0;
+        count
     }
 
     /// Makes room after the bytes that are held. They move only where too little is left.
@@ -116,7 +121,8 @@ impl Window {
         ensures unmoved { self.old.end + LEAST_ROOM ≤ SIZE → self.new.bytes.items ≡ self.old.bytes.items }
     {
         if self.start == self.end {
-            self.clear();
+            self.start = 0;
+            self.end = 0;
             return;
         }
         if SIZE - self.end < LEAST_ROOM {

@@ -20,7 +20,7 @@ returns-in-Ok-clause-over g c =
     let now = c.seeking.reader in
     let new = c.read.new.self in
     let s = Seeking-step (λ given. g.R.Source.gave old given now) _ _ _ _ _ _ _ _ _ c.seeking.invariant.0
-    c.as_slice.ensures.value c.in_default.ensures.none c.discarded.ensures.count in
+    c.as_slice.ensures.value c.in_default.ensures.none c.let_go_of_long.ensures.count in
     let more : (b : ℕ) × g.R.Source.gave now (b ∷ []) new = search rules in
     let then = λ (given : List ℕ). g.R.Source.gave old (given ++ more.0 ∷ []) new in
     let goes = λ (given : List ℕ) (lead : g.R.Source.gave old given now). subst
@@ -29,8 +29,8 @@ returns-in-Ok-clause-over g c =
     λ _. (
       more.0,
       _,
-      subst (λ k. Seeking then (kept c.args.window.now) (kept c.discarded.new.window) c.args.room k
-          (c.seeking.passed + c.discarded.result) (length (kept c.discarded.new.window))) c.if-taken-room.true
+      subst (λ k. Seeking then (kept c.args.window.now) (kept c.let_go_of_long.new.self) c.args.room k
+          (c.seeking.passed + c.let_go_of_long.result) (length (kept c.let_go_of_long.new.self))) c.if-taken-room.true
           (Seeking-same _ then _ _ _ _ _ _ _ s goes refl refl),
     )
 
@@ -40,7 +40,7 @@ returns-in-Ok-eq0-clause-ok g c =
     let now = c.seeking.reader in
     let new = c.read.new.self in
     let s = Seeking-step (λ given. g.R.Source.gave old given now) _ _ _ _ _ _ _ _ _ c.seeking.invariant.0
-    c.as_slice.ensures.value c.in_default.ensures.none c.discarded.ensures.count in
+    c.as_slice.ensures.value c.in_default.ensures.none c.let_go_of_long.ensures.count in
     let none : g.R.Source.gave now [] new = rw c.in-Ok-eq0.field-0-test at c.in-Ok-eq0.ensures.bytes in (
       c.seeking.taken,
       Seeking-same _ (λ given. g.R.Source.gave old given new) _ _ _ _ _ _ _ s (λ given lead.
@@ -54,7 +54,7 @@ returns-in-Err-clause-failed g c =
     let now = c.seeking.reader in
     let new = c.read.new.self in
     let s = Seeking-step (λ given. g.R.Source.gave old given now) _ _ _ _ _ _ _ _ _ c.seeking.invariant.0
-    c.as_slice.ensures.value c.in_default.ensures.none c.discarded.ensures.count in
+    c.as_slice.ensures.value c.in_default.ensures.none c.let_go_of_long.ensures.count in
     λ _. (
       _,
       _,
@@ -69,7 +69,7 @@ returns-in-Ok-eq0-fill-clause-ok g c =
     let now = c.seeking.reader in
     let new = c.fill.new.reader in
     let s = Seeking-step (λ given. g.R.Source.gave old given now) _ _ _ _ _ _ _ _ _ c.seeking.invariant.0
-    c.as_slice.ensures.value c.in_default.ensures.none c.discarded.ensures.count in
+    c.as_slice.ensures.value c.in_default.ensures.none c.let_go_of_long.ensures.count in
     let more = c.in-Ok-eq0-fill.ensures.ok in (
       _,
       Seeking-filled _ (λ given. g.R.Source.gave old given new) _ _ _ more.0 _ _ _ 0 _ s
@@ -81,7 +81,7 @@ returns-in-Ok-eq0-fill-clause-ok g c =
 pub returns-in-Ok-eq0-fill-clause-unasked : goal.returns-in-Ok-eq0-fill-clause-unasked
 returns-in-Ok-eq0-fill-clause-unasked g c =
     let s = Seeking-step (λ given. g.R.Source.gave _ given _) _ _ _ _ _ _ _ _ _
-    c.seeking.invariant.0 c.as_slice.ensures.value c.in_default.ensures.none c.discarded.ensures.count in
+    c.seeking.invariant.0 c.as_slice.ensures.value c.in_default.ensures.none c.let_go_of_long.ensures.count in
     λ has. absurd (Seeking-not_old _ _ _ _ _ _ s has)
 
 pub seeking-preserved : goal.seeking-preserved
@@ -90,7 +90,7 @@ seeking-preserved g c =
     let now = c.seeking.reader in
     let new = c.fill.new.reader in
     let s = Seeking-step (λ given. g.R.Source.gave old given now) _ _ _ _ _ _ _ _ _ c.seeking.invariant.0
-    c.as_slice.ensures.value c.in_default.ensures.none c.discarded.ensures.count in
+    c.as_slice.ensures.value c.in_default.ensures.none c.let_go_of_long.ensures.count in
     let more = c.in-Ok-fill.ensures.ok in (
       Seeking-filled _ (λ given. g.R.Source.gave old given new) _ _ _ more.0 _ _ _ _ _ s
           (λ given lead. g.met.R.Source.gave_both old now new given more.0 lead more.3) more.1
@@ -107,7 +107,7 @@ returns-in-Err-fill-clause-failed g c =
     let now = c.seeking.reader in
     let new = c.fill.new.reader in
     let s = Seeking-step (λ given. g.R.Source.gave old given now) _ _ _ _ _ _ _ _ _ c.seeking.invariant.0
-    c.as_slice.ensures.value c.in_default.ensures.none c.discarded.ensures.count in
+    c.as_slice.ensures.value c.in_default.ensures.none c.let_go_of_long.ensures.count in
     λ _. (
       _,
       _,
@@ -119,5 +119,5 @@ returns-in-Err-fill-clause-failed g c =
 pub returns-in-Err-fill-clause-unasked : goal.returns-in-Err-fill-clause-unasked
 returns-in-Err-fill-clause-unasked g c =
     let s = Seeking-step (λ given. g.R.Source.gave _ given _) _ _ _ _ _ _ _ _ _
-    c.seeking.invariant.0 c.as_slice.ensures.value c.in_default.ensures.none c.discarded.ensures.count in
+    c.seeking.invariant.0 c.as_slice.ensures.value c.in_default.ensures.none c.let_go_of_long.ensures.count in
     λ has. absurd (Seeking-not_old _ _ _ _ _ _ s has)
