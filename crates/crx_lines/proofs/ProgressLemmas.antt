@@ -45,20 +45,12 @@ pub HasRead-start : (gave : List ℕ → Type 0) (at_end : Type 0) (start : Tall
     → HasRead gave at_end start start (record { rest = []; passed = 0; number = 0; phase = Open }) []
 HasRead-start gave at_end start lead = grind (arith, common_steps)
 
--- a step over an ended piece, for the lines of an input or those whose LF is there
-over-piece : (F : List ℕ → List InputLine)
-    (line : InputLine) (given more old_rest bytes rest x : List ℕ) (lines : List InputLine)
-    → ((y : List ℕ) → F (given ++ y) ≡ lines ++ F (old_rest ++ y)) → old_rest ++ more ≡ bytes ++ 10 ∷ rest
-    → F (bytes ++ 10 ∷ (rest ++ x)) ≡ line ∷ F (rest ++ x)
-    → F ((given ++ more) ++ x) ≡ (lines ++ line ∷ []) ++ F (rest ++ x)
-over-piece F line given more old_rest bytes rest x lines so-far cut first = search (rules, append_assoc)
-
 module _ (at_end : Type 0) (start counted counted' : Tally) (given more : List ℕ)
     (old new : ReaderState) (lines : List InputLine) (o : IsOpen start counted given old lines) where
   -- a line was taken
   line-ended : (bytes : List ℕ) → TakesPiece old more at_end (ended_piece bytes) new → counted' ≡ counted
       → IsOpen start counted' (given ++ more) new (lines ++ line_of (ended_piece bytes) ∷ [])
-  line-ended = grind (arith, common_steps, length-append, over-piece, lines-first, ended_lines-first)
+  line-ended = grind (arith, common_steps, length-append, lines-first, ended_lines-first)
 
   line-last : (bytes : List ℕ) → TakesPiece old more at_end (last_piece bytes) new
       → counted' ≡ with_end counted
@@ -103,12 +95,6 @@ module _ (at_end : Type 0) (start counted counted' : Tally) (given more : List �
         same ∙ o.counts,
       )
 
--- a line has a byte
-passed-more : (old new : ReaderState) (given : List ℕ) (at_end : Type 0) (bytes : List ℕ) (is_ended : Bool)
-    → TakesPiece old given at_end (record { bytes = bytes; is_ended = is_ended }) new
-    → old.passed < new.passed
-passed-more = grind (arith, common_steps, length-append)
-
 module _ (gave gives step : List ℕ → Type 0)
     (at_end at_end' : Type 0) (start counted counted' : Tally) (old new : ReaderState)
     (lines : List InputLine)
@@ -120,7 +106,7 @@ module _ (gave gives step : List ℕ → Type 0)
   one-more : (more : List ℕ) (p : Piece) (line : InputLine) (number : ℕ)
       → TakesPiece old more at_end' p new → line ≡ line_of p → number ≡ new.number
       → IsOneMore old new lines (lines ++ line_of p ∷ []) line number
-  one-more = grind (arith, common_steps, length_push, passed-more)
+  one-more = grind (arith, common_steps, length_push)
 
   read-line : old.phase ≡ Open → (more : List ℕ) → step more → (p : Piece) → TakesPiece old more at_end' p new
       → counted' ≡ tally_after_line p.is_ended counted

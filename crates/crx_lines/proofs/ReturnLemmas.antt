@@ -1,6 +1,6 @@
 -- A CR at the end of a text.
 use Rattle.std.proofs.Common.{◌≡◌, ◌==◌, ℕ, ◌+◌, ◌-◌, ◌≤◌, ◌<◌, suc, Bool, ◌&&◌, not, List, [], ◌∷◌, length}
-use Rattle.std.proofs.Common.{take, drop, get_or, slice_range, slice_set, refl, ap, ◌∙◌, arith}
+use Rattle.std.proofs.Common.{take, get_or, slice_range, slice_set, refl, ap, ◌∙◌, arith}
 use Rattle.std.proofs.{Common.{length-take, length-drop}, lemmas.{Grind.common_steps}}
 use Rattle.std.proofs.lemmas.List.{take-take, get_or-take, get_or-drop}
 use Rattle.crx_base.specs.meaning.Lines.{InputLine, line_of, without_return, ends_with_return}
@@ -21,9 +21,7 @@ ends_with_return-last x (y ∷ ys) d = ends_with_return-last y ys d
 
 pub returned-last : (xs : List ℕ) (n d : ℕ) → length xs ≡ n + 1 → ends_with_return xs ≡ (get_or xs n d == 13)
 returned-last [] n d long = absurd (omega (arith, long))
-returned-last (x ∷ xs) n d long =
-    let len : length xs ≡ n = omega (arith, long) in
-    rw (← len) (ends_with_return-last x xs d)
+returned-last (x ∷ xs) n d long = grind (arith, common_steps, ends_with_return-last)
 
 returned-within : (xs : List ℕ) → bool_byte (ends_with_return xs) ≤ length xs
 returned-within (x ∷ y ∷ ys) = omega (arith, returned-within (y ∷ ys))
@@ -42,12 +40,7 @@ module _ (xs : List ℕ) (start end n : ℕ) (inside : start + n ≤ end) (withi
   first = take n (slice_range xs start end)
 
   len : length first ≡ n
-  len = omega (
-    arith,
-    length-take n (slice_range xs start end),
-    length-take (end - start) (drop start xs),
-    length-drop start xs,
-  )
+  len = grind (arith, common_steps, length-take, slice_range, length-drop)
 
   -- they end with CR where the last of them is one
   pub last-byte : (d : ℕ) → 0 < n → ends_with_return (take n (slice_range xs start end))
