@@ -98,11 +98,6 @@ allowed_of es letter h =
     subst (λ (o : Option ℕ). IfSome o IsAllowedCount) (lookup_is_count es letter)
     (All-lookup IsAllowedCount (eqb letter) es (All-weaker IsCount Q (λ c p. p.1) es h.allowed))
 
--- a line that isn't a types line changes nothing
-pub with_line-other : (counts : List Count) (line : List ℕ)
-    → is_types_line line ≡ false → with_line counts line ≡ counts
-with_line-other counts line h = grind arith
-
 allowed_if : (l n letter count : ℕ)
     → count_if_allowed l n ≡ Some (letter, count) → (is_system letter ≡ true) × IsAllowedCount count
 allowed_if l n letter count g = grind arith
@@ -165,9 +160,6 @@ different_letters : (cs : List Count) → letters_differ cs ≡ true → IsDisti
 unfolding IsDistinct
 different_letters [] h = tt
 different_letters (c ∷ cs) h = grind (arith, common_steps, other_letters, different_letters cs)
-
-turned : (letter : ℕ) (ls : List ℕ) → list_any (λ l. eqb l letter) ls ≡ list_any (eqb letter) ls
-turned = grind arith
 
 are_systems : (cs : List Count) (letter : ℕ) → All IsCount cs → list_any (eqb letter) (letters_of cs) ≡ true
     → list_any (eqb letter) system_letters ≡ true

@@ -1,6 +1,8 @@
 use Rattle.std.proofs.Common.{◌≡◌, ◌≤◌, ◌+◌, sym, subst, inr, length, arith, rules, Some}
 use Rattle.std.proofs.lemmas.Grind.{common_steps}
-use Rattle.crx_header.proofs.Counts.{types_of-push, with_line-other, count_in_allowed, AreCounts-with_count}
+use Rattle.crx_header.proofs.Counts.{types_of-push}
+use Rattle.crx_header.proofs.Counts.{count_in_allowed}
+use Rattle.crx_header.proofs.Counts.{AreCounts-with_count}
 use Rattle.crx_header.{proofs.Counts.AreByLetter-with_count, specs.ObservationTypes.{with_line, with_count}}
 use Rattle.crx_header.specs.{ObservationTypes.{AreCounts, AreByLetter}, declared.types.TheConstants.LETTERS}
 use Rattle.crx_header.specs.{declared.types.TheConstants.SYSTEMS}
@@ -9,7 +11,7 @@ use Rattle.indexmap.specs.IndexMap.{spare}
 use Rattle.crx_header.proofs.types.Types.accept_line.Goals as goal
 
 pub returns-then-not-is_types-clause-declared : goal.returns-then-not-is_types-clause-declared
-returns-then-not-is_types-clause-declared = grind (arith, common_steps, types_of-push, with_line-other)
+returns-then-not-is_types-clause-declared = grind (arith, common_steps, types_of-push)
 
 pub returns-clause-ok : goal.returns-clause-ok
 returns-clause-ok c = grind arith
