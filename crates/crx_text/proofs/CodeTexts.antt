@@ -5,7 +5,8 @@ use Rattle.std.proofs.{Common.{arith, ap, sym, ◌∙◌, refl}, lemmas.Bool.{ca
 use Rattle.std.proofs.lemmas.{Fmt.{decimal_digit, decimal_nonempty, length-decimal-le}, Grind.common_steps}
 use Rattle.std.proofs.lemmas.{List.{append_assoc, get_or_past}, Str.Parse.not_in_digits}
 use Rattle.std.specs.{Fmt.signed_decimal, Str.{all_ascii_digits, Parse.starts_with_minus}}
-use Rattle.crx_text.proofs.{CodeReads.coded_number_fitting, DigitPairs.two_written, ReadBack.decimal_first}
+use Rattle.crx_text.proofs.CodeReads.{coded_number_fitting}
+use Rattle.crx_text.proofs.ReadBack.{decimal_first}
 use Rattle.crx_text.{proofs.ReadBack.{decimal_is_digits, decimal_weighs, digits_own}, specs.Codes.IsPrintable}
 use Rattle.crx_text.specs.{Codes.IsShort, declared.code.Code.{Code, TheVariants.{Start}}}
 use Rattle.crx_text.specs.meaning.Codes.{code_of, code_text, coded_number, step_of}
@@ -29,7 +30,7 @@ code_text_length = grind (arith, common_steps, code_text_start, signed_decimal_l
 pub start_written : (bytes number : List ℕ) (at order : ℕ) → at + 2 ≤ length bytes → take (at + 2)
     (slice_set (slice_set bytes at (48 + order)) (at + 1) 38) ++ number
     ≡ take at bytes ++ (48 + order) ∷ 38 ∷ number
-start_written bytes number at order room = grind (arith, common_steps, two_written, append_assoc)
+start_written bytes number at order room = grind (arith, common_steps, append_assoc)
 
 -- ---- reading back
 

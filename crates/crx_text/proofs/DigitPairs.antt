@@ -21,11 +21,6 @@ PAIRS_at p small =
     let parts = and_parts _ _ (agree_below_at is_pair (λ p. true) 100 p refl small) in
     (eqb-true _ _ parts.0, eqb-true _ _ parts.1)
 
--- two bytes, one after the other
-pub two_written : (bytes : List ℕ) (at a b : ℕ) → at + 2 ≤ length bytes
-    → take (at + 2) (slice_set (slice_set bytes at a) (at + 1) b) ≡ take at bytes ++ a ∷ b ∷ []
-two_written bytes at a b room = grind (arith, common_steps, take_more_set, length-set, append_assoc)
-
 -- what is written after what was written
 pub joined : (first second third front back : List ℕ) (at middle end : ℕ)
     → take middle second ≡ take at first ++ front

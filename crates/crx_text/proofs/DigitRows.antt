@@ -195,9 +195,6 @@ read_row text size count some small counted few sized =
       sized ∙ ap (written 0) (front count (omega (arith, few))) ∙ written_digits 0 count row are_digits,
     )
 
-no_blank : (c : ℕ) → is_ascii_digit c ≡ true → eqb c 32 ≡ false
-no_blank c digit = grind arith
-
 first_cell-digits : (ds rest : List ℕ) → all_ascii_digits ds ≡ true
     → first_cell (ds ++ rest) ≡ ds ++ first_cell rest
 first_cell-digits [] rest digits = refl

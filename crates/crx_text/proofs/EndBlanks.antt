@@ -3,7 +3,7 @@ use Rattle.std.proofs.Common.{not, cond, eqb, ℕ, ◌≡◌, ◌+◌, ◌-◌, 
 use Rattle.std.proofs.Common.{◌%◌, ◌^◌, ◌<◌, ◌≤◌, List, [], ◌∷◌, ◌++◌, length, drop, take, map, replicate, w8}
 use Rattle.std.proofs.{Common.{arith, refl, ap, sym, ◌∙◌, ◌≢◌, get_or}, Math.{Nat.pow-suc, Seq.take-add}}
 use Rattle.std.proofs.lemmas.{Bool.ne_eqb, Grind.common_steps, List.{drop_all, drop_more, length-take-le}}
-use Rattle.std.proofs.lemmas.{List.{nil_from_length, take-append-drop, take_more}, Simd.bitmask_splat}
+use Rattle.std.proofs.lemmas.{List.{nil_from_length, take-append-drop}, Simd.bitmask_splat}
 use Rattle.std.{proofs.lemmas.Simd.{chunk-drop, length-chunk}, specs.Int.Count.count_leading_zeros}
 use Rattle.std.specs.Int.Count.{leading_unique}
 use lib.Lanes.{chunk, mask_l, top, zip2}
@@ -41,22 +41,6 @@ pub blank_passed : (text : List ℕ) (last end : ℕ) → last + 1 ≡ end → e
     → get_or text last 0 ≡ 32
     → without_end_blanks (drop end text) ≡ [] → without_end_blanks (drop last text) ≡ []
 blank_passed text last end sum within blank none = grind (arith, common_steps)
-
--- another character before blanks ends the text
-pub ended_at : (text : List ℕ) (last end : ℕ) → last + 1 ≡ end → end ≤ length text → get_or text last 0 ≢ 32
-    → without_end_blanks (drop end text) ≡ [] → take end text ≡ without_end_blanks text
-ended_at text last end sum within other none =
-    let less : last < length text = omega (arith, sum, within) in
-    let c : ℕ = get_or text last 0 in
-    let rest : without_end_blanks (drop (last + 1) text) ≡ [] =
-    ap (λ (k : ℕ). without_end_blanks (drop k text)) sum ∙ none in
-    let here : before_end_blanks c [] ≡ c ∷ [] = rw (ne_eqb c 32 other) refl in
-    let kept : without_end_blanks (drop last text) ≡ c ∷ [] = ap without_end_blanks
-    (drop_more text last 0 less) ∙ ap (before_end_blanks c) rest ∙ here in
-    ap (λ (k : ℕ). take k text) (sym sum) ∙ take_more text last 0 less
-    ∙ ap (λ (t : List ℕ). take last text ++ t) (sym kept)
-    ∙ sym (kept_append (take last text) (drop last text) (omega (arith, ap length kept)))
-    ∙ ap without_end_blanks (take-append-drop last text)
 
 -- ---- the mask of some characters
 
@@ -132,3 +116,13 @@ module _ (text : List ℕ) (end : ℕ) (within : end ≤ length text)
 
     pub found_none : found size (chunk start size text) ≡ 0 → without_end_blanks (drop start text) ≡ []
     found_none zero = none_in_piece size start sum (sym lanes ∙ zero)
+
+-- another character before blanks ends the text
+pub ended_at : (text : List ℕ) (last end : ℕ) → last + 1 ≡ end → end ≤ length text → get_or text last 0 ≢ 32
+    → without_end_blanks (drop end text) ≡ [] → take end text ≡ without_end_blanks text
+ended_at text last end sum within other none =
+    let piece : chunk last 1 text ≡ get_or text last 0 ∷ [] =
+    ap (take 1) (drop_more text last 0 (omega (arith, sum, within))) in
+    let one : 1 ≡ length (without_end_blanks (chunk last 1 text)) =
+    rw (piece, ne_eqb (get_or text last 0) 32 other) refl in
+    ap (λ (k : ℕ). take k text) (sym sum) ∙ kept_in_piece text end within none 1 last 1 sum (omega arith) one

@@ -1,6 +1,6 @@
 -- The first cell of a line: counted by lanes, and where a blank and more characters are behind the line.
 use Rattle.std.proofs.Common.{◌≡◌, ℕ, zero, suc, nat_lt, ◌+◌, ◌-◌, ◌%◌, ◌^◌, ◌<◌, ◌≤◌, Bool, true, false}
-use Rattle.std.proofs.Common.{cond, eqb, not, bit_or, List, [], ◌∷◌, ◌++◌, map, length, replicate, drop, take}
+use Rattle.std.proofs.Common.{cond, eqb, not, bit_or, min, List, [], ◌∷◌, ◌++◌, map, length, replicate, drop, take}
 use Rattle.std.proofs.{Common.{slice_index, w8, arith, refl, ap, subst, sym, ◌∙◌}, lemmas.Grind.common_steps}
 use Rattle.std.proofs.lemmas.List.{drop_all, length-append, length-drop, length-map, length-take-le, take_all}
 use Rattle.std.proofs.lemmas.Simd.{bitmask_splat, mask_l-lt, trailing_mask_l}
@@ -55,11 +55,11 @@ module _ (line : List ℕ) (at n : ℕ) (counted : n ≡ length (first_cell (dro
 
 -- ---- among the first lanes
 
--- where it ends among the first characters, it is that of the line
-pub cell_in_front : (n : ℕ) (text : List ℕ)
-    → length (first_cell (take n text)) < n → length (first_cell (take n text)) ≡ length (first_cell text)
-cell_in_front (suc n) (c ∷ cs) less = grind (arith, common_steps, cell_in_front n cs)
-cell_in_front n text less = grind (arith, common_steps)
+-- of a cell they have as much as there is, or they are all of it
+cell_in_front : (n : ℕ) (text : List ℕ)
+    → length (first_cell (take n text)) ≡ min (length (first_cell text)) n
+cell_in_front (suc n) (c ∷ cs) = grind (arith, common_steps, cell_in_front n cs)
+cell_in_front n text = grind (arith, common_steps)
 
 before_blank : (text : List ℕ) → prefix_len (λ c. not (eqb c 32)) text ≡ length (first_cell text)
 before_blank [] = refl
@@ -109,11 +109,6 @@ module _ (bytes line : List ℕ) (at : ℕ) (is : take (length line) bytes ≡ l
       ap first_cell whole ∙ cell_at bytes (length line) at within (omega (arith, room)) blank
       ∙ ap (λ t. first_cell (drop at t)) is
 
-  pub first_blank : blank_at (take 16 slice) < 16
-      → blank_at (take 16 slice) ≡ length (first_cell (drop at line))
-  first_blank less =
-      let is = counted (take 16 slice) lanes in
-      is ∙ cell_in_front 16 slice (omega (arith, less, is)) ∙ ap length same_cell
-
-  pub few_lanes : blank_at (take 16 slice) ≤ 16
-  few_lanes = omega (arith, counted (take 16 slice) lanes, cell_within (take 16 slice), lanes)
+  pub first_blank : blank_at (take 16 slice) ≡ min (length (first_cell (drop at line))) 16
+  first_blank =
+      counted (take 16 slice) lanes ∙ cell_in_front 16 slice ∙ ap (λ t. min (length t) 16) same_cell

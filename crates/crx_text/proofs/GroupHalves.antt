@@ -26,11 +26,6 @@ halves_are (x ∷ y ∷ z ∷ v) long small = absurd (omega arith)
 abbrev pub lanes_of : List ℕ → List ℕ
 lanes_of v = digits_l (2 ^ 32) 4 (number_l 256 (digits_l 256 16 (number_l (2 ^ 64) v)))
 
-module _ (a b c d : ℕ) (as_small : a < 1000) (bs_small : b < 1000) (cs_small : c < 1000)
-    (ds_small : d < 1000) where
-  pub lanes_are : lanes_of ((a + b * 2 ^ 32) ∷ (c + d * 2 ^ 32) ∷ []) ≡ a ∷ b ∷ c ∷ d ∷ []
-  lanes_are = grind arith
-
 pub groups_are : (size high low : ℕ) → size < 10 ^ 12 → high ≡ size / 10 ^ 6 → low ≡ size % 10 ^ 6
     → lanes_of ((high % 1000 + high / 1000 * 2 ^ 32) ∷ (low % 1000 + low / 1000 * 2 ^ 32) ∷ [])
     ≡ size / 10 ^ 6 % 1000 ∷ size / 10 ^ 9 ∷ size % 1000 ∷ size / 1000 % 1000 ∷ []
@@ -40,10 +35,6 @@ groups_are size high low small is rest = grind arith
 
 abbrev pub wide_of : List ℕ → List ℕ
 wide_of v = digits_l (2 ^ 64) 2 (number_l 256 (digits_l 256 16 (number_l (2 ^ 32) v)))
-
-pub wide_are_four : (a b c d : ℕ) → a < 2 ^ 32 → b < 2 ^ 32 → c < 2 ^ 32 → d < 2 ^ 32
-    → wide_of (a ∷ b ∷ c ∷ d ∷ []) ≡ (a + 2 ^ 32 * b) ∷ (c + 2 ^ 32 * d) ∷ []
-wide_are_four a b c d as_small bs_small cs_small ds_small = grind arith
 
 pub wide_are : (high low : ℕ) → high < 2 ^ 32 → low < 2 ^ 32 → wide_of (high ∷ 0 ∷ low ∷ 0 ∷ [])
     ≡ high ∷ low ∷ []

@@ -20,14 +20,10 @@ pub no_bit : {X : Type 0} (p : X → Bool) (xs : List X) → nat_eq (mask_l (map
 no_bit p [] = refl
 no_bit p (x ∷ xs) = grind (arith, common_steps, no_bit p xs)
 
-all_bits_next : (b : Bool) (m power : ℕ)
-    → 1 ≤ power → nat_eq (cond b 1 0 + 2 * m) (2 * power - 1) ≡ (b && nat_eq m (power - 1))
-all_bits_next = grind (arith, common_steps)
-
 pub all_bits : {X : Type 0} (p : X → Bool) (xs : List X)
     → nat_eq (mask_l (map p xs)) (2 ^ length xs - 1) ≡ list_all p xs
 all_bits p [] = refl
-all_bits p (x ∷ xs) = grind (arith, common_steps, pow-suc, one-le-pow, all_bits_next, all_bits p xs)
+all_bits p (x ∷ xs) = grind (arith, common_steps, pow-suc, one-le-pow, all_bits p xs)
 
 -- a comparison of 16 lanes with one byte: each lane
 pub each_is_byte : (byte : ℕ) (xs : List ℕ) → length xs ≡ 16
@@ -48,24 +44,15 @@ first_bits : (n : ℕ) (ms : List Bool) → mask_l ms % 2 ^ n ≡ mask_l (take n
 first_bits (suc n) (m ∷ ms) = grind (arith, common_steps, mod_step, first_bits n ms)
 first_bits n ms = grind (arith, common_steps)
 
--- a comparison of 16 lanes with one byte, of which the first 14 count
-fourteen_bits : (byte : ℕ) (xs : List ℕ) → length xs ≡ 16
-    → bit_and (mask_l (map (top 7) (zip2 (λ a b. cond (eqb a b) 255 0) xs (replicate 16 byte))) % 2 ^ 64)
-    16383 ≡ mask_l (map (λ c. eqb c byte) (take 14 xs))
-fourteen_bits byte xs long =
-    let is : ℕ → Bool = λ c. eqb c byte in
-    ap (λ m. bit_and m 16383) (bitmask_splat w8 eqb xs 16 byte long (omega arith))
-    ∙ and_mask _ 14 ∙ first_bits 14 _ ∙ ap mask_l (take-map is 14 xs)
-
 pub some_of_field : (byte : ℕ) (xs : List ℕ) → length xs ≡ 16 → not (nat_eq (bit_and
     (mask_l (map (top 7) (zip2 (λ a b. cond (eqb a b) 255 0) xs (replicate 16 byte))) % 2 ^ 64)
     16383) 0) ≡ list_any (λ c. eqb c byte) (take 14 xs)
-some_of_field byte xs long = grind (arith, common_steps, not, nat_eq, fourteen_bits, no_bit, eqb, list_any)
+some_of_field byte xs long = grind (arith, common_steps, not, nat_eq, no_bit, eqb, list_any)
 
 pub each_of_field : (byte : ℕ) (xs : List ℕ) → length xs ≡ 16
     → nat_eq (bit_and (mask_l (map (top 7) (zip2 (λ a b. cond (eqb a b) 255 0) xs (replicate 16 byte))) % 2 ^
     64) 16383) 16383 ≡ list_all (λ c. eqb c byte) (take 14 xs)
-each_of_field = grind (arith, common_steps, fourteen, length-take-le, nat_eq, fourteen_bits, all_bits)
+each_of_field = grind (arith, common_steps, fourteen, length-take-le, nat_eq, all_bits)
 
 -- ---- the lanes of masks, which are 255 or 0
 

@@ -6,7 +6,9 @@ use Rattle.std.proofs.{Math.Nat.mul-le-mul_right, lemmas.Bool.{and_parts, leb-tr
 use Rattle.std.proofs.lemmas.{Grind.common_steps, List.Folds.list_all-append, Nat.and_mask}
 use Rattle.std.specs.{List.{range_with_len, list_all}, Str.all_ascii_digits}
 use lib.Lanes.{Each1, pick_l, top, zip2, sel_l, dots}
-use Rattle.crx_text.proofs.{GroupHalves.{wide_of, wide_are_four}, LaneBits.sixteen, PlainLanes.lane_fits}
+use Rattle.crx_text.proofs.GroupHalves.{wide_of}
+use Rattle.crx_text.proofs.LaneBits.{sixteen}
+use Rattle.crx_text.proofs.PlainLanes.{lane_fits}
 use Rattle.crx_text.proofs.{Sizes.{pos_is_within, neg_is_within}}
 use Rattle.crx_text.specs.{Fields.{IsPlain, is_plain_after, weighed, plain_digits}, meaning.Numbers.IsWithin}
 use Rattle.crx_text.specs.meaning.Numbers.{signed_number}
@@ -40,15 +42,10 @@ joined_pairs groups =
     zip2 (λ a b. (a + b) % 2 ^ 64) (zip2 (λ a b. a * b % 2 ^ 64) first (replicate 2 1000))
     (zip2 (λ a b. a / 2 ^ b) pairs (replicate 2 32))
 
-pair_is : (a b : ℕ) → a < 2 ^ 16 → b < 2 ^ 16
-    → (bit_and (a + 2 ^ 32 * b) 4294967295 * 1000 % 2 ^ 64 + (a + 2 ^ 32 * b) / 2 ^ 32) % 2 ^ 64
-    ≡ a * 1000 + b
-pair_is a b as_small bs_small = grind (arith, common_steps, bit_and, and_mask)
-
 pub pairs_are : (groups : List ℕ) → length groups ≡ 4 → Each1 (λ group. group < 2 ^ 16) groups
     → joined_pairs groups ≡ (get_or groups 0 0 * 1000 + get_or groups 1 0)
     ∷ (get_or groups 2 0 * 1000 + get_or groups 3 0) ∷ []
-pairs_are = grind (arith, common_steps, wide_are_four, zip2, bit_and, replicate, pair_is)
+pairs_are = grind (arith, common_steps, zip2, bit_and, replicate)
 
 -- three digits, as the weights add them up
 abbrev pub group_of : ℕ → ℕ → ℕ → ℕ → ℕ

@@ -22,13 +22,6 @@ group_word g = small_word (bit_and g 1023)
 abbrev digits_word : ℕ → ℕ
 digits_word g = g % 10 + g / 10 % 10 * 256 + g / 100 * 65536
 
-word_is : (g : ℕ) → g < 1000 → group_word g ≡ digits_word g
-word_is g small = grind (arith, common_steps, bit_and, and_mask, eqb-true, agree_below_at, eqb)
-
-next_group : (n g y : ℕ) → g < 1000 → digits_l 256 (suc (suc (suc (suc n)))) (group_word g + 2 ^ 32 * y)
-    ≡ g % 10 ∷ g / 10 % 10 ∷ g / 100 ∷ 0 ∷ digits_l 256 n y
-next_group n g y small = grind (arith, common_steps, digits_word, word_is, digits_l)
-
 abbrev quadruple : ℕ → ℕ
 quadruple zero = zero
 quadruple (suc n) = suc (suc (suc (suc (quadruple n))))
@@ -36,7 +29,7 @@ quadruple (suc n) = suc (suc (suc (suc (quadruple n))))
 digits_of_groups : (gs : List ℕ) → Each1 (λ g. g < 1000) gs
     → digits_l 256 (quadruple (length gs)) (number_l (2 ^ 32) (map group_word gs)) ≡ group_digits gs
 digits_of_groups [] small = refl
-digits_of_groups (g ∷ gs) small = grind (arith, common_steps, next_group, digits_of_groups gs small.1)
+digits_of_groups (g ∷ gs) small = grind (arith, common_steps, digits_of_groups gs small.1)
 
 -- the words as the code makes them of the groups
 abbrev pub words_of : List ℕ → List ℕ
@@ -59,9 +52,6 @@ digits_of_words groups long small =
     (subst (Each1 (λ g. g < 1000)) (sym whole) small))
 
 -- ---- where the number begins
-
-one_more : (n : ℕ) → 1 + n ≡ suc n
-one_more n = omega arith
 
 -- the lanes before a lane that passes in any case
 begins : (before : List ℕ) (d : ℕ) (bits : List Bool)

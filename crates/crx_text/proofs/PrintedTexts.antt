@@ -85,10 +85,6 @@ nine_of a b c = a / 100 ∷ a / 10 % 10 ∷ a % 10 ∷ b / 100 ∷ b / 10 % 10 �
 abbrev pub three_of : ℕ → List ℕ
 three_of d = d / 100 ∷ d / 10 % 10 ∷ d % 10 ∷ []
 
-group_is_digits : (g : ℕ) (ds : List ℕ)
-    → g < 1000 → are_digits ds ≡ true → are_digits (g / 100 ∷ g / 10 % 10 ∷ g % 10 ∷ ds) ≡ true
-group_is_digits g ds small digits = grind arith
-
 -- the digits of a size's thousands, and of the rest
 abbrev pub nine_in : ℕ → List ℕ
 nine_in size = nine_of (size / 10 ^ 9) (size / 10 ^ 6 % 1000) (size / 1000 % 1000)
@@ -98,7 +94,7 @@ three_in size = three_of (size % 1000)
 
 module _ (size : ℕ) (small : size < 10 ^ 12) where
   nine_are_digits : are_digits (nine_in size) ≡ true
-  nine_are_digits = grind (arith, common_steps, group_is_digits, three_of)
+  nine_are_digits = grind (arith, common_steps, three_of)
 
   three_are_digits : are_digits (three_in size) ≡ true
   three_are_digits = grind arith

@@ -1,6 +1,6 @@
 //! Codes of numbers: Hatanaka's Compact RINEX 3.0, the codes of satellite lines and of the clock line.
 
-ghost use Rattle.std.specs.Prelude.{◌≡◌, ◌+◌, ◌<◌, ◌≤◌, [], ◌∷◌, ◌++◌, ◌↔◌, Some, length, take, drop, IfOk, IfSome, OnOk, OnErr, OnSome, IsErr};
+ghost use Rattle.std.specs.Prelude.{◌≡◌, ◌+◌, ◌<◌, ◌≤◌, [], ◌∷◌, ◌++◌, ◌↔◌, Some, length, take, drop, IfOk, IfSome, OnOk, OnErr, OnSome, IsErr, min};
 ghost use Rattle.std.specs.Option.{option_map};
 ghost use Rattle.std.specs.Result.{result_ok};
 
@@ -145,7 +145,7 @@ pub fn code_before_blank(line: &[u8]) -> Result<(Code, usize), BadField>
 pub fn cell_length(line: Padded<'_>, at: usize) -> usize
     requires within { at ≤ length (line_in line) }
     ensures value { result < LANES → result ≡ length (first_cell (drop at (line_in line.entry))) }
-    ensures most { result ≤ LANES }
+    ensures most { result ≡ min (length (first_cell (drop at (line_in line.entry)))) LANES }
 {
     let blanks = u8x16::from_slice(&line.padded()[at..])
         .simd_eq(u8x16::splat(b' '))

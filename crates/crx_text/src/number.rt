@@ -7,7 +7,7 @@ ghost use Rattle.std.specs.Option.{ForSome};
 ghost use Rattle.std.specs.Result.{result_ok};
 ghost use Rattle.crx_text.specs.declared.digits.TheConstants.{WIDEST};
 ghost use Rattle.crx_base.specs.declared.limits.TheConstants.{CELL_WIDTH, OBSERVATION_WIDTH, CLOCK_WIDTH};
-ghost use Rattle.crx_text.specs.meaning.Numbers.{IsWithin, number_of, observation_of, clock_of, size_of, number_text, observation_text, clock_text, size_text, zero_padded};
+ghost use Rattle.crx_text.specs.meaning.Numbers.{IsWithin, number_of, observation_of, clock_of, number_text, observation_text, clock_text, size_text, zero_padded};
 ghost use Rattle.crx_text.specs.Numbers.{IsObservation, IsClock};
 
 use crate::columns::trim_start;
@@ -182,7 +182,7 @@ const SHORT_CLOCK: u64 = 10_000_000_000_000;
 
 // Reads a number of so many columns, column by column.
 #[inline(never)]
-#[tactic(auto, using(crate::proofs::Sizes::number_parts))]
+#[tactic(auto, using(crate::proofs::Sizes::number_parts, crate::proofs::Sizes::size_parts))]
 fn number_read(field: &[u8], width: usize, decimals: usize) -> Result<Option<i64>, BadField>
     requires { width ≤ WIDEST }
     ensures value { result_ok result ≡ number_of width decimals field.now }
@@ -196,28 +196,20 @@ fn number_read(field: &[u8], width: usize, decimals: usize) -> Result<Option<i64
         return Ok(None);
     }
     let (is_below, rest) = split_minus(text);
-    match size_read(rest, decimals) {
-        Some(size) => Ok(Some(signed(is_below, size))),
-        None => Err(BadField),
+    if rest.len() <= decimals {
+        return Err(BadField);
     }
-}
-
-// A number without a sign, as all of its digits write it; None where the text spells none.
-#[tactic(auto, using(crate::proofs::Sizes::size_parts))]
-fn size_read(text: &[u8], decimals: usize) -> Option<u64>
-    requires { length text.now ≤ WIDEST }
-    ensures value { result ≡ size_of decimals text.now }
-    ensures fits { IfSome result (λ size. size < 10 ^ (length text.now - 1)) }
-{
-    if text.len() <= decimals {
-        return None;
+    let point = rest.len() - decimals - 1;
+    if rest[point] != b'.' {
+        return Err(BadField);
     }
-    let point = text.len() - decimals - 1;
-    if text[point] != b'.' {
-        return None;
-    }
-    let whole = digits_read(0, &text[..point])?;
-    digits_read(whole, &text[point + 1..])
+    let Some(whole) = digits_read(0, &rest[..point]) else {
+        return Err(BadField);
+    };
+    let Some(size) = digits_read(whole, &rest[point + 1..]) else {
+        return Err(BadField);
+    };
+    Ok(Some(signed(is_below, size)))
 }
 
 // Prints a number right justified, digit by digit.

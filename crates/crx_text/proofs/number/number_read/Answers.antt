@@ -1,18 +1,38 @@
-use Rattle.std.proofs.{Common.{◌≤◌, length, w64, arith, rules}, lemmas.{Int.to_z-of_z}}
+use Rattle.std.proofs.Common.{◌+◌, ◌-◌, ◌^◌, ◌<◌, ◌≤◌, ℕ, length, drop, take, w64, arith, rules}
+use Rattle.std.proofs.lemmas.{Grind.common_steps, Int.to_z-of_z, List.{length-take, length-drop}}
 use mir.Val.{SFits}
-use Rattle.crx_text.proofs.Sizes.{IsWithin_more, signed_is_within, size_fits}
+use Rattle.crx_text.proofs.{PowersOfTen.more_digits_fit, Sizes.{IsWithin_more, signed_is_within, size_fits}}
 use Rattle.crx_text.proofs.number.number_read.Goals as goal
+
+pub digits_read-requires : goal.digits_read-requires
+digits_read-requires c =
+    let text = c.split_minus-is_below.result.1.now in
+    let point : ℕ = length text - c.args.decimals - 1 in
+    more_digits_fit 0 0 (length (take point text)) 18 (omega arith) (omega (arith, length-take point text))
+
+pub digits_read-requires-2 : goal.digits_read-requires-2
+digits_read-requires-2 c =
+    let text = c.split_minus-is_below.result.1.now in
+    let point : ℕ = length text - c.args.decimals - 1 in
+    more_digits_fit _ _ _ 18 c.in-Some.ensures.fits (omega (
+      arith,
+      length-take point text,
+      length-drop (point + 1) text,
+    ))
 
 pub signed-requires : goal.signed-requires
 signed-requires c =
-    let rest = c.split_minus-is_below.result.1.now in
-    size_fits _ _ (omega (arith, c.split_minus-is_below.ensures.shorter, c.trim_start-text.ensures.shorter))
-    c.in-Some.ensures.fits
+    let text = c.split_minus-is_below.result.1.now in
+    let fits : c.in-Some-digits_read.size < 10 ^ (length text - 1) =
+    grind (arith, common_steps, more_digits_fit, length-take, length-drop) in
+    size_fits _ (length text) (omega arith) fits
 
-pub returns-in-Some-clause-in_range : goal.returns-in-Some-clause-in_range
-returns-in-Some-clause-in_range c =
-    let fits : SFits w64 _ = search rules in
-    let text = c.trim_start-text.result.now in
-    let shorter : length text ≤ c.args.width = omega (arith, c.trim_start-text.ensures.shorter) in
+pub returns-clause-in_range : goal.returns-clause-in_range
+returns-clause-in_range c =
+    let fits : SFits w64 c.signed.result = search rules in
+    let text = c.split_minus-is_below.result.1.now in
+    let small : c.in-Some-digits_read.size < 10 ^ (length text - 1) =
+    grind (arith, common_steps, more_digits_fit, length-take, length-drop) in
+    let shorter : length c.trim_start-text.result.now ≤ c.args.width = omega arith in
     rw (to_z-of_z w64 c.signed.result fits, c.signed.ensures) (IsWithin_more _ _ _ shorter
-    (signed_is_within _ _ _ _ c.split_minus-is_below.ensures.shorter c.in-Some.ensures.fits))
+    (signed_is_within _ _ _ _ c.split_minus-is_below.ensures.shorter small))
