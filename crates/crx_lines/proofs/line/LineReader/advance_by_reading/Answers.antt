@@ -1,12 +1,15 @@
-use Rattle.std.proofs.Common.{◌≡◌, ℕ, ◌+◌, ◌-◌, ◌≤◌, ⊎_elim, inl, inr, cond, List, [], ◌∷◌, ◌++◌, Err, length}
+use Rattle.std.proofs.Common.{true, ◌<◌, ◌⊎◌, ◌≡◌, ℕ, ◌+◌, ◌-◌, ◌≤◌, ⊎_elim, inl, inr, cond, List, [], ◌∷◌, ◌++◌, Err, length}
 use Rattle.std.proofs.{Common.{take, drop, sym, ap, ◌∙◌, refl, arith, rules}, lemmas.List.length-drop}
 use Rattle.crx_lines.proofs.AdvanceLemmas.{piece_at, passed-within, takes, some-byte, whole-piece, held-is}
 use Rattle.crx_lines.proofs.AdvanceLemmas.{some-read, too-long, none-passed, content-long, over-fault}
 use Rattle.crx_lines.proofs.{AdvanceLemmas.{read-fault}, DeviceLemmas.{tally-same, tally-line}}
-use Rattle.crx_lines.{proofs.SeekLemmas.Seeking-sum, specs.{Readers.reading, Window.kept}}
+use Rattle.crx_lines.{proofs.SeekLemmas.Seeking-sum, specs.{Readers.reading, Window.{cut_shown, kept}}}
+use Rattle.crx_lines.specs.Reading.{ReaderState, TakesPiece}
+use Rattle.crx_lines.specs.declared.phase.Phase.TheVariants.{Open, Ended}
 use Rattle.crx_base.specs.declared.fault.Fault.TheVariants.{InputTooLong, ReadFailed}
 use Rattle.crx_base.specs.{declared.limits.TheConstants.INPUT_LIMIT, meaning.Lines.{InputLine, line_of}}
-use Rattle.crx_lines.proofs.line.LineReader.advance_by_reading.Goals.{then-found-2, else-found-2}
+use Rattle.crx_lines.proofs.line.LineReader.advance_by_reading.Given.{Over}
+use Rattle.crx_lines.proofs.line.LineReader.advance_by_reading.Goals.{After-take_line-cut, then-found-2, else-found-2}
 use Rattle.crx_lines.proofs.line.LineReader.advance_by_reading.Goals as goal
 
 pub invariant_of-self : goal.invariant_of-self
@@ -52,80 +55,88 @@ returns-in-Err-clause-answers g c =
           (tally-same _ _ _ _ (c.in-Err.ensures.counted (ap Err e)) c.in-Err.ensures.no_end),
     )) c.in-Err.ensures.faults
 
+-- the line that was taken, with what is left behind it
+module _ (g : Over) (c : After-take_line-cut g) where
+  abbrev held : List ℕ
+  held = kept c.seek.new.window
+
+  abbrev n : ℕ
+  n = c.in-Ok.found.len + c.from.result
+
+  start-is : kept c.deref_mut.result.now ≡ kept c.args.self.now.window.value
+  start-is = ap kept c.deref_mut.ensures.value
+
+  limit : c.args.self.now.passed + (length (kept c.deref_mut.result.now)
+      + (INPUT_LIMIT - c.args.self.now.passed - length c.as_slice.result.now)) ≡ INPUT_LIMIT
+  limit =
+      let shown = c.as_slice.ensures.value ∙ ap kept c.deref.ensures in
+      omega (arith, ap length start-is, ap length shown, c.args.self.now.limit)
+
+  count : n ≡ c.in-Ok.found.len + cond c.in-Ok.found.is_ended 1 0
+  count = held-is c.in-Ok.found.len _ _ c.from.ensures
+
+  within : c.args.self.now.passed + (c.in-Ok.found.passed + n) + (length held - n) ≤ INPUT_LIMIT
+  within =
+      passed-within _ _ _ _ c.in-Ok.ensures.ok.0 _ _ _ c.in-Ok.ensures.ok.1 _ _ c.in-Ok.ensures.end count
+      c.args.self.now.passed (omega (arith, limit))
+
+  some : (0 < c.in-Ok.found.passed + c.in-Ok.found.len) ⊎ (c.in-Ok.found.is_ended ≡ true)
+  some = some-read c.in-Ok.found.passed c.in-Ok.found.len _ c.if-found.false
+
+  left : kept c.take_line-cut.new.self ≡ drop n held
+  left =
+      c.take_line-cut.ensures.kept ∙ ap (λ w. drop (c.in-Ok.found.len + cond c.in-Ok.found.is_ended 1 0) (kept w))
+      c.deref_mut-2.ensures.value ∙ ap (λ k. drop k held) (sym count)
+
+  line : cut_shown c.take_line-cut.new.self.bytes.items c.take_line-cut.result
+      ≡ line_of (record { bytes = take c.in-Ok.found.len held; is_ended = c.in-Ok.found.is_ended })
+  line =
+      c.take_line-cut.ensures.shown
+      ∙ ap (λ w. line_of (record { bytes = take c.in-Ok.found.len (kept w); is_ended = c.in-Ok.found.is_ended }))
+      c.deref_mut-2.ensures.value
+
+  taken : (after : ReaderState) → after.rest ≡ kept c.take_line-cut.new.self
+      → after.passed ≡ c.args.self.now.passed + (c.in-Ok.found.passed + n)
+      → after.number ≡ c.args.self.now.number + 1 → after.phase ≡ cond c.in-Ok.found.is_ended Open Ended
+      → TakesPiece (reading c.args.self.now) c.in-Ok.ensures.ok.1.given (g.R.Source.at_end c.seek.new.reader)
+      (piece_at c.in-Ok.ensures.ok.1.front held c.in-Ok.found.len c.in-Ok.found.is_ended) after
+  taken after rest passes number phase =
+      takes _ _ held _ _ c.in-Ok.found.passed c.in-Ok.found.len _ c.in-Ok.ensures.ok.1 c.in-Ok.found.is_ended
+      c.in-Ok.ensures.end some (reading c.args.self.now) after n (sym start-is) count (rest ∙ left) passes
+      (omega (arith, limit)) number phase
+
 pub overflow_add-self : goal.overflow_add-self
-overflow_add-self g c =
-    let shown = c.as_slice.ensures.value ∙ ap kept c.deref.ensures in
-    let bound = passed-within _ _ _ _ c.in-Ok.ensures.ok.0 _ _ _ c.in-Ok.ensures.ok.1 _ _ c.in-Ok.ensures.end
-    (held-is c.in-Ok.found.len _ _ c.from.ensures) c.args.self.now.passed
-    (omega (arith, ap length (ap kept c.deref_mut.ensures.value), ap length shown, c.args.self.now.limit)) in
-    omega (arith, bound)
+overflow_add-self g c = omega (arith, within g (goal.at.overflow_add-self g c).After-take_line-cut)
 
 pub overflow_add-self-2 : goal.overflow_add-self-2
-overflow_add-self-2 g c =
-    let shown = c.as_slice.ensures.value ∙ ap kept c.deref.ensures in
-    let bound = passed-within _ _ _ _ c.in-Ok.ensures.ok.0 _ _ _ c.in-Ok.ensures.ok.1 _ _ c.in-Ok.ensures.end
-    (held-is c.in-Ok.found.len _ _ c.from.ensures) c.args.self.now.passed
-    (omega (arith, ap length (ap kept c.deref_mut.ensures.value), ap length shown, c.args.self.now.limit)) in
-    omega (arith, bound)
+overflow_add-self-2 g c = omega (arith, within g (goal.at.overflow_add-self-2 g c).After-take_line-cut)
 
 pub invariant_of-self-2 : goal.invariant_of-self-2
 invariant_of-self-2 g c =
-    let shown = c.as_slice.ensures.value ∙ ap kept c.deref.ensures in
-    let gave = λ (given : List ℕ). g.R.Source.gave _ given c.seek.new.reader in
-    let start = kept c.deref_mut.result.now in
-    let held = kept c.seek.new.window in
-    let at_end = g.R.Source.at_end c.seek.new.reader in
-    let found = c.in-Ok.found in
-    let taken = c.in-Ok.ensures.ok.0 in
-    let s = c.in-Ok.ensures.ok.1 in
-    let byte = some-byte gave start held _ taken found.passed found.len at_end s found.is_ended _
-    (some-read found.passed found.len _ c.if-found.false) (held-is found.len _ _ c.from.ensures) in
-    let bound = passed-within gave start held _ taken found.passed found.len at_end s found.is_ended
-    _ c.in-Ok.ensures.end (held-is found.len _ _ c.from.ensures) c.args.self.now.passed
-    (omega (arith, ap length (ap kept c.deref_mut.ensures.value), ap length shown, c.args.self.now.limit)) in
-    let count = held-is found.len _ found.is_ended c.from.ensures in
-    let now = c.take_line-cut.ensures.kept ∙ ap (λ w. drop (found.len + cond found.is_ended 1 0) (kept w))
-    c.deref_mut-2.ensures.value ∙ ap (λ n. drop n held) (sym count) in
+    let at = (goal.at.invariant_of-self-2 g c).After-take_line-cut in
+    let byte = some-byte _ _ (held g at) _ _ c.in-Ok.found.passed c.in-Ok.found.len
+    (g.R.Source.at_end c.seek.new.reader) c.in-Ok.ensures.ok.1 _ _ (some g at) (count g at) in
     record {
       counted = omega (arith, byte, c.args.self.now.counted);
-      limit = omega (arith, bound, ap length now, length-drop (found.len + c.from.result) held);
+      limit = omega (arith, within g at, ap length (left g at), length-drop (n g at) (held g at));
     }
 
 pub returns-then-found-cut-clause-answers : goal.returns-then-found-cut-clause-answers
 returns-then-found-cut-clause-answers g c =
-    let old = c.args.self.now in
-    let same = ap kept c.deref_mut.ensures.value in
-    let shown = c.as_slice.ensures.value ∙ ap kept c.deref.ensures in
-    let limit : old.passed + (length (kept c.deref_mut.result.now) + (INPUT_LIMIT - old.passed - length
-    c.as_slice.result.now)) ≡ INPUT_LIMIT = omega (arith, ap length same, ap length shown, old.limit) in
-    let gave = λ (given : List ℕ). g.R.Source.gave c.args.reader.now given c.seek.new.reader in
-    let start = kept c.deref_mut.result.now in
-    let held = kept c.seek.new.window in
-    let at_end = g.R.Source.at_end c.seek.new.reader in
-    let found = c.in-Ok.found in
-    let taken = c.in-Ok.ensures.ok.0 in
+    let at = (goal.at.returns-then-found-cut-clause-answers g c).After-take_line-cut in
     let s = c.in-Ok.ensures.ok.1 in
-    let some = some-read found.passed found.len found.is_ended c.if-found.false in
-    let count = held-is found.len _ found.is_ended c.from.ensures in
-    let now = c.take_line-cut.ensures.kept ∙ ap (λ w. drop (found.len + cond found.is_ended 1 0) (kept w))
-    c.deref_mut-2.ensures.value ∙ ap (λ n. drop n held) (sym count) in
+    let found = c.in-Ok.found in
     let cut = c.take_line-cut.result in
-    let line = c.take_line-cut.ensures.shown
-    ∙ ap (λ w. line_of (record { bytes = take found.len (kept w); is_ended = found.is_ended }))
-    c.deref_mut-2.ensures.value in
     let over = ⊎_elim (λ h. inl h) (λ h. inr (omega (arith, h, c.take_line-cut.ensures.cut.3)))
-    (too-long found.passed (cut.to - cut.from) c.if-found-cut.true) in
-    let piece = piece_at s.front held found.len found.is_ended in (
+    (too-long found.passed (cut.to - cut.from) c.if-found-cut.true) in (
       s.given,
       s.lead,
       (
-        piece,
-        takes gave start held _ taken found.passed found.len at_end s found.is_ended c.in-Ok.ensures.end some
-            (reading old) _ _ (sym same) count now refl
-            (omega (arith, limit)) refl
+        piece_at s.front (held g at) found.len found.is_ended,
+        taken g at _ refl refl refl
             (elim c.if-found-2.branch [ then-found-2 w ↦ search rules | else-found-2 w ↦ search rules ]),
-        content-long gave start held _ taken found.passed found.len at_end s found.is_ended _
-            (ap (λ (l : InputLine). l.content) line) over,
+        content-long _ _ (held g at) _ _ found.passed found.len (g.R.Source.at_end c.seek.new.reader) s
+            found.is_ended _ (ap (λ (l : InputLine). l.content) (line g at)) over,
         refl,
         tally-line found.is_ended _ _ _ _ (c.in-Ok.ensures.good (inl (search rules))) c.in-Ok.ensures.ends,
       ),
@@ -133,37 +144,18 @@ returns-then-found-cut-clause-answers g c =
 
 pub returns-clause-answers : goal.returns-clause-answers
 returns-clause-answers g c =
-    let old = c.args.self.now in
-    let same = ap kept c.deref_mut.ensures.value in
-    let shown = c.as_slice.ensures.value ∙ ap kept c.deref.ensures in
-    let limit : old.passed + (length (kept c.deref_mut.result.now) + (INPUT_LIMIT - old.passed - length
-    c.as_slice.result.now)) ≡ INPUT_LIMIT = omega (arith, ap length same, ap length shown, old.limit) in
-    let gave = λ (given : List ℕ). g.R.Source.gave c.args.reader.now given c.seek.new.reader in
-    let start = kept c.deref_mut.result.now in
-    let held = kept c.seek.new.window in
-    let at_end = g.R.Source.at_end c.seek.new.reader in
-    let found = c.in-Ok.found in
-    let taken = c.in-Ok.ensures.ok.0 in
+    let at = (goal.at.returns-clause-answers g c).After-take_line-cut in
     let s = c.in-Ok.ensures.ok.1 in
-    let some = some-read found.passed found.len found.is_ended c.if-found.false in
-    let count = held-is found.len _ found.is_ended c.from.ensures in
-    let now = c.take_line-cut.ensures.kept ∙ ap (λ w. drop (found.len + cond found.is_ended 1 0) (kept w))
-    c.deref_mut-2.ensures.value ∙ ap (λ n. drop n held) (sym count) in
-    let line = c.take_line-cut.ensures.shown
-    ∙ ap (λ w. line_of (record { bytes = take found.len (kept w); is_ended = found.is_ended }))
-    c.deref_mut-2.ensures.value in
-    let none = none-passed found.passed _ c.if-found-cut.false in
-    let whole = whole-piece gave start held _ taken found.passed found.len at_end s none in
-    let piece = piece_at s.front held found.len found.is_ended in (
+    let found = c.in-Ok.found in
+    let whole = whole-piece _ _ (held g at) _ _ found.passed found.len (g.R.Source.at_end c.seek.new.reader) s
+    (none-passed found.passed _ c.if-found-cut.false) in (
       s.given,
       s.lead,
       (
-        piece,
-        takes gave start held _ taken found.passed found.len at_end s found.is_ended c.in-Ok.ensures.end some
-            (reading old) _ _ (sym same) count now refl
-            (omega (arith, limit)) refl
+        piece_at s.front (held g at) found.len found.is_ended,
+        taken g at _ refl refl refl
             (elim c.if-found-2.branch [ then-found-2 w ↦ search rules | else-found-2 w ↦ search rules ]),
-        line ∙ ap (λ bytes. line_of (record { bytes = bytes; is_ended = found.is_ended })) (sym whole),
+        line g at ∙ ap (λ bytes. line_of (record { bytes = bytes; is_ended = found.is_ended })) (sym whole),
         refl,
         tally-line found.is_ended _ _ _ _ (c.in-Ok.ensures.good (inl (search rules))) c.in-Ok.ensures.ends,
       ),
