@@ -115,13 +115,13 @@ fn apply_step(arc: &mut ObsArc, number: i64) -> Option<i64>
 }
 
 /// Reads the cell at a place of a line, where it has no code or a difference, as most cells do, and gives how
-/// much of the line it takes with its blank; `None` where it has another code, has more than six digits, or
-/// has a fault, and then the arcs are as they were. Most differences are of order 3, for which there is a
-/// form of its own.
+/// much of the line it takes with its blank. `None` comes where it has another code, more than six digits, or
+/// a fault, and then the arcs are as they were. Most differences are of order 3, for which there is a form of
+/// its own.
 ///
-/// Where the cell ends is known before its number is read, so that the next cell needn't wait for the number,
-/// and the blank behind the line makes the last cell one like the others. This saves a tenth of the time of
-/// expanding lines of four types, and two mispredicted branches a line.
+/// Where the cell ends is known before its number is read, so that the next cell needn't wait for the number.
+/// The blank behind the line makes the last cell one like the others. This saves some 7 percent of the time
+/// of expanding lines of four types, and two mispredicted branches a line.
 #[inline(always)]
 fn read_cell_fast(arcs: &mut [ObsArc], index: usize, line: Padded<'_>, at: usize) -> Option<usize>
     requires within { index < length arcs.old }
