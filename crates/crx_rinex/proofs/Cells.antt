@@ -246,10 +246,7 @@ cut_columns line bytes start left is room cut rest =
     (place, part, wide) refl)
 
 flags_past : (line : List ℕ) (k : ℕ) → length line ≤ 16 * k + 3 → flags_at line k ≡ 32 ∷ 32 ∷ []
-flags_past line k h =
-    let at : (column : ℕ) → 16 * k + 18 ≤ column → character_at line column ≡ 32 =
-    λ column far. get_or_past line _ 32 (omega (arith, far)) in
-    rw (at (16 * k + 18) (omega arith), at (16 * k + 19) (omega arith)) refl
+flags_past line k h = grind (arith, common_steps, character_at, get_or_past)
 
 -- cells past the line's end
 cells_past : (line : List ℕ) (n d : ℕ) (vs : List (Option ℤ)) (fs : List ℕ) → (1 ≤ d

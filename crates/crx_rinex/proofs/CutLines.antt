@@ -1,6 +1,7 @@
 -- Satellite lines of which what is behind all cells isn't read.
-use Rattle.std.proofs.Common.{◌≡◌, ℕ, zero, suc, Bool, ◌+◌, ◌-◌, ◌*◌, ◌≤◌, ◌&&◌, true, false, List, [], ◌∷◌}
-use Rattle.std.proofs.Common.{take, drop, Option, Some, None, Ok, Err, refl, ap, sym, ◌∙◌, arith, ℤ}
+use Rattle.std.proofs.Common.{rules}
+use Rattle.std.proofs.Common.{◌≡◌, ℕ, zero, suc, ◌+◌, ◌-◌, ◌*◌, ◌≤◌, ◌&&◌, true, false, List, [], ◌∷◌}
+use Rattle.std.proofs.Common.{take, drop, Option, Err, refl, ap, sym, ◌∙◌, arith, ℤ}
 use Rattle.std.proofs.lemmas.{Grind.common_steps, List.{drop-drop, take-append-drop}}
 use Rattle.std.proofs.{Math.Bool.and-true, lemmas.List.{drop-take, Folds.list_all-append}}
 use Rattle.std.specs.List.{concat, list_all}
@@ -8,7 +9,7 @@ use Rattle.crx_text.proofs.{Characters.{at, columns-are, length-columns}, EachPl
 use Rattle.crx_text.specs.meaning.{Columns.{columns, is_blank}, Numbers.observation_of}
 use Rattle.crx_rinex.proofs.PrintedRows.{at-column}
 use Rattle.crx_rinex.specs.SatelliteLines.{row_by_cells, IsRowOf}
-use Rattle.crx_rinex.specs.meaning.SatelliteLines.{all_some, field, flags_at, flags_in, row_with, values_in}
+use Rattle.crx_rinex.specs.meaning.SatelliteLines.{all_some, flags_at, flags_in, row_with, values_in}
 use Rattle.crx_base.specs.declared.fault.Fault.TheVariants.{BadField}
 
 blank_at : (text : List ℕ) (p : ℕ) → list_all is_blank text ≡ true → at text p ≡ 32
@@ -27,9 +28,7 @@ module _ (a b : List ℕ) (same : (p : ℕ) → at a p ≡ at b p) where
       (λ p less. same (first - 1 + p) ∙ sym (at-column b first width p less))
 
   values_same : (m : ℕ) → values_in m a ≡ values_in m b
-  values_same m = ap all_some (each_place-same m (λ k. observation_of (field a k)) (λ k. observation_of
-      (field b k))
-      (λ k. ap observation_of (columns_same (16 * k + 3 + 1) 14)))
+  values_same m = search (rules, all_some, each_place-same, observation_of, columns_same)
 
   flags_same : (m : ℕ) → flags_in m a ≡ flags_in m b
   flags_same m = ap concat (each_place-same m (flags_at a) (flags_at b)
@@ -69,26 +68,8 @@ module _ (line : List ℕ) (n m : ℕ) (within : 16 * m + 3 ≤ n) where
 
   pub cut_row : list_all is_blank (drop n line) ≡ true → (values : List (Option ℤ)) (flags : List ℕ)
       → IsRowOf m (take n line) values flags → IsRowOf m line values flags
-  cut_row blank values flags read = record {
-    row = sym (cut_same blank) ∙ read.row ∙ ap (λ name. Ok (record {
-      name = name;
-      values = values;
-      flags =
-          flags;
-    }))
-        (columns_same (take n line) line (λ p. at_cut line n p blank) 1 3);
-    ranged = read.ranged;
-    kept = read.kept;
-  }
+  cut_row blank values flags read = grind (arith, common_steps, cut_same, columns_same, at_cut)
 
   -- or something is there
   pub behind_bad : list_all is_blank (drop n line) ≡ false → row_by_cells m line ≡ Err BadField
-  behind_bad text = by_values (values_in m line) (list_all is_blank (drop end line)) refl
-    where
-      by_values : (o : Option (List (Option ℤ))) (b : Bool) → list_all is_blank (drop end line) ≡ b
-          → row_with m line o ≡ Err BadField
-      by_values None b is = refl
-      by_values (Some values) false is = rw is refl
-      by_values (Some values) true is =
-          let later = blank_later (drop end line) (n - end) is in
-          let same = ap (list_all is_blank) behind in cc
+  behind_bad text = grind (arith, common_steps, values_in, list_all, is_blank, row_with, blank_later, behind)

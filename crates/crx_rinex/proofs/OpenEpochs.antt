@@ -1,6 +1,6 @@
 -- Epochs whose lines come one after another.
 use Rattle.std.proofs.Common.{rules, ◌≡◌, ℕ, ◌-◌, ◌<◌, zero, suc, List, [], ◌∷◌, ◌++◌, length, Option, Some}
-use Rattle.std.proofs.Common.{None, Result, refl, ap, sym, subst, ◌∙◌, inl, inr, arith, append-nil}
+use Rattle.std.proofs.Common.{None, Result, refl, ap, sym, ◌∙◌, inl, inr, arith, append-nil}
 use Rattle.std.{proofs.lemmas.{Grind.common_steps, Option.none-some}, specs.Prelude.⊤}
 use Rattle.crx_base.specs.{declared.fault.Fault.Fault, meaning.AsRead.{ReadLine, Content, Overlong}}
 use Rattle.crx_rinex.proofs.Steady.{steady-here, steady-first_line, steady-then}
@@ -107,16 +107,11 @@ goes_on so_far later (line ∷ lines) h left =
 abbrev IsOpen : Option OpenEpoch → List ReadLine → Type 0
 IsOpen begun lines = (later : OpenEpoch) × (open_after begun lines ≡ Some later)
 
-abbrev IsFound : {X : Type 0} → Place X → Type 0
-IsFound (Done x n) = ⊤
-IsFound (Fails k fault) = ⊤
-IsFound NeedsMore = ⊥
-
 not_here : {X : Type 0} (x : X) (n : ℕ) → ◌≡◌ {A = Place X} (Done x n) NeedsMore → ⊥
-not_here x n h = subst IsFound h tt
+not_here x n h = absurd (cc)
 
 not_wrong : {X : Type 0} (k : ℕ) (fault : Fault) → ◌≡◌ {A = Place X} (Fails k fault) NeedsMore → ⊥
-not_wrong k fault h = subst IsFound h tt
+not_wrong k fault h = absurd (cc)
 
 wanted_before : {X : Type 0} (count : ℕ) (p : Place X) → after_lines count p ≡ NeedsMore → p ≡ NeedsMore
 wanted_before = grind (arith, common_steps, not_here, not_wrong)
@@ -215,19 +210,12 @@ wanted_by_open types (line ∷ lines) later h =
     ap (λ ls. epoch_place types (line ∷ ls)) (sym (append-nil lines)) ∙ by.1 [] ∙ ap
     (λ p. after_lines 1 (as_unit (after_lines (length lines) p))) (nothing_yet later by.0)
 
-abbrev HasLines : List ReadLine → Type 0
-HasLines [] = ⊥
-HasLines (line ∷ lines) = ⊤
-
-some_lines : (line : ReadLine) (lines : List ReadLine) → line ∷ lines ≡ [] → ⊥
-some_lines line lines h = subst HasLines h tt
-
 pub wanted-open : (types : List Count) (lines : List ReadLine) → IsWantedWhereOpen types lines
 wanted-open types [] = (λ w. inl refl, λ o. refl)
 wanted-open types (line ∷ lines) = (
   λ w. inr (wanted_from types line lines (opened_at types line) refl w),
   λ o. elim o [
-    | inl e ↦ absurd (some_lines line lines e)
+    | inl e ↦ absurd (cc)
     | inr s ↦ wanted_by_open types (line ∷ lines) s.0 s.1
   ],
 )

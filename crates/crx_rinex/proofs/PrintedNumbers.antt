@@ -1,7 +1,7 @@
 -- Texts that spell a number as printing does.
 use Rattle.std.proofs.Common.{◌≡◌, ℕ, ℤ, pos, neg_ℤ, zero, suc, ◌+◌, ◌-◌, ◌*◌, ◌/◌, ◌%◌, ◌<◌, ◌≤◌, ◌^◌}
 use Rattle.std.proofs.Common.{Bool, true, false, not, ◌&&◌, ◌||◌, eqb, List, [], ◌∷◌, ◌++◌, length, take, drop}
-use Rattle.std.proofs.Common.{get_or, replicate, decimal, Option, Some, None, refl, sym, ap, ◌∙◌, arith, subst, eqb-true}
+use Rattle.std.proofs.Common.{get_or, replicate, Option, Some, None, refl, sym, ap, ◌∙◌, arith, subst, eqb-true}
 use Rattle.std.proofs.lemmas.{Grind.common_steps, Fmt.{decimal-digits_value, decimal_digit}}
 use Rattle.std.specs.{Char.is_ascii_digit, Str.{all_ascii_digits, Parse.{digits_value, digits_value_after}}}
 use Rattle.std.proofs.lemmas.{Bool.{and_parts, eqb-false}, Option.{same_Some, none-some}}
@@ -32,10 +32,7 @@ three_digits a b c one two three =
 
 fraction_printed : (fraction : List ℕ) → all_ascii_digits fraction ≡ true → length fraction ≡ 3
     → zero_padded 3 (digits_value 10 fraction) ≡ fraction
-fraction_printed (a ∷ b ∷ c ∷ []) digits three =
-    let first = and_parts _ _ digits in
-    let second = and_parts _ _ first.1 in
-    three_digits a b c first.0 second.0 (and_parts _ _ second.1).0
+fraction_printed (a ∷ b ∷ c ∷ []) digits three = grind (arith, common_steps, and_parts, three_digits)
 fraction_printed fraction digits three = absurd (omega (arith, three))
 
 -- whole digits, a point and three digits
@@ -81,9 +78,7 @@ formed_rest : (w before c : ℕ) (cs : List ℕ) → is_formed (suc w) before (c
 formed_rest w before c cs formed = grind (arith, common_steps)
 
 zero_first : (c : ℕ) (cs : List ℕ) → size_text 3 0 ≡ c ∷ cs → c ≡ 48
-zero_first c cs is =
-    let zero_text : decimal 0 ≡ 48 ∷ [] = decimal_digit 0 (omega arith) in
-    sym (ap (λ (t : List ℕ). get_or t 0 0) is) ∙ rw zero_text refl
+zero_first c cs is = grind (arith, common_steps, decimal_digit, get_or)
 
 -- a number behind a minus isn't 0
 some_behind : (w z c : ℕ) (cs : List ℕ) → length (c ∷ cs) ≡ w + 4 → is_formed w 45 (c ∷ cs) ≡ true

@@ -1,4 +1,5 @@
 -- Satellite lines whose fields are all what printing gives of them.
+use Rattle.std.proofs.Common.{rules}
 use Rattle.std.proofs.Common.{◌≡◌, ◌≢◌, inl, inr, ℕ, ℤ, zero, suc, ◌+◌, ◌-◌, ◌*◌, ◌<◌, ◌≤◌, true, List, [], ◌∷◌, ◌++◌}
 use Rattle.std.proofs.Common.{length, take, drop, replicate, get_or, Option, Some, None, Ok, refl, sym, ap, ◌∙◌, subst, arith}
 use Rattle.std.proofs.lemmas.{Bool.{cases_lt}, Grind.common_steps, Option.{none-some, same_Some}}
@@ -108,13 +109,8 @@ first_read : (o : Option (Option ℤ)) (rest : List (Option (Option ℤ))) (valu
     → all_some (o ∷ rest) ≡ Some values → (v : Option ℤ) × (vs : List (Option ℤ)) × (o ≡ Some v)
     × (all_some rest ≡ Some vs) × (v ∷ vs ≡ values)
 first_read None rest values is = absurd (none-some values is)
-first_read (Some v) rest values is = by_rest (all_some rest) refl is
-  where
-    by_rest : (r : Option (List (Option ℤ))) → all_some rest ≡ r
-        → option_and_then (λ vs. Some (v ∷ vs)) r ≡ Some values → (w : Option ℤ) × (vs : List (Option ℤ))
-        × (Some v ≡ Some w) × (all_some rest ≡ Some vs) × (w ∷ vs ≡ values)
-    by_rest None e is = absurd (none-some values is)
-    by_rest (Some vs) e is = (v, vs, refl, e, same_Some (v ∷ vs) values is)
+first_read (Some v) rest values is =
+    grind (arith, common_steps, all_some, option_and_then, none-some, same_Some)
 
 module _ (line : List ℕ) (prints : (j : ℕ) → Prints (field line j)) where
   -- the first of some cells, and those after it
@@ -124,11 +120,7 @@ module _ (line : List ℕ) (prints : (j : ℕ) → Prints (field line j)) where
       → printed_cells (v ∷ vs) (concat (each_place (suc n) (λ j. flags_at line (k + j))))
       ≡ columns line (16 * k + 3 + 1) (16 * suc n)
   put n k v vs first is =
-      let a : ℕ = character_at line (16 * k + 18) in
-      let b : ℕ = character_at line (16 * k + 19) in
-      ap (λ (fs : List (List ℕ)). printed_cells (v ∷ vs) (concat fs)) (from-next n k (flags_at line))
-      ∙ cells-are vs (concat (each_place n (λ j. flags_at line (k + 1 + j)))) v a b
-      ∙ rw (prints k v first, is, cell_split line k n) refl
+      search (rules, character_at, printed_cells, from-next, flags_at, cells-are, each_place, cell_split)
 
   cells_columns : (n k : ℕ) (values : List (Option ℤ))
       → all_some (each_place n (λ j. observation_of (field line (k + j)))) ≡ Some values

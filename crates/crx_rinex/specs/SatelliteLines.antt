@@ -34,14 +34,13 @@ pub record AreEmptyFrom (first : ℕ) (values : List (Option ℤ)) (flags : List
   pub missing : drop first values ≡ replicate (length values - first) None
   pub blank : drop (2 * first) flags ≡ replicate (2 * (length values - first)) 32
 
--- cells that were empty from one on, or from one after it, still are
+-- cells that were empty from one on, or from any later one on, still are
 abbrev pub KeepsEmptyFrom : ℕ → List (Option ℤ) → List ℕ → List (Option ℤ) → List ℕ → Type 0
 KeepsEmptyFrom first values flags new_values new_flags =
     (n : ℕ) → first ≤ n → AreEmptyFrom n values flags → AreEmptyFrom n new_values new_flags
 
 -- the first so many cells of a line are read: their values, which fit their columns, and their indicators
--- are at their
--- places
+-- are at their places
 pub record AreCellsRead (count : ℕ) (line : List ℕ) (values : List (Option ℤ)) (flags : List ℕ) : Type 0 where
   pub pairs : ArePaired values flags
   pub within : count ≤ length values
@@ -63,14 +62,12 @@ abbrev pub row_by_cells : ℕ → List ℕ → Result Row Fault
 row_by_cells m line = row_with m line (values_in m line)
 
 -- the values and the indicators are those of the row that m cells make of a line; each value fits its
--- columns, and each
--- indicator may be there
+-- columns, and each indicator may be there
 pub record IsRowOf (m : ℕ) (line : List ℕ) (values : List (Option ℤ)) (flags : List ℕ) : Type 0 where
   pub row : row_by_cells m line ≡ Ok (record {
     name = columns line 1 NAME_WIDTH;
     values = values;
-    flags =
-        flags;
+    flags = flags;
   })
   pub ranged : All IsValue values
   pub kept : list_all is_kept flags ≡ true

@@ -26,8 +26,8 @@ pub struct RowBuffer {
     name: [u8; NAME_WIDTH],
     /// How many types the row has.
     count: usize,
-    /// How many of the first cells may have something: all behind them are empty, so that a row costs what its
-    /// line costs, and not what its types cost.
+    /// How many of the first cells may have something. All behind them are empty, so that a row costs what
+    /// its line costs, and not what its types cost.
     filled: usize,
     values: [Option<i64>; TYPES_LIMIT],
     flags: [u8; 2 * TYPES_LIMIT],
@@ -140,10 +140,10 @@ impl RowBuffer {
     }
 }
 
-/// Reads so many cells of a satellite line, and looks at what is after the last. `BadField` comes where a
-/// field is neither blank nor a number, or something is after the last cell; then `BadFlags` where an
-/// indicator may not be there. Before and after, cells from a place on are empty: where the line ends before
-/// that place, the cells between are made empty. Part of its caller, as a call takes some 8 instructions.
+/// Reads so many cells of a satellite line. `BadField` comes where a field is neither blank nor a number, or
+/// something is after the last cell; then `BadFlags` where an indicator may not be there. `filled` says,
+/// before and after, how many of the first cells may have something: those behind them are empty. Part of its
+/// caller, as a call takes some 8 instructions.
 #[inline(always)]
 pub(crate) fn read_cells(
     line: Padded<'_>,
@@ -171,9 +171,9 @@ pub(crate) fn read_cells(
     Ok(())
 }
 
-/// Reads those of so many cells that the line reaches, and gives how many: the whole ones, and the one that
-/// its end cuts, or it looks at what is after the last. `None` where a field is neither blank nor a number,
-/// or something is there.
+/// Reads as many of the cells as the line reaches, and gives how many: the whole ones, and the one that the
+/// line's end cuts. Where all are whole it looks at what is after the last. `None` comes where a field is
+/// neither blank nor a number, or where something is after the last cell.
 #[inline(always)]
 fn read_first_cells(
     line: Padded<'_>,
@@ -206,8 +206,8 @@ fn read_first_cells(
     None
 }
 
-/// Puts the value and the indicators of a cell's columns at the cell's place; `false` where its field is
-/// neither blank nor a number. The two indicators are one store.
+/// Puts the value and the indicators of a cell's columns at the cell's place. `false` comes where its field
+/// is neither blank nor a number. The two indicators are one store.
 #[inline(always)]
 fn read_cell(cell: u8x16, k: usize, values: &mut [Option<i64>], flags: &mut [u8]) -> bool
     requires within { k < length values.old }
@@ -225,7 +225,8 @@ fn read_cell(cell: u8x16, k: usize, values: &mut [Option<i64>], flags: &mut [u8]
     true
 }
 
-/// Reads the value in a cell's columns, in whatever spelling, into a place; `false` where there is none.
+/// Reads the value in a cell's columns into a place. `false` comes where the field is neither blank nor a
+/// number.
 #[inline(always)]
 fn read_value(cell: u8x16, value: &mut Option<i64>) -> bool
     ensures read { MatchBool result (observation_of (take OBSERVATION_WIDTH cell) ≡ Some value.new)
@@ -235,7 +236,8 @@ fn read_value(cell: u8x16, value: &mut Option<i64>) -> bool
     obs_read_into(&cell.to_array(), value) || read_other_value(cell, value)
 }
 
-/// Reads a value that isn't spelt as files mostly have it.
+/// Reads a value that isn't spelt as files mostly have it. `false` comes where the field is neither blank nor
+/// a number.
 #[inline(never)]
 fn read_other_value(cell: u8x16, value: &mut Option<i64>) -> bool
     ensures read { MatchBool result (observation_of (take OBSERVATION_WIDTH cell) ≡ Some value.new)
@@ -265,7 +267,8 @@ fn cut_columns(line: Padded<'_>) -> u8x16
         .select(cell, u8x16::splat(b' '))
 }
 
-/// Makes cells empty, from one on, where those from another one on are.
+/// Makes the cells between two places empty, so that all cells from the first place on are, where those from
+/// the greater one on were.
 #[inline(always)]
 fn empty_cells(first: usize, end: usize, values: &mut [Option<i64>], flags: &mut [u8])
     requires others { AreEmptyFrom (max first end) values.old flags.old }

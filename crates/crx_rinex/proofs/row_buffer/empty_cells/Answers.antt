@@ -17,6 +17,4 @@ loop-k-preserved c =
     }
 
 pub returns-clause-empty : goal.returns-clause-empty
-returns-clause-empty c =
-    let end : max c.args.first c.loop-k.k ≡ c.args.first = omega (arith, c.loop-k-test.false) in
-    subst (λ k. AreEmptyFrom k c.loop-k.values c.loop-k.flags) end c.loop-k.invariant.empty
+returns-clause-empty c = grind (arith, common_steps)

@@ -1,17 +1,11 @@
-use Rattle.std.proofs.Common.{◌≤◌, max, true, false, length, arith}
+use Rattle.std.proofs.Common.{rules}
+use Rattle.std.proofs.Common.{true, false, arith}
 use Rattle.crx_base.specs.Padded.{line_in}
 use Rattle.crx_rinex.proofs.Cells.{less_empty, row_made}
 use Rattle.crx_rinex.proofs.row_buffer.read_cells.Goals as goal
 
 pub empty_cells-requires : goal.empty_cells-requires
-empty_cells-requires c =
-    let most = max c.in-Some.reached c.args.filled.now in
-    let within : most ≤ length c.args.values.now =
-    omega (arith, c.in-Some.ensures.read.within, c.requires.few, c.requires.empty.within) in
-    record {
-      others = c.in-Some.ensures.others most (omega arith)
-          (less_empty _ _ c.args.filled.now most c.requires.empty (omega arith) within);
-    }
+empty_cells-requires c = search (rules, less_empty)
 
 pub returns-then-not-all_kept-clause-err : goal.returns-then-not-all_kept-clause-err
 returns-then-not-all_kept-clause-err c =
