@@ -318,13 +318,6 @@ row_made line read_values values read_flags flags n m b read empty within same_v
     by_kept vs fs b found pairs ranged kept =
         let ended = read.ended in grind (arith, common_steps)
 
--- a row of sound cells
-pub sound-cells : (name : List ℕ) (values : List (Option ℤ)) (flags : List ℕ) (m : ℕ)
-    → is_identifier name ≡ true → IsAllowedCount m → length values ≡ m → length flags ≡ 2 * m
-    → All IsValue values → list_all is_kept flags ≡ true
-    → IsSoundRow (record { name = name; values = values; flags = flags })
-sound-cells name values flags m named allowed long pairs ranged kept = grind arith
-
 -- the same where each list was written through a slice of so many elements
 pub sound-written : (name : List ℕ) (values old_values : List (Option ℤ)) (flags old_flags : List ℕ)
     (m n k : ℕ)
@@ -334,7 +327,7 @@ pub sound-written : (name : List ℕ) (values old_values : List (Option ℤ)) (f
       values = take n (values ++ drop (length values) old_values);
       flags = take k (flags ++ drop (length flags) old_flags);
     })
-sound-written = grind (arith, common_steps, take_at, sound-cells)
+sound-written = grind (arith, common_steps, take_at)
 
 -- rows stay sound
 pub sound-blank : (name : List ℕ) (m : ℕ) → is_identifier name ≡ true → IsAllowedCount m

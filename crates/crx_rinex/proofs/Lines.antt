@@ -1,6 +1,6 @@
 -- Lines that are borrowed one by one, from the first of a list on.
 use Rattle.std.proofs.Common.{◌≡◌, ◌≢◌, ◌↔◌, ◌<◌, ℕ, ◌-◌, List, [], ◌∷◌, Option, None, is_none, is_some, not}
-use Rattle.std.proofs.Common.{Bool, Bor, option_copied, IsTrue, drop, map, slice_get, true≢false, arith}
+use Rattle.std.proofs.Common.{Bool, Bor, option_copied, IsTrue, drop, map, slice_get, arith}
 use Rattle.std.proofs.{Common.{suc}, lemmas.{Grind.common_steps, Option.none-some}}
 use Rattle.std.proofs.lemmas.Option.{slice_get-map, slice_get_within}
 
@@ -21,16 +21,11 @@ none-left : {A B : Type 0} (f : A → B) (xs : List A) (k : ℕ)
 none-left f (x ∷ xs) (suc k) = none-left f xs k
 none-left f xs k = grind (arith, common_steps)
 
--- whether something is at a place, as `is_some` says it of a reference
-none-copied : {A : Type 0} (b : Bool) (o : Option (Bor A))
-    → is_some o ≡ not b → IsTrue b ↔ IsTrue (is_none (option_copied o))
-none-copied = grind (arith, common_steps, true≢false)
-
 -- lines that are a first one and others are all borrowed where no other is at the last place
 pub all-handed_out : {A B : Type 0} (f : A → B) (first : B) (xs : List A) (n : ℕ) (b : Bool)
     (o : Option (Bor A)) → 0 < n → is_some o ≡ not b → option_copied o ≡ slice_get xs (n - 1)
     → IsTrue b ↔ (drop n (first ∷ map f xs) ≡ [])
-all-handed_out = grind (arith, common_steps, none-copied, is_none, slice_get, none-left)
+all-handed_out = grind (arith, common_steps, is_none, slice_get, none-left)
 
 -- the lines of an epoch, one by one
 pub ruleset each_line = (after_first, slice_get-map, slice_get_within, first_of_rest, no_next)

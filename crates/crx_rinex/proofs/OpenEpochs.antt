@@ -4,7 +4,7 @@ use Rattle.std.proofs.Common.{None, Result, refl, ap, sym, ◌∙◌, inl, inr, 
 use Rattle.std.{proofs.lemmas.{Grind.common_steps, Option.none-some}, specs.Prelude.⊤}
 use Rattle.crx_base.specs.{declared.fault.Fault.Fault, meaning.AsRead.{ReadLine, Content, Overlong}}
 use Rattle.crx_rinex.proofs.Steady.{steady-here, steady-first_line, steady-then}
-use Rattle.crx_rinex.specs.EpochPlaces.{EpochStep, Going, Whole, Faulty, when_wanted, whole_or_going}
+use Rattle.crx_rinex.specs.EpochPlaces.{EpochStep, Going, Whole, Faulty, when_wanted}
 use Rattle.crx_rinex.specs.EpochPlaces.{after_row, epoch_step, still_open, opened_by, opened_at, open_after}
 use Rattle.crx_rinex.specs.{EpochPlaces.{open_with, place_after}, Laws.{IsWantedWhereOpen, IsDecidedByOpen}}
 use Rattle.crx_rinex.specs.{Steady.IsSteady, meaning.EpochPlaces.{OpenEpoch, Beginning, EventBegins}}
@@ -38,15 +38,11 @@ after_step (Going so_far) lines = after_lines 1 (rest_at so_far lines)
 after_step (Whole epoch) lines = Done epoch 1
 after_step (Faulty fault) lines = Fails 0 fault
 
-whole_or_rest : (n : ℕ) (so_far : OpenEpoch) (lines : List ReadLine) → rows_wanted so_far ≡ n
-    → after_lines 1 (rows_at so_far n lines) ≡ after_step (whole_or_going so_far) lines
-whole_or_rest n so_far lines h = grind arith
-
 row_then_rest : (n : ℕ) (so_far : OpenEpoch) (line : List ℕ) (lines : List ReadLine) (r : Result Row Fault)
     → rows_wanted so_far ≡ suc n
     → then_place (one_line r) (Content line ∷ lines) (λ row rest. rows_at (with_next_row so_far row) n rest)
     ≡ after_step (after_row so_far r) lines
-row_then_rest = grind (arith, common_steps, whole_or_rest)
+row_then_rest = grind (arith, common_steps)
 
 rest_by_step : (n : ℕ) (so_far : OpenEpoch) (line : ReadLine) (lines : List ReadLine)
     → rows_wanted so_far ≡ suc n → rest_at so_far (line ∷ lines) ≡ after_step (epoch_step so_far line) lines
@@ -64,14 +60,8 @@ IsGoing (Faulty fault) = ⊤
 when_wants : (n : ℕ) (so_far : OpenEpoch) → rows_wanted so_far ≡ n → IsGoing (when_wanted n so_far)
 when_wants = grind (arith, common_steps)
 
-going_wants : (so_far : OpenEpoch) → IsGoing (whole_or_going so_far)
-going_wants so_far = when_wants _ so_far refl
-
-row_wants : (so_far : OpenEpoch) (r : Result Row Fault) → IsGoing (after_row so_far r)
-row_wants = grind (arith, common_steps, going_wants)
-
 step_wants : (so_far : OpenEpoch) (line : ReadLine) → IsGoing (epoch_step so_far line)
-step_wants = grind (arith, common_steps, row_wants)
+step_wants = grind (arith, common_steps)
 
 step_at : (so_far : OpenEpoch) (line : ReadLine) (lines : List ReadLine)
     → 0 < rows_wanted so_far → rest_at so_far (line ∷ lines) ≡ after_step (epoch_step so_far line) lines
@@ -79,10 +69,6 @@ step_at so_far line lines h = rest_by_step (rows_wanted so_far - 1) so_far line 
 
 nothing_yet : (so_far : OpenEpoch) → 0 < rows_wanted so_far → rest_at so_far [] ≡ NeedsMore
 nothing_yet so_far h = grind arith
-
-one_more_before : {X : Type 0} (count : ℕ) (p : Place X)
-    → after_lines 1 (after_lines count p) ≡ after_lines (suc count) p
-one_more_before = grind (arith, common_steps)
 
 -- an epoch that stays open over some lines goes on after them as the later one does
 record GoesOn (so_far later : OpenEpoch) (lines : List ReadLine) : Type 0 where
@@ -94,7 +80,7 @@ goes_on_after : (so_far later : OpenEpoch) (line : ReadLine) (lines : List ReadL
     → ((next : OpenEpoch) → 0 < rows_wanted next → open_after (Some next) lines ≡ Some later
     → GoesOn next later lines) → 0 < rows_wanted so_far → epoch_step so_far line ≡ step
     → IsGoing step → open_after (still_open step) lines ≡ Some later → GoesOn so_far later (line ∷ lines)
-goes_on_after = grind (arith, common_steps, step_at, one_more_before, none-some)
+goes_on_after = grind (arith, common_steps, step_at, none-some)
 
 goes_on : (so_far later : OpenEpoch) (lines : List ReadLine)
     → 0 < rows_wanted so_far → open_after (Some so_far) lines ≡ Some later → GoesOn so_far later lines
@@ -107,19 +93,16 @@ goes_on so_far later (line ∷ lines) h left =
 abbrev IsOpen : Option OpenEpoch → List ReadLine → Type 0
 IsOpen begun lines = (later : OpenEpoch) × (open_after begun lines ≡ Some later)
 
-not_here : {X : Type 0} (x : X) (n : ℕ) → ◌≡◌ {A = Place X} (Done x n) NeedsMore → ⊥
-not_here x n h = absurd (cc)
-
 not_wrong : {X : Type 0} (k : ℕ) (fault : Fault) → ◌≡◌ {A = Place X} (Fails k fault) NeedsMore → ⊥
 not_wrong k fault h = absurd (cc)
 
 wanted_before : {X : Type 0} (count : ℕ) (p : Place X) → after_lines count p ≡ NeedsMore → p ≡ NeedsMore
-wanted_before = grind (arith, common_steps, not_here, not_wrong)
+wanted_before = grind (arith, common_steps, not_wrong)
 
 open_by : (so_far : OpenEpoch) (line : ReadLine) (lines : List ReadLine) (step : EpochStep)
     → ((next : OpenEpoch) → 0 < rows_wanted next → rest_at next lines ≡ NeedsMore → IsOpen (Some next) lines)
     → IsGoing step → after_step step lines ≡ NeedsMore → IsOpen (still_open step) lines
-open_by = grind (arith, common_steps, not_here, not_wrong)
+open_by = grind (arith, common_steps, not_wrong)
 
 open_where_wanted : (lines : List ReadLine) (so_far : OpenEpoch)
     → 0 < rows_wanted so_far → rest_at so_far lines ≡ NeedsMore → IsOpen (Some so_far) lines
@@ -169,14 +152,14 @@ begins types (Content line) so_far h =
 decided_by : (types : List Count) (line : List ℕ) (r : Result Beginning Fault) (lines : List ReadLine)
     → opened_by types r ≡ None
     → then_place (one_line r) (Content line ∷ lines) (unit_begun types) ≡ NeedsMore → ⊥
-decided_by = grind (arith, common_steps, not_wrong, not_here)
+decided_by = grind (arith, common_steps, not_wrong)
 
 decided : (types : List Count) (line : ReadLine) (lines : List ReadLine)
     → opened_at types line ≡ None → epoch_place types (line ∷ lines) ≡ NeedsMore → ⊥
 decided = grind (arith, common_steps, not_wrong, decided_by)
 
 unit_wanted : (p : Place Epoch) → as_unit p ≡ NeedsMore → p ≡ NeedsMore
-unit_wanted = grind (arith, common_steps, not_here, not_wrong)
+unit_wanted = grind (arith, common_steps, not_wrong)
 
 wanted_from : (types : List Count) (line : ReadLine) (lines : List ReadLine) (begun : Option OpenEpoch)
     → opened_at types line ≡ begun → epoch_place types (line ∷ lines) ≡ NeedsMore → IsOpen begun lines

@@ -73,10 +73,6 @@ led_printed w z before c cs first long few formed reads =
 
 -- ---- a number with its sign
 
-formed_rest : (w before c : ℕ) (cs : List ℕ) → is_formed (suc w) before (c ∷ cs) ≡ true
-    → is_formed w c cs ≡ true
-formed_rest w before c cs formed = grind (arith, common_steps)
-
 zero_first : (c : ℕ) (cs : List ℕ) → size_text 3 0 ≡ c ∷ cs → c ≡ 48
 zero_first c cs is = grind (arith, common_steps, decimal_digit, get_or)
 
@@ -94,7 +90,7 @@ abbrev HasForm : List ℕ → Type 0
 HasForm s = (length s ≤ 14) × (4 ≤ length s → is_formed (length s - 4) 32 s ≡ true)
 
 form_rest : (c : ℕ) (cs : List ℕ) → HasForm (c ∷ cs) → 4 ≤ length cs → is_formed (length cs - 4) c cs ≡ true
-form_rest c cs form long = grind (arith, common_steps, formed_rest)
+form_rest c cs form long = grind (arith, common_steps)
 
 plain_printed : (o : Option ℕ) (c : ℕ) (cs : List ℕ) (n : ℤ) → HasForm (c ∷ cs) → size_of 3 (c ∷ cs) ≡ o
     → option_map pos o ≡ Some n → spelling 3 n ≡ c ∷ cs
