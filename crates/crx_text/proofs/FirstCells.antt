@@ -105,9 +105,7 @@ module _ (bytes line : List ℕ) (at : ℕ) (is : take (length line) bytes ≡ l
   lanes = length-take-le 16 slice behind
 
   pub same_cell : first_cell slice ≡ first_cell (drop at line)
-  same_cell =
-      ap first_cell whole ∙ cell_at bytes (length line) at within (omega (arith, room)) blank
-      ∙ ap (λ t. first_cell (drop at t)) is
+  same_cell = grind (arith, common_steps, first_cell, whole, cell_at)
 
   pub first_blank : blank_at (take 16 slice) ≡ min (length (first_cell (drop at line))) 16
   first_blank =

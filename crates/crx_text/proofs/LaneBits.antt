@@ -1,9 +1,9 @@
 -- Rows of lanes: from a list of known length to its elements, and from a mask to each lane.
-use Rattle.std.proofs.Common.{take, ◌<◌, ◌≡◌, ℕ, suc, ◌+◌, ◌-◌, ◌*◌, ◌%◌, ◌^◌, ◌≤◌, Bool}
-use Rattle.std.proofs.Common.{not, cond, ◌&&◌, nat_eq, eqb, bit_and, List, [], ◌∷◌, map, length}
+use Rattle.std.proofs.Common.{take, ◌≡◌, ℕ, ◌-◌, ◌%◌, ◌^◌, Bool}
+use Rattle.std.proofs.Common.{not, cond, nat_eq, eqb, bit_and, List, [], ◌∷◌, map, length}
 use Rattle.std.proofs.{Common.{replicate, w8, refl, sym, ap, ◌∙◌, arith}, Math.Nat.{pow-suc, one-le-pow}}
-use Rattle.std.proofs.{lemmas.{Grind.common_steps, List.take-map}}
-use Rattle.std.proofs.lemmas.{List.length-take-le, Nat.and_mask, Simd.{pick_l_whole, bitmask_splat}}
+use Rattle.std.proofs.{lemmas.{Grind.common_steps}}
+use Rattle.std.proofs.lemmas.{List.length-take-le, Simd.{pick_l_whole, bitmask_splat}}
 use Rattle.std.specs.List.{range_with_len, list_all, list_any}
 use lib.Lanes.{pick_l, mask_l, top, zip2}
 
@@ -36,13 +36,6 @@ each_is_byte byte xs long =
     ∙ all_bits (λ c. eqb c byte) xs
 
 -- ---- the first lanes of a mask alone
-
-mod_step : (b x p : ℕ) → b < 2 → 0 < p → (b + 2 * x) % (2 * p) ≡ b + 2 * (x % p)
-mod_step b x p bit some = grind arith
-
-first_bits : (n : ℕ) (ms : List Bool) → mask_l ms % 2 ^ n ≡ mask_l (take n ms)
-first_bits (suc n) (m ∷ ms) = grind (arith, common_steps, mod_step, first_bits n ms)
-first_bits n ms = grind (arith, common_steps)
 
 pub some_of_field : (byte : ℕ) (xs : List ℕ) → length xs ≡ 16 → not (nat_eq (bit_and
     (mask_l (map (top 7) (zip2 (λ a b. cond (eqb a b) 255 0) xs (replicate 16 byte))) % 2 ^ 64)

@@ -1,9 +1,9 @@
 -- The lanes of a printed observation: three digits of each group, and where the number begins.
 use Rattle.std.proofs.Common.{◌≡◌, ℕ, zero, suc, ◌+◌, ◌-◌, ◌*◌, ◌/◌, ◌%◌, ◌^◌, ◌<◌, ◌≤◌, Bool, true}
-use Rattle.std.proofs.Common.{not, cond, bit_and, leb, eqb, List, [], ◌∷◌, ◌++◌, map, length}
-use Rattle.std.proofs.Common.{replicate, take, drop, get_or, subst, refl, sym, ap, ◌∙◌, eqb-true, arith}
-use Rattle.std.proofs.lemmas.{Bool.{agree_below_at, le-leb, Decides.nat_tests}, Grind.common_steps}
-use Rattle.std.proofs.lemmas.{Nat.and_mask, Simd.{trailing_mask_l, mask_l-mod, pick_l_whole}}
+use Rattle.std.proofs.Common.{not, cond, bit_and, leb, List, [], ◌∷◌, ◌++◌, map, length}
+use Rattle.std.proofs.Common.{replicate, take, drop, get_or, subst, refl, sym, ap, ◌∙◌, arith}
+use Rattle.std.proofs.lemmas.{Bool.{le-leb, Decides.nat_tests}, Grind.common_steps}
+use Rattle.std.proofs.lemmas.{Simd.{trailing_mask_l, mask_l-mod, pick_l_whole}}
 use Rattle.std.specs.List.{range_with_len, prefix_len}
 use lib.{Count.count_trailing_zeros, Lanes.{Each1, chunk, mask_l, pick_l, top, zip2, digits_l, number_l}}
 use Rattle.crx_text.proofs.{LaneBits.{sixteen, no_bit, top_lane}, PrintedDigits.leading_zeros}
@@ -18,9 +18,6 @@ small_word g = (g + (g * 205 % 2 ^ 32 / 2 ^ 11 + g * 41 % 2 ^ 32 / 2 ^ 12 * 2 ^ 
 
 abbrev pub group_word : ℕ → ℕ
 group_word g = small_word (bit_and g 1023)
-
-abbrev digits_word : ℕ → ℕ
-digits_word g = g % 10 + g / 10 % 10 * 256 + g / 100 * 65536
 
 abbrev quadruple : ℕ → ℕ
 quadruple zero = zero

@@ -17,8 +17,7 @@ after_minus = grind (arith, common_steps, bool_byte)
 -- digits that are all of their cell
 all_digits : (text : List ℕ) (size count : ℕ) → HasFirstDigits text size count → 0 < count → count ≤ 6
     → length (first_cell text) ≡ count → counted_digits (first_cell text) ≡ Some size
-all_digits text size count first some few whole =
-    grind (arith, common_steps, first.long, first.digits, first.value)
+all_digits text size count first some few whole = grind (arith, common_steps)
 
 step_is : (text digits : List ℕ) (is_below : Bool) (size count : ℕ) → is_below ≡ starts_with_minus text
     → digits ≡ without_minus text → HasFirstDigits digits size count → 0 < count → count ≤ 6
