@@ -4,7 +4,7 @@ use Rattle.std.proofs.Common.{None, Result, refl, ap, sym, ◌∙◌, inl, inr, 
 use Rattle.std.{proofs.lemmas.{Grind.common_steps, Option.none-some}, specs.Prelude.⊤}
 use Rattle.crx_base.specs.{declared.fault.Fault.Fault, meaning.AsRead.{ReadLine, Content, Overlong}}
 use Rattle.crx_rinex.proofs.Steady.{steady-here, steady-first_line, steady-then}
-use Rattle.crx_rinex.specs.EpochPlaces.{EpochStep, Going, Whole, Faulty, when_wanted}
+use Rattle.crx_rinex.specs.EpochPlaces.{EpochStep, Going, Whole, Faulty}
 use Rattle.crx_rinex.specs.EpochPlaces.{after_row, epoch_step, still_open, opened_by, opened_at, open_after}
 use Rattle.crx_rinex.specs.{EpochPlaces.{open_with, place_after}, Laws.{IsWantedWhereOpen, IsDecidedByOpen}}
 use Rattle.crx_rinex.specs.{Steady.IsSteady, meaning.EpochPlaces.{OpenEpoch, Beginning, EventBegins}}
@@ -56,9 +56,6 @@ abbrev IsGoing : EpochStep → Type 0
 IsGoing (Going so_far) = 0 < rows_wanted so_far
 IsGoing (Whole epoch) = ⊤
 IsGoing (Faulty fault) = ⊤
-
-when_wants : (n : ℕ) (so_far : OpenEpoch) → rows_wanted so_far ≡ n → IsGoing (when_wanted n so_far)
-when_wants = grind (arith, common_steps)
 
 step_wants : (so_far : OpenEpoch) (line : ReadLine) → IsGoing (epoch_step so_far line)
 step_wants = grind (arith, common_steps)
