@@ -30,7 +30,8 @@ returns-in-Ok-clause-over g c =
       more.0,
       _,
       subst (λ k. Seeking then (kept c.args.window.now) (kept c.let_go_of_long.new.self) c.args.room k
-          (c.seeking.passed + c.let_go_of_long.result) (length (kept c.let_go_of_long.new.self))) c.if-taken-room.true
+          (c.seeking.passed + c.let_go_of_long.result) (length (kept c.let_go_of_long.new.self)))
+          c.if-taken-room.true
           (Seeking-same _ then _ _ _ _ _ _ _ s goes refl refl),
     )
 

@@ -1,5 +1,5 @@
-use Rattle.std.proofs.Common.{true, ◌<◌, ◌⊎◌, ◌≡◌, ℕ, ◌+◌, ◌-◌, ◌≤◌, ⊎_elim, inl, inr, cond, List, [], ◌∷◌, ◌++◌, Err, length}
-use Rattle.std.proofs.{Common.{take, drop, sym, ap, ◌∙◌, refl, arith, rules}, lemmas.List.length-drop}
+use Rattle.std.proofs.Common.{◌≡◌, ℕ, ◌+◌, ◌-◌, ◌≤◌, ⊎_elim, inl, inr, cond, List, [], ◌∷◌, ◌++◌, Err, length}
+use Rattle.std.proofs.{Common.{true, ◌<◌, ◌⊎◌, take, drop, sym, ap, ◌∙◌, refl, arith, rules}, lemmas.List.length-drop}
 use Rattle.crx_lines.proofs.AdvanceLemmas.{piece_at, passed-within, takes, some-byte, whole-piece, held-is}
 use Rattle.crx_lines.proofs.AdvanceLemmas.{some-read, too-long, none-passed, content-long, over-fault}
 use Rattle.crx_lines.proofs.{AdvanceLemmas.{read-fault}, DeviceLemmas.{tally-same, tally-line}}
@@ -9,7 +9,8 @@ use Rattle.crx_lines.specs.declared.phase.Phase.TheVariants.{Open, Ended}
 use Rattle.crx_base.specs.declared.fault.Fault.TheVariants.{InputTooLong, ReadFailed}
 use Rattle.crx_base.specs.{declared.limits.TheConstants.INPUT_LIMIT, meaning.Lines.{InputLine, line_of}}
 use Rattle.crx_lines.proofs.line.LineReader.advance_by_reading.Given.{Over}
-use Rattle.crx_lines.proofs.line.LineReader.advance_by_reading.Goals.{After-take_line-cut, then-found-2, else-found-2}
+use Rattle.crx_lines.proofs.line.LineReader.advance_by_reading.Goals.{After-take_line-cut}
+use Rattle.crx_lines.proofs.line.LineReader.advance_by_reading.Goals.{then-found-2, else-found-2}
 use Rattle.crx_lines.proofs.line.LineReader.advance_by_reading.Goals as goal
 
 pub invariant_of-self : goal.invariant_of-self
@@ -85,14 +86,16 @@ module _ (g : Over) (c : After-take_line-cut g) where
 
   left : kept c.take_line-cut.new.self ≡ drop n held
   left =
-      c.take_line-cut.ensures.kept ∙ ap (λ w. drop (c.in-Ok.found.len + cond c.in-Ok.found.is_ended 1 0) (kept w))
+      c.take_line-cut.ensures.kept
+      ∙ ap (λ w. drop (c.in-Ok.found.len + cond c.in-Ok.found.is_ended 1 0) (kept w))
       c.deref_mut-2.ensures.value ∙ ap (λ k. drop k held) (sym count)
 
   line : cut_shown c.take_line-cut.new.self.bytes.items c.take_line-cut.result
       ≡ line_of (record { bytes = take c.in-Ok.found.len held; is_ended = c.in-Ok.found.is_ended })
   line =
       c.take_line-cut.ensures.shown
-      ∙ ap (λ w. line_of (record { bytes = take c.in-Ok.found.len (kept w); is_ended = c.in-Ok.found.is_ended }))
+      ∙ ap (λ w. line_of
+      (record { bytes = take c.in-Ok.found.len (kept w); is_ended = c.in-Ok.found.is_ended }))
       c.deref_mut-2.ensures.value
 
   taken : (after : ReaderState) → after.rest ≡ kept c.take_line-cut.new.self
