@@ -1,6 +1,7 @@
 -- The first cell of a line: counted by lanes, and where a blank and more characters are behind the line.
 use Rattle.std.proofs.Common.{◌≡◌, ℕ, zero, suc, nat_lt, ◌+◌, ◌-◌, ◌%◌, ◌^◌, ◌<◌, ◌≤◌, Bool, true, false}
-use Rattle.std.proofs.Common.{cond, eqb, not, bit_or, min, List, [], ◌∷◌, ◌++◌, map, length, replicate, drop, take}
+use Rattle.std.proofs.Common.{min}
+use Rattle.std.proofs.Common.{cond, eqb, not, bit_or, List, [], ◌∷◌, ◌++◌, map, length, replicate, drop, take}
 use Rattle.std.proofs.{Common.{slice_index, w8, arith, refl, ap, subst, sym, ◌∙◌}, lemmas.Grind.common_steps}
 use Rattle.std.proofs.lemmas.List.{drop_all, length-append, length-drop, length-map, length-take-le, take_all}
 use Rattle.std.proofs.lemmas.Simd.{bitmask_splat, mask_l-lt, trailing_mask_l}
