@@ -4,7 +4,6 @@ use Rattle.crx_rinex.specs.meaning.EpochPlaces.{OpenEpoch}
 use Rattle.crx_filter.specs.CheckByLine.{Totals}
 use Rattle.crx_filter.specs.CheckingParts.{CheckingState, checking_parts, pending_report}
 use Rattle.crx_filter.specs.DirectionParts.{EngineParts, state_by}
-use Rattle.crx_filter.specs.LenderState.{LenderParts, lines_then}
 use Rattle.crx_filter.specs.LineByLine.{RunState}
 
 -- its state
@@ -14,10 +13,3 @@ checking_state e = state_by e.options e.number (checking_parts e.direction)
 -- the lines that are pending
 abbrev pub checking_ready : EngineParts CheckingState → List (List ℕ)
 checking_ready e = pending_report e.direction
-
--- the same of one that lends every line
-abbrev pub checker_state : LenderParts CheckingState → RunState OpenEpoch Totals
-checker_state l = checking_state l.engine
-
-abbrev pub checker_ready : LenderParts CheckingState → List (List ℕ)
-checker_ready l = lines_then (checking_ready l.engine) l.copied

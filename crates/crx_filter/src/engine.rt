@@ -49,7 +49,7 @@ impl<D: Direction> Engine<D> {
     ghost use Rattle.crx_filter.specs.RinexStages.{is_open_stage};
     ghost use Rattle.crx_filter.specs.Stages.{bare_phase};
     ghost use Rattle.crx_filter.specs.declared.stage.Stage.{Stage};
-    ghost use Rattle.crx_runs.specs.Engines.{answer_given};
+    ghost use Rattle.crx_runs.specs.Engines.{Stays, answer_given};
 
     /// An engine before the first line of its input; `AllocError` comes where there is no memory for what its
     /// direction begins with.
@@ -80,6 +80,7 @@ impl<D: Direction> Engine<D> {
             self.new.answer (engine_ready D.Direction self.new) (engine_state D.Direction self.new) }
         ensures stays { (choices : Choices) (lines : List InputLine)
             → D.knows self.old.direction choices lines → D.knows self.new.direction choices lines }
+        ensures once { goes_on ≡ false → IfOk self.new.answer Stays }
     {
         let notice = At {
             line: self.number,
@@ -167,6 +168,7 @@ impl<D: Direction> Engine<D> {
         ensures answers { (line : InputLine) → is_long line ≡ true
             → LineIsAnswered D.Direction self.old line Overlong result (engine_ready D.Direction self.new) self.new }
         ensures stays { EngineKeepsNotes D.Direction self.old result self.new }
+        ensures once { IfOk result Stays }
     {
         let stage = self.direction.stage();
         self.number = number;

@@ -1,14 +1,13 @@
 -- How a run goes on or ends at a line, from one stretch of it to the next.
 use Rattle.std.proofs.lemmas.Grind.{common_steps}
 use Rattle.std.proofs.Common.{◌≡◌, ◌⊎◌, inl, inr, ℕ, ◌<◌, List, [], ◌++◌, length, Option, Some, None, Bool}
-use Rattle.std.proofs.Common.{Result, IfOk, IfErr, refl, sym, ap, ◌∙◌, arith, append_assoc}
-use Rattle.std.proofs.Common.{append-nil, length-append}
+use Rattle.std.proofs.Common.{refl, sym, ap, ◌∙◌, arith, append_assoc, append-nil, length-append}
 use Rattle.crx_base.specs.declared.fault.{At.At, Fault.TheVariants.OutOfMemory}
-use Rattle.crx_runs.proofs.DeviceSpans.{Joins, Carries, all-resumed, none-resumed, part-resumed}
-use Rattle.crx_runs.{proofs.DeviceSpans.notices-append, specs.Endings.{Adds, IsAllOut, EndsAt, resumed}}
-use Rattle.crx_runs.specs.{Engines.EndsWith, Taking.{IsDone, IsSettled}, declared.one_line.Halt.Halt}
+use Rattle.crx_runs.proofs.DeviceSpans.{Joins, Carries, all-all, all-resumed, carry-on, none-resumed, part-resumed}
+use Rattle.crx_runs.{proofs.DeviceSpans.notices-append, specs.Endings.{Adds, IsAllOut, EndsAt, EndsFrom, resumed}}
+use Rattle.crx_runs.specs.{Engines.EndsWith, Taking.IsDone, declared.one_line.Halt.Halt}
 use Rattle.crx_runs.specs.declared.one_line.Halt.TheVariants.{Fault, Unwritten, Unreported}
-use Rattle.crx_runs.specs.meaning.{Messages.notices_text, Results.Course, Spans.{Device, TookAll, AreNext}}
+use Rattle.crx_runs.specs.meaning.{Messages.notices_text, Results.{Course, are_some}, Spans.{Device, TookAll, AreNext}}
 
 none-some : {A : Type 0} (x : A) → ◌≡◌ {A = Option A} None (Some x) → ⊥
 none-some x e = cc
@@ -27,68 +26,82 @@ module _ {writer1 writer2 writer messages1 messages2 messages : Device}
       → TookAll writer2 text → TookAll messages2 (notices_text notices) → IsAllOut writer messages after
   out-more = grind (arith, common_steps, notices-append)
 
--- a step at a line, or at the end, by devices that took before what the lines before make, and earlier warnings
-module _ (writer messages : Device) (before after : Course) (earlier told : List At)
-    (told_is : told ≡ before.warnings ++ earlier) (memory : Option (List At)) (number : ℕ) where
-  abbrev pub Ends : Halt → Type 0
-  Ends halt = EndsAt memory number (resumed writer before.output) (resumed messages (notices_text told))
-      before after halt
+-- a step at a line, or at the end, after the messages of earlier warnings
+module _ {writer1 writer2 writer messages1 messages2 messages : Device} (w : Joins writer1 writer2 writer)
+    (m : Joins messages1 messages2 messages) (before after : Course) (earlier : List At)
+    (wrote : TookAll writer1 []) (reported : TookAll messages1 (notices_text earlier)) where
+  abbrev told : List At
+  told = before.warnings ++ earlier
 
-  more-told : (notices : List At) → before.warnings ++ (earlier ++ notices) ≡ told ++ notices
-  more-told notices = sym (append_assoc _ earlier notices) ∙ ap (λ l. l ++ notices) (sym told_is)
-
-  -- a fault was answered
-  pub answer-ends : (at : At) → (earlier ≡ []) ⊎ AreNext before after earlier
-      → ((at.fault ≡ OutOfMemory) × (at.line ≡ number) × (memory ≡ Some earlier)) ⊎ EndsWith before after
-      earlier at → TookAll writer [] → TookAll messages [] → Ends (Fault at)
-  answer-ends = grind (arith, common_steps, none-resumed)
-
-  -- what a step made couldn't be written or reported
-  step-ends : (text : List ℕ) (notices : List At) → (0 < length text → Adds before after text
-      (earlier ++ notices)) → AreNext before after (earlier ++ notices) → (halt : Halt) → EndsAt None 0 writer
-      messages (record { output = []; warnings = []; fault = None })
-      (record { output = text; warnings = notices; fault = None }) halt → Ends halt
-  step-ends text notices adds next (Fault at) (inl e) = absurd (none-some e.notices e.allowed)
-  step-ends text notices adds next (Fault at) (inr e) = absurd (none-some at e.ends.fault)
-  step-ends text notices adds next Unwritten e =
-      let a = adds (omega (arith, e.wrote.less)) in
-      record {
-        text = text;
-        notices = earlier ++ notices;
-        adds = a;
-        wrote = part-resumed before.output before.output text [] after.output (omega arith)
-            (a.output ∙ sym (append-nil (before.output ++ text))) e.wrote;
-        reported = all-resumed messages (notices_text told) (notices_text after.warnings) (notices_text
-            notices)
-            (ap notices_text (a.warnings ∙ more-told notices) ∙ notices-append told notices) e.reported;
-      }
-  step-ends text notices adds next Unreported e = record {
+  -- what a step made was written and reported
+  pub step-done : (text : List ℕ) (notices : List At) {shown : Type 0} → shown
+      → Adds before after text (earlier ++ notices)
+      → IsAllOut writer2 messages2 (record { output = text; warnings = notices; fault = None }) → (warned : Bool)
+      → warned ≡ are_some (earlier ++ notices) → IsDone before after shown writer messages warned
+  step-done text notices is adds out warned flag = record {
+    is_shown = is;
+    text = text;
     notices = earlier ++ notices;
-    next = next;
-    wrote = none-resumed writer before.output before.output refl e.wrote;
-    reported = part-resumed (notices_text before.warnings) (notices_text told) (notices_text e.notices)
-        (notices_text e.next.0) (notices_text (before.warnings ++ (earlier ++ notices))) (omega (
-          arith,
-          ap length (ap notices_text told_is ∙ notices-append before.warnings earlier),
-          length-append (notices_text before.warnings) (notices_text earlier),
-        )) (ap notices_text (more-told notices) ∙ ap (λ (l : List At). notices_text (told ++ l)) e.next.1
-        ∙ notices-append told (e.notices ++ e.next.0) ∙ ap (λ (t : List ℕ). notices_text told ++ t)
-        (notices-append e.notices e.next.0) ∙ sym
-        (append_assoc (notices_text told) (notices_text e.notices) (notices_text e.next.0))) e.reported;
+    adds = adds;
+    wrote = all-all w [] text wrote out.wrote;
+    reported = rw (notices-append) (all-all m (notices_text earlier) _ reported out.reported);
+    flag = flag;
   }
 
-  -- or it could
-  pub step-comes : (text : List ℕ) (notices : List At) → (0 < length text → Adds before after text (earlier
-      ++ notices)) → AreNext before after (earlier ++ notices) → (result : Result Bool Halt) → IsSettled
-      writer messages (record { output = text; warnings = notices; fault = None }) result → IfErr result Ends
-  step-comes = grind (arith, common_steps, step-ends)
+  module _ (memory : Option (List At)) (number : ℕ) where
+    over-both : (halt : Halt) → EndsAt memory number (resumed writer2 before.output)
+        (resumed messages2 (notices_text told)) before after halt
+        → EndsFrom memory number writer messages before after halt
+    over-both halt e = carried-ends (carry-on w _ [] _ (sym (append-nil _)) wrote)
+        (carry-on m _ _ _ (notices-append _ _) reported) memory number before after halt e
 
--- what a step made was written and reported
-pub step-done : (before after : Course) (shown : Type 0) (writer messages : Device) (text : List ℕ)
-    (notices : List At) → shown → Adds before after text notices → (result : Result Bool Halt)
-    → IsSettled writer messages (record { output = text; warnings = notices; fault = None }) result
-    → IfOk result (IsDone before after shown writer messages)
-step-done = grind arith
+    answered : (at : At) → (earlier ≡ []) ⊎ AreNext before after earlier
+        → ((at.fault ≡ OutOfMemory) × (at.line ≡ number) × (memory ≡ Some earlier)) ⊎ EndsWith before after
+        earlier at → TookAll writer2 [] → TookAll messages2 [] → EndsAt memory number
+        (resumed writer2 before.output) (resumed messages2 (notices_text told)) before after (Fault at)
+    answered = grind (arith, common_steps, none-resumed)
+
+    -- a fault was answered
+    pub answer-ends : (at : At) → (earlier ≡ []) ⊎ AreNext before after earlier
+        → ((at.fault ≡ OutOfMemory) × (at.line ≡ number) × (memory ≡ Some earlier)) ⊎ EndsWith before after
+        earlier at → TookAll writer2 [] → TookAll messages2 []
+        → EndsFrom memory number writer messages before after (Fault at)
+    answer-ends at next by still quiet = over-both (Fault at) (answered at next by still quiet)
+
+    -- what a step made couldn't be written or reported
+    pub step-ends : (text : List ℕ) (notices : List At) → (0 < length text → Adds before after text (earlier
+        ++ notices)) → AreNext before after (earlier ++ notices) → (halt : Halt) → EndsAt None 0 writer2
+        messages2 (record { output = []; warnings = []; fault = None })
+        (record { output = text; warnings = notices; fault = None }) halt
+        → EndsFrom memory number writer messages before after halt
+    step-ends text notices adds next (Fault at) (inl e) = absurd (none-some e.notices e.allowed)
+    step-ends text notices adds next (Fault at) (inr e) = absurd (none-some at e.ends.fault)
+    step-ends text notices adds next Unwritten e =
+        let a = adds (omega (arith, e.wrote.less)) in
+        over-both Unwritten (record {
+          text = text;
+          notices = earlier ++ notices;
+          adds = a;
+          wrote = part-resumed before.output before.output text [] after.output (omega arith)
+              (a.output ∙ sym (append-nil (before.output ++ text))) e.wrote;
+          reported = all-resumed messages2 (notices_text told) (notices_text after.warnings) (notices_text
+              notices)
+              (ap notices_text (a.warnings ∙ sym (append_assoc _ earlier notices)) ∙ notices-append told notices) e.reported;
+        })
+    step-ends text notices adds next Unreported e = over-both Unreported (record {
+      notices = earlier ++ notices;
+      next = next;
+      wrote = none-resumed writer2 before.output before.output refl e.wrote;
+      reported = part-resumed (notices_text before.warnings) (notices_text told) (notices_text e.notices)
+          (notices_text e.next.0) (notices_text (before.warnings ++ (earlier ++ notices))) (omega (
+            arith,
+            ap length (notices-append before.warnings earlier),
+            length-append (notices_text before.warnings) (notices_text earlier),
+          )) (ap notices_text (sym (append_assoc _ earlier notices)) ∙ ap (λ (l : List At). notices_text (told ++ l)) e.next.1
+          ∙ notices-append told (e.notices ++ e.next.0) ∙ ap (λ (t : List ℕ). notices_text told ++ t)
+          (notices-append e.notices e.next.0) ∙ sym
+          (append_assoc (notices_text told) (notices_text e.notices) (notices_text e.next.0))) e.reported;
+    })
 
 pub all-next : {before after : Course} {text : List ℕ} {notices : List At} → Adds before after text notices
     → AreNext before after notices

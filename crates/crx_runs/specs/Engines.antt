@@ -20,6 +20,13 @@ taken_after Ready count = count + 1
 taken_after (Warned notice true) count = count
 taken_after (Warned notice false) count = count + 1
 
+-- a line that was answered so doesn't come a second time
+abbrev pub Stays : Step → Type 0
+Stays Quiet = ⊤
+Stays Ready = ⊤
+Stays (Warned notice true) = ⊥
+Stays (Warned notice false) = ⊤
+
 -- only an engine that is ready has pending lines
 abbrev pub IsDrainedAfter : Step → List (List ℕ) → Type 0
 IsDrainedAfter Ready ready = ⊤

@@ -10,7 +10,7 @@ ghost use Rattle.crx_base.specs.declared.fault.At.{At};
 ghost use Rattle.crx_base.specs.declared.limits.TheConstants.{INPUT_LIMIT};
 ghost use Rattle.crx_runs.specs.meaning.Filters.{Filter};
 ghost use Rattle.crx_base.specs.meaning.Lines.{lines_text};
-ghost use Rattle.crx_runs.specs.Engines.{EngineAnswers, answer_given, Awaited, IsAwaited, Concludes, HasStepped, IsNextLine, KeepsAllElse, lines_handed_out, taken_after};
+ghost use Rattle.crx_runs.specs.Engines.{EngineAnswers, answer_given, Awaited, IsAwaited, Concludes, HasStepped, IsNextLine, KeepsAllElse, Stays, lines_handed_out, taken_after};
 
 use crx_base::At;
 use crx_lines::Line;
@@ -84,11 +84,11 @@ pub trait Engine {
     fn answer(&self) -> Result<Step, At>
         ensures value { result ≡ answer self.now };
 
-    /// Takes a line that is too long, by its number.
+    /// Takes a line that is too long, by its number. It never comes a second time.
     fn overlong(&mut self, number: u64) -> Result<Step, At>
         requires next { IsNextLine (ready self.old) (taken self.old) number }
         ensures stepped { HasStepped (filter self.old) (filter self.new) (ready self.new) result }
-        ensures count { IfOk result (λ step. taken self.new ≡ taken_after step (taken self.old)) }
+        ensures once { IfOk result Stays }
         ensures answers { (lines : List InputLine) (notices : List Awaited) (line : InputLine)
             → shows self.old lines notices
             → IsAwaited notices line

@@ -1,15 +1,15 @@
 //! One line of the input, through an engine to the writer and the messages.
 
-ghost use Rattle.std.specs.Prelude.{◌≡◌, ◌⊎◌, ◌≤◌, List, [], ◌∷◌, None, IfOk, IfErr, OnOk, true};
+ghost use Rattle.std.specs.Prelude.{◌≡◌, ◌⊎◌, ◌≤◌, List, [], IfOk, IfErr, OnOk, true};
 ghost use Rattle.crx_base.specs.Padded.{line_in};
 ghost use Rattle.crx_base.specs.meaning.Lines.{InputLine, is_long};
 ghost use Rattle.crx_lines.specs.Reading.{line_shown, line_number};
 ghost use Rattle.crx_base.specs.declared.fault.At.{At};
 ghost use Rattle.crx_base.specs.declared.limits.TheConstants.{INPUT_LIMIT};
 ghost use Rattle.crx_runs.specs.Endings.{EndEndsRun};
-ghost use Rattle.crx_runs.specs.Engines.{IsDrainedAfter};
+ghost use Rattle.crx_runs.specs.Engines.{EngineAnswers, IsDrainedAfter, IsNextLine};
 ghost use Rattle.crx_runs.specs.declared.one_line.Halt.TheVariants as halts;
-ghost use Rattle.crx_runs.specs.Taking.{AnswerIsDone, HandsOnFirst, HasAnswered, HoldsAnswer, IsAnswered, IsDone, IsSettled, IsTouchedBy, KeepsLines, LineIsTaken, MayTake, ReportsLast, TakenIs, made_by, number_taken};
+ghost use Rattle.crx_runs.specs.Taking.{HandsOnFirst, HoldsAnswer, IsDone, IsSettled, IsTouchedBy, KeepsLines, LineIsTaken, ReportsLast, made_by};
 ghost use Rattle.crx_runs.specs.meaning.Spans.{span};
 
 use crate::engine::{Engine, HandedOut, Step};
@@ -37,45 +37,8 @@ impl From<At> for Halt {
     }
 }
 
-/// A line of the input as it was taken.
-#[derive(Clone, Copy)]
-pub(crate) enum Taken<'a> {
-    /// Its content and number.
-    Line(Line<'a>),
-    /// The number of a line that is too long.
-    Overlong(u64),
-}
-
-/// Has what was written handed on, where that is awaited, and reports a warning after it; answers that there
-/// was one. Where handing on fails, that is told before the next read.
-fn warn<W: Sink, M: Sink>(writer: &mut W, messages: &mut M, notice: At) -> Result<bool, Halt>
-    ensures settled { IsSettled (span W.Sink writer.old writer.new) (span M.Sink messages.old messages.new)
-        (record { output = []; warnings = notice ∷ []; fault = None }) result }
-    ensures told { HandsOnFirst W.Sink writer.old }
-    ensures awaited { W.is_awaited writer.new ≡ W.is_awaited writer.old }
-{
-    writer.hand_on();
-    report_warning(writer, messages, notice)
-}
-
-/// Reports a warning, and answers that there was one. The writer is there for the contract alone: nothing is
-/// written to it. What was written before was handed on, where that is awaited, or couldn't be.
-#[inline(always)]
-fn report_warning<W: Sink, M: Sink>(_writer: &W, messages: &mut M, notice: At) -> Result<bool, Halt>
-    requires current { (W.is_awaited _writer.now ≡ true → W.is_current _writer.now)
-        ⊎ (W.is_broken _writer.now ≡ true) }
-    ensures { IsSettled (span W.Sink _writer.now _writer.now) (span M.Sink messages.old messages.new)
-        (record { output = []; warnings = notice ∷ []; fault = None }) result }
-{
-    let mut bytes = [0; MESSAGE_LIMIT];
-    let start = put_message(Severity::Warning, notice, &mut bytes);
-    match write_all_counted(messages, &bytes[start..]) {
-        Ok(()) => Ok(true),
-        Err(_) => Err(Halt::Unreported),
-    }
-}
-
-/// Writes what a step made ready, or reports its warning; whether it was a warning.
+/// Writes what a step made ready, or reports its warning; whether it was a warning. Before a warning what was
+/// written is handed on, where that is awaited; where that fails, it is told before the next read.
 #[inline(never)]
 fn carry_out<E: Engine, W: Sink, M: Sink>(
     engine: &mut E,
@@ -98,69 +61,14 @@ fn carry_out<E: Engine, W: Sink, M: Sink>(
             Ok(()) => Ok(false),
             Err(_) => Err(Halt::Unwritten),
         },
-        Step::Warned { notice, .. } => warn(writer, messages, notice),
-    }
-}
-
-/// Gives a line to an engine, and does what it answers; whether that is a warning.
-fn offer<E: Engine, W: Sink, M: Sink>(
-    engine: &mut E,
-    writer: &mut W,
-    messages: &mut M,
-    taken: Taken<'_>,
-) -> Result<bool, Halt>
-    requires { MayTake E.Engine engine.old (number_taken taken) }
-    ensures answered { IsAnswered E.Engine engine.old engine.new (TakenIs taken.entry)
-        (span W.Sink writer.old writer.new) (span M.Sink messages.old messages.new) result }
-    ensures told { (messages.new ≡ messages.old) ⊎ HandsOnFirst W.Sink writer.old }
-    ensures awaited { W.is_awaited writer.new ≡ W.is_awaited writer.old }
-{
-    match taken {
-        Taken::Line(line) => match engine.take(line) {
-            Some(handed_out) => match write_handed_out(engine, writer, line.bytes(), handed_out) {
-                Ok(()) => Ok(false),
-                Err(_) => Err(Halt::Unwritten),
-            },
-            None => {
-                let step = engine.answer()?;
-                carry_out(engine, writer, messages, step)
+        Step::Warned { notice, .. } => {
+            writer.hand_on();
+            let mut bytes = [0; MESSAGE_LIMIT];
+            let start = put_message(Severity::Warning, notice, &mut bytes);
+            match write_all_counted(messages, &bytes[start..]) {
+                Ok(()) => Ok(true),
+                Err(_) => Err(Halt::Unreported),
             }
-        },
-        Taken::Overlong(number) => {
-            let step = engine.overlong(number)?;
-            carry_out(engine, writer, messages, step)
-        }
-    }
-}
-
-/// Does what an engine answered to a line, which is given a second time where reading goes on at it; whether
-/// there was a warning.
-#[inline(never)]
-fn take_answered<E: Engine, W: Sink, M: Sink>(
-    engine: &mut E,
-    writer: &mut W,
-    messages: &mut M,
-    taken: Taken<'_>,
-    answer: Result<Step, At>,
-) -> Result<bool, Halt>
-    requires { (before : E) × MayTake E.Engine before (number_taken taken)
-        × HasAnswered E.Engine before engine.old (TakenIs taken) (E.ready engine.old) answer }
-    ensures taken { (before : E)
-        → HasAnswered E.Engine before engine.old (TakenIs taken.entry) (E.ready engine.old) answer
-        → LineIsTaken E.Engine before engine.new (TakenIs taken.entry)
-        (span W.Sink writer.old writer.new) (span M.Sink messages.old messages.new) result }
-    ensures told { (messages.new ≡ messages.old) ⊎ HandsOnFirst W.Sink writer.old }
-    ensures awaited { W.is_awaited writer.new ≡ W.is_awaited writer.old }
-{
-    let step = answer?;
-    let warned = carry_out(engine, writer, messages, step)?;
-    match step {
-        Step::Quiet | Step::Ready => Ok(warned),
-        Step::Warned { again, .. } => {
-            if again {
-                offer(engine, writer, messages, taken)?;
-            }
-            Ok(warned)
         }
     }
 }
@@ -174,10 +82,10 @@ pub fn take_line<E: Engine, W: Sink, M: Sink>(
     messages: &mut M,
     line: Line<'_>,
 ) -> Result<bool, Halt>
-    requires may_take { MayTake E.Engine engine.old (line_number line) }
-    ensures taken { LineIsTaken E.Engine engine.old engine.new (λ l. l ≡ line_shown line.entry)
-        (span W.Sink writer.old writer.new)
-        (span M.Sink messages.old messages.new) result }
+    requires may_take { IsNextLine (E.ready engine.old) (E.taken engine.old) (line_number line) }
+    ensures taken { LineIsTaken E.Engine (E.filter engine.old) engine.new
+        (λ lines _. E.shows engine.old lines []) (λ l. l ≡ line_shown line.entry)
+        (span W.Sink writer.old writer.new) (span M.Sink messages.old messages.new) result }
     ensures told { (messages.new ≡ messages.old) ⊎ HandsOnFirst W.Sink writer.old }
     ensures awaited { W.is_awaited writer.new ≡ W.is_awaited writer.old }
 {
@@ -187,7 +95,7 @@ pub fn take_line<E: Engine, W: Sink, M: Sink>(
             Ok(()) => Ok(false),
             Err(_) => Err(Halt::Unwritten),
         },
-        None => take_by_answer(
+        None => take_again(
             engine,
             writer,
             messages,
@@ -198,11 +106,11 @@ pub fn take_line<E: Engine, W: Sink, M: Sink>(
     }
 }
 
-/// Does what an engine answered to a line with a fault, which is given in its parts. In [`take_line`] the
-/// places for the answer and for the line would be cleared for each line. Mostly it is a warning, after which
-/// reading goes on at the next line.
+/// Does what an engine answered to a line with a fault, and gives it the line, in its parts, a second time
+/// where reading goes on at it. In [`take_line`] the places for the answer and for the line would be cleared
+/// for each line.
 #[inline(never)]
-fn take_by_answer<E: Engine, W: Sink, M: Sink>(
+fn take_again<E: Engine, W: Sink, M: Sink>(
     engine: &mut E,
     writer: &mut W,
     messages: &mut M,
@@ -210,61 +118,49 @@ fn take_by_answer<E: Engine, W: Sink, M: Sink>(
     number: u64,
     is_plain: bool,
 ) -> Result<bool, Halt>
-    requires { HoldsAnswer E.Engine engine.old (line_in content) number is_plain }
-    ensures done { AnswerIsDone E.Engine engine.old engine.new (line_in content.entry) is_plain
+    requires { HoldsAnswer E.Engine engine.old (line_in content) number }
+    ensures taken { LineIsTaken E.Engine (E.filter engine.old) engine.new
+        (λ lines l. EngineAnswers (E.filter engine.old) (E.shows engine.old) (E.ready engine.old) lines [] l
+        (E.answer engine.old)) (λ l. l ≡ record { content = line_in content.entry; is_plain = is_plain })
         (span W.Sink writer.old writer.new) (span M.Sink messages.old messages.new) result }
     ensures told { (messages.new ≡ messages.old) ⊎ HandsOnFirst W.Sink writer.old }
     ensures awaited { W.is_awaited writer.new ≡ W.is_awaited writer.old }
 {
-    if let Ok(
-        Step::Warned {
-            notice,
-            again: false,
-        },
-    ) = engine.answer()
-    {
-        return warn(writer, messages, notice);
-    }
-    take_stored_answer(engine, writer, messages, content, number, is_plain)
-}
-
-/// Does the same with each answer. In [`take_by_answer`] the places for it and for the line would be cleared
-/// for each warning.
-#[inline(never)]
-fn take_stored_answer<E: Engine, W: Sink, M: Sink>(
-    engine: &mut E,
-    writer: &mut W,
-    messages: &mut M,
-    content: Padded<'_>,
-    number: u64,
-    is_plain: bool,
-) -> Result<bool, Halt>
-    requires { HoldsAnswer E.Engine engine.old (line_in content) number is_plain }
-    ensures done { AnswerIsDone E.Engine engine.old engine.new (line_in content.entry) is_plain
-        (span W.Sink writer.old writer.new) (span M.Sink messages.old messages.new) result }
-    ensures told { (messages.new ≡ messages.old) ⊎ HandsOnFirst W.Sink writer.old }
-    ensures awaited { W.is_awaited writer.new ≡ W.is_awaited writer.old }
-{
-    let answer = engine.answer();
+    let step = engine.answer()?;
+    let warned = carry_out(engine, writer, messages, step)?;
+    let Step::Warned { again: true, .. } = step else {
+        return Ok(warned);
+    };
     let line = Line::of(content, number, is_plain);
-    take_answered(engine, writer, messages, Taken::Line(line), answer)
+    match engine.take(line) {
+        Some(handed_out) => match write_handed_out(engine, writer, line.bytes(), handed_out) {
+            Ok(()) => Ok(warned),
+            Err(_) => Err(Halt::Unwritten),
+        },
+        None => {
+            let second = engine.answer()?;
+            carry_out(engine, writer, messages, second)?;
+            Ok(warned)
+        }
+    }
 }
 
-/// Takes a line of the input that is too long, by its number, in the same way.
+/// Takes a line of the input that is too long, by its number: does what the engine answers to it.
 pub fn take_overlong<E: Engine, W: Sink, M: Sink>(
     engine: &mut E,
     writer: &mut W,
     messages: &mut M,
     number: u64,
 ) -> Result<bool, Halt>
-    requires may_take { MayTake E.Engine engine.old number }
-    ensures taken { LineIsTaken E.Engine engine.old engine.new (λ l. is_long l ≡ true)
+    requires may_take { IsNextLine (E.ready engine.old) (E.taken engine.old) number }
+    ensures taken { LineIsTaken E.Engine (E.filter engine.old) engine.new
+        (λ lines _. E.shows engine.old lines []) (λ l. is_long l ≡ true)
         (span W.Sink writer.old writer.new) (span M.Sink messages.old messages.new) result }
     ensures told { (messages.new ≡ messages.old) ⊎ HandsOnFirst W.Sink writer.old }
     ensures awaited { W.is_awaited writer.new ≡ W.is_awaited writer.old }
 {
-    let answer = engine.overlong(number);
-    take_answered(engine, writer, messages, Taken::Overlong(number), answer)
+    let step = engine.overlong(number)?;
+    carry_out(engine, writer, messages, step)
 }
 
 /// Takes the end of the input: writes what it makes ready, and reports its warning; whether there was one.
