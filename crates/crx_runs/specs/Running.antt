@@ -1,15 +1,20 @@
 -- A run between two lines, and how it goes on.
-use Rattle.std.specs.Prelude.{◌≡◌, ◌⊎◌, ◌≤◌, Bool, List, [], ◌++◌, Option, Some, None, Result, Ok, Err}
+use Rattle.std.specs.Prelude.{◌≡◌, ◌⊎◌, ◌<◌, ◌≤◌, Bool, Contains, List, [], ◌++◌, Option, Some, None, Result, Ok, Err}
+use Rattle.std.specs.Prelude.{IfOk, IfSome, OnOk}
 use Rattle.crx_base.specs.meaning.Lines.{InputLine}
 use Rattle.crx_lines.specs.Reading.{ReaderState}
 use Rattle.crx_lines.specs.Progress.{HasRead}
 use Rattle.crx_base.specs.declared.fault.At.{At}
 use Rattle.crx_base.specs.declared.limits.TheConstants.{INPUT_LIMIT}
 use Rattle.crx_lines.specs.declared.phase.Phase.TheVariants.{Open, Ended}
+use Rattle.crx_lines.specs.declared.device.Sink.{Ghosts as SinkGhosts}
+use Rattle.crx_lines.specs.declared.device.Source.{Ghosts as SourceGhosts}
+use Rattle.crx_runs.specs.declared.engine.Engine.{Ghosts as EngineGhosts}
 use Rattle.crx_runs.specs.declared.one_line.Halt.{Halt}
+use Rattle.crx_runs.specs.Taking.{HandsOnFirst}
 use Rattle.crx_runs.specs.meaning.Results.{Course, are_some}
 use Rattle.crx_runs.specs.meaning.Filters.{Filter, with_next}
-use Rattle.crx_runs.specs.meaning.Spans.{Device, Input}
+use Rattle.crx_runs.specs.meaning.Spans.{Device, Input, reader_span, span}
 use Rattle.crx_runs.specs.Endings.{IsAllOut, StopsAt}
 use Rattle.crx_runs.specs.Engines.{Awaited}
 
@@ -50,3 +55,32 @@ StepGoes filter shows input writer messages now lines (Ok (Some warned)) =
     GoesOnBy filter shows input writer messages now lines warned
 StepGoes filter shows input writer messages now lines (Err halt) =
     StopsAt filter input writer messages now lines halt
+
+-- a run can take its next step: no line is pending, and the lines that were read are those that its engine has taken
+pub record CanStep {E : Type 0} (engine : EngineGhosts E) (before : E) (old : ReaderState) : Type 0 where
+  pub drained : engine.ready before ≡ []
+  pub going : (old.phase ≡ Open) ⊎ (old.phase ≡ Ended)
+  pub next : old.number ≡ engine.taken before
+  pub counted : IsWithinLimit old
+
+-- a run took a step: no line is pending then, and with a line it comes farther in its input. The reader was asked only
+-- where no line was held with its LF, and nothing is reported before what was written is handed on
+pub record RunHasStepped {E R W M : Type 0} (engine : EngineGhosts E) (sink : SinkGhosts W) (before after : E)
+    (old new : ReaderState) (reader reader' : R) (writer : W) (messages messages' : M)
+    (result : Result (Option Bool) Halt) : Type 0 where
+  pub filter : engine.filter after ≡ engine.filter before
+  pub drained : OnOk result (engine.ready after ≡ [])
+  pub counted : OnOk result (IsWithinLimit new)
+  pub farther : IfOk result (λ o. IfSome o (λ _. old.passed < new.passed))
+  pub unasked : Contains old.rest 10 → reader' ≡ reader
+  pub told : (messages' ≡ messages) ⊎ HandsOnFirst sink writer
+
+-- whatever was read, written and reported before a step, the run goes on after it, or has ended
+abbrev pub RunGoesOn : {E R W M : Type 0} → EngineGhosts E → SourceGhosts R → SinkGhosts W → SinkGhosts M → E → E
+    → ReaderState → ReaderState → R → R → W → W → M → M → Result (Option Bool) Halt → Type 0
+RunGoesOn {R = R} {W = W} {M = M} engine source sink message_sink before after old new reader reader' writer writer'
+    messages messages' result = (r0 : R) (w0 : W) (m0 : M) (lines : List InputLine) → engine.shows before lines []
+    → IsRunning (reader_span source r0 reader) (span sink w0 writer) (span message_sink m0 messages) old lines
+    ((engine.filter before).so_far lines)
+    → StepGoes (engine.filter before) (engine.shows after) (reader_span source r0 reader') (span sink w0 writer')
+    (span message_sink m0 messages') new lines result

@@ -51,6 +51,11 @@ abbrev pub HandsOnFirst : {W : Type 0} → SinkGhosts W → W → Type 0
 HandsOnFirst {W = W} writer before = (then : W) × writer.took before [] then
     × ((writer.is_awaited then ≡ true → writer.is_current then) ⊎ (writer.is_broken then ≡ true))
 
+-- nothing is reported before what was written is handed on, where that is awaited; and it is awaited as before
+pub record KeepsOrder {W M : Type 0} (sink : SinkGhosts W) (writer writer' : W) (messages messages' : M) : Type 0 where
+  pub told : (messages' ≡ messages) ⊎ HandsOnFirst sink writer
+  pub awaited : sink.is_awaited writer' ≡ sink.is_awaited writer
+
 -- only a step that warns reports, once all that was written before was handed on
 abbrev pub ReportsLast : {W M : Type 0} → SinkGhosts W → Step → W → M → M → Type 0
 ReportsLast writer Quiet at before after = after ≡ before

@@ -1,6 +1,6 @@
 //! One line of the input, through an engine to the writer and the messages.
 
-ghost use Rattle.std.specs.Prelude.{◌≡◌, ◌⊎◌, ◌≤◌, List, [], IfOk, IfErr, OnOk, true};
+ghost use Rattle.std.specs.Prelude.{◌≡◌, ◌≤◌, List, [], IfOk, IfErr, OnOk, true};
 ghost use Rattle.crx_base.specs.Padded.{line_in};
 ghost use Rattle.crx_base.specs.meaning.Lines.{InputLine, is_long};
 ghost use Rattle.crx_lines.specs.Reading.{line_shown, line_number};
@@ -9,7 +9,7 @@ ghost use Rattle.crx_base.specs.declared.limits.TheConstants.{INPUT_LIMIT};
 ghost use Rattle.crx_runs.specs.Endings.{EndEndsRun};
 ghost use Rattle.crx_runs.specs.Engines.{EngineAnswers, IsDrainedAfter, IsNextLine};
 ghost use Rattle.crx_runs.specs.declared.one_line.Halt.TheVariants as halts;
-ghost use Rattle.crx_runs.specs.Taking.{HandsOnFirst, HoldsAnswer, IsDone, IsSettled, IsTouchedBy, KeepsLines, LineIsTaken, ReportsLast, made_by};
+ghost use Rattle.crx_runs.specs.Taking.{HoldsAnswer, IsDone, IsSettled, IsTouchedBy, KeepsLines, KeepsOrder, LineIsTaken, ReportsLast, made_by};
 ghost use Rattle.crx_runs.specs.meaning.Spans.{span};
 
 use crate::engine::{Engine, HandedOut, Step};
@@ -86,8 +86,7 @@ pub fn take_line<E: Engine, W: Sink, M: Sink>(
     ensures taken { LineIsTaken E.Engine (E.filter engine.old) engine.new
         (λ lines _. E.shows engine.old lines []) (λ l. l ≡ line_shown line.entry)
         (span W.Sink writer.old writer.new) (span M.Sink messages.old messages.new) result }
-    ensures told { (messages.new ≡ messages.old) ⊎ HandsOnFirst W.Sink writer.old }
-    ensures awaited { W.is_awaited writer.new ≡ W.is_awaited writer.old }
+    ensures order { KeepsOrder W.Sink writer.old writer.new messages.old messages.new }
 {
     match engine.take(line) {
         Some(HandedOut::Nothing) => Ok(false),
@@ -123,8 +122,7 @@ fn take_again<E: Engine, W: Sink, M: Sink>(
         (λ lines l. EngineAnswers (E.filter engine.old) (E.shows engine.old) (E.ready engine.old) lines [] l
         (E.answer engine.old)) (λ l. l ≡ record { content = line_in content.entry; is_plain = is_plain })
         (span W.Sink writer.old writer.new) (span M.Sink messages.old messages.new) result }
-    ensures told { (messages.new ≡ messages.old) ⊎ HandsOnFirst W.Sink writer.old }
-    ensures awaited { W.is_awaited writer.new ≡ W.is_awaited writer.old }
+    ensures order { KeepsOrder W.Sink writer.old writer.new messages.old messages.new }
 {
     let step = engine.answer()?;
     let warned = carry_out(engine, writer, messages, step)?;
@@ -156,8 +154,7 @@ pub fn take_overlong<E: Engine, W: Sink, M: Sink>(
     ensures taken { LineIsTaken E.Engine (E.filter engine.old) engine.new
         (λ lines _. E.shows engine.old lines []) (λ l. is_long l ≡ true)
         (span W.Sink writer.old writer.new) (span M.Sink messages.old messages.new) result }
-    ensures told { (messages.new ≡ messages.old) ⊎ HandsOnFirst W.Sink writer.old }
-    ensures awaited { W.is_awaited writer.new ≡ W.is_awaited writer.old }
+    ensures order { KeepsOrder W.Sink writer.old writer.new messages.old messages.new }
 {
     let step = engine.overlong(number)?;
     carry_out(engine, writer, messages, step)
@@ -179,8 +176,7 @@ pub fn take_end<E: Engine, W: Sink, M: Sink>(
     ensures cut { (lines : List InputLine) → E.shows engine.old lines []
         → IfErr result (EndEndsRun (E.filter engine.old) lines
         (span W.Sink writer.old writer.new) (span M.Sink messages.old messages.new)) }
-    ensures told { (messages.new ≡ messages.old) ⊎ HandsOnFirst W.Sink writer.old }
-    ensures awaited { W.is_awaited writer.new ≡ W.is_awaited writer.old }
+    ensures order { KeepsOrder W.Sink writer.old writer.new messages.old messages.new }
 {
     let step = engine.end()?;
     carry_out(engine, writer, messages, step)

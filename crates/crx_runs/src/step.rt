@@ -1,19 +1,14 @@
 //! One step of a run: the next line of the input, or its end.
 
-ghost use Rattle.std.specs.Prelude.{◌≡◌, ◌⊎◌, List, [], Contains, IfOk, IfSome, OnOk, ◌<◌, ◌≤◌, true, false};
-ghost use Rattle.crx_base.specs.meaning.Lines.{InputLine};
+ghost use Rattle.std.specs.Prelude.{◌≡◌, ◌⊎◌, [], true, false};
 ghost use Rattle.crx_lines.specs.Readers.{reading};
-ghost use Rattle.crx_base.specs.declared.limits.TheConstants.{INPUT_LIMIT};
 ghost use Rattle.crx_runs.specs.Endings.{FlushFailed};
-ghost use Rattle.crx_runs.specs.Running.{IsWithinLimit, IsRunning, StepGoes};
-ghost use Rattle.crx_runs.specs.Taking.{HandsOnFirst};
-ghost use Rattle.crx_runs.specs.meaning.Spans.{reader_span};
+ghost use Rattle.crx_runs.specs.Running.{CanStep, RunGoesOn, RunHasStepped};
 ghost use Rattle.crx_runs.specs.meaning.Spans.{TookAll, span};
 
 use crate::engine::Engine;
 use crate::one_line::{Halt, take_line, take_overlong};
 use crx_base::Fault;
-use crx_lines::phase::Phase;
 use crx_lines::{LineReader, Sink, Source};
 
 /// Takes the next line; whether a warning was reported, or `None` at the end of the input. The reader is
@@ -26,26 +21,13 @@ pub(crate) fn step<E: Engine, R: Source, W: Sink, M: Sink>(
     writer: &mut W,
     messages: &mut M,
 ) -> Result<Option<bool>, Halt>
-    requires drained { E.ready engine.old ≡ [] }
-    requires going { ((reading input.old).phase ≡ Phase.Open) ⊎ ((reading input.old).phase ≡ Phase.Ended) }
-    requires next { (reading input.old).number ≡ E.taken engine.old }
-    requires counted { IsWithinLimit (reading input.old) }
-    ensures filter { E.filter engine.new ≡ E.filter engine.old }
-    ensures drained { OnOk result (E.ready engine.new ≡ []) }
-    ensures counted { OnOk result (IsWithinLimit (reading input.new)) }
-    ensures farther { IfOk result (λ o. IfSome o (λ _.
-        ((reading input.old).passed < (reading input.new).passed)
-        × ((reading input.new).passed ≤ INPUT_LIMIT))) }
-    ensures goes { (r0 : R) (w0 : W) (m0 : M) (lines : List InputLine) → E.shows engine.old lines []
-        → IsRunning (reader_span R.Source r0 reader.old)
-        (span W.Sink w0 writer.old) (span M.Sink m0 messages.old)
-        (reading input.old) lines ((E.filter engine.old).so_far lines)
-        → StepGoes (E.filter engine.old) (E.shows engine.new) (reader_span R.Source r0 reader.new)
-        (span W.Sink w0 writer.new) (span M.Sink m0 messages.new) (reading input.new) lines result }
-    ensures unasked { Contains (reading input.old).rest 10 → reader.new ≡ reader.old }
+    requires can { CanStep E.Engine engine.old (reading input.old) }
+    ensures stepped { RunHasStepped E.Engine W.Sink engine.old engine.new (reading input.old) (reading input.new)
+        reader.old reader.new writer.old messages.old messages.new result }
+    ensures goes { RunGoesOn E.Engine R.Source W.Sink M.Sink engine.old engine.new (reading input.old)
+        (reading input.new) reader.old reader.new writer.old writer.new messages.old messages.new result }
     ensures handed_on { (reader.new ≡ reader.old)
         ⊎ (R.waits reader.old ≡ true → (then : W) × W.took writer.old [] then × W.is_current then) }
-    ensures told { (messages.new ≡ messages.old) ⊎ HandsOnFirst W.Sink writer.old }
     ensures awaited { R.waits reader.old ≡ false → W.is_awaited writer.new ≡ W.is_awaited writer.old }
 {
     match input.next_held() {
@@ -103,26 +85,13 @@ fn read_step<E: Engine, R: Source, W: Sink, M: Sink>(
     writer: &mut W,
     messages: &mut M,
 ) -> Result<Option<bool>, Halt>
-    requires waited { R.waits reader.old ≡ true → W.is_awaited writer.old ≡ true }
-    requires current { W.is_awaited writer.old ≡ true → W.is_current writer.old }
-    requires drained { E.ready engine.old ≡ [] }
-    requires going { ((reading input.old).phase ≡ Phase.Open) ⊎ ((reading input.old).phase ≡ Phase.Ended) }
-    requires next { (reading input.old).number ≡ E.taken engine.old }
-    requires counted { IsWithinLimit (reading input.old) }
-    ensures filter { E.filter engine.new ≡ E.filter engine.old }
-    ensures drained { OnOk result (E.ready engine.new ≡ []) }
-    ensures counted { OnOk result (IsWithinLimit (reading input.new)) }
-    ensures farther { IfOk result (λ o. IfSome o (λ _.
-        ((reading input.old).passed < (reading input.new).passed)
-        × ((reading input.new).passed ≤ INPUT_LIMIT))) }
-    ensures goes { (r0 : R) (w0 : W) (m0 : M) (lines : List InputLine) → E.shows engine.old lines []
-        → IsRunning (reader_span R.Source r0 reader.old)
-        (span W.Sink w0 writer.old) (span M.Sink m0 messages.old)
-        (reading input.old) lines ((E.filter engine.old).so_far lines)
-        → StepGoes (E.filter engine.old) (E.shows engine.new) (reader_span R.Source r0 reader.new)
-        (span W.Sink w0 writer.new) (span M.Sink m0 messages.new) (reading input.new) lines result }
-    ensures unasked { Contains (reading input.old).rest 10 → reader.new ≡ reader.old }
-    ensures told { (messages.new ≡ messages.old) ⊎ HandsOnFirst W.Sink writer.old }
+    requires handed_on { (R.waits reader.old ≡ true → W.is_awaited writer.old ≡ true)
+        × (W.is_awaited writer.old ≡ true → W.is_current writer.old) }
+    requires can { CanStep E.Engine engine.old (reading input.old) }
+    ensures stepped { RunHasStepped E.Engine W.Sink engine.old engine.new (reading input.old) (reading input.new)
+        reader.old reader.new writer.old messages.old messages.new result }
+    ensures goes { RunGoesOn E.Engine R.Source W.Sink M.Sink engine.old engine.new (reading input.old)
+        (reading input.new) reader.old reader.new writer.old writer.new messages.old messages.new result }
     ensures awaited { W.is_awaited writer.new ≡ W.is_awaited writer.old }
 {
     match input.next_line(reader) {

@@ -1,13 +1,13 @@
 //! A run that its caller takes from step to step.
 
-ghost use Rattle.std.specs.Prelude.{◌≡◌, ◌⊎◌, ◌<◌, ◌≤◌, List, [], Contains, IfErr, IfOk, IfSome, OnOk, true, false};
+ghost use Rattle.std.specs.Prelude.{◌≡◌, ◌⊎◌, ◌≤◌, List, [], IfErr, IfOk, true, false};
 ghost use Rattle.crx_base.specs.declared.limits.TheConstants.{INPUT_LIMIT};
 ghost use Rattle.crx_base.specs.meaning.Lines.{InputLine};
 ghost use Rattle.crx_lines.specs.Readers.{reading};
 ghost use Rattle.crx_runs.specs.Endings.{EndEndsRun};
-ghost use Rattle.crx_runs.specs.Running.{IsRunning, IsWithinLimit, StepGoes};
-ghost use Rattle.crx_runs.specs.Taking.{HandsOnFirst, IsDone};
-ghost use Rattle.crx_runs.specs.meaning.Spans.{reader_span, span};
+ghost use Rattle.crx_runs.specs.Running.{CanStep, RunGoesOn, RunHasStepped};
+ghost use Rattle.crx_runs.specs.Taking.{IsDone, KeepsOrder};
+ghost use Rattle.crx_runs.specs.meaning.Spans.{span};
 
 use crate::engine::Engine;
 use crate::one_line::{Halt, take_end};
@@ -53,26 +53,13 @@ impl<E: Engine + Drop> Run<E> {
         writer: &mut W,
         messages: &mut M,
     ) -> Result<Option<bool>, Halt>
-        requires drained { E.ready self.old.engine ≡ [] }
-        requires going { ((reading self.old.input).phase ≡ Phase.Open) ⊎ ((reading self.old.input).phase ≡ Phase.Ended) }
-        requires next { (reading self.old.input).number ≡ E.taken self.old.engine }
-        requires counted { IsWithinLimit (reading self.old.input) }
-        ensures filter { E.filter self.new.engine ≡ E.filter self.old.engine }
-        ensures drained { OnOk result (E.ready self.new.engine ≡ []) }
-        ensures counted { OnOk result (IsWithinLimit (reading self.new.input)) }
-        ensures farther { IfOk result (λ o. IfSome o (λ _.
-            ((reading self.old.input).passed < (reading self.new.input).passed)
-            × ((reading self.new.input).passed ≤ INPUT_LIMIT))) }
-        ensures goes { (r0 : R) (w0 : W) (m0 : M) (lines : List InputLine) → E.shows self.old.engine lines []
-            → IsRunning (reader_span R.Source r0 reader.old)
-            (span W.Sink w0 writer.old) (span M.Sink m0 messages.old)
-            (reading self.old.input) lines ((E.filter self.old.engine).so_far lines)
-            → StepGoes (E.filter self.old.engine) (E.shows self.new.engine) (reader_span R.Source r0 reader.new)
-            (span W.Sink w0 writer.new) (span M.Sink m0 messages.new) (reading self.new.input) lines result }
-        ensures unasked { Contains (reading self.old.input).rest 10 → reader.new ≡ reader.old }
+        requires can { CanStep E.Engine self.old.engine (reading self.old.input) }
+        ensures stepped { RunHasStepped E.Engine W.Sink self.old.engine self.new.engine (reading self.old.input) (reading self.new.input)
+            reader.old reader.new writer.old messages.old messages.new result }
+        ensures goes { RunGoesOn E.Engine R.Source W.Sink M.Sink self.old.engine self.new.engine (reading self.old.input)
+            (reading self.new.input) reader.old reader.new writer.old writer.new messages.old messages.new result }
         ensures handed_on { (reader.new ≡ reader.old)
             ⊎ (R.waits reader.old ≡ true → (then : W) × W.took writer.old [] then × W.is_current then) }
-        ensures told { (messages.new ≡ messages.old) ⊎ HandsOnFirst W.Sink writer.old }
         ensures awaited { R.waits reader.old ≡ false → W.is_awaited writer.new ≡ W.is_awaited writer.old }
     {
         step(&mut self.engine, &mut self.input, reader, writer, messages)
@@ -91,8 +78,7 @@ impl<E: Engine + Drop> Run<E> {
         ensures cut { (lines : List InputLine) → E.shows self.old.engine lines []
             → IfErr result (EndEndsRun (E.filter self.old.engine) lines
             (span W.Sink writer.old writer.new) (span M.Sink messages.old messages.new)) }
-        ensures told { (messages.new ≡ messages.old) ⊎ HandsOnFirst W.Sink writer.old }
-        ensures awaited { W.is_awaited writer.new ≡ W.is_awaited writer.old }
+        ensures order { KeepsOrder W.Sink writer.old writer.new messages.old messages.new }
     {
         take_end(&mut self.engine, writer, messages)
     }

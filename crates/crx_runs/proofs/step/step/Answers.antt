@@ -1,4 +1,4 @@
-use Rattle.std.proofs.{lemmas.Result.err_from_is_err_and, Common.{◌≡◌, ⊎_elim, inl, inr, [], Ok, None, refl, sym, ap, ◌∙◌, subst}}
+use Rattle.std.proofs.{lemmas.Grind.common_steps, lemmas.Result.err_from_is_err_and, Common.{◌≡◌, arith, ⊎_elim, inl, inr, [], Ok, None, refl, sym, ap, ◌∙◌, subst}}
 use Rattle.crx_base.specs.declared.fault.Fault.TheVariants.{LineTooLong}
 use Rattle.crx_lines.specs.{Readers.reading, Reading.{AnswersHeld, HasNoFeed, line_number, line_shown}, Reading.ReaderState}
 use Rattle.crx_lines.specs.declared.phase.Phase.TheVariants.{Open}
@@ -83,9 +83,18 @@ returns-then-not-hand_on-clause-goes g c = λ r0 w0 m0 lines shown running.
           (c.hand_on.ensures.failed c.if-not-hand_on.true),
     ))
 
-pub returns-else-not-hand_on-clause-told : goal.returns-else-not-hand_on-clause-told
-returns-else-not-hand_on-clause-told g c = ⊎_elim inl (λ told. inr (
-  told.0,
-  g.met.W.Sink.took_both _ _ _ [] [] (c.hand_on.ensures.still c.if-not-hand_on.false).0 told.1,
-  told.2,
-)) c.read_step.ensures.told
+pub returns-else-not-hand_on-clause-stepped : goal.returns-else-not-hand_on-clause-stepped
+returns-else-not-hand_on-clause-stepped g c =
+    let then = c.read_step.ensures.stepped in
+    record {
+      filter = then.filter;
+      drained = then.drained;
+      counted = then.counted;
+      farther = grind (arith, common_steps);
+      unasked = grind (arith, common_steps);
+      told = ⊎_elim inl (λ told. inr (
+        told.0,
+        g.met.W.Sink.took_both _ _ _ [] [] (c.hand_on.ensures.still c.if-not-hand_on.false).0 told.1,
+        told.2,
+      )) then.told;
+    }

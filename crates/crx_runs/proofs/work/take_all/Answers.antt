@@ -18,9 +18,9 @@ lines-preserved-then-warned g c =
     (goes g (goal.at.lines-preserved-then-warned g c).After-step) in (
       go-on c.lines.invariant.0.3 by
           (c.if-warned.true ∙ sym (ap (λ b. b || c.in-Ok-Some.warning) c.if-warned.true)),
-      c.in-Ok-Some.ensures.drained,
-      c.step.ensures.filter ∙ c.lines.invariant.2,
-      c.in-Ok-Some.ensures.counted,
+      c.in-Ok-Some.ensures.stepped.drained,
+      c.step.ensures.stepped.filter ∙ c.lines.invariant.2,
+      c.in-Ok-Some.ensures.stepped.counted,
     )
 
 pub lines-preserved : goal.lines-preserved
@@ -28,9 +28,9 @@ lines-preserved g c =
     let by = rw (c.in-Ok-Some.is, c.in-Ok-Some.field-0-is) at (goes g (goal.at.lines-preserved g
     c).After-step) in (
       go-on c.lines.invariant.0.3 by (ap (λ b. b || c.in-Ok-Some.warning) (sym c.if-warned.false)),
-      c.in-Ok-Some.ensures.drained,
-      c.step.ensures.filter ∙ c.lines.invariant.2,
-      c.in-Ok-Some.ensures.counted,
+      c.in-Ok-Some.ensures.stepped.drained,
+      c.step.ensures.stepped.filter ∙ c.lines.invariant.2,
+      c.in-Ok-Some.ensures.stepped.counted,
     )
 
 -- The end of the input was taken, and nothing failed.
@@ -39,7 +39,7 @@ end-done : (g : Over) (c : In-Ok g) → g.E.Engine.shows c.step.new.engine c.lin
     ((g.E.Engine.filter c.args.engine.now).whole c.lines.invariant.0.0) (g.E.Engine.has_ended
     c.take_end.new.engine c.lines.invariant.0.0) (span g.W.Sink c.step.new.writer c.take_end.new.writer)
     (span g.M.Sink c.step.new.messages c.take_end.new.messages) c.in-Ok.warning
-end-done g c shown = rw (← c.lines.invariant.2, ← c.step.ensures.filter) (c.in-Ok.ensures.done _ shown)
+end-done g c shown = rw (← c.lines.invariant.2, ← c.step.ensures.stepped.filter) (c.in-Ok.ensures.done _ shown)
 
 pub returns-then-warned-2 : goal.returns-then-warned-2
 returns-then-warned-2 g c =
@@ -63,7 +63,7 @@ pub take_end-requires-clause-within : goal.take_end-requires-clause-within
 take_end-requires-clause-within g c =
     let comes = rw (c.in-Ok-None.is, c.in-Ok-None.field-0-is) at
     (goes g (goal.at.take_end-requires-clause-within g c).After-step) in
-    let counted = c.in-Ok-None.ensures.counted in
+    let counted = c.in-Ok-None.ensures.stepped.counted in
     omega (arith, g.met.E.Engine.counted _ _ _ comes.shown, comes.running.read.number)
 
 pub returns-in-Err-take_end : goal.returns-in-Err-take_end
@@ -73,7 +73,7 @@ returns-in-Err-take_end g c =
     inr (inl (stopped-end (span-joins g.W.Sink g.met.W.Sink.took_both) (span-joins g.M.Sink
     g.met.M.Sink.took_both)
     comes c.number-last.ensures.value c.in-Err-take_end.halt
-    (rw (c.step.ensures.filter, c.lines.invariant.2) at (c.in-Err-take_end.ensures.cut _ comes.shown))))
+    (rw (c.step.ensures.stepped.filter, c.lines.invariant.2) at (c.in-Err-take_end.ensures.cut _ comes.shown))))
 
 pub returns-in-Err : goal.returns-in-Err
 returns-in-Err g c = inl (record {

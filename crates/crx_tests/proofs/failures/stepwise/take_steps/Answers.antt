@@ -17,7 +17,7 @@ pub end-ended-requires-clause-within : goal.end-ended-requires-clause-within
 end-ended-requires-clause-within g c =
     let comes = rw (c.in-Ok-None.is, c.in-Ok-None.field-0-is) at
     (goes g (goal.at.end-ended-requires-clause-within g c).After-step) in
-    let counted = c.in-Ok-None.ensures.counted in
+    let counted = c.in-Ok-None.ensures.stepped.counted in
     omega (arith, g.met.E.Engine.counted _ _ _ comes.shown, comes.running.read.number)
 
 pub steps-preserved : goal.steps-preserved
@@ -25,7 +25,7 @@ steps-preserved g c =
     let by = rw (c.in-Ok-Some.is, c.in-Ok-Some.field-0-is) at
     (goes g (goal.at.steps-preserved g c).After-step) in (
       (_, by.shown, by.running),
-      c.in-Ok-Some.ensures.drained,
-      c.step.ensures.filter ∙ c.steps.invariant.2,
-      c.in-Ok-Some.ensures.counted,
+      c.in-Ok-Some.ensures.stepped.drained,
+      c.step.ensures.stepped.filter ∙ c.steps.invariant.2,
+      c.in-Ok-Some.ensures.stepped.counted,
     )
