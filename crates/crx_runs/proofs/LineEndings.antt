@@ -36,7 +36,8 @@ module _ {writer1 writer2 writer messages1 messages2 messages : Device} (w : Joi
   -- what a step made was written and reported
   pub step-done : (text : List ℕ) (notices : List At) {shown : Type 0} → shown
       → Adds before after text (earlier ++ notices)
-      → IsAllOut writer2 messages2 (record { output = text; warnings = notices; fault = None }) → (warned : Bool)
+      → IsAllOut writer2 messages2 (record { output = text; warnings = notices; fault = None }) →
+      (warned : Bool)
       → warned ≡ are_some (earlier ++ notices) → IsDone before after shown writer messages warned
   step-done text notices is adds out warned flag = record {
     is_shown = is;
@@ -86,7 +87,8 @@ module _ {writer1 writer2 writer messages1 messages2 messages : Device} (w : Joi
               (a.output ∙ sym (append-nil (before.output ++ text))) e.wrote;
           reported = all-resumed messages2 (notices_text told) (notices_text after.warnings) (notices_text
               notices)
-              (ap notices_text (a.warnings ∙ sym (append_assoc _ earlier notices)) ∙ notices-append told notices) e.reported;
+              (ap notices_text (a.warnings ∙ sym (append_assoc _ earlier notices)) ∙ notices-append told
+              notices) e.reported;
         })
     step-ends text notices adds next Unreported e = over-both Unreported (record {
       notices = earlier ++ notices;
@@ -97,7 +99,8 @@ module _ {writer1 writer2 writer messages1 messages2 messages : Device} (w : Joi
             arith,
             ap length (notices-append before.warnings earlier),
             length-append (notices_text before.warnings) (notices_text earlier),
-          )) (ap notices_text (sym (append_assoc _ earlier notices)) ∙ ap (λ (l : List At). notices_text (told ++ l)) e.next.1
+          )) (ap notices_text (sym (append_assoc _ earlier notices)) ∙ ap
+          (λ (l : List At). notices_text (told ++ l)) e.next.1
           ∙ notices-append told (e.notices ++ e.next.0) ∙ ap (λ (t : List ℕ). notices_text told ++ t)
           (notices-append e.notices e.next.0) ∙ sym
           (append_assoc (notices_text told) (notices_text e.notices) (notices_text e.next.0))) e.reported;

@@ -1,6 +1,6 @@
 -- A line that an engine takes, at once or a second time.
 use Rattle.std.proofs.lemmas.Grind.{common_steps}
-use Rattle.std.proofs.Common.{◌≡◌, ◌⊎◌, inl, inr, ℕ, ◌+◌, Bool, true, false, List, [], ◌∷◌, ◌++◌, length}
+use Rattle.std.proofs.Common.{◌≡◌, ◌⊎◌, ℕ, ◌+◌, Bool, true, false, List, [], ◌∷◌, ◌++◌, length}
 use Rattle.std.proofs.Common.{Some, None, Result, Ok, Err, IfOk, IfErr, refl, sym, ap, subst, ◌∙◌}
 use Rattle.std.proofs.Common.{arith, append_assoc, append-nil}
 use Rattle.crx_base.specs.{declared.fault.{At.At, Fault.TheVariants.OutOfMemory}, meaning.Lines.InputLine}
@@ -60,7 +60,8 @@ module _ {writer1 writer2 writer messages1 messages2 messages : Device} (w : Joi
       → (awaited_notices earlier ≡ []) ⊎ AreNext (filter.so_far lines) (filter.so_far (with_next lines line))
       (awaited_notices earlier) → TookAll writer2 [] → TookAll messages2 []
       → LineEndsRun filter lines line writer messages (Fault at)
-  line-refused at a first still quiet = answer-ends w m _ _ (awaited_notices earlier) wrote reported _ _ at first
+  line-refused at a first still quiet = answer-ends w m _ _ (awaited_notices earlier) wrote reported _ _ at
+      first
       (either-out filter lines line (awaited_notices earlier) at a) still quiet
 
   -- a line that doesn't come a second time
@@ -76,20 +77,24 @@ module _ {writer1 writer2 writer messages1 messages2 messages : Device} (w : Joi
 
   cut-by : (step : Step) → Stays step → IsDrainedAfter step ready
       → EngineAnswers filter shows ready lines earlier line (Ok step) → (halt : Halt)
-      → EndsAt None 0 writer2 messages2 (record { output = []; warnings = []; fault = None }) (made_by ready step) halt
+      → EndsAt None 0 writer2 messages2 (record { output = []; warnings = []; fault = None })
+      (made_by ready step) halt
       → LineEndsRun filter lines line writer messages halt
   cut-by step stays drained a halt e =
       let adds = answers-add filter shows ready lines earlier line step stays drained a in
-      step-ends w m _ _ (awaited_notices earlier) wrote reported _ _ _ _ (λ some. adds.1) (all-next adds.1) halt e
+      step-ends w m _ _ (awaited_notices earlier) wrote reported _ _ _ _ (λ some. adds.1) (all-next adds.1)
+      halt e
 
   -- a line whose text couldn't be written, or a warning of which couldn't be reported
   pub line-cut : (step : Step) → IsDrainedAfter step ready
       → EngineAnswers filter shows ready lines earlier line (Ok step) → (halt : Halt)
-      → EndsAt None 0 writer2 messages2 (record { output = []; warnings = []; fault = None }) (made_by ready step) halt
+      → EndsAt None 0 writer2 messages2 (record { output = []; warnings = []; fault = None })
+      (made_by ready step) halt
       → LineEndsRun filter lines line writer messages halt
   line-cut Quiet drained a halt e = cut-by Quiet tt drained a halt e
   line-cut Ready drained a halt e = cut-by Ready tt drained a halt e
-  line-cut (Warned notice true) drained a halt e = step-ends w m _ _ (awaited_notices earlier) wrote reported _ _ _ _
+  line-cut (Warned notice true) drained a halt e = step-ends w m _ _ (awaited_notices earlier) wrote reported
+      _ _ _ _
       (λ some. absurd (omega (arith, some, ap (λ r. length (lines_text r)) drained)))
       (rw (a.1) (a.2.0, a.2.1 ∙ sym (append_assoc _ (notice ∷ []) a.2.0))) halt e
   line-cut (Warned notice false) drained a halt e = cut-by (Warned notice false) tt drained a halt e
@@ -123,7 +128,8 @@ module _ {writer1 writer2 writer messages1 messages2 messages : Device} (w : Joi
       → LineEndsRun filter lines line writer messages Unwritten
   handed-cut out stored a drained part quiet =
       let adds = handed-adds out stored a drained in
-      step-ends w m _ _ (awaited_notices earlier) wrote reported (filter.memory_after lines line) (length lines + 1) _ []
+      step-ends w m _ _ (awaited_notices earlier) wrote reported (filter.memory_after lines line)
+      (length lines + 1) _ []
       (λ some. adds.1) (all-next adds.1) Unwritten
       (ready-cut writer2 messages2 ready part quiet)
 
@@ -132,7 +138,8 @@ module _ {writer1 writer2 writer messages1 messages2 messages : Device} (w : Joi
       → EngineAnswers filter shows ready lines earlier line (Ok step) → earlier ≡ []
       → (shown : Type 0) → (shows (with_next lines line) [] → shown) → (result : Result Bool Halt)
       → IsSettled writer2 messages2 (made_by ready step) result
-      → IfOk result (IsDone (filter.so_far lines) (filter.so_far (with_next lines line)) shown writer messages)
+      → IfOk result (IsDone (filter.so_far lines) (filter.so_far (with_next lines line)) shown writer
+      messages)
       × IfErr result (LineEndsRun filter lines line writer messages)
   line-settled step stays drained a none shown kept (Ok warned) s =
       (line-done step stays drained a shown kept s.0 warned (rw (none) s.1), tt)
@@ -140,7 +147,8 @@ module _ {writer1 writer2 writer messages1 messages2 messages : Device} (w : Joi
 
 -- a warning after which a line comes a second time was reported
 pub again-out : {writer messages : Device} (ready : List (List ℕ)) (step : Step) (notice : At) (warned : Bool)
-    → step ≡ Warned notice true → IsDrainedAfter step ready → IsSettled writer messages (made_by ready step) (Ok warned)
+    → step ≡ Warned notice true → IsDrainedAfter step ready → IsSettled writer messages (made_by ready step)
+    (Ok warned)
     → TookAll writer [] × TookAll messages (notices_text (notice ∷ [])) × (warned ≡ true)
 again-out {writer = writer} {messages = messages} ready step notice warned is drained settled =
     let s = subst (λ (s : Step). IsSettled writer messages (made_by ready s) (Ok warned)) is settled in
@@ -168,13 +176,19 @@ end-warns : (filter : Filter) (ready : List (List ℕ)) (lines : List InputLine)
 end-warns = grind (arith, common_steps, append-nil, no-part, none-first)
 
 pub end-comes : (filter : Filter) (ready : List (List ℕ)) (lines : List InputLine) (step : Step)
-    {writer1 writer2 messages1 messages2 : Device} → Joins writer1 writer2 writer2
-    → Joins messages1 messages2 messages2 → TookAll writer1 [] → TookAll messages1 [] → (result : Result Bool Halt)
+    (shown : Type 0)
+    → shown → {writer1 writer2 messages1 messages2 : Device} → Joins writer1 writer2 writer2
+    → Joins messages1 messages2 messages2 → TookAll writer1 [] → TookAll messages1 [] →
+    (result : Result Bool Halt)
     → IsDrainedAfter step ready → Concludes filter ready lines (Ok step)
-    → IsSettled writer2 messages2 (made_by ready step) result → IfErr result (EndEndsRun filter lines writer2 messages2)
-end-comes filter ready lines step w m wrote reported (Ok warned) drained a settled = tt
-end-comes filter ready lines step w m wrote reported (Err halt) drained a settled =
-    let adds = concludes-add filter ready lines step drained a in (
-      step-ends w m _ _ [] wrote reported _ _ _ _ (λ some. adds) (all-next adds) halt settled,
-      end-warns filter ready lines step _ _ halt drained a settled,
-    )
+    → IsSettled writer2 messages2 (made_by ready step) result
+    → IfOk result (IsDone (filter.so_far lines) (filter.whole lines) shown writer2 messages2)
+    × IfErr result (EndEndsRun filter lines writer2 messages2)
+end-comes filter ready lines step shown is w m wrote reported (Ok warned) drained a settled =
+    let adds = concludes-add filter ready lines step drained a in
+    (step-done w m _ _ [] wrote reported _ _ is adds settled.0 warned settled.1, tt)
+end-comes filter ready lines step shown is w m wrote reported (Err halt) drained a settled =
+    let adds = concludes-add filter ready lines step drained a in
+    let ends = step-ends w m _ _ [] wrote reported None (length lines) _ _ (λ some. adds) (all-next adds) halt
+    settled in
+    (tt, (ends, end-warns filter ready lines step _ _ halt drained a settled))

@@ -202,17 +202,14 @@ IsFlushed writer = writer.took [] × (writer.after ≡ with_flush writer.before)
 abbrev pub FlushFailed : Device → Type 0
 FlushFailed writer = writer.took [] × (writer.after ≡ with_failed_flush writer.before)
 
--- a run that came to the good end of its input is flushed; where that fails, the failure is its fault
-abbrev pub FinishesWell : Device → Device → ℕ → Bool → ℕ → Option At → Type 0
-FinishesWell writer messages last warned status None = IsFlushed writer
-    × TookAll messages [] × (status ≡ good_status warned)
-FinishesWell writer messages last warned status (Some at) = FlushFailed writer
-    × IsReported messages at × (at ≡ write_failed_at last) × (status ≡ 1)
-
--- a run with a fault of its input, its reader or its memory is flushed, and the fault is reported; a writer that failed
--- isn't flushed, and after a warning that couldn't be written nothing more is
+-- a run that came to the good end of its input is flushed; where that fails, the failure is its fault. With a fault of
+-- its input, its reader or its memory it is flushed too, and the fault is reported; a writer that failed isn't flushed,
+-- and after a warning that couldn't be written nothing more is
 abbrev pub Finishes : Device → Device → ℕ → Bool → Option Halt → ℕ → Option At → Type 0
-Finishes writer messages last warned None status fault = FinishesWell writer messages last warned status fault
+Finishes writer messages last warned None status None = IsFlushed writer
+    × TookAll messages [] × (status ≡ good_status warned)
+Finishes writer messages last warned None status (Some at) = FlushFailed writer
+    × IsReported messages at × (at ≡ write_failed_at last) × (status ≡ 1)
 Finishes writer messages last warned (Some (halts.Fault at)) status fault = (IsFlushed writer ⊎ FlushFailed writer)
     × IsReported messages at × (fault ≡ Some at) × (status ≡ 1)
 Finishes writer messages last warned (Some Unwritten) status fault = TookAll writer []

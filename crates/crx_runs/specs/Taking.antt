@@ -10,8 +10,8 @@ use Rattle.crx_runs.specs.declared.engine.Step.TheVariants.{Quiet, Ready, Warned
 use Rattle.crx_runs.specs.declared.one_line.Halt.{Halt}
 use Rattle.crx_runs.specs.meaning.Results.{Course}
 use Rattle.crx_runs.specs.meaning.Filters.{Filter, with_next}
-use Rattle.crx_runs.specs.Engines.{Awaited, IsDrainedAfter, KeepsAllElse, taken_after}
-use Rattle.crx_runs.specs.Endings.{Adds, EndsAt, IsAllOut, LineEndsRun}
+use Rattle.crx_runs.specs.Engines.{IsDrainedAfter, KeepsAllElse, taken_after}
+use Rattle.crx_runs.specs.Endings.{Adds, EndEndsRun, EndsAt, IsAllOut, LineEndsRun}
 use Rattle.crx_runs.specs.meaning.Messages.{notices_text}
 pub use Rattle.crx_runs.specs.meaning.Results.{are_some}
 use Rattle.crx_runs.specs.meaning.Spans.{Device, TookAll}
@@ -96,3 +96,14 @@ pub record LineIsTaken {E : Type 0} (engine : EngineGhosts E) (its : Filter) (no
       (engine.shows now (with_next lines line) []) writer messages)
   pub cut : (lines : List InputLine) (line : InputLine) → comes lines line → can_be line
       → IfErr result (LineEndsRun its lines line writer messages)
+
+-- an engine took the end of the input, after whichever lines: what that adds was written and reported, or it ended the
+-- run
+pub record EndIsTaken {E : Type 0} (engine : EngineGhosts E) (before now : E) (writer messages : Device)
+    (result : Result Bool Halt) : Type 0 where
+  pub filter : engine.filter now ≡ engine.filter before
+  pub done : (lines : List InputLine) → engine.shows before lines []
+      → IfOk result (IsDone ((engine.filter before).so_far lines) ((engine.filter before).whole lines)
+      (engine.has_ended now lines) writer messages)
+  pub cut : (lines : List InputLine) → engine.shows before lines []
+      → IfErr result (EndEndsRun (engine.filter before) lines writer messages)

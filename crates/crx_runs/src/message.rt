@@ -60,32 +60,22 @@ fn put_before(text: &[u8], bytes: &mut [u8; MESSAGE_LIMIT], end: usize) -> usize
     start
 }
 
-/// Writes the line of a fault into a place, so that it ends where the place ends, and returns where it
-/// starts. It is written from its end to its front: so a number's digits are written where they stay.
-#[inline(always)]
-pub(crate) fn put_message(severity: Severity, at: At, bytes: &mut [u8; MESSAGE_LIMIT]) -> usize
-    ensures within { result ≤ MESSAGE_LIMIT }
-    ensures written { drop result bytes.new ≡ message_text (word_of severity) at }
-{
-    let mut start = put_before(b"\n", bytes, MESSAGE_LIMIT);
-    start = put_before(at.fault.words().as_bytes(), bytes, start);
-    start = put_before(b": ", bytes, start);
-    start = write_digits(u64::from(at.fault.code()), bytes, start);
-    start = put_before(b" code ", bytes, start);
-    start = write_digits(at.line, bytes, start);
-    // A text of constant length is copied without a call.
-    start = match severity {
-        Severity::Error => put_before(b"ERROR line ", bytes, start),
-        Severity::Warning => put_before(b"WARNING line ", bytes, start),
-    };
-    start
-}
-
-/// The line of a fault, as `ERROR line 7 code 18: bad indicator`, with its LF. It takes no memory.
+/// The line of a fault, as `ERROR line 7 code 18: bad indicator`, with its LF. It takes no memory, and is
+/// written from its end to its front: so a number's digits are written where they stay.
 pub fn message(severity: Severity, at: At) -> MessageLine
     ensures value { result ≡ message_text (word_of severity) at }
 {
     let mut bytes = [0; MESSAGE_LIMIT];
-    let start = put_message(severity, at, &mut bytes);
+    let mut start = put_before(b"\n", &mut bytes, MESSAGE_LIMIT);
+    start = put_before(at.fault.words().as_bytes(), &mut bytes, start);
+    start = put_before(b": ", &mut bytes, start);
+    start = write_digits(u64::from(at.fault.code()), &mut bytes, start);
+    start = put_before(b" code ", &mut bytes, start);
+    start = write_digits(at.line, &mut bytes, start);
+    // A text of constant length is copied without a call.
+    start = match severity {
+        Severity::Error => put_before(b"ERROR line ", &mut bytes, start),
+        Severity::Warning => put_before(b"WARNING line ", &mut bytes, start),
+    };
     MessageLine { bytes, start }
 }

@@ -1,19 +1,18 @@
 //! One line of the input, through an engine to the writer and the messages.
 
-ghost use Rattle.std.specs.Prelude.{◌≡◌, ◌≤◌, List, [], IfOk, IfErr, OnOk, true};
+ghost use Rattle.std.specs.Prelude.{◌≡◌, ◌≤◌, [], OnOk, true};
 ghost use Rattle.crx_base.specs.Padded.{line_in};
-ghost use Rattle.crx_base.specs.meaning.Lines.{InputLine, is_long};
+ghost use Rattle.crx_base.specs.meaning.Lines.{is_long};
 ghost use Rattle.crx_lines.specs.Reading.{line_shown, line_number};
 ghost use Rattle.crx_base.specs.declared.fault.At.{At};
 ghost use Rattle.crx_base.specs.declared.limits.TheConstants.{INPUT_LIMIT};
-ghost use Rattle.crx_runs.specs.Endings.{EndEndsRun};
 ghost use Rattle.crx_runs.specs.Engines.{EngineAnswers, IsDrainedAfter, IsNextLine};
 ghost use Rattle.crx_runs.specs.declared.one_line.Halt.TheVariants as halts;
-ghost use Rattle.crx_runs.specs.Taking.{HoldsAnswer, IsDone, IsSettled, IsTouchedBy, KeepsLines, KeepsOrder, LineIsTaken, ReportsLast, made_by};
+ghost use Rattle.crx_runs.specs.Taking.{EndIsTaken, HoldsAnswer, IsSettled, IsTouchedBy, KeepsLines, KeepsOrder, LineIsTaken, ReportsLast, made_by};
 ghost use Rattle.crx_runs.specs.meaning.Spans.{span};
 
 use crate::engine::{Engine, HandedOut, Step};
-use crate::message::{MESSAGE_LIMIT, Severity, put_message};
+use crate::message::{Severity, message};
 use crate::ready_lines::{write_handed_out, write_ready};
 use crx_base::{At, Padded};
 use crx_lines::{Line, Sink, write_all_counted};
@@ -63,9 +62,7 @@ fn carry_out<E: Engine, W: Sink, M: Sink>(
         },
         Step::Warned { notice, .. } => {
             writer.hand_on();
-            let mut bytes = [0; MESSAGE_LIMIT];
-            let start = put_message(Severity::Warning, notice, &mut bytes);
-            match write_all_counted(messages, &bytes[start..]) {
+            match write_all_counted(messages, message(Severity::Warning, notice).bytes()) {
                 Ok(()) => Ok(true),
                 Err(_) => Err(Halt::Unreported),
             }
@@ -168,14 +165,8 @@ pub fn take_end<E: Engine, W: Sink, M: Sink>(
 ) -> Result<bool, Halt>
     requires drained { E.ready engine.old ≡ [] }
     requires within { E.taken engine.old ≤ INPUT_LIMIT }
-    ensures filter { E.filter engine.new ≡ E.filter engine.old }
-    ensures done { (lines : List InputLine) → E.shows engine.old lines []
-        → IfOk result (IsDone ((E.filter engine.old).so_far lines)
-        ((E.filter engine.old).whole lines) (E.has_ended engine.new lines)
-        (span W.Sink writer.old writer.new) (span M.Sink messages.old messages.new)) }
-    ensures cut { (lines : List InputLine) → E.shows engine.old lines []
-        → IfErr result (EndEndsRun (E.filter engine.old) lines
-        (span W.Sink writer.old writer.new) (span M.Sink messages.old messages.new)) }
+    ensures taken { EndIsTaken E.Engine engine.old engine.new (span W.Sink writer.old writer.new)
+        (span M.Sink messages.old messages.new) result }
     ensures order { KeepsOrder W.Sink writer.old writer.new messages.old messages.new }
 {
     let step = engine.end()?;

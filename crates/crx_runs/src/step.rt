@@ -22,8 +22,8 @@ pub(crate) fn step<E: Engine, R: Source, W: Sink, M: Sink>(
     messages: &mut M,
 ) -> Result<Option<bool>, Halt>
     requires can { CanStep E.Engine engine.old (reading input.old) }
-    ensures stepped { RunHasStepped E.Engine W.Sink engine.old engine.new (reading input.old) (reading input.new)
-        reader.old reader.new writer.old messages.old messages.new result }
+    ensures stepped { RunHasStepped E.Engine W.Sink engine.old engine.new (reading input.old)
+        (reading input.new) reader.old reader.new writer.old messages.old messages.new result }
     ensures goes { RunGoesOn E.Engine R.Source W.Sink M.Sink engine.old engine.new (reading input.old)
         (reading input.new) reader.old reader.new writer.old writer.new messages.old messages.new result }
     ensures handed_on { (reader.new ≡ reader.old)
@@ -61,8 +61,6 @@ fn hand_on<R: Source, W: Sink>(reader: &R, writer: &mut W) -> bool
     ensures still { result ≡ true → TookAll (span W.Sink writer.old writer.new) [] }
     ensures waited { result ≡ true → R.waits reader.now ≡ true → W.is_awaited writer.new ≡ true }
     ensures current { result ≡ true → W.is_awaited writer.new ≡ true → W.is_current writer.new }
-    ensures left_alone { R.waits reader.now ≡ false → W.is_awaited writer.old ≡ false
-        → result ≡ true → writer.new ≡ writer.old }
     ensures awaited { R.waits reader.now ≡ false → W.is_awaited writer.new ≡ W.is_awaited writer.old }
     ensures failed { result ≡ false → FlushFailed (span W.Sink writer.old writer.new) }
 {
@@ -88,8 +86,8 @@ fn read_step<E: Engine, R: Source, W: Sink, M: Sink>(
     requires handed_on { (R.waits reader.old ≡ true → W.is_awaited writer.old ≡ true)
         × (W.is_awaited writer.old ≡ true → W.is_current writer.old) }
     requires can { CanStep E.Engine engine.old (reading input.old) }
-    ensures stepped { RunHasStepped E.Engine W.Sink engine.old engine.new (reading input.old) (reading input.new)
-        reader.old reader.new writer.old messages.old messages.new result }
+    ensures stepped { RunHasStepped E.Engine W.Sink engine.old engine.new (reading input.old)
+        (reading input.new) reader.old reader.new writer.old messages.old messages.new result }
     ensures goes { RunGoesOn E.Engine R.Source W.Sink M.Sink engine.old engine.new (reading input.old)
         (reading input.new) reader.old reader.new writer.old writer.new messages.old messages.new result }
     ensures awaited { W.is_awaited writer.new ≡ W.is_awaited writer.old }

@@ -1,12 +1,10 @@
 //! A run that its caller takes from step to step.
 
-ghost use Rattle.std.specs.Prelude.{◌≡◌, ◌⊎◌, ◌≤◌, List, [], IfErr, IfOk, true, false};
+ghost use Rattle.std.specs.Prelude.{◌≡◌, ◌⊎◌, ◌≤◌, [], IfOk, true, false};
 ghost use Rattle.crx_base.specs.declared.limits.TheConstants.{INPUT_LIMIT};
-ghost use Rattle.crx_base.specs.meaning.Lines.{InputLine};
 ghost use Rattle.crx_lines.specs.Readers.{reading};
-ghost use Rattle.crx_runs.specs.Endings.{EndEndsRun};
 ghost use Rattle.crx_runs.specs.Running.{CanStep, RunGoesOn, RunHasStepped};
-ghost use Rattle.crx_runs.specs.Taking.{IsDone, KeepsOrder};
+ghost use Rattle.crx_runs.specs.Taking.{EndIsTaken, KeepsOrder};
 ghost use Rattle.crx_runs.specs.meaning.Spans.{span};
 
 use crate::engine::Engine;
@@ -54,10 +52,11 @@ impl<E: Engine + Drop> Run<E> {
         messages: &mut M,
     ) -> Result<Option<bool>, Halt>
         requires can { CanStep E.Engine self.old.engine (reading self.old.input) }
-        ensures stepped { RunHasStepped E.Engine W.Sink self.old.engine self.new.engine (reading self.old.input) (reading self.new.input)
-            reader.old reader.new writer.old messages.old messages.new result }
-        ensures goes { RunGoesOn E.Engine R.Source W.Sink M.Sink self.old.engine self.new.engine (reading self.old.input)
-            (reading self.new.input) reader.old reader.new writer.old writer.new messages.old messages.new result }
+        ensures stepped { RunHasStepped E.Engine W.Sink self.old.engine self.new.engine (reading self.old.input)
+            (reading self.new.input) reader.old reader.new writer.old messages.old messages.new result }
+        ensures goes { RunGoesOn E.Engine R.Source W.Sink M.Sink self.old.engine self.new.engine
+            (reading self.old.input) (reading self.new.input) reader.old reader.new writer.old writer.new
+            messages.old messages.new result }
         ensures handed_on { (reader.new ≡ reader.old)
             ⊎ (R.waits reader.old ≡ true → (then : W) × W.took writer.old [] then × W.is_current then) }
         ensures awaited { R.waits reader.old ≡ false → W.is_awaited writer.new ≡ W.is_awaited writer.old }
@@ -70,14 +69,8 @@ impl<E: Engine + Drop> Run<E> {
     pub fn end<W: Sink, M: Sink>(&mut self, writer: &mut W, messages: &mut M) -> Result<bool, Halt>
         requires drained { E.ready self.old.engine ≡ [] }
         requires within { E.taken self.old.engine ≤ INPUT_LIMIT }
-        ensures filter { E.filter self.new.engine ≡ E.filter self.old.engine }
-        ensures done { (lines : List InputLine) → E.shows self.old.engine lines []
-            → IfOk result (IsDone ((E.filter self.old.engine).so_far lines)
-            ((E.filter self.old.engine).whole lines) (E.has_ended self.new.engine lines)
-            (span W.Sink writer.old writer.new) (span M.Sink messages.old messages.new)) }
-        ensures cut { (lines : List InputLine) → E.shows self.old.engine lines []
-            → IfErr result (EndEndsRun (E.filter self.old.engine) lines
-            (span W.Sink writer.old writer.new) (span M.Sink messages.old messages.new)) }
+        ensures taken { EndIsTaken E.Engine self.old.engine self.new.engine (span W.Sink writer.old writer.new)
+            (span M.Sink messages.old messages.new) result }
         ensures order { KeepsOrder W.Sink writer.old writer.new messages.old messages.new }
     {
         take_end(&mut self.engine, writer, messages)

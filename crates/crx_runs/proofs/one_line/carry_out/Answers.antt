@@ -14,7 +14,11 @@ returns-in-Ok-write_all_counted-clause-settled g c =
     rw (c.in-Warned.is, drained) (
       record {
         good = refl;
-        wrote = (c.hand_on.ensures.none_taken, ap₂ sink_tally_of c.hand_on.ensures.good c.hand_on.ensures.unasked);
+        wrote = (
+          c.hand_on.ensures.none_taken,
+          ap₂ sink_tally_of c.hand_on.ensures.good
+              c.hand_on.ensures.unasked,
+        );
         reported = grind (arith, common_steps, append-nil);
       },
       refl,
@@ -28,7 +32,11 @@ returns-in-Err-write_all_counted-clause-settled g c =
     rw (c.in-Warned.is, drained) (record {
       notices = c.in-Warned.notice ∷ [];
       next = ([], refl);
-      wrote = (c.hand_on.ensures.none_taken, ap₂ sink_tally_of c.hand_on.ensures.good c.hand_on.ensures.unasked);
+      wrote = (
+        c.hand_on.ensures.none_taken,
+        ap₂ sink_tally_of c.hand_on.ensures.good
+            c.hand_on.ensures.unasked,
+      );
       reported = record {
         count = c.in-Err-write_all_counted.field-0.0;
         some = omega arith;

@@ -1,5 +1,5 @@
 use Rattle.std.proofs.lemmas.{Grind.common_steps, Result.err_from_is_err_and}
-use Rattle.std.proofs.Common.{◌≡◌, [], ◌∷◌, true, List, Ok, Some, arith, refl, sym, ◌∙◌}
+use Rattle.std.proofs.Common.{◌≡◌, [], ◌∷◌, true, List, Some, arith, refl, sym, ◌∙◌}
 use Rattle.crx_base.specs.Padded.{line_in}
 use Rattle.crx_base.specs.meaning.Lines.{InputLine}
 use Rattle.crx_lines.specs.Reading.{line_shown}
@@ -18,7 +18,8 @@ is-again = grind (arith, common_steps)
 abbrev awaited : (g : Over) → After-take g → InputLine → List Awaited
 awaited g c line = record { notice = c.in-Warned-default-true.notice; line = line } ∷ []
 
-first-out : (g : Over) (c : After-take g) → TookAll (span g.W.Sink c.args.writer.now c.carry_out.new.writer) []
+first-out : (g : Over) (c : After-take g) → TookAll (span g.W.Sink c.args.writer.now c.carry_out.new.writer)
+    []
     × TookAll (span g.M.Sink c.args.messages.now c.carry_out.new.messages)
     (notices_text (c.in-Warned-default-true.notice ∷ [])) × (c.in_ok-warned.warned ≡ true)
 first-out g c = again-out (g.E.Engine.ready c.args.engine.now) _ _ _ (is-again g c)
@@ -30,7 +31,8 @@ second : (g : Over) (c : After-take g) (lines : List InputLine) (line : InputLin
     (g.E.Engine.ready c.args.engine.now) lines [] line (g.E.Engine.answer c.args.engine.now)
     → line ≡ record { content = line_in c.args.content; is_plain = c.args.is_plain }
     → EngineAnswers (g.E.Engine.filter c.args.engine.now) (g.E.Engine.shows c.take.new.self) (lines_handed_out
-    c.take.result (line_shown c.of-line.result).content (g.E.Engine.ready c.take.new.self)) lines (awaited g c line)
+    c.take.result (line_shown c.of-line.result).content (g.E.Engine.ready c.take.new.self)) lines
+    (awaited g c line)
     line (answer_given c.take.result (g.E.Engine.answer c.take.new.self))
 second g c lines line a is =
     let kept = c.carry_out.ensures.kept in
@@ -41,7 +43,8 @@ second g c lines line a is =
 
 pub returns-in_err-warned-clause-taken : goal.returns-in_err-warned-clause-taken
 returns-in_err-warned-clause-taken g c =
-    let p = err_from_is_err_and c.from_residual-in_err-warned.result c.from_residual-in_err-warned.ensures.1 in
+    let p = err_from_is_err_and c.from_residual-in_err-warned.result c.from_residual-in_err-warned.ensures.1
+    in
     let is = sym c.answer.ensures.value ∙ c.in_ok-step.was in
     rw (p.1, p.2) (record {
       filter = c.carry_out.ensures.kept.filter;
@@ -49,8 +52,10 @@ returns-in_err-warned-clause-taken g c =
       done = λ lines line a same. tt;
       cut = λ lines line a same. line-cut (span-joins g.W.Sink g.met.W.Sink.took_both {a = c.args.writer.now}
           {b = c.args.writer.now}) (span-joins g.M.Sink g.met.M.Sink.took_both {a = c.args.messages.now}
-          {b = c.args.messages.now}) (g.E.Engine.filter c.args.engine.now) lines line [] (g.met.W.Sink.took_none _, refl)
-          (g.met.M.Sink.took_none _, refl) (g.E.Engine.shows c.args.engine.now) (g.E.Engine.ready c.args.engine.now)
+          {b = c.args.messages.now}) (g.E.Engine.filter c.args.engine.now) lines line []
+          (g.met.W.Sink.took_none _, refl)
+          (g.met.M.Sink.took_none _, refl) (g.E.Engine.shows c.args.engine.now)
+          (g.E.Engine.ready c.args.engine.now)
           c.in_ok-step.step (rw (is) at c.requires.drained) (rw (is) at a) _ c.in_err-warned.ensures.settled;
     })
 
@@ -65,10 +70,14 @@ returns-in-Ok-clause-taken g c =
       drained = c.in-Ok.ensures.drained;
       done = λ lines line a is. handed-done (span-joins g.W.Sink g.met.W.Sink.took_both)
           (span-joins g.M.Sink g.met.M.Sink.took_both) (g.E.Engine.filter c.args.engine.now) lines line
-          (awaited g at line) out.0 out.1 (g.E.Engine.shows then) (lines_handed_out (Some c.in-Some.handed_out)
-          (line_shown c.of-line.result).content (g.E.Engine.ready then)) c.in-Some.handed_out (g.E.Engine.answer then)
-          (rw c.in-Some.is at (second g at lines line a is)) (rw c.in-Some.is at c.take.ensures.stepped.drained) _
-          (kept.shows _ []) (rw (c.bytes.ensures.content) at c.in-Ok.ensures.all) (g.met.M.Sink.took_none _, refl) _ out.2;
+          (awaited g at line) out.0 out.1 (g.E.Engine.shows then)
+          (lines_handed_out (Some c.in-Some.handed_out)
+          (line_shown c.of-line.result).content (g.E.Engine.ready then)) c.in-Some.handed_out
+          (g.E.Engine.answer then)
+          (rw c.in-Some.is at (second g at lines line a is)) (rw c.in-Some.is at
+          c.take.ensures.stepped.drained) _
+          (kept.shows _ []) (rw (c.bytes.ensures.content) at c.in-Ok.ensures.all)
+          (g.met.M.Sink.took_none _, refl) _ out.2;
       cut = λ lines line a is. tt;
     }
 
@@ -78,14 +87,18 @@ returns-in-Err-clause-taken g c =
     let then = c.take.new.self in
     let out = first-out g at in
     record {
-      filter = c.write_handed_out.ensures.kept.filter ∙ c.take.ensures.stepped.filter ∙ c.carry_out.ensures.kept.filter;
+      filter = c.write_handed_out.ensures.kept.filter ∙ c.take.ensures.stepped.filter ∙
+          c.carry_out.ensures.kept.filter;
       drained = tt;
       done = λ lines line a is. tt;
       cut = λ lines line a is. handed-cut (span-joins g.W.Sink g.met.W.Sink.took_both)
           (span-joins g.M.Sink g.met.M.Sink.took_both) (g.E.Engine.filter c.args.engine.now) lines line
-          (awaited g at line) out.0 out.1 (g.E.Engine.shows then) (lines_handed_out (Some c.in-Some.handed_out)
-          (line_shown c.of-line.result).content (g.E.Engine.ready then)) c.in-Some.handed_out (g.E.Engine.answer then)
-          (rw c.in-Some.is at (second g at lines line a is)) (rw c.in-Some.is at c.take.ensures.stepped.drained)
+          (awaited g at line) out.0 out.1 (g.E.Engine.shows then)
+          (lines_handed_out (Some c.in-Some.handed_out)
+          (line_shown c.of-line.result).content (g.E.Engine.ready then)) c.in-Some.handed_out
+          (g.E.Engine.answer then)
+          (rw c.in-Some.is at (second g at lines line a is)) (rw c.in-Some.is at
+          c.take.ensures.stepped.drained)
           (rw (c.bytes.ensures.content) at c.in-Err.ensures.part) (g.met.M.Sink.took_none _, refl);
     }
 
@@ -98,14 +111,17 @@ returns-in_err-carry_out-in-None-clause-taken g c =
     let p = err_from_is_err_and made.result made.ensures.1 in
     let is = sym c.answer-in-None.ensures.value ∙ c.in_ok-second-in-None.was in
     rw (p.1, p.2) (record {
-      filter = c.carry_out-in-None.ensures.kept.filter ∙ c.take.ensures.stepped.filter ∙ c.carry_out.ensures.kept.filter;
+      filter = c.carry_out-in-None.ensures.kept.filter ∙ c.take.ensures.stepped.filter ∙
+          c.carry_out.ensures.kept.filter;
       drained = tt;
       done = λ lines line a same. tt;
       cut = λ lines line a same. line-cut (span-joins g.W.Sink g.met.W.Sink.took_both)
           (span-joins g.M.Sink g.met.M.Sink.took_both) (g.E.Engine.filter c.args.engine.now) lines line
-          (awaited g at line) out.0 out.1 (g.E.Engine.shows then) (g.E.Engine.ready then) c.in_ok-second-in-None.second
+          (awaited g at line) out.0 out.1 (g.E.Engine.shows then) (g.E.Engine.ready then)
+          c.in_ok-second-in-None.second
           (rw (c.in-None.is, is) at c.take.ensures.stepped.drained)
-          (rw (c.in-None.is, is) at (second g at lines line a same)) _ c.in_err-carry_out-in-None.ensures.settled;
+          (rw (c.in-None.is, is) at (second g at lines line a same)) _
+          c.in_err-carry_out-in-None.ensures.settled;
     })
 
 pub returns-in_ok-carry_out-in-None-clause-taken : goal.returns-in_ok-carry_out-in-None-clause-taken
@@ -120,10 +136,13 @@ returns-in_ok-carry_out-in-None-clause-taken g c =
       drained = c.in_ok-carry_out-in-None.ensures.drained;
       done = λ lines line a same. let answered = rw (c.in-None.is, is) at (second g at lines line a same) in
           line-done (span-joins g.W.Sink g.met.W.Sink.took_both) (span-joins g.M.Sink g.met.M.Sink.took_both)
-          (g.E.Engine.filter c.args.engine.now) lines line (awaited g at line) out.0 out.1 (g.E.Engine.shows then)
+          (g.E.Engine.filter c.args.engine.now) lines line (awaited g at line) out.0 out.1
+          (g.E.Engine.shows then)
           (g.E.Engine.ready then) c.in_ok-second-in-None.second
-          (stays-then (g.E.Engine.filter c.args.engine.now) (g.E.Engine.shows then) (g.E.Engine.ready then) lines
-          (record { notice = c.in-Warned-default-true.notice; line = line }) line c.in_ok-second-in-None.second answered)
+          (stays-then (g.E.Engine.filter c.args.engine.now) (g.E.Engine.shows then) (g.E.Engine.ready then)
+          lines
+          (record { notice = c.in-Warned-default-true.notice; line = line }) line
+          c.in_ok-second-in-None.second answered)
           (rw (c.in-None.is, is) at c.take.ensures.stepped.drained) answered _ (kept.shows _ [])
           c.in_ok-carry_out-in-None.ensures.settled.0 _ out.2;
       cut = λ lines line a same. tt;

@@ -1,7 +1,7 @@
 use Rattle.std.proofs.Common.{◌≡◌, [], Bool, List, Some, ℕ, arith, refl, sym, ◌∙◌}
 use Rattle.crx_base.specs.meaning.Lines.{InputLine}
 use Rattle.crx_lines.specs.Reading.{line_shown}
-use Rattle.crx_runs.proofs.{DeviceSpans.span-joins, LinesTaken.{handed-cut, handed-done}}
+use Rattle.crx_runs.proofs.{DeviceSpans.span-joins, LinesTaken.{handed-cut}}
 use Rattle.crx_runs.proofs.one_line.take_line.{Given.Over, Goals.After-take}
 use Rattle.crx_runs.specs.Engines.{EngineAnswers, answer_given, lines_handed_out}
 use Rattle.crx_runs.proofs.one_line.take_line.Goals as goal
@@ -10,7 +10,8 @@ use Rattle.crx_runs.proofs.one_line.take_line.Goals as goal
 answered : (g : Over) (c : After-take g) (lines : List InputLine) (line : InputLine)
     → g.E.Engine.shows c.args.engine.now lines [] → line ≡ line_shown c.args.line
     → EngineAnswers (g.E.Engine.filter c.args.engine.now) (g.E.Engine.shows c.take.new.self)
-    (lines_handed_out c.take.result (line_shown c.args.line).content (g.E.Engine.ready c.take.new.self)) lines [] line
+    (lines_handed_out c.take.result (line_shown c.args.line).content (g.E.Engine.ready c.take.new.self)) lines
+    [] line
     (answer_given c.take.result (g.E.Engine.answer c.take.new.self))
 answered g c lines line shown is = rw (is) (c.take.ensures.answers lines [] shown tt)
 
@@ -20,15 +21,19 @@ returns-in-Err-clause-taken g c =
     let w = c.args.writer.now in
     let m = c.args.messages.now in
     let then = c.take.new.self in
-    let ready = lines_handed_out (Some c.in-Some.handed_out) (line_shown c.args.line).content (g.E.Engine.ready then) in
+    let ready = lines_handed_out (Some c.in-Some.handed_out) (line_shown c.args.line).content
+    (g.E.Engine.ready then) in
     record {
       filter = c.write_handed_out.ensures.kept.filter ∙ c.take.ensures.stepped.filter;
       drained = tt;
       done = λ lines line shown is. tt;
       cut = λ lines line shown is. handed-cut (span-joins g.W.Sink g.met.W.Sink.took_both {a = w} {b = w})
-          (span-joins g.M.Sink g.met.M.Sink.took_both {a = m} {b = m}) (g.E.Engine.filter c.args.engine.now) lines line [] (g.met.W.Sink.took_none _, refl)
-          (g.met.M.Sink.took_none _, refl) (g.E.Engine.shows then) ready c.in-Some.handed_out (g.E.Engine.answer then)
-          (rw c.in-Some.is at (answered g at lines line shown is)) (rw c.in-Some.is at c.take.ensures.stepped.drained)
+          (span-joins g.M.Sink g.met.M.Sink.took_both {a = m} {b = m}) (g.E.Engine.filter c.args.engine.now)
+          lines line [] (g.met.W.Sink.took_none _, refl)
+          (g.met.M.Sink.took_none _, refl) (g.E.Engine.shows then) ready c.in-Some.handed_out
+          (g.E.Engine.answer then)
+          (rw c.in-Some.is at (answered g at lines line shown is))
+          (rw c.in-Some.is at c.take.ensures.stepped.drained)
           (rw (c.bytes.ensures.content) at c.in-Err.ensures.part) (g.met.M.Sink.took_none _, refl);
     }
 

@@ -16,9 +16,11 @@ returns-in_err-step-clause-taken g c =
       drained = tt;
       done = λ lines line shown long. tt;
       cut = λ lines line shown long. line-refused (span-joins g.W.Sink g.met.W.Sink.took_both {a = w} {b = w})
-          (span-joins g.M.Sink g.met.M.Sink.took_both {a = m} {b = m}) (g.E.Engine.filter c.args.engine.now) lines line []
+          (span-joins g.M.Sink g.met.M.Sink.took_both {a = m} {b = m}) (g.E.Engine.filter c.args.engine.now)
+          lines line []
           (g.met.W.Sink.took_none _, refl) (g.met.M.Sink.took_none _, refl) (g.E.Engine.shows then)
-          (g.E.Engine.ready then) _ (rw c.in_err-step.was at (c.overlong.ensures.answers lines [] line shown tt long))
+          (g.E.Engine.ready then) _ (rw c.in_err-step.was at (c.overlong.ensures.answers lines [] line shown
+          tt long))
           (inl refl) (g.met.W.Sink.took_none _, refl) (g.met.M.Sink.took_none _, refl);
     })
 
@@ -28,9 +30,11 @@ returns-clause-taken g c =
     let m = c.args.messages.now in
     let then = c.overlong.new.self in
     let kept = c.carry_out.ensures.kept in
-    let settled = λ (lines : List InputLine) (line : InputLine) (shown : g.E.Engine.shows c.args.engine.now lines [])
+    let settled = λ (lines : List InputLine) (line : InputLine)
+    (shown : g.E.Engine.shows c.args.engine.now lines [])
     (long : is_long line ≡ true). line-settled (span-joins g.W.Sink g.met.W.Sink.took_both {a = w} {b = w})
-    (span-joins g.M.Sink g.met.M.Sink.took_both {a = m} {b = m}) (g.E.Engine.filter c.args.engine.now) lines line []
+    (span-joins g.M.Sink g.met.M.Sink.took_both {a = m} {b = m}) (g.E.Engine.filter c.args.engine.now) lines
+    line []
     (g.met.W.Sink.took_none _, refl) (g.met.M.Sink.took_none _, refl) (g.E.Engine.shows then)
     (g.E.Engine.ready then) c.in_ok-step.step (rw c.in_ok-step.was at c.overlong.ensures.once)
     (rw c.in_ok-step.was at c.overlong.ensures.stepped.drained)

@@ -1,6 +1,6 @@
 use Rattle.std.proofs.{lemmas.Grind.common_steps, lemmas.Result.err_from_is_err_and, Common.{◌≡◌, arith, ⊎_elim, inl, inr, [], Ok, None, refl, sym, ap, ◌∙◌, subst}}
 use Rattle.crx_base.specs.declared.fault.Fault.TheVariants.{LineTooLong}
-use Rattle.crx_lines.specs.{Readers.reading, Reading.{AnswersHeld, HasNoFeed, line_number, line_shown}, Reading.ReaderState}
+use Rattle.crx_lines.specs.{Readers.reading, Reading.{HasNoFeed}, Reading.ReaderState}
 use Rattle.crx_lines.specs.declared.phase.Phase.TheVariants.{Open}
 use Rattle.crx_lines.specs.meaning.Devices.{Tally, tally_of}
 use Rattle.crx_runs.proofs.StepReading.{HasAsked, err-not-none, has-no-feed, held-asked, line-read, overlong-read, some-not-none}

@@ -39,7 +39,8 @@ end-done : (g : Over) (c : In-Ok g) → g.E.Engine.shows c.step.new.engine c.lin
     ((g.E.Engine.filter c.args.engine.now).whole c.lines.invariant.0.0) (g.E.Engine.has_ended
     c.take_end.new.engine c.lines.invariant.0.0) (span g.W.Sink c.step.new.writer c.take_end.new.writer)
     (span g.M.Sink c.step.new.messages c.take_end.new.messages) c.in-Ok.warning
-end-done g c shown = rw (← c.lines.invariant.2, ← c.step.ensures.stepped.filter) (c.in-Ok.ensures.done _ shown)
+end-done g c shown = rw (← c.lines.invariant.2, ← c.step.ensures.stepped.filter)
+    (c.in-Ok.ensures.taken.done _ shown)
 
 pub returns-then-warned-2 : goal.returns-then-warned-2
 returns-then-warned-2 g c =
@@ -73,7 +74,8 @@ returns-in-Err-take_end g c =
     inr (inl (stopped-end (span-joins g.W.Sink g.met.W.Sink.took_both) (span-joins g.M.Sink
     g.met.M.Sink.took_both)
     comes c.number-last.ensures.value c.in-Err-take_end.halt
-    (rw (c.step.ensures.stepped.filter, c.lines.invariant.2) at (c.in-Err-take_end.ensures.cut _ comes.shown))))
+    (rw (c.step.ensures.stepped.filter, c.lines.invariant.2) at
+    (c.in-Err-take_end.ensures.taken.cut _ comes.shown))))
 
 pub returns-in-Err : goal.returns-in-Err
 returns-in-Err g c = inl (record {

@@ -1,10 +1,9 @@
 use Rattle.std.proofs.Common.{rules, arith, ◌≤◌, ◌<◌, ◌^◌, decimal, length, ℕ}
 use Rattle.std.proofs.lemmas.Grind.{common_steps}
-use Rattle.std.proofs.lemmas.{Fmt.{length-decimal-le}, List.{drop_all}}
+use Rattle.std.proofs.lemmas.{Fmt.{length-decimal-le}}
 use Rattle.crx_base.specs.meaning.Faults.{words_of_fault}
 use Rattle.crx_base.specs.declared.fault.Fault.{Fault}
-use Rattle.crx_runs.specs.declared.message.TheConstants.{MESSAGE_LIMIT}
-use Rattle.crx_runs.proofs.message.put_message.Goals as goal
+use Rattle.crx_runs.proofs.message.message.Goals as goal
 
 -- A fault's words and numbers are short.
 words_short : (fault : Fault) → length (words_of_fault fault) ≤ 23
@@ -30,13 +29,3 @@ put_before-start-requires-in-Error = grind (arith, common_steps, words_short, co
 
 pub put_before-start-requires-in-Warning : goal.put_before-start-requires-in-Warning
 put_before-start-requires-in-Warning = grind (arith, common_steps, words_short, code_short, line_short)
-
-pub returns-in-Error-clause-written : goal.returns-in-Error-clause-written
-returns-in-Error-clause-written c =
-    let none = drop_all MESSAGE_LIMIT c.args.bytes.now (omega arith) in
-    grind (arith, common_steps, none)
-
-pub returns-in-Warning-clause-written : goal.returns-in-Warning-clause-written
-returns-in-Warning-clause-written c =
-    let none = drop_all MESSAGE_LIMIT c.args.bytes.now (omega arith) in
-    grind (arith, common_steps, none)
