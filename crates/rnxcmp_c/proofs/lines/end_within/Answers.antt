@@ -22,10 +22,10 @@ came g c lines shown =
     let held = c.args.held.now in
     let taken = c.take_end-taken in (
       IfOk-weaker taken.result _ _
-          (grind (arith, common_steps, kept-where_done)) (taken.ensures.done lines shown),
+          (grind (arith, common_steps, kept-where_done)) (taken.ensures.taken.done lines shown),
       IfErr-weaker taken.result _ _
           (λ halt cut. halted-stops _ _ held.output taken.new.writer held.messages taken.new.messages
-          held.number _ halt cut.0) (taken.ensures.cut lines shown),
+          held.number _ halt cut.0) (taken.ensures.taken.cut lines shown),
     )
 
 pub counted-requires : goal.counted-requires
