@@ -1,5 +1,5 @@
 -- The state of an engine of a direction.
-use Rattle.std.specs.Prelude.{◌≡◌, ⊤, ℕ, Bool, true, false, List, [], length, Option, Result, Ok, Err}
+use Rattle.std.specs.Prelude.{◌≡◌, ⊤, ℕ, true, List, [], length, Option, Result, Ok, Err}
 use Rattle.std.specs.Prelude.{IfOk, OnErr}
 use Rattle.crx_base.specs.meaning.Choices.{Choices}
 use Rattle.crx_base.specs.declared.fault.At.{At}
@@ -9,7 +9,7 @@ use Rattle.crx_filter.specs.EngineLines.{HasTaken}
 use Rattle.crx_filter.specs.DirectionParts.{EngineParts, HasClosed, HasEnough, HasStopped, ComesAfter, TakesLine}
 use Rattle.crx_filter.specs.DirectionParts.{state_by}
 use Rattle.crx_filter.specs.LineByLine.{Ended, RunState, state_end_with, state_next}
-use Rattle.crx_runs.specs.Engines.{Awaited, Concludes, EngineAnswers, IsAwaited, IsNextLine, answer_given}
+use Rattle.crx_runs.specs.Engines.{Awaited, Concludes, EngineAnswers, IsAwaited, answer_given}
 use Rattle.crx_runs.specs.Engines.{lines_handed_out}
 use Rattle.crx_filter.specs.EngineLaws.{GoesLineByLine}
 use Rattle.crx_filter.specs.EngineSteps.{step_made}
@@ -18,12 +18,6 @@ use Rattle.crx_runs.specs.declared.engine.Step.{Step}
 use Rattle.crx_runs.specs.declared.engine.Step.TheVariants.{Warned}
 use Rattle.crx_runs.specs.meaning.Filters.{with_next}
 use Rattle.crx_filter.specs.declared.direction.Direction.{Ghosts}
-
--- whether a line was refused: with a warning, or with a fault
-abbrev pub is_refusal : Result Step At → Bool
-is_refusal (Ok (Warned notice again)) = true
-is_refusal (Err at) = true
-is_refusal result = false
 
 -- what is known after the answer to a line: of those before it where it is to come again, and else of it too; by an error
 -- nothing more
@@ -49,39 +43,31 @@ module _ {D : Type 0} (d : Ghosts D) where
   -- it has taken these lines, and its direction knows what there is to know of them; where one is to come a second
   -- time, it has answered this warning to it
   abbrev pub engine_took : EngineParts D → List InputLine → List Awaited → Type 0
-  engine_took e lines notices = engine_seen e lines notices × d.knows e.direction e.options lines
-
-  -- it can be given a line of this number
-  abbrev pub EngineAwaits : EngineParts D → ℕ → Type 0
-  EngineAwaits e number = IsNextLine (engine_ready e) e.number number
+  engine_took e lines notices = engine_seen e lines notices × d.notes e.direction e.options lines
 
   -- it goes line by line as its filter says, and there is room for a line that needs no more than those before it
   -- did
   pub record EngineGoes (e : EngineParts D) : Type 0 where
     pub chosen : d.chosen e.options ≡ e.options
     pub lawful : GoesLineByLine d.by_line (d.closing_after e.options) (d.state_after_lines e.options)
-        (d.outgrows e.options) (d.filter e.options)
-    pub enough : HasEnough d.by_line d.chosen d.state_after_lines d.outgrows (d.parts e.direction)
-        (d.knows e.direction) (d.has_room e.direction)
-
-  -- it has taken a line with this content, which hands out the lines that are ready, and itself where it is copied, or what is
-  -- stored is answered
-  abbrev pub EngineTakes : EngineParts D → List ℕ → Option HandedOut → EngineParts D → Type 0
-  EngineTakes before line out after = TakesLine d.by_line (engine_state before) (Content line)
-      (d.has_room before.direction line) (answer_given out after.answer)
-      (lines_handed_out out line (engine_ready after)) (engine_state after)
+        (d.needs_more e.options) (d.filter e.options)
+    pub enough : HasEnough d.by_line d.chosen d.state_after_lines d.needs_more (d.parts e.direction)
+        (d.notes e.direction) (d.has_room e.direction)
 
   -- what its direction knows of the lines that it has taken, it knows of the next one too, once that counts
   abbrev pub EngineNotes : EngineParts D → InputLine → Result Step At → EngineParts D → Type 0
   EngineNotes before line result after = (lines : List InputLine) → before.number ≡ length lines
       → ComesAfter d.by_line d.chosen d.state_after_lines before.options lines line (d.parts before.direction)
-      → d.knows before.direction before.options lines
-      → KnowsAfter (d.knows after.direction before.options) lines line result
+      → d.notes before.direction before.options lines
+      → KnowsAfter (d.notes after.direction before.options) lines line result
 
-  -- both
+  -- it has taken a line, which hands out the lines that are ready, and itself where it is copied, or what is stored is
+  -- answered; and what its direction knows it knows of that line too
   pub record EngineReads (before : EngineParts D) (line : InputLine) (out : Option HandedOut)
       (after : EngineParts D) : Type 0 where
-    pub takes : EngineTakes before line.content out after
+    pub takes : TakesLine d.by_line (engine_state before) (Content line.content)
+        (d.has_room before.direction line.content) (answer_given out after.answer)
+        (lines_handed_out out line.content (engine_ready after)) (engine_state after)
     pub notes : EngineNotes before line (answer_given out after.answer) after
 
   -- it has taken a line that is too long
@@ -92,7 +78,7 @@ module _ {D : Type 0} (d : Ghosts D) where
   -- what it had noted of some lines it has noted after a fault too
   abbrev pub EngineKeepsNotes : EngineParts D → Result Step At → EngineParts D → Type 0
   EngineKeepsNotes before result after = (choices : Choices) (lines : List InputLine)
-      → d.knows before.direction choices lines → OnErr result (d.knows after.direction choices lines)
+      → d.notes before.direction choices lines → OnErr result (d.notes after.direction choices lines)
 
   -- it has answered to a line, read so, and these lines are ready then. The line is taken. After the lines that it has
   -- taken, and where it makes its own step after any that leave what is seen of it, the answer and the lines that are
@@ -121,6 +107,6 @@ module _ {D : Type 0} (d : Ghosts D) where
         → d.closing before.direction ≡ d.closing_after before.options lines
         → Concludes (d.filter before.options) ready lines result
     pub found : (lines : List InputLine) → engine_took before lines []
-        → IfOk result (λ step. d.has_found after.direction lines)
+        → IfOk result (λ step. d.report_is after.direction lines)
     pub repeated : (at : At) → (engine_state before).phase ≡ Ended at → result ≡ Err at
     pub stays : EngineKeepsNotes before result after

@@ -6,7 +6,7 @@ use Rattle.crx_filter.specs.declared.rinex_reader.RinexReader.{RinexReader}
 use Rattle.crx_filter.specs.declared.compaction.Compaction.TheInside.{Inside as CompactionInside}
 use Rattle.crx_filter.specs.declared.compact_reader.CompactReader.{CompactReader}
 use Rattle.crx_filter.specs.CompactionParts.{CompactionState}
-use Rattle.crx_filter.specs.declared.engine.Engine.TheInside.{Inside as EngineInside}
+use Rattle.crx_filter.specs.declared.engine.LineEngine.TheInside.{Inside as EngineInside}
 use Rattle.crx_filter.specs.declared.expansion.Expansion.TheInside.{Inside as ExpansionInside}
 use Rattle.crx_filter.specs.ExpansionParts.{ExpansionState}
 use Rattle.crx_filter.specs.declared.lender.Lender.TheInside.{Inside as LenderInside}

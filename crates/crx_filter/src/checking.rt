@@ -20,7 +20,7 @@ ghost use Rattle.crx_filter.specs.declared.rinex_reader.RinexReader.{RinexReader
 ghost use Rattle.crx_filter.specs.declared.rinex_reader.RinexStep.{RinexStep};
 
 use crate::direction::Direction;
-use crate::engine::Engine;
+use crate::engine::LineEngine;
 use crate::lender::Lender;
 use crate::report::{REPORT_LINES, Totals, print_report_line};
 use crate::rinex_reader::{RinexReader, RinexStep};
@@ -195,17 +195,17 @@ impl Direction for Checking {
 
     ghost counted = { λ c. c.noted.totals.epochs + c.noted.totals.events };
 
-    ghost serves = { λ c choices. true };
+    ghost was_begun_by = { λ c choices. true };
 
     ghost takes_at_start = { false };
 
     ghost has_room = { λ c line. HaveTypes c.reader.stage c.reader.types };
 
-    ghost knows = { λ c choices lines. HasNoted c lines };
+    ghost notes = { λ c choices lines. HasNoted c lines };
 
-    ghost has_found = { HasFound };
+    ghost report_is = { HasFound };
 
-    ghost outgrows = { λ choices lines line. true };
+    ghost needs_more = { λ choices lines line. true };
 
     ghost skipping = { λ c choices lines taken skips. never_skips choices taken skips };
 
@@ -238,13 +238,13 @@ impl Direction for Checking {
     }
 
     #[inline(always)]
-    fn go_on(&mut self, line: Line<'_>) -> Result<bool, Fault> {
+    fn take_in_epoch(&mut self, line: Line<'_>) -> Result<bool, Fault> {
         let step = take_row(&mut self.reader, &mut self.names, line.padded())?;
         self.noted.note(&self.reader, step, line);
         Ok(false)
     }
 
-    fn take(&mut self, _options: &Options, line: Line<'_>) -> Result<HandedOut, Fault> {
+    fn take_elsewhere(&mut self, _options: &Options, line: Line<'_>) -> Result<HandedOut, Fault> {
         let step = self.reader.take(line.bytes())?;
         clear_if_begun(&mut self.names, step);
         self.noted.note(&self.reader, step, line);
@@ -284,7 +284,7 @@ impl Direction for Checking {
     }
 }
 
-impl Engine<Checking> {
+impl LineEngine<Checking> {
     /// The number of the first line that isn't standard, among the lines so far.
     pub fn not_standard(&self) -> Option<u64>
         ensures value { result ≡ self.now.direction.noted.not_standard }

@@ -10,7 +10,7 @@ ghost use Rattle.crx_runs.specs.meaning.Spans.{reader_span, span};
 ghost use Rattle.crx_filter.specs.meaning.Standard.{checked, report_status};
 
 use crate::checking::{Checking, no_options};
-use crate::engine::Engine;
+use crate::engine::LineEngine;
 use crx_lines::{Sink, Source};
 use crx_runs::Outcome;
 use crx_runs::run::run;
@@ -57,12 +57,12 @@ pub fn check<R: Source, W: Sink, M: Sink>(
         (reader_span R.Source reader.old reader.new)
         (span W.Sink writer.old writer.new) (span M.Sink messages.old messages.new) result.fault }
 {
-    match Engine::<Checking>::new(alloc, no_options()) {
+    match LineEngine::<Checking>::new(alloc, no_options()) {
         Ok(mut engine) => {
             let outcome = run(alloc, &mut engine, reader, writer, messages);
             outcome_of_check(outcome, engine.not_standard())
         }
-        Err(error) => start::<Engine<Checking>, R, W, M>(
+        Err(error) => start::<LineEngine<Checking>, R, W, M>(
             alloc,
             Err(error),
             reader,

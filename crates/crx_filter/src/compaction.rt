@@ -138,18 +138,18 @@ impl Direction for Compaction {
 
     ghost counted = { λ c. c.index };
 
-    ghost serves = { λ c choices. is_full_where_due c.reader.stage c.encoder.in_full
+    ghost was_begun_by = { λ c choices. is_full_where_due c.reader.stage c.encoder.in_full
         (is_at_every choices.every c.index) };
 
     ghost takes_at_start = { true };
 
     ghost has_room = { λ c. HasRoomInCompaction c.reader c.encoder.rooms };
 
-    ghost knows = { λ c choices lines. HaveEpochsRoom c.encoder.rooms (rinex_epochs choices lines) };
+    ghost notes = { λ c choices lines. HaveEpochsRoom c.encoder.rooms (rinex_epochs choices lines) };
 
-    ghost has_found = { λ c lines. ⊤ };
+    ghost report_is = { λ c lines. ⊤ };
 
-    ghost outgrows = { compaction_line_outgrows };
+    ghost needs_more = { compaction_line_outgrows };
 
     ghost skipping = { λ c choices lines taken skips. tt };
 
@@ -172,7 +172,7 @@ impl Direction for Compaction {
     }
 
     #[inline(always)]
-    fn go_on(&mut self, line: Line<'_>) -> Result<bool, Fault> {
+    fn take_in_epoch(&mut self, line: Line<'_>) -> Result<bool, Fault> {
         let is_last = take_row(&mut self.reader, &mut self.encoder, line.padded())?;
         if !is_last {
             return Ok(false);
@@ -182,7 +182,7 @@ impl Direction for Compaction {
         Ok(true)
     }
 
-    fn take(&mut self, options: &Options, line: Line<'_>) -> Result<HandedOut, Fault> {
+    fn take_elsewhere(&mut self, options: &Options, line: Line<'_>) -> Result<HandedOut, Fault> {
         match self.reader.take(line.bytes())? {
             RinexStep::Nothing => Ok(HandedOut::Nothing),
             RinexStep::Begun => {

@@ -56,7 +56,7 @@ pub trait Direction: Drop {
     ghost counted: { Self → ℕ };
 
     // What it has open was begun by these choices.
-    ghost serves: { Self → Choices → Bool };
+    ghost was_begun_by: { Self → Choices → Bool };
 
     // Whether it takes memory before the first line.
     ghost takes_at_start: { Bool };
@@ -66,18 +66,18 @@ pub trait Direction: Drop {
 
     // What it knows of these lines by these choices, beside what is seen of it: that there is room for the
     // satellites of their epochs, or what a check has noted of them.
-    ghost knows: { Self → Choices → List InputLine → Type 0 };
+    ghost notes: { Self → Choices → List InputLine → Type 0 };
 
     // What it has found in these lines at a good end.
-    ghost has_found: { Self → List InputLine → Type 0 };
+    ghost report_is: { Self → List InputLine → Type 0 };
 
     // Whether a line that comes after these may need more memory than they did; where none is needed at all,
     // either may be said. The filter is held to say the same (`lawful`).
-    ghost outgrows: { Choices → List InputLine → InputLine → Bool };
+    ghost needs_more: { Choices → List InputLine → InputLine → Bool };
 
     // One that skips faults has nothing to find.
     ghost skipping: { (d : Self) (choices : Choices) (lines : List InputLine)
-        → chosen choices ≡ choices → choices.skip ≡ true → has_found d lines };
+        → chosen choices ≡ choices → choices.skip ≡ true → report_is d lines };
 
     /// The user's choices, as it takes them.
     fn chosen(options: Options) -> Options
@@ -90,38 +90,38 @@ pub trait Direction: Drop {
             → IfOk result (λ d. state_by choices 0 (parts d) ≡ state_after_lines choices []) }
         ensures drained { IfOk result (λ d. ready d ≡ []) }
         ensures counted { IfOk result (λ d. counted d ≡ 0) }
-        ensures serves { (choices : Choices) → IfOk result (λ d. serves d choices ≡ true) }
-        ensures knows { (choices : Choices) → IfOk result (λ d. knows d choices []) }
+        ensures serves { (choices : Choices) → IfOk result (λ d. was_begun_by d choices ≡ true) }
+        ensures knows { (choices : Choices) → IfOk result (λ d. notes d choices []) }
         ensures asked { OnErr result (takes_at_start ≡ true) };
 
     /// Where it is between two lines.
     fn stage(&self) -> Stage
         ensures value { result ≡ (parts self.now).stage }
         ensures held { is_held result (parts self.now).begun ≡ true }
-        ensures lawful { IsLawfulDirection by_line chosen closing_after state_after_lines outgrows filter }
-        ensures passes { KnowsStill by_line chosen state_after_lines (parts self.now) (knows self.now) }
-        ensures enough { HasEnough by_line chosen state_after_lines outgrows (parts self.now)
-            (knows self.now) (has_room self.now) };
+        ensures lawful { IsLawfulDirection by_line chosen closing_after state_after_lines needs_more filter }
+        ensures passes { KnowsStill by_line chosen state_after_lines (parts self.now) (notes self.now) }
+        ensures enough { HasEnough by_line chosen state_after_lines needs_more (parts self.now)
+            (notes self.now) (has_room self.now) };
 
     /// Takes a line of an open epoch: `true` says that lines are ready.
-    fn go_on(&mut self, line: Line<'_>) -> Result<bool, Fault>
+    fn take_in_epoch(&mut self, line: Line<'_>) -> Result<bool, Fault>
         requires open { is_open_stage (parts self.old).stage ≡ true }
         requires asked { AwaitsLine (ready self.old) (counted self.old) }
-        ensures takes { DirectionTakes by_line chosen state_after_lines (λ choices. serves self.old choices ≡ true)
+        ensures takes { DirectionTakes by_line chosen state_after_lines (λ choices. was_begun_by self.old choices ≡ true)
             (parts self.old) (line_number line.entry) (line_shown line.entry) (has_room self.old (line_shown line.entry).content)
-            result (ready self.new) (parts self.new) (serves self.new) (counted self.old) (counted self.new)
-            (knows self.old) (knows self.new) };
+            result (ready self.new) (parts self.new) (was_begun_by self.new) (counted self.old) (counted self.new)
+            (notes self.old) (notes self.new) };
 
     /// Takes a line where no epoch is open, and answers what it hands out: a line that is copied, after those
     /// that are ready.
-    fn take(&mut self, options: &Options, line: Line<'_>) -> Result<HandedOut, Fault>
+    fn take_elsewhere(&mut self, options: &Options, line: Line<'_>) -> Result<HandedOut, Fault>
         requires running { is_ended (parts self.old).stage ≡ false }
         requires closed { is_open_stage (parts self.old).stage ≡ false }
         requires asked { AwaitsLine (ready self.old) (counted self.old) }
         ensures takes { DirectionTakes by_line chosen state_after_lines (λ choices. choices ≡ options.now)
             (parts self.old) (line_number line.entry) (line_shown line.entry) (has_room self.old (line_shown line.entry).content)
             (hands_out result) (handed_out_by result (line_shown line.entry).content (ready self.new)) (parts self.new)
-            (serves self.new) (counted self.old) (counted self.new) (knows self.old) (knows self.new) };
+            (was_begun_by self.new) (counted self.old) (counted self.new) (notes self.old) (notes self.new) };
 
     /// Goes to a stage after a fault, and forgets the epochs before, but not what is noted of lines.
     fn end_with(&mut self, stage: Stage)
@@ -131,10 +131,10 @@ pub trait Direction: Drop {
         ensures types { (parts self.new).types ≡ (parts self.old).types }
         ensures kept { (parts self.new).kept ≡ by_line.emptied (parts self.old).kept }
         ensures drained { ready self.new ≡ [] }
-        ensures serves { (choices : Choices) → serves self.new choices ≡ true }
+        ensures serves { (choices : Choices) → was_begun_by self.new choices ≡ true }
         ensures counted { counted self.new ≤ counted self.old }
         ensures stays { (choices : Choices) (lines : List InputLine)
-            → knows self.old choices lines → knows self.new choices lines };
+            → notes self.old choices lines → notes self.new choices lines };
 
     /// Takes a good end of the input: `true` says that lines are ready.
     fn conclude(&mut self) -> bool
@@ -144,12 +144,12 @@ pub trait Direction: Drop {
         ensures value { answer_for result ≡ answer_of_lines (closing self.old) }
         ensures ready { ready self.new ≡ closing self.old }
         ensures parts { parts self.new ≡ record (parts self.old) { stage = Stage.Closed } }
-        ensures serves { (choices : Choices) → serves self.new choices ≡ true }
+        ensures serves { (choices : Choices) → was_begun_by self.new choices ≡ true }
         ensures counted { counted self.new ≤ counted self.old }
         ensures closing { (choices : Choices) (lines : List InputLine)
             → IsAfterLines chosen state_after_lines choices lines (parts self.old)
-            → knows self.old choices lines
-            → (closing self.old ≡ closing_after choices lines) × has_found self.new lines };
+            → notes self.old choices lines
+            → (closing self.old ≡ closing_after choices lines) × report_is self.new lines };
 
     /// Whether none of the lines that were ready is pending.
     fn is_drained(&self) -> bool
@@ -160,7 +160,7 @@ pub trait Direction: Drop {
         ensures value { option_copied result ≡ slice_get (ready self.old) 0 }
         ensures* after_borrow { sem 𝓛 (Rests Self.row self.entry (λ new.
             (ready new ≡ drop 1 (ready self.old)) × KeepsAllBeside (parts self.old) (parts new) (counted self.old) (counted new)
-            (serves self.old) (serves new) (knows self.old) (knows new) (has_found self.old) (has_found new))) };
+            (was_begun_by self.old) (was_begun_by new) (notes self.old) (notes new) (report_is self.old) (report_is new))) };
 
     /// Borrows all lines that are ready as one text, each followed by LF; after `None` they stay, and
     /// [`Direction::next_line`] gives them.
@@ -169,5 +169,5 @@ pub trait Direction: Drop {
         ensures* after_borrow { sem 𝓛 (Rests Self.row self.entry (λ new.
             (ready new ≡ (if is_some result then [] else ready self.old))
             × KeepsAllBeside (parts self.old) (parts new) (counted self.old) (counted new)
-            (serves self.old) (serves new) (knows self.old) (knows new) (has_found self.old) (has_found new))) };
+            (was_begun_by self.old) (was_begun_by new) (notes self.old) (notes new) (report_is self.old) (report_is new))) };
 }

@@ -18,7 +18,7 @@ use std::marker::Model;
 /// makes are borrowed from it. A line that is copied it hands out as it is, and keeps none; a
 /// [`Lender`](crate::lender::Lender) keeps a copy.
 #[derive(Drop)]
-pub struct Engine<D: Direction> {
+pub struct LineEngine<D: Direction> {
     options: Options,
     /// The number of the last line that counts.
     number: u64,
@@ -27,16 +27,16 @@ pub struct Engine<D: Direction> {
     answer: Result<Step, At>,
 }
 
-impl<D: Direction> Model for Engine<D> {
+impl<D: Direction> Model for LineEngine<D> {
     ghost Value = { EngineParts D };
 
     ghost view = { λ e. record { options = e.options; number = e.number; direction = e.direction; answer = e.answer } };
 
     ghost invariant = { λ e. (e.number ≤ INPUT_LIMIT) × (D.counted e.direction ≤ e.number)
-        × (D.serves e.direction e.options ≡ true) × (D.chosen e.options ≡ e.options) };
+        × (D.was_begun_by e.direction e.options ≡ true) × (D.chosen e.options ≡ e.options) };
 }
 
-impl<D: Direction> Engine<D> {
+impl<D: Direction> LineEngine<D> {
     ghost use Rattle.std.specs.Prelude.{◌+◌, List, [], length, OnErr, IfOk, false};
     ghost use Rattle.crx_base.specs.Padded.{line_in};
     ghost use Rattle.crx_base.specs.meaning.AsRead.{Overlong};
@@ -44,23 +44,23 @@ impl<D: Direction> Engine<D> {
     ghost use Rattle.crx_base.specs.meaning.Lines.{InputLine, is_long};
     ghost use Rattle.crx_lines.specs.Reading.{line_number, line_shown};
     ghost use Rattle.crx_filter.specs.DirectionParts.{AnswersToFault};
-    ghost use Rattle.crx_filter.specs.EngineState.{EndIsAnswered, EngineAwaits, EngineGoes, EngineKeepsNotes, EngineReads, EngineSkips, LineIsAnswered, engine_ready, engine_state};
+    ghost use Rattle.crx_filter.specs.EngineState.{EndIsAnswered, EngineGoes, EngineKeepsNotes, EngineReads, EngineSkips, LineIsAnswered, engine_ready, engine_state};
     ghost use Rattle.crx_filter.specs.LineByLine.{may_skip};
     ghost use Rattle.crx_filter.specs.RinexStages.{is_open_stage};
     ghost use Rattle.crx_filter.specs.Stages.{bare_phase};
     ghost use Rattle.crx_filter.specs.declared.stage.Stage.{Stage};
-    ghost use Rattle.crx_runs.specs.Engines.{Stays, answer_given};
+    ghost use Rattle.crx_runs.specs.Engines.{IsNextLine, Stays, answer_given};
 
     /// An engine before the first line of its input; `AllocError` comes where there is no memory for what its
     /// direction begins with.
-    pub fn new(alloc: Global, options: Options) -> Result<Engine<D>, AllocError>
+    pub fn new(alloc: Global, options: Options) -> Result<LineEngine<D>, AllocError>
         ensures state { IfOk result (λ e. engine_state D.Direction e ≡ D.state_after_lines (D.chosen options) []) }
         ensures drained { IfOk result (λ e. engine_ready D.Direction e ≡ []) }
-        ensures knows { IfOk result (λ e. D.knows e.direction e.options []) }
+        ensures knows { IfOk result (λ e. D.notes e.direction e.options []) }
         ensures asked { OnErr result (D.takes_at_start ≡ true) }
     {
         let direction = D::new(alloc)?;
-        Ok(Engine {
+        Ok(LineEngine {
             options: D::chosen(options),
             number: 0,
             direction,
@@ -79,7 +79,7 @@ impl<D: Direction> Engine<D> {
             → AnswersToFault D.by_line self.old.options self.old.number stage fault goes_on (D.parts self.old.direction)
             self.new.answer (engine_ready D.Direction self.new) (engine_state D.Direction self.new) }
         ensures stays { (choices : Choices) (lines : List InputLine)
-            → D.knows self.old.direction choices lines → D.knows self.new.direction choices lines }
+            → D.notes self.old.direction choices lines → D.notes self.new.direction choices lines }
         ensures once { goes_on ≡ false → IfOk self.new.answer Stays }
     {
         let notice = At {
@@ -102,8 +102,8 @@ impl<D: Direction> Engine<D> {
     /// `None` after a fault, to which the answer is stored, and asked for by another call. An answer that
     /// held a notice would be copied from call to call at every line.
     #[inline(always)]
-    pub(crate) fn take_line(&mut self, line: Line<'_>) -> Option<HandedOut>
-        requires next { EngineAwaits D.Direction self.old (line_number line) }
+    pub(crate) fn answer_line(&mut self, line: Line<'_>) -> Option<HandedOut>
+        requires next { IsNextLine (engine_ready D.Direction self.old) self.old.number (line_number line) }
         ensures reads { EngineReads D.Direction self.old (line_shown line.entry) result self.new }
         ensures goes { EngineGoes D.Direction self.old }
         ensures stays { EngineKeepsNotes D.Direction self.old (answer_given result self.new.answer) self.new }
@@ -111,7 +111,7 @@ impl<D: Direction> Engine<D> {
         let Stage::Open = self.direction.stage() else {
             return self.take_between(line.padded(), line.number(), line.plain());
         };
-        let taken = self.direction.go_on(line);
+        let taken = self.direction.take_in_epoch(line);
         self.number += 1;
         match taken {
             Ok(false) => Some(HandedOut::Nothing),
@@ -124,7 +124,7 @@ impl<D: Direction> Engine<D> {
         }
     }
 
-    /// Takes a line where no epoch is open as [`Engine::take_line`] does, by its parts. An answer that took
+    /// Takes a line where no epoch is open as [`LineEngine::answer_line`] does, by its parts. An answer that took
     /// its place within that one, or a place for the line, would be set to zero at every line.
     #[inline(never)]
     fn take_between(
@@ -135,7 +135,7 @@ impl<D: Direction> Engine<D> {
     ) -> Option<HandedOut>
         requires closed { is_open_stage (D.parts self.old.direction).stage ≡ false }
         requires short { length (line_in content) ≤ LINE_LIMIT }
-        requires next { EngineAwaits D.Direction self.old number }
+        requires next { IsNextLine (engine_ready D.Direction self.old) self.old.number number }
         ensures reads { EngineReads D.Direction self.old
             (record { content = line_in content.entry; is_plain = is_plain }) result self.new }
         ensures stays { EngineKeepsNotes D.Direction self.old (answer_given result self.new.answer) self.new }
@@ -147,7 +147,7 @@ impl<D: Direction> Engine<D> {
             self.answer = Err(at);
             return None;
         }
-        let taken = self.direction.take(&self.options, line);
+        let taken = self.direction.take_elsewhere(&self.options, line);
         self.number += 1;
         match taken {
             Ok(handed_out) => Some(handed_out),
@@ -163,7 +163,7 @@ impl<D: Direction> Engine<D> {
     /// Takes a line that is too long, by its number: it has the fault `LineTooLong`, unless a line that
     /// begins with `>` is looked for: then it is passed over.
     pub(crate) fn overlong(&mut self, number: u64) -> Result<Step, At>
-        requires next { EngineAwaits D.Direction self.old number }
+        requires next { IsNextLine (engine_ready D.Direction self.old) self.old.number number }
         ensures stops { EngineSkips D.Direction self.old result (engine_ready D.Direction self.new) self.new }
         ensures answers { (line : InputLine) → is_long line ≡ true
             → LineIsAnswered D.Direction self.old line Overlong result (engine_ready D.Direction self.new) self.new }
@@ -215,7 +215,7 @@ impl<D: Direction> Engine<D> {
     }
 }
 
-impl<D: Direction> crx_runs::Engine for Engine<D> {
+impl<D: Direction> crx_runs::Engine for LineEngine<D> {
     ghost use Rattle.std.specs.Prelude.{⊤, length};
     ghost use Rattle.crx_filter.specs.EngineState.{engine_ready, engine_took};
 
@@ -227,7 +227,7 @@ impl<D: Direction> crx_runs::Engine for Engine<D> {
 
     ghost taken = { λ e. e.number };
 
-    ghost has_ended = { λ e lines. D.has_found e.direction lines };
+    ghost has_ended = { λ e lines. D.report_is e.direction lines };
 
     ghost counted = { λ e lines notices shown. shown.1 };
 
@@ -235,7 +235,7 @@ impl<D: Direction> crx_runs::Engine for Engine<D> {
 
     #[inline(always)]
     fn take(&mut self, line: Line<'_>) -> Option<HandedOut> {
-        self.take_line(line)
+        self.answer_line(line)
     }
 
     fn answer(&self) -> Result<Step, At> {
@@ -243,11 +243,11 @@ impl<D: Direction> crx_runs::Engine for Engine<D> {
     }
 
     fn overlong(&mut self, number: u64) -> Result<Step, At> {
-        Engine::overlong(self, number)
+        LineEngine::overlong(self, number)
     }
 
     fn end(&mut self) -> Result<Step, At> {
-        Engine::end(self)
+        LineEngine::end(self)
     }
 
     fn next_line(&mut self) -> Option<&[u8]> {

@@ -82,17 +82,17 @@ impl Direction for Expansion {
 
     ghost counted = { λ e. 0 };
 
-    ghost serves = { λ e choices. true };
+    ghost was_begun_by = { λ e choices. true };
 
     ghost takes_at_start = { true };
 
     ghost has_room = { λ e. HasRoomInExpansion e.reader };
 
-    ghost knows = { λ e choices lines. HaveRoomInColumns e.reader.columns.value (compact_epochs choices lines) };
+    ghost notes = { λ e choices lines. HaveRoomInColumns e.reader.columns.value (compact_epochs choices lines) };
 
-    ghost has_found = { λ e lines. ⊤ };
+    ghost report_is = { λ e lines. ⊤ };
 
-    ghost outgrows = { λ choices lines line.
+    ghost needs_more = { λ choices lines line.
         expansion_outgrows (compact_reading choices.skip (map as_read lines)) (as_read line) };
 
     ghost skipping = { λ e choices lines taken skips. tt };
@@ -113,11 +113,11 @@ impl Direction for Expansion {
     }
 
     #[inline(always)]
-    fn go_on(&mut self, line: Line<'_>) -> Result<bool, Fault> {
+    fn take_in_epoch(&mut self, line: Line<'_>) -> Result<bool, Fault> {
         self.reader.go_on(line.padded(), &mut self.lines)
     }
 
-    fn take(&mut self, _options: &Options, line: Line<'_>) -> Result<HandedOut, Fault> {
+    fn take_elsewhere(&mut self, _options: &Options, line: Line<'_>) -> Result<HandedOut, Fault> {
         if self.reader.read_between(line.bytes())? {
             return Ok(HandedOut::AsItIs);
         }

@@ -18,7 +18,7 @@ ghost use Rattle.crx_runs.specs.meaning.Spans.{reader_span, span};
 
 use crate::Options;
 use crate::compaction::Compaction;
-use crate::engine::Engine;
+use crate::engine::LineEngine;
 use crate::expansion::Expansion;
 use crx_lines::{Sink, Source};
 use crx_runs::Outcome;
@@ -61,7 +61,7 @@ pub fn compact<R: Source, W: Sink, M: Sink>(
 {
     start(
         alloc,
-        Engine::<Compaction>::new(alloc, options),
+        LineEngine::<Compaction>::new(alloc, options),
         reader,
         writer,
         messages,
@@ -122,7 +122,7 @@ pub fn expand<R: Source, W: Sink, M: Sink>(
 {
     start(
         alloc,
-        Engine::<Expansion>::new(alloc, options),
+        LineEngine::<Expansion>::new(alloc, options),
         reader,
         writer,
         messages,

@@ -7,7 +7,7 @@ ghost use Rattle.crx_filter.specs.declared.rinex_reader.RinexReader.{RinexReader
 ghost use Rattle.crx_filter.specs.declared.compaction.Compaction.TheInside.{Inside as CompactionInside};
 ghost use Rattle.crx_filter.specs.declared.compact_reader.CompactReader.{CompactReader};
 ghost use Rattle.crx_filter.specs.CompactionParts.{CompactionState};
-ghost use Rattle.crx_filter.specs.declared.engine.Engine.TheInside.{Inside as EngineInside};
+ghost use Rattle.crx_filter.specs.declared.engine.LineEngine.TheInside.{Inside as EngineInside};
 ghost use Rattle.crx_filter.specs.declared.expansion.Expansion.TheInside.{Inside as ExpansionInside};
 ghost use Rattle.crx_filter.specs.ExpansionParts.{ExpansionState};
 ghost use Rattle.crx_filter.specs.declared.lender.Lender.TheInside.{Inside as LenderInside};

@@ -4,7 +4,7 @@
 ghost use Rattle.std.specs.Prelude.{◌≡◌};
 
 use crate::direction::Direction;
-use crate::engine::Engine;
+use crate::engine::LineEngine;
 use crx_base::{At, Options};
 use crx_lines::Line;
 use crx_runs::{HandedOut, Step};
@@ -17,7 +17,7 @@ use std::marker::Model;
 /// that is copied comes out of memory of its own, after those that are ready before it.
 #[derive(Drop)]
 pub struct Lender<D: Direction> {
-    pub(crate) engine: Engine<D>,
+    pub(crate) engine: LineEngine<D>,
     /// The line that was copied last.
     copied: Box<Text>,
     /// Whether it is pending.
@@ -51,9 +51,9 @@ impl<D: Direction> Lender<D> {
     pub fn new(alloc: Global, options: Options) -> Result<Lender<D>, AllocError>
         ensures state { IfOk result (λ e. lender_state D.Direction e ≡ D.state_after_lines (D.chosen options) []) }
         ensures drained { IfOk result (λ e. lender_ready D.Direction e ≡ []) }
-        ensures knows { IfOk result (λ e. D.knows e.engine.direction e.engine.options []) }
+        ensures knows { IfOk result (λ e. D.notes e.engine.direction e.engine.options []) }
     {
-        let engine = Engine::new(alloc, options)?;
+        let engine = LineEngine::new(alloc, options)?;
         let copied = Box::new(alloc, Text::new())?;
         Ok(Lender {
             engine,
@@ -95,7 +95,7 @@ impl<D: Direction> Lender<D> {
             (line_shown line.entry).content) result (lender_ready D.Direction self.new) self.new.engine }
         ensures stays { EngineKeepsNotes D.Direction self.old.engine result self.new.engine }
     {
-        match self.engine.take_line(line) {
+        match self.engine.answer_line(line) {
             None => crx_runs::Engine::answer(&self.engine),
             Some(HandedOut::Nothing) => Ok(Step::Quiet),
             Some(HandedOut::Lines) => Ok(Step::Ready),
@@ -121,9 +121,9 @@ impl<D: Direction> Lender<D> {
         // The direction itself changes: it counts the lines that it has handed out.
         ensures* after_borrow { sem 𝓛 (Rests (the_row D.row D.Direction) self.entry (λ new. (lender_ready D.Direction new
             ≡ drop 1 (lender_ready D.Direction self.old)) × (lender_state D.Direction new ≡ lender_state D.Direction self.old)
-            × ((choices : Choices) (lines : List InputLine) → D.knows self.old.engine.direction choices lines
-            → D.knows new.engine.direction choices lines)
-            × ((lines : List InputLine) → D.has_found self.old.engine.direction lines → D.has_found new.engine.direction lines)
+            × ((choices : Choices) (lines : List InputLine) → D.notes self.old.engine.direction choices lines
+            → D.notes new.engine.direction choices lines)
+            × ((lines : List InputLine) → D.report_is self.old.engine.direction lines → D.report_is new.engine.direction lines)
             × (new.engine ≡ record self.old.engine { direction = new.engine.direction })
             × (D.parts new.engine.direction ≡ D.parts self.old.engine.direction))) }
     {

@@ -247,9 +247,9 @@ module _ {D : Type 0} (d : Ghosts D) (before : EngineParts D) (goes : EngineGoes
         (d.has_room before.direction line.content) result ready (engine_state d after)
         → EngineAnswers (d.filter before.options) (engine_took d after) ready lines notices line result
     engine-answers lines notices took awaited steps =
-        answers-known (d.knows after.direction after.options) lines line (d.filter before.options)
+        answers-known (d.notes after.direction after.options) lines line (d.filter before.options)
         (engine_seen d after) ready notices result
-        (subst (λ (c : Choices). KnowsAfter (d.knows after.direction c) lines line result) (sym same)
+        (subst (λ (c : Choices). KnowsAfter (d.notes after.direction c) lines line result) (sym same)
         (notes lines (taken-lines goes.lawful (engine_state d before) lines notices took.0)
         (given-line lines notices line took awaited) took.1)) (answered steps)
       where
@@ -260,7 +260,7 @@ module _ {D : Type 0} (d : Ghosts D) (before : EngineParts D) (goes : EngineGoes
         answered (inr out) =
             let lost = subst (λ (l : ReadLine). RanOut d.by_line (engine_state d before) l
             (d.has_room before.direction line.content) result (engine_state d after)) (sym is) out in
-            let needed : d.outgrows before.options lines line ≡ true =
+            let needed : d.needs_more before.options lines line ≡ true =
             grind (arith, common_steps, by_bool, false≢true, as-read-long, given-line, lost.lacked) in
             answers-lost goes.lawful (engine_seen d after) (engine_state d before) (engine_state d after)
             lines notices line ready result _ took.0 awaited needed lost
@@ -278,10 +278,10 @@ module _ {D : Type 0} (d : Ghosts D) (before : EngineParts D) (goes : EngineGoes
       → HasClosed (d.closing before.direction) (state_end_with d.by_line (d.closing before.direction)
       (engine_state d before)) result ready (engine_state d before) (engine_state d after)
       → ((lines : List InputLine) → IsAfterLines d.chosen d.state_after_lines before.options lines
-      (d.parts before.direction) → d.knows before.direction before.options lines
+      (d.parts before.direction) → d.notes before.direction before.options lines
       → (step_made result ready (engine_state d after)
       ≡ state_end_with d.by_line (d.closing_after before.options lines) (engine_state d before))
-      × IfOk result (λ step. d.has_found after.direction lines))
+      × IfOk result (λ step. d.report_is after.direction lines))
       → EngineKeepsNotes d before result after → EndIsAnswered d before result ready after
   end-answered after {ready = ready} result ends closing stays =
       search (rules, concludes, after-lines, repeats-end)

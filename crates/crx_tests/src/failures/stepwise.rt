@@ -7,7 +7,7 @@ use super::cases::cases;
 use super::*;
 use crx_filter::checking::Checking;
 use crx_filter::compaction::Compaction;
-use crx_filter::engine::Engine;
+use crx_filter::engine::LineEngine;
 use crx_filter::expansion::Expansion;
 use crx_lines::Std;
 use crx_runs::one_line::Halt;
@@ -67,7 +67,7 @@ fn run_steps<'a>(
     let mut messages = FailingSink::new(alloc, ROOM, ROOM, Plan::never(), Plan::never())?;
     let answer = match case.tool {
         Tool::Compact => {
-            let engine = Engine::<Compaction>::new(alloc, options);
+            let engine = LineEngine::<Compaction>::new(alloc, options);
             take_steps(
                 alloc,
                 engine,
@@ -78,7 +78,7 @@ fn run_steps<'a>(
             )?
         }
         Tool::Expand => {
-            let engine = Engine::<Expansion>::new(alloc, options);
+            let engine = LineEngine::<Expansion>::new(alloc, options);
             take_steps(
                 alloc,
                 engine,
@@ -89,7 +89,7 @@ fn run_steps<'a>(
             )?
         }
         Tool::Check => {
-            let engine = Engine::<Checking>::new(alloc, options);
+            let engine = LineEngine::<Checking>::new(alloc, options);
             take_steps(
                 alloc,
                 engine,

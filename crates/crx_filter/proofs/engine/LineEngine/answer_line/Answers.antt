@@ -2,7 +2,7 @@ use Rattle.crx_filter.proofs.{Words.begins_epoch, steps.EngineAnswers.as-read-wi
 use Rattle.crx_filter.proofs.steps.EngineFaults.{after-error, notes-refused, refused-line, refused-stops}
 use Rattle.{crx_filter.specs.declared.stage.Stage.TheVariants.Open, crx_lines.specs.Reading.line_shown}
 use Rattle.std.proofs.Common.{refl, sym, ap, ◌∙◌}
-use Rattle.crx_filter.proofs.engine.Engine.take_line.Goals as goal
+use Rattle.crx_filter.proofs.engine.LineEngine.answer_line.Goals as goal
 
 pub returns-in-Err-clause-reads : goal.returns-in-Err-clause-reads
 returns-in-Err-clause-reads g c =
@@ -17,7 +17,7 @@ returns-in-Err-clause-reads g c =
     rw (← c.self.view_is) (record {
       takes = takes;
       notes = notes-refused d.by_line d.chosen d.state_after_lines _ _ _ _
-          (d.knows c.fail.new.self.direction) c.in-Open.ensures.passes
+          (d.notes c.fail.new.self.direction) c.in-Open.ensures.passes
           (λ lines known. c.fail.ensures.stays _ lines (c.in-Err.ensures.takes.stays _ lines known)) line c.in-Err.fault _ _ _ _ _
           stopped (as-read-within line line.content c.args.line.short refl) takes.steps;
     })

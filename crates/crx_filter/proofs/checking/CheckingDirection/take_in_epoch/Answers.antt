@@ -4,7 +4,7 @@ use Rattle.crx_filter.proofs.steps.CheckerSteps.{noted-takes, refused-takes}
 use Rattle.crx_filter.proofs.steps.CheckerSteps.{nothing_kept, open-runs, row-counting, rejected-reads}
 use Rattle.crx_filter.proofs.steps.{CheckerSteps.still-drained, EngineAnswers.short-line}
 use Rattle.{crx_lines.specs.Reading.{line_shown}, std.proofs.lemmas.Result.err_from_is_err_and}
-use Rattle.crx_filter.proofs.checking.CheckingDirection.go_on.Goals as goal
+use Rattle.crx_filter.proofs.checking.CheckingDirection.take_in_epoch.Goals as goal
 
 pub returns-in_err-step : goal.returns-in_err-step
 returns-in_err-step c =

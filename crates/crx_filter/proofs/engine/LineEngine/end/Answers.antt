@@ -1,13 +1,13 @@
 use Rattle.crx_filter.proofs.Words.{common_steps, arith, sym, ◌∙◌, ◌≡◌, ap, and_parts, List, ℕ, Ok, refl}
 use Rattle.crx_filter.proofs.steps.{EngineAnswers.end-answered, EngineFaults.{after-error, ends-failed}}
 use Rattle.crx_filter.proofs.steps.EngineFaults.{ends-skipped, ends-well}
-use Rattle.crx_filter.proofs.engine.Engine.end.{Given.Over, Goals.{After-conclude, After-stage-stage}}
+use Rattle.crx_filter.proofs.engine.LineEngine.end.{Given.Over, Goals.{After-conclude, After-stage-stage}}
 use Rattle.crx_filter.specs.{DirectionParts.{DirectionParts, EngineParts, answer_for}, EngineSteps.answer_of_step}
 use Rattle.crx_filter.specs.{EngineState.{EndIsAnswered, EngineGoes, engine_state}, LineByLine.state_end_with}
-use Rattle.crx_filter.specs.declared.engine.Engine.TheInside.{Inside}
+use Rattle.crx_filter.specs.declared.engine.LineEngine.TheInside.{Inside}
 use Rattle.crx_runs.specs.declared.engine.Step.{Step}
 use Rattle.crx_runs.specs.declared.engine.Step.TheVariants as Steps
-use Rattle.crx_filter.proofs.engine.Engine.end.Goals as goal
+use Rattle.crx_filter.proofs.engine.LineEngine.end.Goals as goal
 
 -- the engine as it was
 abbrev engine : {D : Type 0} → Inside D → EngineParts D

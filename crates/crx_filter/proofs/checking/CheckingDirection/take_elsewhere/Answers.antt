@@ -3,7 +3,7 @@ use Rattle.crx_filter.proofs.steps.CheckerSteps.{nothing_kept, step-counting, st
 use Rattle.crx_filter.proofs.steps.{CheckerSteps.still-drained, EngineAnswers.short-line}
 use Rattle.{crx_lines.specs.Reading.{line_shown}, std.proofs.lemmas.Result.err_from_is_err_and}
 use Rattle.std.proofs.Common.{true≢false, sym, ◌∙◌}
-use Rattle.crx_filter.proofs.checking.CheckingDirection.take.Goals as goal
+use Rattle.crx_filter.proofs.checking.CheckingDirection.take_elsewhere.Goals as goal
 
 pub returns-in_err-step : goal.returns-in_err-step
 returns-in_err-step c =

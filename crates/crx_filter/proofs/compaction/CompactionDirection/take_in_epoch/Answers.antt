@@ -4,7 +4,7 @@ use Rattle.crx_filter.proofs.steps.CompactionKnows.{compaction_of, ended-takes, 
 use Rattle.crx_filter.proofs.steps.Together.{closed-together, due-there, row-asked, row-closed, row-ends, row-moves}
 use Rattle.crx_filter.proofs.steps.Together.{row-together, still-served}
 use Rattle.{crx_lines.specs.Reading.line_shown, std.proofs.lemmas.Result.err_from_is_err_and}
-use Rattle.crx_filter.proofs.compaction.CompactionDirection.go_on.Goals as goal
+use Rattle.crx_filter.proofs.compaction.CompactionDirection.take_in_epoch.Goals as goal
 
 pub returns-in_err-is_last : goal.returns-in_err-is_last
 returns-in_err-is_last c =

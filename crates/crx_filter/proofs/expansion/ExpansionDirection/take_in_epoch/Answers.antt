@@ -1,6 +1,6 @@
 use Rattle.crx_filter.proofs.steps.ExpansionKnows.{reader-takes}
 use Rattle.crx_lines.specs.Reading.{line_shown}
-use Rattle.crx_filter.proofs.expansion.ExpansionDirection.go_on.Goals as goal
+use Rattle.crx_filter.proofs.expansion.ExpansionDirection.take_in_epoch.Goals as goal
 
 pub returns : goal.returns
 returns c =

@@ -2,7 +2,7 @@ use Rattle.crx_filter.proofs.Words.{sym, refl, ap, ◌+◌, ◌∙◌, begins_ep
 use Rattle.crx_filter.proofs.steps.{EngineAnswers.as-read-within, EngineFaults.{after-error, handed-line}}
 use Rattle.crx_filter.proofs.steps.EngineFaults.{notes-handed, notes-refused, refused-line, refused-stops}
 use Rattle.{crx_filter.proofs.steps.LostLines.handed-well, crx_lines.specs.Reading.line_shown}
-use Rattle.crx_filter.proofs.engine.Engine.take_between.Goals as goal
+use Rattle.crx_filter.proofs.engine.LineEngine.take_between.Goals as goal
 
 pub returns-in-Err : goal.returns-in-Err
 returns-in-Err g c =
@@ -20,7 +20,7 @@ returns-in-Err g c =
       reads = record {
         takes = takes;
         notes = notes-refused d.by_line d.chosen d.state_after_lines _ _ _ _
-            (d.knows c.fail.new.self.direction) c.stage-stage.ensures.passes
+            (d.notes c.fail.new.self.direction) c.stage-stage.ensures.passes
             (λ lines known. c.fail.ensures.stays _ lines (c.in-Err.ensures.takes.stays _ lines known)) line c.in-Err.fault _ _ _ _ _
             stopped (as-read-within line line.content c.of-line.result.short refl) takes.steps;
       };
@@ -36,10 +36,10 @@ returns-in-Ok g c =
     rw (← c.self.view_is, ← c.of-line.ensures.shown) (record {
       reads = record {
         takes = handed-line d.by_line _ c.self.inside.options c.self.inside.number
-            (d.parts c.self.inside.direction) (d.parts c.take-taken.new.self) _ _ out _ _ refl
+            (d.parts c.self.inside.direction) (d.parts c.take_elsewhere-taken.new.self) _ _ out _ _ refl
             c.in-Ok.ensures.takes.reads;
         notes = λ lines counted come known. notes-handed
-            (d.knows c.take-taken.new.self c.self.inside.options) lines (line_shown c.of-line.result) out _
+            (d.notes c.take_elsewhere-taken.new.self c.self.inside.options) lines (line_shown c.of-line.result) out _
             (c.in-Ok.ensures.takes.notes c.self.inside.options lines come known
             (c.of-line.ensures.number ∙ next.next ∙ ap (λ n. n + 1) counted));
       };

@@ -1,8 +1,8 @@
-use Rattle.crx_filter.proofs.Words.{ap, ◌∙◌, sym, ◌+◌, ◌≡◌, inl, List, ℕ, LineTooLong, Overlong, step_made}
+use Rattle.crx_filter.proofs.Words.{ap, refl, ◌∙◌, sym, ◌+◌, ◌≡◌, inl, List, ℕ, LineTooLong, Overlong, step_made}
 use Rattle.crx_filter.proofs.steps.{EngineAnswers.{as-read-long, line-answered}, EngineFaults.after-error}
 use Rattle.crx_filter.proofs.steps.EngineFaults.{long-failed, not-settled, notes-refused}
 use Rattle.crx_filter.specs.{DirectionParts.EngineParts, EngineState.engine_state}
-use Rattle.crx_filter.proofs.engine.Engine.overlong.Goals as goal
+use Rattle.crx_filter.proofs.engine.LineEngine.overlong.Goals as goal
 
 pub returns-in_default : goal.returns-in_default
 returns-in_default g c =
@@ -24,7 +24,7 @@ returns-in_default g c =
         lawful = law;
         enough = c.stage-stage.ensures.enough;
       }) then line _ then.answer (as-read-long line long)
-          (notes-refused d.by_line d.chosen d.state_after_lines _ _ _ _ (d.knows then.direction)
+          (notes-refused d.by_line d.chosen d.state_after_lines _ _ _ _ (d.notes then.direction)
           c.stage-stage.ensures.passes (λ lines known. c.fail.ensures.stays _ lines known) line LineTooLong _ _
           (d.has_room c.self.inside.direction line.content) _ _ stopped (as-read-long line long) (inl made))
           (record {
@@ -34,4 +34,5 @@ returns-in_default g c =
             choices = stopped.choices;
           });
       stays = λ choices lines known. after-error _ (c.fail.ensures.stays choices lines known);
+      once = c.fail.ensures.once refl;
     })

@@ -1,5 +1,5 @@
 use Rattle.crx_filter.{proofs.{Words.ap, steps.StepCounts.end-drained}, specs.EngineState.engine_state}
-use Rattle.crx_filter.proofs.engine.EngineEngine.end.Goals as goal
+use Rattle.crx_filter.proofs.engine.LineEngineEngine.end.Goals as goal
 
 pub returns-clause-stepped : goal.returns-clause-stepped
 returns-clause-stepped g c =
