@@ -13,18 +13,18 @@ use crate::lines::{take_bytes, take_last};
 use crate::stop::Stop;
 use crx_filter::checking::Checking;
 use crx_filter::compaction::Compaction;
-use crx_filter::engine::Engine;
+use crx_filter::engine::LineEngine;
 use crx_filter::expansion::Expansion;
 
 /// The engine of a run.
 #[derive(Drop)]
 pub enum AnyEngine {
     /// It compacts.
-    Compacting(Engine<Compaction>),
+    Compacting(LineEngine<Compaction>),
     /// It expands.
-    Expanding(Engine<Expansion>),
+    Expanding(LineEngine<Expansion>),
     /// It checks.
-    Checking(Engine<Checking>),
+    Checking(LineEngine<Checking>),
 }
 
 /// Feeds some bytes to the engine of a run, as long as little enough waits to be taken, and answers how many.

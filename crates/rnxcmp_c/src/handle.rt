@@ -31,7 +31,7 @@ use crx_base::Fault;
 use crx_filter::Options;
 use crx_filter::checking::{Checking, no_options};
 use crx_filter::compaction::Compaction;
-use crx_filter::engine::Engine;
+use crx_filter::engine::LineEngine;
 use crx_filter::expansion::Expansion;
 use std::alloc::Global;
 use std::mem::replace;
@@ -132,7 +132,7 @@ pub extern "C" fn rnxcmp_c_open_compact(
     let Ok(held) = Held::new(alloc, max_output) else {
         return failed(0, Fault::OutOfMemory);
     };
-    match Engine::<Compaction>::new(alloc, options) {
+    match LineEngine::<Compaction>::new(alloc, options) {
         Ok(compactor) => open(alloc, handle, AnyEngine::Compacting(compactor), held),
         Err(_) => failed(0, Fault::OutOfMemory),
     }
@@ -158,7 +158,7 @@ pub extern "C" fn rnxcmp_c_open_expand(
     let Ok(held) = Held::new(alloc, max_output) else {
         return failed(0, Fault::OutOfMemory);
     };
-    match Engine::<Expansion>::new(alloc, expansion_options(skip)) {
+    match LineEngine::<Expansion>::new(alloc, expansion_options(skip)) {
         Ok(expander) => open(alloc, handle, AnyEngine::Expanding(expander), held),
         Err(_) => failed(0, Fault::OutOfMemory),
     }
@@ -178,7 +178,7 @@ pub extern "C" fn rnxcmp_c_open_check(alloc: Global, handle: &mut Handle) -> Ans
     let Ok(held) = Held::new(alloc, 0) else {
         return failed(0, Fault::OutOfMemory);
     };
-    match Engine::<Checking>::new(alloc, no_options()) {
+    match LineEngine::<Checking>::new(alloc, no_options()) {
         Ok(checker) => open(alloc, handle, AnyEngine::Checking(checker), held),
         Err(_) => failed(0, Fault::OutOfMemory),
     }
