@@ -17,14 +17,12 @@ use Rattle.crx_filter.proofs.reading.{ForwardCompact.{compact-forward, compact_b
 use Rattle.crx_filter.proofs.wayback.{Carried.{IsLike, header-here, record-here, unit-more}, WayBack.result-well}
 use Rattle.crx_filter.specs.meaning.{Expanded.{rinex_unit, crinex_version, crinex_program, empties_state}, WrittenStandard.rinex_items}
 use Rattle.crx_filter.specs.meaning.UnitsAndText.{as_items, rinex_text}
-use Rattle.crx_compact.proofs.Words.{epoch_at, epoch_text, at, patched, character_of, by_position}
-use Rattle.crx_compact.proofs.Words.{without_end_blanks, at-without_end_blanks, begins_epoch, tail_left}
+use Rattle.crx_compact.proofs.Words.{epoch_at, at}
+use Rattle.crx_compact.proofs.Words.{tail_left}
 use Rattle.crx_compact.proofs.Words.{if◌then◌else◌}
-use Rattle.crx_compact.proofs.Words.{and_parts, is_observation_flag, is_event_flag, character_at, same_Some}
-use Rattle.crx_compact.proofs.Characters.{at-by_position, if_some}
-use Rattle.crx_compact.proofs.wayback.Facts.{text-head, head-counted}
-use Rattle.crx_compact.specs.meaning.AnyWriter.{WrittenRow, WrittenEpoch, epoch_now, goes_on_from}
-use Rattle.crx_compact.specs.meaning.AnyWriter.{nothing_written, AreRowLines, AreLinesAfter, AreEpochLines}
+use Rattle.crx_compact.proofs.Words.{same_Some}
+use Rattle.crx_compact.specs.meaning.AnyWriter.{WrittenRow, WrittenEpoch, epoch_now}
+use Rattle.crx_compact.specs.meaning.AnyWriter.{AreRowLines, AreEpochLines}
 use Rattle.crx_compact.specs.AnyWriter.{epoch_left, IsLeft}
 use Rattle.crx_compact.proofs.Words.{Tail}
 use Rattle.crx_header.{proofs.Counts.types_of-push}
@@ -36,9 +34,9 @@ use Rattle.crx_filter.proofs.reading.CompactPrefixes.{expanded-first, reading-at
 use proofs.Words.{compact_reading, expanded_lines}
 use Rattle.crx_filter.proofs.Words.{Begins, FilterResult}
 use Rattle.crx_filter.proofs.wayback.ExpandedStandard.{printed-read}
-use Rattle.crx_filter.proofs.wayback.Units.{none-warned, units_in, units-again}
+use Rattle.crx_filter.proofs.wayback.Units.{none-warned, units-again}
 use Rattle.crx_filter.specs.meaning.Reading.{WholeReading}
-use Rattle.crx_compact.proofs.anywriter.Epochs.{any-epoch}
+use Rattle.crx_compact.proofs.anywriter.Epochs.{any-epoch, no-event}
 
 warned-read : (items : List (Item ReadEpoch)) → warnings_in (rinex_items items) ≡ warnings_in items
 warned-read [] = refl
@@ -52,25 +50,6 @@ rows-many base [] [] h = refl
 rows-many base [] (line ∷ lines) h = absurd h
 rows-many base (r ∷ rs) [] h = absurd h
 rows-many base (r ∷ rs) (line ∷ lines) h = ap suc (rows-many base rs lines h.1)
-
-flag-mark : (mark c : ℕ) → character_of 32 mark ≡ c → is_observation_flag c ≡ true → is_event_flag mark ≡ false
-flag-mark mark c e h = grind (arith, h)
-
-full-no_event : (types : List Count) (e : Epoch) (line : List ℕ) → IsWholeEpoch types e
-    → patched [] line ≡ without_end_blanks (epoch_text e) → is_event_flag (character_at line 32) ≡ false
-full-no_event types e line h made =
-    let marked : character_of 32 (at line 31) ≡ at e.head 31 =
-    sym (at-by_position character_of refl [] line 31)
-    ∙ sym (at-without_end_blanks (by_position character_of [] line) 31) ∙ ap (λ t. at t 31) made
-    ∙ at-without_end_blanks (epoch_text e) 31 ∙ text-head types e h 31 (omega arith) in
-    flag-mark (at line 31) (at e.head 31) marked (grind (arith, common_steps, and_parts, if_some, head-counted types e h))
-
-no-event : (types : List Count) (before : Option WrittenEpoch) (base now : WrittenEpoch) (line clock : List ℕ) (lines : List (List ℕ))
-    → IsWholeEpoch types (epoch_now now) → goes_on_from before line ≡ Some base → AreLinesAfter base now line clock lines
-    → is_event_line line ≡ false
-no-event types before base now line clock lines whole found h = by_bool (begins_epoch line) (λ on.
-    let start : base ≡ nothing_written = grind (arith, same_Some, on, found) in
-    rw (on, full-no_event types (epoch_now now) line whole (rw start at h.marked)) refl) (λ off. rw off refl)
 
 pub none-left : (tail : Option Tail) → IsLeft None tail
 none-left tail b e = absurd (cc e)
@@ -117,7 +96,7 @@ module _ (items : List (Item ReadEpoch)) (units : List (FileUnit Epoch)) (before
       let reads = any-epoch (types_in_force items) before (raws_kept items) now (line ∷ clock ∷ rows) left whole lines in
       let here = ap (λ ls. epoch_at (types_in_force items) (raws_kept items) ls)
       (sym (append-nil (map Content (line ∷ clock ∷ rows)))) ∙ reads.reads [] in
-      let other = no-event (types_in_force items) before lines.0 now line clock rows whole lines.1 lines.2 in
+      let other = no-event (types_in_force items) lines.0 now line clock rows whole lines.2 before lines.1 in
       let count : 2 + length now.rows ≡ length (line ∷ clock ∷ rows) = omega (arith, rows-many lines.0 now.rows rows lines.2.satellites) in
       record {
         read = Observation (record { raw = reads.raw; epoch = epoch_now now });
@@ -209,7 +188,7 @@ pub all-read : (skip : Bool) (number : ℕ) (units : List (FileUnit Epoch)) (lin
 all-read skip number units lines last h k =
     let r = read-on skip [] number [] units lines None last
     (record { header = refl; start = refl; left = refl; counts = λ some. refl; types = refl }) (none-left None)
-    (subst (λ us. AreInPlace (as_items us)) (sym (append-nil units)) h) (subst (λ (T : Type 0). T) (sym (of-nothing units lines last)) k) in
+    (rw append-nil h) (rw (of-nothing units lines last) k) in
     grind (arith, common_steps, append-nil, at)
 
 -- ---- the text
@@ -268,7 +247,7 @@ one-file text one two h k first second =
     let a = text-read false one text h first in
     let b = text-read false two text k second in
     let same : a.items ≡ b.items = ap WholeReading.items (sym a.reads ∙ b.reads) in
-    sym (units-again one) ∙ ap units_in (sym a.known ∙ ap rinex_items same ∙ b.known) ∙ units-again two
+    cc (units-again one, units-again two, a.known, b.known, same)
 
 -- ---- text that is cut off, or bad from some place on
 

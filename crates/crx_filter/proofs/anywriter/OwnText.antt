@@ -1,16 +1,16 @@
 -- Compact text that is compacted here is text that any writer may write.
 use Rattle.crx_filter.proofs
-use proofs.Words.{arith, common_steps, ℕ, ◌≡◌, ◌⊎◌, inl, inr, true, false, Bool, List, [], ◌∷◌, ◌++◌, map}
+use proofs.Words.{arith, common_steps, ℕ, ◌≡◌, true, false, Bool, List, [], ◌∷◌, ◌++◌, map}
 use proofs.Words.{Option, Some, None}
 use proofs.Words.{refl, ap, sym, ◌∙◌, subst}
-use proofs.Words.{AllByRecursion, append-nil, append_assoc, if◌then◌else◌, lines_of, lines_text, as_read}
+use proofs.Words.{append-nil, append_assoc, if◌then◌else◌, lines_of, lines_text, as_read}
 use proofs.Words.{Epoch, FileUnit, HeaderLine, EventLine}
 use proofs.Words.{EventRecord, Observation, Count, Marked, Choices, is_date, Item, Accepted, Warned}
-use proofs.Words.{records_count_types, types_in_force, is_in_full, marked_epochs, compact_epoch}
+use proofs.Words.{is_at_start, Content, records_count_types, types_in_force, is_in_full, marked_epochs, compact_epoch}
 use proofs.Words.{compact_lines}
 use proofs.Words.{version_line, program_line, AreInPlace, BeginsAnew, HaveNoReturns, printed_items}
 use proofs.damage.TextAfter.{lines_on, written-on, begins-rest}
-use proofs.wayback.{Carried.{started, units-like, units-placed}, Cut.{IsClean, lines-cut}}
+use proofs.{damage.DamagedText.front-cut, stretches.StretchesCut.AreGood, wayback.Carried.{started, units-like, units-placed}}
 use proofs.wayback.First.{program-clean, program-read, version-clean}
 use proofs.wayback.Items.{marked_now, body_unit, not-interrupted, whole-next}
 use proofs.{anywriter.AnyText.of-nothing, wayback.Reading.lines_back}
@@ -48,17 +48,7 @@ state_on start every block (Warned at ∷ later) = state_on start every block la
 
 -- the first epoch after a block is in full
 abbrev pub GoAnew : Choices → List (Item Epoch) → List (Item Epoch) → Type 0
-GoAnew choices block items = (block ≡ []) ⊎ BeginsAnew choices block items
-
-rest-anew : (choices : Choices) (block : List (Item Epoch)) (item : Item Epoch) (later : List (Item Epoch))
-    → GoAnew choices block (item ∷ later) → GoAnew choices block later
-rest-anew choices block item later (inl none) = inl none
-rest-anew choices block item later (inr anew) = inr (begins-rest choices block item later anew)
-
-none-interrupted : (choices : Choices) (block : List (Item Epoch)) (epoch : Epoch)
-    → GoAnew choices block (Accepted (Observation epoch) ∷ []) → is_in_full choices.every block ≡ true
-none-interrupted choices block epoch (inl none) = rw none refl
-none-interrupted choices block epoch (inr anew) = anew
+GoAnew choices block items = is_in_full choices.every block ≡ false → BeginsAnew choices block items
 
 module _ (start : Option WrittenEpoch) (choices : Choices) (block : List (Item Epoch)) where
   abbrev before_all : List (Item Epoch) → Option WrittenEpoch
@@ -76,7 +66,7 @@ module _ (start : Option WrittenEpoch) (choices : Choices) (block : List (Item E
       (compact_epoch (marked full epoch ∷ marked_epochs choices.every (items ++ block)))
   own-epoch types epoch items true anew e h =
       full-lines types epoch (marked_epochs choices.every (items ++ block)) (before_all items) h
-  own-epoch types epoch [] false anew e h = grind (arith, common_steps, none-interrupted)
+  own-epoch types epoch [] false anew e h = absurd (cc (anew e, e))
   own-epoch types epoch (Accepted (Observation last) ∷ items) false anew e h = later-lines types epoch
       (marked_now choices.every (items ++ block) last) (marked_epochs choices.every (items ++ block)) h
   own-epoch types epoch (item ∷ items) false anew e h = grind (arith, common_steps, not-interrupted)
@@ -100,12 +90,12 @@ module _ (start : Option WrittenEpoch) (choices : Choices) (block : List (Item E
   pub own-on : (items : List (Item Epoch)) → AreInPlace (items ++ block) → GoAnew choices block items
       → AreLinesOn (units_in block) start (units_in items) (lines_on choices.every items block) (before_all items)
   own-on [] h anew = (refl, refl)
-  own-on (Warned at ∷ items) h anew = own-on items h.1 (rest-anew choices block (Warned at) items anew)
+  own-on (Warned at ∷ items) h anew = own-on items h.1 (λ e. begins-rest choices block (Warned at) items (anew e))
   own-on (Accepted unit ∷ items) h anew = (
     before_all items,
     lines_on choices.every items block,
     body_unit choices.every (items ++ block) unit,
-    own-on items h.1 (rest-anew choices block (Accepted unit) items anew),
+    own-on items h.1 (λ e. begins-rest choices block (Accepted unit) items (anew e)),
     refl,
     rw (← units-append items block) (own-unit items unit h anew),
   )
@@ -122,7 +112,7 @@ own-lines choices items h =
     let same : lines_on choices.every items [] ≡ lines_back choices.every items =
     sym (written-on choices.every items []) ∙ ap (lines_back choices.every) (append-nil items) in
     rw (← same, ← of-nothing (units_in items) (lines_on choices.every items []) (state_after choices.every items))
-    (own-on None choices [] items (rw append-nil h) (inl refl))
+    (own-on None choices [] items (rw append-nil h) (λ e. absurd (cc e)))
 
 pub units-in_place : (units : List (FileUnit Epoch)) → AreInPlace (as_items units) → AreUnitsInPlace units
 units-in_place [] h = tt
@@ -135,25 +125,26 @@ whole-items items h = grind (arith, common_steps, units-like, units-in_place, un
 pub whole-file : (units : List (FileUnit Epoch)) → MakeAFile units → AreWholeFile units
 whole-file units h = subst AreWholeFile (units-again units) (whole-items (as_items units) (settled units h))
 
+-- the lines of its text, whatever comes after it
+pub own-cut : (choices : Choices) (before : List (Item Epoch)) (more : List ℕ) → is_date choices.date ≡ true → AreGood before
+    → is_at_start before ≡ false → map as_read (lines_of (lines_text (compact_lines choices before) ++ more))
+    ≡ map Content (version_line ∷ program_line choices.date ∷ lines_back choices.every before) ++ map as_read (lines_of more)
+own-cut choices before more dated h begun =
+    grind (arith, lines-same, front-cut, version-clean, program-clean, lines-clean)
+
 pub own-items : (choices : Choices) (items : List (Item Epoch)) → is_date choices.date ≡ true → IsSettled items
     → HaveNoReturns items → IsCompactTextOf (units_in items) (lines_text (compact_lines choices items))
-own-items choices items dated h none =
-    let lines = lines_back choices.every items in
-    let clean : AllByRecursion IsClean (version_line ∷ program_line choices.date ∷ lines) = (
-      version-clean,
-      (program-clean choices.date dated, lines-clean choices.every items h.in_place h.copied none),
-    ) in
-    record {
-      version = version_line;
-      program = program_line choices.date;
-      lines = lines;
-      last = state_after choices.every items;
-      cut = ap (λ ls. map as_read (lines_of (lines_text ls))) (lines-same choices items h.in_place (started items h.header))
-          ∙ lines-cut (version_line ∷ program_line choices.date ∷ lines) clean;
-      first = refl;
-      second = program-read choices.date;
-      written = own-lines choices items h.in_place;
-    }
+own-items choices items dated h none = record {
+  version = version_line;
+  program = program_line choices.date;
+  lines = lines_back choices.every items;
+  last = state_after choices.every items;
+  cut = simp append-nil at (own-cut choices items [] dated (record
+      { in_place = h.in_place; copied = h.copied; no_returns = none }) (started items h.header));
+  first = refl;
+  second = program-read choices.date;
+  written = own-lines choices items h.in_place;
+}
 
 pub own-text : OwnTextIsOne
 own-text units choices dated file = (

@@ -24,18 +24,18 @@ pub warned-types : (warnings : List At) (items : List (Item ReadEpoch))
 warned-types [] items = refl
 warned-types (at ∷ older) items = warned-types older items
 
--- reading goes on at some lines, after these items and at most one warning
-pub record GoesOnAt (items : List (Item ReadEpoch)) (tail : List ReadLine)
+-- reading goes on at some lines, after these items and at most so many warnings
+pub record GoesOnAt (most : ℕ) (items : List (Item ReadEpoch)) (tail : List ReadLine)
     (r : Reading ReadEpoch) : Type 0 where
   pub warnings : List At
-  pub few : length warnings ≤ 1
+  pub few : length warnings ≤ most
   pub number : ℕ
   pub same : r ≡ reading_from compact_place true (with_warnings warnings items) number tail
 
 -- an epoch that is open is cut off, and reading goes on at the very line that does so
 pub open-goes_on : (items : List (Item ReadEpoch)) (number : ℕ) (first : List ℕ) (rest : List ReadLine) (line
     : List ℕ) (tail : List ReadLine) → IsBetweenUnits items → is_event_line first ≡ false → compact_place
-    items (Content first ∷ rest) ≡ NeedsMore → begins_epoch line ≡ true → GoesOnAt items (Content line ∷ tail)
+    items (Content first ∷ rest) ≡ NeedsMore → begins_epoch line ≡ true → GoesOnAt 1 items (Content line ∷ tail)
     (reading_from compact_place true items number (Content first ∷ (rest ++ Content line ∷ tail)))
 open-goes_on items number first rest line tail h no_event e begins =
     let open_lines = Content first ∷ rest in

@@ -24,10 +24,10 @@ use proofs.anywriter.OwnText.{printed-append}
 use proofs.damage.SavedText.{among-append}
 use proofs.damage.{DamagedText.{front-cut, instead-read, text-append}, DamageStays.all-saved, ItemTexts.{rest-in_place, text-parts}}
 use proofs.damage.{TextAfter.lines_on}
-use proofs.reading.Each.{header-append}
-use proofs.stretches.{OwnStretches.{file-good, file-settled, own-damage, text_of_own, units-left, units-types}}
+use proofs.{reading.Each.header-append, wayback.First.all-weaker}
+use proofs.stretches.{OwnStretches.{file-good, file-settled, own-damage, text_of_own}}
 use proofs.stretches.StretchesCut.{AreGood, good-before, kept-clean, as_stretch}
-use proofs.wayback.{Carried.{units_in, units-placed}, Cut.{IsClean, return-kept}, Items.{marked_now, epoch-stands}, Standard.{NoReturn, same-reading}}
+use proofs.wayback.{Carried.{units_in, units-like, units-placed}, Cut.{IsClean, return-kept}, Items.{marked_now, epoch-stands}, Standard.{NoReturn, same-reading}}
 use proofs.wayback.{Standard.{whole-copied, plain-no_return}}
 
 -- ---- the epochs of a block
@@ -90,9 +90,7 @@ inside-read (line ∷ lines) e =
     grind (arith, common_steps, and_parts, not-true, by_bool, inside-read lines (and_parts (may_replace line) _ e).1)
 
 may-come : (lines : List InputLine) → list_all may_replace lines ≡ true → list_all may_come_instead lines ≡ true
-may-come [] e = refl
-may-come (line ∷ lines) e =
-    grind (arith, common_steps, and_parts, not-true, by_bool, may-come lines (and_parts (may_replace line) _ e).1)
+may-come = all-weaker may_replace may_come_instead (λ line e. grind (arith, common_steps, and_parts, not-true, by_bool))
 
 first-allowed : (line : List ℕ) (lines : List InputLine) → IsClean line → is_event_line line ≡ false
     → list_all may_come_instead lines ≡ true
@@ -209,7 +207,7 @@ module _ (input : List ℕ) (choices : Choices) (damaged : List ℕ) (d : IsOwnD
       rw (d.parts, printed-append d.after (with_epochs d.before epochs), drop-append_seam) (sym (units-printed d.after)) in
       record {
         epochs = k.epochs;
-        whole = subst (λ types. AllByRecursion (IsWholeEpoch types) k.epochs) (units-types d.before before-good.in_place) k.whole;
+        whole = subst (λ types. AllByRecursion (IsWholeEpoch types) k.epochs) (sym (units-like d.before before-good.in_place).types) k.whole;
         warnings = k.warnings;
         few = k.few;
         output = cc (
@@ -229,12 +227,12 @@ module _ (input : List ℕ) (choices : Choices) (damaged : List ℕ) (d : IsOwnD
             (state_on (state_after choices.every d.before) choices.every d.before (own count)) (map Content rest)
             (units-in_place _ (rw units at (units-placed (own count ++ d.before) (own-good count).in_place)))
             (ap (λ us. records_left (as_items us)) (sym units)
-            ∙ units-left (own count ++ d.before) (own-good count).in_place
+            ∙ sym (units-like (own count ++ d.before) (own-good count).in_place).left
             ∙ ap records_left (sym (epochs-items d.before (take (suc count) epochs)))
             ∙ epochs-left d.before (take (suc count) epochs) (first-in_place.0).1)
             (rw (epochs-lines choices d.before (take (suc count) epochs))
             (own-on (state_after choices.every d.before) choices d.before (own count) (own-good count).in_place
-            (inr (epochs-anew choices d.before d.first (take count d.others) d.starts))))
+            (λ e. epochs-anew choices d.before d.first (take count d.others) d.starts)))
             (text-cut ∙ ap (λ ls. Content full ∷ ls) (instead-read (lines_of d.instead) d.allowed ∙ ap (map Content) e
             ∙ map-append Content (drop 1 (lines_of_epochs choices d.before (take (suc count) epochs))) rest)) in
             (found.0, found.1 ∙ ap (λ es. es ++ found.0) (epochs-among (take (suc count) epochs)));

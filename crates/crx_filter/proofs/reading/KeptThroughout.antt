@@ -3,7 +3,7 @@ use Rattle.crx_filter.proofs.Words.{ℕ, zero, suc, ◌≡◌, ◌+◌, max, Boo
 use Rattle.crx_filter.proofs.Words.{At, Place, Done, Fails, FileUnit, Item, Accepted, Warned, Reading}
 use Rattle.crx_filter.proofs.Words.{is_skipped, can_go_on, looked_for, after_fault, reading_within, by_bool}
 use Rattle.crx_filter.proofs.Words.{refl, Stop, AtLines, AtFault, Looking, arith, length, Option, Some}
-use Rattle.crx_filter.proofs.Words.{None, Fault, common_steps}
+use Rattle.crx_filter.proofs.Words.{None, Fault, common_steps, false}
 use Rattle.crx_filter.proofs.Words.{WholeReading, reading_from, whole_reading, ended_reading, ended_with}
 use Rattle.crx_filter.proofs.Words.{fault_at_end}
 use Rattle.std.proofs.lemmas.List.{drop-drop, drop_all}
@@ -27,7 +27,8 @@ module _ {E : Type 0} (place : List (Item E) → List ReadLine → Place (FileUn
   abbrev IsLeft : List (Item E) → Stop → List ReadLine → Type 0
   IsLeft items (AtLines number rest) lines = lines ≡ rest
   IsLeft items (Looking number) lines = lines ≡ []
-  IsLeft items (AtFault at) lines = (offset : ℕ) × (place items lines ≡ Fails offset at.fault)
+  IsLeft items (AtFault at) lines =
+      (offset : ℕ) × (place items lines ≡ Fails offset at.fault) × (is_skipped skip items at.fault ≡ false)
 
   abbrev pub KeptAt : Reading E → Type 0
   KeptAt r = (lines : List ReadLine) × Keeps r.items lines × IsLeft r.items r.stop lines
@@ -52,7 +53,7 @@ module _ {E : Type 0} (place : List (Item E) → List ReadLine → Place (FileUn
       (λ on. rw (on, after_fault) (looked-kept (Warned at ∷ items) (reading_within place skip units (Warned at ∷ items))
       (number + max offset 1) (drop (max offset 1) lines)
       (λ n. rw (drop-drop n (max offset 1) lines) (k.passed items lines at (max offset 1 + n) on h))
-      (within-kept k units (Warned at ∷ items)))) (λ off. rw (off, after_fault) (lines, h, (offset, e)))))
+      (within-kept k units (Warned at ∷ items)))) (λ off. rw (off, after_fault) (lines, h, (offset, e, off)))))
       (λ e. rw (within-wanted place skip units items number lines e) (lines, h, refl))
 
   -- ---- the end

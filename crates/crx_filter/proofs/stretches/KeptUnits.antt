@@ -80,8 +80,7 @@ units-kept block (unit ∷ kept) lines last items so_far h placed k stops =
         → AreKeptRead block (unit ∷ kept) items r (reading_from compact_place true [] 3 (so_far ++ map Content ls))
     by_first [] k begins = absurd begins
     by_first (line ∷ others) k begins =
-        let g = open-continued items r line (map Content others) h.between stops begins in
-        let at = g.goes in
+        let at = open-continued items r line (map Content others) h.between stops begins in
         let x : List (Item ReadEpoch) = with_warnings at.warnings items in
         let o : AreReadOn true x at.number block (unit ∷ kept) (line ∷ others) last = read-on true x at.number block
         (unit ∷ kept) (line ∷ others) None last (like-block block x (record {
@@ -95,7 +94,7 @@ units-kept block (unit ∷ kept) lines last items so_far h placed k stops =
         resumed compact_place compact-forward true [] 3 so_far (map Content (line ∷ others)) ∙ at.same ∙ o.reads in
         record {
           warnings = at.warnings;
-          few = rw reads (omega (arith, g.few));
+          few = rw reads (omega (arith, at.few));
           more = o.more;
           known = o.known;
           like = o.like;

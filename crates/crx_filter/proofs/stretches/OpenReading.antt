@@ -3,19 +3,20 @@
 use Rattle.crx_filter.proofs.Words
 use Words.{common_steps, ℕ, zero, suc, ◌≡◌, ◌+◌, ◌<◌, ◌≤◌, max, ◌⊎◌, inl, inr, true, false, List, [], ◌∷◌}
 use Words.{◌++◌}
-use Words.{length, drop, refl, sym, ◌∙◌, subst, arith, append_assoc, ⊤, list_all, and_parts, length-drop}
+use Words.{length, drop, refl, arith, ⊤, list_all, and_parts}
 use Words.{ReadLine, Content, Overlong, At, begins_epoch, is_event_line, not-true}
 use Words.{NeedsMore, Observation, ReadEpoch, ended_reading, warnings_in}
-use Words.{Item, Accepted, Warned, types_in_force, Reading, Stop, AtLines, Looking, can_go_on, looked_for}
+use Words.{Item, Accepted, Warned, types_in_force, Reading, Stop, AtLines, Looking, looked_for}
 use Words.{after_fault}
 use Words.{reading_within, reading_from, compact_place, IsBetweenUnits, continued_reading, by_bool}
-use Words.{is_skipped}
+use Words.{is_skipped, ap, AtFault}
 use Rattle.crx_filter.specs.meaning.{Damage.is_inside, Stretches.begins_no_event}
 use Rattle.crx_filter.proofs.damage.BlockReading.{bad-event, epoch-here, fault-here, skipped-here}
 use Rattle.crx_filter.proofs.damage.GoingOn.{GoesOnAt, open-goes_on, EndsAfter, ends-inside}
-use Rattle.crx_filter.proofs.reading.{ForwardCompact.compact-forward}
-use Rattle.crx_filter.proofs.reading.Resuming.{by_place, here-within, wrong-within, within-here, within-wrong}
-use Rattle.crx_filter.proofs.reading.Resuming.{within-wanted, fault-skipped, looked-here, looked-on, resumed}
+use Rattle.crx_filter.proofs.{following.Lines.IsStopped, reading.{ForwardCompact.compact-forward, Stopping.reading-stopped}}
+use Rattle.crx_filter.proofs.reading.KeptThroughout.{IsKept, KeptAt, looked-kept, within-kept}
+use Rattle.crx_filter.proofs.reading.Resuming.{by_place, within-here, within-wrong}
+use Rattle.crx_filter.proofs.reading.Resuming.{within-wanted, looked-here, resumed}
 use Rattle.crx_filter.proofs.wayback.First.{all-drop}
 use Rattle.std.proofs.lemmas.List.{Folds.list_all-append, drop-drop}
 
@@ -37,30 +38,13 @@ IsOpen items r = ((number : ℕ) × (rest : List ReadLine) × (list_all begins_n
 pub record IsStretchRead (items : List (Item ReadEpoch)) (r : Reading ReadEpoch) : Type 0 where
   pub news : List (Item ReadEpoch)
   pub epochs : AreEpochs news
+  pub between : IsBetweenUnits (news ++ items)
   pub stops : IsOpen (news ++ items) r
-
-pub epochs-append : (one two : List (Item ReadEpoch)) → AreEpochs one → AreEpochs two → AreEpochs (one ++ two)
-epochs-append [] two h k = k
-epochs-append (item ∷ one) two h k = grind (arith, epochs-append one two)
-
-pub epochs-between : (news items : List (Item ReadEpoch))
-    → AreEpochs news → IsBetweenUnits items → IsBetweenUnits (news ++ items)
-epochs-between [] items h between = between
-epochs-between (item ∷ news) items h between = grind (arith, common_steps, epochs-between news items)
 
 pub epochs-types : (news items : List (Item ReadEpoch))
     → AreEpochs news → types_in_force (news ++ items) ≡ types_in_force items
 epochs-types [] items h = refl
 epochs-types (item ∷ news) items h = grind (arith, common_steps, epochs-types news items)
-
--- one item more before what is read
-onto : (item : Item ReadEpoch) (items : List (Item ReadEpoch)) (r : Reading ReadEpoch)
-    → AreEpochs (item ∷ []) → IsStretchRead (item ∷ items) r → IsStretchRead items r
-onto item items r one h = record {
-  news = h.news ++ item ∷ [];
-  epochs = epochs-append h.news (item ∷ []) h.epochs one;
-  stops = rw (append_assoc h.news (item ∷ []) items) h.stops;
-}
 
 -- ---- what is at such lines
 
@@ -72,63 +56,72 @@ wanted-no_event items line lines h text e = grind (arith, common_steps, by_bool,
 
 -- ---- the reading
 
--- from wherever reading goes on, epochs and warnings are read
-looked-stretch : (read : ℕ → List ReadLine → Reading ReadEpoch) (items : List (Item ReadEpoch))
-    (bound number : ℕ) (lines : List ReadLine) → ((n : ℕ) (ls : List ReadLine) → length ls < bound
-    → list_all begins_no_event ls ≡ true → IsStretchRead items (read n ls)) → length lines < bound
-    → list_all begins_no_event lines ≡ true → IsStretchRead items (looked_for read items number lines)
-looked-stretch read items bound number [] h few text = grind arith
-looked-stretch read items bound number (line ∷ lines) h few text = by_bool (can_go_on line)
-    (λ on. rw (looked-here read items number line lines on) (h number (line ∷ lines) few text))
-    (λ off. rw (looked-on read items number line lines off)
-    (looked-stretch read items bound (number + 1) lines h (omega (arith, few)) (and_parts _ _ text).1))
+-- epochs and warnings alone were read since some items, and no line from there on begins an event
+abbrev ReadsEpochs : List (Item ReadEpoch) → List (Item ReadEpoch) → List ReadLine → Type 0
+ReadsEpochs items all lines = (news : List (Item ReadEpoch)) × AreEpochs news × (all ≡ news ++ items)
+    × IsBetweenUnits all × (list_all begins_no_event lines ≡ true)
 
-within-stretch : (units : ℕ) (items : List (Item ReadEpoch)) (number : ℕ) (lines : List ReadLine)
-    → length lines < units → IsBetweenUnits items → list_all begins_no_event lines ≡ true
-    → IsStretchRead items (reading_within compact_place true units items number lines)
-within-stretch zero items number lines few h text = absurd (omega (arith, few))
-within-stretch (suc units) items number lines few h text = by_place (compact_place items lines)
-    (λ unit count e.
-    let epoch = epoch-here items lines unit count h text e in
-    let read = epoch.0 in
-    let within = here-within compact_place compact-forward items lines unit count e in
-    let rest = within-stretch units (Accepted (Observation read) ∷ items) (number + count) (drop count lines)
-    (omega (arith, few, within.0, within.1, length-drop count lines))
-    (record { header = h.header; none = refl }) (all-drop begins_no_event count lines text) in
-    subst
-    (IsStretchRead items) (cc (within-here compact_place true units items number lines unit count e, epoch.1))
-    (onto (Accepted (Observation read)) items _ tt rest)) (λ offset fault e.
-    let at : At = record { line = number + offset; fault = fault } in
-    let n = max offset 1 in
-    subst (IsStretchRead items) (sym (within-wrong compact_place true units items number lines offset fault e
-    ∙ fault-skipped true (reading_within compact_place true units) items number lines offset fault
-    (skipped-here items fault h (fault-here items lines offset fault h text e))))
-    (onto (Warned at) items _ tt (looked-stretch (reading_within compact_place true units (Warned at ∷ items))
-    (Warned at ∷ items) units (number + n) (drop n lines) (λ m ls less none. within-stretch units
-    (Warned at ∷ items) m ls less (record { header = h.header; none = refl }) none) (omega (
-      arith,
-      few,
-      wrong-within compact_place compact-forward items lines offset fault e,
-      length-drop n lines,
-    )) (all-drop begins_no_event n lines text)))) (λ e. record {
-      news = [];
-      epochs = tt;
-      stops = inl (number, lines, text, e, within-wanted compact_place true units items number lines e);
-    })
+epochs-kept : (items : List (Item ReadEpoch)) → IsKept compact_place true (ReadsEpochs items)
+epochs-kept items = record {
+  here = λ all lines unit count e h.
+      let read = epoch-here all lines unit count h.3 h.4 e in
+      rw read.1 (
+        Accepted (Observation read.0) ∷ h.0,
+        h.1,
+        ap (λ is. Accepted (Observation read.0) ∷ is) h.2,
+        record { header = (h.3).header; none = refl },
+        all-drop begins_no_event count lines h.4,
+      );
+  passed = λ all lines at n on h. (
+    Warned at ∷ h.0,
+    h.1,
+    ap (λ is. Warned at ∷ is) h.2,
+    record { header = (h.3).header; none = refl },
+    all-drop begins_no_event n lines h.4,
+  );
+}
+
+is-open : (items all : List (Item ReadEpoch)) (stop : Stop) (next : ℕ)
+    → KeptAt compact_place true (ReadsEpochs items) (record { items = all; stop = stop })
+    → IsStopped compact_place all stop next → IsStretchRead items (record { items = all; stop = stop })
+is-open items all (AtFault at) next (lines, h, left) stopped =
+    absurd (cc (left.2, skipped-here all at.fault h.3 (fault-here all lines left.0 at.fault h.3 h.4 left.1)))
+is-open items all (AtLines number rest) next (lines, h, left) stopped = record {
+  news = h.0;
+  epochs = h.1;
+  between = rw (← h.2) h.3;
+  stops = rw (← h.2) (inl (number, rest, rw left at h.4, stopped.0, refl));
+}
+is-open items all (Looking number) next (lines, h, left) stopped = record {
+  news = h.0;
+  epochs = h.1;
+  between = rw (← h.2) h.3;
+  stops = rw (← h.2) (inr (number, refl));
+}
 
 -- more lines of a stretch, after what was read so far
 pub stretch-more : (items : List (Item ReadEpoch)) (so_far lines : List ReadLine) → IsBetweenUnits items
     → IsOpen items (reading_from compact_place true [] 3 so_far) → list_all begins_no_event lines ≡ true
     → IsStretchRead items (reading_from compact_place true [] 3 (so_far ++ lines))
 stretch-more items so_far lines between stops text =
-    rw (resumed compact_place compact-forward true [] 3 so_far lines) (goes-on stops)
+    let all = reading_from compact_place true [] 3 (so_far ++ lines) in
+    is-open items all.items all.stop _ (rw (resumed compact_place compact-forward true [] 3 so_far lines) (goes-on stops))
+    (reading-stopped compact_place compact-forward true [] 3 _ (so_far ++ lines) refl)
   where
     r : Reading ReadEpoch
     r = reading_from compact_place true [] 3 so_far
 
-    goes-on : IsOpen items r → IsStretchRead items (continued_reading compact_place true r lines)
-    goes-on (inl (number, rest, none, e, is)) = grind (arith, within-stretch, list_all-append)
-    goes-on (inr (number, is)) = grind (arith, common_steps, looked-stretch, within-stretch)
+    within : (number : ℕ) (ls : List ReadLine) → ReadsEpochs items items ls
+        → KeptAt compact_place true (ReadsEpochs items) (reading_from compact_place true items number ls)
+    within number ls h =
+        within-kept compact_place true (ReadsEpochs items) (epochs-kept items) (length ls + 1) items number ls h
+
+    goes-on : IsOpen items r → KeptAt compact_place true (ReadsEpochs items) (continued_reading compact_place true r lines)
+    goes-on (inl (number, rest, none, e, is)) = rw is (within number (rest ++ lines)
+        ([], tt, refl, between, rw (list_all-append begins_no_event rest lines, none) text))
+    goes-on (inr (number, is)) = rw is (looked-kept compact_place true (ReadsEpochs items) items
+        (reading_from compact_place true items) number lines
+        (λ n. ([], tt, refl, between, all-drop begins_no_event n lines text)) within)
 
 -- ---- few warnings
 
@@ -182,35 +175,20 @@ few-warned (suc units) items number lines h = by_place (compact_place items line
 -- ---- the next line that begins with >
 
 -- reading goes on at some lines, after these items and a warning, if an epoch was open
-pub record GoesOnAfter (items : List (Item ReadEpoch)) (lines : List ReadLine) (before r : Reading ReadEpoch)
-    : Type 0 where
-  pub goes : GoesOnAt items lines r
-  pub few : length goes.warnings ≤ pending before.stop
-
 pub open-continued : (items : List (Item ReadEpoch)) (r : Reading ReadEpoch) (line : List ℕ)
     (tail : List ReadLine) → IsBetweenUnits items → IsOpen items r → begins_epoch line ≡ true
-    → GoesOnAfter items (Content line ∷ tail) r (continued_reading compact_place true r (Content line ∷ tail))
-open-continued items r line tail between (inl (number, [], none, e, is)) begins = record {
-  goes = record { warnings = []; few = omega arith; number = number; same = cc (is) };
-  few = omega arith;
-}
+    → GoesOnAt (pending r.stop) items (Content line ∷ tail) (continued_reading compact_place true r (Content line ∷ tail))
+open-continued items r line tail between (inl (number, [], none, e, is)) begins =
+    record { warnings = []; few = omega arith; number = number; same = cc (is) }
 open-continued items r line tail between (inl (number, Overlong ∷ rest, none, e, is)) begins = grind arith
 open-continued items r line tail between (inl (number, Content first ∷ rest, none, e, is)) begins =
-    let g = open-goes_on items number first rest line tail between
-    (wanted-no_event items first rest between (and_parts _ _ none).0 e) e begins in
-    rw is (record { goes = g; few = g.few })
+    rw is (open-goes_on items number first rest line tail between
+    (wanted-no_event items first rest between (and_parts _ _ none).0 e) e begins)
 open-continued items r line tail between (inr (number, is)) begins = record {
-  goes = record {
-    warnings = [];
-    few = omega arith;
-    number = number;
-    same = cc (
-      is,
-      looked-here (reading_from compact_place true items) items number
-          (Content line) tail begins,
-    );
-  };
+  warnings = [];
   few = omega arith;
+  number = number;
+  same = cc (is, looked-here (reading_from compact_place true items) items number (Content line) tail begins);
 }
 
 -- ---- the end of the input

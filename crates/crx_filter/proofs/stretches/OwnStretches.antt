@@ -1,27 +1,25 @@
 -- The compact text of a file that is compacted here, damaged in stretches or cut off, is such a text as any
 -- writer's.
 use Rattle.crx_filter.proofs
-use proofs.Words.{ℕ, ◌≡◌, inr, true, false, List, [], ◌∷◌, ◌++◌, map, Option, None, refl, ap, sym, ◌∙◌}
+use proofs.Words.{ℕ, ◌≡◌, true, false, List, [], ◌∷◌, ◌++◌, map, Option, None, refl, ap, sym, ◌∙◌}
 use proofs.Words.{subst, arith, AllByRecursion, flat_map, printed_epoch, list_all, and_parts, by_bool}
 use proofs.Words.{InputLine, lines_of, lines_text, common_steps}
-use proofs.Words.{Content, as_read, version_line, program_line, Epoch, FileUnit, IsWholeEpoch, EventLine}
-use proofs.Words.{Observation}
-use proofs.Words.{Choices, is_date, Item, Accepted, Warned, is_at_start, header_has_ended, records_left}
-use proofs.Words.{types_in_force}
+use proofs.Words.{as_read, version_line, program_line, Epoch, FileUnit, IsWholeEpoch}
+use proofs.Words.{Choices, is_date, Item, is_at_start, records_left}
 use proofs.Words.{compact_lines, printed_items, expanded, Begins, AreInPlace, BeginsAnew, with_stretches}
 use proofs.Words.{Stretch, IsStretch, AreStretches}
 use Rattle.crx_filter.specs.meaning.{CompactText.{AreUnitsInPlace, AreWholeFile}, Stretches.{BeginsWithUnits}}
-use Rattle.crx_filter.specs.meaning.{Stretches.{HasStretches, Saves, begins_no_event}, UnitsAndText.as_items}
+use Rattle.crx_filter.specs.meaning.{Stretches.{HasStretches, Saves, begins_no_event}}
 use Rattle.crx_filter.specs.OwnStretches.{read_of_file, IsReadWhole, OwnStretch, up_to_own_end}
 use Rattle.crx_filter.specs.OwnStretches.{up_to_own_next, with_own, own_text}
 use Rattle.crx_filter.specs.OwnStretches.{may_come_instead, AreOwnStretches, HasOwnStretches, SavesOwn}
 use Rattle.crx_filter.specs.OwnStretches.{KeepsOwnRest, BeginsWithOwn}
-use proofs.anywriter.{AnyText.first-units, OwnText.{units-append, units-printed, state_after, state_on, own-on, own-lines, whole-items}}
-use proofs.damage.{DamagedText.front-cut, ItemTexts.rest-in_place, TextAfter.{begins-rest}}
+use proofs.anywriter.{AnyText.first-units, OwnText.{units-append, units-printed, state_after, state_on, own-on, own-cut, own-lines, whole-items}}
+use proofs.damage.{ItemTexts.rest-in_place, TextAfter.begins-rest}
 use proofs.stretches.StretchesCut.{AreGood, good-before, good-up_to, as_stretch, as_stretches, stretches-cut}
 use proofs.stretches.StretchesSaved.{rest-kept}
-use proofs.wayback.{Carried.{started, units-like}, First.{version-clean, program-clean, program-read}}
-use proofs.wayback.{Reading.lines_back, Units.units_in, WayBack.{IsSettled, whole-settled, lines-same, lines-clean}}
+use proofs.wayback.{Carried.{started, units-like}, First.program-read}
+use proofs.wayback.{Reading.lines_back, Units.units_in, WayBack.{IsSettled, whole-settled}}
 
 -- ---- the file
 
@@ -38,26 +36,7 @@ pub file-whole : (file : List ℕ) (choices : Choices) → IsReadWhole file choi
     → AreWholeFile (units_in (read_of_file file choices).items)
 file-whole file choices h = whole-items (read_of_file file choices).items (file-settled file choices h)
 
--- ---- its units leave what its items do
-
-pub units-header : (items : List (Item Epoch)) → header_has_ended (as_items (units_in items)) ≡ header_has_ended items
-units-header [] = refl
-units-header (item ∷ before) = grind (arith, units-header before)
-
-pub units-left : (items : List (Item Epoch)) → AreInPlace items → records_left (as_items (units_in items)) ≡ records_left items
-units-left items h = sym (units-like items h).left
-
-pub units-types : (items : List (Item Epoch)) → AreInPlace items
-    → types_in_force (as_items (units_in items)) ≡ types_in_force items
-units-types items h = sym (units-like items h).types
-
 -- ---- text that begins with the lines of its first units
-
-pub own-cut : (choices : Choices) (before : List (Item Epoch)) (more : List ℕ) → is_date choices.date ≡ true → AreGood before
-    → is_at_start before ≡ false → map as_read (lines_of (lines_text (compact_lines choices before) ++ more))
-    ≡ map Content (version_line ∷ program_line choices.date ∷ lines_back choices.every before) ++ map as_read (lines_of more)
-own-cut choices before more dated h begun =
-    grind (arith, lines-same, front-cut, version-clean, program-clean, lines-clean)
 
 abbrev pub begins-own : (choices : Choices) (before : List (Item Epoch)) (more : List ℕ) → is_date choices.date ≡ true → AreGood before
     → is_at_start before ≡ false → BeginsWithUnits (units_in before) (lines_text (compact_lines choices before) ++ more)
@@ -97,19 +76,12 @@ whole-first file choices expanding text dated h = by_units h.before
 -- ---- its stretches
 
 -- where what is kept begins anew, it comes after whole units
-anew-left : (choices : Choices) (item : Item Epoch) (items block : List (Item Epoch))
-    → AreInPlace ((item ∷ items) ++ block) → BeginsAnew choices block (item ∷ items) → records_left block ≡ 0
-anew-left choices (Accepted (EventLine line)) [] block h anew = (h.0).1
-anew-left choices (Accepted (Observation epoch)) [] block h anew = (h.0).1
-anew-left choices (Accepted unit) [] block h anew = absurd anew
-anew-left choices (Warned at) [] block h anew = absurd anew
-anew-left choices newest (item ∷ items) block h anew = anew-left choices item items block
-    (rest-in_place (newest ∷ []) ((item ∷ items) ++ block) h) (begins-rest choices block newest (item ∷ items) anew)
-
 left-before : (choices : Choices) (kept block : List (Item Epoch)) → AreInPlace (kept ++ block)
-    → BeginsAnew choices block kept → records_left (kept ++ block) ≡ 0 → records_left block ≡ 0
-left-before choices [] block h anew closed = closed
-left-before choices (item ∷ items) block h anew closed = anew-left choices item items block h anew
+    → BeginsAnew choices block kept → (kept ≡ [] → records_left block ≡ 0) → records_left block ≡ 0
+left-before choices [] block h anew closed = closed refl
+left-before choices (item ∷ []) block h anew closed = grind (arith, common_steps)
+left-before choices (newest ∷ item ∷ items) block h anew closed = left-before choices (item ∷ items) block
+    (rest-in_place (newest ∷ []) _ h) (begins-rest choices block newest (item ∷ items) anew) (λ e. absurd (cc e))
 
 lines-allowed : (lines : List InputLine) → list_all may_come_instead lines ≡ true
     → list_all begins_no_event (map as_read lines) ≡ true
@@ -139,14 +111,14 @@ one-stretch choices before s later h placed closed =
     let first : AreInPlace before = rest-in_place s.lost before up_to in
     let same : units_in block ≡ units_in s.lost ++ units_in before = units-append s.lost before in
     let ends : records_left block ≡ 0 = left-before choices s.kept block placed (h.0).anew
-    (next-closed choices (up_to_own_next before s) later h.1 closed) in
+    (λ none. rw none at (next-closed choices (up_to_own_next before s) later h.1 closed)) in
     record {
-      begins = units-left before first ∙ (h.0).between;
-      ends = ap (λ us. records_left (as_items us)) (sym same) ∙ units-left block up_to ∙ ends;
-      types = rw (← same) (units-types block up_to ∙ (h.0).types ∙ sym (units-types before first));
+      begins = sym (units-like before first).left ∙ (h.0).between;
+      ends = rw (← same) (sym (units-like block up_to).left ∙ ends);
+      types = rw (← same) (cc ((units-like block up_to).types, (h.0).types, (units-like before first).types));
       allowed = lines-allowed (lines_of s.instead) (h.0).allowed;
       last = state_on None choices.every block s.kept;
-      written = rw (← same) (own-on None choices block s.kept placed (inr (h.0).anew));
+      written = rw (← same) (own-on None choices block s.kept placed (λ e. (h.0).anew));
     }
 
 -- its stretches as those of a text, whoever wrote it
@@ -173,7 +145,7 @@ saves-own every before (s ∷ later) lines good h = (
   h.0,
   h.1,
   subst (λ types. AllByRecursion (IsWholeEpoch types) h.0)
-      (units-types before (good-up_to before (s ∷ later) good).in_place) h.2,
+      (sym (units-like before (good-up_to before (s ∷ later) good).in_place).types) h.2,
   h.3 ∙ ap (λ ls. flat_map printed_epoch h.0 ++ (ls ++ h.1)) (units-printed s.kept),
   saves-own every (up_to_own_next before s) later h.1 good (rw (units-next before s) h.4),
 )
@@ -200,7 +172,7 @@ module _ (file : List ℕ) (choices : Choices) (damaged : List ℕ) (dated : is_
   own-damage = record {
     file = subst AreWholeFile (ap units_in d.parts ∙ sym as_own.all)
         (file-whole file choices d.file_good);
-    header = units-header d.before ∙ d.header;
+    header = sym (units-like d.before (good-up_to d.before d.stretches good).in_place).header ∙ d.header;
     text = begins-own choices d.before (own_text choices d.before d.stretches) dated (good-up_to d.before d.stretches good)
         (started d.before d.header);
     each = as_own.each;

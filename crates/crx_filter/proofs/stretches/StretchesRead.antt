@@ -10,7 +10,7 @@ use Rattle.crx_filter.specs.meaning.{Stretches.{Saves, stretches_lines}, UnitsAn
 use proofs.Words.{map-append}
 use proofs.damage.{ItemTexts.rest-in_place, GoingOn.with_warnings, SavedText.{lines-append, lines-warned, epochs_of}}
 use proofs.{reading.Each.{all-append, header-append}, stretches.KeptUnits.{AreKeptRead, units-kept}}
-use proofs.stretches.OpenReading.{AreEpochs, IsOpen, IsStretchRead, stretch-more, epochs-between}
+use proofs.stretches.OpenReading.{AreEpochs, IsOpen, IsStretchRead, stretch-more}
 use proofs.stretches.OpenReading.{epochs-types}
 use proofs.wayback.{ExpandedStandard.printed-read, ExpandedWhole.AreGoodEpochs}
 
@@ -80,7 +80,7 @@ one-stretch before s later so_far items sound come =
     let k = units-kept block s.kept s.lines h.last x (so_far ++ s.instead) (record {
       header = header;
       left = h.ends;
-      between = epochs-between first.news items first.epochs come.between;
+      between = first.between;
       types = epochs-types first.news items first.epochs ∙ come.types ∙ sym h.types;
     }) (placed-up_to (up_to_next before s) later next.in_place) h.written first.stops in
     record {

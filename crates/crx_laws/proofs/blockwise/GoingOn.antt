@@ -90,7 +90,7 @@ open-passed items number [] line tail between e begins =
 open-passed items number (Overlong ∷ rest) line tail between e begins =
     let never = sym (place-between items (Overlong ∷ rest) between) ∙ e in absurd (cc)
 open-passed items number (Content first ∷ rest) line tail between e begins =
-    let g : GoesOnAt items (Content line ∷ tail)
+    let g : GoesOnAt 1 items (Content line ∷ tail)
     (reading_from compact_place true items number (Content first ∷ (rest ++ Content line ∷ tail))) =
     open-goes_on items number first rest line tail between
     (wanted-no_event items first rest between e) e begins in

@@ -4,7 +4,7 @@ use Rattle.crx_filter.proofs.Words.{sym, ◌∙◌, subst, map-append, lines_of,
 use Rattle.crx_filter.proofs.Words.{Content, as_read, Epoch, FileUnit, ReadEpoch, Choices, is_date, Item, Accepted, Warned}
 use Rattle.crx_filter.proofs.Words.{AtLines, reading_from, ended_reading, compact_lines, compact_place}
 use Rattle.crx_filter.proofs.Words.{expanded_unit, whole_compact, expanded, printed_items, written_well, result_of}
-use Rattle.crx_filter.proofs.Words.{continued_reading, raws_kept, inr, records_left}
+use Rattle.crx_filter.proofs.Words.{continued_reading, raws_kept, records_left}
 use Rattle.crx_filter.specs.meaning.{UnitsAndText.{as_items, rinex_text}, WrittenStandard.rinex_items}
 use Rattle.crx_filter.specs.OwnStretches.{read_of_file}
 use Rattle.crx_filter.proofs.anywriter.AnyText.{AreRead, AreReadOn, all-read, read-on, in-place, none-left, units-well, whole-read}
@@ -12,10 +12,10 @@ use Rattle.crx_filter.proofs.anywriter.OwnText.{own-on, printed-append, state_on
 use Rattle.crx_filter.proofs.damage.{ItemTexts.rest-in_place, TextAfter.lines_on}
 use Rattle.crx_filter.proofs.reading.{ForwardCompact.compact-forward, Resuming.resumed}
 use Rattle.crx_filter.proofs.stretches.{KeptUnits.{CanGoOnAs, like-block}, StretchesCut.{AreGood, good-before, kept-lines, kept-clean}}
-use Rattle.crx_filter.proofs.stretches.OwnStretches.{begins-own, file-good, file-settled, file-whole, units-before, units-header}
-use Rattle.crx_filter.proofs.stretches.{OwnStretches.{units-left, units-types}, StretchesRead.header-on}
+use Rattle.crx_filter.proofs.stretches.OwnStretches.{begins-own, file-good, file-settled, file-whole, units-before}
+use Rattle.crx_filter.proofs.stretches.{StretchesRead.header-on}
 use Rattle.crx_filter.specs.meaning.CompactText.{AreUnitsInPlace}
-use Rattle.crx_filter.proofs.wayback.{Carried.started, Cut.lines-cut, Units.units_in, WayBack.IsSettled}
+use Rattle.crx_filter.proofs.wayback.{Carried.{started, units-like}, Cut.lines-cut, Units.units_in, WayBack.IsSettled}
 use Rattle.crx_compact.proofs.Words.{tail_left}
 use Rattle.crx_laws.specs.Blocks.{IsPieceAfter, IsOwnPieceAfter}
 
@@ -77,13 +77,13 @@ own-piece file front choices expanding text dated h =
       in_place = subst AreUnitsInPlace units (units-before (units_in h.later) (units_in (h.piece ++ h.before))
           (subst AreUnitsInPlace (ap units_in h.parts ∙ units-append h.later (h.piece ++ h.before))
           (file-whole file choices h.file_good).in_place));
-      header = units-header h.before ∙ h.header;
-      begins = units-left h.before placed ∙ (h.whole).0;
-      ends = ap (λ us. records_left (as_items us)) (sym units) ∙ units-left (h.piece ++ h.before) good.in_place ∙ (h.whole).1;
-      types = units-types first settled.in_place ∙ h.types ∙ sym (units-types h.before placed);
+      header = sym (units-like h.before placed).header ∙ h.header;
+      begins = sym (units-like h.before placed).left ∙ (h.whole).0;
+      ends = ap (λ us. records_left (as_items us)) (sym units) ∙ sym (units-like (h.piece ++ h.before) good.in_place).left ∙ (h.whole).1;
+      types = sym (units-like first settled.in_place).types ∙ h.types ∙ (units-like h.before placed).types;
       begun = begun;
       lines = lines;
       last = state_on None choices.every h.before h.piece;
-      written = own-on None choices h.before h.piece good.in_place (inr h.anew);
+      written = own-on None choices h.before h.piece good.in_place (λ e. h.anew);
       rest = lines-cut lines (kept-clean choices h.piece h.before good);
     }) ∙ ap (λ ls. written_well (lines_text ls)) same
