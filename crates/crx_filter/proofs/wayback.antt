@@ -9,7 +9,6 @@ pub mod Converse
 pub mod Carried
 pub mod ExpandedWhole
 pub mod Returns
-pub mod ReturnsRead
 pub mod ReturnsLost
 pub mod NormalForm
 pub mod Canonical

@@ -1,13 +1,12 @@
 -- What was compacted comes back: its compact text is one that any writer may write.
 use Rattle.crx_filter.proofs
 use proofs.Words.{common_steps, arith, ℕ, ◌≡◌, true, false, List, map, None, ap, sym, ◌∙◌, lines_of}
-use proofs.Words.{lines_text}
+use proofs.Words.{lines_text, subst}
 use proofs.Words.{pieces_of, as_read, Epoch, FileUnit, Choices, is_date, compacted, expanded, Item}
-use proofs.Words.{WholeReading}
 use proofs.Words.{FilterResult, compact_lines, printed_items, whole_of, IsStandard}
 use proofs.Words.{HaveNoReturns, written_well}
 use proofs.anywriter.{AnyText.any-text, OwnText.{own-items, units-printed, whole-items}}
-use proofs.wayback.{Canonical.same-compaction, Converse.{lines-plain, all-plain, contents-plain}, NormalForm.printed-clean, Units.{compacts, settled, no-returns, units_in}}
+use proofs.wayback.{Canonical.same-compaction, NormalForm.standard-as_normal, Units.{compacts, settled, no-returns, units_in}}
 use proofs.wayback.{Standard.{NoReturn, plain-no_return, plain-text, same-reading, whole-copied}, WayBack.{IsSettled, whole-settled}}
 use Rattle.crx_filter.specs.meaning.{Canonical.IsCanonical, UnitsAndText.TextsOfUnits}
 use Rattle.crx_filter.specs.WayBack.{ComesBack, NormalFormComesBack, StandardComesBack}
@@ -41,18 +40,9 @@ standard-comes_back input compacting expanding dated standard =
 pub standard-where_kept : (input : List ℕ) (compacting expanding : Choices)
     → is_date compacting.date ≡ true → (whole_of input).fault ≡ None → HaveNoReturns (whole_of input).items
     → (expanded (compacted input compacting).output expanding).output ≡ input → IsStandard input
-standard-where_kept input compacting expanding dated good none same =
-    let items = WholeReading.items (whole_of input) in
-    let h = whole-settled false input good in
-    let back = sym (ap (λ (r : FilterResult). r.output) (normal-comes_back input compacting expanding dated
-    good none)) ∙ same in
-    let cut = ap lines_of (sym back) ∙ lines-plain (printed_items items) (printed-clean items h.in_place
-    h.copied none) in
-    record {
-      good = good;
-      plain = cc (cut, all-plain (printed_items items));
-      given_back = cc (cut, contents-plain (printed_items items));
-    }
+standard-where_kept input compacting expanding dated good none same = subst IsStandard
+    (sym (ap (λ (r : FilterResult). r.output) (normal-comes_back input compacting expanding dated good none)) ∙ same)
+    (standard-as_normal input (record { good = good; no_returns = none }))
 
 -- two files have the same compact text exactly where they have the same normal form
 pub canonical : (one other : List ℕ) (choices : Choices) → IsCanonical one other choices

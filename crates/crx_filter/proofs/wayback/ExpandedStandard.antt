@@ -1,57 +1,44 @@
 -- What an expansion writes is standard: what was read of compact text is in place, as units of RINEX, and
 -- what is copied is a line.
 use Rattle.crx_filter.proofs
-use proofs.Words.{common_steps, [], ℕ, ◌≡◌, ◌+◌, Bool, true, List, ◌∷◌, ◌++◌, map, length, drop, None}
-use proofs.Words.{refl, ap, ◌∙◌, subst, arith, ⊤, AllByRecursion, list_all, and_parts, not-true, HasNoFeed}
-use proofs.Words.{Piece, InputLine, line_of, lines_text, ReadLine, Count, types_of, IsWholeEpoch, Epoch}
-use proofs.Words.{FileUnit, HeaderLine, EventRecord, Observation, printed_unit, ReadEpoch, Choices}
+use proofs.Words.{common_steps, [], ℕ, ◌≡◌, ◌+◌, Bool, true, List, ◌∷◌, ◌++◌, length, drop, None}
+use proofs.Words.{refl, ap, ◌∙◌, arith, ⊤, AllByRecursion, and_parts, not-true, HasNoFeed}
+use proofs.Words.{lines_text, ReadLine, Count, IsWholeEpoch, Epoch}
+use proofs.Words.{FileUnit, Observation, printed_unit, ReadEpoch, Choices}
 use proofs.Words.{compact_place, raws_kept, first_lines, whole_compact, expanded_unit, Item}
 use proofs.Words.{Accepted, Warned, is_at_start, header_has_ended, records_left, records_count_types}
 use proofs.Words.{declaring_lines, types_in_force, WholeReading, reading_from, ended_reading, printed_items}
 use proofs.Words.{OfCopiedLine, OfCopiedLines, HaveNoReturns, written_lines, ItemsAreRead}
 use proofs.{Words.{IsInPlace, AreInPlace, compact_reading}, reading.Each.{all-parts, all-drop}}
-use proofs.reading.{ForwardCompact.{compact-forward, compact_beginning}, KeptThroughout.within-kept}
+use proofs.reading.{ForwardCompact.{compact-forward, compact_beginning}}
 use proofs.reading.{Resuming.by_place, Stopping.reading-stopped, WhatStands.{OfHere, of-unit, of-compact}}
 use proofs.{reading.WhatWasRead.{items-read, allowed, of-ended}, wayback.Converse.epoch-printable}
 use proofs.wayback.{Converse.{lines-plain, all-plain}, Cut.{CanStand, OfContent, input-stands}}
 use proofs.wayback.{Cut.first-cut, ExpandedWhole.{AreGoodEpochs, epochs-good}, NormalForm.{printed-clean, settled-standard}}
 use proofs.{reading.Each.all-from, wayback.First.printable-no_feed}
+use proofs.wayback.Reading.{IsFirst, all-copied, copied, of-copied}
 use proofs.wayback.{Standard.{NoReturn, not-ended}, WayBack.{IsSettled, closes, written-all}}
 use Rattle.crx_filter.specs.meaning.{Expanded.rinex_unit, WrittenStandard.{has_plain_lines, rinex_items}}
 use Rattle.crx_filter.specs.meaning.WrittenStandard.{WhatIsExpandedIsStandard}
 
 -- ---- the units of compact text, as units of RINEX, have the same header, events and types in force
 
-pub header-read : (items : List (Item ReadEpoch)) → header_has_ended (rinex_items items) ≡ header_has_ended items
-header-read [] = refl
-header-read (item ∷ before) = grind (arith, header-read before)
+record IsReadAs (items : List (Item ReadEpoch)) (units : List (Item Epoch)) : Type 0 where
+  start : is_at_start units ≡ is_at_start items
+  header : header_has_ended units ≡ header_has_ended items
+  left : records_left units ≡ records_left items
+  counts : records_count_types units ≡ records_count_types items
+  lines : declaring_lines units ≡ declaring_lines items
 
-pub start-read : (items : List (Item ReadEpoch)) → is_at_start (rinex_items items) ≡ is_at_start items
-start-read items = grind (arith, common_steps)
-
-pub left-read : (items : List (Item ReadEpoch)) → records_left (rinex_items items) ≡ records_left items
-left-read [] = refl
-left-read (item ∷ before) = grind (arith, left-read before)
+read-as : (items : List (Item ReadEpoch)) → IsReadAs items (rinex_items items)
+read-as [] = record { start = refl; header = refl; left = refl; counts = refl; lines = refl }
+read-as (item ∷ before) = grind (arith, common_steps, read-as before)
 
 pub count-read : (items : List (Item ReadEpoch))
     → records_count_types (rinex_items items) ≡ records_count_types items
-count-read [] = refl
-count-read (item ∷ before) = grind (arith, count-read before)
-
-pub declares-read : (items : List (Item ReadEpoch)) → declaring_lines (rinex_items items) ≡ declaring_lines items
-declares-read [] = refl
-declares-read (Accepted (HeaderLine line) ∷ before) = cc (declares-read before)
-declares-read (Accepted (EventRecord line) ∷ before) = cc (count-read before, declares-read before)
-declares-read (Warned at ∷ before) = declares-read before
-declares-read (Accepted unit ∷ before) = declares-read before
-
-types-read : (items : List (Item ReadEpoch)) → types_in_force (rinex_items items) ≡ types_in_force items
-types-read items = ap types_of (declares-read items)
+count-read items = (read-as items).counts
 
 -- ---- they are in place
-
-abbrev IsPlaced : List (Item ReadEpoch) → FileUnit ReadEpoch → Type 0
-IsPlaced before unit = IsInPlace (rinex_items before) (rinex_unit unit)
 
 abbrev IsGoodUnit : List Count → FileUnit ReadEpoch → Type 0
 IsGoodUnit types (Observation read) = IsWholeEpoch types read.epoch
@@ -59,20 +46,18 @@ IsGoodUnit types unit = ⊤
 
 -- a unit is in place, if it is good
 abbrev Fits : List (Item ReadEpoch) → FileUnit ReadEpoch → Type 0
-Fits before unit = IsGoodUnit (types_in_force before) unit → IsPlaced before unit
+Fits before unit = IsGoodUnit (types_in_force before) unit → IsInPlace (rinex_items before) (rinex_unit unit)
 
 place-fits : (before : List (Item ReadEpoch)) (lines : List ReadLine)
     → OfHere (Fits before) (compact_place before lines)
-place-fits before lines = of-unit (OfHere (Fits before)) tt (λ offset fault. tt) compact_beginning before
-    lines (λ line rest is off right good. (header-read before ∙ off, cc (start-read before, right)))
-    (λ line rest is ended some right good. (
-      header-read before ∙ ended,
-      omega (arith, some, left-read before),
-      cc (count-read before, right),
-    )) (λ ended none. of-compact (OfHere (Fits before)) tt (λ offset fault. tt) (types_in_force before)
-    (raws_kept before) lines (λ line rest is event counted good.
-    (header-read before ∙ ended, left-read before ∙ none, event, counted)) (λ read count e good.
-    (header-read before ∙ ended, left-read before ∙ none, rw (types-read before) good)))
+place-fits before lines =
+    let same = read-as before in
+    of-unit (OfHere (Fits before)) tt (λ offset fault. tt) compact_beginning before lines
+    (λ line rest is off right good. (same.header ∙ off, cc (same.start, right)))
+    (λ line rest is ended some right good. (same.header ∙ ended, omega (arith, some, same.left), cc (same.counts, right)))
+    (λ ended none. of-compact (OfHere (Fits before)) tt (λ offset fault. tt) (types_in_force before) (raws_kept before) lines
+    (λ line rest is event counted good. (same.header ∙ ended, same.left ∙ none, event, counted))
+    (λ read count e good. (same.header ∙ ended, same.left ∙ none, rw same.lines good)))
 
 good-before : (before : List (Item ReadEpoch)) (unit : FileUnit ReadEpoch)
     → AreGoodEpochs (Accepted unit ∷ before) → AreGoodEpochs before
@@ -83,31 +68,28 @@ items-placed : (items : List (Item ReadEpoch)) → ItemsAreRead compact_place it
 items-placed [] h good = tt
 items-placed (Accepted unit ∷ before) h good =
     grind (arith, items-placed before h.1 (good-before before unit good), place-fits, good-before)
-items-placed (Warned at ∷ before) h good = grind (arith, items-placed before h.1 good, header-read, left-read)
+items-placed (Warned at ∷ before) h good = grind (arith, items-placed before h.1 good, read-as before)
 
 -- ---- what is copied is a line
 
-abbrev Copies : (List ℕ → Type 0) → FileUnit ReadEpoch → Type 0
-Copies P unit = OfCopiedLine P (rinex_unit unit)
+pub compact-first : (items : List (Item ReadEpoch)) (lines : List ReadLine) → OfHere (IsFirst lines) (compact_place items lines)
+compact-first items lines =
+    let First = OfHere (IsFirst {E = ReadEpoch} lines) in
+    of-unit First tt (λ offset fault. tt) compact_beginning items lines
+    (λ line rest is open_header good. (rest, is)) (λ line rest is ended some good. (rest, is))
+    (λ ended none. of-compact First tt (λ offset fault. tt) (types_in_force items) (raws_kept items) lines
+    (λ line rest is event counted. (rest, is)) (λ read count e. tt))
 
-copied-unit : (P : List ℕ → Type 0) (items : List (Item ReadEpoch)) (lines : List ReadLine)
-    → AllByRecursion (OfContent P) lines → OfHere (Copies P) (compact_place items lines)
-copied-unit P items lines h = of-unit (OfHere (Copies P)) tt (λ offset fault. tt) compact_beginning items
-    lines (λ line rest is open_header good. (rw is at h).0) (λ line rest is ended some good. (rw is at h).0)
-    (λ ended none. of-compact (OfHere (Copies P)) tt (λ offset fault. tt) (types_in_force items)
-    (raws_kept items) lines (λ line rest is event counted. (rw is at h).0) (λ read count e. tt))
+copied-read : (items : List (Item ReadEpoch)) → copied (rinex_items items) ≡ copied items
+copied-read [] = refl
+copied-read (item ∷ items) = grind (arith, common_steps, copied-read items)
 
 items-copied : (P : List ℕ → Type 0) (skip : Bool) (number : ℕ) (lines : List ReadLine)
     → AllByRecursion (OfContent P) lines
     → OfCopiedLines P (rinex_items (reading_from compact_place skip [] number lines).items)
-items-copied P skip number lines all = (within-kept compact_place skip
-    (λ items ls. OfCopiedLines P (rinex_items items) × AllByRecursion (OfContent P) ls) (record {
-      here = λ items ls unit count e h. (
-        (subst (λ p. OfHere (Copies P) p) e (copied-unit P items ls h.1), h.0),
-        all-drop (OfContent P) count ls h.1,
-      );
-      passed = λ items ls at n on h. (h.0, all-drop (OfContent P) n ls h.1);
-    }) (length lines + 1) [] number lines (tt, all)).1.0
+items-copied P skip number lines all =
+    let items = (reading_from compact_place skip [] number lines).items in
+    of-copied P (rinex_items items) (rw copied-read (all-copied compact_place compact-forward compact-first skip number lines P all))
 
 pub compact-copied : (P : List ℕ → Type 0) (skip : Bool) (lines : List ReadLine)
     → AllByRecursion (OfContent P) lines → OfCopiedLines P (rinex_items (compact_reading skip lines).items)
@@ -132,11 +114,11 @@ from-settled skip number lines h f =
     record {
       in_place = of-ended (λ items. AreInPlace (rinex_items items)) skip r.items r.stop placed (λ at on.
           let facts = allowed skip r.items at.fault on in
-          ((header-read r.items ∙ facts.0, left-read r.items ∙ facts.1, facts.2), placed));
+          (((read-as r.items).header ∙ facts.0, (read-as r.items).left ∙ facts.1, facts.2), placed));
       copied = of-ended (λ items. OfCopiedLines CanStand (rinex_items items)) skip r.items r.stop copied
           (λ at on. copied);
-      header = header-read whole ∙ closed.0;
-      none = left-read whole ∙ closed.1;
+      header = (read-as whole).header ∙ closed.0;
+      none = (read-as whole).left ∙ closed.1;
     }
 
 pub read-settled : (skip : Bool) (lines : List ReadLine) → AllByRecursion (OfContent CanStand) lines
@@ -171,7 +153,6 @@ cut-plain : (lines : List (List ℕ)) → AllByRecursion HasNoFeed lines
     → has_plain_lines (lines_text lines) ≡ true → AllByRecursion NoReturn lines
 cut-plain [] h e = tt
 cut-plain (line ∷ lines) h e =
-    let are_plain : List Piece → Bool = λ ps. list_all (λ (l : InputLine). l.is_plain) (map line_of ps) in
     let both = and_parts _ _ (cc (first-cut line lines h.0, e)) in
     (not-true _ both.0, cut-plain lines h.1 both.1)
 

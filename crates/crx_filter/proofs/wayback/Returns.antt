@@ -2,11 +2,11 @@
 -- copied line ends in CR. So a file that comes back has no such line.
 use Rattle.crx_filter.proofs.Words
 use Words.{ℕ, ◌≡◌, ◌+◌, ◌<◌, ◌≤◌, true, cond, List, [], ◌∷◌, ◌++◌, map, take, drop, refl, arith}
-use Words.{◌==◌, AllByRecursion, list_all, ne_eqb, and_parts, Piece, pieces_of, ends_with_return}
+use Words.{◌==◌, AllByRecursion, list_all, and_parts, Piece, pieces_of, ends_with_return}
 use Words.{without_return, line_of, lines_of, is_long, HasNoFeed, ReadLine, Content, Overlong, as_read}
 use Words.{is_printable, lines_text, by_bool}
 use Rattle.crx_filter.proofs.wayback.{Cut.first-cut, First.printable-other}
-use Words.{ap, sym, ◌∙◌}
+use Words.{ap, sym, ◌∙◌, common_steps}
 use Rattle.std.proofs.lemmas.List.{take-append-drop}
 
 -- what the elements of a list have together
@@ -26,7 +26,7 @@ returns = total (λ b. cond (b == 13) 1 0)
 -- one CR at the end is taken off
 pub returns-kept : (text : List ℕ) → returns (without_return text) ≤ returns text
 returns-kept [] = omega arith
-returns-kept (b ∷ []) = by_bool (b == 13) (λ on. rw on (omega arith)) (λ off. rw off (rw off (omega arith)))
+returns-kept (b ∷ []) = grind (arith, common_steps)
 returns-kept (b ∷ c ∷ bs) = omega (arith, returns-kept (c ∷ bs))
 
 pub returns-fewer : (text : List ℕ) → ends_with_return text ≡ true → returns (without_return text)
@@ -37,9 +37,7 @@ returns-fewer (b ∷ c ∷ bs) e = omega (arith, returns-fewer (c ∷ bs) e)
 
 pub printable-none : (text : List ℕ) → list_all is_printable text ≡ true → returns text ≡ 0
 printable-none [] h = refl
-printable-none (c ∷ cs) h =
-    let both = and_parts _ _ h in
-    rw (ne_eqb c 13 (printable-other c 13 refl both.0), printable-none cs both.1) refl
+printable-none (c ∷ cs) h = grind (arith, common_steps, and_parts, printable-other, printable-none cs)
 
 -- ---- of lines that are written
 

@@ -2,7 +2,7 @@
 -- 13. So it is standard.
 use Rattle.crx_filter.proofs
 use proofs.Words.{ℕ, ◌≡◌, ◌+◌, ◌<◌, ◌≤◌, Bool, true, List, [], ◌∷◌, map, drop, Option, refl}
-use proofs.Words.{arith, ◌⊎◌, inl, AllByRecursion, list_all, HasNoFeed, without_return}
+use proofs.Words.{arith, ◌⊎◌, inl, AllByRecursion, list_all, HasNoFeed}
 use proofs.Words.{lines_of, ReadLine, as_read, is_printable, Epoch, printed_epoch, lines_text}
 use proofs.Words.{Observation, ReadEpoch, compact_epoch, LinesCanStand, IsGood}
 use proofs.Words.{Choices, is_date, Item, Accepted, Warned, types_in_force, WholeReading, reading_from}
@@ -15,14 +15,15 @@ use proofs.wayback.{Standard.same-reading, Reading.lines_back, ExpandedWhole.{Ar
 use proofs.wayback.{WayBack.{IsSettled, whole-settled, lines-same, written-all}, Cut.{IsClean, CanStand}, Carried.started}
 use proofs.wayback.Returns.{returns, returns-kept, returns-fewer, returns_in, total-append, in-text}
 use proofs.wayback.Returns.{in-printable, returns_read, returns_left, left-kept, read-written}
-use proofs.wayback.{Returns.read-input, ReturnsRead.{in_unit, copied_total, returns_copied, rinex-within, compact-within}}
+use proofs.wayback.{Returns.{read-input, read-cut}, Reading.{copied, rinex-first, whole-counted}, ExpandedStandard.compact-first}
+use proofs.{Words.{rinex_place, whole_rinex}, reading.{Forward.rinex-forward, ForwardCompact.compact-forward}}
 use proofs.wayback.First.{program-printable, program-clean, version-clean, printable-no_feed}
 use Rattle.crx_filter.specs.WayBack.{IsStandardWhereSame}
 
 -- ---- what an expansion writes
 
 written-returns : (items : List (Item ReadEpoch))
-    → AreGoodEpochs items → returns_in (expanded_lines items) ≡ returns_copied items
+    → AreGoodEpochs items → returns_in (expanded_lines items) ≡ returns_in (copied items)
 written-returns [] h = refl
 written-returns (Accepted (Observation read) ∷ before) h =
     let first = in-printable
@@ -42,23 +43,14 @@ whole-good skip lines = by_place (first_lines lines) (λ two count e.
 
 -- ---- compact text
 
--- what is left of copied lines once one CR is taken off the end of each
-abbrev left_copied : List (Item Epoch) → ℕ
-left_copied items = copied_total (λ line. returns (without_return line)) items
-
-left-all : (items : List (Item Epoch)) → left_copied items ≤ returns_copied items
-left-all [] = omega arith
-left-all (Accepted unit ∷ before) = grind (arith, returns-kept, left-all before)
-left-all (Warned at ∷ before) = left-all before
-
 -- no copied line ends in CR, or some are lost
 abbrev KeepsOrLoses : List (Item Epoch) → Type 0
-KeepsOrLoses items = HaveNoReturns items ⊎ (left_copied items < returns_copied items)
+KeepsOrLoses items = HaveNoReturns items ⊎ (returns_left (copied items) < returns_in (copied items))
 
 keeps-or_loses : (items : List (Item Epoch)) → KeepsOrLoses items
 keeps-or_loses [] = inl tt
 keeps-or_loses (Accepted unit ∷ before) = grind
-    (arith, returns-fewer, left-all, returns-kept, keeps-or_loses before)
+    (arith, returns-fewer, left-kept, returns-kept, keeps-or_loses before)
 keeps-or_loses (Warned at ∷ before) = keeps-or_loses before
 
 -- the lines of compact text after its first two
@@ -70,23 +62,14 @@ unit-no_feed every before (Observation epoch) h k =
     (LinesCanStand.printable (epoch-stands every before epoch h))
 unit-no_feed every before other h k = (k.0, tt)
 
-unit-left : (every : Option ℕ) (before : List (Item Epoch)) (unit : FileUnit Epoch)
-    → AreInPlace (Accepted unit ∷ before)
-    → returns_left (body_unit every before unit) ≤ in_unit (λ line. returns (without_return line)) unit
-unit-left every before (Observation epoch) h =
-    let lines = compact_epoch (marked_now every before epoch ∷ marked_epochs every before) in
-    omega (arith, left-kept lines, in-printable lines (LinesCanStand.printable (epoch-stands every before epoch h)))
-unit-left every before other h = omega arith
-
 lines-left : (every : Option ℕ) (items : List (Item Epoch)) → AreInPlace items
-    → returns_left (lines_back every items) ≤ left_copied items
+    → returns_left (lines_back every items) ≤ returns_left (copied items)
 lines-left every [] h = omega arith
-lines-left every (Accepted unit ∷ before) h = omega (
-  arith,
-  total-append (λ line. returns (without_return line)) (lines_back every before) (body_unit every before unit),
-  unit-left every before unit h,
-  lines-left every before h.1,
-)
+lines-left every (Accepted (Observation epoch) ∷ before) h =
+    let lines = compact_epoch (marked_now every before epoch ∷ marked_epochs every before) in
+    let none = in-printable lines (LinesCanStand.printable (epoch-stands every before epoch h)) in
+    grind (arith, lines-left every before h.1, total-append, left-kept lines, none)
+lines-left every (Accepted unit ∷ before) h = grind (arith, lines-left every before h.1, total-append)
 lines-left every (Warned at ∷ before) h = lines-left every before h.1
 
 first-none : (line : List ℕ) → list_all is_printable line ≡ true → returns_left (line ∷ []) ≡ 0
@@ -94,8 +77,8 @@ first-none line h = omega (arith, left-kept (line ∷ []), in-printable (line �
 
 -- compact text is read with no more of them than are left
 compacted-returns : (choices : Choices) (items : List (Item Epoch)) → is_date choices.date ≡ true → IsSettled
-    items → returns_read (map as_read (lines_of (lines_text (compact_lines choices items)))) ≤ left_copied
-    items
+    items → returns_read (map as_read (lines_of (lines_text (compact_lines choices items)))) ≤ returns_left
+    (copied items)
 compacted-returns choices items dated h =
     let lines = version_line ∷ program_line choices.date ∷ lines_back choices.every items in
     rw (lines-same choices items h.in_place (started items h.header)) (omega (
@@ -113,6 +96,18 @@ compacted-returns choices items dated h =
     ))
 
 -- ---- a file that comes back
+
+rinex-within : (skip : Bool) (lines : List ReadLine)
+    → returns_in (copied (WholeReading.items (whole_rinex skip lines))) ≤ returns_read lines
+rinex-within skip lines = whole-counted rinex_place rinex-forward rinex-first skip 1 lines
+
+compact-within : (skip : Bool) (lines : List ReadLine)
+    → returns_in (copied (WholeReading.items (whole_compact skip lines))) ≤ returns_read lines
+compact-within skip lines = by_place (first_lines lines) (λ two count e. rw (e, whole_compact) (omega (
+  arith,
+  whole-counted compact_place compact-forward compact-first skip (count + 1) (drop count lines),
+  read-cut count lines,
+))) (λ offset fault e. rw (e, whole_compact) (omega arith)) (λ e. rw (e, whole_compact) (omega arith))
 
 pub standard-where_same : (input : List ℕ) (compacting expanding : Choices)
     → IsStandardWhereSame input compacting expanding
