@@ -83,8 +83,7 @@ module _ (items : List (Item ReadEpoch)) (units : List (FileUnit Epoch)) (before
   record-left : (line : List ℕ) (b : Bool) → records_count_types items ≡ b
       → IsLeft (if empties_state b line then None else before)
       (tail_left (raws_kept (Accepted (EventRecord line) ∷ items)))
-  record-left line b e = by_bool (empties_state b line)
-      (λ on. rw (e, on) (none-left None)) (λ off. rw (e, off) left)
+  record-left line b e = grind (arith, common_steps, by_bool, empties_state, none-left)
 
   epoch-unit : (now : WrittenEpoch) (lines : List (List ℕ)) → IsInPlace (as_items units) (Observation (epoch_now now))
       → AreEpochLines before now lines → UnitRead items (Observation (epoch_now now)) lines (Some now)

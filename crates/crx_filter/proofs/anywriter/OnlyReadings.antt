@@ -1,6 +1,6 @@
 -- A reading of compact text that gave no fault and no warning: its lines are those of the units that it shows.
 use Rattle.crx_filter.proofs
-use proofs.Words.{ℕ, ◌≡◌, Bool, List, [], ◌∷◌, ◌++◌, map, drop, Option, None, refl, ap, sym, ◌∙◌}
+use proofs.Words.{ℕ, ◌≡◌, Bool, List, [], ◌∷◌, ◌++◌, map, Option, None, refl}
 use proofs.Words.{append_assoc, map-append, ReadLine, Content, FileUnit, Item, ReadEpoch}
 use proofs.Words.{warnings_in, WholeReading, whole_reading, compact_place, Epoch}
 use proofs.reading.KeptThroughout.{IsKept, whole-kept}
@@ -30,10 +30,7 @@ back-kept skip all = record {
         units = rinex_unit unit ∷ t.units;
         own = t.own ++ u.own;
         last = u.now;
-        cut = t.cut ∙ ap (λ ls. map Content t.own ++ ls) (sym (take-append-drop count lines)
-            ∙ ap (λ ls. ls ++ drop count lines) u.cut)
-            ∙ sym (append_assoc (map Content t.own) (map Content u.own) (drop count lines))
-            ∙ ap (λ ls. ls ++ drop count lines) (sym (map-append Content t.own u.own));
+        cut = rw (map-append, append_assoc) (cc (t.cut, u.cut, take-append-drop count lines));
         stands = u.stands;
         written = (t.last, t.own, u.own, t.written, refl, u.written);
       };

@@ -63,12 +63,7 @@ module _ (items : List (Item ReadEpoch)) (units : List (FileUnit Epoch)) (before
     own = line ∷ [];
     cut = refl;
     now = before;
-    stands = record {
-      known = cc s.known;
-      left = rw off s.left;
-      whole = λ b k. subst (λ types. IsWholeEpoch types (epoch_now b)) (sym (steady-types line off)) (s.whole b k);
-      good = s.good;
-    };
+    stands = record { known = cc s.known; left = rw off s.left; whole = rw (steady-types line off) s.whole; good = s.good };
     written = (refl, rw (← count-same, off) refl);
   })
 
@@ -82,8 +77,7 @@ module _ (items : List (Item ReadEpoch)) (units : List (FileUnit Epoch)) (before
       let good = reads-whole types raws lines read count (counts-in_force items) (marks-printable items s.good) e in
       let whole : IsWholeEpoch types (epoch_now found.now) = rw found.epoch good.whole in
       let any = any-epoch types before raws found.now found.own (λ b e. s.left ∙ ap (option_map epoch_left) e) whole found.written in
-      let split : map Content found.own ++ drop count lines ≡ lines =
-      ap (λ ls. ls ++ drop count lines) (sym found.cut) ∙ take-append-drop count lines in
+      let split : map Content found.own ++ drop count lines ≡ lines = cc (found.cut, take-append-drop count lines) in
       let same : record { raw = any.raw; epoch = epoch_now found.now } ≡ read =
       done-things (record { raw = any.raw; epoch = epoch_now found.now }) read (2 + length found.now.rows) count
       (sym (any.reads (drop count lines)) ∙ ap (epoch_at types raws) split ∙ e) in

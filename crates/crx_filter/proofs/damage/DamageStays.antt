@@ -47,8 +47,7 @@ module _ (before : List (FileUnit Epoch)) (s : Stretch) (damaged : List ℕ) (d 
   start-silent = units-silent start before (front before (s ∷ []) damaged d.stretch).known
 
   block-few : length (warnings_in (one.first.news ++ start)) + pending (reading s.instead).stop ≤ 1
-  block-few =
-      grind (arith, common_steps, open-items, one, after-front, few-warned, start-silent)
+  block-few = grind (arith, common_steps, open-items, one, after-front, few-warned, start-silent)
 
   -- ---- the epochs whose lines stand at the block's beginning
 

@@ -32,15 +32,10 @@ use proofs.wayback.{Standard.{whole-copied, plain-no_return}}
 
 -- ---- the epochs of a block
 
-pub epochs-left : (before : List (Item Epoch)) (epochs : List Epoch)
-    → records_left before ≡ 0 → records_left (with_epochs before epochs) ≡ 0
-epochs-left before [] h = h
+epochs-left : (before : List (Item Epoch)) (epochs : List Epoch) → records_left before ≡ 0
+    → (records_left (with_epochs before epochs) ≡ 0) × (types_in_force (with_epochs before epochs) ≡ types_in_force before)
+epochs-left before [] h = (h, refl)
 epochs-left before (epoch ∷ later) h = epochs-left (Accepted (Observation epoch) ∷ before) later refl
-
-pub epochs-types : (before : List (Item Epoch)) (epochs : List Epoch)
-    → types_in_force (with_epochs before epochs) ≡ types_in_force before
-epochs-types before [] = refl
-epochs-types before (epoch ∷ later) = epochs-types (Accepted (Observation epoch) ∷ before) later
 
 -- some epochs, the oldest first, as items
 abbrev items_of : List Epoch → List (Item Epoch)
@@ -161,7 +156,7 @@ module _ (input : List ℕ) (choices : Choices) (damaged : List ℕ) (d : IsOwnD
     each = (
       record {
         between = (first-in_place.0).1;
-        types = rw (← epochs-items d.before epochs) (epochs-types d.before epochs);
+        types = rw (← epochs-items d.before epochs) (epochs-left d.before epochs (first-in_place.0).1).1;
         allowed = rw first-piece (first-allowed full (lines_of d.instead) first-clean no-event (may-come (lines_of d.instead) d.allowed));
         anew = rw (← epochs-items d.before epochs) d.anew;
         ended = ended d.ended;
@@ -229,7 +224,7 @@ module _ (input : List ℕ) (choices : Choices) (damaged : List ℕ) (d : IsOwnD
             (ap (λ us. records_left (as_items us)) (sym units)
             ∙ sym (units-like (own count ++ d.before) (own-good count).in_place).left
             ∙ ap records_left (sym (epochs-items d.before (take (suc count) epochs)))
-            ∙ epochs-left d.before (take (suc count) epochs) (first-in_place.0).1)
+            ∙ (epochs-left d.before (take (suc count) epochs) (first-in_place.0).1).0)
             (rw (epochs-lines choices d.before (take (suc count) epochs))
             (own-on (state_after choices.every d.before) choices d.before (own count) (own-good count).in_place
             (λ e. epochs-anew choices d.before d.first (take count d.others) d.starts)))

@@ -3,7 +3,6 @@ use Rattle.crx_filter.proofs.Words
 use Words.{◌≡◌, List, [], ◌∷◌, ◌++◌, refl, ap}
 use Words.{sym, ◌∙◌, arith, append_assoc, append-nil, At, Epoch}
 use Words.{FileUnit, ReadEpoch, Item}
-use Words.{records_left}
 use Words.{warnings_in, expanded_lines}
 use Rattle.crx_filter.proofs.damage.GoingOn.{with_warnings}
 use Rattle.crx_filter.proofs.wayback.{Carried.units_in, Units.units-again}
@@ -34,14 +33,6 @@ pub warnings-with : (warnings : List At) (items : List (Item ReadEpoch))
     → warnings_in (with_warnings warnings items) ≡ warnings ++ warnings_in items
 warnings-with [] items = refl
 warnings-with (at ∷ older) items = ap (λ w. at ∷ w) (warnings-with older items)
-
--- ---- between two units
-
--- records are left after some items as they are after others
-pub left-append : (later one two : List (Item ReadEpoch))
-    → records_left one ≡ records_left two → records_left (later ++ one) ≡ records_left (later ++ two)
-left-append [] one two e = e
-left-append (item ∷ later) one two e = grind (arith, left-append later one two e)
 
 -- ---- which epochs were read
 

@@ -86,18 +86,8 @@ is-open : (items all : List (Item ReadEpoch)) (stop : Stop) (next : ℕ)
     → IsStopped compact_place all stop next → IsStretchRead items (record { items = all; stop = stop })
 is-open items all (AtFault at) next (lines, h, left) stopped =
     absurd (cc (left.2, skipped-here all at.fault h.3 (fault-here all lines left.0 at.fault h.3 h.4 left.1)))
-is-open items all (AtLines number rest) next (lines, h, left) stopped = record {
-  news = h.0;
-  epochs = h.1;
-  between = rw (← h.2) h.3;
-  stops = rw (← h.2) (inl (number, rest, rw left at h.4, stopped.0, refl));
-}
-is-open items all (Looking number) next (lines, h, left) stopped = record {
-  news = h.0;
-  epochs = h.1;
-  between = rw (← h.2) h.3;
-  stops = rw (← h.2) (inr (number, refl));
-}
+is-open items all (AtLines number rest) next (lines, h, left) stopped = grind (arith, common_steps)
+is-open items all (Looking number) next (lines, h, left) stopped = grind (arith, common_steps)
 
 -- more lines of a stretch, after what was read so far
 pub stretch-more : (items : List (Item ReadEpoch)) (so_far lines : List ReadLine) → IsBetweenUnits items
@@ -182,8 +172,7 @@ open-continued items r line tail between (inl (number, [], none, e, is)) begins 
     record { warnings = []; few = omega arith; number = number; same = cc (is) }
 open-continued items r line tail between (inl (number, Overlong ∷ rest, none, e, is)) begins = grind arith
 open-continued items r line tail between (inl (number, Content first ∷ rest, none, e, is)) begins =
-    rw is (open-goes_on items number first rest line tail between
-    (wanted-no_event items first rest between (and_parts _ _ none).0 e) e begins)
+    grind (arith, common_steps, open-goes_on, wanted-no_event, and_parts)
 open-continued items r line tail between (inr (number, is)) begins = record {
   warnings = [];
   few = omega arith;

@@ -122,14 +122,12 @@ one-stretch choices before s later h placed closed =
     }
 
 -- its stretches as those of a text, whoever wrote it
-pub record AreOwnAs (choices : Choices) (before : List (Item Epoch)) (stretches : List OwnStretch) : Type 0 where
-  pub all : with_stretches (units_in before) (as_stretches choices.every before stretches) ≡ units_in (with_own before stretches)
-  pub each : AreStretches (units_in before) (as_stretches choices.every before stretches)
-
 pub own-as : (choices : Choices) (before : List (Item Epoch)) (stretches : List OwnStretch)
     → AreOwnStretches choices before stretches → AreGood (with_own before stretches)
-    → records_left (with_own before stretches) ≡ 0 → AreOwnAs choices before stretches
-own-as choices before [] h good closed = record { all = refl; each = tt }
+    → records_left (with_own before stretches) ≡ 0
+    → (with_stretches (units_in before) (as_stretches choices.every before stretches) ≡ units_in (with_own before stretches))
+    × AreStretches (units_in before) (as_stretches choices.every before stretches)
+own-as choices before [] h good closed = (refl, tt)
 own-as choices before (s ∷ later) h good closed =
     let next = up_to_own_next before s in
     let rest = own-as choices next later h.1 good closed in
@@ -158,9 +156,6 @@ module _ (file : List ℕ) (choices : Choices) (damaged : List ℕ) (dated : is_
   pub good : AreGood (with_own d.before d.stretches)
   good = subst AreGood d.parts (file-good file choices d.file_good)
 
-  pub as_own : AreOwnAs choices d.before d.stretches
-  as_own = own-as choices d.before d.stretches d.each good settled.none
-
   -- the text, and the stretches as those of a text, whoever wrote it
   abbrev pub text_of_own : List ℕ
   text_of_own = lines_text (compact_lines choices d.before) ++ own_text choices d.before d.stretches
@@ -169,15 +164,16 @@ module _ (file : List ℕ) (choices : Choices) (damaged : List ℕ) (dated : is_
   stretches_of_own = as_stretches choices.every d.before d.stretches
 
   abbrev pub own-damage : HasStretches (units_in d.before) stretches_of_own text_of_own
-  own-damage = record {
-    file = subst AreWholeFile (ap units_in d.parts ∙ sym as_own.all)
-        (file-whole file choices d.file_good);
-    header = sym (units-like d.before (good-up_to d.before d.stretches good).in_place).header ∙ d.header;
-    text = begins-own choices d.before (own_text choices d.before d.stretches) dated (good-up_to d.before d.stretches good)
-        (started d.before d.header);
-    each = as_own.each;
-    rest = stretches-cut choices d.before d.stretches d.each good d.header;
-  }
+  own-damage =
+      let as_own = own-as choices d.before d.stretches d.each good settled.none in record {
+        file = subst AreWholeFile (ap units_in d.parts ∙ sym as_own.0)
+            (file-whole file choices d.file_good);
+        header = sym (units-like d.before (good-up_to d.before d.stretches good).in_place).header ∙ d.header;
+        text = begins-own choices d.before (own_text choices d.before d.stretches) dated (good-up_to d.before d.stretches good)
+            (started d.before d.header);
+        each = as_own.1;
+        rest = stretches-cut choices d.before d.stretches d.each good d.header;
+      }
 
 pub own-rest : (file : List ℕ) (choices expanding : Choices) (damaged : List ℕ)
     → is_date choices.date ≡ true → expanding.skip ≡ true → (d : HasOwnStretches file choices damaged)

@@ -1,6 +1,6 @@
 -- What an expansion that skips faults writes and reports of a text that is damaged in stretches.
 use Rattle.crx_filter.proofs
-use proofs.Words.{ℕ, ◌≡◌, ◌+◌, true, List, [], ◌∷◌, ◌++◌, map, reverse, None, refl, ap, ◌∙◌, subst, arith}
+use proofs.Words.{ℕ, ◌≡◌, ◌+◌, true, List, [], ◌++◌, map, reverse, None, refl, subst, arith}
 use proofs.Words.{append-nil, lines_of, lines_text, ReadLine, Content, as_read, Epoch, FileUnit, ReadEpoch}
 use proofs.Words.{Choices, Item, Reading, reading_from, ended_reading, compact_place, expanded, common_steps}
 use proofs.Words.{whole_compact, printed_items, warnings_in, notices_text, expanded_lines, ItemsAreRead, FilterResult, Stretch}
@@ -51,10 +51,7 @@ module _ (before : List (FileUnit Epoch)) (stretches : List Stretch) (damaged : 
       let end = open-ends items r there.between there.stops in
       let whole : whole_compact expanding.skip (map as_read (lines_of damaged))
       ≡ record { items = with_warnings end.warnings items; fault = None } =
-      ap (λ skip. whole_compact skip (map as_read (lines_of damaged))) skips
-      ∙ ap (whole_compact true) (t.cut ∙ ap (λ ls. Content t.version ∷ Content t.program ∷ ls)
-      (ap (λ ls. map Content t.lines ++ ls) d.rest ∙ all))
-      ∙ whole-read true t.version t.program lines t.first t.second ∙ end.same in
+      cc (skips, t.cut, d.rest, all, whole-read true t.version t.program lines t.first t.second, end.same) in
       let text : expanded_lines (with_warnings end.warnings items) ≡ printed_items (as_items before) ++ expanded_lines more =
       cc (lines-warned end.warnings items, lines-append more front.items, printed-read front.items, front.known) in
       record {

@@ -38,8 +38,7 @@ units-like (Warned at ∷ before) h = grind (arith, common_steps, started, units
 -- the units are in place
 pub units-placed : (items : List (Item Epoch)) → AreInPlace items → AreInPlace (as_items (units_in items))
 units-placed [] h = tt
-units-placed (Accepted unit ∷ before) h = grind
-    (arith, common_steps, units-like before h.1, units-placed before h.1)
+units-placed (Accepted unit ∷ before) h = grind (arith, common_steps, units-like, units-placed before h.1)
 units-placed (Warned at ∷ before) h = units-placed before h.1
 
 -- ---- header lines and records at their places

@@ -1,4 +1,5 @@
 -- A file comes back only where it is standard: the lines that are written are plain, and printed as they are.
+use Rattle.std.proofs.Common.{rules}
 use Rattle.crx_filter.proofs
 use proofs.Words.{ℕ, ℤ, zero, suc, ◌≡◌, ◌+◌, ◌-◌, ◌<◌, ◌≤◌, true, List, [], ◌∷◌, ◌++◌, map, length}
 use proofs.Words.{take, drop, replicate, Option, Some, None, refl, ap, arith, All, AllByRecursion}
@@ -36,9 +37,7 @@ digits-text = all-weaker is_ascii_digit is_printable (λ c h. grind (arith, h))
 
 -- a number's digits
 small-size : (width size : ℕ) → width ≤ 19 → size < 10 ^ (width - 1) → size < 2 ^ 64
-small-size width size h k =
-    let fewer : width - 1 ≤ 18 = omega (arith, h) in
-    omega (arith, k, pow-le-pow_right {n = 10} (omega arith) fewer)
+small-size width size h k = search (rules, pow-le-pow_right)
 
 size-printable : (decimals size : ℕ) → size < 2 ^ 64 → list_all is_printable (size_text decimals size) ≡ true
 size-printable decimals size h =

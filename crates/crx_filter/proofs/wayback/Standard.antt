@@ -4,7 +4,7 @@ use Rattle.crx_filter.proofs.Words
 use Words.{common_steps, arith, ℕ, zero, suc, ◌≡◌, ◌+◌, Bool, true, false, List, []}
 use Words.{◌∷◌, map, length, drop, Option, Some, None, refl, ap, ◌∙◌, AllByRecursion, list_all}
 use Words.{eqb_tells, and_parts, Piece, InputLine, pieces_of, ends_with_return, line_of, lines_of}
-use Words.{is_long, ReadLine, as_read, Fault, At, Place, FileUnit, Item, Accepted, WholeReading}
+use Words.{ReadLine, as_read, Fault, At, Place, FileUnit, Item, Accepted, WholeReading}
 use Words.{after_fault, reading_within, fault_at_end, ended_with, ended_reading, lines_text, rinex_place}
 use Words.{whole_rinex, rinex_reading, OfCopiedLines, not-true, by_bool}
 use Rattle.crx_filter.proofs.{reading.Resuming.by_place, reading.WhatWasRead.of-ended, wayback.Cut.OfContent}
@@ -57,15 +57,11 @@ plain-parts : (p : Piece) (ps : List Piece) → are_plain (p ∷ ps) ≡ true
     → (p.is_ended ≡ true) × NoReturn p.bytes × (are_plain ps ≡ true)
 plain-parts p ps e = grind (arith, common_steps, and_parts, not-true)
 
-as-read-no_return : (l : InputLine) → NoReturn l.content → OfContent NoReturn (as_read l)
-as-read-no_return l h = by_bool (is_long l) (λ on. rw on tt) (λ off. rw off h)
-
 pub plain-no_return : (ps : List Piece) → list_all (λ (line : InputLine). line.is_plain)
     (map line_of ps) ≡ true → AllByRecursion (OfContent NoReturn) (map as_read (map line_of ps))
 plain-no_return [] e = tt
 plain-no_return (p ∷ ps) e =
-    let plain = plain-parts p ps e in
-    (as-read-no_return (line_of p) (rw (return-kept p.bytes plain.1) plain.1), plain-no_return ps plain.2)
+    grind (arith, common_steps, plain-parts p ps e, return-kept, by_bool, plain-no_return ps (plain-parts p ps e).2)
 
 -- ---- the text of an input's plain lines is the input
 
@@ -76,16 +72,12 @@ pieces-text (b ∷ bs) e = grind (arith, common_steps, pieces_of, eqb_tells, pie
 
 plain-ended : (ps : List Piece) → are_plain ps ≡ true → EachEnded ps
 plain-ended [] e = tt
-plain-ended (p ∷ ps) e =
-    let plain = plain-parts p ps e in
-    (plain.0, plain-ended ps plain.2)
+plain-ended (p ∷ ps) e = grind (arith, plain-parts p ps e, plain-ended ps)
 
 plain-contents : (ps : List Piece) → list_all (λ (line : InputLine). line.is_plain) (map line_of ps) ≡ true
     → map (λ (line : InputLine). line.content) (map line_of ps) ≡ map (λ (p : Piece). p.bytes) ps
 plain-contents [] e = refl
-plain-contents (p ∷ ps) e =
-    let plain = plain-parts p ps e in
-    cc (return-kept p.bytes plain.1, plain-contents ps plain.2)
+plain-contents (p ∷ ps) e = grind (arith, plain-parts p ps e, return-kept, plain-contents ps)
 
 pub plain-text : (input : List ℕ) → list_all (λ (line : InputLine). line.is_plain) (lines_of input) ≡ true
     → lines_text (map (λ (line : InputLine). line.content) (lines_of input)) ≡ input

@@ -1,6 +1,6 @@
 -- The two texts of units that make a file; and each standard file is such a text.
 use Rattle.crx_filter.proofs.Words
-use Words.{common_steps, arith, ℕ, ◌≡◌, List, [], ◌∷◌, map, None, refl, ap, sym, ◌∙◌, lines_of}
+use Words.{common_steps, arith, ℕ, ◌≡◌, List, [], ◌∷◌, None, refl, ap, sym, ◌∙◌, lines_of}
 use Words.{lines_text, as_read, Epoch, FileUnit, Choices, compacted, Item}
 use Words.{WholeReading, printed_items, whole_of, IsStandard, OfCopiedLines, HaveNoReturns}
 use Words.{written_well, warnings_in, AreInPlace}
@@ -26,14 +26,11 @@ copied Q f (unit ∷ before) h = (grind (arith, common_steps), copied Q f before
 can-stand : (line : List ℕ) → CanBeCopied line → CanStand line
 can-stand line h = (h.one_line, h.short)
 
-no-return : (line : List ℕ) → CanBeCopied line → NoReturn line
-no-return line h = h.no_return
-
 pub settled : (units : List (FileUnit Epoch)) → MakeAFile units → IsSettled (as_items units)
 settled units h = search (in-place, copied, can-stand)
 
 pub no-returns : (units : List (FileUnit Epoch)) → MakeAFile units → HaveNoReturns (as_items units)
-no-returns units h = copied NoReturn no-return units h.in_order
+no-returns units h = copied NoReturn (λ line c. c.no_return) units h.in_order
 
 -- ---- their texts
 
@@ -47,8 +44,7 @@ units-again (unit ∷ units) = ap (λ us. unit ∷ us) (units-again units)
 
 whole-text : (units : List (FileUnit Epoch)) → MakeAFile units
     → whole_of (rinex_text units) ≡ record { items = as_items units; fault = None }
-whole-text units h = printed-again (as_items units) (settled units h) (no-returns units h)
-    ∙ ap {B = WholeReading Epoch} (λ us. record { items = as_items us; fault = None }) (units-again units)
+whole-text units h = grind (arith, common_steps, printed-again, as_items, settled, no-returns, units-again)
 
 pub compacts : (units : List (FileUnit Epoch)) (choices : Choices) → MakeAFile units
     → compacted (rinex_text units) choices ≡ written_well (compact_text choices units)
@@ -67,8 +63,7 @@ make-file units h none = search (in-order)
 
 all-accepted : (file : List ℕ)
     → as_items (units_in (WholeReading.items (whole_of file))) ≡ WholeReading.items (whole_of file)
-all-accepted file = accepted-all (WholeReading.items (whole_of file)) (whole-none (map as_read
-    (lines_of file)))
+all-accepted file = grind (arith, common_steps, accepted-all, whole_of, whole-none, as_read, lines_of)
 
 -- the units that are read of a standard file
 pub read-units : (file : List ℕ) → IsStandard file → MakeAFile (units_in (WholeReading.items (whole_of file)))
