@@ -1,6 +1,6 @@
 -- Damage to compact text stays in its block, whoever wrote the text: what an expansion writes and reports.
 use Rattle.crx_filter.proofs
-use proofs.Words.{ℕ, ◌≡◌, ◌+◌, ◌≤◌, true, List, [], ◌∷◌, ◌++◌, map, length, reverse, Option, refl, ap, sym}
+use proofs.Words.{ℕ, ◌≡◌, ◌+◌, ◌≤◌, true, List, [], ◌∷◌, ◌++◌, map, length, reverse, Option, refl, ap}
 use proofs.Words.{◌∙◌, arith}
 use proofs.Words.{append_assoc, append-nil, length-append, inl, list_all, and_parts, ReadLine, Content, Epoch}
 use proofs.Words.{FileUnit}
@@ -68,13 +68,19 @@ module _ (before : List (FileUnit Epoch)) (s : Stretch) (damaged : List ℕ) (d 
       (and_parts (list_all begins_no_event (map Content lines)) (list_all begins_no_event rest)
       (rw (e, list_all-append) at quiet)).1 in
       let same : one.first.news ++ start ≡ (later.news ++ o.more) ++ start =
-      sym (open-items (one.first.news ++ start) (reading s.instead) one.first.stops)
-      ∙ ap (λ ls. Reading.items (reading ls)) e
-      ∙ ap (λ ls. Reading.items (reading_from compact_place true [] 3 ls)) (sym (append_assoc lines_before (map Content lines) rest))
-      ∙ open-items (later.news ++ next) _ later.stops ∙ sym (append_assoc later.news o.more start) in (
+      cc (
+        open-items (one.first.news ++ start) (reading s.instead) one.first.stops,
+        open-items (later.news ++ next) _ later.stops,
+        append_assoc lines_before (map Content lines) rest,
+        append_assoc later.news o.more start,
+        e,
+      ) in (
         epochs_of later.news,
-        ap epochs_of (append_cancel_right one.first.news (later.news ++ o.more) start same)
-            ∙ epochs-append later.news o.more ∙ ap (λ es. es ++ epochs_of later.news) (epochs-known o.more units o.known),
+        cc (
+          append_cancel_right one.first.news (later.news ++ o.more) start same,
+          epochs-append later.news o.more,
+          epochs-known o.more units o.known,
+        ),
       )
 
 -- ---- the law

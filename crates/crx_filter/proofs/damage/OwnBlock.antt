@@ -184,9 +184,11 @@ module _ (input : List ℕ) (choices : Choices) (damaged : List ℕ) (d : IsOwnD
 
   own-good : (count : ℕ) → AreGood (own count ++ d.before)
   own-good count = good-before (items_of (drop (suc count) epochs)) (own count ++ d.before) (subst AreGood
-      (ap (λ es. items_of es ++ d.before) (sym (take-append-drop (suc count) epochs))
-      ∙ ap (λ is. is ++ d.before) (items-append (take (suc count) epochs) (drop (suc count) epochs))
-      ∙ append_assoc (items_of (drop (suc count) epochs)) (own count) d.before) block-good)
+      (cc (
+        take-append-drop (suc count) epochs,
+        items-append (take (suc count) epochs) (drop (suc count) epochs),
+        append_assoc (items_of (drop (suc count) epochs)) (own count) d.before,
+      )) block-good)
 
   -- ---- the law
 
@@ -221,15 +223,21 @@ module _ (input : List ℕ) (choices : Choices) (damaged : List ℕ) (d : IsOwnD
             let found = k.own (units_in (own count)) (lines_of_epochs choices d.before (take (suc count) epochs))
             (state_on (state_after choices.every d.before) choices.every d.before (own count)) (map Content rest)
             (units-in_place _ (rw units at (units-placed (own count ++ d.before) (own-good count).in_place)))
-            (ap (λ us. records_left (as_items us)) (sym units)
-            ∙ sym (units-like (own count ++ d.before) (own-good count).in_place).left
-            ∙ ap records_left (sym (epochs-items d.before (take (suc count) epochs)))
-            ∙ (epochs-left d.before (take (suc count) epochs) (first-in_place.0).1).0)
+            (cc (
+              units,
+              (units-like (own count ++ d.before) (own-good count).in_place).left,
+              epochs-items d.before (take (suc count) epochs),
+              (epochs-left d.before (take (suc count) epochs) (first-in_place.0).1).0,
+            ))
             (rw (epochs-lines choices d.before (take (suc count) epochs))
             (own-on (state_after choices.every d.before) choices d.before (own count) (own-good count).in_place
             (λ e. epochs-anew choices d.before d.first (take count d.others) d.starts)))
-            (text-cut ∙ ap (λ ls. Content full ∷ ls) (instead-read (lines_of d.instead) d.allowed ∙ ap (map Content) e
-            ∙ map-append Content (drop 1 (lines_of_epochs choices d.before (take (suc count) epochs))) rest)) in
+            (cc (
+              text-cut,
+              instead-read (lines_of d.instead) d.allowed,
+              e,
+              map-append Content (drop 1 (lines_of_epochs choices d.before (take (suc count) epochs))) rest,
+            )) in
             (found.0, found.1 ∙ ap (λ es. es ++ found.0) (epochs-among (take (suc count) epochs)));
       }
 

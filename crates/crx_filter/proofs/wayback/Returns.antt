@@ -6,7 +6,7 @@ use Words.{◌==◌, AllByRecursion, list_all, and_parts, Piece, pieces_of, ends
 use Words.{without_return, line_of, lines_of, is_long, HasNoFeed, ReadLine, Content, Overlong, as_read}
 use Words.{is_printable, lines_text, by_bool}
 use Rattle.crx_filter.proofs.wayback.{Cut.first-cut, First.printable-other}
-use Words.{ap, sym, ◌∙◌, common_steps}
+use Words.{common_steps}
 use Rattle.std.proofs.lemmas.List.{take-append-drop}
 
 -- what the elements of a list have together
@@ -64,8 +64,7 @@ returns_read = total returns_line
 
 pub read-cut : (n : ℕ) (lines : List ReadLine)
     → returns_read lines ≡ returns_read (take n lines) + returns_read (drop n lines)
-read-cut n lines = ap returns_read (sym (take-append-drop n lines))
-    ∙ total-append returns_line (take n lines) (drop n lines)
+read-cut n lines = cc (take-append-drop n lines, total-append returns_line (take n lines) (drop n lines))
 
 -- the bytes of pieces
 abbrev returns_of : List Piece → ℕ

@@ -1,8 +1,8 @@
 -- The two texts of units that make a file; and each standard file is such a text.
 use Rattle.crx_filter.proofs.Words
-use Words.{common_steps, arith, ℕ, ◌≡◌, List, [], ◌∷◌, None, refl, ap, sym, ◌∙◌, lines_of}
-use Words.{lines_text, as_read, Epoch, FileUnit, Choices, compacted, Item}
-use Words.{WholeReading, printed_items, whole_of, IsStandard, OfCopiedLines, HaveNoReturns}
+use Words.{common_steps, arith, ℕ, ◌≡◌, List, [], ◌∷◌, None, refl, ap, lines_of}
+use Words.{as_read, Epoch, FileUnit, Choices, compacted}
+use Words.{WholeReading, whole_of, IsStandard, OfCopiedLines, HaveNoReturns}
 use Words.{written_well, warnings_in, AreInPlace}
 use Rattle.crx_filter.proofs.wayback.NormalForm.{printed-again, accepted-all, whole-none, settled-standard}
 pub use Rattle.crx_filter.proofs.wayback.Carried.{units_in}
@@ -72,9 +72,7 @@ read-units file h = search (all-accepted, make-file, whole-settled, whole-copied
 units-of_standard : (file : List ℕ) → IsStandard file
     → (units : List (FileUnit Epoch)) × MakeAFile units × (file ≡ rinex_text units)
 units-of_standard file h =
-    let same = sym (plain-text file h.plain) ∙ ap lines_text h.given_back
-    ∙ ap (λ (items : List (Item Epoch)). lines_text (printed_items items)) (sym (all-accepted file)) in
-    (units_in (WholeReading.items (whole_of file)), read-units file h, same)
+    (units_in (WholeReading.items (whole_of file)), read-units file h, cc (plain-text file h.plain, h.given_back, all-accepted file))
 
 pub standard-by_units : (file : List ℕ) → IsStandardByUnits file
 standard-by_units file =
