@@ -4,9 +4,8 @@ use Rattle.crx_filter.proofs.Words.{lines_of, At, Choices, compacted, expanded, 
 use Rattle.crx_filter.proofs.Words.{checked_by, checked, Device, IsResult}
 use Rattle.crx_filter.proofs.standard.CheckStandard.{named-where_not, standard-exactly_where_same}
 use Rattle.crx_filter.proofs.anywriter.ComesBack.{normal-comes_back, standard-comes_back, comes-back}
-use Rattle.crx_filter.specs.meaning.Lossless.{WritesOutputOf}
-use Rattle.crx_filter.specs.meaning.Promises.{Keeps, BringsBackWhatWasCompacted}
-use Rattle.crx_filter.specs.meaning.{Promises.JudgesStandard, Standard.{Findings, report_status}}
+use Rattle.crx_filter.specs.meaning.Promises.{Keeps, BringsBackWhatWasCompacted, JudgesStandard}
+use Rattle.crx_filter.specs.meaning.Standard.{Findings, report_status}
 use Rattle.{crx_runs.specs.meaning.{Filters.Filter, Runs.Runs, Spans.Input}, std.specs.Prelude.◌↔◌}
 
 -- a promise that the result of each whole input keeps is kept by a run
@@ -16,12 +15,6 @@ pub kept : {result_of : List ℕ → FilterResult} {filter : Filter} {promise : 
     → ((text : List ℕ) → IsResult (result_of text) writer messages status fault → promise text)
     → Keeps promise input writer messages fault
 kept h1 h2 = grind (arith)
-
--- it wrote the output of its input's result
-pub writes-output : (result_of : List ℕ → FilterResult) (writer messages : Device) (status : ℕ) (fault : Option At)
-    (input : List ℕ) → IsResult (result_of input) writer messages status fault
-    → WritesOutputOf result_of writer input
-writes-output result_of writer messages status fault input ran = ran.output
 
 -- ---- the way back
 

@@ -1,17 +1,14 @@
 -- What a reader of RINEX makes of the lines of an epoch, and of a line where one may begin.
 use Rattle.crx_filter.proofs.Words
-use Words.{common_steps, ◌≡◌, ◌⊎◌, inl, inr, ℕ, ◌+◌, ◌<◌, ◌∷◌, ◌++◌, [], true, false, List, length}
-use Words.{Option, Some, Result, Ok, Err, ap, subst, ◌∙◌, arith, ⊤, character_at}
-use Words.{Fault, Row, Epoch as ObservationEpoch, HeadLine, EventHead, EpochHead, ObservationHead}
-use Words.{event_head, epoch_head, head_of, begins_epoch, is_event_line, records_in, OpenEpoch, beginning_of}
-use Words.{opened, has_satellite, Count, row_of, EventLine, Written, made_of_epoch_step}
+use Words.{common_steps, ◌≡◌, ◌⊎◌, inl, inr, ℕ, ◌+◌, ◌<◌, ◌∷◌, ◌++◌, [], true, false, List, length, Option}
+use Words.{Some, Result, Ok, Err, ap, subst, ◌∙◌, arith, ⊤, Fault, Row, Epoch as ObservationEpoch, HeadLine}
+use Words.{EventHead, EpochHead, ObservationHead, head_of, begins_epoch, is_event_line, OpenEpoch}
+use Words.{beginning_of, opened, has_satellite, Count, row_of, EventLine, Written, made_of_epoch_step}
 use Words.{made_of_beginning, records_announced, Made, Completes, is_open_stage, made_at, CompletedEpoch}
-use Words.{MovesReader, RinexReader, Stage, Open}
+use Words.{MovesReader, RinexReader, Stage, Open, character_at, epoch_head, event_head, records_in}
 use Rattle.crx_filter.specs.{RinexReaders.BeginsEpoch, RinexStages.is_rinex_stage}
 use Rattle.crx_filter.specs.declared.stage.Stage.TheVariants.{Between, Looking}
 use Rattle.crx_rinex.specs.EpochPlaces.{whole_or_going}
-
--- ---- an epoch is whole, or wants rows
 
 -- ---- what a reader has then
 
@@ -55,23 +52,22 @@ pub stays-open : (stage : Stage) (held : Option ObservationHead) (head : Observa
     → is_rinex_stage stage held count rows ≡ true
 stays-open stage held head count rows is is_head counted more = grind arith
 
--- the row is the last one of its epoch
-pub last-row-taken : (before after : RinexReader) (head : ObservationHead) (line : List ℕ) (kept : Written)
-    → is_open_stage before.stage ≡ true → before.head ≡ Some head → row_of before.types line ≡ Ok before.row
-    → begins_epoch line ≡ false → has_satellite before.row.name before.rows.rows ≡ false
-    → before.count + 1 ≡ head.count → HasParts after before.types head (before.rows.rows ++ before.row ∷ [])
-    → after.stage ≡ Between → CompletedEpoch (made_at before line kept) line before after
-last-row-taken before after head line kept is held read other new full parts stage =
-    grind (arith, common_steps, in-its-epoch)
+-- a row of an open epoch was read
+module _ (before after : RinexReader) (head : ObservationHead) (line : List ℕ) (kept : Written)
+    (is : is_open_stage before.stage ≡ true) (held : before.head ≡ Some head)
+    (read : row_of before.types line ≡ Ok before.row) (other : begins_epoch line ≡ false)
+    (new : has_satellite before.row.name before.rows.rows ≡ false) where
+  -- it is the last one of its epoch
+  pub last-row-taken : before.count + 1 ≡ head.count
+      → HasParts after before.types head (before.rows.rows ++ before.row ∷ []) → after.stage ≡ Between
+      → CompletedEpoch (made_at before line kept) line before after
+  last-row-taken full parts stage = grind (arith, common_steps, in-its-epoch)
 
--- or others are to come
-pub row-taken : (before after : RinexReader) (head : ObservationHead) (line : List ℕ) (kept : Written)
-    → is_open_stage before.stage ≡ true → before.head ≡ Some head → row_of before.types line ≡ Ok before.row
-    → begins_epoch line ≡ false → has_satellite before.row.name before.rows.rows ≡ false
-    → before.count + 1 < head.count → HasParts after before.types head (before.rows.rows ++ before.row ∷ [])
-    → after.stage ≡ Open → MovesReader (made_at before line kept) before after
-row-taken before after head line kept is held read other new part parts stage =
-    grind (arith, in-its-epoch, part-taken)
+  -- or others are to come
+  pub row-taken : before.count + 1 < head.count
+      → HasParts after before.types head (before.rows.rows ++ before.row ∷ []) → after.stage ≡ Open
+      → MovesReader (made_at before line kept) before after
+  row-taken part parts stage = grind (arith, in-its-epoch, part-taken)
 
 -- ---- where an epoch or an event may begin
 
@@ -114,24 +110,22 @@ begun-made : (types : List Count) (line : List ℕ) (head : ObservationHead)
     → made_of_beginning types (beginning_of line) ≡ made_of_epoch_step (whole_or_going (opened types head))
 begun-made types line head read = cc (read)
 
--- what a reader makes of the line that begins an epoch: it is whole with it
-pub begun-whole : (before after : RinexReader) (line : List ℕ) (kept : Written) (head : ObservationHead)
-    → Begins before line → head_of line ≡ Ok (EpochHead head.head head.count head.clock) → head.count ≡ 0
-    → HasParts after before.types head [] → after.stage ≡ Between
-    → BeginsEpoch (made_at before line kept) line before after
-begun-whole before after line kept head begins read none parts stage =
-    grind (arith, begun-made, inr, begin-made, of-head)
+-- what a reader makes of the line that begins an epoch
+module _ (before after : RinexReader) (line : List ℕ) (kept : Written) (head : ObservationHead)
+    (begins : Begins before line) (read : head_of line ≡ Ok (EpochHead head.head head.count head.clock)) where
+  -- it is whole with it
+  pub begun-whole : head.count ≡ 0 → HasParts after before.types head [] → after.stage ≡ Between
+      → BeginsEpoch (made_at before line kept) line before after
+  begun-whole none parts stage = grind (arith, begun-made, inr, begin-made, of-head)
 
--- or rows are to come
-pub begun-part : (before after : RinexReader) (line : List ℕ) (kept : Written) (head : ObservationHead)
-    → Begins before line → head_of line ≡ Ok (EpochHead head.head head.count head.clock) → 0 < head.count
-    → HasParts after before.types head [] → after.stage ≡ Open
-    → BeginsEpoch (made_at before line kept) line before after
-begun-part before after line kept head begins read some parts stage = (
-  parts.rows_then,
-  inl (
-    ap is_open_stage stage,
-    part-taken (made_at before line kept) before after head []
-        (begin-made before line kept begins ∙ begun-made before.types line head read) some parts stage,
-  ),
-)
+  -- or rows are to come
+  pub begun-part : 0 < head.count → HasParts after before.types head [] → after.stage ≡ Open
+      → BeginsEpoch (made_at before line kept) line before after
+  begun-part some parts stage = (
+    parts.rows_then,
+    inl (
+      ap is_open_stage stage,
+      part-taken (made_at before line kept) before after head []
+          (begin-made before line kept begins ∙ begun-made before.types line head read) some parts stage,
+    ),
+  )

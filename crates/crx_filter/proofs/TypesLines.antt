@@ -1,10 +1,9 @@
 -- What is wrong with a line that may declare types.
 use Rattle.crx_filter.proofs.Words.{common_steps, arith, ◌≡◌, ◌⊎◌, Bool, true, List, ℕ, Option, Some, None}
 use Rattle.crx_filter.proofs.Words.{if◌then◌else◌, ◌&&◌, is_some, and_from, Fault, OutOfMemory, Count}
-use Rattle.crx_filter.{proofs.Words.{false-true, types_fault}, specs.meaning.UnitPlaces.first_fault}
-use Rattle.crx_filter.specs.meaning.Items.{are_lacking}
-use Rattle.std.specs.Prelude.{is_none, [], IfErr, Result}
-use Rattle.crx_base.specs.declared.fault.Fault.TheVariants.{BadTypesLine}
+use Rattle.crx_filter.proofs.Words.{false-true, types_fault}
+use Rattle.{crx_filter.specs.meaning.{UnitPlaces.first_fault, Items.are_lacking}, std.specs.Prelude.is_none}
+use Rattle.{std.specs.Prelude.[], crx_base.specs.declared.fault.Fault.TheVariants.BadTypesLine}
 use Rattle.crx_header.specs.meaning.ObservationTypes.{is_bad_types_line, count_of_types_line}
 
 -- what accept_line says of a fault

@@ -1,31 +1,24 @@
 -- What compactions, expansions and checks promise follows from what their results are, by the laws.
 use Rattle.crx_filter.proofs.Words
-use Words.{common_steps, arith, ℕ, ◌≡◌, List, ◌++◌, Option, None, ap, sym, ◌∙◌, subst}
-use Words.{append-nil, At, Choices, compacted, expanded, checked}
-use Words.{FilterResult, notices_text}
+use Words.{common_steps, arith, ℕ, ◌≡◌, List, ap, sym, ◌∙◌, subst, append-nil, Choices, compacted, expanded}
+use Words.{checked, FilterResult}
 use Rattle.crx_filter.proofs.accounts.{OfFile.file-accounted, OfText.text-accounted, Shortness.short-blocks}
 use Rattle.crx_filter.proofs.anywriter.{AnyRun.reads-any, OnlyTexts.only-text}
 use Rattle.crx_filter.proofs.wayback.{Canonical.same-compaction, ExpandedStandard.expanded-standard}
-use Rattle.crx_filter.proofs.anywriter.ComesBack.{texts-of_units}
-use Rattle.crx_filter.proofs.standard.{CheckStandard.named-where_not, Lossless.what-passes}
-use Rattle.crx_filter.specs.meaning.Accounts.{AccountsForFile, AccountsForText}
-use Rattle.crx_filter.specs.meaning.ByResults.{CompactionKeeps, ExpansionKeeps, CheckKeeps}
-use Rattle.crx_filter.specs.meaning.ByResults.{GivesBackWhatPasses}
-use Rattle.crx_runs.specs.meaning.{Messages.error_text}
+use Rattle.crx_filter.proofs.{anywriter.ComesBack.texts-of_units, standard.CheckStandard.named-where_not}
+use Rattle.crx_filter.{proofs.standard.Lossless.what-passes, specs.meaning.Accounts.AccountsForFile}
+use Rattle.crx_filter.specs.meaning.{Accounts.AccountsForText, ByResults.{CompactionKeeps, ExpansionKeeps}}
+use Rattle.crx_filter.specs.meaning.ByResults.{CheckKeeps, GivesBackWhatPasses}
+use Rattle.crx_runs.specs.meaning.Messages.{error_text}
 
 -- ---- nothing is lost in silence
 
-no-error : (warnings : List At) (fault : Option At) → fault ≡ None
-    → notices_text warnings ++ error_text fault ≡ notices_text warnings
-no-error warnings fault good =
-    ap (λ o. notices_text warnings ++ error_text o) good ∙ append-nil (notices_text warnings)
-
 pub accounts-for_file : (choices : Choices) (file : List ℕ)
     → AccountsForFile choices file (compacted file choices)
-accounts-for_file choices file good = grind (arith, common_steps, file-accounted, no-error)
+accounts-for_file choices file good = grind (arith, common_steps, file-accounted, append-nil, error_text)
 
 pub accounts-for_text : (choices : Choices) (text : List ℕ) → AccountsForText choices.skip text (expanded text choices)
-accounts-for_text choices text good = grind (arith, common_steps, text-accounted, no-error)
+accounts-for_text choices text good = grind (arith, common_steps, text-accounted, append-nil, error_text)
 
 -- ---- by what holds of a result
 

@@ -1,16 +1,16 @@
 -- The lines of an accepted epoch of compact text are printable.
 use Rattle.crx_filter.proofs.Words
 use Words.{arith, common_steps, [], ℕ, ℤ, zero, suc, ◌≡◌, true, List, ◌∷◌, ◌++◌, take, Option, Some, None}
-use Words.{Result, Ok, refl, ⊤, list_all, ReadLine, Fault, Place, Done, then_place, first_line}
-use Words.{Count, RawEpoch, Past, Satellite, BegunEpoch, epoch_begun, code_of, without_end_blanks, begins_epoch}
-use Words.{cell_read, clock_line_read, satellite_line_read, rows_read, epoch_at, BadClock, BadField, Truncated}
-use Rattle.{std.proofs.Common.take-add, std.specs.Str.all_ascii_digits}
-use Rattle.crx_base.specs.meaning.Lines.{is_printable}
-use Rattle.crx_text.specs.{declared.code.Code.Code, meaning.Numbers.without_minus}
-use Rattle.crx_text.specs.meaning.Codes.{coded_number, step_of, first_cell, after_cell}
-use Rattle.crx_compact.proofs.Results.{no-err, and_then-ok, if-err, before-ok}
-use Rattle.crx_compact.specs.meaning.Cells.{ReadCell, cells_of, after_cells, cells_read}
-use Rattle.crx_compact.specs.meaning.{Past.past_of_line, CompactPlaces.ReadRow}
+use Words.{Result, Ok, refl, ⊤, list_all, ReadLine, Fault, Place, Done, then_place, first_line, Count}
+use Words.{RawEpoch, Past, Satellite, BegunEpoch, epoch_begun, code_of, without_end_blanks, cell_read}
+use Words.{clock_line_read, satellite_line_read, rows_read, epoch_at, BadField, BadClock, Truncated}
+use Words.{begins_epoch}
+use Rattle.std.{proofs.Common.take-add, specs.Str.all_ascii_digits}
+use Rattle.{crx_base.specs.meaning.Lines.is_printable, crx_text.specs.declared.code.Code.Code}
+use Rattle.crx_text.specs.meaning.{Numbers.without_minus, Codes.{coded_number, step_of, first_cell}}
+use Rattle.{crx_text.specs.meaning.Codes.after_cell, crx_compact.proofs.Results.{no-err, and_then-ok, if-err}}
+use Rattle.crx_compact.{proofs.Results.before-ok, specs.meaning.Cells.{ReadCell, cells_of, after_cells}}
+use Rattle.crx_compact.specs.meaning.{Cells.cells_read, CompactPlaces.ReadRow}
 use Rattle.crx_filter.specs.meaning.Accounts.{is_clean}
 
 -- ---- characters
@@ -26,17 +26,13 @@ minus-printable (c ∷ cs) h = grind arith
 
 number-printable : (text : List ℕ) (z : ℤ) → coded_number text ≡ Some z → list_all is_printable text ≡ true
 unfolding coded_number
-number-printable text z h =
-    let digits : all_ascii_digits (without_minus text) ≡ true = grind (arith, h) in
-    minus-printable text (digits-printable (without_minus text) digits)
+number-printable text z h = grind (arith, h, minus-printable, digits-printable)
 
 step-printable : (text : List ℕ) (code : Code) → step_of text ≡ Some code → list_all is_printable text ≡ true
 step-printable text code h = grind (arith, common_steps, number-printable)
 
 code-printable : (text : List ℕ) (code : Code) → code_of text ≡ Some code → list_all is_printable text ≡ true
-code-printable [] code h = refl
-code-printable (c ∷ []) code h = step-printable (c ∷ []) code h
-code-printable (c ∷ d ∷ cs) code h = grind (arith, common_steps, step-printable, number-printable)
+code-printable text code h = grind (arith, common_steps, step-printable, number-printable)
 
 untrimmed : (text : List ℕ) → list_all is_printable (without_end_blanks text) ≡ true
     → list_all is_printable text ≡ true
@@ -108,16 +104,12 @@ clean-then p lines f h k = grind (arith, common_steps, clean-append, take-add)
 clean-rows : (past : Past) (satellites : List Satellite) (lines : List ReadLine)
     → IsCleanWhere lines (rows_read past satellites lines)
 clean-rows past [] lines = refl
-clean-rows past (s ∷ ss) lines = clean-then _ lines _ (clean-first lines (satellite_line_read past s)
-    (row-printable past s)) (λ row others.
-    clean-then _ others _ (clean-rows past ss others) (λ rows rest. refl))
+clean-rows past (s ∷ ss) lines =
+    let rest = clean-rows past ss in
+    search (clean-then, clean-first, row-printable, rest)
 
 -- the lines of an epoch that is accepted, whatever was read before it
 pub accepts-clean : (types : List Count) (older : List RawEpoch) (lines : List ReadLine)
     → IsCleanWhere lines (epoch_at types older lines)
-accepts-clean types older lines = clean-then _ lines _ (clean-first lines
-    (λ line. epoch_begun types line (past_of_line older line))
-    (λ line begun h. epoch_line-printable types line (past_of_line older line) begun h))
-    (λ begun ls. clean-then _ ls _ (clean-first ls (clock_line_read begun.past)
-    (clock_line-printable begun.past)) (λ clock others.
-    clean-then _ others _ (clean-rows begun.past begun.satellites others) (λ rows rest. refl)))
+accepts-clean types older lines =
+    search (clean-then, clean-first, epoch_line-printable, clock_line-printable, clean-rows)

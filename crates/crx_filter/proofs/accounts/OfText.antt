@@ -1,14 +1,14 @@
 -- Every line of compact text is accounted for.
 use Rattle.crx_filter.proofs.Words
-use Words.{arith, [], ℕ, ◌≡◌, ◌+◌, Bool, List, ◌∷◌, drop, take, length-map, None, sym}
-use Words.{subst, ReadLine, Count, RawEpoch, Done, ReadEpoch, epoch_at, Item, types_in_force, compact_place}
-use Words.{raws_kept, crinex_version, crinex_program, first_lines, whole_compact, WholeReading, common_steps}
+use Words.{arith, [], ℕ, ◌≡◌, ◌+◌, Bool, List, ◌∷◌, drop, take, length-map, None, sym, subst, ReadLine, Count}
+use Words.{RawEpoch, Done, ReadEpoch, epoch_at, Item, types_in_force, compact_place, raws_kept}
+use Words.{crinex_version, crinex_program, first_lines, whole_compact, WholeReading, common_steps, Content}
 use Rattle.crx_compact.proofs.soundness.Soundness.{begins, epoch-facts}
 use Rattle.crx_filter.proofs.accounts.{Clean.accepts-clean, Reached.{Owns, take-one, taken, all-accounted}}
 use Rattle.crx_filter.proofs.reading.{CompactPrefixes.whole-at, Resuming.by_place}
-use Rattle.crx_filter.proofs.reading.ForwardCompact.{compact_beginning, steady-epoch_at}
-use Rattle.crx_filter.proofs.reading.WhatStands.{of-unit, of-compact}
-use Rattle.crx_filter.specs.meaning.Accounts.{AreCleanLines, AreLinesOfItems}
+use Rattle.crx_filter.proofs.reading.{ForwardCompact.{compact_beginning, steady-epoch_at}, WhatStands.of-unit}
+use Rattle.crx_filter.{proofs.reading.WhatStands.of-compact, specs.meaning.Accounts.AreCleanLines}
+use Rattle.crx_filter.specs.meaning.Accounts.{AreLinesOfItems}
 
 -- the lines of an epoch
 own-epoch : (types : List Count) (older : List RawEpoch) (lines : List ReadLine) (read : ReadEpoch)
@@ -29,30 +29,18 @@ owns-unit items lines = of-unit (Owns AreCleanLines lines) tt (λ offset fault. 
 
 -- ---- the first two lines
 
-record BeginsWithTwo (lines rest : List ReadLine) : Type 0 where
-  pub first : ReadLine
-  pub second : ReadLine
-  pub is : lines ≡ first ∷ second ∷ rest
-
-two-read : (lines : List ReadLine) (two : List (List ℕ)) (count : ℕ) → first_lines lines ≡ Done two count
-    → BeginsWithTwo lines (drop count lines)
-two-read lines two count e =
-    let one = begins lines crinex_version _ two count e in
-    let other = begins one.rest crinex_program _ two one.more one.later in
-    grind (arith, common_steps)
-
 pub text-accounted : (skip : Bool) (lines : List ReadLine) → (whole_compact skip lines).fault ≡ None
     → (first : ReadLine) × (second : ReadLine) × (rest : List ReadLine)
     × (lines ≡ first ∷ second ∷ rest) × AreLinesOfItems AreCleanLines (whole_compact skip lines).items rest
 text-accounted skip lines h = by_place (first_lines lines) (λ two count e.
-    let s = two-read lines two count e in
+    let one = begins lines crinex_version _ two count e in
+    let other = begins one.rest crinex_program _ two one.more one.later in
     let whole = whole-at skip lines two count e in (
-      s.first,
-      s.second,
+      Content one.line,
+      Content other.line,
       drop count lines,
-      s.is,
+      grind (arith, common_steps),
       subst (λ (w : WholeReading ReadEpoch). AreLinesOfItems AreCleanLines w.items (drop count lines)) (sym whole)
           (all-accounted AreCleanLines compact_place owns-unit skip (count + 1) (drop count lines)
           (rw whole at h)),
-    )) (λ offset fault e. let never = rw (e, whole_compact) at h in absurd (cc))
-    (λ e. let never = rw (e, whole_compact) at h in absurd (cc))
+    )) (λ offset fault e. absurd (grind (arith, e, h))) (λ e. absurd (grind (arith, e, h)))

@@ -1,16 +1,14 @@
 -- All lines that are read to a good end are those of the items that were read of them, where all that is at a
 -- place owns its lines.
 use Rattle.crx_filter.proofs.Words
-use Words.{arith, common_steps, [], ℕ, ◌≡◌, ◌≤◌, Bool, List, ◌∷◌, ◌++◌, take, drop, length, None, refl, ap, sym}
-use Words.{◌∙◌, subst, ⊤, append_assoc, append-nil, ReadLine, Content, Place, Done, FileUnit, Item, Accepted}
+use Words.{arith, common_steps, [], ℕ, ◌≡◌, ◌≤◌, Bool, List, ◌∷◌, ◌++◌, take, drop, length, None, refl, ◌∙◌}
+use Words.{subst, ⊤, append_assoc, append-nil, ReadLine, Content, Place, Done, FileUnit, Item, Accepted}
 use Words.{whole_reading}
-use Rattle.crx_filter.proofs.reading.KeptThroughout.{whole-kept}
-use Rattle.std.proofs.lemmas.List.{take-append-drop, length-take}
-use Rattle.crx_filter.specs.meaning.Accounts.{OwnLines, AreLinesOfItems}
+use Rattle.{crx_filter.proofs.reading.KeptThroughout.whole-kept, std.proofs.lemmas.List.take-append-drop}
+use Rattle.{std.proofs.lemmas.List.length-take, crx_filter.specs.meaning.Accounts.{OwnLines, AreLinesOfItems}}
 
 split : (n : ℕ) (front lines : List ReadLine) → front ++ lines ≡ (front ++ take n lines) ++ drop n lines
-split n front lines = ap (λ (ls : List ReadLine). front ++ ls) (sym (take-append-drop n lines))
-    ∙ sym (append_assoc front (take n lines) (drop n lines))
+split n front lines = cc (take-append-drop n lines, append_assoc front (take n lines) (drop n lines))
 
 pub take-one : (lines rest : List ReadLine) (line : List ℕ) → lines ≡ Content line ∷ rest
     → take 1 lines ≡ Content line ∷ []

@@ -1,28 +1,24 @@
 -- A check is given one line more.
 use Rattle.crx_filter.proofs.Words
-use Words.{common_steps, ℕ, ◌≡◌, ◌+◌, false, List, [], ◌∷◌, ◌++◌, map, length, Option, Some, None}
-use Words.{refl, ap, sym, ◌∙◌, subst, arith, length-append, append-nil, append_assoc, length-map, none-some}
-use Words.{InputLine, ReadLine, as_read, At, Epoch, last_line, Reading, rinex_reading, rinex_open, RunState}
-use Words.{made_in, state_next, state_of, phase_of, failed_by, is_again, fault_of_stop, printed_items}
-use Words.{is_standard_line, first_not_standard, Totals, checking, totals_of, printed_open, printed_made}
-use Words.{earliest, CheckState, no_choices, check_state, OpenEpoch}
+use Words.{common_steps, ℕ, ◌≡◌, ◌+◌, false, List, [], ◌∷◌, ◌++◌, map, length, None, refl, sym, subst, arith}
+use Words.{length-append, append-nil, append_assoc, length-map, none-some, InputLine, ReadLine, as_read}
+use Words.{Epoch, last_line, Reading, rinex_reading, rinex_open, RunState, made_in, state_next, phase_of}
+use Words.{failed_by, is_again, fault_of_stop, printed_items, is_standard_line, first_not_standard, Totals}
+use Words.{checking, printed_open, printed_made, earliest, CheckState, check_state, OpenEpoch, check_reading}
+use Words.{At, Option, Some, ap, ◌∙◌}
 use Rattle.crx_filter.proofs.following.{Check.check-carried_out, Following.fed-once, MoreLines.more-line}
 use Rattle.crx_filter.proofs.{reading.StaysEnded.rinex-stays, standard.CheckLines.{phase-reached, line-grows}}
 use Rattle.crx_filter.specs.CheckingLaws.{IsCheckedOn}
 
 -- ---- what is seen of the lines
 
-abbrev pub reading_state : List ReadLine → RunState OpenEpoch Totals
-reading_state lines = state_of checking rinex_open totals_of no_choices (length lines)
-    (rinex_reading false lines)
-
 pub same-state : (lines : List InputLine) → CheckState.reading (check_state lines)
-    ≡ reading_state (map as_read lines)
+    ≡ check_reading (map as_read lines)
 same-state lines = cc (length-map lines as_read)
 
 pub once-again : (lines : List ReadLine) (line : ReadLine)
-    → is_again (state_next checking (reading_state lines) line).answer ≡ false
-once-again lines line = grind (arith, common_steps, reading_state, made_in, checking)
+    → is_again (state_next checking (check_reading lines) line).answer ≡ false
+once-again lines line = grind (arith, common_steps, check_reading, made_in, checking)
 
 -- the printed lines of a reading
 abbrev pub printed_of : List ReadLine → List (List ℕ)
@@ -31,13 +27,13 @@ printed_of lines = let r : Reading Epoch = rinex_reading false lines in
 
 -- the last line that printing gives for a line
 abbrev pub given_back : List ReadLine → ReadLine → List ℕ
-given_back lines line = let s : RunState OpenEpoch Totals = reading_state lines in
+given_back lines line = let s : RunState OpenEpoch Totals = check_reading lines in
     last_line (printed_made (made_in checking s.phase s.types s.kept line))
 
 pub record IsOneOn (lines : List ReadLine) (line : ReadLine) : Type 0 where
   pub fault : fault_of_stop (rinex_reading false (lines ++ line ∷ [])).stop
-      ≡ failed_by (state_next checking (reading_state lines) line).answer
-  pub next : reading_state (lines ++ line ∷ []) ≡ (state_next checking (reading_state lines) line).next
+      ≡ failed_by (state_next checking (check_reading lines) line).answer
+  pub next : check_reading (lines ++ line ∷ []) ≡ (state_next checking (check_reading lines) line).next
   pub printed : fault_of_stop (rinex_reading false (lines ++ line ∷ [])).stop ≡ None
       → printed_of (lines ++ line ∷ []) ≡ printed_of lines ++ given_back lines line ∷ []
 
@@ -45,10 +41,10 @@ pub one-on : (lines : List ReadLine) (line : ReadLine) → IsOneOn lines line
 one-on lines line = grind (
   arith,
   common_steps,
-  fed-once checking (reading_state lines) line (once-again lines line),
+  fed-once checking (check_reading lines) line (once-again lines line),
   more-line check-carried_out 1 (length lines) (length (lines ++ line ∷ [])) lines (lines ++ line ∷ []) line
       (omega arith) (length-append lines (line ∷ [])) refl,
-  line-grows (length lines) (reading_state lines).phase (reading_state lines).types (reading_state lines).kept
+  line-grows (length lines) (check_reading lines).phase (check_reading lines).types (check_reading lines).kept
       line (phase-reached lines),
   append_assoc,
 )
@@ -85,14 +81,11 @@ as-many lines none = as-many-on lines [] refl none
 first-on : (number : ℕ) (lines : List InputLine) (texts : List (List ℕ)) (line : InputLine) (text : List ℕ)
     → length texts ≡ length lines → first_not_standard number (lines ++ line ∷ []) (texts ++ text ∷ [])
     ≡ earliest (first_not_standard number lines texts) (is_standard_line line text) (number + length lines)
-first-on number [] [] line text e = ap (λ n. earliest None (is_standard_line line text) n) (omega arith)
+first-on number [] [] line text e = grind arith
 first-on number [] (t ∷ texts) line text e = absurd (cc)
 first-on number (l ∷ lines) [] line text e = absurd (cc)
 first-on number (l ∷ lines) (t ∷ texts) line text e =
-    let same : length texts ≡ length lines = omega (arith, e) in
-    let rest = first-on (number + 1) lines texts line text same in
-    let counted : (number + 1) + length lines ≡ number + length (l ∷ lines) = omega arith in
-    grind (arith, common_steps)
+    grind (arith, common_steps, first-on (number + 1) lines texts line text)
 
 -- ---- one line more
 

@@ -1,16 +1,16 @@
 -- A direction that also keeps something of each epoch that was accepted: with it one line more gives that of those
 -- after it.
 use Rattle.crx_filter.proofs
-use proofs.Words.{common_steps, ℕ, ◌≡◌, ◌⊎◌, inl, inr, true, false, List, [], ◌∷◌, ◌++◌, map, refl, ap, sym}
-use proofs.Words.{◌∙◌, arith, subst, length, map-append, InputLine, ReadLine, as_read, Option, FileUnit}
-use proofs.Words.{Observation, Place, Choices, Item, Count, types_in_force, RunState, Phase, Made, Completes}
-use proofs.Words.{Rejects, Direction, Notice, LineStep, made_in, kept_in, state_next, step_of_made}
-use proofs.Words.{is_again, fed, with_next, Content, Overlong}
-use proofs.Words.{LineTooLong, not-true, false-true, At, state_of, Reading, Some}
+use proofs.Words.{common_steps, ℕ, ◌≡◌, inl, inr, true, false, List, [], ◌∷◌, ◌++◌, map, refl, ap, sym, ◌∙◌}
+use proofs.Words.{arith, length, map-append, InputLine, ReadLine, as_read, Option, FileUnit, Observation}
+use proofs.Words.{Place, Choices, Item, Count, types_in_force, RunState, Phase, Made, Completes, Rejects}
+use proofs.Words.{Direction, Notice, LineStep, made_in, kept_in, state_next, step_of_made, is_again, fed}
+use proofs.Words.{with_next, Content, Overlong, LineTooLong, not-true, false-true, At, state_of, Reading}
+use proofs.Words.{Some}
 use proofs.{Pending.{again-lines, taken-either}, following.Following.{AgreeOn, IsCarriedOut, IsSameEpoch}}
 use proofs.following.Following.{fed-once, fed-twice, failed-skipped, failed-ends}
 use Rattle.crx_filter.specs.DirectionParts.{DirectionParts, ComesAfter, brings_nothing, state_by}
-use Rattle.crx_filter.specs.{LineByLine.{answer_of_lines}, meaning.Memory.accepted_epochs}
+use Rattle.crx_filter.specs.{LineByLine.answer_of_lines, meaning.Memory.accepted_epochs}
 
 -- what a direction keeps, and what is kept of the epochs
 pub record Collected (K V : Type 0) : Type 0 where
@@ -147,23 +147,14 @@ module _ {U O K V : Type 0} (direction : Direction U O K) (epoch_of : U → V) w
     pub given-epochs : is_again (state_next direction seen (as_read line)).answer ≡ false
         → epochs_after (map as_read (with_next lines line)) ≡ add_made epoch_of
         (epochs_after (map as_read lines)) (made_in direction seen.phase seen.types seen.kept (as_read line))
-    given-epochs once = ap epochs_after (map-append as_read lines (line ∷ []))
-        ∙ collects (map as_read lines) (as_read line) ∙ elim (taken-either direction (state_after choices)
-        seen lines given.notices line given.has_taken given.awaited) as
-        (λ _. epochs_fed before epochs (as_read line) ≡ now) [
-          | inl h ↦ subst (λ (s : RunState O K). epochs_fed s epochs (as_read line) ≡ now) h.1
-              (epochs-once seen epochs (as_read line) once)
-          | inr h ↦ epochs-twice before epochs (as_read line) seen h.0 h.2
+    given-epochs once =
+        let moved = ap epochs_after (map-append as_read lines (line ∷ [])) ∙ collects (map as_read lines)
+        (as_read line) in
+        elim (taken-either direction (state_after choices) seen lines given.notices line given.has_taken
+        given.awaited) [
+          | inl h ↦ moved ∙ rw (← h.1) (epochs-once seen _ (as_read line) once)
+          | inr h ↦ moved ∙ epochs-twice _ _ (as_read line) seen h.0 h.2
         ]
-      where
-        before : RunState O K
-        before = state_after choices (map as_read lines)
-
-        epochs : List V
-        epochs = epochs_after (map as_read lines)
-
-        now : List V
-        now = add_made epoch_of epochs (made_in direction seen.phase seen.types seen.kept (as_read line))
 
     pub given-past : ((types : List Count) (kept : K)
         → direction.begins types kept Overlong ≡ Rejects LineTooLong)
@@ -187,10 +178,6 @@ module _ {E U O K V : Type 0} {beginning : List (Item E) → List ReadLine → P
 
   abbrev pub collected_of : List (Item E) → Collected K V
   collected_of items = record { own = kept_of items; epochs = epochs_of items }
-
-  abbrev AreKept : List (Item E) → Collected K V → Type 0
-  AreKept items kept = ((kept.own ≡ kept_of items) ⊎ (kept.own ≡ direction.kept_open (kept_of items)))
-      × (kept.epochs ≡ epochs_of items)
 
   -- an epoch that is the same as it comes line by line, and so is its observation epoch
   pub both-same : (items : List (Item E)) (epoch : E) (held : U)

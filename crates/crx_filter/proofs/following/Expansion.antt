@@ -9,10 +9,10 @@ use proofs.Words.{raws_kept, event_line, as_observation, expanded_unit, Made, ma
 use proofs.Words.{Direction, expansion, tail_of_items, begins_event, compact_open, by_bool}
 use Rattle.crx_compact.proofs.reading.LineByLine.{steps-agree, wanted-where_open, steps-from_open}
 use Rattle.crx_compact.proofs.reading.RawTailing.{place-by_tail, left-by_tail}
-use Rattle.crx_compact.proofs.soundness.Soundness.{reads-soundly}
-use Rattle.crx_compact.specs.OpenEpochs.{epoch_after, HeldEpoch, Going, Whole, Faulty, placed_as, held_after}
-use Rattle.crx_compact.specs.{OpenEpochs.{place_of_step, place_of_steps}, ReadingLaws.is_wanted}
-use Rattle.{crx_compact.specs.Tails.tail_left, crx_filter.specs.ExpansionByLine.compact_begins}
+use Rattle.crx_compact.{proofs.soundness.Soundness.reads-soundly, specs.OpenEpochs.{epoch_after, HeldEpoch}}
+use Rattle.crx_compact.specs.OpenEpochs.{Going, Whole, Faulty, placed_as, held_after, place_of_step}
+use Rattle.crx_compact.specs.{OpenEpochs.place_of_steps, ReadingLaws.is_wanted, Tails.tail_left}
+use Rattle.crx_filter.specs.ExpansionByLine.{compact_begins}
 use proofs.following.{Following.{IsSameEpoch, AgreeOn, IsCarriedOut}, Lines.one_line-decided}
 use proofs.reading.ForwardCompact.{compact-forward, compact_beginning}
 
@@ -30,13 +30,9 @@ pub record AreSame {K : Type 0} (direction : Direction HeldEpoch OpenRawEpoch K)
 -- ---- what is at a place, by what it leaves
 
 -- an epoch that was read is held as the steps hold it
-record IsHeldAs (tail : Option Tail) (p : Place ReadEpoch) (held : HeldEpoch) (count : ℕ) : Type 0 where
-  read : ReadEpoch
-  here : p ≡ Done read count
-  same : held_after tail read ≡ held
-
 placed-here : (tail : Option Tail) (p : Place ReadEpoch) (held : HeldEpoch) (count : ℕ)
-    → placed_as (held_after tail) p ≡ Done held count → IsHeldAs tail p held count
+    → placed_as (held_after tail) p ≡ Done held count
+    → (read : ReadEpoch) × (p ≡ Done read count) × (held_after tail read ≡ held)
 placed-here tail p held count e = grind (arith, common_steps, held_after)
 
 placed-wrong : (tail : Option Tail) (p : Place ReadEpoch) (offset : ℕ) (fault : Fault)
@@ -84,11 +80,11 @@ module _ {K : Type 0} {direction : Direction HeldEpoch OpenRawEpoch K} {kept_of 
       grind (arith, common_steps, place-by_tail, placed-wanted)
   agree-step items lines before (Whole held) place placed opens =
       let h = placed-here (tail_of_items items) _ held (suc before) placed in
-      let here = place-by_tail (types_in_force items) (raws_kept items) lines ∙ h.here in (
+      let here = place-by_tail (types_in_force items) (raws_kept items) lines ∙ h.1 in (
         suc before,
-        h.read,
+        h.0,
         place ∙ ap as_observation here,
-        s.same items lines h.read held (suc before) here h.same,
+        s.same items lines h.0 held (suc before) here h.2,
       )
   agree-step items lines before (Faulty fault) place placed opens = (
     before,

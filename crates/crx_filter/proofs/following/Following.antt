@@ -1,20 +1,19 @@
 -- One line more, as it is fed and as it is read: the same in both directions.
 use Rattle.crx_filter.proofs
-use proofs.Words.{common_steps, ℕ, suc, ◌≡◌, ◌⊎◌, ◌+◌, max, ◌<◌, ◌≤◌, Bool, true, false, List, [], ◌∷◌}
-use proofs.Words.{◌++◌, length, drop, Option, Some, None, refl, ap, sym, ◌∙◌, arith, length-append}
-use proofs.Words.{append-nil, ◌&&◌, drop-append_seam, ReadLine, Fault, At, Count, Place, Done, Fails}
-use proofs.Words.{NeedsMore, FileUnit, HeaderLine, EventLine, EventRecord, Observation, Choices, Item}
-use proofs.Words.{Accepted, Warned, is_at_start, header_has_ended, records_left}
-use proofs.Words.{records_count_types, types_in_force, unit_place, Reading, AtFault, AtLines}
-use proofs.Words.{Looking, is_skipped, can_go_on, looked_for, reading_within, written_lines, warnings_in}
-use proofs.Words.{Phase, InHeader, InEvent, InEpoch, Ended, RunState, Made, Completes, Moves, Rejects}
-use proofs.Words.{Direction, Notice, Failed, Step, with_records_left, phase_after, types_after, may_skip}
-use proofs.Words.{is_in_epoch, is_skipped_in, kept_in, with_phase, after_warning, failed_step, step_of_made}
-use proofs.Words.{state_next, phase_in_body, phase_after_items, state_of, IsReadForward, IsFollowed, Fed, fed}
-use proofs.{Words.{fed_once, fed_twice, is_again, fault_of_stop, by_bool}, Pending.noticed-lines}
-use proofs.{Pending.failed-lines, reading.Resuming.{wrong-within, within-wrong, within-wanted, fault-skipped}}
-use proofs.reading.Resuming.{looked-here, looked-on}
-use Rattle.crx_filter.specs.LineByLine.{after_unit, answer_of_lines}
+use proofs.Words.{common_steps, ℕ, suc, ◌≡◌, ◌⊎◌, ◌+◌, max, ◌<◌, ◌≤◌, Bool, true, false, List, [], ◌∷◌, ◌++◌}
+use proofs.Words.{length, drop, Option, Some, None, refl, ap, sym, ◌∙◌, arith, length-append, append-nil}
+use proofs.Words.{◌&&◌, drop-append_seam, ReadLine, Fault, At, Count, Place, Done, Fails, NeedsMore, FileUnit}
+use proofs.Words.{HeaderLine, EventLine, EventRecord, Observation, Choices, Item, Accepted, Warned}
+use proofs.Words.{is_at_start, header_has_ended, records_left, records_count_types, types_in_force}
+use proofs.Words.{unit_place, Reading, AtFault, AtLines, Looking, is_skipped, can_go_on, looked_for}
+use proofs.Words.{reading_within, written_lines, warnings_in, Phase, InHeader, InEvent, InEpoch, Ended}
+use proofs.Words.{RunState, Made, Completes, Moves, Rejects, Direction, Notice, Failed, Step}
+use proofs.Words.{with_records_left, phase_after, types_after, may_skip, is_in_epoch, is_skipped_in, kept_in}
+use proofs.Words.{with_phase, after_warning, failed_step, step_of_made, state_next, phase_in_body}
+use proofs.Words.{phase_after_items, state_of, IsReadForward, IsFollowed, Fed, fed, fed_once, fed_twice}
+use proofs.Words.{is_again, fault_of_stop, by_bool}
+use proofs.{Pending.{noticed-lines, failed-lines}, reading.Resuming.{wrong-within, within-wrong}}
+use proofs.reading.Resuming.{within-wanted, fault-skipped, looked-here, looked-on}
 pub use Rattle.crx_filter.proofs.Pending.{state_in}
 
 -- ---- what a direction has to keep to
@@ -209,18 +208,14 @@ module _ {E U O K : Type 0} {beginning : List (Item E) → List ReadLine → Pla
 
   -- the next line completes a unit
   pub followed-unit : (count n : ℕ) (items : List (Item E)) (phase : Phase O)
-      (kept : K) (unit : FileUnit E) (same : FileUnit U) → open_with (Accepted unit ∷ items) [] ≡ None
-      → phase_after_items {O = O} (Accepted unit ∷ items) None ≡ phase_after phase same
+      (kept : K) (line : ReadLine) (unit : FileUnit E) (same : FileUnit U) → phase_after_items {O = O} (Accepted unit ∷ items) None ≡ phase_after phase same
       → types_in_force (Accepted unit ∷ items) ≡ types_after phase (types_in_force items) same
       → direction.kept_after (state_at count phase items kept) same ≡ kept_of (Accepted unit ∷ items)
       → direction.written (state_at count phase items kept) same ≡ unit_lines items unit → Follows
-      (count + 1) items (record { items = Accepted unit ∷ items; stop = AtLines n [] }) (fed_once (record {
-        answer = answer_of_lines (direction.written (state_at count phase items kept) same);
-        handed_out = direction.written (state_at count phase items kept) same;
-        next = after_unit direction (state_at count phase items kept) same;
-      }))
-  followed-unit count n items phase kept unit same none phases types keeps lines =
-      grind (arith, common_steps, phase_after_items, kept-with_records, noticed-lines, failed-lines)
+      (count + 1) items (record { items = Accepted unit ∷ items; stop = AtLines n [] })
+      (fed_once (step_of_made direction (state_at count phase items kept) line (Completes same)))
+  followed-unit count n items phase kept line unit same phases types keeps lines = grind
+      (arith, common_steps, phase_after_items, kept-with_records, noticed-lines, failed-lines, h.none_open)
 
   -- the next line ends the run
   pub followed-end : (count : ℕ) (items : List (Item E)) (phase : Phase O) (kept : K) (line : ReadLine)
@@ -292,8 +287,8 @@ module _ {E U O K : Type 0} {beginning : List (Item E) → List ReadLine → Pla
       let here = body-place beginning items (rest ++ line ∷ []) ended none ∙ agree.1 in
       let same : kept ≡ kept_of items = grind (arith, length-append rest (line ∷ []), agree.2, inside) in
       rw (last-here h.forward choices.skip units items number rest line (EventLine l) agree.0 wanted_here
-      here) (followed-unit count (number + agree.0) items phase kept (EventLine l) (EventLine l)
-      (h.none_open (Accepted (EventLine l) ∷ items)) (rw ended (records-phase _ _)) refl
+      here) (followed-unit count (number + agree.0) items phase kept line (EventLine l) (EventLine l)
+      (rw ended (records-phase _ _)) refl
       (ap (λ k. direction.kept_after
       (state_at count phase items k) (EventLine l)) same ∙ h.event_kept items count phase
       (types_in_force items) l) (h.event_lines items count phase (types_in_force items) kept l))
@@ -303,8 +298,8 @@ module _ {E U O K : Type 0} {beginning : List (Item E) → List ReadLine → Pla
       let here = body-place beginning items (rest ++ line ∷ []) ended none ∙ agree.2 in
       let same = agree.3 in
       rw (last-here h.forward choices.skip units items number rest line (Observation agree.1) agree.0
-      wanted_here here) (followed-unit count (number + agree.0) items phase kept (Observation agree.1)
-      (Observation held) (h.none_open (Accepted (Observation agree.1) ∷ items)) (rw ended refl) refl
+      wanted_here here) (followed-unit count (number + agree.0) items phase kept line (Observation agree.1)
+      (Observation held) (rw ended refl) refl
       (same.kept count phase (types_in_force items) kept keeps)
       (same.lines count phase (types_in_force items) kept keeps))
   body-once units items number count rest line phase kept (Moves next) ended none wanted agree may keeps

@@ -2,22 +2,22 @@
 use Rattle.crx_filter.proofs
 use proofs.Words.{common_steps, ℕ, zero, suc, ◌≡◌, inl, inr, ◌+◌, ◌<◌, Bool, true, false, cond, List, [], ◌∷◌}
 use proofs.Words.{◌++◌, length, Option, Some, None, Result, refl, ap, sym, subst, ◌∙◌, arith, length-append}
-use proofs.Words.{append-nil, append_assoc, ◌&&◌, ◌==◌, ⊤, nat_lt, ReadLine, Content, Overlong, Fault}
-use proofs.Words.{LineTooLong, At, is_end_of_header, Count, types_of, with_line, none-some, Place, NeedsMore}
-use proofs.Words.{one_line, first_line, FileUnit, HeaderLine, EventRecord, Choices, Item, Accepted, Warned}
-use proofs.Words.{is_at_start, header_has_ended, records_left, records_count_types, declaring_lines}
-use proofs.Words.{types_in_force, unless_wrong, types_fault, header_line_fault, header_line, event_record}
-use proofs.Words.{unit_place, Reading, Stop, AtFault, AtLines, Looking, is_skipped, can_go_on, reading_within}
+use proofs.Words.{append-nil, append_assoc, ◌&&◌, ⊤, nat_lt, ReadLine, Content, Overlong, Fault, LineTooLong}
+use proofs.Words.{At, is_end_of_header, Count, types_of, with_line, none-some, Place, NeedsMore, one_line}
+use proofs.Words.{first_line, FileUnit, HeaderLine, EventRecord, Choices, Item, Accepted, Warned, is_at_start}
+use proofs.Words.{header_has_ended, records_left, records_count_types, declaring_lines, types_in_force}
+use proofs.Words.{unless_wrong, types_fault, header_line_fault, header_line, event_record, unit_place}
+use proofs.Words.{Reading, Stop, AtFault, AtLines, Looking, is_skipped, can_go_on, reading_within}
 use proofs.Words.{reading_from, is_skippable, continued_reading, IsReadForward, fed, fed_once, fed_twice}
 use proofs.Words.{is_again, written_lines, warnings_in, Phase, InHeader, BetweenUnits, InEvent, InEpoch}
 use proofs.Words.{LookingOn, RunState, Made, Rejects, Direction, Notice, Step, made_of_unit, made_in}
-use proofs.Words.{phase_after, types_after, may_skip, is_in_epoch, is_skipped_in, kept_in}
-use proofs.Words.{failed_step, step_of_made, state_next, phase_in_body, phase_after_items, state_of}
-use proofs.{Words.{and_parts, by_bool, false-true, Completes}, Pending.again-lines}
-use proofs.following.Following.{IsCarriedOut, AreKept, IsInside, Follows, Agrees, place, reads, state_at}
-use proofs.following.Following.{emptied-same, skipped-same, body-place, body-phase, fed-once, fed-twice}
-use proofs.following.Following.{failed-ends, failed-skipped, followed-unit, followed-end, last-here}
-use proofs.following.Following.{last-ends, last-skipped, skipped-again, records-phase, body-once}
+use proofs.Words.{phase_after, types_after, may_skip, is_in_epoch, is_skipped_in, kept_in, failed_step}
+use proofs.Words.{step_of_made, state_next, phase_in_body, phase_after_items, state_of, and_parts, by_bool}
+use proofs.Words.{false-true, Completes}
+use proofs.{Pending.again-lines, following.Following.{IsCarriedOut, AreKept, IsInside, Follows, Agrees}}
+use proofs.following.Following.{place, reads, state_at, emptied-same, skipped-same, body-place, body-phase}
+use proofs.following.Following.{fed-once, fed-twice, failed-ends, failed-skipped, followed-unit, followed-end}
+use proofs.following.Following.{last-here, last-ends, last-skipped, skipped-again, records-phase, body-once}
 use proofs.reading.Resuming.{enough-units, looked-here, looked-on}
 use Rattle.crx_header.proofs.Counts.{types_of-push}
 
@@ -36,9 +36,6 @@ header-phase : {E O : Type 0} (items : List (Item E)) (is_first : Bool) (line : 
     → header_has_ended items ≡ false → phase_after_items {O = O} (Accepted (HeaderLine line) ∷ items) None
     ≡ phase_after {U = E} (InHeader is_first) (HeaderLine line)
 header-phase {E = E} {O = O} items is_first line e = grind (arith, common_steps, cond, is_end_of_header)
-
-pub never-in-event : (skip : Bool) (left : ℕ) (b : Bool) → (skip && ((suc left == 0) && b)) ≡ false
-never-in-event skip left b = grind (arith, common_steps, never-before)
 
 record-types : (counted : Bool) (lines : List (List ℕ)) (line : List ℕ) → types_of (cond counted
     (lines ++ line ∷ []) lines) ≡ cond counted (with_line (types_of lines) line) (types_of lines)
@@ -175,8 +172,7 @@ module _ {E U O K : Type 0} {beginning : List (Item E) → List ReadLine → Pla
       direction (state_at h count phase items (kept_of items)) line (made_of_unit (unless_wrong same fault))))
   simple-line units items count line phase None unit same here never never_in phases types keeps lines = rw
       (last-here h.forward choices.skip units items (count + 1) [] line unit 1 (h.forward.wants items) here)
-      (followed-unit h count (count + 1 + 1) items phase (kept_of items) unit same (h.none_open
-      (Accepted unit ∷ items)) phases types keeps lines)
+      (followed-unit h count (count + 1 + 1) items phase (kept_of items) line unit same phases types keeps lines)
   simple-line units items count line phase (Some fault) unit same here never never_in phases types keeps
       lines = grind (arith, common_steps, last-ends, h.forward, followed-end)
 
@@ -201,8 +197,8 @@ module _ {E U O K : Type 0} {beginning : List (Item E) → List ReadLine → Pla
           items)) items (kept_of items)) l (made_of_unit (unless_wrong (HeaderLine content) fault))))
       simple content l fault here = simple-line units items count l
           (InHeader (is_at_start items)) fault (HeaderLine content) (HeaderLine content) here
-          (λ f. rw e (never-before choices.skip ((records_left items == 0) && is_skippable f)))
-          (λ f. never-before choices.skip (is_skippable f)) (header-phase items (is_at_start items) content e)
+          (λ f. grind (arith, common_steps, never-before)) (λ f. never-before choices.skip (is_skippable f))
+          (header-phase items (is_at_start items) content e)
           (types_of-push (declaring_lines items) content) (h.header_kept items count
           (types_in_force items) content) (h.header_lines items count (types_in_force items) content)
 
@@ -229,8 +225,7 @@ module _ {E U O K : Type 0} {beginning : List (Item E) → List ReadLine → Pla
           (reads h (suc units) items (count + 1) (l ∷ [])) (fed_once (step_of_made direction (state_at
           h count phase items (kept_of items)) l (made_of_unit (unless_wrong (EventRecord content) fault))))
       simple content l fault here = simple-line units items count l phase fault (EventRecord content)
-          (EventRecord content) here (λ f. rw (ended, some) (never-in-event choices.skip left
-          (is_skippable f))) (λ f. never-before choices.skip (is_skippable f)) (rw (ended, some)
+          (EventRecord content) here (λ f. grind (arith, common_steps, never-before)) (λ f. never-before choices.skip (is_skippable f)) (rw (ended, some)
           (records-phase _ _)) (record-types (records_count_types items) (declaring_lines items) content)
           (h.record_kept items count (suc left) (types_in_force items) content)
           (h.record_lines items count phase (types_in_force items) (kept_of items) content)

@@ -1,21 +1,20 @@
 -- Where memory may run out at a line by what is seen before it, it may by what is there.
 use Rattle.crx_filter.proofs.Words
-use Words.{common_steps, ℕ, suc, ◌≡◌, ◌+◌, Bool, true, false, not, cond, List, [], ◌∷◌, ◌++◌, length, Option}
-use Words.{Some, None, refl, ap, sym, subst, ◌∙◌, arith, ◌&&◌, nat_lt, is_some, ReadLine, Content, Overlong}
-use Words.{At, begins_epoch, is_event_line, Count, count_in, is_types_line, Place, NeedsMore}
-use Words.{first_line, FileUnit, Choices, Item, Warned, is_at_start, header_has_ended}
-use Words.{records_left, records_count_types, types_in_force, memory_allowed, place_takes, Stop, AtFault}
-use Words.{AtLines, Looking, can_go_on, event_record, header_line, header_line_fault, types_fault}
-use Words.{is_again, BetweenUnits, Direction, Rejects, InEpoch, InEvent}
-use Words.{InHeader, Made, Notice, Phase, RunState, Step, after_warning, is_in_epoch, is_skipped_in, kept_in}
-use Words.{phase_after_items, state_next, state_of, step_of_made, may_take_memory, takes_memory, rules}
-use Words.{none-some, noticed_by, and_parts, by_bool, false-true}
+use Words.{common_steps, ℕ, ◌≡◌, ◌+◌, Bool, true, false, not, List, [], ◌∷◌, ◌++◌, length, Option, Some, None}
+use Words.{refl, ap, sym, subst, ◌∙◌, arith, ◌&&◌, nat_lt, is_some, ReadLine, Content, Overlong, At}
+use Words.{begins_epoch, is_event_line, is_types_line, Place, NeedsMore, first_line, FileUnit, Choices, Item}
+use Words.{Warned, is_at_start, header_has_ended, records_left, records_count_types, types_in_force}
+use Words.{memory_allowed, place_takes, Stop, AtFault, AtLines, Looking, can_go_on, event_record, header_line}
+use Words.{header_line_fault, types_fault, is_again, Direction, Rejects, InEpoch, Made, Notice, Phase}
+use Words.{RunState, Step, after_warning, is_in_epoch, is_skipped_in, kept_in, phase_after_items, state_next}
+use Words.{state_of, step_of_made, may_take_memory, takes_memory, rules, none-some, and_parts, by_bool}
+use Words.{false-true, Count, cond, count_in, noticed_by}
 use Rattle.crx_filter.proofs.{Pending.again-lines, following.Following.{AgreeOn, IsCarriedOut, body-place}}
 use Rattle.crx_filter.proofs.following.Following.{failed-ends, place, failed-skipped, state_in, skipped-same}
 use Rattle.crx_filter.proofs.following.{Following.wrong-last, Lines.{IsStopped, by_phase, header-place}}
 use Rattle.crx_filter.proofs.{following.MoreLines.{read_from, state_from}, reading.Stopping.reading-stopped}
 use Rattle.crx_filter.proofs.{following.Lines.record-place, steps.EngineAnswers.{ComesAgain, comes-again}}
-use Rattle.crx_filter.specs.{meaning.Memory.{line_takes}}
+use Rattle.crx_filter.specs.meaning.Memory.{line_takes}
 use Rattle.{crx_header.specs.meaning.ObservationTypes.count_of_types_line, std.specs.Prelude.is_none}
 use Rattle.crx_filter.specs.meaning.Items.{are_lacking}
 
@@ -77,29 +76,21 @@ module _ {E U O K : Type 0} {beginning : List (Item E) → List ReadLine → Pla
       (kept_of items) line) ≡ true → line_takes (place h) takes items [] (Content line) ≡ true
   begins-takes items line ended none e = grind (arith, common_steps)
 
-  -- by the content of a line, where an overlong one takes nothing
-  by_content : (items : List (Item E)) (rest : List ReadLine) (phase : Phase O) (line : ReadLine)
-      → taken_in items Overlong phase ≡ false → ((content : List ℕ) → taken_in items (Content content) phase
-      ≡ true → line_takes (place h) takes items rest (Content content) ≡ true)
-      → taken_in items line phase ≡ true → line_takes (place h) takes items rest line ≡ true
-  by_content items rest phase Overlong off on e = false-true (sym off ∙ e)
-  by_content items rest phase (Content content) off on e = on content e
-
   -- where more lines are wanted
   lines-take : (items : List (Item E)) (rest : List ReadLine) (line : ReadLine) → place h items rest ≡
       NeedsMore → taken_in items line (phase_after_items items (open_with items rest)) ≡ true
       → line_takes (place h) takes items rest line ≡ true
-  lines-take items rest line wanted = by_phase h (λ ls p. taken_in items line p ≡ true
-      → line_takes (place h) takes items ls line ≡ true) items rest wanted (λ e. by_content items []
-      (InHeader (is_at_start items)) line refl (λ content taken. ap (place_takes takes items 0) (header-place
-      beginning items (Content content ∷ []) e) ∙ header-takes takes items (is_at_start items) content taken))
-      (λ left e some. by_content items [] (InEvent (suc left) (records_count_types items)) line refl
-      (λ content taken. ap (place_takes takes items 0) (record-place beginning items left
-      (Content content ∷ []) e some) ∙ record-takes takes items content taken))
-      (λ e none. by_content items [] BetweenUnits line refl (λ content. begins-takes items content e none))
-      (λ so_far e none opens. by_content items rest (InEpoch so_far) line refl (λ content taken.
-      ap (place_takes takes items (length rest)) (body-place beginning items (rest ++ Content content ∷ [])
-      e none) ∙ t.next items rest content so_far opens (and_parts (not (begins_epoch content)) _ taken).1))
+  lines-take items rest Overlong wanted = λ taken. false-true taken
+  lines-take items rest (Content line) wanted = by_phase h (λ ls p. taken_in items (Content line) p ≡ true
+      → line_takes (place h) takes items ls (Content line) ≡ true) items rest wanted
+      (λ e taken. ap (place_takes takes items 0) (header-place beginning items (Content line ∷ []) e)
+      ∙ header-takes takes items (is_at_start items) line taken)
+      (λ left e some taken. ap (place_takes takes items 0) (record-place beginning items left
+      (Content line ∷ []) e some) ∙ record-takes takes items line taken)
+      (λ e none. begins-takes items line e none)
+      (λ so_far e none opens taken.
+      ap (place_takes takes items (length rest)) (body-place beginning items (rest ++ Content line ∷ [])
+      e none) ∙ t.next items rest line so_far opens (and_parts (not (begins_epoch line)) _ taken).1)
 
   -- memory may run out at a line at once
   pub allowed-first : (number count : ℕ) (lines : List ReadLine) (line : ReadLine)

@@ -1,20 +1,19 @@
 -- Where the reading of compact text starts anew, it depends on the types in force alone.
 use Rattle.crx_filter.proofs
-use proofs.Words.{common_steps, [], ℕ, zero, suc, ◌≡◌, ◌+◌, ◌<◌, max, Bool, true, cond, List, ◌∷◌, ◌++◌, drop}
-use proofs.Words.{Option, Some, None, refl, ap, sym, ◌∙◌, arith, subst, append-nil, append_assoc, and_parts}
-use proofs.Words.{⊤, ReadLine, expanded_lines, printed_unit, fault_at_end, ended_with, ended_reading}
-use proofs.Words.{Content, Overlong, Fault, At, begins_epoch, is_event_line, records_in, Count, Place, Done}
-use proofs.Words.{one_line, first_line, FileUnit, HeaderLine, EventRecord, block_of, ReadEpoch, epoch_at}
-use proofs.Words.{Item, Accepted, Warned, header_has_ended, records_announced, records_left}
-use proofs.Words.{records_count_types, types_in_force, unless_wrong, types_fault, event_record, Reading, Stop}
-use proofs.Words.{AtFault, AtLines, Looking, is_skipped, looked_for, reading_within, after_fault, raws_kept}
-use proofs.Words.{empties_state, event_line, as_observation, compact_place, starts_anew, GoOnAlike, by_bool}
-use proofs.Words.{IsBetweenUnits, WholeReading, reading_from}
+use proofs.Words.{common_steps, [], ℕ, zero, suc, ◌≡◌, ◌+◌, ◌<◌, max, Bool, true, List, ◌∷◌, ◌++◌, drop}
+use proofs.Words.{Option, refl, ap, sym, ◌∙◌, arith, subst, append-nil, append_assoc, and_parts, ⊤, ReadLine}
+use proofs.Words.{expanded_lines, printed_unit, fault_at_end, ended_with, ended_reading, Content, Overlong}
+use proofs.Words.{Fault, At, begins_epoch, is_event_line, Place, Done, FileUnit, HeaderLine, EventRecord}
+use proofs.Words.{block_of, ReadEpoch, epoch_at, Item, Accepted, Warned, header_has_ended, records_left}
+use proofs.Words.{records_count_types, types_in_force, Reading, Stop, AtFault, AtLines, Looking, is_skipped}
+use proofs.Words.{looked_for, reading_within, after_fault, raws_kept, empties_state, compact_place}
+use proofs.Words.{starts_anew, GoOnAlike, by_bool, IsBetweenUnits, WholeReading, reading_from, EventLine}
+use proofs.Words.{Observation, inl, inr, ◌⊎◌, ◌-◌}
 use Rattle.{std.specs.Option.option_map, crx_filter.specs.meaning.Expanded.rinex_unit}
 use Rattle.{crx_compact.proofs.reading.Forgetting.forgets, crx_filter.specs.Anew.DependsOnTypes}
 use Rattle.crx_header.proofs.Counts.{types_of-push}
 use proofs.{following.{Following.body-place, Lines.record-place}, reading.ForwardCompact.compact_beginning}
-use proofs.reading.{Resuming.by_place, WhatStands.{OfHere, of-unit, of-compact}}
+use proofs.reading.{Resuming.by_place, WhatStands.{of-unit, of-compact}}
 
 -- ---- two lists of items that are alike
 
@@ -26,51 +25,113 @@ pub record AreAlike (a b : List (Item ReadEpoch)) : Type 0 where
   pub counts : 0 < records_left a → records_count_types a ≡ records_count_types b
   pub types : types_in_force a ≡ types_in_force b
 
--- and what is read next goes on from the same block
-pub record AreSame (a b : List (Item ReadEpoch)) : Type 0 where
-  pub alike : AreAlike a b
-  pub block : block_of (raws_kept a) ≡ block_of (raws_kept b)
+-- and what is read next goes on from the same block, or all starts anew at these lines
+abbrev GoesOn : List (Item ReadEpoch) → List (Item ReadEpoch) → List ReadLine → Type 0
+GoesOn a b lines =
+    (block_of (raws_kept a) ≡ block_of (raws_kept b)) ⊎ (starts_anew (records_left a) lines ≡ true)
+
+record AreSame (a b : List (Item ReadEpoch)) (lines : List ReadLine) : Type 0 where
+  alike : AreAlike a b
+  goes_on : GoesOn a b lines
 
 -- the units that can be after some items
-abbrev pub MayFollow : List (Item ReadEpoch) → FileUnit ReadEpoch → Type 0
+abbrev MayFollow : List (Item ReadEpoch) → FileUnit ReadEpoch → Type 0
 MayFollow items (HeaderLine line) = ⊥
 MayFollow items (EventRecord line) = 0 < records_left items
 MayFollow items unit = ⊤
 
-pub alike-unit : (a b : List (Item ReadEpoch)) (unit : FileUnit ReadEpoch)
+alike-unit : (a b : List (Item ReadEpoch)) (unit : FileUnit ReadEpoch)
     → MayFollow a unit → AreAlike a b → AreAlike (Accepted unit ∷ a) (Accepted unit ∷ b)
 alike-unit a b unit f h = grind (arith, common_steps, types_of-push)
 
-same-unit : (a b : List (Item ReadEpoch)) (unit : FileUnit ReadEpoch)
-    → MayFollow a unit → AreSame a b → AreSame (Accepted unit ∷ a) (Accepted unit ∷ b)
-same-unit a b unit f h = record {
-  alike = alike-unit a b unit f h.alike;
-  block = grind (arith, common_steps, by_bool, empties_state, records_count_types);
-}
+same-warned : (a b : List (Item ReadEpoch)) (at other : At) (lines : List ReadLine)
+    → AreAlike a b → AreSame (Warned at ∷ a) (Warned other ∷ b) lines
+same-warned a b at other lines h = record { alike = grind arith; goes_on = inl refl }
 
-same-warned : (a b : List (Item ReadEpoch)) (at other : At)
-    → AreAlike a b → AreSame (Warned at ∷ a) (Warned other ∷ b)
-same-warned a b at other h = grind arith
+record-passed : (left : ℕ) (line : ReadLine) (lines : List ReadLine) → 0 < left
+    → starts_anew left (line ∷ lines) ≡ true → starts_anew (left - 1) lines ≡ true
+record-passed zero line lines some anew = absurd (omega arith)
+record-passed (suc left) line lines some anew =
+    let same : suc left - 1 ≡ left = omega arith in
+    rw same anew
 
--- ---- the same is at the same lines
+module _ (a b : List (Item ReadEpoch)) (h : AreAlike a b) where
+  -- ---- the same is at the same lines
 
-event-same : (a b : List (Item ReadEpoch)) (left : ℕ) (lines : List ReadLine)
-    → AreAlike a b → records_left a ≡ suc left → compact_place a lines ≡ compact_place b lines
-event-same a b left lines h some = grind (arith, common_steps, record-place)
+  record-same : (left : ℕ) (lines : List ReadLine) → records_left a ≡ suc left
+      → compact_place a lines ≡ compact_place b lines
+  record-same left lines some = grind (arith, common_steps, record-place)
 
-place-same : (a b : List (Item ReadEpoch)) (lines : List ReadLine)
-    → AreSame a b → (n : ℕ) → records_left a ≡ n → compact_place a lines ≡ compact_place b lines
-place-same a b lines h zero none = grind arith
-place-same a b lines h (suc left) some = event-same a b left lines h.alike some
+  anew-same : (lines : List ReadLine) → records_left a ≡ 0 → starts_anew 0 lines ≡ true
+      → compact_place a lines ≡ compact_place b lines
+  anew-same [] none anew = grind (arith, body-place)
+  anew-same (Overlong ∷ lines) none anew = absurd (cc)
+  anew-same (Content line ∷ lines) none anew =
+      let begins = (and_parts (begins_epoch line) _ anew).0 in
+      cc (
+        body-place compact_beginning a (Content line ∷ lines) h.one none,
+        body-place compact_beginning b (Content line ∷ lines) h.two (sym h.left ∙ none),
+        h.types,
+        (forgets (types_in_force a) (raws_kept a) line lines begins).place,
+        (forgets (types_in_force b) (raws_kept b) line lines begins).place,
+      )
 
--- ---- which units can be there
+  place-same : (lines : List ReadLine) → GoesOn a b lines → (n : ℕ) → records_left a ≡ n
+      → compact_place a lines ≡ compact_place b lines
+  place-same lines (inl same) zero none = grind arith
+  place-same lines (inr anew) zero none = anew-same lines none (rw none at anew)
+  place-same lines goes_on (suc left) some = record-same left lines some
 
-unit-follows : (items : List (Item ReadEpoch)) (lines : List ReadLine) → header_has_ended items ≡ true
-    → OfHere (MayFollow items) (compact_place items lines)
-unit-follows items lines ended = of-unit (OfHere (MayFollow items)) tt (λ offset fault. tt) compact_beginning
-    items lines (λ line rest is open_header good. absurd (cc)) (λ line rest is on some good. some)
-    (λ on none. of-compact (OfHere (MayFollow items)) tt (λ offset fault. tt) (types_in_force items)
-    (raws_kept items) lines (λ line rest is event counted. tt) (λ read count e. tt))
+  -- ---- so it is after the unit that is there
+
+  record-block : (line : List ℕ) → 0 < records_left a → block_of (raws_kept a) ≡ block_of (raws_kept b)
+      → block_of (raws_kept (Accepted (EventRecord line) ∷ a))
+      ≡ block_of (raws_kept (Accepted (EventRecord line) ∷ b))
+  record-block line some same = grind (arith, common_steps, by_bool, empties_state, records_count_types)
+
+  record-on : (line : List ℕ) (lines : List ReadLine) → 0 < records_left a → GoesOn a b (Content line ∷ lines)
+      → GoesOn (Accepted (EventRecord line) ∷ a) (Accepted (EventRecord line) ∷ b) lines
+  record-on line lines some (inl same) = inl (record-block line some same)
+  record-on line lines some (inr anew) = inr (record-passed (records_left a) (Content line) lines some anew)
+
+  event-on : (line : List ℕ) (lines : List ReadLine) → records_left a ≡ 0 → is_event_line line ≡ true
+      → GoesOn a b (Content line ∷ lines)
+      → GoesOn (Accepted (EventLine line) ∷ a) (Accepted (EventLine line) ∷ b) lines
+  event-on line lines none is goes_on = grind (arith, common_steps, and_parts)
+
+  -- an epoch whose line begins with > is its block's first
+  epoch-on : (lines : List ReadLine) (read : ReadEpoch) (count : ℕ) → records_left a ≡ 0
+      → epoch_at (types_in_force a) (raws_kept a) lines ≡ Done read count → GoesOn a b lines
+      → block_of (read.raw ∷ raws_kept a) ≡ block_of (read.raw ∷ raws_kept b)
+  epoch-on lines read count none e (inl same) = grind (arith, common_steps)
+  epoch-on [] read count none e (inr anew) = absurd (cc)
+  epoch-on (Overlong ∷ lines) read count none e (inr anew) = absurd (cc)
+  epoch-on (Content line ∷ lines) read count none e (inr anew) =
+      let begins = (and_parts (begins_epoch line) _ (rw none at anew)).0 in
+      let one = forgets (types_in_force a) (raws_kept a) line lines begins in
+      let two = forgets (types_in_force a) (raws_kept b) line lines begins in
+      one.block read count e ∙ sym (two.block read count (two.place ∙ sym one.place ∙ e))
+
+  abbrev Next : List ReadLine → Place (FileUnit ReadEpoch) → Type 0
+  Next lines (Done unit count) = AreSame (Accepted unit ∷ a) (Accepted unit ∷ b) (drop count lines)
+  Next lines p = ⊤
+
+  next-same : (lines : List ReadLine) → GoesOn a b lines → Next lines (compact_place a lines)
+  next-same lines goes_on = of-unit (Next lines) tt (λ offset fault. tt) compact_beginning a lines
+      (λ line rest is open_header good. absurd (cc))
+      (λ line rest is on some good. record {
+        alike = alike-unit a b (EventRecord line) some h;
+        goes_on = rw is (record-on line rest some (rw is at goes_on));
+      })
+      (λ on none. of-compact (Next lines) tt (λ offset fault. tt) (types_in_force a) (raws_kept a) lines
+      (λ line rest is event counted. record {
+        alike = alike-unit a b (EventLine line) tt h;
+        goes_on = rw is (event-on line rest none event (rw is at goes_on));
+      })
+      (λ read count e. record {
+        alike = alike-unit a b (Observation read) tt h;
+        goes_on = inl (epoch-on lines read count none e goes_on);
+      }))
 
 -- ---- the same units are read
 
@@ -182,91 +243,18 @@ module _ (one_number : Type 0) (skip : Bool) where
 
   -- from the same state the same is read
   reads-same : (units : ℕ) (a b : List (Item ReadEpoch)) (m n : ℕ) (lines : List ReadLine)
-      → AreSame a b → ReadAlike units a b m n lines
+      → AreSame a b lines → ReadAlike units a b m n lines
   reads-same zero a b m n lines h = lines-stopped a b m n lines h.alike
   reads-same (suc units) a b m n lines h = one-step units a b m n lines h.alike
-      (place-same a b lines h (records_left a) refl) (λ unit count e. reads-same units
-      (Accepted unit ∷ a) (Accepted unit ∷ b) (m + count) (n + count) (drop count lines) (same-unit a b unit
-      (subst (OfHere (MayFollow a)) e (unit-follows a lines h.alike.one)) h))
-      (λ at other i j ls. reads-same units (Warned at ∷ a) (Warned other ∷ b) i j ls
-      (same-warned a b at other h.alike))
-
-  -- ---- where all starts anew
-
-  -- so it is where all starts anew, of so many units
-  abbrev IsAnew : ℕ → Type 0
-  IsAnew units = (a b : List (Item ReadEpoch)) (m n : ℕ) (lines : List ReadLine) (left : ℕ) → AreAlike
-      a b → records_left a ≡ left → starts_anew left lines ≡ true → ReadAlike units a b m n lines
-
-  module _ (units : ℕ) (ih : IsAnew units)
-      (a b : List (Item ReadEpoch)) (h : AreAlike a b) (m n : ℕ) where
-    -- what is read after a unit
-    abbrev Next : List ReadLine → Place (FileUnit ReadEpoch) → Type 0
-    Next lines (Done unit count) =
-        ReadAlike units (Accepted unit ∷ a) (Accepted unit ∷ b) (m + count) (n + count) (drop count lines)
-    Next lines p = ⊤
-
-    alike-step : (lines : List ReadLine) (p : Place (FileUnit ReadEpoch)) → compact_place a lines ≡ p
-        → compact_place b lines ≡ p → Next lines p → ReadAlike (suc units) a b m n lines
-    alike-step lines p e f next = one-step units a b m n lines h (e ∙ sym f)
-        (λ unit count g. subst (Next lines) (sym e ∙ g) next)
-        (λ at other i j ls. reads-same units _ _ i j ls (same-warned a b at other h))
-
-    -- an epoch whose line begins with > is its block's first
-    anew-observed : (line : List ℕ) (lines : List ReadLine) (types : List Count) (p : Place ReadEpoch)
-        → begins_epoch line ≡ true → epoch_at types [] (Content line ∷ lines) ≡ p
-        → Next (Content line ∷ lines) (as_observation p)
-    anew-observed line lines types (Done read count) begins e = reads-same _ _ _ _ _ _ (record {
-      alike = alike-unit _ _ _ tt h;
-      block = (forgets types (raws_kept a) line lines begins).block read count (cc)
-          ∙ sym ((forgets types (raws_kept b) line lines begins).block read count (cc));
-    })
-    anew-observed line lines types p begins e = tt
-
-    anew-record : (line : List ℕ) (lines : List ReadLine) (left : ℕ) (fault : Option Fault)
-        → records_left a ≡ suc left → starts_anew left lines ≡ true
-        → Next (Content line ∷ lines) (one_line (unless_wrong (EventRecord line) fault))
-    anew-record line lines left None e anew = ih (Accepted (EventRecord line) ∷ a)
-        (Accepted (EventRecord line) ∷ b) (m + 1) (n + 1) lines left (alike-unit _ _ _ (omega (arith, e)) h) (omega (arith, e)) anew
-    anew-record line lines left (Some fault) e anew = tt
-
-    anew-event : (line : List ℕ) (lines : List ReadLine) (o : Option ℕ) → records_in line ≡ o → starts_anew
-        (records_announced line) lines ≡ true → Next (Content line ∷ lines) (one_line (event_line line))
-    anew-event line lines v1 is anew = grind (arith)
-
-    anew-line : (line : List ℕ) (lines : List ReadLine) → records_left a ≡ 0 → begins_epoch line ≡ true
-        → cond (is_event_line line) (starts_anew (records_announced line) lines) true ≡ true
-        → ReadAlike (suc units) a b m n (Content line ∷ lines)
-    anew-line line lines e begins anew =
-        let all = Content line ∷ lines in
-        let one = body-place compact_beginning a all h.one e in
-        let two = body-place compact_beginning b all h.two (sym h.left ∙ e) in
-        by_bool (is_event_line line) (λ on. alike-step all (one_line (event_line line))
-        (one ∙ rw on refl) (two ∙ rw on refl) (anew-event line lines (records_in line) refl (rw on at anew)))
-        (λ off. alike-step all (as_observation (epoch_at (types_in_force a) [] all))
-        (one ∙ rw (off, (forgets (types_in_force a) (raws_kept a) line lines begins).place) refl)
-        (two ∙ rw (off, (forgets (types_in_force b) (raws_kept b) line lines begins).place, h.types) refl)
-        (anew-observed line lines (types_in_force a) (epoch_at (types_in_force a) [] all) begins refl))
-
-    anew-step : (lines : List ReadLine) (left : ℕ) → records_left a ≡ left → starts_anew left lines ≡ true
-        → ReadAlike (suc units) a b m n lines
-    anew-step [] zero e anew = grind (arith, alike-step, body-place)
-    anew-step (Overlong ∷ lines) zero e anew = absurd (cc)
-    anew-step (Content line ∷ lines) zero e anew = grind (arith, and_parts, anew-line)
-    anew-step lines (suc left) e anew = alike-step lines (first_line lines
-        (event_record (records_count_types a))) (record-place compact_beginning a left lines h.one e) (sym
-        (event-same a b left lines h e) ∙ record-place compact_beginning a left lines h.one e)
-        (grind (arith, common_steps, anew-record, left, cond, records_count_types, types_fault))
-
-  reads-anew : (units : ℕ) → IsAnew units
-  reads-anew zero a b m n lines left h e anew = lines-stopped a b m n lines h
-  reads-anew (suc units) a b m n lines left h e anew = search (reads-anew units, anew-step)
+      (place-same a b h.alike lines h.goes_on (records_left a) refl) (λ unit count e. reads-same units _ _ _ _ _
+      (subst (Next a b h.alike lines) e (next-same a b h.alike lines h.goes_on)))
+      (λ at other i j ls. reads-same units _ _ i j ls (same-warned a b at other ls h.alike))
 
   pub depends-on_types : (a b : List (Item ReadEpoch)) (m n : ℕ) (lines : List ReadLine)
       → IsBetweenUnits a → IsBetweenUnits b → types_in_force a ≡ types_in_force b → starts_anew 0 lines ≡ true
       → (one_number → m ≡ n) → Alike a b (reading_from compact_place skip a m lines)
       (reading_from compact_place skip b n lines)
-  depends-on_types a b m n lines one two types anew = grind (arith, common_steps, reads-anew)
+  depends-on_types a b m n lines one two types anew = grind (arith, common_steps, reads-same)
 
 pub on-types : DependsOnTypes
 on-types skip before other number lines one two types anew =

@@ -1,14 +1,14 @@
 -- The end of the input, wherever a reading has stopped.
 use Rattle.crx_filter.proofs.Words
 use Words.{common_steps, arith, ℕ, suc, ◌≡◌, ◌+◌, true, false, cond, List, [], length, Option, Some, None}
-use Words.{refl, sym, ◌∙◌, ◌&&◌, ◌==◌, nat_lt, ReadLine, Fault, MissingVersion, Truncated, Place, NeedsMore}
-use Words.{FileUnit, Choices, Item, is_at_start, header_has_ended, records_left, records_count_types}
-use Words.{types_in_force, WholeReading, Stop, AtLines, is_skipped, fault_at_end, ended_with, ended_reading}
-use Words.{is_skippable, written_lines, warnings_in, Phase, InHeader, InEvent, InEpoch, Direction, Step}
-use Words.{is_skipped_in, rules, kept_in, state_end, phase_after_items, state_of, IsEndedBy, by_bool, ◌<◌}
+use Words.{refl, nat_lt, ReadLine, Fault, MissingVersion, Truncated, Place, NeedsMore, FileUnit, Choices}
+use Words.{Item, is_at_start, header_has_ended, records_left, records_count_types, types_in_force}
+use Words.{WholeReading, Stop, AtLines, is_skipped, fault_at_end, ended_with, ended_reading, written_lines}
+use Words.{warnings_in, Phase, InHeader, InEvent, InEpoch, Direction, Step, is_skipped_in, rules, kept_in}
+use Words.{state_end, phase_after_items, state_of, IsEndedBy, ◌<◌, by_bool, ◌∙◌}
 use Rattle.crx_base.specs.declared.fault.Fault.TheVariants.{NoEndOfHeader}
 use Rattle.crx_filter.proofs.following.Following.{IsCarriedOut, place, state_at, skipped-same}
-use Rattle.crx_filter.proofs.following.Lines.{IsStopped, by_phase, never-before, never-in-event, some_lines}
+use Rattle.crx_filter.proofs.following.Lines.{IsStopped, by_phase, never-before, some_lines}
 use Rattle.crx_filter.specs.LineByLine.{end_step, BetweenUnits}
 
 in-header : {E : Type 0} (items : List (Item E)) → header_has_ended items ≡ false
@@ -57,11 +57,9 @@ module _ {E U O K : Type 0} {beginning : List (Item E) → List ReadLine → Pla
       choices.skip items (count + 1) (fault_at_end items ls)) (state_end direction (state_at h count p items
       (kept_in direction p (kept_of items))))) items rest wanted
       (λ e. rw (in-header items e) (ends-same items count (InHeader (is_at_start items)) (kept_of items)
-      (Some (cond (is_at_start items) MissingVersion NoEndOfHeader)) (λ f. rw e (never-before choices.skip
-      ((records_left items == 0) && is_skippable f)) ∙ sym (never-before choices.skip (is_skippable f)))))
+      (Some (cond (is_at_start items) MissingVersion NoEndOfHeader)) (λ f. grind (arith, common_steps, never-before))))
       (λ left e some. rw (in-event items left e some) (ends-same items count (InEvent (suc left)
-      (records_count_types items)) (kept_of items) (Some Truncated) (λ f. rw (e, some) (never-in-event
-      choices.skip left (is_skippable f)) ∙ sym (never-before choices.skip (is_skippable f)))))
+      (records_count_types items)) (kept_of items) (Some Truncated) (λ f. grind (arith, common_steps, never-before))))
       (λ e none. rw (closes-well items e none) (ends-same items count BetweenUnits (kept_of items) None
       (λ f. skipped-same {O = O} choices count BetweenUnits (types_in_force items) (kept_of items) items f e
       none refl)))

@@ -1,10 +1,9 @@
 -- The faults of an epoch of compact text can all be skipped.
 use Rattle.crx_filter.proofs.Words
-use Words.{common_steps, arith, ℕ, ℤ, suc, ◌≡◌, Bool, true, List, [], ◌∷◌, Option, Result, Ok}
-use Words.{Err, refl, ⊤, list_all, is_blank, code_of, ReadLine, Fault, LineTooLong, Count, Place, Done, Fails}
-use Words.{then_place, one_line, first_line, BegunEpoch, cell_read, satellite_line_read}
-use Words.{rows_read, epoch_after_line, epoch_at, Satellite, RawEpoch, block_of, Past, past_of_block}
-use Words.{and_then, is_skippable, as_observation, BadField}
+use Words.{common_steps, arith, ℕ, ℤ, suc, ◌≡◌, Bool, true, List, [], ◌∷◌, Option, Result, Ok, Err, ⊤}
+use Words.{list_all, is_blank, ReadLine, Fault, LineTooLong, Count, Place, Fails, then_place, one_line}
+use Words.{first_line, BegunEpoch, cell_read, satellite_line_read, rows_read, epoch_after_line, epoch_at}
+use Words.{Satellite, RawEpoch, block_of, Past, past_of_block, and_then, is_skippable, as_observation}
 use Rattle.crx_compact.{proofs.EpochLines.satellites_counted, specs.meaning.Cells.cells_read}
 use Rattle.crx_compact.specs.meaning.{EpochText.{satellites_named, names_in}, Sequences.before_all}
 use Rattle.{crx_filter.proofs.reading.WhatStands.chosen, crx_text.specs.declared.code.Code.Code}
@@ -88,10 +87,9 @@ cell-skippable malformed value v1 a b = grind (arith, skippable-and_then)
 cells-skippable : (value : ℕ → Code → Result (Option ℤ) Fault) → ((place : ℕ) (c : Code) → IsSkippableResult
     (value place c)) → (texts : List (List ℕ)) → IsSkippableResult (cells_read value texts)
 cells-skippable value h [] = tt
-cells-skippable value h (text ∷ texts) = skippable-and_then (cell_read BadField (value 0) (code_of text)) (λ
-    cell. before_all cell (cells_read (λ place. value (suc place)) texts)) (cell-skippable BadField (value 0)
-    (code_of text) refl (h 0)) (λ cell. skippable-before cell (cells_read (λ place. value (suc place)) texts)
-    (cells-skippable (λ place. value (suc place)) (λ place c. h (suc place) c) texts))
+cells-skippable value h (text ∷ texts) =
+    let rest = cells-skippable (λ place. value (suc place)) (λ place c. h (suc place) c) texts in
+    search (skippable-and_then, cell-skippable, skippable-before, rest)
 
 row_line-skippable : (past : Past) → IsSkippablePast past
     → (satellite : Satellite) (line : List ℕ) → IsSkippableResult (satellite_line_read past satellite line)
@@ -101,10 +99,8 @@ rows_read-skippable : (past : Past) → IsSkippablePast past
     → (satellites : List Satellite) (lines : List ReadLine) → IsSkippableAt (rows_read past satellites lines)
 rows_read-skippable past h [] lines = tt
 rows_read-skippable past h (satellite ∷ satellites) lines =
-    place-then is_skippable (first_line lines (satellite_line_read past satellite)) lines _ (place-first
-    is_skippable refl lines (satellite_line_read past satellite) (row_line-skippable past h satellite))
-    (λ row others. place-then is_skippable (rows_read past satellites others) others
-    (λ rows rest. Done (row ∷ rows) 0) (rows_read-skippable past h satellites others) (λ rows rest. tt))
+    let rest = rows_read-skippable past h satellites in
+    search (place-then, place-first, row_line-skippable, rest)
 
 begun_line-skippable : (r : Result BegunEpoch Fault) → IsBegunWell r → (lines : List ReadLine)
     → IsSkippableAt (then_place (one_line r) lines (λ begun others. epoch_after_line begun others))

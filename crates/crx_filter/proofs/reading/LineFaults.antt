@@ -1,25 +1,25 @@
 -- The faults that a reading finds are those of lines, or of the end of the input.
 use Rattle.crx_filter.proofs.Words
-use Words.{common_steps, arith, [], ℕ, zero, suc, ◌≡◌, ◌∷◌, Bool, true, List, Option, Some, None, Result, Ok}
-use Words.{Err, refl, ⊤, ◌==◌, ◌&&◌, not, list_all, bytes_eq, columns, character_at, is_blank, clock_of}
-use Words.{ReadLine, HEAD_WIDTH, Fault, MissingVersion, HeadLine, is_event_flag, records_in, epoch_count}
-use Words.{begins_epoch, event_head, epoch_head, head_of, OpenEpoch, Beginning, with_next_row, next_row}
+use Words.{common_steps, arith, ℕ, zero, suc, ◌≡◌, Bool, true, List, Option, Some, None, Result, Ok, Err}
+use Words.{refl, ⊤, ◌&&◌, list_all, bytes_eq, columns, is_blank, clock_of, ReadLine, Fault, HeadLine}
+use Words.{records_in, event_head, epoch_head, head_of, OpenEpoch, Beginning, with_next_row, next_row}
 use Words.{rows_at, begun_by, beginning_of, unit_begun, epoch_place, has_satellite, Epoch, Count, Place}
-use Words.{first_line, FileUnit, ReadEpoch, epoch_at, RawEpoch, CRINEX_PROGRAM_LABEL, Item, is_at_start}
-use Words.{records_count_types, unless_wrong, types_fault, header_line, event_record, unit_place, rinex_place}
-use Words.{compact_epoch_place, compact_place, crinex_version, crinex_program, first_lines, is_of_lines}
-use Words.{nat_lt, Content, Overlong, is_event_line, event_line, as_observation, header_has_ended}
-use Words.{records_left, one_line}
+use Words.{first_line, FileUnit, ReadEpoch, epoch_at, RawEpoch, CRINEX_PROGRAM_LABEL, Item, unless_wrong}
+use Words.{types_fault, header_line, event_record, unit_place, rinex_place, compact_epoch_place}
+use Words.{compact_place, first_lines, is_of_lines, event_line, as_observation, one_line, Row, Content}
+use Words.{MissingVersion, Overlong, [], character_at, is_event_line, not, ◌==◌, ◌∷◌, header_has_ended}
+use Words.{is_at_start, nat_lt, records_count_types, records_left}
 use Rattle.crx_filter.proofs.reading.{WhatStands.chosen, EpochFaults.{FaultsPass, FaultsPassAt, place-then}}
 use Rattle.crx_filter.proofs.reading.EpochFaults.{place-first, IsSkippableAt, epoch-skippable}
 use Rattle.crx_filter.{proofs.reading.EpochFaults.place-observation, specs.meaning.UnitPlaces.first_fault}
 use Rattle.crx_text.specs.meaning.Columns.{without_blanks}
-use Rattle.crx_base.specs.declared.fault.Fault.TheVariants.{UnsupportedVersion, NotObservation, BadTypesLine}
-use Rattle.crx_base.specs.declared.fault.Fault.TheVariants.{NotCompact, BadProgLine, NotAnEpoch}
-use Rattle.crx_header.specs.meaning.{Label.has_label, ObservationTypes.is_bad_types_line, Header.is_supported}
-use Rattle.crx_header.specs.{meaning.Header.first_header_fault, declared.labels.TheConstants.VERSION_LABEL}
+use Rattle.crx_base.specs.declared.fault.Fault.TheVariants.{NotCompact, BadProgLine}
+use Rattle.crx_header.specs.meaning.{Label.has_label, Header.{is_supported, first_header_fault}}
 use Rattle.crx_header.specs.declared.crinex.TheConstants.{CRINEX_VERSION, CRINEX_VERSION_LABEL}
-use Rattle.crx_rinex.specs.meaning.{EpochPlaces.row_at, SatelliteLines.{values_in}}
+use Rattle.crx_rinex.specs.meaning.SatelliteLines.{values_in}
+use Rattle.crx_base.specs.declared.fault.Fault.TheVariants.{UnsupportedVersion, NotObservation, BadTypesLine}
+use Rattle.crx_header.specs.meaning.ObservationTypes.{is_bad_types_line}
+use Rattle.crx_header.specs.declared.labels.TheConstants.{VERSION_LABEL}
 
 -- ---- results, options and places whose faults are those of lines
 
@@ -80,9 +80,9 @@ next_row-fine so_far line = grind (arith, common_steps, chosen, has_satellite, v
 
 rows-fine : (so_far : OpenEpoch) (count : ℕ) (lines : List ReadLine) → IsFineAt (rows_at so_far count lines)
 rows-fine so_far zero lines = tt
-rows-fine so_far (suc count) lines = place-then is_of_lines (row_at so_far lines) lines
-    (λ row rest. rows_at (with_next_row so_far row) count rest) (place-first is_of_lines refl lines
-    (next_row so_far) (next_row-fine so_far)) (λ row rest. rows-fine (with_next_row so_far row) count rest)
+rows-fine so_far (suc count) lines =
+    let rest = λ (row : Row) (ls : List ReadLine). rows-fine (with_next_row so_far row) count ls in
+    search (place-then, place-first, next_row-fine, rest)
 
 unit_begun-fine : (types : List Count) (beginning : Beginning) (lines : List ReadLine)
     → IsFineAt (unit_begun types beginning lines)
@@ -91,10 +91,7 @@ unit_begun-fine types v1 lines = grind (arith, place-then, rows-fine)
 epoch-fine : (types : List Count) (lines : List ReadLine) → IsFineAt (epoch_place types lines)
 epoch-fine types lines = place-then is_of_lines (first_line lines beginning_of) lines
     (unit_begun types) (place-first is_of_lines refl lines beginning_of (λ line. begun-fine line
-    (head_of line) (chosen IsFine (not (begins_epoch line)) (Err NotAnEpoch) _ refl (chosen IsFine
-    (is_event_flag (character_at line 32)) (event_head (character_at line 32) (records_in line)) (epoch_head
-    line (epoch_count (columns line 1 HEAD_WIDTH))) (event_head-fine (character_at line 32) (records_in line))
-    (epoch_head-fine line (epoch_count (columns line 1 HEAD_WIDTH))))))) (unit_begun-fine types)
+    (head_of line) (grind (arith, common_steps, event_head-fine, epoch_head-fine)))) (unit_begun-fine types)
 
 pub rinex-fine : (items : List (Item Epoch)) (lines : List ReadLine) → IsFineAt (rinex_place items lines)
 rinex-fine items lines = search (unit-fine, epoch-fine)
@@ -124,9 +121,9 @@ pub compact-fine : (items : List (Item ReadEpoch)) (lines : List ReadLine)
 compact-fine items lines = search (unit-fine, compact_epoch-fine)
 
 pub first_lines-fine : (lines : List ReadLine) → IsFineAt (first_lines lines)
-first_lines-fine lines = place-then is_of_lines (first_line lines crinex_version) lines _
-    (place-first is_of_lines refl lines crinex_version (λ line. chosen IsFine
-    (bytes_eq (without_blanks (columns line 1 20)) CRINEX_VERSION && has_label CRINEX_VERSION_LABEL line)
-    (Ok line) (Err NotCompact) tt refl)) (λ version others. place-then is_of_lines (first_line
-    others crinex_program) others _ (place-first is_of_lines refl others crinex_program (λ line. chosen IsFine
-    (has_label CRINEX_PROGRAM_LABEL line) (Ok line) (Err BadProgLine) tt refl)) (λ program rest. tt))
+first_lines-fine lines =
+    let version = λ (line : List ℕ). chosen IsFine (bytes_eq (without_blanks (columns line 1 20)) CRINEX_VERSION
+    && has_label CRINEX_VERSION_LABEL line) (Ok line) (Err NotCompact) tt refl in
+    let program = λ (line : List ℕ).
+    chosen IsFine (has_label CRINEX_PROGRAM_LABEL line) (Ok line) (Err BadProgLine) tt refl in
+    search (place-then, place-first, version, program)

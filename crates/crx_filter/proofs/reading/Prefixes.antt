@@ -1,11 +1,12 @@
 -- What is written for some lines is at the beginning of what is written for more lines.
-use Rattle.crx_filter.proofs.{reading.WhatWasRead.of-ended, Words.{ℕ, ◌≡◌, ◌+◌, Bool, List, [], ◌∷◌, ◌++◌}}
-use Rattle.crx_filter.proofs.Words.{length, refl, ap, sym, append_assoc, append-nil, flat_map-append, arith}
-use Rattle.crx_filter.proofs.Words.{ReadLine, Place, FileUnit, Item, Accepted, Warned, Stop, AtFault, AtLines}
-use Rattle.crx_filter.proofs.Words.{Looking, reading_within, reading_from, ended_reading, whole_reading}
+use Rattle.crx_filter.proofs.Words.{ℕ, ◌≡◌, ◌+◌, Bool, List, [], ◌∷◌, ◌++◌, length, refl, ap, sym}
+use Rattle.crx_filter.proofs.Words.{append_assoc, append-nil, flat_map-append, arith, ReadLine, Place}
+use Rattle.crx_filter.proofs.Words.{FileUnit, Item, Accepted, Warned, Stop, AtFault, AtLines, Looking}
+use Rattle.crx_filter.proofs.Words.{reading_within, reading_from, ended_reading, whole_reading}
 use Rattle.crx_filter.proofs.Words.{continued_reading, IsReadForward, lines_text, Begins, written_lines}
 use Rattle.crx_filter.proofs.Words.{common_steps}
-use Rattle.crx_filter.proofs.reading.{Resuming.resumed, KeptThroughout.{IsKept, looked-kept, within-kept}}
+use Rattle.crx_filter.proofs.reading.{WhatWasRead.of-ended, Resuming.resumed, KeptThroughout.IsKept}
+use Rattle.crx_filter.proofs.reading.KeptThroughout.{looked-kept, within-kept}
 
 -- some items with others before them
 pub record AreMore {E : Type 0} (items all : List (Item E)) : Type 0 where
@@ -58,10 +59,8 @@ pub written-more : {E : Type 0} (unit_lines : List (Item E) → FileUnit E → L
     ≡ written_lines unit_lines items ++ rest)
 written-more unit_lines [] items = ([], sym (append-nil (written_lines unit_lines items)))
 written-more unit_lines (Accepted unit ∷ news) items =
-    let h = written-more unit_lines news items in (
-      h.0 ++ unit_lines (news ++ items) unit,
-      cc (h.1, append_assoc (written_lines unit_lines items) h.0 (unit_lines (news ++ items) unit)),
-    )
+    let h = written-more unit_lines news items in
+    (h.0 ++ unit_lines (news ++ items) unit, grind (arith, append_assoc, h.1))
 written-more unit_lines (Warned at ∷ news) items = written-more unit_lines news items
 
 pub text-more : {E : Type 0} (unit_lines : List (Item E)

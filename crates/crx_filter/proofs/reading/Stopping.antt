@@ -2,10 +2,11 @@
 use Rattle.crx_filter.proofs.Words.{ℕ, zero, suc, ◌≡◌, ◌+◌, max, ◌<◌, Bool, true, List, [], ◌∷◌, length, drop}
 use Rattle.crx_filter.proofs.Words.{refl, arith, length-drop, ReadLine, At, Place, FileUnit, Item, Accepted}
 use Rattle.crx_filter.proofs.Words.{Warned, header_has_ended, records_left, Reading, is_skipped, looked_for}
-use Rattle.crx_filter.proofs.Words.{after_fault, reading_within, reading_from, IsReadForward, can_go_on}
-use Rattle.crx_filter.proofs.{Words.by_bool, following.Lines.IsStopped, reading.Resuming.by_place}
-use Rattle.crx_filter.proofs.reading.Resuming.{here-within, wrong-within, within-here, within-wrong}
-use Rattle.crx_filter.proofs.reading.{Resuming.within-wanted, WhatWasRead.allowed}
+use Rattle.crx_filter.proofs.Words.{after_fault, reading_within, reading_from, IsReadForward, by_bool}
+use Rattle.crx_filter.proofs.Words.{common_steps}
+use Rattle.crx_filter.proofs.{following.Lines.IsStopped, reading.Resuming.{by_place, here-within}}
+use Rattle.crx_filter.proofs.reading.Resuming.{wrong-within, within-here, within-wrong, within-wanted}
+use Rattle.crx_filter.proofs.reading.WhatWasRead.{allowed}
 
 looked-stopped : {E : Type 0} (place : List (Item E) → List ReadLine → Place (FileUnit E))
     (items : List (Item E)) (read : ℕ → List ReadLine → Reading E)
@@ -14,10 +15,8 @@ looked-stopped : {E : Type 0} (place : List (Item E) → List ReadLine → Place
     (read n ls).items (read n ls).stop next) → length lines < bound → number + length lines ≡ next → IsStopped
     place (looked_for read items number lines).items (looked_for read items number lines).stop next
 looked-stopped place items read bound number next [] ended none h short counted = grind (arith)
-looked-stopped place items read bound number next (line ∷ lines) ended none h short counted =
-    by_bool (can_go_on line) (λ on. rw (on, looked_for) (h number (line ∷ lines) short counted))
-    (λ off. rw (off, looked_for) (looked-stopped place items read bound
-    (number + 1) next lines ended none h (omega arith) (omega (arith, counted))))
+looked-stopped place items read bound number next (line ∷ lines) ended none h short counted = grind
+    (arith, common_steps, looked-stopped place items read bound (number + 1) next lines ended none h, h)
 
 within-stopped : {E : Type 0} (place : List (Item E) → List ReadLine → Place (FileUnit E)) → IsReadForward
     place → (skip : Bool) (units : ℕ) (items : List (Item E)) (number next : ℕ) (lines : List ReadLine)

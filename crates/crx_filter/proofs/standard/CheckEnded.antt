@@ -4,8 +4,10 @@ use Words.{common_steps, arith, ℕ, ◌≡◌, false, List, [], ◌∷◌, ◌+
 use Words.{append-nil, none-some, InputLine, ReadLine, as_read, Fault, Count, Epoch, HeaderLine, OpenEpoch}
 use Words.{Item, Accepted, Warned, is_at_start, Reading, WholeReading, fault_at_end, ended_with, whole_rinex}
 use Words.{rinex_reading, Phase, kept_in, state_end, AreInPlace, failed_by, printed_items, whole_reading_of}
-use Words.{Totals, checking, printed_open, no_choices}
-use Rattle.crx_filter.proofs.following.{Check.check-end, CheckedOn.{same-state, as-many}, Following.state_in}
+use Words.{Totals, checking, printed_open, no_choices, rinex_place, ◌+◌}
+use Rattle.crx_filter.proofs.{following.Check.check-carried_out, reading.Ending.next-end}
+use Rattle.crx_filter.proofs.reading.{Forward.rinex-forward, Stopping.reading-stopped}
+use Rattle.crx_filter.proofs.following.{CheckedOn.{same-state, as-many}, Following.state_in}
 use Rattle.crx_filter.proofs.reading.{InPlace.items-in_place, WhatWasRead.items-read}
 use Rattle.crx_filter.{proofs.wayback.Carried.started, specs.CheckByLine.version_accepted}
 use Rattle.crx_filter.specs.{CheckingLaws.IsCheckEnded, meaning.Standard.{first_header_line, version_in}}
@@ -61,17 +63,22 @@ pub kept-always : (phase : Phase OpenEpoch) (kept : Totals) → kept_in checking
 kept-always phase kept = grind (arith, common_steps)
 
 pub check-ended : (lines : List InputLine) → IsCheckEnded lines
-check-ended lines = grind (
-  arith,
-  common_steps,
-  whole-items (map as_read lines),
-  (check-end (map as_read lines)).failed,
-  same-state lines,
-  none-open,
-  kept-always,
-  version-same (map as_read lines),
-  append-nil,
-)
+check-ended lines =
+    let ls = map as_read lines in
+    let r = rinex_reading false ls in
+    let end = next-end check-carried_out r.items r.stop (length ls)
+    (reading-stopped rinex_place rinex-forward false [] 1 (length ls + 1) ls (omega arith)) in
+    grind (
+      arith,
+      common_steps,
+      whole-items ls,
+      end.failed,
+      same-state,
+      none-open,
+      kept-always,
+      version-same ls,
+      append-nil,
+    )
 
 -- where the end is good, printing gives back as many lines as have come
 pub whole-many : (lines : List InputLine) → WholeReading.fault (whole_reading_of lines) ≡ None

@@ -1,8 +1,9 @@
 -- A file is named as standard exactly where it is; and that is where it comes back.
 use Rattle.crx_filter.proofs.Words.{ℕ, ◌≡◌, ◌+◌, Bool, true, List, [], ◌∷◌, length, Option, Some, None, refl}
-use Rattle.crx_filter.proofs.Words.{arith, list_all, bytes_eq, none-some, and_parts, InputLine, Choices}
-use Rattle.crx_filter.proofs.{Words.{is_standard_line, first_not_standard, by_bool}, reading.Each.contents}
-use Rattle.crx_filter.proofs.{standard.CheckEnded.whole-many, wayback.ReturnsLost.standard-where_same}
+use Rattle.crx_filter.proofs.Words.{arith, list_all, none-some, and_parts, InputLine, Choices}
+use Rattle.crx_filter.proofs.Words.{first_not_standard, common_steps, by_bool, bytes_eq, is_standard_line}
+use Rattle.crx_filter.proofs.{reading.Each.contents, standard.CheckEnded.whole-many}
+use Rattle.crx_filter.proofs.wayback.ReturnsLost.{standard-where_same}
 use Rattle.crx_filter.{proofs.anywriter.ComesBack.standard-comes_back, specs.CheckingLaws.IsNamedWhereNot}
 use Rattle.crx_filter.specs.{CheckingLaws.IsStandardExactlyWhereSame, meaning.Standard.report_status}
 use Rattle.crx_compact.proofs.Characters.{bytes_eq-same, bytes_eq-is}
@@ -28,8 +29,7 @@ all-standard : (number : ℕ) (lines : List InputLine)
     → are_plain lines ≡ true → first_not_standard number lines (contents lines) ≡ None
 all-standard number [] e = refl
 all-standard number (line ∷ lines) e =
-    let both = and_parts line.is_plain (are_plain lines) e in
-    rw (both.0, bytes_eq-same line.content) (all-standard (number + 1) lines both.1)
+    grind (arith, common_steps, all-standard (number + 1) lines, and_parts, bytes_eq-same)
 
 pub named-where_not : (input : List ℕ) → IsNamedWhereNot input
 named-where_not input good = grind (arith, none-named, whole-many, all-standard)

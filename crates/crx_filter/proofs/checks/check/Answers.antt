@@ -1,9 +1,8 @@
 use Rattle.crx_filter.proofs.Words.{common_steps, arith, check_filter, checked, Device, At, Option, ap, subst}
-use Rattle.crx_filter.proofs.Words.{sym}
-use Rattle.crx_filter.proofs.{Words.{◌∙◌, true≢false}, Kept.{kept, judges-standard, writes-output}}
-use Rattle.crx_filter.proofs.{following.CheckLawful.{check-lawful, run-judged}, standard.Lossless.says-so}
-use Rattle.{crx_filter.specs.meaning.Standard.report_status, crx_runs.specs.meaning.Runs.{Runs, RunsAs}}
-use Rattle.crx_runs.specs.meaning.Spans.{Input, reader_span, span}
+use Rattle.crx_filter.proofs.Words.{sym, ◌∙◌, true≢false}
+use Rattle.crx_filter.proofs.{Kept.{kept, judges-standard}, following.CheckLawful.{check-lawful, run-judged}}
+use Rattle.crx_filter.{proofs.standard.Lossless.says-so, specs.meaning.Standard.report_status}
+use Rattle.crx_runs.specs.meaning.{Runs.{Runs, RunsAs}, Spans.{Input, reader_span, span}}
 use Rattle.crx_filter.proofs.checks.check.Goals as goal
 
 pub run-outcome-requires-clause-lawful : goal.run-outcome-requires-clause-lawful
@@ -31,9 +30,9 @@ returns-in-Ok g c =
       runs = is;
       lossless = kept is (says-so writer messages status c.outcome_of_check.result.fault);
       standard = kept is (judges-standard writer messages status c.outcome_of_check.result.fault);
-      written = kept is (writes-output checked writer messages status c.outcome_of_check.result.fault);
+      written = kept is (λ file result. result.output);
     }
 
 pub returns-in-Err : goal.returns-in-Err
 returns-in-Err g c =
-    grind (arith, common_steps, check-lawful, run-judged, true≢false, kept, says-so, judges-standard, writes-output)
+    grind (arith, common_steps, check-lawful, run-judged, true≢false, kept, says-so, judges-standard)
