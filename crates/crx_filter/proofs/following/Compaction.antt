@@ -4,10 +4,10 @@ use Rattle.crx_filter.proofs.Words.{epoch_place, Marked, Tail, lines_after_tail,
 use Rattle.crx_filter.proofs.Words.{types_in_force, epochs_accepted, is_at_every, is_in_full, marked_epochs}
 use Rattle.crx_filter.proofs.Words.{compact_unit, compaction, written_of, rinex_open}
 use Rattle.crx_compact.{proofs.wayback.Tailing.epoch-by_tail, specs.Laws.tail_before}
-use Rattle.{crx_compact.specs.Steps.tail_written_after}
-use Rattle.crx_filter.proofs.following.{Following.IsCarriedOut, Rinex.{AreSame, either-same, agree-begins}}
-use Rattle.crx_filter.proofs.{following.Rinex.{agree-continues, no-lines}, reading.Forward.rinex-forward}
-use Rattle.{crx_filter.proofs.reading.Types.counts-in_force, crx_rinex.proofs.SoundEpochs.sound-epoch_place}
+use Rattle.{crx_compact.specs.Steps.tail_written_after, crx_filter.proofs.following.Following.IsCarriedOut}
+use Rattle.crx_filter.proofs.following.Rinex.{AreSame, either-same, agree-begins, agree-continues, no-lines}
+use Rattle.crx_filter.proofs.reading.{Forward.rinex-forward, Types.counts-in_force}
+use Rattle.crx_rinex.proofs.SoundEpochs.{sound-epoch_place}
 
 -- ---- an epoch that is read
 
@@ -23,21 +23,15 @@ same-tail choices items epoch = grind (arith, common_steps)
 
 pub same-epochs : (choices : Choices)
     → AreSame compaction (written_of choices.every) (compact_unit choices) choices
-same-epochs choices = record {
-  same = λ items lines epoch count here.
-      let by_tail = epoch-by_tail (marked choices items epoch) (marked_epochs choices.every items)
-      (sound-epoch_place (types_in_force items) lines epoch count (counts-in_force items) here).0.sound.apart
-      in
-      record {
-        kept = λ number phase types kept either. rw (either-same either) (ap (λ (t : Tail). record
-            { index = epochs_accepted items + 1; tail = Some t }) (cc (
-              same-tail choices items epoch,
-              by_tail.tail,
-            )));
-        lines = λ number phase types kept either. rw (either-same either) (ap (λ t. lines_after_tail t epoch)
-            (sym (same-tail choices items epoch)) ∙ sym by_tail.lines);
-      };
-}
+same-epochs choices items lines epoch count here =
+    let by_tail = epoch-by_tail (marked choices items epoch) (marked_epochs choices.every items)
+    (sound-epoch_place (types_in_force items) lines epoch count (counts-in_force items) here).0.sound.apart in
+    record {
+      kept = λ number phase types kept either. rw (either-same either) (ap (λ (t : Tail). record
+          { index = epochs_accepted items + 1; tail = Some t }) (cc (same-tail choices items epoch, by_tail.tail)));
+      lines = λ number phase types kept either. rw (either-same either) (ap (λ t. lines_after_tail t epoch)
+          (sym (same-tail choices items epoch)) ∙ sym by_tail.lines);
+    }
 
 pub compaction-carried_out : (choices : Choices) → IsCarriedOut (λ (before : List (Item Epoch)). epoch_place
     (types_in_force before)) compaction rinex_open (written_of choices.every) (compact_unit choices) choices

@@ -2,8 +2,8 @@
 use Rattle.crx_filter.proofs.Words
 use Words.{common_steps, ℕ, ◌≡◌, ◌+◌, Bool, List, [], ◌∷◌, ◌++◌, length, drop, Option, Some, Result, Ok, Err}
 use Words.{refl, sym, subst, arith, length-append, drop-append-le, length-drop, ReadLine, Content, Overlong}
-use Words.{Fault, Place, Done, Fails, NeedsMore, ReadEpoch, OpenRawEpoch, Tail, Choices, Reading}
-use Words.{AtFault, AtLines, reading_from, IsFollowed, Fed, fed, fed_once, fault_of_stop, warnings_in, Phase}
+use Words.{Fault, Place, Done, Fails, NeedsMore, ReadEpoch, OpenRawEpoch, Tail, Choices, Reading, AtFault}
+use Words.{AtLines, reading_from, IsFollowed, Fed, fed, fed_once, fault_of_stop, warnings_in, Phase}
 use Words.{InFirstLines, Ended, RunState, Rejects, made_in, step_of_made, state_next, state_of, compact_place}
 use Words.{rules, crinex_version, crinex_program, first_lines, expanded_lines, expansion, compact_open}
 use Words.{tail_of_items, Direction, Item, expanded_unit, compact_reading, expansion_state, map, ap, ◌∙◌, inl}
@@ -11,8 +11,8 @@ use Words.{length-map, BetweenUnits, Count, Past, RawEpoch, Satellite, block_of,
 use Words.{types_in_force}
 use Rattle.crx_compact.proofs.soundness.Soundness.{Paired, RowFacts, epoch-facts}
 use Rattle.crx_compact.specs.{OpenEpochs.HeldEpoch, Placing.satellite_of as satellite_of_tail}
-use Rattle.crx_compact.specs.{Tails.{raw_row_tail, tail_left, tail_of_block}}
-use Rattle.crx_compact.specs.meaning.{CompactPlaces.ReadRow, Expansion.{RawRow, raw_run_of}}
+use Rattle.crx_compact.specs.{Tails.{raw_row_tail, tail_left, tail_of_block}, meaning.CompactPlaces.ReadRow}
+use Rattle.crx_compact.specs.meaning.Expansion.{RawRow, raw_run_of}
 use Rattle.crx_filter.proofs.following.Collecting.{Collected, Collects, both-same, collected_of, with_epochs}
 use Rattle.crx_filter.proofs.following.Collecting.{collecting, collecting-carried_out, state-with}
 use Rattle.crx_filter.proofs.following.Expansion.{AreSame, agree-begins, agree-continues, same-epochs}
@@ -200,13 +200,11 @@ module _ (choices : Choices) where
   pub expansion-collects : Collects expansion of_held (expansion_state choices) (satellites_expanded choices)
   expansion-collects lines line =
       let whole = expansion-carried_out choices in
-      let same : AreSame (collecting expansion of_held) kept_of expanded_unit choices = record {
-        same = λ items ls read held count here is.
-            let own = (same-epochs choices).same items ls read held count here is in
-            both-same whole of_held of_read items read held own (same-satellites (types_in_force items)
-            (raws_kept items) ls read count held.tail here (own.kept 0 BetweenUnits [] (tail_of_items items)
-            (inl refl)));
-      } in
+      let same : AreSame (collecting expansion of_held) kept_of expanded_unit choices = λ items ls read held count here is.
+      let own = same-epochs choices items ls read held count here is in
+      both-same whole of_held of_read items read held own (same-satellites (types_in_force items)
+      (raws_kept items) ls read count held.tail here (own.kept 0 BetweenUnits [] (tail_of_items items)
+      (inl refl))) in
       let on = compact-on (collecting-carried_out whole of_held of_read (agree-begins same)
       (agree-continues same)) lines line (first_lines lines) refl in
       grind (arith, common_steps, state-there, collecting)

@@ -19,13 +19,13 @@ use proofs.reading.ForwardCompact.{compact-forward, compact_beginning}
 -- ---- what is asked of a direction
 
 -- an epoch that is read is kept and written as the steps hold it
-pub record AreSame {K : Type 0} (direction : Direction HeldEpoch OpenRawEpoch K)
-    (kept_of : List (Item ReadEpoch) → K) (unit_lines : List (Item ReadEpoch) → FileUnit ReadEpoch
-    → List (List ℕ)) (choices : Choices) : Type 0 where
-  pub same : (items : List (Item ReadEpoch)) (lines : List ReadLine) (read : ReadEpoch) (held : HeldEpoch)
-      (count : ℕ) → epoch_at (types_in_force items) (raws_kept items) lines ≡ Done read count
-      → held_after (tail_of_items items) read ≡ held
-      → IsSameEpoch direction kept_of unit_lines choices items read held
+abbrev pub AreSame : {K : Type 0} → Direction HeldEpoch OpenRawEpoch K → (List (Item ReadEpoch) → K)
+    → (List (Item ReadEpoch) → FileUnit ReadEpoch → List (List ℕ)) → Choices → Type 0
+AreSame direction kept_of unit_lines choices = (items : List (Item ReadEpoch)) (lines : List ReadLine)
+    (read : ReadEpoch) (held : HeldEpoch) (count : ℕ)
+    → epoch_at (types_in_force items) (raws_kept items) lines ≡ Done read count
+    → held_after (tail_of_items items) read ≡ held
+    → IsSameEpoch direction kept_of unit_lines choices items read held
 
 -- ---- what is at a place, by what it leaves
 
@@ -84,7 +84,7 @@ module _ {K : Type 0} {direction : Direction HeldEpoch OpenRawEpoch K} {kept_of 
         suc before,
         h.0,
         place ∙ ap as_observation here,
-        s.same items lines h.0 held (suc before) here h.2,
+        s items lines h.0 held (suc before) here h.2,
       )
   agree-step items lines before (Faulty fault) place placed opens = (
     before,
@@ -144,13 +144,11 @@ no-lines items (line ∷ lines) wanted none = by_bool (begins_event (line ∷ li
 
 -- an epoch is kept and written as it is held
 pub same-epochs : (choices : Choices) → AreSame expansion tail_of_items expanded_unit choices
-same-epochs choices = record {
-  same = λ items lines read held count here same. record {
-    kept = λ number phase types kept either. ap {B = Option Tail} (λ (h : HeldEpoch). Some h.tail) (sym same)
-        ∙ sym (left-by_tail read.raw (raws_kept items) (reads-soundly (types_in_force items) (raws_kept items)
-        lines read count here).single);
-    lines = λ number phase types kept either. cc;
-  };
+same-epochs choices items lines read held count here same = record {
+  kept = λ number phase types kept either. ap {B = Option Tail} (λ (h : HeldEpoch). Some h.tail) (sym same)
+      ∙ sym (left-by_tail read.raw (raws_kept items) (reads-soundly (types_in_force items) (raws_kept items)
+      lines read count here).single);
+  lines = λ number phase types kept either. cc;
 }
 
 kept-record : (b : Bool) (raws : List RawEpoch) → cond b None (tail_left raws) ≡ tail_left (cond b [] raws)

@@ -14,11 +14,11 @@ use Rattle.crx_filter.proofs.following.Following.{IsSameEpoch, AgreeOn}
 -- ---- what is asked of a direction
 
 -- an epoch that is read is kept and written as it is
-pub record AreSame {K : Type 0} (direction : Direction Epoch OpenEpoch K) (kept_of : List (Item Epoch) → K)
-    (unit_lines : List (Item Epoch) → FileUnit Epoch → List (List ℕ)) (choices : Choices) : Type 0 where
-  pub same : (items : List (Item Epoch)) (lines : List ReadLine) (epoch : Epoch) (count : ℕ)
-      → epoch_place (types_in_force items) lines ≡ Done (Observation epoch) count
-      → IsSameEpoch direction kept_of unit_lines choices items epoch epoch
+abbrev pub AreSame : {K : Type 0} → Direction Epoch OpenEpoch K → (List (Item Epoch) → K)
+    → (List (Item Epoch) → FileUnit Epoch → List (List ℕ)) → Choices → Type 0
+AreSame direction kept_of unit_lines choices = (items : List (Item Epoch)) (lines : List ReadLine)
+    (epoch : Epoch) (count : ℕ) → epoch_place (types_in_force items) lines ≡ Done (Observation epoch) count
+    → IsSameEpoch direction kept_of unit_lines choices items epoch epoch
 
 -- what an open epoch leaves as it was is kept in one way
 pub either-same : {X : Type 0} {a b : X} → (a ≡ b) ⊎ (a ≡ b) → a ≡ b
@@ -40,7 +40,7 @@ module _ {K : Type 0} {direction : Direction Epoch OpenEpoch K} {kept_of : List 
       → open_with (types_in_force items) (Content content ∷ []) ≡ still_open (when_wanted wanted so_far)
       → Agrees items (Content content ∷ []) (made_of_epoch_step (when_wanted wanted so_far))
   agree-when items content so_far zero place opens =
-      (1, epoch_of so_far, place, s.same items (Content content ∷ []) (epoch_of so_far) 1 place)
+      (1, epoch_of so_far, place, s items (Content content ∷ []) (epoch_of so_far) 1 place)
   agree-when items content so_far (suc wanted) place opens = (so_far, refl, place, opens)
 
   agree-beginning : (items : List (Item Epoch)) (content : List ℕ) (b : Result Beginning Fault) → beginning_of
@@ -62,7 +62,7 @@ module _ {K : Type 0} {direction : Direction Epoch OpenEpoch K} {kept_of : List 
       → Agrees items (lines ++ line ∷ []) (made_of_epoch_step step)
   agree-step items lines line (Going so_far) place opens = (so_far, refl, place, opens)
   agree-step items lines line (Whole epoch) place opens =
-      (suc (length lines), epoch, place, s.same items (lines ++ line ∷ []) epoch (suc (length lines)) place)
+      (suc (length lines), epoch, place, s items (lines ++ line ∷ []) epoch (suc (length lines)) place)
   agree-step items lines line (Faulty fault) place opens = (length lines, place)
 
   pub agree-continues : (items : List (Item Epoch)) (lines : List ReadLine) (line : ReadLine)

@@ -1,23 +1,15 @@
 -- The end of the input, wherever a reading has stopped.
 use Rattle.crx_filter.proofs.Words
-use Words.{common_steps, arith, ℕ, suc, ◌≡◌, ◌+◌, true, false, cond, List, [], length, Option, Some, None}
-use Words.{refl, nat_lt, ReadLine, Fault, MissingVersion, Truncated, Place, NeedsMore, FileUnit, Choices}
-use Words.{Item, is_at_start, header_has_ended, records_left, records_count_types, types_in_force}
-use Words.{WholeReading, Stop, AtLines, is_skipped, fault_at_end, ended_with, ended_reading, written_lines}
-use Words.{warnings_in, Phase, InHeader, InEvent, InEpoch, Direction, Step, is_skipped_in, rules, kept_in}
-use Words.{state_end, phase_after_items, state_of, IsEndedBy, ◌<◌, by_bool, ◌∙◌}
+use Words.{common_steps, arith, ℕ, suc, ◌≡◌, ◌+◌, true, cond, List, [], length, Option, Some, None, refl}
+use Words.{nat_lt, ReadLine, Fault, MissingVersion, Truncated, Place, NeedsMore, FileUnit, Choices, Item}
+use Words.{is_at_start, header_has_ended, records_left, records_count_types, types_in_force, WholeReading}
+use Words.{Stop, AtLines, is_skipped, fault_at_end, ended_with, ended_reading, written_lines, warnings_in}
+use Words.{Phase, InHeader, InEvent, InEpoch, Direction, Step, is_skipped_in, rules, kept_in, state_end}
+use Words.{phase_after_items, state_of, IsEndedBy, ◌<◌, by_bool, ◌∙◌}
 use Rattle.crx_base.specs.declared.fault.Fault.TheVariants.{NoEndOfHeader}
 use Rattle.crx_filter.proofs.following.Following.{IsCarriedOut, place, state_at, skipped-same}
 use Rattle.crx_filter.proofs.following.Lines.{IsStopped, by_phase, never-before, some_lines}
 use Rattle.crx_filter.specs.LineByLine.{end_step, BetweenUnits}
-
-in-header : {E : Type 0} (items : List (Item E)) → header_has_ended items ≡ false
-    → fault_at_end items [] ≡ Some (cond (is_at_start items) MissingVersion NoEndOfHeader)
-in-header items e = grind (arith, common_steps)
-
-in-event : {E : Type 0} (items : List (Item E)) (left : ℕ)
-    → header_has_ended items ≡ true → records_left items ≡ suc left → fault_at_end items [] ≡ Some Truncated
-in-event items left e f = grind (arith, common_steps, nat_lt)
 
 -- the end after whole units is good
 pub closes-well : {E : Type 0} (items : List (Item E))
@@ -56,9 +48,14 @@ module _ {E U O K : Type 0} {beginning : List (Item E) → List ReadLine → Pla
   lines-end items number count rest wanted counted = rw counted (by_phase h (λ ls p. EndsAs items (ended_with
       choices.skip items (count + 1) (fault_at_end items ls)) (state_end direction (state_at h count p items
       (kept_in direction p (kept_of items))))) items rest wanted
-      (λ e. rw (in-header items e) (ends-same items count (InHeader (is_at_start items)) (kept_of items)
+      (λ e.
+      let is : fault_at_end items [] ≡ Some (cond (is_at_start items) MissingVersion NoEndOfHeader) =
+      grind (arith, common_steps) in
+      rw is (ends-same items count (InHeader (is_at_start items)) (kept_of items)
       (Some (cond (is_at_start items) MissingVersion NoEndOfHeader)) (λ f. grind (arith, common_steps, never-before))))
-      (λ left e some. rw (in-event items left e some) (ends-same items count (InEvent (suc left)
+      (λ left e some.
+      let is : fault_at_end items [] ≡ Some Truncated = grind (arith, common_steps, nat_lt) in
+      rw is (ends-same items count (InEvent (suc left)
       (records_count_types items)) (kept_of items) (Some Truncated) (λ f. grind (arith, common_steps, never-before))))
       (λ e none. rw (closes-well items e none) (ends-same items count BetweenUnits (kept_of items) None
       (λ f. skipped-same {O = O} choices count BetweenUnits (types_in_force items) (kept_of items) items f e

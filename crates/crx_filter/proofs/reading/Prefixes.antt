@@ -2,9 +2,8 @@
 use Rattle.crx_filter.proofs.Words.{ℕ, ◌≡◌, ◌+◌, Bool, List, [], ◌∷◌, ◌++◌, length, refl, ap, sym}
 use Rattle.crx_filter.proofs.Words.{append_assoc, append-nil, flat_map-append, arith, ReadLine, Place}
 use Rattle.crx_filter.proofs.Words.{FileUnit, Item, Accepted, Warned, Stop, AtFault, AtLines, Looking}
-use Rattle.crx_filter.proofs.Words.{reading_within, reading_from, ended_reading, whole_reading}
-use Rattle.crx_filter.proofs.Words.{continued_reading, IsReadForward, lines_text, Begins, written_lines}
-use Rattle.crx_filter.proofs.Words.{common_steps}
+use Rattle.crx_filter.proofs.Words.{reading_from, ended_reading, whole_reading, continued_reading}
+use Rattle.crx_filter.proofs.Words.{IsReadForward, lines_text, Begins, written_lines, common_steps}
 use Rattle.crx_filter.proofs.reading.{WhatWasRead.of-ended, Resuming.resumed, KeptThroughout.IsKept}
 use Rattle.crx_filter.proofs.reading.KeptThroughout.{looked-kept, within-kept}
 
@@ -31,17 +30,13 @@ more-kept : {E : Type 0} (place : List (Item E) → List ReadLine → Place (Fil
     (items : List (Item E)) → IsKept place skip (λ all lines. AreMore items all)
 more-kept place skip items = search (one_more)
 
-within-items : {E : Type 0} (place : List (Item E) → List ReadLine
-    → Place (FileUnit E)) (skip : Bool) (units : ℕ) (items : List (Item E)) (number : ℕ)
-    (lines : List ReadLine) → AreMore items (reading_within place skip units items number lines).items
-within-items place skip units items number lines = (within-kept place skip (λ all ls. AreMore items all)
-    (more-kept place skip items) units items number lines (no_more items)).1
-
 pub continued_reading-items : {E : Type 0} (place : List (Item E) → List ReadLine → Place (FileUnit E))
     (skip : Bool) (items : List (Item E)) (stop : Stop) (more : List ReadLine)
     → AreMore items (continued_reading place skip (record { items = items; stop = stop }) more).items
 continued_reading-items place skip items (AtFault at) more = no_more items
-continued_reading-items place skip items (AtLines number lines) more = search (within-items)
+continued_reading-items place skip items (AtLines number lines) more = (within-kept place skip
+    (λ all ls. AreMore items all) (more-kept place skip items) (length (lines ++ more) + 1) items number
+    (lines ++ more) (no_more items)).1
 continued_reading-items place skip items (Looking number) more = (looked-kept place skip
     (λ all ls. AreMore items all) items (reading_from place skip items) number more (λ n. no_more items)
     (λ m ls h. within-kept place skip (λ all rest. AreMore items all) (more-kept place skip items)
