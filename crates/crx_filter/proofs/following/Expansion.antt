@@ -4,9 +4,9 @@ use proofs.Words.{common_steps, arith, ℕ, suc, ◌≡◌, Bool, true, false, c
 use proofs.Words.{Option, Some, None, Result, Ok, Err, refl, ap, sym, ◌∙◌, true≢false, is_some, none-some}
 use proofs.Words.{ReadLine, Content, Overlong, Fault, BadEpoch, is_event_line, records_in, Place, Done, Fails}
 use proofs.Words.{NeedsMore, FileUnit, EventLine, RawEpoch, ReadEpoch, epoch_at, Tail, OpenRawEpoch, RawStep}
-use proofs.Words.{first_step, next_step, open_raw_after, open_raw_with, Choices, Item, types_in_force}
-use proofs.Words.{raws_kept, event_line, as_observation, expanded_unit, Made, made_of_unit, made_of_raw_step}
-use proofs.Words.{Direction, expansion, tail_of_items, begins_event, compact_open, by_bool}
+use proofs.Words.{first_step, next_step, open_raw_after, Choices, Item, types_in_force, raws_kept, event_line}
+use proofs.Words.{as_observation, expanded_unit, Made, made_of_unit, made_of_raw_step, Direction, expansion}
+use proofs.Words.{tail_of_items, begins_event, compact_open, by_bool}
 use Rattle.crx_compact.proofs.reading.LineByLine.{steps-agree, wanted-where_open, steps-from_open}
 use Rattle.crx_compact.proofs.reading.RawTailing.{place-by_tail, left-by_tail}
 use Rattle.crx_compact.{proofs.soundness.Soundness.reads-soundly, specs.OpenEpochs.{epoch_after, HeldEpoch}}
@@ -54,10 +54,6 @@ no-event : (items : List (Item ReadEpoch)) (lines : List ReadLine) (so_far : Ope
     → begins_event lines ≡ b → compact_open items lines ≡ Some so_far → begins_event lines ≡ false
 no-event items lines so_far true e opens = grind (arith, common_steps, none-some, begins_event, compact_open)
 no-event items lines so_far false e opens = e
-
-by-steps : (items : List (Item ReadEpoch)) (lines : List ReadLine) → begins_event lines ≡ false
-    → compact_open items lines ≡ open_raw_with (types_in_force items) (tail_of_items items) lines
-by-steps items lines e = rw e refl
 
 at-observation : (items : List (Item ReadEpoch)) (line : ReadLine) (lines : List ReadLine)
     → begins_event (line ∷ lines) ≡ false → compact_beginning items (line ∷ lines)
@@ -122,10 +118,9 @@ module _ {K : Type 0} {direction : Direction HeldEpoch OpenRawEpoch K} {kept_of 
       let none = no-event items (first ∷ rest) so_far (begins_event (first ∷ rest)) refl opens in
       let more : begins_event (first ∷ (rest ++ line ∷ [])) ≡ false = grind (arith, common_steps, none) in
       let step = steps-from_open (types_in_force items) (tail_of_items items) (first ∷ rest) line so_far
-      (sym (by-steps items (first ∷ rest) none) ∙ opens) in
+      (rw none at opens) in
       agree-step items (first ∷ (rest ++ line ∷ [])) (length (first ∷ rest)) (next_step so_far line)
-      (at-observation items first (rest ++ line ∷ []) more) step.place (by-steps items (first ∷
-      (rest ++ line ∷ [])) more ∙ step.open_epoch)
+      (at-observation items first (rest ++ line ∷ []) more) step.place (rw more step.open_epoch)
 
 -- ---- where more lines are wanted
 
@@ -140,7 +135,7 @@ no-lines items (line ∷ lines) wanted none = by_bool (begins_event (line ∷ li
     let after = sym (place-by_tail (types_in_force items) (raws_kept items) (line ∷ lines))
     ∙ observation-wanted _ (sym (at-observation items line lines off) ∙ wanted) in
     absurd (true≢false (sym (ap is_wanted after) ∙ wanted-where_open (types_in_force items)
-    (tail_of_items items) (line ∷ lines) ∙ ap is_some (sym (by-steps items (line ∷ lines) off) ∙ none))))
+    (tail_of_items items) (line ∷ lines) ∙ ap is_some (rw off at none))))
 
 -- an epoch is kept and written as it is held
 pub same-epochs : (choices : Choices) → AreSame expansion tail_of_items expanded_unit choices

@@ -1,25 +1,19 @@
 -- The faults that a reading finds are those of lines, or of the end of the input.
 use Rattle.crx_filter.proofs.Words
-use Words.{common_steps, arith, ℕ, zero, suc, ◌≡◌, Bool, true, List, Option, Some, None, Result, Ok, Err}
-use Words.{refl, ⊤, ◌&&◌, list_all, bytes_eq, columns, is_blank, clock_of, ReadLine, Fault, HeadLine}
-use Words.{records_in, event_head, epoch_head, head_of, OpenEpoch, Beginning, with_next_row, next_row}
-use Words.{rows_at, begun_by, beginning_of, unit_begun, epoch_place, has_satellite, Epoch, Count, Place}
-use Words.{first_line, FileUnit, ReadEpoch, epoch_at, RawEpoch, CRINEX_PROGRAM_LABEL, Item, unless_wrong}
-use Words.{types_fault, header_line, event_record, unit_place, rinex_place, compact_epoch_place}
-use Words.{compact_place, first_lines, is_of_lines, event_line, as_observation, one_line, Row, Content}
-use Words.{MissingVersion, Overlong, [], character_at, is_event_line, not, ◌==◌, ◌∷◌, header_has_ended}
-use Words.{is_at_start, nat_lt, records_count_types, records_left}
+use Words.{common_steps, arith, ℕ, zero, suc, ◌≡◌, Bool, true, List, Option, Some, None, Result, refl, ⊤}
+use Words.{list_all, columns, is_blank, clock_of, ReadLine, Fault, HeadLine, records_in, event_head}
+use Words.{epoch_head, head_of, OpenEpoch, Beginning, with_next_row, next_row, rows_at, begun_by}
+use Words.{beginning_of, unit_begun, epoch_place, has_satellite, Epoch, Count, Place, first_line, FileUnit}
+use Words.{ReadEpoch, epoch_at, RawEpoch, Item, unless_wrong, types_fault, header_line, event_record}
+use Words.{unit_place, rinex_place, compact_epoch_place, compact_place, first_lines, is_of_lines, event_line}
+use Words.{as_observation, one_line, Row, Content, Overlong, [], is_event_line, ◌∷◌, cond, rules}
 use Rattle.crx_filter.proofs.reading.{WhatStands.chosen, EpochFaults.{FaultsPass, FaultsPassAt, place-then}}
 use Rattle.crx_filter.proofs.reading.EpochFaults.{place-first, IsSkippableAt, epoch-skippable}
 use Rattle.crx_filter.{proofs.reading.EpochFaults.place-observation, specs.meaning.UnitPlaces.first_fault}
-use Rattle.crx_text.specs.meaning.Columns.{without_blanks}
-use Rattle.crx_base.specs.declared.fault.Fault.TheVariants.{NotCompact, BadProgLine}
-use Rattle.crx_header.specs.meaning.{Label.has_label, Header.{is_supported, first_header_fault}}
-use Rattle.crx_header.specs.declared.crinex.TheConstants.{CRINEX_VERSION, CRINEX_VERSION_LABEL}
+use Rattle.crx_header.specs.meaning.Header.{first_header_fault}
 use Rattle.crx_rinex.specs.meaning.SatelliteLines.{values_in}
-use Rattle.crx_base.specs.declared.fault.Fault.TheVariants.{UnsupportedVersion, NotObservation, BadTypesLine}
+use Rattle.crx_base.specs.declared.fault.Fault.TheVariants.{BadTypesLine}
 use Rattle.crx_header.specs.meaning.ObservationTypes.{is_bad_types_line}
-use Rattle.crx_header.specs.declared.labels.TheConstants.{VERSION_LABEL}
 
 -- ---- results, options and places whose faults are those of lines
 
@@ -32,6 +26,13 @@ IsFineFault (Some fault) = is_of_lines fault ≡ true
 
 abbrev pub IsFineAt : {X : Type 0} → Place X → Type 0
 IsFineAt p = FaultsPassAt is_of_lines p
+
+-- of two results, and of two places
+either-fine : {X : Type 0} (b : Bool) (x y : Result X Fault) → IsFine x → IsFine y → IsFine (cond b x y)
+either-fine b = chosen IsFine b
+
+place-either : {X : Type 0} (b : Bool) (p q : Place X) → IsFineAt p → IsFineAt q → IsFineAt (cond b p q)
+place-either b = chosen IsFineAt b
 
 -- ---- the header and an event's records
 
@@ -46,9 +47,7 @@ types-fine : (line : List ℕ) → IsFineFault (types_fault line)
 types-fine line = chosen IsFineFault (is_bad_types_line line) (Some BadTypesLine) None refl tt
 
 version-fine : (line : List ℕ) → IsFineFault (first_header_fault line)
-version-fine line = chosen IsFineFault (not (has_label VERSION_LABEL line)) (Some MissingVersion) _ refl
-    (chosen IsFineFault (not (is_supported (without_blanks (columns line 1 9)))) (Some UnsupportedVersion)
-    _ refl (chosen IsFineFault (not (character_at line 21 == 79)) (Some NotObservation) None refl tt))
+version-fine line = search (rules, chosen IsFineFault)
 
 header-fine : (E : Type 0) (is_first : Bool) (line : List ℕ) → IsFine (header_line {E = E} is_first line)
 header-fine E is_first line = grind (arith, common_steps, fine-unless, fault-first, version-fine, types-fine)
@@ -59,10 +58,7 @@ record-fine E counted line = grind (arith, fine-unless, chosen, types-fine)
 unit-fine : {E : Type 0} (beginning : List (Item E) → List ReadLine → Place (FileUnit E))
     → ((items : List (Item E)) (lines : List ReadLine) → IsFineAt (beginning items lines))
     → (items : List (Item E)) (lines : List ReadLine) → IsFineAt (unit_place beginning items lines)
-unit-fine {E = E} beginning h items lines = chosen IsFineAt (not (header_has_ended items)) _ _
-    (place-first is_of_lines refl lines (header_line (is_at_start items)) (header-fine E (is_at_start items)))
-    (chosen IsFineAt (nat_lt 0 (records_left items)) _ _ (place-first is_of_lines refl lines
-    (event_record (records_count_types items)) (record-fine E (records_count_types items))) (h items lines))
+unit-fine beginning h items lines = search (rules, place-either, place-first, header-fine, record-fine, h)
 
 -- ---- RINEX
 
@@ -121,9 +117,4 @@ pub compact-fine : (items : List (Item ReadEpoch)) (lines : List ReadLine)
 compact-fine items lines = search (unit-fine, compact_epoch-fine)
 
 pub first_lines-fine : (lines : List ReadLine) → IsFineAt (first_lines lines)
-first_lines-fine lines =
-    let version = λ (line : List ℕ). chosen IsFine (bytes_eq (without_blanks (columns line 1 20)) CRINEX_VERSION
-    && has_label CRINEX_VERSION_LABEL line) (Ok line) (Err NotCompact) tt refl in
-    let program = λ (line : List ℕ).
-    chosen IsFine (has_label CRINEX_PROGRAM_LABEL line) (Ok line) (Err BadProgLine) tt refl in
-    search (place-then, place-first, version, program)
+first_lines-fine lines = search (rules, place-then, place-first, either-fine)
