@@ -1,14 +1,13 @@
 -- Every line of compact text is accounted for.
 use Rattle.crx_filter.proofs.Words
 use Words.{arith, [], ℕ, ◌≡◌, ◌+◌, Bool, List, ◌∷◌, drop, take, length-map, None, sym, subst, ReadLine, Count}
-use Words.{RawEpoch, Done, ReadEpoch, epoch_at, Item, types_in_force, compact_place, raws_kept}
-use Words.{crinex_version, crinex_program, first_lines, whole_compact, WholeReading, common_steps, Content}
+use Words.{RawEpoch, Done, ReadEpoch, epoch_at, Item, compact_place, crinex_version, crinex_program}
+use Words.{first_lines, whole_compact, WholeReading, common_steps, Content, rules}
 use Rattle.crx_compact.proofs.soundness.Soundness.{begins, epoch-facts}
 use Rattle.crx_filter.proofs.accounts.{Clean.accepts-clean, Reached.{Owns, take-one, taken, all-accounted}}
 use Rattle.crx_filter.proofs.reading.{CompactPrefixes.whole-at, Resuming.by_place}
-use Rattle.crx_filter.proofs.reading.{ForwardCompact.{compact_beginning, steady-epoch_at}, WhatStands.of-unit}
-use Rattle.crx_filter.{proofs.reading.WhatStands.of-compact, specs.meaning.Accounts.AreCleanLines}
-use Rattle.crx_filter.specs.meaning.Accounts.{AreLinesOfItems}
+use Rattle.crx_filter.proofs.reading.{ForwardCompact.steady-epoch_at, WhatStands.{of-unit, of-compact}}
+use Rattle.crx_filter.specs.meaning.Accounts.{AreCleanLines, AreLinesOfItems}
 
 -- the lines of an epoch
 own-epoch : (types : List Count) (older : List RawEpoch) (lines : List ReadLine) (read : ReadEpoch)
@@ -20,12 +19,9 @@ own-epoch types older lines read count e =
 
 owns-unit : (items : List (Item ReadEpoch)) (lines : List ReadLine)
     → Owns AreCleanLines lines (compact_place items lines)
-owns-unit items lines = of-unit (Owns AreCleanLines lines) tt (λ offset fault. tt) compact_beginning items
-    lines (λ line rest is open_header good. take-one lines rest line is)
-    (λ line rest is ended some good. take-one lines rest line is)
-    (λ ended none. of-compact (Owns AreCleanLines lines) tt (λ offset fault. tt) (types_in_force items)
-    (raws_kept items) lines (λ line rest is event counted. take-one lines rest line is)
-    (own-epoch (types_in_force items) (raws_kept items) lines))
+owns-unit items lines =
+    let owned = Owns AreCleanLines lines in
+    search (rules, of-unit owned, of-compact owned, take-one, own-epoch)
 
 -- ---- the first two lines
 

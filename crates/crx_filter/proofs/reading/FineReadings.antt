@@ -16,11 +16,8 @@ module _ {E : Type 0} (place : List (Item E) → List ReadLine → Place (FileUn
 
   from-fine : fault_of_stop (reading_from place skip [] number lines).stop ≡ Some at
       → is_of_lines at.fault ≡ true
-  from-fine = stop-fine (reading_from place skip [] number lines) (within-kept place skip (λ items ls. ⊤)
-      (record {
-        here = λ items ls unit count e k. tt;
-        passed = λ items ls at n on k. tt;
-      }) (length lines + 1) [] number lines tt)
+  from-fine = stop-fine (reading_from place skip [] number lines)
+      (within-kept place skip (λ items ls. ⊤) (search) (length lines + 1) [] number lines tt)
 
   whole-fine : (whole_reading place skip number lines).fault ≡ Some at → is_of_lines at.fault ≡ true
   whole-fine e = grind (arith, common_steps, from-fine)
