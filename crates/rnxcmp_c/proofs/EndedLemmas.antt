@@ -9,7 +9,7 @@ use Rattle.rnxcmp_c.proofs.Words.{CallBringsBackWhatWasCompacted, CallSavesAllEl
 use Rattle.rnxcmp_c.specs.meaning.Ended.{CheckPromises, ExpansionPromises}
 use Rattle.rnxcmp_c.specs.meaning.Stretches.{CallKeepsUndamaged, CallWritesWholeUnits}
 use Rattle.crx_filter.proofs.accounts.ByResults.{compaction-keeps, expansion-keeps}
-use Rattle.crx_filter.specs.meaning.ByResults.{ExpansionKeeps}
+use Rattle.crx_filter.specs.meaning.{ByResults.ExpansionKeeps, CompactText.ReadsAnyText}
 use Rattle.rnxcmp_c.specs.meaning.Kept.{TaskKeeps}
 use Rattle.crx_filter.proofs.stretches.StretchesSaved.{rest-kept}
 use Rattle.rnxcmp_c.proofs.Words.{sym, ap, ◌∙◌}
@@ -19,6 +19,7 @@ use Rattle.crx_filter.proofs.anywriter.{AnyRun.reads-any, AnyText.first-units, O
 pub record KeepsPromises (holds : FilterResult → Type 0) (choices : Choices) (text : List ℕ) : Type 0 where
   pub whole : holds (expanded text choices)
   pub lossless : CallBringsBackWhatPasses holds text
+  pub any_writer : ReadsAnyText holds text
   pub way_back : CallBringsBackWhatWasCompacted holds text
   pub salvage : choices.skip ≡ true → CallSavesAllElse holds text
   pub damage : choices.skip ≡ true → CallKeepsUndamaged holds text
@@ -28,7 +29,7 @@ pub record KeepsPromises (holds : FilterResult → Type 0) (choices : Choices) (
 pub keeps-promises : (holds : FilterResult → Type 0) (choices : Choices) (text : List ℕ)
     → holds (expanded text choices) → KeepsPromises holds choices text
 keeps-promises holds choices text whole =
-    search (rules, brings-back_passed, brings-back, saves-all_else, rest-kept, first-units, expansion-keeps)
+    search (rules, brings-back_passed, brings-back, saves-all_else, rest-kept, first-units, expansion-keeps, reads-any)
 
 pub task-keeps : (task : Task) (holds : FilterResult → Type 0) (input : List ℕ)
     → holds ((run_for task).result input) → TaskKeeps task holds input
@@ -64,7 +65,7 @@ module _ (fed : List ℕ) (made kept : BothTexts) (answer : Answer) where
   run-expansion choices whole =
       let k = keeps-promises Has choices fed whole in record {
         lossless = k.lossless;
-        any_writer = reads-any Has choices fed whole;
+        any_writer = k.any_writer;
         no_other = λ e. only-text fed choices (sym (ap (λ (a : Answer). a.status) whole.answered) ∙ e);
         way_back = k.way_back;
         salvage = k.salvage;

@@ -6,7 +6,7 @@ use Rattle.rnxcmp_c.proofs.Words.{true, false, List, [], ◌∷◌, ◌++◌, le
 use Rattle.rnxcmp_c.proofs.Words.{◌∙◌, arith, append-nil, Option, append_assoc, is_some, length-append}
 use Rattle.rnxcmp_c.proofs.Words.{length-take, take-append-add, take-append-le, InputLine, lines_of}
 use Rattle.rnxcmp_c.proofs.Words.{ended_lines_of, HasNoFeed, At, IsLawful, Filter, with_next, notices_text}
-use Rattle.rnxcmp_c.proofs.Words.{Begins, Course, are_some, Held, waiting, IsText, IsGoing, MovesOn}
+use Rattle.rnxcmp_c.proofs.Words.{Begins, Course, are_some, HandleState, waiting, IsText, IsGoing, MovesOn}
 use Rattle.rnxcmp_c.proofs.Words.{EndsThere, HandlePast, fed_with, StopsSoon, with_one_more, piece_line}
 use Rattle.rnxcmp_c.proofs.Words.{IsAll, IsCutBy, StopsShort, MovesWithin}
 use Rattle.rnxcmp_c.proofs.Words.{RunBreaks, RunFails, StepStops, IsMemoryLacking, ready_in, LINE_ROOM}
@@ -17,7 +17,7 @@ use Rattle.crx_lines.proofs.ProgressLemmas.{lines-first, lines-last, ended_lines
 use Rattle.crx_runs.specs.Engines.{Awaited}
 
 -- lines that were ended are no more, where the bytes that follow have no LF
-ended-still : (filter : Filter) (shows : List InputLine → List Awaited → Type 0) (held : Held)
+ended-still : (filter : Filter) (shows : List InputLine → List Awaited → Type 0) (held : HandleState)
     (past : HandlePast) (more : List ℕ) → IsGoing filter shows held past → HasNoFeed more
     → ended_lines_of (past.fed ++ more) ≡ ended_lines_of past.fed
 ended-still filter shows held past more going none =
@@ -27,7 +27,7 @@ ended-still filter shows held past more going none =
 
 -- a line more was taken, or the last part of one, since little enough waited
 pub soon-by : (filter : Filter) (shows : List InputLine → List Awaited → Type 0) (past : HandlePast)
-    (bytes done some rest : List ℕ) (old : Held) → bytes ≡ done ++ (some ++ rest)
+    (bytes done some rest : List ℕ) (old : HandleState) → bytes ≡ done ++ (some ++ rest)
     → IsGoing filter shows old (fed_with past done) → HasNoFeed (take (length some - 1) some)
     → 0 < length some → ready_in old < READY_LIMIT → StopsSoon filter past bytes (length (done ++ some))
 soon-by filter shows past bytes done some rest old all going none more low =
@@ -59,37 +59,37 @@ notices-both [] ys = refl
 notices-both (x ∷ xs) ys = grind (arith, common_steps, notices-both xs ys)
 
 -- both texts are as they were
-text-kept : {course : Course} {old new : Held} {past : HandlePast} → IsText course old past
+text-kept : {course : Course} {old new : HandleState} {past : HandlePast} → IsText course old past
     → waiting new.output ≡ waiting old.output → waiting new.messages ≡ waiting old.messages
     → IsText course new past
 text-kept = grind arith
 
 -- whatever was fed since
-text-fed : {course : Course} {held : Held} {past : HandlePast} {fed : List ℕ} → IsText course held past
+text-fed : {course : Course} {held : HandleState} {past : HandlePast} {fed : List ℕ} → IsText course held past
     → IsText course held (record past { fed = fed })
 text-fed text = grind arith
 
-text-grows : (before after : Course) (shown : Type 0) (old new : Held) (past : HandlePast)
+text-grows : (before after : Course) (shown : Type 0) (old new : HandleState) (past : HandlePast)
     → IsText before old past → MovesOn before after shown old new → IsText after new past
 text-grows = grind (arith, common_steps, append_assoc, notices-both)
 
-flag-grows : (before after : Course) (shown : Type 0) (old new : Held)
+flag-grows : (before after : Course) (shown : Type 0) (old new : HandleState)
     → old.warned ≡ are_some before.warnings → MovesOn before after shown old new
     → new.warned ≡ are_some after.warnings
 flag-grows before after shown old new flag moved = grind arith
 
-text-ends : (before after : Course) (old new : Held) (past : HandlePast) (at : At) → IsText before old past
+text-ends : (before after : Course) (old new : HandleState) (past : HandlePast) (at : At) → IsText before old past
     → EndsThere before after old.output new.output old.messages new.messages at → IsText after new past
 text-ends before after old new past at text ends = grind (arith, common_steps, append_assoc, notices-both)
 
 -- both texts where memory ran out at a line, or at the end
-pub cut-by : (before after : Course) (memory : Option (List At)) (old new : Held) (past : HandlePast)
+pub cut-by : (before after : Course) (memory : Option (List At)) (old new : HandleState) (past : HandlePast)
     → before.fault ≡ None → IsText before old past → StopsShort memory before after old new
     → IsCutBy before after memory new past
 cut-by before after memory old new past good text short = grind (arith, common_steps, append_assoc)
 
 -- where no write had failed before, one did
-pub lacking-by : (before after : Course) (memory : Option (List At)) (old new : Held) → AreUnfailed old
+pub lacking-by : (before after : Course) (memory : Option (List At)) (old new : HandleState) → AreUnfailed old
     → StopsShort memory before after old new → IsMemoryLacking (is_some memory) new
 lacking-by before after memory old new good short = grind arith
 
@@ -98,13 +98,13 @@ pub begins-then : (all mid first : List ℕ) → Begins all mid → Begins mid f
 begins-then all mid first a b = grind (arith, common_steps, append_assoc)
 
 -- what was added within the limit leaves all within it
-pub adds-kept : (course : Course) (old new : Held) (past : HandlePast)
+pub adds-kept : (course : Course) (old new : HandleState) (past : HandlePast)
     → course.output ≡ past.output ++ waiting old.output
     → (0 < old.limit → old.left + length course.output ≡ old.limit) → AddsWithin old new
     → IsKeptWithin new past
 adds-kept course old new past wrote left adds limited = grind (arith, common_steps)
 
-module _ {filter : Filter} {shows : List InputLine → List Awaited → Type 0} {held : Held} {past : HandlePast}
+module _ {filter : Filter} {shows : List InputLine → List Awaited → Type 0} {held : HandleState} {past : HandlePast}
     (is : IsGoing filter shows held past) (piece : Piece) (bytes : List ℕ)
     (added : piece.bytes.items ≡ take LINE_ROOM (held.tail.bytes.items ++ bytes)) (none : HasNoFeed bytes)
   where
@@ -112,7 +112,7 @@ module _ {filter : Filter} {shows : List InputLine → List Awaited → Type 0} 
     lines = ended_lines_of past.fed
 
     -- what is held once these bytes were added to those of the last line
-    abbrev mid : Held
+    abbrev mid : HandleState
     mid = record held { tail = piece }
 
     abbrev bytes_all : List ℕ
@@ -176,7 +176,7 @@ module _ {filter : Filter} {shows : List InputLine → List Awaited → Type 0} 
     one-more : ended_lines_of (past.fed ++ fed) ≡ with_next lines line
     one-more = rw (append-nil fed, append-nil (with_next lines line)) at (ended-first [])
 
-    pub goes-on : (then : List InputLine → List Awaited → Type 0) (new : Held)
+    pub goes-on : (then : List InputLine → List Awaited → Type 0) (new : HandleState)
         → MovesWithin (filter.so_far lines) (filter.so_far (with_next lines line))
         (then (with_next lines line) []) mid new → new.number ≡ mid.number + 1 → new.tail.bytes.items ≡ []
         → IsGoing filter then new (fed_with past fed)
@@ -211,10 +211,10 @@ module _ {filter : Filter} {shows : List InputLine → List Awaited → Type 0} 
         × (lines_of ((then-fed rest).fed ++ more) ≡ lines ++ line ∷ others)
     line-after rest more = grind (arith, common_steps, line-then rest more)
 
-    breaks-kept : (new : Held) → AddsWithin mid new → IsKeptWithin new past
+    breaks-kept : (new : HandleState) → AddsWithin mid new → IsKeptWithin new past
     breaks-kept new adds = adds-kept (filter.so_far lines) mid new past mid-text.wrote is.left adds
 
-    pub breaks : (new : Held) (rest : List ℕ) (stop : Stop)
+    pub breaks : (new : HandleState) (rest : List ℕ) (stop : Stop)
         → StepStops (length lines + 1) (filter.memory_after lines line) (filter.so_far lines)
         (filter.so_far (with_next lines line)) mid new stop
         → RunBreaks past.fed filter new (then-fed rest) stop
@@ -231,7 +231,7 @@ module _ {filter : Filter} {shows : List InputLine → List Awaited → Type 0} 
         grind (arith, common_steps, line-after, text-fed, text-kept, mid-text)
 
 -- what ended a run in bytes that came after some ended it in those that came after fewer
-pub breaks-after : (filter : Filter) (before then : List ℕ) (held : Held) (past : HandlePast) (stop : Stop)
+pub breaks-after : (filter : Filter) (before then : List ℕ) (held : HandleState) (past : HandlePast) (stop : Stop)
     → length (ended_lines_of before) ≤ length (ended_lines_of then) → RunBreaks then filter held past stop
     → RunBreaks before filter held past stop
 breaks-after = grind arith
@@ -239,7 +239,7 @@ breaks-after = grind arith
 -- ---- the end
 
 -- what is held once some lines were taken
-pub record IsHeldAfter (filter : Filter) (held : Held) (past : HandlePast) (lines : List InputLine) : Type
+pub record IsHeldAfter (filter : Filter) (held : HandleState) (past : HandlePast) (lines : List InputLine) : Type
     0 where
   pub text : IsText (filter.so_far lines) held past
   pub sound : (filter.so_far lines).fault ≡ None
@@ -248,8 +248,8 @@ pub record IsHeldAfter (filter : Filter) (held : Held) (past : HandlePast) (line
   pub left : 0 < held.limit → held.left + length (filter.so_far lines).output ≡ held.limit
   pub number : held.number ≡ length lines
 
-module _ {filter : Filter} {mid : Held} {past : HandlePast} {lines : List InputLine}
-    (is : IsHeldAfter filter mid past lines) (new : Held) where
+module _ {filter : Filter} {mid : HandleState} {past : HandlePast} {lines : List InputLine}
+    (is : IsHeldAfter filter mid past lines) (new : HandleState) where
   -- the end was taken
   pub ends-well : lines_of past.fed ≡ lines → (shown : Type 0)
       → MovesWithin (filter.so_far lines) (filter.whole lines) shown mid new
@@ -275,7 +275,7 @@ module _ {filter : Filter} {mid : Held} {past : HandlePast} {lines : List InputL
   ends-stopped whole stop stops = grind (arith, common_steps, stopped-after, append-nil lines, is.number)
 
 module _ (filter : Filter) (shows : List InputLine → List Awaited → Type 0)
-    (held : Held) (past : HandlePast) (is : IsGoing filter shows held past) where
+    (held : HandleState) (past : HandlePast) (is : IsGoing filter shows held past) where
   abbrev ended : List InputLine
   ended = ended_lines_of past.fed
 
@@ -297,13 +297,13 @@ module _ (filter : Filter) (shows : List InputLine → List Awaited → Type 0)
   all-but_last some = search (rules, all-cut, lines-last, length-take)
 
   -- that line was taken
-  pub held-last : (mid : Held) (shown : Type 0)
+  pub held-last : (mid : HandleState) (shown : Type 0)
       → MovesWithin (filter.so_far ended) (filter.so_far last) shown held mid → mid.number ≡ held.number + 1
       → IsHeldAfter filter mid past last
   held-last mid shown within number = grind (arith, common_steps, text-grows, flag-grows, length-append)
 
   -- it ended the run
-  pub last-stopped : (mid : Held) → 0 < length held.tail.bytes.items → IsLawful filter → (stop : Stop)
+  pub last-stopped : (mid : HandleState) → 0 < length held.tail.bytes.items → IsLawful filter → (stop : Stop)
       → StepStops (length ended + 1) (filter.memory_after ended (piece_line is.tail false)) (filter.so_far
       ended) (filter.so_far last) held mid stop → RunFails filter mid past stop
   last-stopped mid some lawful stop stops =

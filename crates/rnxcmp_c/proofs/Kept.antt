@@ -31,6 +31,11 @@ judges-status file status is good = grind (arith, common_steps, named-where_not)
 
 -- ---- status 0
 
+try-zero : (most : ℕ) (whole : FilterResult) (answer : Answer) (before after : BothTexts)
+    → AnswersWithin most whole answer before after → answer.status ≡ 0 → whole.status ≡ 0
+try-zero most whole answer before after h is =
+    grind (arith, common_steps, cases_lt most (length whole.output), h.within, h.over)
+
 -- a call that answers status 0 answers the whole result of a run
 pub zero-answered : (most : ℕ) (whole : FilterResult) (answer : Answer) (before after : BothTexts)
     → AnswersWithin most whole answer before after → answer.status ≡ 0 → whole.status ≡ 0

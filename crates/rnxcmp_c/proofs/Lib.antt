@@ -7,9 +7,9 @@ pub mod Kept
 pub mod Lossless
 mod LooseValues
 pub mod PieceLemmas
-mod PlaceValues
 pub mod PromiseLemmas
 pub mod RawWords
+mod ReaderBoxValues
 pub mod ReaderLemmas
 pub mod RunLemmas
 pub mod TakenLemmas

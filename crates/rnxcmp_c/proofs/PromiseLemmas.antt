@@ -1,21 +1,21 @@
 -- What the state of a reader says of its run, in the words of the promise.
 use Rattle.std.proofs.Common.{rules, reverse}
 use Rattle.std.proofs.{lemmas.Grind.common_steps, lemmas.List.{map-append, reverse-append}}
-use Rattle.rnxcmp_c.proofs.Words.{◌≡◌, ◌⊎◌, inl, inr, ⊎_elim, ℕ, ◌-◌, ◌<◌, ◌≤◌, List, [], ◌∷◌, ◌++◌, length}
+use Rattle.rnxcmp_c.proofs.Words.{◌≡◌, ◌⊎◌, inl, inr, ⊎_elim, ℕ, ◌<◌, List, [], ◌∷◌, ◌++◌, length}
 use Rattle.rnxcmp_c.proofs.Words.{take, drop, append_assoc, Option, Some, None, is_some, true, false, arith}
-use Rattle.rnxcmp_c.proofs.Words.{refl, sym, ap, ◌∙◌, subst, append-nil, InputLine, lines_of, At, OutOfMemory}
-use Rattle.rnxcmp_c.proofs.Words.{Filter, with_next, notices_text, Begins, Course, FilterResult}
-use Rattle.rnxcmp_c.proofs.Words.{result_of_course, AreNext, Outcome, IsLineEnded, IsLastLine, IsLineReached}
-use Rattle.rnxcmp_c.proofs.Words.{ReaderIsOver, ReaderStands, RunIsOutOfMemory, RunIsOverLimit}
+use Rattle.rnxcmp_c.proofs.Words.{refl, sym, ap, ◌∙◌, subst, append-nil, InputLine, lines_of, At}
+use Rattle.rnxcmp_c.proofs.Words.{with_next, notices_text, Begins, FilterResult}
+use Rattle.rnxcmp_c.proofs.Words.{AreNext, Outcome, IsLastLine}
+use Rattle.rnxcmp_c.proofs.Words.{ReaderStands}
 use Rattle.rnxcmp_c.proofs.Words.{StandsBy, answer_now, FeedsBy, HasEndedBy}
 use Rattle.rnxcmp_c.proofs.Words.{HasFedBy, HasPassedBy, ReaderHasEnded, texts_of_held, Holds, Handle}
-use Rattle.rnxcmp_c.proofs.Words.{HandlePast, fed_with, filter_for, limit_for, memory_next}
-use Rattle.rnxcmp_c.proofs.Words.{past_of, result_for, texts_made, Answer, OUTPUT_LIMIT}
-use Rattle.rnxcmp_c.proofs.Words.{Reader, BothTexts, line_in, RunHasEnded, StopsAtLimit, StopsForMemory}
-use Rattle.rnxcmp_c.proofs.Words.{StopsWhenFull, Task, Compact, Expand, Check, handle_answer, run_for}
+use Rattle.rnxcmp_c.proofs.Words.{HandlePast, fed_with, filter_for}
+use Rattle.rnxcmp_c.proofs.Words.{past_of, result_for, texts_made, Answer}
+use Rattle.rnxcmp_c.proofs.Words.{Reader, BothTexts, RunHasEnded, StopsAtLimit, StopsForMemory}
+use Rattle.rnxcmp_c.proofs.Words.{Task, Compact, Expand, Check, handle_answer, run_for}
 use Rattle.rnxcmp_c.proofs.{Cut.begins-next, HandleLemmas.{either-fed, ends-stands, feeds-stands, none-fed}}
 use Rattle.rnxcmp_c.proofs.GoingLemmas.{begins-then, notices-both}
-use Rattle.rnxcmp_c.proofs.ReaderLemmas.{fault-at, lawful-for, output-for}
+use Rattle.rnxcmp_c.proofs.ReaderLemmas.{ended-as, lawful-for, output-for}
 use Rattle.rnxcmp_c.proofs.Words.{with_one_more, bare_answer, MISUSED}
 use Rattle.rnxcmp_c.specs.Opened.{EndsHandle, FeedsHandle, HandleStands, IsSoundHandle, has_ended, run_state}
 use Rattle.rnxcmp_c.specs.{Handles.{fault_now, status_now}, Opened.texts_kept}
@@ -87,20 +87,6 @@ module _ (task : Task) (input : List ℕ) (lines : List InputLine) where
 abbrev answer_by : Option Outcome → Reader → Answer
 answer_by outcome reader = handle_answer (status_now outcome) (fault_now outcome) (texts_of_held reader.held)
 
--- a run that has ended with one of some results has ended with one of more
-ended-as : (P Q : FilterResult → Type 0) (made kept : BothTexts) (answer : Answer)
-    → ((result : FilterResult) → P result → Q result) → RunHasEnded P made kept answer
-    → RunHasEnded Q made kept answer
-ended-as = grind arith
-
--- ---- memory
-
--- the line that comes next takes memory
-asked-by : (filter : Filter) (lines others : List InputLine) (notices : List At)
-    → memory_next filter lines others ≡ Some notices → (next : InputLine) × (more : List InputLine)
-    × (others ≡ next ∷ more) × (filter.memory_after lines next ≡ Some notices)
-asked-by = grind arith
-
 -- ---- the cases
 
 module _ (task : Task) (reader : Reader) (past : HandlePast) where
@@ -110,148 +96,33 @@ module _ (task : Task) (reader : Reader) (past : HandlePast) where
   abbrev made : BothTexts
   made = texts_made past kept
 
-  abbrev Ended : (FilterResult → Type 0) → Option Outcome → Type 0
-  Ended is_one outcome = RunHasEnded is_one made kept (answer_by outcome reader)
-
-  answered-by : (outcome : Outcome) {status : ℕ} {fault : Option At} → outcome.status ≡ status
-      → outcome.fault ≡ fault → answer_by (Some outcome) reader ≡ handle_answer status fault kept
-  answered-by outcome {status} same is = grind arith
-
-  -- the result of an input, that at the limit of the output, or that of a run for which memory ran out
-  abbrev Whole : List ℕ → FilterResult → Type 0
-  Whole input result = result ≡ result_for task input
-
-  abbrev Limited : List ℕ → FilterResult → Type 0
-  Limited input result = StopsAtLimit (run_for task) input result
-
-  abbrev Short : (ℕ → Type 0) → List ℕ → FilterResult → Type 0
-  Short is_line input result = StopsForMemory is_line (run_for task) input result
-
-  abbrev Failed : List ℕ → FilterResult → Type 0
-  Failed input result = Whole input result × (result.status ≡ 1)
-
-  -- at a line, or at the end; or for the message of a fault
-  short-of_memory : (is_line : ℕ → Type 0) (outcome : Outcome) (input : List ℕ)
-      → RunIsOutOfMemory task is_line input reader outcome past
-      → Ended (λ result. Failed input result ⊎ Short is_line input result) (Some outcome)
-  short-of_memory is_line outcome input ran = ⊎_elim (λ out.
-      let by = out.made in
-      let at : At = record { line = line_in outcome.fault; fault = OutOfMemory } in
-      let before : Course = (filter_for task).so_far by.lines in
-      let answered = answered-by outcome ran.status (fault-at outcome.fault ran.memory) in
-      record {
-        result = result_of_course (record {
-          output = before.output;
-          warnings = before.warnings ++ by.notices;
-          fault = Some at;
-        });
-        is = inr (record {
-          lines = by.lines;
-          others = by.others;
-          first = by.first;
-          before = before;
-          before_is = refl;
-          good = by.made.good;
-          after = with_one_more (filter_for task) by.lines by.others;
-          after_is = refl;
-          line = line_in outcome.fault;
-          line_is = by.line_is;
-          there = out.at;
-          notices = by.notices;
-          own = by.own;
-          asked = ⊎_elim (λ memory. inl (asked-by (filter_for task) by.lines by.others by.notices memory))
-              (λ adds. inr adds) by.asked;
-          result_is = refl;
-        });
-        ends = ⊎_elim
-            (λ none. inr (record {
-              at = at;
-              faulty = refl;
-              answered = answered;
-              output = by.made.output;
-              messages =
-                  grind (arith, common_steps, notices-both before.warnings by.notices, by.made.messages);
-            }))
-            (λ said. inl (grind (arith, common_steps, notices-both))) by.last_is;
-      }) (λ hidden.
-      let found : (at : At) × ((result_for task input).fault ≡ Some at) = grind (arith, hidden.faulty) in
-      record {
-        result = result_for task input;
-        is = inl (refl, grind (arith, found.1));
-        ends = grind (arith, common_steps, answered-by, fault-at);
-      }) ran.made
-
-  over-limit : (outcome : Outcome) (input : List ℕ) → RunIsOverLimit task input reader outcome past
-      → Ended (Limited input) (Some outcome)
-  over-limit outcome input over =
-      let before : Course = (filter_for task).so_far over.lines in
-      record {
-        result = record {
-          output = before.output;
-          messages = notices_text before.warnings;
-          status = OUTPUT_LIMIT;
-          fault = None;
-        };
-        is = grind (arith, common_steps);
-        ends = grind (arith, common_steps, answered-by, append-nil);
-      }
-
-  -- how a run stands that has ended
-  abbrev Any : FilterResult → Type 0
-  Any result = Whole past.fed result ⊎ (Limited past.fed result
-      ⊎ (Short (IsLineReached past.fed) past.fed result ⊎ StopsWhenFull (run_for task) past.fed result))
-
-  promise-by : (outcome : Outcome) → Ended Any (Some outcome)
-      → (0 < limit_for task → length made.output ≤ limit_for task)
-      → HandlePromise (Some outcome) (run_for task) past.fed made kept (answer_by (Some outcome) reader)
-  promise-by = grind arith
-
   stands-by : (outcome : Option Outcome) → StandsBy task reader past outcome
       → HandlePromise outcome (run_for task) past.fed made kept (answer_by outcome reader)
   stands-by None runs = grind arith
-  stands-by (Some outcome) (inl ran) = promise-by outcome (ended-as _ Any made kept _
-      (λ result is. ⊎_elim (λ whole. inl whole.0) (λ short. inr (inr (inl short))) is)
-      (short-of_memory (IsLineReached past.fed) outcome past.fed ran)) ran.within
-  stands-by (Some outcome) (inr (inl over)) = promise-by outcome
-      (ended-as _ Any made kept _ (λ result is. inr (inl is)) (over-limit outcome past.fed over))
-      (λ limited. omega (arith, over.within, ap length over.made.output))
-  stands-by (Some outcome) (inr (inr (inl long))) = promise-by outcome
-      (ended-as (StopsWhenFull (run_for task) past.fed) Any made kept _ (λ result is. inr (inr (inr is)))
-      (grind (arith, long))) long.within
-  stands-by (Some outcome) (inr (inr (inr over))) = grind arith
+  stands-by (Some outcome) (ended, few) = record {
+    goes_on = λ none. absurd (cc);
+    answered = λ other is. cc;
+    ended = λ _. ended-as _ _ made kept _ ended (λ result is. grind arith);
+    within = few;
+  }
 
   -- how a run stands whose end was reported
   abbrev Last : FilterResult → Type 0
-  Last result = Whole past.fed result
-      ⊎ (Limited past.fed result ⊎ Short (IsLastLine past.fed) past.fed result)
+  Last result = (result ≡ result_for task past.fed) ⊎ (StopsAtLimit (run_for task) past.fed result
+      ⊎ StopsForMemory (IsLastLine past.fed) (run_for task) past.fed result)
 
   ended-by : (outcome : Option Outcome) → HasEndedBy task reader past outcome
-      → (is_some outcome ≡ true) × Ended Last outcome
+      → (is_some outcome ≡ true) × RunHasEnded Last made kept (answer_by outcome reader)
   ended-by None ended = absurd ended
-  ended-by (Some outcome) (inl ran) = (
-    refl,
-    ended-as _ Last made kept _ (λ result is. ⊎_elim (λ whole. inl whole.0) (λ short. inr (inr short)) is)
-        (short-of_memory (IsLastLine past.fed) outcome past.fed ran),
-  )
-  ended-by (Some outcome) (inr (inl over)) =
-      (refl, ended-as _ Last made kept _ (λ result is. inr (inl is)) (over-limit outcome past.fed over))
-  ended-by (Some outcome) (inr (inr over)) = grind arith
+  ended-by (Some outcome) (ended, few) =
+      (refl, ended-as _ _ made kept _ ended (λ result is. grind arith))
 
   fed-ended : (before left : List ℕ) (outcome : Option Outcome) → is_some outcome ≡ true
       → HasFedBy before task reader past outcome
       → RunWasEnded (run_for task) before past.fed left made kept (answer_by outcome reader)
   fed-ended before left None ended fed = absurd (cc)
-  fed-ended before left (Some outcome) ended (inl memory) =
-      inl (λ (more : List ℕ). ended-as _ _ made kept _
-      (λ result is. ⊎_elim (λ failed. inl failed) (λ short. inr (inr short)) is)
-      (short-of_memory (IsLineEnded before past.fed) outcome (past.fed ++ more) (memory more)))
-  fed-ended before left (Some outcome) ended (inr (inl limit)) =
-      inl (λ (more : List ℕ). ended-as _ _ made kept _ (λ result is. inr (inl is))
-      (over-limit outcome (past.fed ++ more) (limit more)))
-  fed-ended before left (Some outcome) ended (inr (inr over)) =
-      inl (λ (more : List ℕ). ended-as (Whole (past.fed ++ more)) _ made kept _
-      (λ result is. inl (is, rw is (sym (ReaderIsOver.status (over.1 more)) ∙ over.0)))
-      (grind (arith, over.1 more)))
+  fed-ended before left (Some outcome) ended fed =
+      inl (λ (more : List ℕ). ended-as _ _ made kept _ (fed more).0 (λ result is. grind arith))
 
   passed-ended : (left : List ℕ) → 0 < length left → (outcome : Option Outcome)
       → HasPassedBy task reader past outcome

@@ -7,7 +7,7 @@ pub use Rattle.std_heap.specs.contracts.GlobalAllocator.TheImpl.{ghosts}
 pub use Rattle.core.proofs.alloc.Calls.{Al, handle_tells, Goes-blank}
 pub use Rattle.core.proofs.atomic.Steps.{fm}
 pub use Rattle.core.proofs.cell.Inside.{Good}
-pub use Rattle.rnxcmp_c.specs.Places.{place_owns}
+pub use Rattle.rnxcmp_c.specs.ReaderBoxes.{reader_box_owns}
 pub use Rattle.rnxcmp_c.specs.declared.reader.Reader.{Reader}
 pub use base.Fml.{ftrue, flft, fsep}
 pub use base.Logic.{never, fst∗, SProp, id⊢, emp}

@@ -1,19 +1,20 @@
 -- A reader's run has ended as the whole run of its input does.
-use Rattle.std.proofs.{Common.rules, lemmas.Grind.common_steps}
-use Rattle.rnxcmp_c.proofs.Words.{◌≡◌, ◌⊎◌, inl, inr, ⊎_elim, ℕ, List, [], ◌++◌, Option, Some, None, ap}
+use Rattle.std.proofs.{lemmas.Grind.common_steps}
+use Rattle.rnxcmp_c.proofs.GoingLemmas.{notices-both}
+use Rattle.rnxcmp_c.proofs.Words.{◌≡◌, ◌⊎◌, inl, inr, ⊎_elim, ℕ, List, [], ◌++◌, Some, None, ap, refl}
 use Rattle.rnxcmp_c.proofs.Words.{◌∙◌, ◌<◌, ◌≤◌, ◌+◌, ◌∷◌, is_some, arith, length, append-nil}
 use Rattle.rnxcmp_c.proofs.Words.{append_assoc, length-append, take, InputLine, lines_of, INPUT_LIMIT, At}
 use Rattle.rnxcmp_c.proofs.Words.{InputTooLong, OutOfMemory, IsLawful, Filter, with_next, error_text, Begins}
 use Rattle.rnxcmp_c.proofs.Words.{Course, check-lawful, compaction-lawful, expansion-lawful}
-use Rattle.rnxcmp_c.proofs.Words.{Outcome, FaultIs, IsMemoryLacking, waiting, IsAll, IsCutBy, IsText}
-use Rattle.rnxcmp_c.proofs.Words.{RunBreaks, RunFails, Stop, Fault, Limit, ReaderIsOver}
-use Rattle.rnxcmp_c.proofs.Words.{ReaderRuns, RunIsOutOfMemory, RunIsOverLimit, RunIsTooLong}
-use Rattle.rnxcmp_c.proofs.Words.{HasFedBy, HasEndedBy, engine_filter, has_ended_of}
-use Rattle.rnxcmp_c.proofs.Words.{KeepsToLimit, line_in, HandlePast, limit_for, result_for, Task, Compact}
-use Rattle.rnxcmp_c.proofs.Words.{Expand, Check, filter_for, memory_next, with_one_more, AnyEngine, Held}
-use Rattle.rnxcmp_c.proofs.Words.{Reader, line_reached}
-use Rattle.rnxcmp_c.specs.{Going.{LineFails, Breaks}, Handles.{IsOf, IsPut, EndsRunBy}}
-use Rattle.rnxcmp_c.specs.Handles.{status_at_end}
+use Rattle.rnxcmp_c.proofs.Words.{Outcome, IsMemoryLacking, waiting, IsAll, IsCutBy, IsText}
+use Rattle.rnxcmp_c.proofs.Words.{RunBreaks, RunFails, Stop, Fault, Limit, notices_text, result_of_course}
+use Rattle.rnxcmp_c.proofs.Words.{ReaderRuns, FilterResult, BothTexts, Answer, RunHasEnded, StopsAtLimit, StopsWhenFull, sym}
+use Rattle.rnxcmp_c.proofs.Words.{engine_filter, has_ended_of, run_for}
+use Rattle.rnxcmp_c.proofs.Words.{KeepsToLimit, HandlePast, limit_for, result_for, Task, Compact}
+use Rattle.rnxcmp_c.proofs.Words.{Expand, Check, filter_for, memory_next, with_one_more, AnyEngine, HandleState}
+use Rattle.rnxcmp_c.proofs.Words.{Reader, line_reached, ended_lines_of, OUTPUT_LIMIT}
+use Rattle.rnxcmp_c.specs.{Going.{LineFails, Breaks}, Handles.{EndsAs, EndsWithin, IsOf, IsPut, EndsRunBy}}
+use Rattle.rnxcmp_c.specs.Handles.{IsOverAtEnd, IsOverByBytes, RanOut, status_at_end}
 
 pub filter-is : (task : Task) (engine : AnyEngine) → IsOf task engine → engine_filter engine ≡ filter_for task
 filter-is = grind arith
@@ -30,99 +31,128 @@ pub output-for : (task : Task) (input : List ℕ) → (result_for task input).ou
     (lines_of input)).output
 output-for = grind arith
 
--- a fault that says that memory ran out, by its line
-pub fault-at : (fault : Option At) → FaultIs OutOfMemory fault
-    → fault ≡ Some (record { line = line_in fault; fault = OutOfMemory })
-fault-at = grind arith
+-- the result of an input in whose run a fault came
+failed-for : (task : Task) (input : List ℕ) (at : At)
+    → ((filter_for task).whole (lines_of input)).fault ≡ Some at → ((result_for task input).fault ≡ Some at)
+    × ((result_for task input).status ≡ 1) × ((result_for task input).messages
+    ≡ notices_text ((filter_for task).whole (lines_of input)).warnings ++ error_text (Some at))
+failed-for = grind (arith, common_steps)
+
+-- a run that has ended with one of some results has ended with one of more
+pub ended-as : (P Q : FilterResult → Type 0) (made kept : BothTexts) (answer : Answer)
+    → RunHasEnded P made kept answer → ((result : FilterResult) → P result → Q result)
+    → RunHasEnded Q made kept answer
+ended-as = grind arith
+
+-- the line that comes next takes memory
+asked-by : (filter : Filter) (lines others : List InputLine) (notices : List At)
+    → memory_next filter lines others ≡ Some notices → (next : InputLine) × (more : List InputLine)
+    × (others ≡ next ∷ more) × (filter.memory_after lines next ≡ Some notices)
+asked-by = grind arith
 
 -- the line that was reached is the last of those with the next one
 reached-lines : (lines others : List InputLine) → line_reached lines others ≡ length (lines ++ take 1 others)
 reached-lines = grind (arith, common_steps)
 
 -- a fault was put down that ended a run
-module _ (task : Task) (reader : Reader) (mid : Held) (outcome : Outcome) (past : HandlePast) (at : At)
+module _ (task : Task) (held mid : HandleState) (outcome : Outcome) (past : HandlePast) (at : At)
     (few : KeepsToLimit (limit_for task) (past.output ++ waiting mid.output))
-    (put : IsPut mid reader.held at outcome) where
-  kept : KeepsToLimit (limit_for task) (past.output ++ waiting reader.held.output)
+    (put : IsPut mid held at outcome) where
+  kept : KeepsToLimit (limit_for task) (past.output ++ waiting held.output)
   kept = grind arith
 
-  -- it says that memory ran out
-  module _ (memory : at.fault ≡ OutOfMemory) where
-    no-memory : FaultIs OutOfMemory outcome.fault
-    no-memory = grind arith
+  -- it is that of a result, whose message was kept, or couldn't be kept
+  put-ends : (P : FilterResult → Type 0) (result : FilterResult) → P result → result.status ≡ 1
+      → result.fault ≡ Some at → result.output ≡ past.output ++ waiting mid.output
+      → result.messages ≡ (past.messages ++ waiting mid.messages) ++ error_text (Some at)
+      → EndsAs P held past outcome
+  put-ends P result is one faulty output messages = record {
+    result = result;
+    is = is;
+    ends = ⊎_elim (λ down. inl (grind (arith, common_steps, append_assoc)))
+        (λ silently. inr (record {
+          at = at;
+          faulty = faulty;
+          answered = grind arith;
+          output = grind arith;
+          messages = grind arith;
+        })) put.said;
+  }
 
-    line-is : line_in outcome.fault ≡ at.line
-    line-is = grind arith
-
-    abbrev Last : List ℕ → Type 0
-    Last text = (text ≡ [])
-        ⊎ (text ≡ error_text (Some (record { line = line_in outcome.fault; fault = OutOfMemory })))
-
-    said-or_not : (text : List ℕ) × Last text × (waiting reader.held.messages ≡ waiting mid.messages ++ text)
-    said-or_not = search (rules, ⊎_elim, fault-at, no-memory, append-nil)
-
-    -- at a line that comes after these
-    short-at : (is_line : ℕ → Type 0) (input : List ℕ) → is_line at.line
-        → (lines others : List InputLine) → lines_of input ≡ lines ++ others
-        → at.line ≡ line_reached lines others
-        → IsCutBy ((filter_for task).so_far lines) (with_one_more (filter_for task) lines others)
-        (memory_next (filter_for task) lines others) mid past
-        → IsMemoryLacking (is_some (memory_next (filter_for task) lines others)) mid
-        → RunIsOutOfMemory task is_line input reader outcome past
-    short-at is_line input there lines others first number cut lacking = record {
-      memory = no-memory;
-      status = put.status;
-      made = inl (record {
-        at = rw line-is there;
-        made = record {
+  -- it says that memory ran out at a line that comes after these, or at the end
+  short-at : (is_line : ℕ → Type 0) (input : List ℕ) → at.fault ≡ OutOfMemory → is_line at.line
+      → (lines others : List InputLine) → lines_of input ≡ lines ++ others
+      → at.line ≡ line_reached lines others
+      → IsCutBy ((filter_for task).so_far lines) (with_one_more (filter_for task) lines others)
+      (memory_next (filter_for task) lines others) mid past
+      → IsMemoryLacking (is_some (memory_next (filter_for task) lines others)) mid
+      → EndsAs (RanOut is_line task input held) held past outcome
+  short-at is_line input memory there lines others first number cut lacking =
+      let before : Course = (filter_for task).so_far lines in
+      let full : At = record { line = at.line; fault = OutOfMemory } in
+      let same : full ≡ at = ap (λ f. let a : At = record { line = at.line; fault = f } in a) (sym memory) in
+      put-ends _ (result_of_course (record {
+        output = before.output;
+        warnings = before.warnings ++ cut.notices;
+        fault = Some full;
+      })) (record {
+        stops = record {
           lines = lines;
           others = others;
           first = first;
-          line_is = line-is ∙ number ∙ reached-lines lines others;
+          before = before;
+          before_is = refl;
+          good = cut.made.good;
+          after = with_one_more (filter_for task) lines others;
+          after_is = refl;
+          line = at.line;
+          line_is = number ∙ reached-lines lines others;
+          there = there;
           notices = cut.notices;
-          asked = cut.asked;
           own = cut.own;
-          last = said-or_not.0;
-          last_is = said-or_not.1;
-          made = grind (arith, common_steps, cut.made, said-or_not.2);
+          asked = ⊎_elim (λ asks. inl (asked-by (filter_for task) lines others cut.notices asks))
+              (λ adds. inr adds) cut.asked;
+          result_is = refl;
         };
         lacking = grind (arith, lacking);
-      });
-      within = kept;
-    }
+      }) refl (ap Some same) cut.made.output
+      (ap (λ (a : At). notices_text (before.warnings ++ cut.notices) ++ error_text (Some a)) same
+      ∙ ap (λ t. t ++ error_text (Some at)) (notices-both before.warnings cut.notices ∙ cut.made.messages))
 
-  -- it is the fault of a result
-  module _ (input : List ℕ) (course : Course) (whole : (filter_for task).whole (lines_of input) ≡ course)
-      (fault : course.fault ≡ Some at) (text : IsText course mid past) where
-    -- whose message was kept, or couldn't be kept
-    fault-said : outcome.fault ≡ Some at
-        → waiting reader.held.messages ≡ waiting mid.messages ++ error_text (Some at)
-        → ReaderIsOver (limit_for task) (result_for task input) reader outcome past
-    fault-said said messages = grind (arith, common_steps)
-
-    fault-hidden : (is_line : ℕ → Type 0)
-        → outcome.fault ≡ Some (record { line = at.line; fault = OutOfMemory })
-        → waiting reader.held.messages ≡ waiting mid.messages
-        → RunIsOutOfMemory task is_line input reader outcome past
-    fault-hidden = grind arith
+  -- it is that of the result of an input
+  fault-ends : (input : List ℕ) (course : Course) → (filter_for task).whole (lines_of input) ≡ course
+      → course.fault ≡ Some at → IsText course mid past
+      → EndsAs (λ result. (result ≡ result_for task input) × (result.status ≡ 1)) held past outcome
+  fault-ends input course whole fault text =
+      let is = failed-for task input at (rw whole fault) in
+      put-ends _ (result_for task input) (refl, is.1) is.1 is.0
+      (output-for task input ∙ rw whole text.wrote) (rw (whole, text.reported) at is.2)
 
   breaks-over : (before : List ℕ) → Breaks before (filter_for task) mid past at
-      → HasFedBy before task reader past (Some outcome)
-  breaks-over before (inl ran) = inl (λ more. short-at ran.fault _ (past.fed ++ more) ran.there ran.lines
-      (ran.line ∷ (ran.first more).0) (ran.first more).1 ran.number ran.cut ran.lacking)
-  breaks-over before (inr broken) =
-      let filter = filter_for task in
-      let whole : (more : List ℕ) → filter.whole (lines_of (past.fed ++ more)) ≡ filter.so_far broken.lines =
-      λ more. ap filter.whole (broken.first more).1 ∙ (lawful-for task).decided broken.lines
-      (broken.first more).0 at broken.fault in
-      ⊎_elim (λ down. inr (inr (
-        put.status,
-        λ more. fault-said (past.fed ++ more) _ (whole more) broken.fault broken.text down.0 down.1,
-      ))) (λ silently. inl (λ more. fault-hidden (past.fed ++ more) _ (whole more) broken.fault broken.text _
-      silently.0 silently.1)) put.said
+      → IsOverByBytes before task held past outcome
+  breaks-over before (inl ran) = λ more. (
+    ended-as _ _ _ _ _ (short-at _ (past.fed ++ more) ran.fault ran.there ran.lines
+        (ran.line ∷ (ran.first more).0) (ran.first more).1 ran.number ran.cut ran.lacking)
+        (λ result is. inr (inr is)),
+    kept,
+  )
+  breaks-over before (inr broken) = λ more. (
+    ended-as _ _ _ _ _ (fault-ends (past.fed ++ more) _
+        (ap (filter_for task).whole (broken.first more).1 ∙ (lawful-for task).decided broken.lines
+        (broken.first more).0 at broken.fault) broken.fault broken.text) (λ result is. inl is),
+    kept,
+  )
 
-  fails-over : LineFails (filter_for task) mid past at → HasEndedBy task reader past (Some outcome)
-  fails-over = search (rules, short-at, ⊎_elim, fault-said, fault-hidden)
+  fails-over : LineFails (filter_for task) mid past at → IsOverAtEnd task held past outcome
+  fails-over (inl short) = (
+    ended-as _ _ _ _ _ (short-at _ past.fed short.ran_out.0 short.ran_out.1 short.lines short.others
+        short.first short.number short.cut short.lacking) (λ result is. inr (inr is)),
+    kept,
+  )
+  fails-over (inr failed) = (
+    ended-as _ _ _ _ _ (fault-ends past.fed _ refl failed.fault failed.text) (λ result is. inl is.0),
+    kept,
+  )
 
 -- ---- the limit of the output
 
@@ -136,68 +166,105 @@ one_more-first filter lawful lines [] = grind (arith, common_steps, append-nil)
 one_more-first filter lawful lines (line ∷ others) =
     rw (← (append_assoc lines (line ∷ []) others)) (lawful.goes_on (with_next lines line) others)
 
-module _ (task : Task) (reader : Reader) (mid : Held) (outcome : Outcome) (past : HandlePast)
-    (stopped : EndsRunBy mid reader.held outcome Limit) where
+module _ (task : Task) (held mid : HandleState) (outcome : Outcome) (past : HandlePast)
+    (stopped : EndsRunBy mid held outcome Limit) where
   is-over_limit : (input : List ℕ) (lines others : List InputLine) → lines_of input ≡ lines ++ others
       → 0 < limit_for task → length ((filter_for task).so_far lines).output ≤ limit_for task
       → limit_for task < length (with_one_more (filter_for task) lines others).output
       → ((filter_for task).so_far lines).fault ≡ None → IsText ((filter_for task).so_far lines) mid past
-      → RunIsOverLimit task input reader outcome past
+      → EndsWithin task (StopsAtLimit (run_for task) input) held past outcome
   is-over_limit input lines others first limited within over good text =
-      let filter = filter_for task in
-      let longer : Begins (result_for task input).output (with_one_more filter lines others).output =
-      grind (arith, common_steps, output-for, one_more-first, lawful-for) in
-      grind (arith, common_steps, length-begins, append-nil)
+      let before : Course = (filter_for task).so_far lines in (
+        record {
+          result = record {
+            output = before.output;
+            messages = notices_text before.warnings;
+            status = OUTPUT_LIMIT;
+            fault = None;
+          };
+          is = record {
+            lines = lines;
+            others = others;
+            first = first;
+            before = before;
+            before_is = refl;
+            good = good;
+            after = with_one_more (filter_for task) lines others;
+            after_is = refl;
+            limited = limited;
+            within = within;
+            over = over;
+            result_is = refl;
+          };
+          ends = inl (grind (arith, common_steps));
+        },
+        λ limited. grind (arith, common_steps),
+      )
 
 -- what stopped a run is how it has ended
-module _ (task : Task) (engine : AnyEngine) (is : IsOf task engine) (reader : Reader) (mid : Held)
+module _ (task : Task) (engine : AnyEngine) (is : IsOf task engine) (held mid : HandleState)
     (limit : mid.limit ≡ limit_for task) (outcome : Outcome) (past : HandlePast) where
   pub stops-over : (before : List ℕ) (stop : Stop) → RunBreaks before (engine_filter engine) mid past stop
-      → EndsRunBy mid reader.held outcome stop → HasFedBy before task reader past (Some outcome)
+      → EndsRunBy mid held outcome stop → IsOverByBytes before task held past outcome
   stops-over before (Fault at) breaks put =
-      breaks-over task reader mid outcome past at (rw limit at breaks.1) put before
+      breaks-over task held mid outcome past at (rw limit at breaks.1) put before
       (rw (filter-is task engine is) at breaks.0)
   stops-over before Limit breaks stopped =
       let passes = rw (filter-is task engine is) at breaks in
-      inr (inl (λ more. is-over_limit task reader mid outcome past stopped (past.fed ++ more) passes.lines
+      λ more. let stops = is-over_limit task held mid outcome past stopped (past.fed ++ more) passes.lines
       (passes.line ∷ (passes.first more).0) (passes.first more).1 (rw limit at passes.limited)
-      (omega (arith, passes.within, limit)) (omega (arith, passes.over, limit)) passes.good passes.text))
+      (omega (arith, passes.within, limit)) (omega (arith, passes.over, limit)) passes.good passes.text in
+      (ended-as _ _ _ _ _ stops.0 (λ result is. inr (inl is)), stops.1)
 
   pub stops-at_end : (stop : Stop) → RunFails (engine_filter engine) mid past stop
-      → EndsRunBy mid reader.held outcome stop → HasEndedBy task reader past (Some outcome)
+      → EndsRunBy mid held outcome stop → IsOverAtEnd task held past outcome
   stops-at_end (Fault at) fails put =
-      fails-over task reader mid outcome past at (rw limit at fails.1) put
+      fails-over task held mid outcome past at (rw limit at fails.1) put
       (rw (filter-is task engine is) at fails.0)
   stops-at_end Limit fails stopped =
-      let passes = rw (filter-is task engine is) at fails in grind (arith, common_steps, is-over_limit)
+      let passes = rw (filter-is task engine is) at fails in
+      let stops = is-over_limit task held mid outcome past stopped past.fed passes.lines passes.others passes.first
+      (rw limit at passes.limited) (omega (arith, passes.within, limit)) (omega (arith, passes.over, limit))
+      passes.good passes.text in (ended-as _ _ _ _ _ stops.0 (λ result is. inr (inl is)), stops.1)
 
 -- ---- the limit of the input
 
-pub passed-over : (task : Task) (before reader : Reader) (outcome : Outcome) (past : HandlePast)
+pub passed-over : (task : Task) (before : Reader) (held : HandleState) (outcome : Outcome) (past : HandlePast)
     → ReaderRuns task before past → length past.fed ≡ INPUT_LIMIT
-    → IsPut before.held reader.held (record { line = before.held.number + 1; fault = InputTooLong }) outcome
-    → RunIsTooLong task reader outcome past
-passed-over task before reader outcome past runs full put =
+    → IsPut before.held held (record { line = before.held.number + 1; fault = InputTooLong }) outcome
+    → EndsWithin task (StopsWhenFull (run_for task) past.fed) held past outcome
+passed-over task before held outcome past runs full put =
     let going = rw (filter-is task before.engine runs.is_of) at runs.going in
-    record {
-      full = full;
-      status = put.status;
-      good = going.good;
-      output = rw put.output going.text.wrote;
-      said = elim (rw going.number at put.said) [
-        | inl down ↦ inl (down.0, rw (going.text.reported, down.1) (append_assoc past.messages _ _))
-        | inr silently ↦ inr (silently.0, rw silently.1 going.text.reported)
-      ];
-      within = grind (arith, common_steps, going.left, runs.limit, going.text.wrote, put.output);
-    }
+    let lines : List InputLine = ended_lines_of past.fed in
+    let course : Course = (filter_for task).so_far lines in
+    let few : KeepsToLimit (limit_for task) (past.output ++ waiting before.held.output) =
+    λ limited. grind (arith, common_steps, going.left, runs.limit, going.text.wrote) in (
+      put-ends task held before.held outcome past _ few put _ (result_of_course (record {
+        output = course.output;
+        warnings = course.warnings;
+        fault = Some (record { line = before.held.number + 1; fault = InputTooLong });
+      })) (record {
+        full = full;
+        good = going.good;
+        result_is = rw going.number refl;
+      }) refl refl going.text.wrote (rw going.text.reported refl),
+      kept task held before.held outcome past _ few put,
+    )
 
 -- ---- the end
 
-module _ (engine : AnyEngine) (reader : Reader) (outcome : Outcome) (past : HandlePast)
+module _ (engine : AnyEngine) (held : HandleState) (outcome : Outcome) (past : HandlePast)
     (none : outcome.fault ≡ None) where
   pub all-over : (task : Task) (then : AnyEngine) → IsOf task engine → IsOf task then
-      → reader.held.limit ≡ limit_for task → outcome.status ≡ status_at_end then reader.held.warned
-      → IsAll ((engine_filter engine).whole (lines_of past.fed)) reader.held past
+      → held.limit ≡ limit_for task → outcome.status ≡ status_at_end then held.warned
+      → IsAll ((engine_filter engine).whole (lines_of past.fed)) held past
       → has_ended_of then (lines_of past.fed)
-      → ReaderIsOver (limit_for task) (result_for task past.fed) reader outcome past
-  all-over = grind (arith, common_steps, filter-is, append-nil)
+      → IsOverAtEnd task held past outcome
+  all-over task then is of_then limit status all has = (
+    record {
+      result = result_for task past.fed;
+      is = inl refl;
+      ends = inl (grind (arith, common_steps, filter-is, append-nil));
+    },
+    grind (arith, all.within),
+  )

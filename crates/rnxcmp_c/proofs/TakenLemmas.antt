@@ -1,10 +1,10 @@
 -- What was taken from a handle was kept before, and its run's state doesn't change by that.
 use Rattle.std.proofs.{lemmas.Grind.common_steps, Common.arith}
 use Rattle.rnxcmp_c.proofs.Words.{◌≡◌, ⊎_elim, inl, inr, ℕ, List, ◌++◌, Option, Some, None, sym, ◌∙◌}
-use Rattle.rnxcmp_c.proofs.Words.{append_assoc, Outcome, Course, IsLineReached, StandsBy}
-use Rattle.rnxcmp_c.proofs.Words.{texts_of_held, HandlePast, Task, taken_with}
-use Rattle.rnxcmp_c.proofs.Words.{texts_made, line_in, waiting, Pending, Reader}
-use Rattle.rnxcmp_c.specs.{Handles.RanOutBy, Past.IsMadeByLines}
+use Rattle.rnxcmp_c.proofs.Words.{append_assoc, ap, error_text, FilterResult, KeepsToLimit, Outcome, StandsBy, limit_for, subst}
+use Rattle.rnxcmp_c.proofs.Words.{HandlePast, Task, taken_with}
+use Rattle.rnxcmp_c.proofs.Words.{waiting, Pending, Reader, ReaderRuns}
+use Rattle.rnxcmp_c.specs.Handles.{EndsAs, IsOver}
 
 module _ (task : Task) (old : Reader) (past : HandlePast) (output messages : Pending) (text told : List ℕ)
     (wrote : waiting old.held.output ≡ text ++ waiting output)
@@ -23,19 +23,31 @@ module _ (task : Task) (old : Reader) (past : HandlePast) (output messages : Pen
   same-messages : past.messages ++ waiting old.held.messages ≡ then.messages ++ waiting messages
   same-messages = rw reported (sym (append_assoc past.messages told (waiting messages)))
 
-  same-made : (course : Course) (after : List ℕ)
-      → IsMadeByLines course after (texts_made past (texts_of_held old.held))
-      → IsMadeByLines course after (texts_made then (texts_of_held new.held))
-  same-made course after made = grind (arith, common_steps, same-output, same-messages)
-
-  ran-out : (outcome : Outcome)
-      → RanOutBy task (IsLineReached past.fed) past.fed old (line_in outcome.fault) past
-      → RanOutBy task (IsLineReached past.fed) past.fed new (line_in outcome.fault) then
-  ran-out outcome by = record {
-    at = by.at;
-    made = grind (arith, common_steps, same-made);
-    lacking = grind (arith, by.lacking);
+  still-ended : (P Q : FilterResult → Type 0) (outcome : Outcome)
+      → EndsAs P old.held past outcome → ((result : FilterResult) → P result → Q result)
+      → EndsAs Q new.held then outcome
+  still-ended P Q outcome ended weaker = record {
+    result = ended.result;
+    is = weaker _ ended.is;
+    ends = ⊎_elim (λ whole. inl (record {
+      answered = grind (arith, whole.answered);
+      output = whole.output ∙ same-output;
+      messages = whole.messages ∙ same-messages;
+    })) (λ lacks. inr (record {
+      at = lacks.at;
+      faulty = lacks.faulty;
+      answered = grind (arith, lacks.answered);
+      output = lacks.output ∙ same-output;
+      messages = lacks.messages ∙ ap (λ t. t ++ error_text (Some lacks.at)) same-messages;
+    })) ended.ends;
   }
+
+  still-over : (result : FilterResult) → IsOver task past.fed old.held result → IsOver task past.fed new.held result
+  still-over result (inl whole) = inl whole
+  still-over result (inr (inl (inl limit))) = inr (inl (inl limit))
+  still-over result (inr (inl (inr ran))) =
+      inr (inl (inr (record { stops = ran.stops; lacking = grind (arith, ran.lacking) })))
+  still-over result (inr (inr full)) = inr (inr full)
 
   pub taken-stands : (outcome : Option Outcome) → StandsBy task old past outcome
       → StandsBy task new then outcome
@@ -64,5 +76,10 @@ module _ (task : Task) (old : Reader) (past : HandlePast) (output messages : Pen
     counted = runs.counted;
     within = runs.within;
   }
-  taken-stands (Some outcome) (inl ran) = grind (arith, common_steps, ⊎_elim, ran-out, same-output)
-  taken-stands (Some outcome) (inr over) = grind (arith, common_steps, same-output, same-messages)
+  taken-stands (Some outcome) (ended, few) = (
+    still-ended (IsOver task past.fed old.held) (IsOver task past.fed new.held) outcome ended still-over,
+    subst (λ (t : List ℕ). KeepsToLimit (limit_for task) t) same-output few,
+  )
+
+  try-runs : ReaderRuns task old past → ReaderRuns task new then
+  try-runs runs = grind (arith, common_steps, runs.going, same-output, same-messages)

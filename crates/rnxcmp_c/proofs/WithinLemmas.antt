@@ -4,8 +4,8 @@ use Rattle.rnxcmp_c.proofs.Words.{◌≡◌, ℕ, ◌+◌, ◌<◌, List, [], �
 use Rattle.rnxcmp_c.proofs.Words.{length-append, ◌⊎◌, inl, inr, ⊎_elim, append-nil, Bool, ◌||◌, Option, IfErr}
 use Rattle.rnxcmp_c.proofs.Words.{IfOk, At, OutOfMemory, Halt, Unwritten, Unreported, Begins, Course, IsKept}
 use Rattle.rnxcmp_c.proofs.Words.{MovesWithin, PassesLimit, StepStops, StopsBy, StopsShort, StopsCounted}
-use Rattle.rnxcmp_c.proofs.Words.{waiting, Held, Stop, Fault, Limit, take_at}
-use Rattle.rnxcmp_c.specs.{Going.LosesText, declared.held.Mark.Mark}
+use Rattle.rnxcmp_c.proofs.Words.{waiting, HandleState, Stop, Fault, Limit, take_at}
+use Rattle.rnxcmp_c.specs.{Going.LosesText, declared.handle_state.Mark.Mark}
 use Rattle.rnxcmp_c.specs.Holding.{AreCutTo, IsCounted, IsCutBack, StaysWithin, IsMark, IsMarkWithin}
 use Rattle.crx_runs.specs.declared.one_line.Halt.TheVariants.{Fault as Faulty}
 
@@ -15,26 +15,26 @@ cut-to : (old mid new more : List ℕ) (mark : ℕ) → mid ≡ old ++ more → 
 cut-to old mid new more mark grew marked cut = cut ∙ ap (take mark) grew ∙ take_at old more mark (sym marked)
 
 -- what of both texts was kept of a line, or of the end, that was taken or ended the run
-pub record HasPart (before after : Course) (old mid : Held) : Type 0 where
+pub record HasPart (before after : Course) (old mid : HandleState) : Type 0 where
   pub text : List ℕ
   pub told : List ℕ
   pub wrote : waiting mid.output ≡ waiting old.output ++ text
   pub first : (text ≡ []) ⊎ Begins after.output (before.output ++ text)
   pub reported : waiting mid.messages ≡ waiting old.messages ++ told
 
-module _ (before after : Course) (shown : Type 0) (old mid : Held) (warned : Bool)
+module _ (before after : Course) (shown : Type 0) (old mid : HandleState) (warned : Bool)
     (kept : IsKept before after shown old.output mid.output old.messages mid.messages warned) where
   kept-part : HasPart before after old mid
   kept-part = search (rules, append-nil)
 
-  stays-within : (new : Held) (mark : Mark) → IsMark mark old → mid.limit ≡ old.limit
+  stays-within : (new : HandleState) (mark : Mark) → IsMark mark old → mid.limit ≡ old.limit
       → mid.left ≡ old.left → mid.warned ≡ old.warned
       → new ≡ record mid { left = new.left; warned = mid.warned || warned }
       → (0 < mid.limit → new.left + length (waiting mid.output) ≡ mid.left + mark.output)
       → MovesWithin before after shown old new
   stays-within new mark marked limit left flag same counted = grind (arith, common_steps, length-append)
 
-module _ (number : ℕ) (memory : Option (List At)) (before after : Course) (old mid : Held) where
+module _ (number : ℕ) (memory : Option (List At)) (before after : Course) (old mid : HandleState) where
   same-output : waiting mid.output ≡ waiting old.output → waiting mid.output ≡ waiting old.output ++ []
   same-output same = same ∙ sym (append-nil _)
 
@@ -45,7 +45,7 @@ module _ (number : ℕ) (memory : Option (List At)) (before after : Course) (old
   part-of Unwritten loses = grind arith
   part-of Unreported loses = grind arith
 
-  lost-stops : (new counted : Held) (mark : Mark) → IsMark mark old → counted ≡ record mid
+  lost-stops : (new counted : HandleState) (mark : Mark) → IsMark mark old → counted ≡ record mid
       { left = counted.left }
       → AreCutTo mark counted new → LosesText before after old.output mid.output old.messages mid.messages
       → StopsShort memory before after old new
@@ -58,11 +58,11 @@ module _ (number : ℕ) (memory : Option (List At)) (before after : Course) (old
     lacking = grind (arith, common_steps);
   }
 
-  module _ (new : Held) (mark : Mark) (marked : IsMark mark old) (limit : mid.limit ≡ old.limit)
+  module _ (new : HandleState) (mark : Mark) (marked : IsMark mark old) (limit : mid.limit ≡ old.limit)
       (left : mid.left ≡ old.left) where
     stops-lost : (at : At) → at ≡ record { line = number; fault = OutOfMemory }
         → LosesText before after old.output mid.output old.messages mid.messages
-        → (counted : Held) → StaysWithin mark.output mid counted → AreCutTo mark counted new
+        → (counted : HandleState) → StaysWithin mark.output mid counted → AreCutTo mark counted new
         → StepStops number memory before after old new (Fault at)
     stops-lost at is loses counted stays cut = grind (arith, common_steps, lost-stops)
 
@@ -71,7 +71,7 @@ module _ (number : ℕ) (memory : Option (List At)) (before after : Course) (old
 
 -- whatever a step came to, its output was counted after a mark
 module _ (number : ℕ) (memory : Option (List At)) (before after : Course) (shown : Type 0)
-    (old mid : Held) where
+    (old mid : HandleState) where
   abbrev pub Kept : Result Bool Halt → Type 0
   Kept taken = IfOk taken
       (λ warned. IsKept before after shown old.output mid.output old.messages mid.messages warned)
@@ -88,7 +88,7 @@ module _ (number : ℕ) (memory : Option (List At)) (before after : Course) (sho
       → IsMarkWithin mark mid
   marks-within mark marked taken kept stopped = grind (arith, common_steps, part-either)
 
-  module _ (new : Held) (mark : Mark) (marked : IsMark mark old) (limit : mid.limit ≡ old.limit)
+  module _ (new : HandleState) (mark : Mark) (marked : IsMark mark old) (limit : mid.limit ≡ old.limit)
       (left : mid.left ≡ old.left) where
     pub step-stays : mid.warned ≡ old.warned → (taken : Result Bool Halt) → Kept taken
         → IsCounted taken mark mid new → MovesWithin before after shown old new

@@ -29,15 +29,14 @@ pub use Rattle.crx_runs.specs.declared.one_line.Halt.TheVariants.{Unwritten, Unr
 pub use Rattle.crx_runs.specs.meaning.Filters.{Filter, with_next}
 pub use Rattle.crx_runs.specs.meaning.Messages.{notices_text, error_text}
 pub use Rattle.crx_runs.specs.meaning.Results.{Begins, Course, FilterResult, are_some, result_of_course}
-pub use Rattle.crx_runs.specs.meaning.Runs.{FaultIs}
 pub use Rattle.crx_runs.specs.meaning.Spans.{AreNext, Device}
 pub use Rattle.rnxcmp_c.specs.Going.{IsKept, StopsBy, IsText, IsGoing, MovesOn, EndsThere, piece_line, IsAll}
 pub use Rattle.rnxcmp_c.specs.Going.{IsCutBy, StopsShort, MovesWithin, PassesLimit}
 pub use Rattle.rnxcmp_c.specs.Going.{RunBreaks, RunFails, StepStops, line_reached, IsLineEnded}
 pub use Rattle.rnxcmp_c.specs.Handles.{FeedsBy, FeedsBytes, HasFed, ReaderRuns, StandsBy, answer_now}
-pub use Rattle.rnxcmp_c.specs.Handles.{HasEndedBy, HasFedBy, HasPassedBy, ReaderIsOver, ReaderStands}
-pub use Rattle.rnxcmp_c.specs.Handles.{RunIsOverLimit, ReaderHasEnded, RunIsOutOfMemory, IsLastLine}
-pub use Rattle.rnxcmp_c.specs.Handles.{IsLineReached, RunIsTooLong, engine_filter}
+pub use Rattle.rnxcmp_c.specs.Handles.{HasEndedBy, HasFedBy, HasPassedBy, ReaderStands}
+pub use Rattle.rnxcmp_c.specs.Handles.{ReaderHasEnded, IsLastLine}
+pub use Rattle.rnxcmp_c.specs.Handles.{IsLineReached, engine_filter}
 pub use Rattle.rnxcmp_c.specs.Handles.{has_ended_of}
 pub use Rattle.rnxcmp_c.specs.Holding.{IsMemoryLacking, ready_in, texts_of_held, StopsCounted}
 pub use Rattle.rnxcmp_c.specs.Opened.{Holds}
@@ -50,7 +49,7 @@ pub use Rattle.rnxcmp_c.specs.declared.answer.TheConstants.{OUTPUT_LIMIT, MISUSE
 pub use Rattle.rnxcmp_c.specs.declared.engines.AnyEngine.{AnyEngine}
 pub use Rattle.rnxcmp_c.specs.declared.engines.AnyEngine.TheVariants.{Compacting, Expanding, Checking}
 pub use Rattle.rnxcmp_c.specs.declared.handle.Handle.{Handle}
-pub use Rattle.rnxcmp_c.specs.declared.held.Held.{Held}
+pub use Rattle.rnxcmp_c.specs.declared.handle_state.HandleState.{HandleState}
 pub use Rattle.rnxcmp_c.specs.declared.limits.TheConstants.{LINE_ROOM, READY_LIMIT}
 pub use Rattle.rnxcmp_c.specs.declared.pending.Pending.{Pending}
 pub use Rattle.rnxcmp_c.specs.declared.reader.Reader.{Reader}

@@ -18,7 +18,7 @@ use Rattle.crx_runs.specs.declared.one_line.Halt.{Halt}
 use Rattle.crx_runs.specs.declared.one_line.Halt.TheVariants.{Fault as Faulty, Unwritten, Unreported}
 use Rattle.rnxcmp_c.specs.Waiting.{waiting}
 use Rattle.rnxcmp_c.specs.declared.pending.Pending.{Pending}
-use Rattle.rnxcmp_c.specs.declared.held.Held.{Held}
+use Rattle.rnxcmp_c.specs.declared.handle_state.HandleState.{HandleState}
 use Rattle.rnxcmp_c.specs.declared.limits.TheConstants.{LINE_ROOM, READY_LIMIT}
 use Rattle.rnxcmp_c.specs.Holding.{AreUnfailed, IsMemoryLacking, texts_of_held, ready_in}
 use Rattle.rnxcmp_c.specs.meaning.Answers.{KeepsToLimit}
@@ -32,7 +32,7 @@ abbrev pub piece_line : List ℕ → Bool → InputLine
 piece_line bytes is_ended = line_of (record { bytes = bytes; is_ended = is_ended })
 
 -- the same run goes on: its filter is the same, and so is the limit of its output
-abbrev pub IsSameRun : Filter → Filter → Held → Held → Type 0
+abbrev pub IsSameRun : Filter → Filter → HandleState → HandleState → Type 0
 IsSameRun filter then old new = (then ≡ filter) × (new.limit ≡ old.limit)
 
 -- ---- one line, or the end
@@ -53,7 +53,7 @@ pub record IsKept (before after : Course)
   pub flag : warned ≡ are_some notices
 
 -- the same of what is held between two calls
-pub record MovesOn (before after : Course) (shown : Type 0) (old new : Held) : Type 0 where
+pub record MovesOn (before after : Course) (shown : Type 0) (old new : HandleState) : Type 0 where
   pub warned : Bool
   pub kept : IsKept before after shown old.output new.output old.messages new.messages warned
   pub flag : new.warned ≡ (old.warned || warned)
@@ -121,7 +121,7 @@ StopsBy number memory before after output then_output messages then_messages Unr
 
 -- memory ran out at a line, or at the end: for itself, once these of its warnings were reported, or for one
 -- of both texts, which are as before then
-pub record StopsShort (memory : Option (List At)) (before after : Course) (old new : Held) : Type 0 where
+pub record StopsShort (memory : Option (List At)) (before after : Course) (old new : HandleState) : Type 0 where
   pub notices : List At
   pub asked : AsksMemory memory before after notices
   pub own : (notices ≡ []) ⊎ AreNext before after notices
@@ -133,13 +133,13 @@ pub record StopsShort (memory : Option (List At)) (before after : Course) (old n
 -- ---- the limit of the output
 
 -- a line was taken, or the end, and the output stays within its limit
-pub record MovesWithin (before after : Course) (shown : Type 0) (old new : Held) : Type 0 where
+pub record MovesWithin (before after : Course) (shown : Type 0) (old new : HandleState) : Type 0 where
   pub moved : MovesOn before after shown old new
   pub limit : new.limit ≡ old.limit
   pub left : 0 < old.limit → new.left + length after.output ≡ old.left + length before.output
 
 -- the output would be longer than it may be: of the line, or of the end, nothing was kept
-pub record PassesLimit (before after : Course) (old new : Held) : Type 0 where
+pub record PassesLimit (before after : Course) (old new : HandleState) : Type 0 where
   pub limited : 0 < old.limit
   pub limit : new.limit ≡ old.limit
   pub over : old.left + length before.output < length after.output
@@ -147,12 +147,12 @@ pub record PassesLimit (before after : Course) (old new : Held) : Type 0 where
   pub messages_are : waiting new.messages ≡ waiting old.messages
 
 -- what was kept of a line, or of the end, stays within what the output may still have
-pub record AddsWithin (old new : Held) : Type 0 where
+pub record AddsWithin (old new : HandleState) : Type 0 where
   pub limit : new.limit ≡ old.limit
   pub left : 0 < old.limit → length (waiting new.output) ≤ old.left + length (waiting old.output)
 
 -- what ended the run: a fault, or memory that ran out, and the output stays within its limit; or that limit
-abbrev pub StepStops : ℕ → Option (List At) → Course → Course → Held → Held → Stop → Type 0
+abbrev pub StepStops : ℕ → Option (List At) → Course → Course → HandleState → HandleState → Stop → Type 0
 StepStops number memory before after old new (Fault at) =
     ((RanOutAt number at × StopsShort memory before after old new)
     ⊎ EndsThere before after old.output new.output old.messages new.messages at)
@@ -162,7 +162,7 @@ StepStops number memory before after old new Limit = PassesLimit before after ol
 -- ---- a run
 
 -- of so many bytes some were taken: at least one where little enough waited, and not all only where much waits now
-pub record IsTaken (old new : Held) (length count : ℕ) : Type 0 where
+pub record IsTaken (old new : HandleState) (length count : ℕ) : Type 0 where
   pub within : count ≤ length
   pub some : 0 < length → ready_in old < READY_LIMIT → 0 < count
   pub all : count < length → READY_LIMIT ≤ ready_in new
@@ -181,7 +181,7 @@ LineIsGiven given filter shows lines line output then_output messages then_messa
 
 -- a line was taken so that the output stays within its limit, or it ended the run
 abbrev pub LineStaysWithin : Result Unit Stop → Filter → (List InputLine → List Awaited → Type 0) → List InputLine
-    → InputLine → Held → Held → Type 0
+    → InputLine → HandleState → HandleState → Type 0
 LineStaysWithin taken filter shows lines line old new =
     OnOk taken (MovesWithin (filter.so_far lines) (filter.so_far (with_next lines line))
     (shows (with_next lines line) []) old new)
@@ -189,20 +189,20 @@ LineStaysWithin taken filter shows lines line old new =
     (filter.so_far (with_next lines line)) old new stop)
 
 -- the end of the input was taken so, after some lines, or it ended the run
-abbrev pub EndStaysWithin : Result Unit Stop → Filter → Type 0 → List InputLine → Held → Held → Type 0
+abbrev pub EndStaysWithin : Result Unit Stop → Filter → Type 0 → List InputLine → HandleState → HandleState → Type 0
 EndStaysWithin taken filter has_ended lines old new =
     OnOk taken (MovesWithin (filter.so_far lines) (filter.whole lines) has_ended old new)
     × IfErr taken (λ stop. StepStops old.number None (filter.so_far lines) (filter.whole lines) old new stop)
 
 -- a text was written and reported: what was taken of it, and then what is kept
-pub record IsText (course : Course) (held : Held) (past : HandlePast) : Type 0 where
+pub record IsText (course : Course) (held : HandleState) (past : HandlePast) : Type 0 where
   pub wrote : course.output ≡ past.output ++ waiting held.output
   pub reported : notices_text course.warnings ≡ past.messages ++ waiting held.messages
 
 -- the lines whose LF was fed were taken, and no fault ended the run; what they make was taken by the caller or is kept;
 -- and so are the bytes after them, as far as a line may be long
 pub record IsGoing (filter : Filter)
-    (shows : List InputLine → List Awaited → Type 0) (held : Held) (past : HandlePast) : Type 0 where
+    (shows : List InputLine → List Awaited → Type 0) (held : HandleState) (past : HandlePast) : Type 0 where
   pub shown : shows (ended_lines_of past.fed) []
   pub good : (filter.so_far (ended_lines_of past.fed)).fault ≡ None
   pub text : IsText (filter.so_far (ended_lines_of past.fed)) held past
@@ -219,7 +219,7 @@ pub record IsGoing (filter : Filter)
   pub unfailed : AreUnfailed held
 
 -- a fault of some of the first lines ended the run, whatever follows
-pub record IsBroken (filter : Filter) (held : Held) (past : HandlePast) (at : At) : Type 0 where
+pub record IsBroken (filter : Filter) (held : HandleState) (past : HandlePast) (at : At) : Type 0 where
   pub lines : List InputLine
   pub first : (more : List ℕ) → (rest : List InputLine) × (lines_of (past.fed ++ more) ≡ lines ++ rest)
   pub fault : (filter.so_far lines).fault ≡ Some at
@@ -227,7 +227,7 @@ pub record IsBroken (filter : Filter) (held : Held) (past : HandlePast) (at : At
 
 -- memory ran out between what is made before a line, or the end, and with it: what was taken of both texts
 -- and then what is kept is what is made before, with these warnings more
-pub record IsCutBy (before after : Course) (memory : Option (List At)) (held : Held)
+pub record IsCutBy (before after : Course) (memory : Option (List At)) (held : HandleState)
     (past : HandlePast) : Type 0 where
   pub notices : List At
   pub asked : AsksMemory memory before after notices
@@ -240,7 +240,7 @@ IsLineEnded before fed line = (length (ended_lines_of before) < line) × (line �
 
 -- memory ran out in a line whose LF came after some bytes, the one that comes after these lines, whatever
 -- follows
-pub record RunsShort (before : List ℕ) (filter : Filter) (held : Held) (past : HandlePast)
+pub record RunsShort (before : List ℕ) (filter : Filter) (held : HandleState) (past : HandlePast)
     (at : At) : Type 0 where
   pub fault : at.fault ≡ OutOfMemory
   pub there : IsLineEnded before past.fed at.line
@@ -253,12 +253,12 @@ pub record RunsShort (before : List ℕ) (filter : Filter) (held : Held) (past :
   pub lacking : IsMemoryLacking (is_some (filter.memory_after lines line)) held
 
 -- memory ran out, or a fault ended the run
-abbrev pub Breaks : List ℕ → Filter → Held → HandlePast → At → Type 0
+abbrev pub Breaks : List ℕ → Filter → HandleState → HandlePast → At → Type 0
 Breaks before filter held past at = RunsShort before filter held past at ⊎ IsBroken filter held past at
 
 -- the output of some of the first lines is within its limit, and with one line more it isn't, whatever follows; what was
 -- taken and then what is kept is what those first ones make
-pub record IsPastLimit (filter : Filter) (held : Held) (past : HandlePast) : Type 0 where
+pub record IsPastLimit (filter : Filter) (held : HandleState) (past : HandlePast) : Type 0 where
   pub lines : List InputLine
   pub line : InputLine
   pub first : (more : List ℕ) → (rest : List InputLine) × (lines_of (past.fed ++ more) ≡ lines ++ line ∷ rest)
@@ -269,16 +269,16 @@ pub record IsPastLimit (filter : Filter) (held : Held) (past : HandlePast) : Typ
   pub text : IsText (filter.so_far lines) held past
 
 -- what was taken of the output and then what is kept is within its limit
-abbrev pub IsKeptWithin : Held → HandlePast → Type 0
+abbrev pub IsKeptWithin : HandleState → HandlePast → Type 0
 IsKeptWithin held past = KeepsToLimit held.limit (past.output ++ waiting held.output)
 
 -- what ended the run: memory or a fault, and the output is within its limit; or that limit
-abbrev pub RunBreaks : List ℕ → Filter → Held → HandlePast → Stop → Type 0
+abbrev pub RunBreaks : List ℕ → Filter → HandleState → HandlePast → Stop → Type 0
 RunBreaks before filter held past (Fault at) = Breaks before filter held past at × IsKeptWithin held past
 RunBreaks before filter held past Limit = IsPastLimit filter held past
 
 -- of some bytes so many were taken, and the run goes on; or they ended it
-abbrev pub GoesOnOrBreaks : Result ℕ Stop → Filter → (List InputLine → List Awaited → Type 0) → Held → HandlePast
+abbrev pub GoesOnOrBreaks : Result ℕ Stop → Filter → (List InputLine → List Awaited → Type 0) → HandleState → HandlePast
     → List ℕ → Type 0
 GoesOnOrBreaks taken filter shows held past bytes =
     IfOk taken (λ n. IsGoing filter shows held (fed_with past (take n bytes)))
@@ -296,23 +296,23 @@ module _ {E : Type 0} (e : Ghosts E) where
   HasShown engine = CanTake engine × ((lines : List InputLine) × e.shows engine lines [])
 
   -- a step keeps its run, and where the run isn't over, it takes what comes next
-  abbrev pub KeepsItsRun : {A : Type 0} → E → E → Held → Held → Result A Stop → Type 0
+  abbrev pub KeepsItsRun : {A : Type 0} → E → E → HandleState → HandleState → Result A Stop → Type 0
   KeepsItsRun before after old new taken =
       IsSameRun (e.filter before) (e.filter after) old new × OnOk taken (CanTake after)
 
   -- its run goes on, and an input may have so many bytes more
-  abbrev pub CanBeFed : E → Held → ℕ → Type 0
+  abbrev pub CanBeFed : E → HandleState → ℕ → Type 0
   CanBeFed engine held count = CanTake engine × ((past : HandlePast)
       × IsGoing (e.filter engine) (e.shows engine) held past × (length past.fed + count ≤ INPUT_LIMIT))
 
   -- what is kept of a line was taken as a line, which comes after some lines
-  abbrev pub LineIsTaken : E → E → Held → Held → Bool → Result Unit Stop → Type 0
+  abbrev pub LineIsTaken : E → E → HandleState → HandleState → Bool → Result Unit Stop → Type 0
   LineIsTaken before after old new is_ended taken = (lines : List InputLine) (whole : List ℕ)
       → e.shows before lines [] → old.tail.bytes.items ≡ take LINE_ROOM whole
       → LineStaysWithin taken (e.filter before) (e.shows after) lines (piece_line whole is_ended) old new
 
   -- its run goes on with the first of these bytes, or they ended it
-  abbrev pub WasFed : E → E → Held → Held → List ℕ → Result ℕ Stop → Type 0
+  abbrev pub WasFed : E → E → HandleState → HandleState → List ℕ → Result ℕ Stop → Type 0
   WasFed before after old new bytes taken = (past : HandlePast)
       → IsGoing (e.filter before) (e.shows before) old past
       → GoesOnOrBreaks taken (e.filter before) (e.shows after) new past bytes
@@ -320,14 +320,14 @@ module _ {E : Type 0} (e : Ghosts E) where
 -- ---- the end
 
 -- the whole input was taken, and no fault ended the run
-pub record IsAll (course : Course) (held : Held) (past : HandlePast) : Type 0 where
+pub record IsAll (course : Course) (held : HandleState) (past : HandlePast) : Type 0 where
   pub good : course.fault ≡ None
   pub text : IsText course held past
   pub flag : held.warned ≡ are_some course.warnings
   pub within : IsKeptWithin held past
 
 -- a fault ended the run
-pub record IsFailed (course : Course) (held : Held) (past : HandlePast) (at : At) : Type 0 where
+pub record IsFailed (course : Course) (held : HandleState) (past : HandlePast) (at : At) : Type 0 where
   pub fault : course.fault ≡ Some at
   pub text : IsText course held past
 
@@ -337,7 +337,7 @@ line_reached lines [] = length lines
 line_reached lines (line ∷ more) = length lines + 1
 
 -- memory ran out at the last line, or at the end after it
-pub record EndsShort (filter : Filter) (held : Held) (past : HandlePast) (at : At) : Type 0 where
+pub record EndsShort (filter : Filter) (held : HandleState) (past : HandlePast) (at : At) : Type 0 where
   pub ran_out : RanOutAt (length (lines_of past.fed)) at
   pub lines : List InputLine
   pub others : List InputLine
@@ -348,7 +348,7 @@ pub record EndsShort (filter : Filter) (held : Held) (past : HandlePast) (at : A
   pub lacking : IsMemoryLacking (is_some (memory_next filter lines others)) held
 
 -- the output of some of the first lines is within its limit, and with one line more, or the end, it isn't
-pub record EndsPastLimit (filter : Filter) (held : Held) (past : HandlePast) : Type 0 where
+pub record EndsPastLimit (filter : Filter) (held : HandleState) (past : HandlePast) : Type 0 where
   pub lines : List InputLine
   pub others : List InputLine
   pub first : lines_of past.fed ≡ lines ++ others
@@ -359,17 +359,17 @@ pub record EndsPastLimit (filter : Filter) (held : Held) (past : HandlePast) : T
   pub text : IsText (filter.so_far lines) held past
 
 -- memory ran out, or a fault ended the run
-abbrev pub LineFails : Filter → Held → HandlePast → At → Type 0
+abbrev pub LineFails : Filter → HandleState → HandlePast → At → Type 0
 LineFails filter held past at = EndsShort filter held past at
     ⊎ IsFailed (filter.whole (lines_of past.fed)) held past at
 
 -- what ended the run: memory or a fault, and the output is within its limit; or that limit
-abbrev pub RunFails : Filter → Held → HandlePast → Stop → Type 0
+abbrev pub RunFails : Filter → HandleState → HandlePast → Stop → Type 0
 RunFails filter held past (Fault at) = LineFails filter held past at × IsKeptWithin held past
 RunFails filter held past Limit = EndsPastLimit filter held past
 
 -- the last line was taken, and then the end; or one of them ended the run
-abbrev pub LastIsTaken : Result Unit Stop → Filter → Type 0 → Held → HandlePast → Type 0
+abbrev pub LastIsTaken : Result Unit Stop → Filter → Type 0 → HandleState → HandlePast → Type 0
 LastIsTaken taken filter has_ended held past =
     OnOk taken (has_ended × IsAll (filter.whole (lines_of past.fed)) held past)
     × IfErr taken (RunFails filter held past)

@@ -2,13 +2,12 @@
 use Rattle.std.specs.Prelude.{is_some, true, ◌≡◌, ◌⊎◌, ◌<◌, ◌≤◌, ⊤, ℕ, ◌+◌, Bool, List, [], ◌++◌, length}
 use Rattle.std.specs.Prelude.{take, Option, Some, None}
 use Rattle.crx_base.specs.meaning.Lines.{InputLine, lines_of}
-use Rattle.crx_base.specs.meaning.AsRead.{ended_lines_of}
 use Rattle.crx_base.specs.declared.limits.TheConstants.{INPUT_LIMIT}
 use Rattle.crx_base.specs.declared.fault.At.{At}
-use Rattle.crx_base.specs.declared.fault.Fault.TheVariants.{InputTooLong, OutOfMemory}
+use Rattle.crx_base.specs.declared.fault.Fault.TheVariants.{OutOfMemory}
 use Rattle.crx_runs.specs.meaning.Filters.{Filter}
 use Rattle.crx_runs.specs.meaning.Results.{FilterResult, good_status}
-use Rattle.crx_runs.specs.meaning.Messages.{error_text, notices_text}
+use Rattle.crx_runs.specs.meaning.Messages.{error_text}
 use Rattle.crx_filter.specs.meaning.Standard.{report_status}
 use Rattle.crx_filter.specs.meaning.Directions.{check_filter}
 use Rattle.crx_filter.specs.CheckByLine.{check_by_line, check_reading}
@@ -23,18 +22,18 @@ use Rattle.crx_filter.specs.EpochRooms.{HaveEpochsRoom, HaveRoomInColumns, compa
 use Rattle.crx_filter.specs.ExpanderState.{expanding_ready, expanding_state}
 use Rattle.crx_filter.specs.ExpansionByLine.{expansion, expansion_state}
 use Rattle.crx_runs.specs.declared.outcome.Outcome.{Outcome}
-use Rattle.crx_runs.specs.meaning.Runs.{FaultIs}
 use Rattle.rnxcmp_c.specs.Going.{IsGoing, IsLineEnded}
-use Rattle.rnxcmp_c.specs.Past.{HandlePast, HidesFault, IsMadeByLines, IsShortOfMemory, StopsSoon}
+use Rattle.rnxcmp_c.specs.Past.{HandlePast, StopsSoon}
 use Rattle.rnxcmp_c.specs.Past.{allowed_after, fed_with, filter_for, limit_for, memory_next, result_for}
 use Rattle.rnxcmp_c.specs.Past.{texts_made}
-use Rattle.rnxcmp_c.specs.meaning.Handles.{Task, Compact, Expand, Check, handle_answer, with_one_more}
-use Rattle.rnxcmp_c.specs.meaning.Answers.{KeepsToLimit, bare_answer, line_in}
+use Rattle.rnxcmp_c.specs.meaning.Handles.{Task, Compact, Expand, Check, handle_answer, run_for}
+use Rattle.rnxcmp_c.specs.meaning.Handles.{RunHasEnded, StopsAtLimit, StopsForMemory, StopsWhenFull}
+use Rattle.rnxcmp_c.specs.meaning.Answers.{KeepsToLimit, bare_answer}
 use Rattle.rnxcmp_c.specs.declared.answer.Answer.{Answer}
 use Rattle.rnxcmp_c.specs.declared.answer.TheConstants.{MISUSED, OUTPUT_LIMIT}
 use Rattle.rnxcmp_c.specs.declared.engines.AnyEngine.{AnyEngine}
 use Rattle.rnxcmp_c.specs.declared.engines.AnyEngine.TheVariants.{Compacting, Expanding, Checking}
-use Rattle.rnxcmp_c.specs.declared.held.Held.{Held}
+use Rattle.rnxcmp_c.specs.declared.handle_state.HandleState.{HandleState}
 use Rattle.rnxcmp_c.specs.declared.limits.TheConstants.{READY_LIMIT}
 use Rattle.rnxcmp_c.specs.Holding.{IsMemoryLacking, texts_of_held, ready_in}
 use Rattle.rnxcmp_c.specs.Waiting.{IsTextRefused, waiting}
@@ -70,11 +69,11 @@ abbrev pub EngineIsReady : AnyEngine → Type 0
 EngineIsReady engine = ready_of engine ≡ []
 
 -- its run goes on between two calls
-abbrev pub EngineGoesOn : AnyEngine → Held → HandlePast → Type 0
+abbrev pub EngineGoesOn : AnyEngine → HandleState → HandlePast → Type 0
 EngineGoesOn engine held past = IsGoing (engine_filter engine) (shows_of engine) held past
 
 -- and an input may have so many bytes more
-abbrev pub EngineCanBeFed : AnyEngine → Held → ℕ → Type 0
+abbrev pub EngineCanBeFed : AnyEngine → HandleState → ℕ → Type 0
 EngineCanBeFed engine held count = EngineIsReady engine
     × ((past : HandlePast) × EngineGoesOn engine held past × (length past.fed + count ≤ INPUT_LIMIT))
 
@@ -91,7 +90,7 @@ IsOf Check (Checking c) = ⊤
 IsOf task engine = ⊥
 
 -- a step keeps the task of a run, and the limit of its output
-abbrev pub KeepsItsTask : AnyEngine → AnyEngine → Held → Held → Type 0
+abbrev pub KeepsItsTask : AnyEngine → AnyEngine → HandleState → HandleState → Type 0
 KeepsItsTask before after old new = ((task : Task) → IsOf task before → IsOf task after) × (new.limit ≡ old.limit)
 
 -- the status after the end of the input where there is no fault
@@ -111,71 +110,27 @@ pub record ReaderRuns (task : Task) (reader : Reader) (past : HandlePast) : Type
   pub counted : reader.fed ≡ length past.fed
   pub within : reader.fed ≤ INPUT_LIMIT
 
--- a byte more than an input may have came, in the line after those that an LF ended
-abbrev pub too_long_after : List ℕ → At
-too_long_after fed = record { line = length (ended_lines_of fed) + 1; fault = InputTooLong }
+-- a run has ended with one of these results, or with all of it but the message of its fault: the texts of it are
+-- what was taken, and then what is kept
+abbrev pub EndsAs : (FilterResult → Type 0) → HandleState → HandlePast → Outcome → Type 0
+EndsAs is_one held past outcome = RunHasEnded is_one (texts_made past (texts_of_held held))
+    (texts_of_held held) (handle_answer outcome.status outcome.fault (texts_of_held held))
 
--- the run has ended with this result: what was taken of its texts, and then what is kept; the output is within its
--- limit
-pub record ReaderIsOver (limit : ℕ) (result : FilterResult) (reader : Reader) (outcome : Outcome)
-    (past : HandlePast) : Type 0 where
-  pub status : outcome.status ≡ result.status
-  pub fault : outcome.fault ≡ result.fault
-  pub output : result.output ≡ past.output ++ waiting reader.held.output
-  pub messages : result.messages ≡ past.messages ++ waiting reader.held.messages
-  pub within : KeepsToLimit limit (past.output ++ waiting reader.held.output)
+-- and the output is within its limit
+abbrev pub EndsWithin : Task → (FilterResult → Type 0) → HandleState → HandlePast → Outcome → Type 0
+EndsWithin task is_one held past outcome = EndsAs is_one held past outcome
+    × KeepsToLimit (limit_for task) (past.output ++ waiting held.output)
 
--- memory ran out at such a line, or at the end, which takes memory, or a write to one of the texts failed;
--- what was taken of both texts and then what is kept is what is made before it
-pub record RanOutBy (task : Task) (is_line : ℕ → Type 0) (input : List ℕ) (reader : Reader) (line : ℕ)
-    (past : HandlePast) : Type 0 where
-  pub at : is_line line
-  pub made : IsShortOfMemory (filter_for task) input line (texts_made past (texts_of_held reader.held))
-  pub lacking : IsMemoryLacking (is_some (memory_next (filter_for task) made.lines made.others)) reader.held
+-- memory ran out at such a line, or at the end, which takes memory, or a write to one of the texts failed
+pub record RanOut (is_line : ℕ → Type 0) (task : Task) (input : List ℕ) (held : HandleState) (result : FilterResult)
+    : Type 0 where
+  pub stops : StopsForMemory is_line (run_for task) input result
+  pub lacking : IsMemoryLacking (is_some (memory_next (filter_for task) stops.lines stops.others)) held
 
--- memory ran out, which is status 1: at such a line, or for the message of the fault that the result has; the
--- output is within its limit
-pub record RunIsOutOfMemory (task : Task) (is_line : ℕ → Type 0) (input : List ℕ) (reader : Reader)
-    (outcome : Outcome) (past : HandlePast) : Type 0 where
-  pub memory : FaultIs OutOfMemory outcome.fault
-  pub status : outcome.status ≡ 1
-  pub made : RanOutBy task is_line input reader (line_in outcome.fault) past
-      ⊎ HidesFault (result_for task input) (line_in outcome.fault) (texts_made past (texts_of_held reader.held))
-  pub within : KeepsToLimit (limit_for task) (past.output ++ waiting reader.held.output)
-
--- the output would be longer than it may be. What was taken of both texts and then what is kept is what the first lines
--- make, as many as make no more than it may have
-pub record RunIsOverLimit (task : Task) (input : List ℕ) (reader : Reader) (outcome : Outcome)
-    (past : HandlePast) : Type 0 where
-  pub status : outcome.status ≡ OUTPUT_LIMIT
-  pub fault : outcome.fault ≡ None
-  pub limited : 0 < limit_for task
-  pub longer : limit_for task < length (result_for task input).output
-  pub lines : List InputLine
-  pub others : List InputLine
-  pub first : lines_of input ≡ lines ++ others
-  pub within : length ((filter_for task).so_far lines).output ≤ limit_for task
-  pub over : limit_for task < length (with_one_more (filter_for task) lines others).output
-  pub made : IsMadeByLines ((filter_for task).so_far lines) [] (texts_made past (texts_of_held reader.held))
-
--- the message of a fault came after the warnings, and the fault ended the run; or there was no memory for it
-abbrev pub IsSaid : At → List ℕ → List ℕ → Option At → Type 0
-IsSaid at warnings messages fault = ((fault ≡ Some at) × (warnings ++ error_text (Some at) ≡ messages))
-    ⊎ ((fault ≡ Some (record { line = at.line; fault = OutOfMemory })) × (warnings ≡ messages))
-
--- as many bytes were fed as an input may have, and there was one more: a fault after the lines that an LF ended. What was
--- taken of both texts and then what is kept is what these make, and the message of the fault; the output is within its
--- limit
-pub record RunIsTooLong (task : Task) (reader : Reader) (outcome : Outcome) (past : HandlePast) : Type 0 where
-  pub full : length past.fed ≡ INPUT_LIMIT
-  pub status : outcome.status ≡ 1
-  pub good : ((filter_for task).so_far (ended_lines_of past.fed)).fault ≡ None
-  pub output : ((filter_for task).so_far (ended_lines_of past.fed)).output
-      ≡ past.output ++ waiting reader.held.output
-  pub said : IsSaid (too_long_after past.fed)
-      (notices_text ((filter_for task).so_far (ended_lines_of past.fed)).warnings)
-      (past.messages ++ waiting reader.held.messages) outcome.fault
-  pub within : KeepsToLimit (limit_for task) (past.output ++ waiting reader.held.output)
+-- the output would be longer than it may be, or memory ran out
+abbrev pub StopsEarly : (ℕ → Type 0) → Task → List ℕ → HandleState → FilterResult → Type 0
+StopsEarly is_line task input held result =
+    StopsAtLimit (run_for task) input result ⊎ RanOut is_line task input held result
 
 -- the number of the last line of the bytes that were fed
 abbrev pub IsLastLine : List ℕ → ℕ → Type 0
@@ -185,38 +140,41 @@ IsLastLine fed line = line ≡ length (lines_of fed)
 abbrev pub IsLineReached : List ℕ → ℕ → Type 0
 IsLineReached fed line = line ≤ length (lines_of fed)
 
--- where a run is: it goes on; or it has ended, with the result of the bytes that were fed, unless memory ran out, the
--- output would be longer than it may be, or the input was
+-- a run has the result of the bytes that were fed, unless memory ran out, or the output or the input was too long
+abbrev pub IsOver : Task → List ℕ → HandleState → FilterResult → Type 0
+IsOver task fed held result = (result ≡ result_for task fed)
+    ⊎ (StopsEarly (IsLineReached fed) task fed held result ⊎ StopsWhenFull (run_for task) fed result)
+
+-- where it is: it goes on, or it has ended
 abbrev pub StandsBy : Task → Reader → HandlePast → Option Outcome → Type 0
 StandsBy task reader past None = ReaderRuns task reader past
 StandsBy task reader past (Some outcome) =
-    RunIsOutOfMemory task (IsLineReached past.fed) past.fed reader outcome past
-    ⊎ (RunIsOverLimit task past.fed reader outcome past ⊎ (RunIsTooLong task reader outcome past
-    ⊎ ReaderIsOver (limit_for task) (result_for task past.fed) reader outcome past))
+    EndsWithin task (IsOver task past.fed reader.held) reader.held past outcome
 
 abbrev pub ReaderStands : Task → Reader → HandlePast → Type 0
 ReaderStands task reader past = StandsBy task reader past reader.outcome
 
--- where it is after some bytes that came after others: where a fault or the limit of the output has ended it,
--- the result is that of every input that begins with them, and the status of a fault is 1
+-- bytes that came after others have ended it, and so for every input that begins with them; a fault's status is 1
+abbrev pub IsOverByBytes : List ℕ → Task → HandleState → HandlePast → Outcome → Type 0
+IsOverByBytes before task held past outcome = (more : List ℕ) → EndsWithin task
+    (λ result. ((result ≡ result_for task (past.fed ++ more)) × (result.status ≡ 1))
+    ⊎ StopsEarly (IsLineEnded before past.fed) task (past.fed ++ more) held result) held past outcome
+
 abbrev pub HasFedBy : List ℕ → Task → Reader → HandlePast → Option Outcome → Type 0
 HasFedBy before task reader past None = ReaderRuns task reader past
-HasFedBy before task reader past (Some outcome) =
-    ((more : List ℕ) → RunIsOutOfMemory task (IsLineEnded before past.fed) (past.fed ++ more) reader outcome past)
-    ⊎ (((more : List ℕ) → RunIsOverLimit task (past.fed ++ more) reader outcome past)
-    ⊎ ((outcome.status ≡ 1)
-    × ((more : List ℕ) → ReaderIsOver (limit_for task) (result_for task (past.fed ++ more)) reader outcome past)))
+HasFedBy before task reader past (Some outcome) = IsOverByBytes before task reader.held past outcome
 
 abbrev pub HasFed : List ℕ → Task → Reader → HandlePast → Type 0
 HasFed before task reader past = HasFedBy before task reader past reader.outcome
 
--- after its end
+-- its end has ended it
+abbrev pub IsOverAtEnd : Task → HandleState → HandlePast → Outcome → Type 0
+IsOverAtEnd task held past outcome = EndsWithin task (λ result. (result ≡ result_for task past.fed)
+    ⊎ StopsEarly (IsLastLine past.fed) task past.fed held result) held past outcome
+
 abbrev pub HasEndedBy : Task → Reader → HandlePast → Option Outcome → Type 0
 HasEndedBy task reader past None = ⊥
-HasEndedBy task reader past (Some outcome) =
-    RunIsOutOfMemory task (IsLastLine past.fed) past.fed reader outcome past
-    ⊎ (RunIsOverLimit task past.fed reader outcome past
-    ⊎ ReaderIsOver (limit_for task) (result_for task past.fed) reader outcome past)
+HasEndedBy task reader past (Some outcome) = IsOverAtEnd task reader.held past outcome
 
 abbrev pub ReaderHasEnded : Task → Reader → HandlePast → Type 0
 ReaderHasEnded task reader past = HasEndedBy task reader past reader.outcome
@@ -224,14 +182,14 @@ ReaderHasEnded task reader past = HasEndedBy task reader past reader.outcome
 -- after a byte more than an input may have
 abbrev pub HasPassedBy : Task → Reader → HandlePast → Option Outcome → Type 0
 HasPassedBy task reader past None = ⊥
-HasPassedBy task reader past (Some outcome) = RunIsTooLong task reader outcome past
+HasPassedBy task reader past (Some outcome) = EndsWithin task (StopsWhenFull (run_for task) past.fed) reader.held past outcome
 
 abbrev pub ReaderHasPassed : Task → Reader → HandlePast → Type 0
 ReaderHasPassed task reader past = HasPassedBy task reader past reader.outcome
 
 -- a fault was put down, which is status 1: its message was kept; or that was refused, which is out of memory at
 -- its line, and both texts are as they were
-pub record IsPut (old new : Held) (at : At) (outcome : Outcome) : Type 0 where
+pub record IsPut (old new : HandleState) (at : At) (outcome : Outcome) : Type 0 where
   pub status : outcome.status ≡ 1
   pub output : waiting new.output ≡ waiting old.output
   pub output_good : new.output.failures ≡ old.output.failures
@@ -242,7 +200,7 @@ pub record IsPut (old new : Held) (at : At) (outcome : Outcome) : Type 0 where
       × IsTextRefused old.messages (length (error_text (Some at))))
 
 -- how a run has ended by what stopped it
-abbrev pub EndsRunBy : Held → Held → Outcome → Stop → Type 0
+abbrev pub EndsRunBy : HandleState → HandleState → Outcome → Stop → Type 0
 EndsRunBy old new outcome (Fault at) = IsPut old new at outcome
 EndsRunBy old new outcome Limit = (outcome ≡ record { status = OUTPUT_LIMIT; fault = None }) × (new ≡ old)
 

@@ -5,30 +5,30 @@ use Rattle.crx_runs.specs.declared.one_line.Halt.{Halt}
 use Rattle.crx_runs.specs.declared.one_line.Halt.TheVariants.{Fault as Faulty, Unwritten, Unreported}
 use Rattle.rnxcmp_c.specs.meaning.Answers.{BothTexts}
 use Rattle.rnxcmp_c.specs.Waiting.{waiting}
-use Rattle.rnxcmp_c.specs.declared.held.Held.{Held}
-use Rattle.rnxcmp_c.specs.declared.held.Mark.{Mark}
+use Rattle.rnxcmp_c.specs.declared.handle_state.HandleState.{HandleState}
+use Rattle.rnxcmp_c.specs.declared.handle_state.Mark.{Mark}
 use Rattle.rnxcmp_c.specs.declared.stop.Stop.{Stop}
 use Rattle.rnxcmp_c.specs.declared.stop.Stop.TheVariants.{Fault, Limit}
 
 -- what waits of both texts to be taken
-abbrev pub texts_of_held : Held → BothTexts
+abbrev pub texts_of_held : HandleState → BothTexts
 texts_of_held held = record { output = waiting held.output; messages = waiting held.messages }
 
 -- how many bytes of both texts wait to be taken
-abbrev pub ready_in : Held → ℕ
+abbrev pub ready_in : HandleState → ℕ
 ready_in held = length (waiting held.output) + length (waiting held.messages)
 
 -- no write to either text failed
-pub record AreUnfailed (held : Held) : Type 0 where
+pub record AreUnfailed (held : HandleState) : Type 0 where
   pub output : held.output.failures ≡ 0
   pub messages : held.messages.failures ≡ 0
 
 -- a line takes memory, or a write to one of the texts failed
-abbrev pub IsMemoryLacking : Bool → Held → Type 0
+abbrev pub IsMemoryLacking : Bool → HandleState → Type 0
 IsMemoryLacking takes held = (takes ≡ true) ⊎ ((held.output.failures ≢ 0) ⊎ (held.messages.failures ≢ 0))
 
 -- nothing is held yet, and the output may have so many bytes
-pub record HoldsNothing (limit : ℕ) (held : Held) : Type 0 where
+pub record HoldsNothing (limit : ℕ) (held : HandleState) : Type 0 where
   pub tail : held.tail.bytes.items ≡ []
   pub number : held.number ≡ 0
   pub warned : held.warned ≡ false
@@ -39,28 +39,28 @@ pub record HoldsNothing (limit : ℕ) (held : Held) : Type 0 where
   pub unfailed : AreUnfailed held
 
 -- a mark is how much waits of both texts, or no more than that
-pub record IsMark (mark : Mark) (held : Held) : Type 0 where
+pub record IsMark (mark : Mark) (held : HandleState) : Type 0 where
   pub output : mark.output ≡ length (waiting held.output)
   pub messages : mark.messages ≡ length (waiting held.messages)
 
-pub record IsMarkWithin (mark : Mark) (held : Held) : Type 0 where
+pub record IsMarkWithin (mark : Mark) (held : HandleState) : Type 0 where
   pub output : mark.output ≤ length (waiting held.output)
   pub messages : mark.messages ≤ length (waiting held.messages)
 
 -- but for what the output may still have, which is less by what was added after so many bytes
-pub record StaysWithin (mark : ℕ) (old new : Held) : Type 0 where
+pub record StaysWithin (mark : ℕ) (old new : HandleState) : Type 0 where
   pub same : new ≡ record old { left = new.left }
   pub left : 0 < old.limit → new.left + length (waiting old.output) ≡ old.left + mark
 
 -- a step was taken, whose output since a mark was counted, and so was whether there was a warning
-pub record IsCounted (taken : Result Bool Halt) (mark : Mark) (old new : Held) : Type 0 where
+pub record IsCounted (taken : Result Bool Halt) (mark : Mark) (old new : HandleState) : Type 0 where
   pub warned : Bool
   pub is_taken : taken ≡ Ok warned
   pub same : new ≡ record old { left = new.left; warned = old.warned || warned }
   pub left : 0 < old.limit → new.left + length (waiting old.output) ≡ old.left + mark.output
 
 -- what came of both texts since a mark was let go of
-pub record AreCutTo (mark : Mark) (old new : Held) : Type 0 where
+pub record AreCutTo (mark : Mark) (old new : HandleState) : Type 0 where
   pub limit : new.limit ≡ old.limit
   pub output_is : waiting new.output ≡ take mark.output (waiting old.output)
   pub messages_are : waiting new.messages ≡ take mark.messages (waiting old.messages)
@@ -68,7 +68,7 @@ pub record AreCutTo (mark : Mark) (old new : Held) : Type 0 where
   pub messages_good : new.messages.failures ≡ old.messages.failures
 
 -- more came of the output since a mark than it may have, and both texts were cut back to the mark
-pub record IsCutBack (mark : Mark) (old new : Held) : Type 0 where
+pub record IsCutBack (mark : Mark) (old new : HandleState) : Type 0 where
   pub limited : 0 < old.limit
   pub over : old.left + mark.output < length (waiting old.output)
   pub cut : AreCutTo mark old new
@@ -79,9 +79,9 @@ IsTextLost taken = (taken ≡ Err Unwritten) ⊎ (taken ≡ Err Unreported)
 
 -- what ended the run, once the output since a mark was counted: the fault of the step; one of both texts that
 -- couldn't be kept, which is out of memory at a line of this number; or the limit of the output
-abbrev pub StopsCounted : {T : Type 0} → Result T Halt → Mark → ℕ → Held → Held → Stop → Type 0
+abbrev pub StopsCounted : {T : Type 0} → Result T Halt → Mark → ℕ → HandleState → HandleState → Stop → Type 0
 StopsCounted taken mark number old new (Fault at) =
     ((taken ≡ Err (Faulty at)) × StaysWithin mark.output old new)
     ⊎ (IsTextLost taken × (at ≡ record { line = number; fault = OutOfMemory })
-    × ((mid : Held) × StaysWithin mark.output old mid × AreCutTo mark mid new))
+    × ((mid : HandleState) × StaysWithin mark.output old mid × AreCutTo mark mid new))
 StopsCounted taken mark number old new Limit = IsCutBack mark old new

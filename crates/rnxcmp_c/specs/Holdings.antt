@@ -5,7 +5,7 @@ use Rattle.crx_filter.specs.Holdings.{checking_engine_with, compacting_engine_wi
 use Rattle.rnxcmp_c.specs.Waiting.{waiting}
 use Rattle.rnxcmp_c.specs.declared.engines.AnyEngine.{AnyEngine}
 use Rattle.rnxcmp_c.specs.declared.engines.AnyEngine.TheVariants.{Compacting, Expanding, Checking}
-use Rattle.rnxcmp_c.specs.declared.held.Held.{Held}
+use Rattle.rnxcmp_c.specs.declared.handle_state.HandleState.{HandleState}
 use Rattle.rnxcmp_c.specs.declared.limits.TheConstants.{LINE_ROOM, WAITING_LIMIT}
 use Rattle.rnxcmp_c.specs.declared.pending.Pending.{Pending}
 use Rattle.rnxcmp_c.specs.declared.piece.Piece.{Piece}
@@ -28,7 +28,7 @@ pending_with one other = record one {
 }
 
 -- what is held beside an engine, with the parts of another
-abbrev pub held_with : Held → Held → Held
+abbrev pub held_with : HandleState → HandleState → HandleState
 held_with one other = record one {
   tail = piece_with one.tail other.tail;
   copy = other.copy;
@@ -58,7 +58,7 @@ reader_with one other = record one {
 
 -- how much is held beside the engine: of the last line what it may have, and of each text what waits, and no more than
 -- that of what was taken
-pub record IsBounded (held : Held) : Type 0 where
+pub record IsBounded (held : HandleState) : Type 0 where
   pub line : length held.tail.bytes.items ≤ LINE_ROOM
   pub output_waits : length (waiting held.output) ≤ WAITING_LIMIT
   pub output : length held.output.bytes.items ≤ WAITING_LIMIT + WAITING_LIMIT

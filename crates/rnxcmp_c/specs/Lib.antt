@@ -7,5 +7,5 @@ pub mod Holding
 pub mod Holdings
 pub mod Opened
 pub mod Past
-pub mod Places
+pub mod ReaderBoxes
 pub mod Waiting

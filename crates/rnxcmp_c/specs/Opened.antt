@@ -56,9 +56,6 @@ abbrev pub run_in : List Reader → Option Outcome
 run_in [] = None
 run_in (reader ∷ more) = reader.outcome
 
-abbrev pub have_ended : List Reader → Bool
-have_ended held = is_some (run_in held)
-
 -- both texts that a handle keeps
 abbrev pub texts_kept : Handle → BothTexts
 texts_kept handle = texts_in handle.place.held

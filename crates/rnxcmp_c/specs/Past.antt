@@ -1,17 +1,16 @@
 -- A handle's past, as its reader sees it: how the run of a task is by all that was fed and taken.
-use Rattle.std.specs.Prelude.{◌≡◌, ◌⊎◌, ◌<◌, ℕ, ◌+◌, ◌-◌, true, List, [], ◌∷◌, ◌++◌, length}
-use Rattle.std.specs.Prelude.{take, Option, Some, None, is_some}
-use Rattle.crx_base.specs.meaning.Lines.{InputLine, lines_of}
+use Rattle.std.specs.Prelude.{◌≡◌, ◌⊎◌, ◌<◌, ℕ, ◌+◌, ◌-◌, List, [], ◌∷◌, ◌++◌, length}
+use Rattle.std.specs.Prelude.{take, Option, Some, None}
+use Rattle.crx_base.specs.meaning.Lines.{InputLine}
 use Rattle.crx_base.specs.meaning.AsRead.{ended_lines_of}
 use Rattle.crx_base.specs.declared.fault.At.{At}
-use Rattle.crx_base.specs.declared.fault.Fault.TheVariants.{OutOfMemory}
 use Rattle.crx_base.specs.declared.limits.TheConstants.{INPUT_LIMIT}
 use Rattle.crx_runs.specs.meaning.Filters.{Filter}
-use Rattle.crx_runs.specs.meaning.Messages.{error_text, notices_text}
+use Rattle.crx_runs.specs.meaning.Messages.{notices_text}
 use Rattle.crx_runs.specs.meaning.Results.{Course, FilterResult}
 use Rattle.rnxcmp_c.specs.declared.limits.TheConstants.{READY_LIMIT}
-use Rattle.rnxcmp_c.specs.meaning.Answers.{BothTexts, line_in}
-use Rattle.rnxcmp_c.specs.meaning.Handles.{Task, run_for, with_one_more}
+use Rattle.rnxcmp_c.specs.meaning.Answers.{BothTexts}
+use Rattle.rnxcmp_c.specs.meaning.Handles.{Task, run_for}
 
 -- ---- a task
 
@@ -78,29 +77,6 @@ abbrev pub AsksMemory : Option (List At) → Course → Course → List At → T
 AsksMemory memory before after notices = (memory ≡ Some notices)
     ⊎ ((notices ≡ []) × ((length before.output < length after.output)
     ⊎ (length (notices_text before.warnings) < length (notices_text after.warnings))))
-
--- memory ran out at a line, or at the end: what was made is what the lines before it make, such warnings of
--- its own, each of them whole, and the message of this, or none
-pub record IsShortOfMemory (filter : Filter) (input : List ℕ) (line : ℕ) (texts : BothTexts) : Type 0 where
-  pub lines : List InputLine
-  pub others : List InputLine
-  pub first : lines_of input ≡ lines ++ others
-  pub line_is : line ≡ length (lines ++ take 1 others)
-  pub notices : List At
-  pub asked : AsksMemory (memory_next filter lines others) (filter.so_far lines)
-      (with_one_more filter lines others) notices
-  pub own : (notices ≡ []) ⊎ ((more : List At)
-      × ((with_one_more filter lines others).warnings ≡ (filter.so_far lines).warnings ++ notices ++ more))
-  pub last : List ℕ
-  pub last_is : (last ≡ []) ⊎ (last ≡ error_text (Some (record { line = line; fault = OutOfMemory })))
-  pub made : IsMadeByLines (filter.so_far lines) (notices_text notices ++ last) texts
-
--- memory ran out for the message of the fault that a result has, and both texts are there but for that
-pub record HidesFault (result : FilterResult) (line : ℕ) (texts : BothTexts) : Type 0 where
-  pub faulty : is_some result.fault ≡ true
-  pub line_is : line ≡ line_in result.fault
-  pub output_is : result.output ≡ texts.output
-  pub messages_are : result.messages ≡ texts.messages ++ error_text result.fault
 
 -- ---- how many bytes a call takes
 

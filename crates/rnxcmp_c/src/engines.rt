@@ -8,7 +8,7 @@ ghost use Rattle.rnxcmp_c.specs.declared.limits.TheConstants.{READY_LIMIT};
 ghost use Rattle.rnxcmp_c.specs.Handles.{EngineCanBeFed, EngineGoesOn, EngineIsReady, KeepsItsTask, engine_filter, has_ended_of, status_at_end};
 ghost use Rattle.rnxcmp_c.specs.Past.{HandlePast, StopsSoon, fed_with};
 
-use crate::held::Held;
+use crate::handle_state::HandleState;
 use crate::lines::{take_bytes, take_last};
 use crate::stop::Stop;
 use crx_filter::checking::Checking;
@@ -30,7 +30,7 @@ pub enum AnyEngine {
 /// Feeds some bytes to the engine of a run, as long as little enough waits to be taken, and answers how many.
 pub(crate) fn feed_engine(
     engine: &mut AnyEngine,
-    held: &mut Held,
+    held: &mut HandleState,
     bytes: &[u8],
 ) -> Result<usize, Stop>
     requires { EngineCanBeFed engine.old held.old (length bytes.now) }
@@ -53,7 +53,7 @@ pub(crate) fn feed_engine(
 }
 
 /// Gives the end of the input to the engine of a run.
-pub(crate) fn end_engine(engine: &mut AnyEngine, held: &mut Held) -> Result<(), Stop>
+pub(crate) fn end_engine(engine: &mut AnyEngine, held: &mut HandleState) -> Result<(), Stop>
     requires { EngineCanBeFed engine.old held.old 0 }
     ensures keeps { KeepsItsTask engine.old engine.new held.old held.new }
     ensures ends { (past : HandlePast) → EngineGoesOn engine.old held.old past

@@ -12,7 +12,6 @@ ghost use Rattle.crx_base.specs.meaning.Faults.{code_of_fault};
 ghost use Rattle.crx_base.specs.meaning.Lines.{lines_of};
 ghost use Rattle.rnxcmp_c.specs.Handles.{IsFresh};
 ghost use Rattle.rnxcmp_c.specs.meaning.Handles.{HandlePromise, RunHasEnded, RunHasResult, RunWasEnded, StopsAtLimit, StopsForMemory, TakesBytes, Task, joined_texts, run_for};
-ghost use Rattle.rnxcmp_c.specs.Holding.{HoldsNothing};
 ghost use Rattle.rnxcmp_c.specs.Opened.{AnswersOpening, ByItsPast, EndsHandle, FeedsHandle, ForChecks, ForExpansions, HandleStands, Holds, IsSoundHandle, IsUnchanged, KeepsExpansion, KeepsHandle, OnceItHasEnded, RefusesMisuse, WhereItEnded, WhileItGoesOn, has_ended, messages_kept, output_kept, run_state, texts_kept};
 ghost use Rattle.rnxcmp_c.specs.declared.reader.Reader.{Reader};
 ghost use Rattle.rnxcmp_c.specs.meaning.Answers.{BothTexts, bare_answer, placed, rooms};
@@ -23,10 +22,10 @@ ghost use Rattle.rnxcmp_c.specs.declared.answer.TheConstants.{MISUSED};
 use crate::answer::{Answer, BAD_DATE, MISUSED, bare, failed};
 use crate::engines::AnyEngine;
 use crate::exports::expansion_options;
-use crate::held::Held;
+use crate::handle_state::HandleState;
 use crate::loose::Loose;
-use crate::place::Place;
 use crate::reader::Reader;
+use crate::reader_box::ReaderBox;
 use crx_base::Fault;
 use crx_filter::Options;
 use crx_filter::checking::{Checking, no_options};
@@ -40,7 +39,7 @@ use std::mem::replace;
 #[repr(C)]
 #[derive(Drop)]
 pub struct Handle {
-    place: Place,
+    place: ReaderBox,
     is_open: bool,
 }
 
@@ -52,7 +51,7 @@ fn take_out(handle: &mut Handle, alloc: Global) -> Box<Reader>
     ensures closed { handle.new.is_open ≡ false }
 {
     let closed = Handle {
-        place: Place::empty(),
+        place: ReaderBox::empty(),
         is_open: false,
     };
     let held = replace(handle, closed);
@@ -65,19 +64,22 @@ fn put_in(handle: &mut Handle, reader: Box<Reader>)
     ensures opened { handle.new.is_open ≡ true }
 {
     *handle = Handle {
-        place: Place::of(Loose::of(reader)),
+        place: ReaderBox::of(Loose::of(reader)),
         is_open: true,
     };
 }
 
-/// Opens a closed handle for a run of this engine, with what is held beside it.
-fn open(alloc: Global, handle: &mut Handle, engine: AnyEngine, held: Held) -> Answer
-    ensures opened { (task : Task) → IsFresh task engine → HoldsNothing (run_for task).limit held
+/// Opens a closed handle for a run of this engine, whose output may have so many bytes.
+fn open(alloc: Global, handle: &mut Handle, engine: AnyEngine, max_output: u64) -> Answer
+    ensures opened { (task : Task) → IsFresh task engine → (run_for task).limit ≡ max_output
         → result.status ≡ 0 → HandleStands task handle.new [] (rooms [] []) }
     ensures running { result.status ≡ 0 → has_ended handle.new ≡ false }
     ensures unchanged { (result.status ≡ 0 → ⊥) → IsUnchanged handle.old handle.new }
     ensures answer { AnswersOpening result }
 {
+    let Ok(held) = HandleState::new(alloc, max_output) else {
+        return failed(0, Fault::OutOfMemory);
+    };
     let reader = Reader {
         engine,
         held,
@@ -129,11 +131,8 @@ pub extern "C" fn rnxcmp_c_open_compact(
     let Ok(options) = Options::new(Some(every), skip, date) else {
         return bare(BAD_DATE, 0, 0);
     };
-    let Ok(held) = Held::new(alloc, max_output) else {
-        return failed(0, Fault::OutOfMemory);
-    };
     match LineEngine::<Compaction>::new(alloc, options) {
-        Ok(compactor) => open(alloc, handle, AnyEngine::Compacting(compactor), held),
+        Ok(compactor) => open(alloc, handle, AnyEngine::Compacting(compactor), max_output),
         Err(_) => failed(0, Fault::OutOfMemory),
     }
 }
@@ -155,11 +154,8 @@ pub extern "C" fn rnxcmp_c_open_expand(
     if handle.is_open {
         return bare(MISUSED, 0, 0);
     }
-    let Ok(held) = Held::new(alloc, max_output) else {
-        return failed(0, Fault::OutOfMemory);
-    };
     match LineEngine::<Expansion>::new(alloc, expansion_options(skip)) {
-        Ok(expander) => open(alloc, handle, AnyEngine::Expanding(expander), held),
+        Ok(expander) => open(alloc, handle, AnyEngine::Expanding(expander), max_output),
         Err(_) => failed(0, Fault::OutOfMemory),
     }
 }
@@ -175,11 +171,8 @@ pub extern "C" fn rnxcmp_c_open_check(alloc: Global, handle: &mut Handle) -> Ans
     if handle.is_open {
         return bare(MISUSED, 0, 0);
     }
-    let Ok(held) = Held::new(alloc, 0) else {
-        return failed(0, Fault::OutOfMemory);
-    };
     match LineEngine::<Checking>::new(alloc, no_options()) {
-        Ok(checker) => open(alloc, handle, AnyEngine::Checking(checker), held),
+        Ok(checker) => open(alloc, handle, AnyEngine::Checking(checker), 0),
         Err(_) => failed(0, Fault::OutOfMemory),
     }
 }

@@ -11,7 +11,7 @@ ghost use Rattle.crx_runs.specs.meaning.Results.{Begins};
 ghost use Rattle.crx_runs.specs.meaning.Spans.{AreNext};
 ghost use Rattle.rnxcmp_c.specs.Holdings.{IsBounded, reader_with};
 ghost use Rattle.rnxcmp_c.specs.declared.answer.Answer.{Answer};
-ghost use Rattle.rnxcmp_c.specs.declared.held.Held.{Held};
+ghost use Rattle.rnxcmp_c.specs.declared.handle_state.HandleState.{HandleState};
 ghost use Rattle.rnxcmp_c.specs.declared.reader.Reader.{Reader};
 ghost use Rattle.rnxcmp_c.specs.meaning.Answers.{AnswersAlone, AnswersWithin, BothTexts, ExceedsLimit, KeepsToLimit, placed};
 ghost use Rattle.rnxcmp_c.specs.meaning.Handles.{RunHasEnded, RunHasResult, StopsAtLimit, StopsWhenFull, Task, run_for, with_one_more};
@@ -21,7 +21,7 @@ ghost use Rattle.rnxcmp_c.specs.meaning.Handles.{RunHasEnded, RunHasResult, Stop
 /// lines could grow.
 pub fn handle_holds()
     ensures parts { (one other : Reader) → reader_with one other ≡ other }
-    ensures bounded { (held : Held) → IsBounded held }
+    ensures bounded { (held : HandleState) → IsBounded held }
 {}
 
 /// A handle answers as a call over the whole input: where its run has ended with its result, such a call with

@@ -10,7 +10,7 @@ ghost use Rattle.rnxcmp_c.specs.Past.{HandlePast, StopsSoon};
 ghost use Rattle.rnxcmp_c.specs.Holding.{IsCounted, IsMarkWithin, StopsCounted, ready_in};
 ghost use Rattle.rnxcmp_c.specs.declared.limits.TheConstants.{LINE_ROOM, READY_LIMIT};
 
-use crate::held::{Held, Mark};
+use crate::handle_state::{HandleState, Mark};
 use crate::pending::Pending;
 use crate::stop::Stop;
 use crx_base::limits::LINE_LIMIT;
@@ -69,7 +69,12 @@ fn offer_line<E: Engine>(
 /// Counts the output since a mark, whatever the step of a line came to: where it is more than there may be,
 /// that ends the run. Keeps in mind whether there was a warning. Where one of the texts couldn't be kept,
 /// memory ran out at the line of this number, and what came of both since the mark is let go of.
-fn counted(held: &mut Held, mark: Mark, number: u64, taken: Result<bool, Halt>) -> Result<(), Stop>
+fn counted(
+    held: &mut HandleState,
+    mark: Mark,
+    number: u64,
+    taken: Result<bool, Halt>,
+) -> Result<(), Stop>
     requires { IsMarkWithin mark held.old }
     ensures limit { held.new.limit ≡ held.old.limit }
     ensures good { OnOk result (IsCounted taken mark held.old held.new) }
@@ -96,7 +101,11 @@ fn counted(held: &mut Held, mark: Mark, number: u64, taken: Result<bool, Halt>) 
 
 /// Takes what is kept of a line as a line, and lets go of it, if the output stays within its limit, also
 /// where memory ran out while it was written.
-fn take_within<E: Engine>(engine: &mut E, held: &mut Held, is_ended: bool) -> Result<(), Stop>
+fn take_within<E: Engine>(
+    engine: &mut E,
+    held: &mut HandleState,
+    is_ended: bool,
+) -> Result<(), Stop>
     requires shown { HasShown E.Engine engine.old }
     requires next { held.old.number ≡ E.taken engine.old }
     requires within { held.old.number < INPUT_LIMIT }
@@ -111,18 +120,22 @@ fn take_within<E: Engine>(engine: &mut E, held: &mut Held, is_ended: bool) -> Re
         &mut held.output,
         &mut held.messages,
         &mut held.copy,
-        held.tail.as_slice(),
+        &held.tail.bytes,
         number,
         is_ended,
     );
-    held.tail.clear();
+    held.tail.bytes.clear();
     held.number = number;
     counted(held, mark, number, taken)
 }
 
 /// Takes the first of some bytes, up to an LF, with which a line is taken, and answers how many; all, where
 /// no LF is among them.
-fn take_to_line_end<E: Engine>(engine: &mut E, held: &mut Held, bytes: &[u8]) -> Result<usize, Stop>
+fn take_to_line_end<E: Engine>(
+    engine: &mut E,
+    held: &mut HandleState,
+    bytes: &[u8],
+) -> Result<usize, Stop>
     requires going { CanBeFed E.Engine engine.old held.old (length bytes.now) }
     ensures keeps { KeepsItsRun E.Engine engine.old engine.new held.old held.new result }
     ensures count { IfOk result (λ n. (n ≤ length bytes.now) × (0 < length bytes.now → 0 < n)) }
@@ -146,7 +159,7 @@ fn take_to_line_end<E: Engine>(engine: &mut E, held: &mut Held, bytes: &[u8]) ->
 /// many.
 pub(crate) fn take_bytes<E: Engine>(
     engine: &mut E,
-    held: &mut Held,
+    held: &mut HandleState,
     bytes: &[u8],
 ) -> Result<usize, Stop>
     requires going { CanBeFed E.Engine engine.old held.old (length bytes.now) }
@@ -166,7 +179,7 @@ pub(crate) fn take_bytes<E: Engine>(
 }
 
 /// Gives the end of the input to an engine, if the output stays within its limit.
-fn end_within<E: Engine>(engine: &mut E, held: &mut Held) -> Result<(), Stop>
+fn end_within<E: Engine>(engine: &mut E, held: &mut HandleState) -> Result<(), Stop>
     requires shown { HasShown E.Engine engine.old }
     requires within { E.taken engine.old ≤ INPUT_LIMIT }
     ensures same { IsSameRun (E.filter engine.old) (E.filter engine.new) held.old held.new }
@@ -180,14 +193,14 @@ fn end_within<E: Engine>(engine: &mut E, held: &mut Held) -> Result<(), Stop>
 }
 
 /// Takes the end of the input, and before it the last line, where no LF ended it.
-pub(crate) fn take_last<E: Engine>(engine: &mut E, held: &mut Held) -> Result<(), Stop>
+pub(crate) fn take_last<E: Engine>(engine: &mut E, held: &mut HandleState) -> Result<(), Stop>
     requires lawful { IsLawful (E.filter engine.old) }
     requires going { CanBeFed E.Engine engine.old held.old 0 }
     ensures same { IsSameRun (E.filter engine.old) (E.filter engine.new) held.old held.new }
     ensures ends { (past : HandlePast) → IsGoing (E.filter engine.old) (E.shows engine.old) held.old past
         → LastIsTaken result (E.filter engine.old) (E.has_ended engine.new (lines_of past.fed)) held.new past }
 {
-    if held.tail.as_slice().is_empty() {
+    if held.tail.bytes.is_empty() {
         return end_within(engine, held);
     }
     take_within(engine, held, false)?;

@@ -63,25 +63,6 @@ impl Pending {
         self.bytes.extend_from_slice(text).is_ok()
     }
 
-    /// Takes a text as a writer does. It fails only where the text is refused, and counts that.
-    fn put(&mut self, text: &[u8]) -> Result<usize, WriteFailed>
-        ensures all { IfOk result (λ n. n ≡ length text.now) }
-        ensures taken { OnOk result (waiting self.new ≡ waiting self.old ++ text.now) }
-        ensures good { OnOk result (self.new.failures ≡ self.old.failures) }
-        ensures unchanged { OnErr result (waiting self.new ≡ waiting self.old) }
-        ensures refused { OnErr result (IsTextRefused self.old (length text.now)) }
-        ensures counted { OnErr result (self.new.failures ≡ one_more self.old.failures) }
-        ensures unflushed { self.new.flushed ≡ false }
-        ensures unasked { self.new.flushes ≡ self.old.flushes }
-    {
-        self.flushed = false;
-        if self.add(text) {
-            return Ok(text.len());
-        }
-        self.failures = self.failures.saturating_add(1);
-        Err(WriteFailed)
-    }
-
     /// Moves its first bytes to the front of the room, as many as fit.
     pub(crate) fn hand_out(&mut self, room: &mut [u8])
         ensures room { room.new ≡ placed (waiting self.old) room.old }
@@ -118,7 +99,7 @@ impl Pending {
 }
 
 impl Sink for Pending {
-    ghost use Rattle.rnxcmp_c.specs.Waiting.{waiting};
+    ghost use Rattle.rnxcmp_c.specs.Waiting.{IsTextRefused, waiting};
 
     ghost took = { λ a bytes b. waiting b ≡ waiting a ++ bytes };
 
@@ -134,8 +115,23 @@ impl Sink for Pending {
 
     ghost is_broken = { λ s. false };
 
-    fn write(&mut self, bytes: &[u8]) -> Result<usize, WriteFailed> {
-        self.put(bytes)
+    /// It fails only where the text is refused, and counts that.
+    fn write(&mut self, bytes: &[u8]) -> Result<usize, WriteFailed>
+        ensures all { IfOk result (λ n. n ≡ length bytes.now) }
+        ensures taken { OnOk result (waiting self.new ≡ waiting self.old ++ bytes.now) }
+        ensures good { OnOk result (self.new.failures ≡ self.old.failures) }
+        ensures unchanged { OnErr result (waiting self.new ≡ waiting self.old) }
+        ensures refused { OnErr result (IsTextRefused self.old (length bytes.now)) }
+        ensures counted { OnErr result (self.new.failures ≡ one_more self.old.failures) }
+        ensures unflushed { self.new.flushed ≡ false }
+        ensures unasked { self.new.flushes ≡ self.old.flushes }
+    {
+        self.flushed = false;
+        if self.add(bytes) {
+            return Ok(bytes.len());
+        }
+        self.failures = self.failures.saturating_add(1);
+        Err(WriteFailed)
     }
 
     fn flush(&mut self) -> Result<(), WriteFailed> {

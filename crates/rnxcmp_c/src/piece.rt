@@ -9,7 +9,7 @@ use std::alloc::{AllocError, Global};
 /// The first bytes of a line, at most [`LINE_ROOM`]. Its memory is taken at the beginning, and never more.
 #[derive(Drop)]
 pub struct Piece {
-    bytes: Vec<u8>,
+    pub(crate) bytes: Vec<u8>,
     ghost within: { length bytes.items ≤ LINE_ROOM },
     ghost room: { LINE_ROOM ≤ vec_capacity bytes },
 }
@@ -33,19 +33,5 @@ impl Piece {
             Ok(()) => {}
             Err(_) => unreachable!(),
         }
-    }
-
-    /// Lets go of the line.
-    pub(crate) fn clear(&mut self)
-        ensures { self.new.bytes.items ≡ [] }
-    {
-        self.bytes.clear();
-    }
-
-    /// What is kept of the line.
-    pub(crate) fn as_slice(&self) -> &[u8]
-        ensures { result.now ≡ self.now.bytes.items }
-    {
-        &self.bytes
     }
 }

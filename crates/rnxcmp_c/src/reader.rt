@@ -2,7 +2,7 @@
 
 ghost use Rattle.std.specs.Prelude.{◌≡◌, ◌<◌, ◌≤◌, ◌+◌, ◌-◌, [], ◌∷◌, length, take, None};
 ghost use Rattle.crx_base.specs.declared.limits.TheConstants.{INPUT_LIMIT};
-ghost use Rattle.rnxcmp_c.specs.Handles.{Ends, Feeds, HasFed, IsFed, IsPut, EndsRunBy, ReaderHasEnded, ReaderRuns, ReaderStands, answer_now};
+ghost use Rattle.rnxcmp_c.specs.Handles.{Ends, Feeds, HasFed, IsFed, EndsRunBy, ReaderHasEnded, ReaderRuns, ReaderStands, answer_now};
 ghost use Rattle.rnxcmp_c.specs.Opened.{HandsOut};
 ghost use Rattle.rnxcmp_c.specs.Past.{HandlePast, StopsSoon, fed_with, filter_for, taken_with};
 ghost use Rattle.rnxcmp_c.specs.meaning.Handles.{Task};
@@ -11,7 +11,7 @@ ghost use Rattle.rnxcmp_c.specs.meaning.Answers.{rooms};
 
 use crate::answer::{Answer, MISUSED, OUTPUT_LIMIT, bare, line_and_code};
 use crate::engines::{AnyEngine, end_engine, feed_engine, status_at_end};
-use crate::held::Held;
+use crate::handle_state::HandleState;
 use crate::stop::Stop;
 use crx_base::limits::INPUT_LIMIT;
 use crx_base::{At, Fault};
@@ -24,17 +24,24 @@ pub struct Reader {
     /// What takes the lines.
     pub(crate) engine: AnyEngine,
     /// What is held beside it.
-    pub(crate) held: Held,
+    pub(crate) held: HandleState,
     /// How many bytes were fed.
     pub(crate) fed: u64,
     /// How the run ended; `None` where it goes on.
     pub(crate) outcome: Option<Outcome>,
 }
 
-/// Puts down the fault that ended a run: its message, and what the run answers from now on.
-fn put_down(held: &mut Held, at: At) -> Outcome
-    ensures { IsPut held.old held.new at result }
+/// How a run ends by what stopped it. The message of a fault is put down; where it can't be kept, memory ran
+/// out at its line.
+fn outcome_of(held: &mut HandleState, stop: Stop) -> Outcome
+    ensures { EndsRunBy held.old held.new result stop }
 {
+    let Stop::Fault(at) = stop else {
+        return Outcome {
+            status: OUTPUT_LIMIT as u8,
+            fault: None,
+        };
+    };
     if held.messages.add(message(Severity::Error, at).bytes()) {
         return Outcome {
             status: 1,
@@ -47,19 +54,6 @@ fn put_down(held: &mut Held, at: At) -> Outcome
             line: at.line,
             fault: Fault::OutOfMemory,
         }),
-    }
-}
-
-/// How a run ends by what stopped it.
-fn outcome_of(held: &mut Held, stop: Stop) -> Outcome
-    ensures { EndsRunBy held.old held.new result stop }
-{
-    match stop {
-        Stop::Fault(at) => put_down(held, at),
-        Stop::Limit => Outcome {
-            status: OUTPUT_LIMIT as u8,
-            fault: None,
-        },
     }
 }
 
@@ -139,7 +133,7 @@ impl Reader {
                 line: self.held.number + 1,
                 fault: Fault::InputTooLong,
             };
-            self.outcome = Some(put_down(&mut self.held, at));
+            self.outcome = Some(outcome_of(&mut self.held, Stop::Fault(at)));
             return (0, self.answer());
         }
         let used = self.feed(allowed);

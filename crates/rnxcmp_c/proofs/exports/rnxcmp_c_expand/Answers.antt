@@ -1,7 +1,7 @@
 use Rattle.std.proofs.Common.{rules}
 use Rattle.rnxcmp_c.proofs.{EndedLemmas.{KeepsPromises, keeps-promises}, RunLemmas.{answers-alone, take-enough}}
 use Rattle.rnxcmp_c.proofs.Kept.{zero-answered}
-use Rattle.crx_filter.proofs.anywriter.{AnyRun.reads-any, OnlyTexts.only-text}
+use Rattle.crx_filter.proofs.anywriter.OnlyTexts.{only-text}
 use Rattle.rnxcmp_c.proofs.{RunLemmas.answers-within, Words.{◌≤◌, length, map, refl, subst, sym, ◌∙◌}}
 use Rattle.rnxcmp_c.proofs.Words.{INPUT_LIMIT, lines_of, as_read, whole_compact, FilterResult, AnswersWithin}
 use Rattle.rnxcmp_c.proofs.{Words.{HasNoMemory, rooms, Expand}, exports.rnxcmp_c_expand.Goals.After-answer_of}
@@ -38,9 +38,7 @@ returns c =
           (rooms c.answer_of.new.output_room c.answer_of.new.messages_room))
           (c.expansion_options.ensures ∙ sym same) (kept within memory).whole;
       lossless = λ within memory. (kept within memory).lossless;
-      any_writer = λ within memory. reads-any (λ whole. AnswersWithin c.args.max_output whole c.answer_of.result
-          (rooms c.args.output.now c.args.messages.now) (rooms c.answer_of.new.output_room c.answer_of.new.messages_room))
-          c.expansion_options.result c.args.input.now (kept within memory).whole;
+      any_writer = λ within memory. (kept within memory).any_writer;
       no_other = λ within memory e. only-text c.args.input.now c.expansion_options.result
           (zero-answered c.args.max_output _ c.answer_of.result (rooms c.args.output.now c.args.messages.now)
           (rooms c.answer_of.new.output_room c.answer_of.new.messages_room) (kept within memory).whole e);

@@ -7,13 +7,13 @@ use Rattle.rnxcmp_c.proofs.{lines.take_last.Given.Over}
 use Rattle.rnxcmp_c.proofs.lines.take_last.Goals as goal
 
 is-some : (g : Over) (c : Else-is_empty g) → 0 < length c.args.held.now.tail.bytes.items
-is-some g c = grind (arith, common_steps, c.as_slice.ensures, c.is_empty.ensures, c.if-is_empty.false)
+is-some g c = grind (arith, common_steps, c.is_empty.ensures, c.if-is_empty.false)
 
 pub returns-then-is_empty-clause-ends : goal.returns-then-is_empty-clause-ends
 returns-then-is_empty-clause-ends g c past is =
     let new = c.end_within.new.held in
     let whole = all-ended _ _ _ past is
-    (grind (arith, common_steps, c.as_slice.ensures, c.is_empty.ensures, c.if-is_empty.true)) in
+    (grind (arith, common_steps, c.is_empty.ensures, c.if-is_empty.true)) in
     let after = held-going _ _ c.args.held.now past is in
     let step = c.end_within.ensures.step _ is.shown in (
       on_ok_weaker c.end_within.result

@@ -1,13 +1,13 @@
 -- `empty` makes a null pointer, which owns nothing.
-use Rattle.rnxcmp_c.proofs.{PlaceValues.{word, place_in}, RawWords.{◌≡◌, List, [], ◌∷◌, refl, Val, SProp}}
+use Rattle.rnxcmp_c.proofs.{ReaderBoxValues.{word, place_in}, RawWords.{◌≡◌, List, [], ◌∷◌, refl, Val, SProp}}
 use Rattle.rnxcmp_c.proofs.RawWords.{emp, ftrue, ‵, raw, ◌⊛◌, ◌$◌, ◌∵◌, !, qed, by, keep, drop, use0, no_more}
 use Rattle.rnxcmp_c.proofs.RawWords.{and_then, returns, enter, alloc_all, pass_all, free_all, look_at, sets}
 use Rattle.rnxcmp_c.proofs.RawWords.{agg, fact, fact_i, tables, null_ptr, nothing, walk_of, proved_at, leaves}
-use Rattle.rnxcmp_c.proofs.{RawWords.Reader, place.Place.empty.Statement.statement}
-use Rattle.rnxcmp_c.specs.contracts.place.Place.empty.{ended, clauses, Key.name as #self}
+use Rattle.rnxcmp_c.proofs.{RawWords.Reader, reader_box.ReaderBox.empty.Statement.statement}
+use Rattle.rnxcmp_c.specs.contracts.reader_box.ReaderBox.empty.{ended, clauses, Key.name as #self}
 use Rattle.std.proofs.Common.{lit<}
 use types.Run.{lit}
-use Rattle.rnxcmp_c.proofs.place.Place.empty.Code as code
+use Rattle.rnxcmp_c.proofs.reader_box.ReaderBox.empty.Code as code
 
 pub empty_spec : {M : Type 1} → statement M
 empty_spec 𝓤 𝓛 𝓜 𝓡 wired =

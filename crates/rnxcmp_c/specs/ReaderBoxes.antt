@@ -1,4 +1,4 @@
--- What a place owns.
+-- What a reader's box owns, as a handle holds it.
 use Rattle.std.specs.Prelude.{List, [], ◌∷◌}
 use Rattle.std.specs.Coded.{coded_list}
 use base.Fml.{Fml, ftrue}
@@ -14,9 +14,9 @@ use Rattle.rnxcmp_c.specs.declared.reader.Reader.{Reader}
 abbrev pub heap : Global
 heap = record { memory = record { seal = tt } }
 
-abbrev pub place_owns : Ptr → List Reader → Fml
-place_owns at [] = ftrue
-place_owns at (value ∷ more) = box_owns (ghosts.dealloc_token heap) the_row at value
+abbrev pub reader_box_owns : Ptr → List Reader → Fml
+reader_box_owns at [] = ftrue
+reader_box_owns at (value ∷ more) = box_owns (ghosts.dealloc_token heap) the_row at value
 
 abbrev pub held_coded : Coded (List Reader)
 held_coded = coded_list the_row.coded

@@ -1,7 +1,7 @@
 //! A box that a C program holds.
 
 ghost use Rattle.std.specs.Prelude.{◌≡◌, List, [], ◌∷◌};
-ghost use Rattle.rnxcmp_c.specs.Places.{place_owns, held_coded};
+ghost use Rattle.rnxcmp_c.specs.ReaderBoxes.{reader_box_owns, held_coded};
 ghost use Rattle.rnxcmp_c.specs.declared.reader.Reader.{Reader};
 
 use crate::loose::Loose;
@@ -12,31 +12,31 @@ use std::marker::Model;
 /// Where a box lies, or nothing.
 #[repr(C)]
 #[derive(Drop)]
-pub struct Place {
+pub struct ReaderBox {
     at: *mut u8,
     pub ghost held: { List Reader } by { held_coded },
 }
 
-impl Model for Place {
-    ghost also_owns = { λ p. place_owns p.at p.held };
+impl Model for ReaderBox {
+    ghost also_owns = { λ p. reader_box_owns p.at p.held };
 }
 
-impl Place {
+impl ReaderBox {
     /// Nothing is held.
-    pub(crate) fn empty() -> Place
+    pub(crate) fn empty() -> ReaderBox
         ensures { result.held ≡ [] }
     {
-        Place {
+        ReaderBox {
             at: std::ptr::null_mut(),
         }
     }
 
     /// Holds a box that was taken apart.
-    pub(crate) fn of(loose: Loose<Reader, Global>) -> Place
+    pub(crate) fn of(loose: Loose<Reader, Global>) -> ReaderBox
         ensures { result.held ≡ loose.value ∷ [] }
     {
         let Loose { at, alloc: _ } = loose;
-        Place { at: at as *mut u8 }
+        ReaderBox { at: at as *mut u8 }
     }
 
     /// The box that is held, apart.
@@ -44,7 +44,7 @@ impl Place {
         requires { (value : Reader) × (self.held ≡ value ∷ []) }
         ensures { self.held ≡ result.value ∷ [] }
     {
-        let Place { at } = self;
+        let ReaderBox { at } = self;
         Loose {
             at: at as *mut Reader,
             alloc,

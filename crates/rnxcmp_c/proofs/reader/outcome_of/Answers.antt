@@ -1,9 +1,9 @@
 use Rattle.std.proofs.lemmas.Grind.{common_steps}
 use Rattle.rnxcmp_c.proofs.Words.{inl, arith, refl}
-use Rattle.rnxcmp_c.proofs.reader.put_down.Goals as goal
+use Rattle.rnxcmp_c.proofs.reader.outcome_of.Goals as goal
 
 pub returns-then-add : goal.returns-then-add
-returns-then-add c = record {
+returns-then-add c = rw c.in-Fault.is (record {
   status = refl;
   output = refl;
   output_good = refl;
@@ -12,7 +12,7 @@ returns-then-add c = record {
     refl,
     rw (c.bytes.ensures.value, c.message.ensures.value) at (c.add.ensures.taken c.if-add.true),
   );
-}
+})
 
 pub returns : goal.returns
-returns c = grind (arith, common_steps, c.bytes.ensures.value, c.message.ensures.value)
+returns c = rw c.in-Fault.is (grind (arith, common_steps, c.bytes.ensures.value, c.message.ensures.value))

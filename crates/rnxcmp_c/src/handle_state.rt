@@ -8,7 +8,7 @@ use std::alloc::{AllocError, Global};
 
 /// What is held between two calls.
 #[derive(Drop)]
-pub struct Held {
+pub struct HandleState {
     /// The bytes after the last LF, as far as they are kept.
     pub(crate) tail: Piece,
     /// Where a line is copied to that is taken, since nothing is behind the bytes that are fed.
@@ -36,18 +36,18 @@ pub(crate) struct Mark {
     pub(crate) messages: usize,
 }
 
-impl Held {
+impl HandleState {
     ghost use Rattle.std.specs.Prelude.{◌≡◌, ◌<◌, ◌≤◌, false, true, IfOk};
     ghost use Rattle.rnxcmp_c.specs.Holding.{AreCutTo, HoldsNothing, IsCutBack, IsMark, IsMarkWithin, StaysWithin, ready_in};
     ghost use Rattle.rnxcmp_c.specs.declared.limits.TheConstants.{READY_LIMIT};
 
     /// What is held before the first byte.
-    pub(crate) fn new(alloc: Global, limit: u64) -> Result<Held, AllocError>
+    pub(crate) fn new(alloc: Global, limit: u64) -> Result<HandleState, AllocError>
         ensures { IfOk result (HoldsNothing limit) }
     {
         let tail = Piece::new(alloc)?;
         let copy = Box::new(alloc, PaddedCopy::new())?;
-        Ok(Held {
+        Ok(HandleState {
             tail,
             copy,
             number: 0,

@@ -1,6 +1,6 @@
 -- `of` moves the pointer, and what the parts owned goes with it.
 use Rattle.std.proofs.{Common.arith, lemmas.Grind.common_steps}
-use Rattle.rnxcmp_c.proofs.{LooseValues.{both, Loose, loose_good, loose_out}, PlaceValues.{word, place_in}}
+use Rattle.rnxcmp_c.proofs.{LooseValues.{both, Loose, loose_good, loose_out}, ReaderBoxValues.{word, place_in}}
 use Rattle.rnxcmp_c.proofs.RawWords.{List, [], ◌∷◌, ◌++◌, refl, Val, vptr, SProp, emp}
 use Rattle.rnxcmp_c.proofs.RawWords.{ftrue, fsep, WpFn, ‵, raw, ◌⊛◌, ◌$◌, ◌∵◌, !, qed, move, keep, drop}
 use Rattle.rnxcmp_c.proofs.RawWords.{split, join, fsplit, fjoin, suffices, regoal, prop, done, stop, fld}
@@ -8,12 +8,12 @@ use Rattle.rnxcmp_c.proofs.RawWords.{of_opd, no_more}
 use Rattle.rnxcmp_c.proofs.RawWords.{and_then, returns, enter, alloc_all, pass_all, free_all, look_at, get}
 use Rattle.rnxcmp_c.proofs.RawWords.{get_in, sets, agg, sub, whole, tables, yes, RattleType, plain, block_ptr}
 use Rattle.rnxcmp_c.proofs.RawWords.{nothing, says, Stays, stay_dropped, walk_of, ends_at, Goes-dropped}
-use Rattle.rnxcmp_c.proofs.{RawWords.{proved_at, ghosts}, place.Place.of.Statement.statement}
-use Rattle.rnxcmp_c.specs.contracts.place.Place.of.{ended, clauses, Key.name as #self}
+use Rattle.rnxcmp_c.proofs.{RawWords.{proved_at, ghosts}, reader_box.ReaderBox.of.Statement.statement}
+use Rattle.rnxcmp_c.specs.contracts.reader_box.ReaderBox.of.{ended, clauses, Key.name as #self}
 use Rattle.std_heap.specs.contracts.Global as heap
 use Rattle.std_heap.proofs.Global.TheLaws as heap_laws
 use Rattle.rnxcmp_c.specs.contracts.reader.Reader as reader
-use Rattle.rnxcmp_c.proofs.place.Place.of.Code as code
+use Rattle.rnxcmp_c.proofs.reader_box.ReaderBox.of.Code as code
 
 pub of_spec : {M : Type 1} → statement M
 of_spec 𝓤 𝓛 𝓜 𝓡 wired =

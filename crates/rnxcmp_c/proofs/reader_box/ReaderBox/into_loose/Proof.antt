@@ -1,6 +1,6 @@
--- `into_loose` moves the pointer, and what the place owned goes with it.
+-- `into_loose` moves the pointer, and what the box owned goes with it.
 use Rattle.rnxcmp_c.proofs.LooseValues.{al, both, loose_good, loose_in}
-use Rattle.rnxcmp_c.proofs.{PlaceValues.word, RawWords.{◌≡◌, List}}
+use Rattle.rnxcmp_c.proofs.{ReaderBoxValues.word, RawWords.{◌≡◌, List}}
 use Rattle.rnxcmp_c.proofs.RawWords.{[], ◌∷◌, ◌++◌, refl, ap, ◌∙◌, Val, vptr, vstruct, of_list}
 use Rattle.rnxcmp_c.proofs.RawWords.{SProp, never, fst∗, ftrue, fsep, WpFn, sem, ‵, raw, ◌⊛◌, ◌$◌}
 use Rattle.rnxcmp_c.proofs.RawWords.{◌∵◌, !, qed, move, drop, split, join, fsplit, fjoin, fpick, suffices}
@@ -10,15 +10,15 @@ use Rattle.rnxcmp_c.proofs.RawWords.{enter, alloc_all, pass_all, free_all, look_
 use Rattle.rnxcmp_c.proofs.RawWords.{sub, whole, fact, tables, yes, RattleType, plain, Ptr, block_ptr}
 use Rattle.rnxcmp_c.proofs.RawWords.{null_ptr, ptr_val, in_a_block, lone, nothing, heard, says, Stays}
 use Rattle.rnxcmp_c.proofs.RawWords.{stay_dropped, walk_of, ends_at, Goes-dropped, proved_at}
-use Rattle.rnxcmp_c.proofs.RawWords.{handle_tells, box_owns, ghosts, place_owns, Reader}
-use Rattle.rnxcmp_c.{proofs.place.Place.into_loose.Statement.statement, specs.Places.heap}
-use Rattle.rnxcmp_c.specs.contracts.place.Place.into_loose.{ended, clauses, Key.name as #self}
+use Rattle.rnxcmp_c.proofs.RawWords.{handle_tells, box_owns, ghosts, reader_box_owns, Reader}
+use Rattle.rnxcmp_c.{proofs.reader_box.ReaderBox.into_loose.Statement.statement, specs.ReaderBoxes.heap}
+use Rattle.rnxcmp_c.specs.contracts.reader_box.ReaderBox.into_loose.{ended, clauses, Key.name as #self}
 use mir.Raw.{raw as bare}
 use Rattle.std_heap.specs.contracts.Global as heap
 use Rattle.std_heap.proofs.Global.TheLaws as heap_laws
 use Rattle.rnxcmp_c.specs.contracts.reader.Reader as reader
-use Rattle.rnxcmp_c.specs.contracts.place.Place as place
-use Rattle.rnxcmp_c.proofs.place.Place.into_loose.Code as code
+use Rattle.rnxcmp_c.specs.contracts.reader_box.ReaderBox as place
+use Rattle.rnxcmp_c.proofs.reader_box.ReaderBox.into_loose.Code as code
 
 pub into_loose_spec : {M : Type 1} → statement M
 into_loose_spec 𝓤 𝓛 𝓜 𝓡 wired =
@@ -38,8 +38,8 @@ into_loose_spec 𝓤 𝓛 𝓜 𝓡 wired =
     (fact 𝓤 Asked) ∷ []) ∵ move ! (1 ∷ 0 ∷ []) $ heard ! Asked
     (λ asked. let x : Reader = asked.0 in split ! $ drop ! $ fsplit ! $ fsplit ! $ fpick !
     (λ vss. fsplit ! $ feq_l ! (λ ev. fsplit ! $ feq_l ! (λ ep. drop ! $
-    -- [what the place owns; the handle and nothing]
-    rewrite ! 0 (λ (held : List Reader). ‵ (place_owns v.at held)) asked.1 refl $ in_a_block ! v.at
+    -- [what the box owns; the handle and nothing]
+    rewrite ! 0 (λ (held : List Reader). ‵ (reader_box_owns v.at held)) asked.1 refl $ in_a_block ! v.at
     (λ p. box_owns (ghosts.dealloc_token heap) R p x)
     (fst∗ 𝓤 (never 𝓤) (sem 𝓛 (ghosts.dealloc_token heap (bare (lone R.mir)) null_ptr))) (λ b o e. move !
     (1 ∷ []) $ fsplit ! $ handle_tells (al R Z LZ ghosts) ! a z.0.4.1.0
