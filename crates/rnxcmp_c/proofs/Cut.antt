@@ -1,7 +1,7 @@
 -- What ended a run at a line, by what is kept.
 use Rattle.std.proofs.{Common.rules, lemmas.{Grind.common_steps, List.append_cancel_left}}
 use Rattle.rnxcmp_c.proofs.{GoingLemmas.notices-both, Words.{◌≡◌, ℕ, Bool, true, List, [], ◌++◌, take, drop}}
-use Rattle.rnxcmp_c.proofs.Words.{Option, None, sym, ap, ◌∙◌, append-nil, arith, length-append}
+use Rattle.rnxcmp_c.proofs.Words.{Option, None, sym, ◌∙◌, append-nil, arith, length-append}
 use Rattle.rnxcmp_c.proofs.Words.{take-append-drop, At, notices_text, Begins, Course, Halt, AreNext, Device}
 use Rattle.rnxcmp_c.proofs.Words.{waiting, Pending, IsKept, StopsBy}
 use Rattle.crx_runs.specs.{Endings.EndsFrom, Taking.IsDone}
@@ -21,10 +21,8 @@ none-more first more is = rest-of first more [] (append-nil first ∙ is)
 -- what a device took of a text is first in it
 begins-taken : (all first more : List ℕ) (count : ℕ) → take count all ≡ first ++ more
     → Begins all (first ++ more)
-begins-taken all first more count is = record {
-  rest = drop count all;
-  same = sym (take-append-drop count all) ∙ ap (λ t. t ++ drop count all) is;
-}
+begins-taken all first more count is =
+    rw (← is) (record { rest = drop count all; same = sym (take-append-drop count all) })
 
 -- what a text that waits took
 abbrev kept-by : Pending → Pending → Device

@@ -12,7 +12,7 @@ use Rattle.crx_filter.proofs.accounts.ByResults.{compaction-keeps, expansion-kee
 use Rattle.crx_filter.specs.meaning.{ByResults.ExpansionKeeps, CompactText.ReadsAnyText}
 use Rattle.rnxcmp_c.specs.meaning.Kept.{TaskKeeps}
 use Rattle.crx_filter.proofs.stretches.StretchesSaved.{rest-kept}
-use Rattle.rnxcmp_c.proofs.Words.{sym, ap, ◌∙◌}
+use Rattle.rnxcmp_c.proofs.Words.{ap}
 use Rattle.crx_filter.proofs.anywriter.{AnyRun.reads-any, AnyText.first-units, OnlyTexts.only-text}
 
 -- what holds of the result of an expansion holds of what it brings back, saves and keeps
@@ -63,15 +63,8 @@ module _ (fed : List ℕ) (made kept : BothTexts) (answer : Answer) where
   pub run-expansion : (choices : Choices) → Has (expanded fed choices)
       → ExpansionPromises choices fed made kept answer
   run-expansion choices whole =
-      let k = keeps-promises Has choices fed whole in record {
-        lossless = k.lossless;
-        any_writer = k.any_writer;
-        no_other = λ e. only-text fed choices (sym (ap (λ (a : Answer). a.status) whole.answered) ∙ e);
-        way_back = k.way_back;
-        salvage = k.salvage;
-        damage = k.damage;
-        whole_units = k.whole_units;
-      }
+      let k = keeps-promises Has choices fed whole in
+      let status = ap (λ (a : Answer). a.status) whole.answered in search (rules, k, only-text, status)
 
   pub run-check : Has (checked fed) → CheckPromises fed answer
   run-check whole = grind (arith, common_steps, RunHasResult.answered whole, what-passes, judges-status)

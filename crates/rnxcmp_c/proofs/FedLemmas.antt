@@ -1,6 +1,6 @@
 -- What became of a run by some bytes, of which it may have as many as an input may have.
-use Rattle.std.proofs.lemmas.List.{take-take}
-use Rattle.rnxcmp_c.proofs.Words.{◌≡◌, ◌∙◌, ℕ, ◌-◌, ◌<◌, ◌≤◌, ap, subst, false, List, length, take, Option, None, is_some, arith}
+use Rattle.std.proofs.lemmas.{Grind.common_steps, List.take-take}
+use Rattle.rnxcmp_c.proofs.Words.{◌≡◌, ◌∙◌, ℕ, ◌-◌, ◌<◌, ◌≤◌, ap, false, List, length, take, Option, None, is_some, arith}
 use Rattle.rnxcmp_c.proofs.Words.{length-take, INPUT_LIMIT, Outcome, FeedsBy, FeedsBytes, HasFed, ReaderRuns}
 use Rattle.rnxcmp_c.proofs.Words.{StandsBy, answer_now, HandlePast, fed_with, Task, StopsSoon}
 use Rattle.rnxcmp_c.proofs.Words.{filter_for, Answer, Reader}
@@ -18,20 +18,8 @@ module _ (task : Task) (old new : Reader) (past : HandlePast) (bytes allowed : L
   fed-bytes some fed count soon =
       let most : ℕ = INPUT_LIMIT - length past.fed in
       let same : allowed ≡ take most bytes = first ∙ ap (λ n. take (INPUT_LIMIT - n) bytes) runs.counted in
-      let long = ap length same in
-      let few : used ≤ most = omega (arith, count.within, long, length-take most bytes) in
-      record {
-        answers = answers;
-        within = omega (arith, count.within, long);
-        over = λ more none. absurd (omega (arith, some more, long, none));
-        fed = λ _. subst (λ (bs : List ℕ). HasFed past.fed task new (fed_with past bs))
-            (ap (take used) same ∙ take-take used most bytes few) fed;
-        some = λ more low. count.some (omega (arith, more, long)) low;
-        all = λ none less. count.all none (omega (arith, less, long));
-        soon = rw same at soon;
-        still = λ more. count.still;
-        ended = λ more ended. count.ended ended ∙ long;
-      }
+      let few : used ≤ most = omega (arith, count.within, ap length same, length-take most bytes) in
+      grind (arith, common_steps, take-take used most bytes few, same, fed, soon, count.some, count.all, count.still)
 
   -- there are some, and an input may have none of them
   pub passed-bytes : 0 < length bytes → length allowed ≡ 0 → used ≡ 0 → ReaderHasPassed task new past

@@ -5,7 +5,7 @@ use Rattle.rnxcmp_c.proofs.Words.{Some, None, take, arith, append-nil, length-ap
 use Rattle.rnxcmp_c.proofs.Words.{ended_lines_of, ended_lines-come_first, Outcome, ReaderRuns, FeedsBy}
 use Rattle.rnxcmp_c.proofs.Words.{HasEndedBy, HasFedBy, ReaderStands}
 use Rattle.rnxcmp_c.proofs.Words.{StandsBy, HandlePast, FilterResult, fed_with, limit_for}
-use Rattle.rnxcmp_c.proofs.Words.{subst, sym, nothing_fed, Task, Answer, AnyEngine, HandleState, Reader}
+use Rattle.rnxcmp_c.proofs.Words.{subst, nothing_fed, Task, Answer, AnyEngine, HandleState, Reader}
 use Rattle.rnxcmp_c.{proofs.Words.{◌⊎◌, FeedsBytes, HasFed}, specs.Handles.{IsFresh, ReaderEndsBy}}
 use Rattle.rnxcmp_c.specs.{Handles.{HasPassedBy, ReaderHasPassed, StopsEarly}, Holding.HoldsNothing}
 use Rattle.rnxcmp_c.{proofs.ReaderLemmas.ended-as, specs.Past.allowed_after}
@@ -86,19 +86,12 @@ pub feeds-stands : (task : Task) (old new : Reader) (past : HandlePast) (bytes :
     (answer : Answer) (outcome : Option Outcome) → ReaderStands task old past
     → FeedsBy task old new past bytes used answer outcome
     → ReaderStands task new (fed_with past (take used bytes))
-feeds-stands task old new past bytes used answer None stands feeds = pick (either-fed feeds)
-  where
-    now : HandlePast
-    now = fed_with past (take used bytes)
-
-    pick : HasFed past.fed task new now ⊎ ((0 < length bytes) × (used ≡ 0) × ReaderHasPassed task new past)
-        → ReaderStands task new now
-    pick (inl fed) = fed-stands past.fed task new now new.outcome fed
-    pick (inr (some, none, passed)) = subst (λ (p : HandlePast). ReaderStands task new p)
-        (none-fed past bytes used none) (passed-stands task new past new.outcome passed)
+feeds-stands task old new past bytes used answer None stands feeds =
+    ⊎_elim (fed-stands past.fed task new (fed_with past (take used bytes)) new.outcome) (λ passed.
+    subst (λ (p : HandlePast). ReaderStands task new p) (none-fed past bytes used passed.1)
+    (passed-stands task new past new.outcome passed.2)) (either-fed feeds)
 feeds-stands task old new past bytes used answer (Some outcome) stands (misused, none, same) =
-    subst (λ (reader : Reader). ReaderStands task reader (fed_with past (take used bytes))) (sym same)
-    (subst (λ (p : HandlePast). ReaderStands task old p) (none-fed past bytes used none) stands)
+    rw same (subst (λ (p : HandlePast). ReaderStands task old p) (none-fed past bytes used none) stands)
 
 pub ends-stands : (task : Task) (old new : Reader) (past : HandlePast) (answer : Answer)
     (outcome : Option Outcome) → ReaderStands task old past → ReaderEndsBy task old new past answer outcome

@@ -66,18 +66,8 @@ module _ (task : Task) (held mid : HandleState) (outcome : Outcome) (past : Hand
       → result.fault ≡ Some at → result.output ≡ past.output ++ waiting mid.output
       → result.messages ≡ (past.messages ++ waiting mid.messages) ++ error_text (Some at)
       → EndsAs P held past outcome
-  put-ends P result is one faulty output messages = record {
-    result = result;
-    is = is;
-    ends = ⊎_elim (λ down. inl (grind (arith, common_steps, append_assoc)))
-        (λ silently. inr (record {
-          at = at;
-          faulty = faulty;
-          answered = grind arith;
-          output = grind arith;
-          messages = grind arith;
-        })) put.said;
-  }
+  put-ends P result is one faulty output messages =
+      record { result = result; is = is; ends = grind (arith, common_steps, append_assoc, put.said) }
 
   -- it says that memory ran out at a line that comes after these, or at the end
   short-at : (is_line : ℕ → Type 0) (input : List ℕ) → at.fault ≡ OutOfMemory → is_line at.line
@@ -182,20 +172,7 @@ module _ (task : Task) (held mid : HandleState) (outcome : Outcome) (past : Hand
             status = OUTPUT_LIMIT;
             fault = None;
           };
-          is = record {
-            lines = lines;
-            others = others;
-            first = first;
-            before = before;
-            before_is = refl;
-            good = good;
-            after = with_one_more (filter_for task) lines others;
-            after_is = refl;
-            limited = limited;
-            within = within;
-            over = over;
-            result_is = refl;
-          };
+          is = grind (arith, common_steps);
           ends = inl (grind (arith, common_steps));
         },
         λ limited. grind (arith, common_steps),

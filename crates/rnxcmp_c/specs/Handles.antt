@@ -110,7 +110,7 @@ pub record ReaderRuns (task : Task) (reader : Reader) (past : HandlePast) : Type
   pub counted : reader.fed ≡ length past.fed
   pub within : reader.fed ≤ INPUT_LIMIT
 
--- a run has ended with one of these results, or with all of it but the message of its fault: the texts of it are
+-- a run has ended with one of these results, or with all of it but the message of its fault: its texts are
 -- what was taken, and then what is kept
 abbrev pub EndsAs : (FilterResult → Type 0) → HandleState → HandlePast → Outcome → Type 0
 EndsAs is_one held past outcome = RunHasEnded is_one (texts_made past (texts_of_held held))
@@ -140,7 +140,8 @@ IsLastLine fed line = line ≡ length (lines_of fed)
 abbrev pub IsLineReached : List ℕ → ℕ → Type 0
 IsLineReached fed line = line ≤ length (lines_of fed)
 
--- a run has the result of the bytes that were fed, unless memory ran out, or the output or the input was too long
+-- a run has the result of the bytes that were fed, unless memory ran out, or the output or the input was too
+-- long
 abbrev pub IsOver : Task → List ℕ → HandleState → FilterResult → Type 0
 IsOver task fed held result = (result ≡ result_for task fed)
     ⊎ (StopsEarly (IsLineReached fed) task fed held result ⊎ StopsWhenFull (run_for task) fed result)
@@ -154,7 +155,8 @@ StandsBy task reader past (Some outcome) =
 abbrev pub ReaderStands : Task → Reader → HandlePast → Type 0
 ReaderStands task reader past = StandsBy task reader past reader.outcome
 
--- bytes that came after others have ended it, and so for every input that begins with them; a fault's status is 1
+-- bytes that came after others have ended it, and so for every input that begins with them; the status of a
+-- fault is 1
 abbrev pub IsOverByBytes : List ℕ → Task → HandleState → HandlePast → Outcome → Type 0
 IsOverByBytes before task held past outcome = (more : List ℕ) → EndsWithin task
     (λ result. ((result ≡ result_for task (past.fed ++ more)) × (result.status ≡ 1))

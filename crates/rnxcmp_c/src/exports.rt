@@ -68,16 +68,6 @@ pub extern "C" fn rnxcmp_c_compact(
     answer_of(outcome, written, reported, max_output, output, messages)
 }
 
-/// The choices of an expansion: it uses alone whether faults are skipped.
-pub(crate) fn expansion_options(skip: bool) -> Options
-    ensures { result.skip ≡ skip }
-{
-    match Options::new(None, skip, b"") {
-        Ok(options) => options,
-        Err(_) => unreachable!(),
-    }
-}
-
 /// Expands Compact RINEX 3.0, with a warning for an epoch with a fault where `skip` says so, and at most
 /// `max_output` bytes of output (0: no limit).
 #[unsafe(no_mangle)]
@@ -113,16 +103,14 @@ pub extern "C" fn rnxcmp_c_expand(
     if input.len() as u64 > INPUT_LIMIT {
         return failed(0, Fault::InputTooLong);
     }
+    // An expansion uses alone whether faults are skipped.
+    let Ok(options) = Options::new(None, skip, b"") else {
+        unreachable!()
+    };
     let mut reader = Given::new(input);
     let mut written = Counted::new(alloc, output.len(), taken_at_most(max_output));
     let mut reported = Counted::new(alloc, messages.len(), ALL);
-    let outcome = expand(
-        alloc,
-        &mut reader,
-        &mut written,
-        &mut reported,
-        expansion_options(skip),
-    );
+    let outcome = expand(alloc, &mut reader, &mut written, &mut reported, options);
     answer_of(outcome, written, reported, max_output, output, messages)
 }
 

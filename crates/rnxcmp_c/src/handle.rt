@@ -21,7 +21,6 @@ ghost use Rattle.rnxcmp_c.specs.declared.answer.TheConstants.{MISUSED};
 
 use crate::answer::{Answer, BAD_DATE, MISUSED, bare, failed};
 use crate::engines::AnyEngine;
-use crate::exports::expansion_options;
 use crate::handle_state::HandleState;
 use crate::loose::Loose;
 use crate::reader::Reader;
@@ -154,7 +153,10 @@ pub extern "C" fn rnxcmp_c_open_expand(
     if handle.is_open {
         return bare(MISUSED, 0, 0);
     }
-    match LineEngine::<Expansion>::new(alloc, expansion_options(skip)) {
+    let Ok(options) = Options::new(None, skip, b"") else {
+        unreachable!()
+    };
+    match LineEngine::<Expansion>::new(alloc, options) {
         Ok(expander) => open(alloc, handle, AnyEngine::Expanding(expander), max_output),
         Err(_) => failed(0, Fault::OutOfMemory),
     }

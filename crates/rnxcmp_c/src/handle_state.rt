@@ -38,7 +38,7 @@ pub(crate) struct Mark {
 
 impl HandleState {
     ghost use Rattle.std.specs.Prelude.{◌≡◌, ◌<◌, ◌≤◌, false, true, IfOk};
-    ghost use Rattle.rnxcmp_c.specs.Holding.{AreCutTo, HoldsNothing, IsCutBack, IsMark, IsMarkWithin, StaysWithin, ready_in};
+    ghost use Rattle.rnxcmp_c.specs.Holding.{AreCutTo, HoldsNothing, IsMark, IsMarkWithin, ready_in};
     ghost use Rattle.rnxcmp_c.specs.declared.limits.TheConstants.{READY_LIMIT};
 
     /// What is held before the first byte.
@@ -76,25 +76,6 @@ impl HandleState {
             output: self.output.count(),
             messages: self.messages.count(),
         }
-    }
-
-    /// Counts the output since a mark; where it is more than there may be, lets go of it and of the messages
-    /// since, and answers `false`.
-    pub(crate) fn count_since(&mut self, mark: Mark) -> bool
-        requires { IsMarkWithin mark self.old }
-        ensures good { result ≡ true → StaysWithin mark.output self.old self.new }
-        ensures over { result ≡ false → IsCutBack mark self.old self.new }
-    {
-        if self.limit == 0 {
-            return true;
-        }
-        let added = (self.output.count() - mark.output) as u64;
-        if added > self.left {
-            self.cut_back(mark);
-            return false;
-        }
-        self.left -= added;
-        true
     }
 
     /// Lets go of what came of both texts since a mark.

@@ -80,9 +80,12 @@ fn counted(
     ensures good { OnOk result (IsCounted taken mark held.old held.new) }
     ensures stops { IfErr result (StopsCounted taken mark number held.old held.new) }
 {
-    if !held.count_since(mark) {
+    let added = (held.output.count() - mark.output) as u64;
+    if held.limit > 0 && added > held.left {
+        held.cut_back(mark);
         return Err(Stop::Limit);
     }
+    held.left = held.left.saturating_sub(added);
     match taken {
         Ok(warned) => {
             held.warned = held.warned || warned;

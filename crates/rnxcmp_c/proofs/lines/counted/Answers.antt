@@ -1,4 +1,5 @@
-use Rattle.rnxcmp_c.proofs.Words.{inr, refl, rules}
+use Rattle.std.proofs.lemmas.Grind.{common_steps}
+use Rattle.rnxcmp_c.proofs.Words.{arith, inr, refl, rules}
 use Rattle.rnxcmp_c.proofs.lines.counted.Goals as goal
 
 pub returns-in-Err-Unwritten-clause-stops : goal.returns-in-Err-Unwritten-clause-stops
@@ -6,5 +7,9 @@ returns-in-Err-Unwritten-clause-stops c =
     inr (
       search rules,
       refl,
-      (c.count_since.new.self, c.count_since.ensures.good c.if-not-count_since.false, c.cut_back.ensures),
+      (
+        record c.args.held.now { left = c.saturating_sub-held.result },
+        record { same = refl; left = grind (arith, common_steps) },
+        c.cut_back-in-Err-Unwritten.ensures,
+      ),
     )
