@@ -4,8 +4,9 @@ use Rattle.crx_compact.proofs.Words.{subst, Some, arith, map-append, columns, Is
 use Rattle.crx_compact.proofs.Words.{IsAwaitedSatellite, Satellite, PlacedRows, padded, padded_among, RowTail}
 use Rattle.crx_header.specs.meaning.Satellites.{is_identifier}
 use Rattle.crx_header.proofs.Apart.{among-map}
-use Rattle.crx_compact.specs.Placing.{HasCome}
-use Rattle.crx_compact.proofs.ComeRows.{AreAwaited, awaited-after, come-name, come-padded}
+use Rattle.crx_compact.specs.{EpochLinesRead.AreSatellitesRefused, Placing.HasCome}
+use Rattle.crx_compact.proofs.{ComeRows.{AreAwaited, awaited-after, come-name, come-padded}, Results.no-err}
+use Rattle.crx_compact.proofs.Words.{Err, Fault, KeepsRooms, OutOfMemory, Result, false≢true, is_ok, ◌⊎◌}
 
 -- whether a satellite has come, by the rows that have
 pub among-rows : (before rows : List RowTail) (found : List Satellite) (name : List ℕ) (b : Bool)
@@ -40,3 +41,15 @@ pub awaited-one : (name text : List ℕ) (first count : ℕ) → name ≡ column
     → is_identifier (columns name 1 3) ≡ true → IsAllowedCount count
     → IsAwaitedSatellite (record { name = name; count = count })
 awaited-one name text first count is named allowed = grind arith
+
+-- ---- refusals
+
+-- where there is a fault, no room was asked for
+pub unasked : {X Y : Type 0} (made : Result X Fault) (fault : Fault) → made ≡ Err fault
+    → (is_ok made ≡ true) ⊎ Y → Y
+unasked made fault is asked = search (rules, false≢true, is_ok)
+
+pub refused-by : (fault : Fault) (made : Result (List Satellite) Fault) (old new : PlacedRows)
+    → (fault ≡ OutOfMemory → ⊥) → made ≡ Err fault → KeepsRooms new.rooms old.rooms
+    → AreSatellitesRefused made old new fault
+refused-by fault made old new other is back = search (rules, unasked, no-err)

@@ -7,13 +7,22 @@ use Rattle.crx_compact.proofs.Words.{Option, Idle, Reading, with_rows}
 use Rattle.crx_compact.proofs.{reading.Stages.state-rows}
 use Rattle.crx_compact.specs.{OpenLines.IsLineTaken, PrintedBlocks.ArePrinted}
 use Rattle.crx_compact.proofs.{RowByRow.printed-next}
-use Rattle.crx_compact.specs.{Blocks.{HasTakenLine}, PrintedBlocks.IsPrinted}
+use Rattle.crx_compact.specs.{Blocks.{HasTakenLine, no_lines}, PrintedBlocks.IsPrinted}
 use Rattle.std.proofs.lemmas.List.{take-set-le}
 
 -- all lines are those of the epoch
 pub block-whole : (tail : Tail) (lines : List (List ℕ)) → lines ≡ lines_to (length tail.rows) tail
     → lines ≡ printed_epoch (shown_epoch tail (length tail.rows))
 block-whole tail lines is = grind (arith, take_all)
+
+-- the first line, in place of all lines
+pub head-printed : (count : ℕ) (tail : Tail) (line : List ℕ) (none block : PendingLines) → count ≡ 0 → none ≡ no_lines
+    → block.lines ≡ none.lines ++ line ∷ [] → HasTakenLine none block
+    → line ≡ printed_head (columns tail.text 1 HEAD_WIDTH) (shown_value tail.clock) → IsPrinted count tail block
+head-printed count tail line none block zero emptied lines taken is = record {
+  lines = lines ∙ (λ j. PendingLines.lines (emptied j) ++ is j ∷ []) ∙ ap (λ n. lines_to n tail) (sym zero);
+  left = omega (arith, zero, taken.left, ap (λ (l : PendingLines). l.left) emptied);
+}
 
 -- one row more
 pub row-printed : (tail : Tail) (count : ℕ) (row : RowTail) (old new : PendingLines)

@@ -1,8 +1,8 @@
 -- Good results come from good results.
 use Rattle.crx_compact.proofs.Words.{◌≡◌, refl, Bool, true, not, List, [], ◌∷◌, ◌++◌, Result, Ok, Err}
-use Rattle.crx_compact.proofs.Words.{Option, None, Some, IfSome, if◌then◌else◌, is_ok, sym, ap, subst}
+use Rattle.crx_compact.proofs.Words.{Option, Some, IfSome, if◌then◌else◌, is_ok, sym, ap, subst}
 use Rattle.crx_compact.proofs.Words.{true≢false, Fault, and_then, before_all, arith}
-use Rattle.std.specs.{Prelude.{OnOk, is_some}}
+use Rattle.std.specs.{Prelude.{OnOk}}
 
 pub no-err : {X : Type 0} (f : Fault) (x : X) → Err f ≡ Ok x → ⊥
 no-err f x e = true≢false (sym (ap is_ok e))
@@ -62,6 +62,3 @@ by_ok r good x = grind arith
 
 pub from_some : {T : Type 0} (P : T → Type 0) (o : Option T) (x : T) → o ≡ Some x → IfSome o P → P x
 from_some P o x is h = subst (λ q. IfSome q P) is h
-
-pub some-otherwise : {T : Type 0} (o : Option T) → (o ≡ None → ⊥) → is_some o ≡ true
-some-otherwise o other = grind arith

@@ -1,9 +1,10 @@
 -- Rows one by one: what holds of each, and what is made of those up to an index.
-use Rattle.crx_compact.proofs.Words.{◌≡◌, ◌<◌, ◌+◌, ◌++◌, ◌∷◌, [], ℕ, zero, suc, List, Some, All, length}
+use Rattle.crx_compact.proofs.Words.{◌≡◌, ◌<◌, ◌+◌, ◌++◌, ◌∷◌, [], ℕ, zero, suc, List, Option, Some, All, length, same_Some}
 use Rattle.crx_compact.proofs.Words.{take, map, slice_get, refl, ap, sym, ◌∙◌, subst, arith}
 use Rattle.crx_compact.proofs.Words.{map-append, slice_get_within}
 use Rattle.crx_compact.proofs.{Words.{printed_row, shown_row, RowTail}, Making.taken_more}
-use Rattle.std.proofs.{Common.append_assoc, lemmas.Option.get_or_from_slice_get}
+use Rattle.crx_compact.specs.Entries.{Entry}
+use Rattle.std.proofs.{Common.{Bool, IsTrue, append_assoc, ◌≤◌, ◌↔◌}, lemmas.Option.get_or_from_slice_get}
 use Rattle.std.proofs.lemmas.List.{Elements.All-push}
 
 -- ---- what holds of each
@@ -16,6 +17,12 @@ all-next P xs k x so_far here p =
 pub all-at : {X : Type 0} (P : X → Type 0) (xs : List X) (k : ℕ) (x : X) → All P xs
     → slice_get xs k ≡ Some x → P x
 all-at P xs k x h here = subst P (get_or_from_slice_get xs k x x here) (h k x (slice_get_within xs k x here))
+
+-- whether an entry that is there has room
+pub room-known : {o : Option Entry} {entry : Entry} (count : ℕ) (has : Bool) → o ≡ Some entry
+    → IsTrue has ↔ (count ≤ entry.1.room) → (e : Entry) → o ≡ Some e → IsTrue has ↔ (count ≤ e.1.room)
+room-known count has is known e also =
+    subst (λ (e : Entry). IsTrue has ↔ (count ≤ e.1.room)) (same_Some _ e (sym is ∙ also)) known
 
 -- ---- the item at an index
 

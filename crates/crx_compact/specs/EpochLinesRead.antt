@@ -1,7 +1,6 @@
 -- What reading an epoch line makes of a history: its satellites have come, or the line is refused.
 use Rattle.std.specs.Prelude.{◌≡◌, ℕ, List, [], All, length, map, Result, Ok, Some, None, OnOk}
-use Rattle.std.specs.Prelude.{IfErr, IfOk, Bool, true, ◌⊎◌}
-use Rattle.std.specs.Result.{is_ok}
+use Rattle.std.specs.Prelude.{IfErr}
 use Rattle.crx_base.specs.declared.fault.Fault.{Fault}
 use Rattle.crx_base.specs.declared.fault.Fault.TheVariants.{OutOfMemory}
 use Rattle.crx_text.specs.Texts.{patched}
@@ -10,7 +9,7 @@ use Rattle.crx_header.specs.meaning.Satellites.{types_of_satellite}
 use Rattle.crx_compact.specs.HeldRows.{IsAwaitedSatellite, past_of_tail}
 use Rattle.crx_compact.specs.meaning.CompactPlaces.{satellites_of_line}
 use Rattle.crx_compact.specs.meaning.EpochText.{Satellite}
-use Rattle.crx_compact.specs.Placing.{HasRoom, HaveTypesRoom, IsAnnounced, IsPlaced, KeepsRooms, OpenHistory}
+use Rattle.crx_compact.specs.Placing.{HasRoom, HaveTypesRoom, IsAnnounced, KeepsRooms, OpenHistory}
 use Rattle.crx_compact.specs.Placing.{PlacedRows, padded, padded_among, satellite_of, tail_of_history}
 use Rattle.crx_compact.specs.Refusals.{AnswersRefusal}
 use Rattle.crx_compact.specs.Steps.{tail_named}
@@ -55,15 +54,6 @@ pub record AreSatellitesRefused (made : Result (List Satellite) Fault) (old new 
 pub record AnswersSatellites (made : Result (List Satellite) Fault) (old new : PlacedRows)
     (answer : Result (Unit {0}) Fault) : Type 0 where
   pub ok : OnOk answer (AreSatellitesRead made old new)
-  pub err : IfErr answer (AreSatellitesRefused made old new)
-  pub rooms : KeepsRooms old.rooms new.rooms
-
--- a satellite of an epoch text has come, with room for so many types, where none of its satellites has a fault or no room was asked for; or the
--- text is refused. No satellite has less room than before
-pub record AnswersName (made : Result (List Satellite) Fault) (name : List ℕ) (cells : ℕ) (old new : PlacedRows)
-    (answer : Result Bool Fault) : Type 0 where
-  pub ok : IfOk answer (IsPlaced name cells old new)
-  pub back : OnOk answer ((is_ok made ≡ true) ⊎ KeepsRooms new.rooms old.rooms)
   pub err : IfErr answer (AreSatellitesRefused made old new)
   pub rooms : KeepsRooms old.rooms new.rooms
 

@@ -5,12 +5,14 @@ use Rattle.std.specs.Prelude.{All, unwrap_or, ◌+◌, ◌*◌, ◌<◌, Bool, t
 use Rattle.std.specs.Str.{bytes_eq}
 use Rattle.crx_text.specs.meaning.EachPlace.{each_place}
 use Rattle.crx_compact.specs.ArcTails.{ArcTail}
+use Rattle.crx_compact.specs.meaning.CompactPlaces.{are_marks}
 use Rattle.crx_compact.specs.meaning.EpochText.{Satellite}
 use Rattle.crx_compact.specs.meaning.Sequences.{named}
-use Rattle.std.specs.Prelude.{Err, IfErr, IfOk, IsOk, Ok, OnOk, Result, ◌⊎◌, slice_get, slice_set}
+use Rattle.std.specs.Prelude.{Err, IfErr, IfOk, IsOk, Ok, OnOk, Result, ◌⊎◌, slice_get, slice_set, take}
 use Rattle.crx_header.specs.meaning.ObservationTypes.{Count, IsAllowedCount}
 use Rattle.crx_compact.specs.HeldRows.{AreHeldFlags, HeldRow, IsAwaitedSatellite, row_held}
 use Rattle.crx_base.specs.declared.fault.Fault.{Fault}
+use Rattle.crx_base.specs.declared.fault.Fault.TheVariants.{BadFlags}
 use Rattle.crx_text.specs.meaning.Texts.{text_difference}
 use Rattle.crx_compact.specs.RowsSoFar.{AreAnnounced, NamesSatellites}
 use Rattle.crx_compact.specs.ShownRows.{shown_row}
@@ -20,6 +22,7 @@ use Rattle.crx_rinex.specs.meaning.Observations.{Row}
 use Rattle.crx_rinex.specs.meaning.SatelliteLines.{IsSoundRow}
 use Rattle.crx_base.specs.declared.limits.TheConstants.{HEAD_WIDTH, NAME_WIDTH, TYPES_LIMIT}
 use Rattle.crx_header.specs.meaning.Satellites.{is_among, types_of_satellite}
+use Rattle.crx_text.specs.Texts.{patched}
 use Rattle.crx_text.specs.meaning.Columns.{columns, without_end_blanks}
 
 -- what is stored of a satellite: its indicators without the blanks at their end, the tail of each cell's arc, and how many types it has
@@ -178,6 +181,13 @@ satellite_of row = record { name = row.name; count = length row.cells }
 -- what a satellite's line makes of what is stored of the satellite: its row, and what is stored after it; or its fault
 abbrev pub row_read : RowTail → List ℕ → Result HeldRow Fault
 row_read row line = row_held (Some row) (satellite_of row) line
+
+-- marks were read over the indicators of so many types, which they change, or are none
+pub record AnswersMarks (count : ℕ) (marks old new : List ℕ) (answer : Result (Unit {0}) Fault) : Type 0 where
+  pub good : OnOk answer (are_marks count marks ≡ true)
+  pub patched : OnOk answer (take (2 * count) new ≡ columns (patched (take (2 * count) old) marks) 1 (2 * count))
+  pub kept : AreHeldFlags (take (2 * count) new)
+  pub err : IfErr answer (λ fault. (are_marks count marks ≡ false) × (fault ≡ BadFlags))
 
 -- a satellite's line was read, whatever its identifier is: what is stored after it shows the row; or its fault is answered. The satellite has
 -- as many types as before, and as much room

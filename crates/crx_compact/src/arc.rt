@@ -1,7 +1,7 @@
 //! Arcs: Hatanaka's Compact RINEX 3.0, data arcs. An arc's values become codes and come back from them by
 //! running differences: an arc is stored as its order and its latest differences of order 0, 1, .. up to it.
 
-ghost use Rattle.std.specs.Prelude.{◌≡◌, ◌≤◌, ◌<◌, ◌+◌, ◌*◌, ◌^◌, ◌++◌, ◌∷◌, [], ℤ, List, Option, None, Some, Ok, Err, length, take, IfSome, OnSome, IfNone, OnOk, OnErr, IsTrue, ◌↔◌};
+ghost use Rattle.std.specs.Prelude.{◌≡◌, ◌≤◌, ◌<◌, ◌+◌, ◌*◌, ◌^◌, ◌∷◌, [], ℤ, List, Option, None, Some, Ok, Err, length, take, IfSome, OnSome, IfNone, OnOk, OnErr, IsTrue, ◌↔◌};
 ghost use Rattle.crx_text.specs.Codes.{IsPrintable, IsShort};
 ghost use Rattle.crx_text.specs.meaning.Numbers.{IsMissingOrWithin, IsWithin};
 ghost use Rattle.crx_compact.specs.ArcTails.{HasThird};

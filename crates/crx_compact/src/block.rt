@@ -178,7 +178,8 @@ impl Block {
         use_bytes(&mut self.bytes, self.filled);
         let filled = self.filled;
         let bytes = self.bytes.as_mut_slice();
-        let length = satellites.print_line(index, bytes, filled);
+        let (name, satellite) = satellites.entry(index);
+        let length = satellite.print_line(*name, bytes, filled);
         bytes[filled + length] = b'\n';
         self.lengths[self.count] = length;
         self.count += 1;

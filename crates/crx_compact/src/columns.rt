@@ -18,7 +18,7 @@ ghost use Rattle.crx_compact.specs.Placing.{KeepsRooms};
 ghost use Rattle.crx_compact.specs.ReadingRooms.{AsksRoomToBegin};
 ghost use Rattle.crx_compact.specs.Blocks.{PendingLines};
 ghost use Rattle.crx_compact.specs.PrintedBlocks.{ArePrinted};
-ghost use Rattle.crx_compact.specs.OpenEpochs.{OpenRawEpoch, Going, awaits_row, is_faulty, is_idle, makes_epoch, tail_held, first_step, step_in, Faulty, HasMade, HasPrintedLines};
+ghost use Rattle.crx_compact.specs.OpenEpochs.{awaits_row, is_idle, makes_epoch, tail_held, first_step, step_in, Faulty, HasMade, HasPrintedLines};
 ghost use Rattle.crx_compact.specs.OpenEpochs.ColumnsState.{Idle};
 ghost use Rattle.crx_compact.specs.meaning.Compaction.{Marked, compact_epoch};
 ghost use Rattle.crx_compact.specs.Tails.{tail_left, tail_or_nothing};

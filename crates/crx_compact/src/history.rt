@@ -1,32 +1,30 @@
 //! The history, which each epoch's lines are made and read after, and which they change in place: Hatanaka's
 //! Compact RINEX 3.0.
 
-ghost use Rattle.std.specs.Prelude.{List, ℕ, flat_map, ◌≡◌, ◌≤◌, ◌<◌, ◌+◌, ◌-◌, ◌*◌, ◌++◌, ◌∷◌, if◌then◌else◌, [], true, false, None, Some, Ok, Err, All, length, take, map, slice_get, is_some, OnOk, OnErr, IfOk, IfErr};
-ghost use Rattle.crx_text.specs.meaning.Columns.{columns, without_end_blanks};
+ghost use Rattle.std.specs.Prelude.{List, ◌≡◌, ◌≤◌, ◌<◌, ◌+◌, ◌-◌, ◌*◌, if◌then◌else◌, [], true, false, None, Some, Ok, Err, All, length, take, map, is_some, OnOk, OnErr, IfOk, IfErr};
+ghost use Rattle.crx_text.specs.meaning.Columns.{columns};
 ghost use Rattle.crx_base.specs.Padded.{line_in};
 ghost use Rattle.crx_base.specs.declared.limits.TheConstants.{HEAD_WIDTH, LINE_LIMIT, NAME_WIDTH, SATELLITES_LIMIT};
 ghost use Rattle.crx_header.specs.meaning.EpochColumns.{begins_epoch, epoch_count};
 ghost use Rattle.crx_rinex.specs.Epochs.{is_full_epoch};
-ghost use Rattle.crx_rinex.specs.meaning.Epochs.{IsSoundEpoch, has_satellite};
 ghost use Rattle.crx_rinex.specs.meaning.Observations.{Row};
 ghost use Rattle.crx_header.specs.meaning.Satellites.{types_of_satellite};
-ghost use Rattle.crx_rinex.specs.meaning.Printing.{printed_head};
 ghost use Rattle.crx_compact.specs.ArcSteps.{shown_value};
-ghost use Rattle.crx_compact.specs.EpochLinesRead.{AnswersEpochLine, AnswersName, AnswersSatellites, history_cleared};
+ghost use Rattle.crx_compact.specs.EpochLinesRead.{AnswersEpochLine, AnswersSatellites, history_cleared};
 ghost use Rattle.crx_compact.specs.HeldRows.{IsAwaitedSatellite, past_of_tail};
-ghost use Rattle.crx_compact.specs.Blocks.{HasTakenLine, no_lines};
+ghost use Rattle.crx_compact.specs.Blocks.{no_lines};
 ghost use Rattle.crx_compact.specs.declared.block.TheConstants.{FIRST_LINES};
 ghost use Rattle.crx_compact.specs.declared.history.TheConstants.{EPOCH_TEXT_LIMIT};
 ghost use Rattle.crx_compact.specs.PrintedBlocks.{IsPrinted};
 ghost use Rattle.crx_compact.specs.meaning.CompactPlaces.{clock_line_read, satellites_of_text};
 ghost use Rattle.crx_compact.specs.meaning.EpochText.{names_in, satellites_named};
-ghost use Rattle.crx_compact.specs.Placing.{AnswersRow, AsksRoom, HasAllowedCount, HaveRoom, IsAnnounced, KeepsRooms, PreparesRow, no_history, padded, row_of_parts, satellite_of, tail_of_history};
+ghost use Rattle.crx_compact.specs.Placing.{AnswersRow, HasAllowedCount, IsAnnounced, KeepsRooms, PreparesRow, no_history, padded, row_of_parts, satellite_of, tail_of_history};
 ghost use Rattle.crx_compact.specs.Written.{AnswersWriting, AreRowsWritten, IsEpochWritten, epoch_by_rows};
 ghost use Rattle.crx_rinex.specs.meaning.SatelliteLines.{IsSoundRow};
 ghost use Rattle.crx_compact.specs.RowsSoFar.{NamesSatellites, HasClock};
 ghost use Rattle.crx_compact.specs.ShownRows.{shown_epoch};
 ghost use Rattle.crx_compact.specs.Steps.{no_tail};
-ghost use Rattle.crx_compact.specs.Tails.{RowTail, Tail};
+ghost use Rattle.crx_compact.specs.Tails.{Tail};
 
 use crate::arc::ClockArc;
 use crate::block::Block;
@@ -121,7 +119,12 @@ impl History {
         ensures rooms { KeepsRooms self.old.satellites.rooms self.new.satellites.rooms }
     {
         prove!(epoch.is_full());
-        prepare_rows(&mut self.satellites, epoch)?;
+        let satellites = &mut self.satellites;
+        let mut prepared = 0;
+        while let Some(wanting) = epoch.row(prepared) {
+            satellites.prepare(wanting.name(), wanting.values().len())?;
+            prepared += 1;
+        }
         self.begin_rows(in_full);
         let mut index = 0;
         while let Some(row) = epoch.row(index) {
@@ -299,7 +302,8 @@ impl History {
     {
         let mut epoch = Epoch::new(self.alloc, self.head());
         for index in 0..self.satellites.placed() {
-            match epoch.push(self.satellites.row(index, self.alloc)?) {
+            let (name, satellite) = self.satellites.entry(index);
+            match epoch.push(satellite.row(self.alloc, *name)?) {
                 Ok(()) => {}
                 Err((_, Fault::OutOfMemory)) => return Err(AllocError),
                 Err(_) => unreachable!(),
@@ -317,23 +321,6 @@ impl History {
         EpochLine::new(padded(&self.text[..self.length], 1), self.clock.value()).unwrap()
     }
 
-    /// Puts the first line of the epoch that the history shows after others, for which there is room. Most
-    /// epochs have no clock offset: then the columns are put as they are, which saves some 130 instructions.
-    pub(crate) fn put_head(&self, lines: &mut Block, scratch: &mut Text)
-        requires announced { is_some (epoch_count (columns self.now.text 1 HEAD_WIDTH)) ≡ true }
-        requires left { 0 < lines.old.left }
-        ensures lines { lines.new.lines ≡ lines.old.lines
-            ++ printed_head (columns self.now.text 1 HEAD_WIDTH) (shown_value self.now.clock) ∷ [] }
-        ensures taken { HasTakenLine lines.old lines.new }
-    {
-        let Some(_) = self.clock.value() else {
-            lines.put(end_trimmed(&self.text[..self.length], 1, HEAD_WIDTH));
-            return;
-        };
-        print_head(&self.head(), scratch);
-        lines.put(scratch.bytes());
-    }
-
     /// Prints what the line that came last has made known of an epoch of which so many rows have come: its
     /// first line, in place of all lines, or the last of these rows, behind the others.
     #[inline(always)]
@@ -345,23 +332,17 @@ impl History {
     {
         if count == 0 {
             lines.clear();
-            self.put_head(lines, scratch);
+            // Most epochs have no clock offset: that the columns are put as they are saves 130 instructions.
+            let Some(_) = self.clock.value() else {
+                lines.put(end_trimmed(&self.text[..self.length], 1, HEAD_WIDTH));
+                return;
+            };
+            print_head(&self.head(), scratch);
+            lines.put(scratch.bytes());
             return;
         }
         lines.put_printed(&self.satellites, count - 1);
     }
-}
-
-/// Asks for all memory that the satellites of an epoch's rows need.
-fn prepare_rows(satellites: &mut Satellites, epoch: &Epoch) -> Result<(), AllocError>
-    ensures { AsksRoom (HaveRoom epoch.now.rows) satellites.old satellites.new result }
-{
-    let mut index = 0;
-    while let Some(row) = epoch.row(index) {
-        satellites.prepare(row.name(), row.values().len())?;
-        index += 1;
-    }
-    Ok(())
 }
 
 /// Has the satellites of an epoch text come, each with as many types as its system has. It is given whether
@@ -417,36 +398,18 @@ fn read_names(
         let Some(cells) = types_of_satellite(types, &name) else {
             return Err(Fault::BadSatellite);
         };
-        if !place_name(types, text, count, satellites, name, cells)? {
+        // Mostly it has room; else room is asked for all of the text, and only where none has a fault.
+        let is_new = match satellites.place(&name, cells) {
+            Some(is_new) => is_new,
+            None => {
+                prepare_names(types, text, count, satellites)?;
+                satellites.place(&name, cells).unwrap()
+            }
+        };
+        if !is_new {
             return Err(Fault::RepeatedSatellite);
         }
         satellites.resize_last(cells);
     }
     Ok(())
-}
-
-/// Has a satellite of an epoch text come, with room for so many types; `false` comes where it has come
-/// already. Mostly it has the room; else room is asked for all of the text at once, and only where none has a
-/// fault.
-#[inline(always)]
-fn place_name(
-    types: &Types,
-    text: &[u8],
-    count: usize,
-    satellites: &mut Satellites,
-    name: [u8; NAME_WIDTH],
-    cells: usize,
-) -> Result<bool, Fault>
-    requires few { count ≤ SATELLITES_LIMIT }
-    requires there { (index : ℕ) × (index < count)
-        × (name ≡ columns text.now (HEAD_WIDTH + 1 + NAME_WIDTH * index) NAME_WIDTH)
-        × (types_of_satellite types.now name ≡ Some cells) }
-    ensures { AnswersName (satellites_named types.now [] (names_in text.now count)) name cells satellites.old
-        satellites.new result }
-{
-    if let Some(is_new) = satellites.place(&name, cells) {
-        return Ok(is_new);
-    }
-    prepare_names(types, text, count, satellites)?;
-    Ok(satellites.place(&name, cells).unwrap())
 }

@@ -19,14 +19,6 @@ fn has_same_ends<const N: usize>(text: &[u8], other: &[u8]) -> bool
         && Simd::<u8, N>::from_slice(&text[last..]) == Simd::<u8, N>::from_slice(&other[last..])
 }
 
-/// Whether two texts of any length are the same, by a call of the C library.
-#[inline(never)]
-fn is_same_by_call(text: &[u8], other: &[u8]) -> bool
-    ensures { MatchBool result (text.now ≡ other.now) (text.now ≢ other.now) }
-{
-    text == other
-}
-
 /// Whether two texts are the same. The indicators of 2 to 32 types are compared by their two ends, which may
 /// overlap; a call takes some 40 instructions more.
 #[inline(always)]
@@ -42,6 +34,6 @@ pub fn is_same_text(text: &[u8], other: &[u8]) -> bool
         9..=16 => has_same_ends::<8>(text, other),
         17..=32 => has_same_ends::<16>(text, other),
         33..=64 => has_same_ends::<32>(text, other),
-        _ => is_same_by_call(text, other),
+        _ => text == other,
     }
 }

@@ -1,10 +1,9 @@
 //! What is stored of a satellite: its indicators and the arcs of its cells, changed in place by each of its
 //! lines. Hatanaka's Compact RINEX 3.0, satellite lines.
 
-ghost use Rattle.std.specs.Prelude.{All, ℕ, List, ◌≡◌, ◌≤◌, ◌<◌, ◌+◌, ◌-◌, ◌*◌, ◌++◌, [], None, Ok, Err, true, false, length, replicate, take, OnOk, IfOk, IfErr, IsTrue, ◌↔◌, vec_capacity};
+ghost use Rattle.std.specs.Prelude.{All, ◌≡◌, ◌≤◌, ◌<◌, ◌+◌, ◌-◌, ◌*◌, ◌++◌, [], Ok, Err, true, false, length, take, IfOk, IsTrue, ◌↔◌, vec_capacity};
 ghost use Rattle.std.specs.List.{flat_map};
-ghost use Rattle.crx_text.specs.meaning.Columns.{columns, without_end_blanks};
-ghost use Rattle.crx_text.specs.Texts.{patched};
+ghost use Rattle.crx_text.specs.meaning.Columns.{without_end_blanks};
 ghost use Rattle.crx_base.specs.declared.limits.TheConstants.{CELL_WIDTH, LINE_LIMIT, NAME_WIDTH, TYPES_LIMIT};
 ghost use Rattle.crx_header.specs.meaning.EpochColumns.{begins_epoch};
 ghost use Rattle.crx_header.specs.meaning.ObservationTypes.{IsAllowedCount};
@@ -17,8 +16,7 @@ ghost use Rattle.crx_compact.specs.HeldRows.{AreHeldFlags};
 ghost use Rattle.crx_compact.specs.Blocks.{IsLinePut};
 ghost use Rattle.crx_compact.specs.meaning.Cells.{cell_text};
 ghost use Rattle.crx_text.specs.meaning.Numbers.{IsValue};
-ghost use Rattle.crx_compact.specs.meaning.CompactPlaces.{are_marks};
-ghost use Rattle.crx_compact.specs.Placing.{AnswersReading, AnswersRoom, FitsFlags, IsMarked, resized, row_tail_of};
+ghost use Rattle.crx_compact.specs.Placing.{AnswersMarks, AnswersReading, AnswersRoom, FitsFlags, IsMarked, resized, row_tail_of};
 ghost use Rattle.crx_compact.specs.ShownRows.{shown_row};
 
 use crate::arc::ObsArc;
@@ -30,7 +28,7 @@ use crx_header::{after_columns, all_blank, put_identifier};
 use crx_rinex::{SatRow, put_flags};
 use crx_text::block::put_text;
 use crx_text::difference::{append_difference, patch_bytes};
-use crx_text::{Text, copy_text, put_blanks, trim_end};
+use crx_text::{Text, copy_text, trim_end};
 use std::alloc::{AllocError, Global};
 use std::marker::Model;
 
@@ -142,7 +140,14 @@ impl SatelliteHistory {
             self.count = count;
             return;
         }
-        blank_types(&mut self.indicators, &mut self.arcs, self.count, count);
+        let from = self.count;
+        let indicators = self.indicators.as_mut_slice();
+        let arcs = self.arcs.as_mut_slice();
+        for index in from..count {
+            indicators[2 * index] = b' ';
+            indicators[2 * index + 1] = b' ';
+            arcs[index].end();
+        }
         self.count = count;
     }
 
@@ -258,24 +263,6 @@ impl SatelliteHistory {
     }
 }
 
-/// Blanks the indicators and ends the arcs of the types from one on, up to another.
-#[cold]
-#[inline(never)]
-fn blank_types(indicators: &mut [u8], arcs: &mut [ObsArc], from: usize, to: usize)
-    requires more { from ≤ to }
-    requires within { to ≤ length arcs.old }
-    requires few { length arcs.old ≤ TYPES_LIMIT }
-    requires paired { length indicators.old ≡ 2 * length arcs.old }
-    ensures indicators { take (2 * to) indicators.new
-        ≡ take (2 * from) indicators.old ++ replicate (2 * to - 2 * from) 32 }
-    ensures arcs { take to arcs.new ≡ take from arcs.old ++ replicate (to - from) None }
-{
-    put_blanks(&mut indicators[2 * from..2 * to]);
-    for index in from..to {
-        arcs[index].end();
-    }
-}
-
 /// Puts a text in place of the first bytes of a longer one.
 pub(crate) fn put_first(bytes: &mut [u8], text: &[u8])
     requires { length text.now ≤ length bytes.old }
@@ -299,11 +286,7 @@ fn patch_indicators(
     requires allowed { IsAllowedCount count }
     requires held { AreHeldFlags (take (2 * count) indicators.old) }
     requires short { length marks.now ≤ LINE_LIMIT }
-    ensures marks { OnOk result (are_marks count marks.now ≡ true) }
-    ensures patched { OnOk result (take (2 * count) indicators.new
-        ≡ columns (patched (take (2 * count) indicators.old) marks.now) 1 (2 * count)) }
-    ensures kept { AreHeldFlags (take (2 * count) indicators.new) }
-    ensures err { IfErr result (λ fault. (are_marks count marks.now ≡ false) × (fault ≡ Fault.BadFlags)) }
+    ensures { AnswersMarks count marks.now indicators.old indicators.new result }
 {
     if !all_blank(after_columns(marks, 2 * count)) {
         return Err(Fault::BadFlags);

@@ -1,36 +1,44 @@
 //! The satellites of a history, in the order of the file: Hatanaka's Compact RINEX 3.0.
 
-ghost use Rattle.std.specs.Prelude.{List, ℕ, All, ◌≡◌, ◌≤◌, ◌<◌, ◌+◌, ◌*◌, ◌++◌, ◌∷◌, ◌⊎◌, [], true, false, is_some, None, Some, Ok, Err, length, take, map, slice_get, slice_index_or, slice_set, swap, vec_capacity, vec_len, OnOk, OnErr, IfOk, IfErr, IfSome, IsOk, IsTrue, ◌↔◌};
+ghost use Rattle.std.specs.Prelude.{List, ℕ, All, ◌≡◌, ◌≤◌, ◌<◌, ◌+◌, ◌*◌, ◌++◌, ◌∷◌, [], false, is_some, None, Some, length, take, map, slice_get, slice_index_or, swap, OnErr, IfOk, IfSome, IsOk};
 ghost use Rattle.std.specs.Bool.{OnTrue};
 ghost use Rattle.std.specs.List.{flat_map};
 ghost use Rattle.std.specs.Map.{lookup};
 ghost use Rattle.std.specs.Str.{bytes_eq};
 ghost use Rattle.crx_base.specs.Padded.{line_in};
-ghost use Rattle.crx_base.specs.declared.limits.TheConstants.{CELL_WIDTH, HEAD_WIDTH, LINE_LIMIT, NAME_WIDTH, TYPES_LIMIT};
+ghost use Rattle.crx_base.specs.declared.limits.TheConstants.{HEAD_WIDTH, LINE_LIMIT, NAME_WIDTH, TYPES_LIMIT};
 ghost use Rattle.crx_header.specs.meaning.EpochColumns.{begins_epoch};
-ghost use Rattle.crx_header.specs.meaning.ObservationTypes.{IsAllowedCount};
-ghost use Rattle.crx_header.specs.meaning.Satellites.{is_among, is_identifier};
-ghost use Rattle.crx_rinex.specs.meaning.Printing.{printed_row};
+ghost use Rattle.crx_header.specs.meaning.Satellites.{is_among};
 ghost use Rattle.crx_compact.specs.declared.cells.TheConstants.{CELL_ROOM};
 ghost use Rattle.crx_compact.specs.Blocks.{IsLinePut};
-ghost use Rattle.crx_compact.specs.Entries.{Entry, IsAt, IsFound, IsOrder, KeepsTypes, key_of};
+ghost use Rattle.crx_compact.specs.Entries.{IsAt, IsFound, IsOrder, key_of};
 ghost use Rattle.crx_compact.specs.EpochLinesRead.{HaveComeAgain};
 ghost use Rattle.crx_compact.specs.HeldRows.{IsAwaitedSatellite};
-ghost use Rattle.crx_compact.specs.Placing.{AnswersPlacing, AnswersRow, AsksRoom, HasAllowedCount, HasRoom, IsLineWritten, KeepsRest, MayWrite, SatelliteTail, padded, satellite_of};
-ghost use Rattle.crx_compact.specs.ShownRows.{shown_row};
+ghost use Rattle.crx_compact.specs.Placing.{AnswersPlacing, AnswersRow, AsksRoom, HasAllowedCount, HasRoom, IsLineWritten, KeepsRest, MayWrite, SatelliteTail, padded, row_tail_of, satellite_of};
+ghost use Rattle.crx_compact.specs.Refusals.{mark_place};
 ghost use Rattle.crx_compact.specs.Tails.{RowTail};
-ghost use Rattle.indexmap.specs.IndexMap.{IsUnique, spare};
+ghost use Rattle.indexmap.specs.IndexMap.{IsUnique};
 
-use crate::refusals::{MARKS, place_of_mark};
 use crate::satellite::SatelliteHistory;
-use crx_base::limits::{CELL_WIDTH, HEAD_WIDTH, LINE_LIMIT, NAME_WIDTH};
+use crx_base::limits::{HEAD_WIDTH, NAME_WIDTH};
 use crx_base::{Fault, Padded};
 use crx_header::{Types, is_same_identifier, put_identifier};
-use crx_rinex::SatRow;
 use crx_text::Text;
 use indexmap::IndexMap;
 use std::alloc::{AllocError, Global};
 use std::marker::Model;
+
+/// How many places there are for marks of identifiers.
+pub(crate) const MARKS: usize = 2048;
+
+/// The place of an identifier's mark. The 770 identifiers that there are have 760 places: few share one.
+#[inline(always)]
+pub(crate) fn place_of_mark(name: [u8; NAME_WIDTH]) -> usize
+    ensures value { result ≡ mark_place name }
+    ensures within { result < MARKS }
+{
+    (604 * usize::from(name[0]) + 10 * usize::from(name[1]) + usize::from(name[2])) % MARKS
+}
 
 /// The satellites of a history, by their identifiers. Each stays in the map where it came first. The memory
 /// of one that means nothing is used again when the satellite comes back.
@@ -38,7 +46,8 @@ use std::marker::Model;
 pub struct Satellites {
     known: IndexMap<[u8; NAME_WIDTH], SatelliteHistory>,
     /// The indices of all. While an epoch is open, those whose rows have come are the first ones, in the
-    /// order of the file. Then come those of the epoch before that haven't come yet, and those that mean nothing.
+    /// order of the file. Then come those of the epoch before that haven't come yet, and those that mean
+    /// nothing.
     order: Vec<usize>,
     /// At each index, its place in the order.
     places: Vec<usize>,
@@ -112,7 +121,8 @@ impl Satellites {
         if self.placed < self.live {
             let next = number_at(&self.order, self.placed);
             if is_same_identifier(key_at(&self.known, next), *name) {
-                if !has_room_at(&self.known, next, count) {
+                let (_, satellite) = self.known.get_index(next).unwrap();
+                if !satellite.has_room(count) {
                     return None;
                 }
                 self.placed += 1;
@@ -136,7 +146,8 @@ impl Satellites {
         if place < self.placed {
             return Some(false);
         }
-        if !has_room_at(&self.known, found, count) {
+        let (_, satellite) = self.known.get_index(found).unwrap();
+        if !satellite.has_room(count) {
             return None;
         }
         if place < self.live {
@@ -169,8 +180,17 @@ impl Satellites {
         }
         // No identifier is there twice: the length's clauses say so.
         let _count = self.known.len();
-        if !keep_types(&self.known, &self.order, count, types) {
-            return false;
+        let known = &self.known;
+        let order = &self.order;
+        for place in 0..count {
+            let (name, satellite) = known.get_index(number_at(order, place)).unwrap();
+            // Each has the form of an identifier, so its letter alone is read: this saves 10 instructions.
+            let Some(found) = types.count(name[0]) else {
+                return false;
+            };
+            if found != satellite.count() {
+                return false;
+            }
         }
         self.placed = count;
         true
@@ -267,31 +287,13 @@ impl Satellites {
         satellite.read(line, scratch)
     }
 
-    /// Prints the line of the row at an index in place of the bytes from another index on, and gives the
-    /// line's length.
+    /// The identifier of the satellite whose row is at an index, and what is stored of it.
     #[inline(always)]
-    pub(crate) fn print_line(&self, index: usize, bytes: &mut [u8], at: usize) -> usize
+    pub(crate) fn entry(&self, index: usize) -> (&[u8; NAME_WIDTH], &SatelliteHistory)
         requires within { index < length self.now.rows }
-        requires room { (old : RowTail) → slice_get self.now.rows index ≡ Some old
-            → at + (NAME_WIDTH + CELL_WIDTH * length old.cells) < length bytes.old }
-        ensures { (row : RowTail) × (slice_get self.now.rows index ≡ Some row)
-            × IsLinePut (printed_row (shown_row row)) (NAME_WIDTH + CELL_WIDTH * length row.cells)
-            at bytes.old bytes.new result }
+        ensures there { slice_get self.now.rows index ≡ Some (row_tail_of result.0.now result.1.now) }
     {
-        let (name, satellite) = self.known.get_index(number_at(&self.order, index)).unwrap();
-        satellite.print_line(*name, bytes, at)
-    }
-
-    /// The row at an index.
-    pub(crate) fn row(&self, index: usize, alloc: Global) -> Result<SatRow, AllocError>
-        requires within { index < length self.now.rows }
-        requires sound { (old : RowTail) → slice_get self.now.rows index ≡ Some old
-            → (is_identifier old.name ≡ true) × IsAllowedCount (length old.cells) }
-        ensures ok { IfOk result (λ row. (old : RowTail) → slice_get self.now.rows index ≡ Some old
-            → row ≡ shown_row old) }
-    {
-        let (name, satellite) = self.known.get_index(number_at(&self.order, index)).unwrap();
-        satellite.row(alloc, *name)
+        self.known.get_index(number_at(&self.order, index)).unwrap()
     }
 }
 
@@ -316,50 +318,6 @@ fn key_at(map: &IndexMap<[u8; NAME_WIDTH], SatelliteHistory>, index: usize) -> [
     let _count = map.len();
     // A slice of the identifiers: to ask for the entry tests the index again, which takes 2 instructions.
     map.keys().as_slice()[index]
-}
-
-/// Whether each of the first so many satellites of an order has as many types as its system has now. Each has
-/// the form of an identifier, so its letter alone is read: this saves 10 instructions for each of them.
-fn keep_types(
-    map: &IndexMap<[u8; NAME_WIDTH], SatelliteHistory>,
-    order: &Vec<usize>,
-    count: usize,
-    types: &Types,
-) -> bool
-    requires within { count ≤ length order.now.items }
-    requires below { (place : ℕ) → place < count
-        → slice_index_or order.now.items place 0 < length map.now.entries }
-    requires named { (place : ℕ) (entry : Entry) → place < count
-        → slice_get map.now.entries (slice_index_or order.now.items place 0) ≡ Some entry
-        → is_identifier (key_of entry) ≡ true }
-    ensures kept { OnTrue result ((place : ℕ) → place < count
-        → KeepsTypes types.now order.now.items place map.now.entries) }
-{
-    for place in 0..count {
-        let (name, satellite) = map.get_index(number_at(order, place)).unwrap();
-        let Some(found) = types.count(name[0]) else {
-            return false;
-        };
-        if found != satellite.count() {
-            return false;
-        }
-    }
-    true
-}
-
-/// Whether the satellite at an index has room for so many types.
-#[inline(always)]
-fn has_room_at(
-    map: &IndexMap<[u8; NAME_WIDTH], SatelliteHistory>,
-    index: usize,
-    count: usize,
-) -> bool
-    requires within { index < length map.now.entries }
-    ensures value { (entry : Entry) → slice_get map.now.entries index ≡ Some entry
-        → IsTrue result ↔ (count ≤ entry.1.room) }
-{
-    let (_, satellite) = map.get_index(index).unwrap();
-    satellite.has_room(count)
 }
 
 /// The index of the satellite with an identifier, where it is known. It is looked for at one index first.
@@ -395,11 +353,8 @@ fn find_or_add(
     ensures order { IsOrder order.new.items places.new.items (length map.new.entries) }
     ensures found { IfOk result (λ found. IsFound name found map.old.entries map.new.entries) }
     ensures front { take (length order.old.items) order.new.items ≡ order.old.items }
-    ensures unknown { OnErr result ((is_among key_of name map.old.entries ≡ false) × ((spare map.old ≡ 0)
-        ⊎ ((vec_capacity order.old < vec_len order.old + 1)
-        ⊎ (vec_capacity places.old < vec_len places.old + 1)))) }
-    ensures same { OnErr result ((map.new.entries ≡ map.old.entries) × (order.new.items ≡ order.old.items)) }
-    ensures unique { IsUnique bytes_eq map.new }
+    ensures unknown { OnErr result ((is_among key_of name map.old.entries ≡ false)
+        × (map.new.entries ≡ map.old.entries) × (order.new.items ≡ order.old.items)) }
 {
     let count = map.len();
     if let Some(found) = find(map, near, name) {

@@ -1,6 +1,6 @@
 -- A satellite comes: what its map's entries show of the rows that have come, and of those that haven't.
 use Rattle.crx_compact.proofs.Words.{◌≡◌, ℕ, zero, suc, ◌+◌, ◌<◌, ◌≤◌, Bool, true, false, List, [], ◌∷◌, ◌++◌}
-use Rattle.crx_compact.proofs.Words.{length, map, take, drop, slice_get, Some, None, option_map, refl, ap}
+use Rattle.crx_compact.proofs.Words.{map, take, drop, slice_get, Some, None, option_map, refl, ap}
 use Rattle.crx_compact.proofs.placing.Ranges.{among-up_to, found-in_range, named-map, none-named, not-before}
 use Rattle.crx_compact.proofs.Words.{sym, ◌∙◌, arith, bytes_eq, map-append, take-take, is_among, RowTail}
 use Rattle.crx_compact.proofs.placing.Ranges.{rest-one_more}

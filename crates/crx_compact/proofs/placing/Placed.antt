@@ -5,8 +5,8 @@ use Rattle.crx_compact.proofs.{Words.{PlacedRows, RowTail}, placing.EntryChanges
 use Rattle.crx_compact.proofs.placing.Coming.{come-anew, emptied, come-awaited, is-new, repeated, unknown-no_row}
 use Rattle.crx_compact.proofs.placing.EntryChanges.{rooms-changed, rooms-changed-back}
 use Rattle.crx_compact.proofs.placing.Rooms.{unknown}
-use Rattle.std.proofs.{Common.{IsTrue, ◌↔◌, List, ◌∙◌, length-set, map, set, slice_get, subst, swap}}
-use Rattle.std.proofs.lemmas.List.{Edits.length-swap, length-map}
+use Rattle.std.proofs.{Common.{IsTrue, ◌↔◌, List, ◌∙◌, map, set, slice_get, subst, swap}}
+use Rattle.std.proofs.lemmas.List.{length-map}
 use Rattle.std.specs.{List.IsDistinct, Map.keys_of}
 use Rattle.indexmap.proofs.ReorderLemmas.{map-swap}
 use Rattle.crx_compact.proofs.placing.Orders.{apart-in_order, set-in_order, there-in_order}

@@ -2,7 +2,7 @@
 use Rattle.crx_compact.proofs.Words.{◌≡◌, and_then, rules, ℕ, suc, ℤ, [], ◌∷◌, Ok, Err, Code, common_steps}
 use Rattle.crx_compact.proofs.Words.{false, Truncated, cell_read, cells_read, OutOfMemory, ap, ◌∙◌, Content}
 use Rattle.crx_compact.proofs.Words.{List, Bool, true, Option, Result, Fault, ArcTail, RowTail, arith}
-use Rattle.crx_compact.proofs.Words.{Count, Tail, satellites_named, step_in, HeldRow}
+use Rattle.crx_compact.proofs.Words.{Tail, step_in, HeldRow}
 use Rattle.crx_compact.proofs.Words.{if◌then◌else◌, value_of_code}
 use Rattle.crx_compact.specs.OpenEpochs.{OpenRawEpoch, OpenClock, RawStep, Faulty, ColumnsState, line_step}
 use Rattle.crx_compact.specs.OpenEpochs.{next_step, raw_step_with_row, whole_or_awaiting}
@@ -37,16 +37,6 @@ test-none : {X : Type 0} (b : Bool) (fault : Fault) (r : Result X Fault)
     → (fault ≡ OutOfMemory → ⊥) → NoMemory r → NoMemory (if b then Err fault else r)
 test-none true fault r h k = h
 test-none false fault r h k = k
-
--- ---- the identifiers of an epoch line
-
-names-none : (types : List Count) (earlier names : List (List ℕ)) → NoMemory (satellites_named types earlier names)
-names-none types earlier [] = λ e. cc
-names-none types earlier (name ∷ names) = grind (arith, common_steps, names-none types (name ∷ earlier) names)
-
-pub no-memory-in-names : (types : List Count) (names : List (List ℕ)) (fault : Fault)
-    → satellites_named types [] names ≡ Err fault → fault ≡ OutOfMemory → ⊥
-no-memory-in-names types names fault is out = names-none types [] names (ap (λ r. fault_in r) is ∙ out)
 
 -- ---- what a line of an open epoch makes
 

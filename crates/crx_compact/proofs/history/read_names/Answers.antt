@@ -1,15 +1,17 @@
 use Rattle.crx_compact.proofs.Words.{rules, ◌≡◌, refl, ◌+◌, ◌*◌, ◌++◌, ◌∷◌, [], Bool, not, true, false}
-use Rattle.crx_compact.proofs.Words.{sym, ◌∙◌, inl, arith, subst, ◌⊎◌, inr, ℕ, List, Err, Result, map}
-use Rattle.crx_compact.proofs.Words.{false≢true, err_from_is_err_and, is_ok, columns, is_among}
-use Rattle.crx_compact.proofs.Words.{IsAwaitedSatellite, BadSatellite, OutOfMemory, RepeatedSatellite, Fault}
-use Rattle.crx_compact.proofs.Words.{Satellite, names_in, satellites_named, HasRoom, KeepsRooms, PlacedRows}
+use Rattle.crx_compact.proofs.Words.{sym, ◌∙◌, inl, arith, subst, ◌⊎◌, inr, ℕ, List, Err, map}
+use Rattle.crx_compact.proofs.Words.{err_from_is_err_and, is_ok, columns, is_among}
+use Rattle.crx_compact.proofs.Words.{IsAwaitedSatellite, BadSatellite, RepeatedSatellite}
+use Rattle.crx_compact.proofs.Words.{Satellite, names_in, satellites_named, HasRoom, KeepsRooms}
 use Rattle.crx_compact.proofs.{Words.{padded_among, RowTail}}
 use Rattle.crx_compact.proofs.ComeRows.{come-name}
 use Rattle.std.proofs.lemmas.List.{same_from_push, Elements.All-push}
 use Rattle.crx_compact.proofs.Naming.{named-bad, named-twice, named-more, named-all, next-name}
-use Rattle.crx_compact.proofs.{NamesCome.{HasNameCome, among-rows, awaited-one, name-comes}, Results.no-err}
+use Rattle.crx_compact.proofs.{NamesCome.{HasNameCome, among-rows, awaited-one, name-comes, refused-by, unasked}}
 use Rattle.crx_text.proofs.EachPlace.{drop_all-each_place}
-use Rattle.crx_compact.specs.EpochLinesRead.{AreSatellitesRefused}
+use Rattle.crx_compact.specs.Placing.{IsPlaced}
+use Rattle.crx_compact.proofs.{Results.from_some, placing.Placed.placed-asked}
+use Rattle.crx_compact.proofs.history.read_names.Goals.{Joined-place, in-Some-place, in-None+in_ok-prepare_names-in-None}
 use Rattle.crx_compact.proofs.history.read_names.Goals as goal
 
 -- whether a satellite has come already
@@ -19,75 +21,93 @@ come-already : (before rows : List RowTail) (found : List Satellite) (name : Lis
     → is_among (λ (s : Satellite). s.name) name found ≡ not b
 come-already before rows found name is_new b made answer is = search (rules, among-rows)
 
--- where there is a fault, no room was asked for
-unasked : {X Y : Type 0} (made : Result X Fault) (fault : Fault) → made ≡ Err fault
-    → (is_ok made ≡ true) ⊎ Y → Y
-unasked made fault is asked = search (rules, false≢true, is_ok)
-
-refused-by : (fault : Fault) (made : Result (List Satellite) Fault) (old new : PlacedRows)
-    → (fault ≡ OutOfMemory → ⊥) → made ≡ Err fault → KeepsRooms new.rooms old.rooms
-    → AreSatellitesRefused made old new fault
-refused-by fault made old new other is back = search (rules, unasked, no-err)
-
 bad : (c : goal.In_default)
     → satellites_named c.args.types.now [] (names_in c.args.text.now c.args.count) ≡ Err BadSatellite
 bad c =
     named-bad c.args.types.now (names_in c.args.text.now c.args.count) c.loop-index.index
-    c.loop-index.invariant.0 c.identifier-name.result c.loop-index.invariant.1 (next-name c.args.text.now
-    c.args.count c.loop-index.index c.identifier-name.result c.loop-index-test.true
-    c.identifier-name.ensures.value) (sym c.in_default.ensures.value)
+    c.loop-index.invariant.0 c.identifier-name.result c.loop-index.invariant.1 (search (rules, next-name))
+    (sym c.in_default.ensures.value)
 
 pub returns-in_default : goal.returns-in_default
 returns-in_default c =
     search (rules, refused-by, bad, unasked, c.loop-index.invariant.7, c.loop-index.invariant.5)
 
-pub returns-in_err-place_name : goal.returns-in_err-place_name
-returns-in_err-place_name c =
+pub returns-in_err-prepare_names-in-None : goal.returns-in_err-prepare_names-in-None
+returns-in_err-prepare_names-in-None c =
     let p = err_from_is_err_and c.from_residual.result c.from_residual.ensures.1 in
-    let refused = c.in_err-place_name.ensures.err in
+    let refused = c.in_err-prepare_names-in-None.ensures.err in
     let found = c.loop-index.invariant in
+    let asked : KeepsRooms c.args.satellites.now.rooms c.place.new.self.rooms =
+    λ name count has. c.place.ensures.rooms.forth name count (found.5 name count has) in
     rw (p.1, p.2) (record {
       ok = search rules;
       err = record {
         answer = refused.answer;
         unasked = λ other name count has. elim refused.answer.answered [
-          | inl is ↦ unasked _ _ is found.7 name count (refused.unasked other name count has)
+          | inl is ↦ unasked _ _ is found.7 name count
+              (c.place.ensures.rooms.back name count (refused.unasked other name count has))
           | inr out ↦ absurd (other out)
         ];
-        wanting = λ named is has. refused.wanting named is
-            (λ i d within. found.5 _ _ (has i d within));
+        wanting = λ named is has. refused.wanting named is (λ i d within. asked _ _ (has i d within));
       };
-      rooms = λ name count has. c.place_name.ensures.rooms name count (found.5 name count has);
+      rooms = λ name count has. c.prepare_names.ensures.asked.asked.rooms name count (asked name count has);
     })
 
--- what is found twice
-twice : (c : goal.Then-not-branch)
-    → satellites_named c.args.types.now [] (names_in c.args.text.now c.args.count) ≡ Err RepeatedSatellite
-twice c =
-    let found = c.loop-index.invariant in
-    named-twice c.args.types.now (names_in c.args.text.now c.args.count) c.loop-index.index
-    found.0 c.identifier-name.result c.in-Some.cells found.1
-    (next-name c.args.text.now c.args.count c.loop-index.index
-    c.identifier-name.result c.loop-index-test.true c.identifier-name.ensures.value)
-    (sym c.in-Some.ensures.value) (come-already c.args.satellites.now.rest c.loop-index.satellites.rows
-    found.0 c.identifier-name.result c.in_ok-place_name.field-0 false found.2
-    c.in_ok-place_name.ensures.ok.answer c.if-not-branch.true)
+-- the satellite has come, or had come already, where none of the text has a fault or no room was asked for
+placed : (c : Joined-place)
+    → IsPlaced c.identifier-name.result c.in-Some.cells c.loop-index.satellites c.match-place.satellites c.match-place.is_new
+    × ((is_ok (satellites_named c.args.types.now [] (names_in c.args.text.now c.args.count)) ≡ true)
+    ⊎ KeepsRooms c.match-place.satellites.rooms c.loop-index.satellites.rooms)
+    × KeepsRooms c.loop-index.satellites.rooms c.match-place.satellites.rooms
+placed c = elim c.match-place.branch [
+  | in-Some-place w ↦ rw (w.is_new-is, w.satellites-is) (
+    w.in-Some-place.ensures.placed,
+    inr c.place.ensures.rooms.back,
+    c.place.ensures.rooms.forth,
+  )
+  | in-None+in_ok-prepare_names-in-None w ↦ rw (w.is_new-is, w.satellites-is) (
+    search (rules, placed-asked, from_some, w.prepare_names.ensures.asked.asked),
+    inl w.in_ok-prepare_names-in-None.ensures.good,
+    λ name count has. search (
+      rules,
+      w.place-in-None.ensures.rooms.forth,
+      w.prepare_names.ensures.asked.asked.rooms,
+      c.place.ensures.rooms.forth,
+    ),
+  )
+]
 
-pub returns-then-not-branch : goal.returns-then-not-branch
-returns-then-not-branch c = record {
-  ok = search rules;
-  err = grind (arith, refused-by, twice, unasked, c.loop-index.invariant.7, c.in_ok-place_name.ensures.back);
-  rooms = λ name count has. c.place_name.ensures.rooms name count (c.loop-index.invariant.5 name count has);
-}
+pub returns-then-not-is_new : goal.returns-then-not-is_new
+returns-then-not-is_new c =
+    let found = c.loop-index.invariant in
+    let come = placed (goal.at.returns-then-not-is_new c).Joined-place in
+    let twice = named-twice c.args.types.now (names_in c.args.text.now c.args.count) c.loop-index.index
+    found.0 c.identifier-name.result c.in-Some.cells found.1
+    (search (rules, next-name))
+    (sym c.in-Some.ensures.value) (come-already c.args.satellites.now.rest c.loop-index.satellites.rows
+    found.0 c.identifier-name.result c.match-place.is_new false found.2 come.0.answer c.if-not-is_new.true) in
+    record {
+      ok = search rules;
+      err = refused-by RepeatedSatellite _ _ _ (λ out. cc) twice
+          (λ name count has. unasked _ _ twice found.7 name count (unasked _ _ twice come.1 name count has));
+      rooms = λ name count has. come.2 name count (found.5 name count has);
+    }
 
 pub resize_last-requires-clause-room : goal.resize_last-requires-clause-room
-resize_last-requires-clause-room c before row is =
+resize_last-requires-clause-room c before row last_is =
     let awaited = c.loop-index.satellites in
-    let come = c.in_ok-place_name.ensures.ok.come c.if-not-branch.false in
-    let last = (same_from_push awaited.rows before _ row (sym come.rows ∙ is)).1 in
-    subst (λ (r : RowTail). HasRoom r.name c.in-Some.cells c.place_name.new.satellites.rooms) last (subst (λ
-    (n : List ℕ). HasRoom n c.in-Some.cells c.place_name.new.satellites.rooms) (sym (come-name
-    c.identifier-name.result awaited.rest)) (c.in_ok-place_name.ensures.ok.room c.if-not-branch.false))
+    let is = (placed (goal.at.resize_last-requires-clause-room c).Joined-place).0 in
+    let come = is.come c.if-not-is_new.false in
+    let last = (same_from_push awaited.rows before _ row (sym come.rows ∙ last_is)).1 in
+    subst (λ (r : RowTail). HasRoom r.name c.in-Some.cells c.match-place.satellites.rooms) last (subst (λ
+    (n : List ℕ). HasRoom n c.in-Some.cells c.match-place.satellites.rooms) (sym (come-name
+    c.identifier-name.result awaited.rest)) (is.room c.if-not-is_new.false))
+
+kept-back : {A : Type 0} (one two three four : List (List ℕ × ℕ)) → A ⊎ KeepsRooms two one → A ⊎ KeepsRooms three two
+    → KeepsRooms four three → A ⊎ KeepsRooms four one
+kept-back one two three four (inl good) q r = inl good
+kept-back one two three four (inr p) (inl good) r = inl good
+kept-back one two three four (inr p) (inr q) r = inr (λ name count has. p name count (q name count (r name count has)))
 
 pub loop-index-preserved : goal.loop-index-preserved
 loop-index-preserved c =
@@ -95,19 +115,20 @@ loop-index-preserved c =
     let place = c.loop-index.index in
     let name = c.identifier-name.result in
     let satellite : Satellite = record { name = name; count = c.in-Some.cells } in
+    let placed = placed (goal.at.loop-index-preserved c).Joined-place in
     let fresh = come-already c.args.satellites.now.rest c.loop-index.satellites.rows found.0 name
-    c.in_ok-place_name.field-0 true found.2 c.in_ok-place_name.ensures.ok.answer c.if-not-branch.false in
+    c.match-place.is_new true found.2 placed.0.answer c.if-not-is_new.false in
     let after = c.resize_last.new.self in
     let kept : KeepsRooms c.loop-index.satellites.rooms after.rooms = λ other count has.
-    c.resize_last.ensures.kept.rooms.forth other count (c.place_name.ensures.rooms other count has) in
+    c.resize_last.ensures.kept.rooms.forth other count (placed.2 other count has) in
     let come : HasNameCome c.args.satellites.now.rest (found.0 ++ satellite ∷ []) after = name-comes
     c.args.satellites.now.rest found.0 name c.in-Some.cells c.loop-index.satellites
-    c.place_name.new.satellites after found.2 found.3 fresh (c.in_ok-place_name.ensures.ok.come
-    c.if-not-branch.false) c.resize_last.ensures.rows c.resize_last.ensures.kept.rest in (
+    c.match-place.satellites after found.2 found.3 fresh (placed.0.come
+    c.if-not-is_new.false) c.resize_last.ensures.rows c.resize_last.ensures.kept.rest in (
       found.0 ++ satellite ∷ [],
       named-more c.args.types.now (names_in c.args.text.now c.args.count) place found.0 (found.0 ++ satellite
-          ∷ []) name c.in-Some.cells found.1 (next-name c.args.text.now c.args.count place name
-          c.loop-index-test.true c.identifier-name.ensures.value) (sym c.in-Some.ensures.value) fresh refl,
+          ∷ []) name c.in-Some.cells found.1 (search (rules, next-name))
+          (sym c.in-Some.ensures.value) fresh refl,
       come.rows,
       come.awaited,
       All-push IsAwaitedSatellite found.0 satellite found.4 (awaited-one name c.args.text.now (42 + 3 * place)
@@ -116,8 +137,9 @@ loop-index-preserved c =
       All-push (λ (s : Satellite). HasRoom s.name s.count after.rooms) found.0 satellite
           (λ i d within. kept _ _ (found.6 i d within))
           (c.resize_last.ensures.kept.rooms.forth name c.in-Some.cells
-          (c.in_ok-place_name.ensures.ok.room c.if-not-branch.false)),
-      search (rules, c.in_ok-place_name.ensures.back, c.resize_last.ensures.kept.rooms.back),
+          (placed.0.room c.if-not-is_new.false)),
+      kept-back c.args.satellites.now.rooms c.loop-index.satellites.rooms c.match-place.satellites.rooms after.rooms
+          found.7 placed.1 c.resize_last.ensures.kept.rooms.back,
     )
 
 pub returns : goal.returns

@@ -1,33 +1,93 @@
-use Rattle.crx_compact.proofs.Words.{rules, not, ℕ, List, ap, subst, ◌∙◌, false≢true, same_Some, inl, inr, names_in, refl}
-use Rattle.crx_compact.proofs.refusals.prepare_names.Goals.{in-Some-types_of_satellite+else-is_err}
-use Rattle.crx_compact.proofs.{Words.{types_of_satellite, HasRoom}, Results.by_ok, Naming.{names-room, names-room-more}, placing.Prepared.asked-more}
-use Rattle.crx_compact.proofs.refusals.prepare_names.Goals.{in_default-types_of_satellite}
-use Rattle.crx_compact.proofs.reading.NoMemory.{no-memory-in-names}
+use Rattle.crx_compact.proofs.Words.{arith, rules, ◌≡◌, ◌<◌, ◌+◌, ◌*◌, ◌++◌, ◌∷◌, [], not, true, false, Bool, ℕ, List, map, refl, sym, ap, subst, ◌∙◌}
+use Rattle.crx_compact.proofs.Words.{BadSatellite, RepeatedSatellite, Satellite, bytes_eq, columns, is_among, names_in, slice_set}
+use Rattle.crx_compact.proofs.Words.{false≢true, same_Some, inr, length-set, map-append, types_of_satellite, HasRoom}
+use Rattle.crx_compact.proofs.{Marked.{marked-more, unmarked}, NamesCome.refused-by, Results.by_ok, placing.Prepared.asked-more}
+use Rattle.crx_compact.proofs.Naming.{any-at, any-more, named-all, named-bad, named-more, named-twice, names-room, names-room-more, next-name}
+use Rattle.std.specs.{List.list_any}
+use Rattle.crx_header.proofs.Apart.{among-map}
+use Rattle.crx_text.proofs.EachPlace.{drop_all-each_place, each_place-more}
+use Rattle.crx_compact.specs.Refusals.{AreMarked, mark_place}
 use Rattle.std.proofs.lemmas.Option.{none-some}
+use Rattle.crx_compact.proofs.refusals.prepare_names.Goals.{in-Some-types_of_satellite+else-is_err, in_default-types_of_satellite}
+use Rattle.crx_compact.proofs.refusals.prepare_names.Goals.{then-marks-mark+else-loop-before-test, else-marks-mark}
 use Rattle.crx_compact.proofs.refusals.prepare_names.Goals as goal
 
-pub returns-clause-asked : goal.returns-clause-asked
-returns-clause-asked c = record { asked = c.loop-index.invariant.asked; room = search rules }
+-- ---- the first fault
+
+-- an identifier is among those of the satellites so far
+stands : (text : List ℕ) (place : ℕ) (name : List ℕ) (found : List Satellite) (b : Bool)
+    → names_in text place ≡ map (λ (s : Satellite). s.name) found
+    → is_among (λ (n : List ℕ). n) name (names_in text place) ≡ b
+    → list_any (λ (s : Satellite). bytes_eq s.name name) found ≡ b
+stands text place name found b same is = search (rules, among-map, is_among)
+
+pub returns-in_default-clause-err : goal.returns-in_default-clause-err
+returns-in_default-clause-err c =
+    let found = c.loop-index.invariant in
+    refused-by BadSatellite _ _ _ (λ out. cc) (named-bad c.args.types.now (names_in c.args.text.now c.args.count)
+    c.loop-index.index found.0 c.identifier-name.result found.1 (search (rules, next-name))
+    (sym c.in_default.ensures.value)) (λ name count has. has)
+
+pub returns-then-eq-clause-err : goal.returns-then-eq-clause-err
+returns-then-eq-clause-err c =
+    let found = c.loop-index.invariant in
+    let name = c.identifier-name.result in
+    let text = c.args.text.now in
+    let index = c.loop-index.index in
+    let among = any-at (λ (n : List ℕ). bytes_eq n name) index c.loop-before.before (λ k. columns text (42 + 3 * k) 3)
+    c.loop-before-test.true (search (rules, c.identifier.ensures.value, c.eq.ensures, c.if-eq.true)) in
+    refused-by RepeatedSatellite _ _ _ (λ out. cc) (named-twice c.args.types.now (names_in text c.args.count) index
+    found.0 name c.in-Some.field-0 found.1 (search (rules, next-name)) (sym c.in-Some.ensures.value)
+    (stands text index name found.0 true found.2 among)) (λ name count has. has)
+
+pub loop-before-preserved : goal.loop-before-preserved
+loop-before-preserved c =
+    any-more (λ (n : List ℕ). bytes_eq n c.identifier-name.result) c.loop-before.before
+    (λ k. columns c.args.text.now (42 + 3 * k) 3) c.loop-before.invariant
+    (search (rules, c.identifier.ensures.value, c.eq.ensures, c.if-eq.false))
+
+pub loop-index-preserved : goal.loop-index-preserved
+loop-index-preserved c =
+    let found = c.loop-index.invariant in
+    let name = c.identifier-name.result in
+    let text = c.args.text.now in
+    let index = c.loop-index.index in
+    let satellite : Satellite = record { name = name; count = c.in-Some.field-0 } in
+    let fresh : is_among (λ (n : List ℕ). n) name (names_in text index) ≡ false = elim c.if-marks-mark.branch [
+      | then-marks-mark+else-loop-before-test w ↦
+          subst (λ n. is_among (λ (n : List ℕ). n) name (names_in text n) ≡ false) (omega arith) w.loop-before.invariant
+      | else-marks-mark w ↦ search (rules, unmarked)
+    ] in (
+      found.0 ++ satellite ∷ [],
+      named-more c.args.types.now (names_in text c.args.count) index found.0 (found.0 ++ satellite ∷ []) name
+          c.in-Some.field-0 found.1 (search (rules, next-name)) (sym c.in-Some.ensures.value)
+          (stands text index name found.0 false found.2 fresh) refl,
+      search (rules, each_place-more, columns, c.identifier-name.ensures.value, map-append),
+      rw (c.place_of_mark-mark.ensures.value)
+          (subst (λ (names : List (List ℕ)).
+          AreMarked names (slice_set c.loop-index.marks (mark_place name) true))
+          (ap (λ (n : List ℕ). names_in text index ++ n ∷ []) c.identifier-name.ensures.value
+          ∙ sym (each_place-more index (λ k. columns text (42 + 3 * k) 3)))
+          (marked-more (names_in text index) name c.loop-index.marks
+          (subst (λ n. mark_place name < n) (sym found.4)
+          (subst (λ n. n < 2048) c.place_of_mark-mark.ensures.value c.place_of_mark-mark.ensures.within)) found.3)),
+      length-set c.loop-index.marks c.place_of_mark-mark.result true ∙ found.4,
+    )
+
+pub returns-clause-good : goal.returns-clause-good
+returns-clause-good c = search (rules, c.loop-index.invariant, named-all, drop_all-each_place)
+
+-- ---- room
 
 pub returns-then-is_err-clause-asked : goal.returns-then-is_err-clause-asked
 returns-then-is_err-clause-asked c = record {
-  asked = asked-more c.loop-index.invariant.asked c.prepare.ensures.asked.asked;
+  asked = asked-more c.loop-place.invariant.asked c.prepare.ensures.asked.asked;
   room = tt;
 }
 
-pub returns-in-Some-clause-err : goal.returns-in-Some-clause-err
-returns-in-Some-clause-err c =
-    let is = c.in-Some.ensures.fault in
-    let other = no-memory-in-names c.args.types.now (names_in c.args.text.now c.args.count) c.in-Some.fault is in
-    record {
-      answer = record { answered = inl is; memory = λ out. absurd (other out) };
-      unasked = λ other name count has. has;
-      wanting = λ named good has. search rules;
-    }
-
 pub returns-then-is_err-clause-err : goal.returns-then-is_err-clause-err
 returns-then-is_err-clause-err c = record {
-  answer = record { answered = inr refl; memory = λ out. search rules };
+  answer = record { answered = inr refl; memory = λ out. search (rules, c.loop-index.invariant, named-all, drop_all-each_place) };
   unasked = λ other name count has. absurd (other refl);
   wanting = λ named is has.
       let rooms = c.args.satellites.now.rooms in
@@ -35,31 +95,34 @@ returns-then-is_err-clause-err c = record {
       search (rules, false≢true, have);
 }
 
-pub loop-index-preserved : goal.loop-index-preserved
-loop-index-preserved c =
+pub returns-clause-asked : goal.returns-clause-asked
+returns-clause-asked c = record { asked = c.loop-place.invariant.asked; room = search rules }
+
+pub loop-place-preserved : goal.loop-place-preserved
+loop-place-preserved c =
     let types = c.args.types.now in
-    let is = c.identifier-name.ensures.value in
-    let before = c.loop-index.satellites in
-    let so_far = c.loop-index.invariant in
-    elim c.match-types_of_satellite.branch [
+    let is = c.identifier-name-in-loop-place.ensures.value in
+    let before = c.loop-place.satellites in
+    let so_far = c.loop-place.invariant in
+    elim c.match-types_of_satellite-2.branch [
       | in-Some-types_of_satellite+else-is_err w ↦
           let prepared = w.prepare.ensures in
           rw w.satellites-is (record {
             asked = asked-more so_far.asked prepared.asked.asked;
-            room = names-room-more types c.args.text.now c.loop-index.index before.rooms
+            room = names-room-more types c.args.text.now c.loop-place.place before.rooms
                 w.prepare.new.self.rooms so_far.room prepared.asked.asked.rooms (λ cells some.
                 let same = same_Some w.in-Some-types_of_satellite.cells cells
                 (w.in-Some-types_of_satellite.ensures.value
                 ∙ ap (types_of_satellite types) is ∙ some) in
                 subst (λ (n : List ℕ). HasRoom n cells w.prepare.new.self.rooms) is
-                (subst (λ n. HasRoom c.identifier-name.result n w.prepare.new.self.rooms) same
+                (subst (λ n. HasRoom c.identifier-name-in-loop-place.result n w.prepare.new.self.rooms) same
                 (by_ok w.prepare.result (w.is_err.ensures.negation ∙ ap not w.if-is_err.false)
                 prepared.asked.room)));
           })
       | in_default-types_of_satellite w ↦
           rw w.satellites-is (record {
             asked = so_far.asked;
-            room = names-room-more types c.args.text.now c.loop-index.index before.rooms before.rooms
+            room = names-room-more types c.args.text.now c.loop-place.place before.rooms before.rooms
                 so_far.room (λ name count has. has) (λ cells some. absurd (none-some cells
                 (w.in_default-types_of_satellite.ensures.value ∙ ap (types_of_satellite types) is ∙ some)));
           })

@@ -1,4 +1,4 @@
-use Rattle.crx_compact.proofs.Words.{◌≡◌, ◌∙◌, ◌-◌, ◌*◌, ◌++◌, List, ℕ, ap, arith, drop, length, min}
+use Rattle.crx_compact.proofs.Words.{rules, ◌≡◌, ◌∙◌, ◌-◌, ◌*◌, ◌++◌, List, ℕ, ap, arith, drop, length, min}
 use Rattle.crx_compact.proofs.Words.{replicate, subst, sym, take, length-take-le, take_at, columns, patched}
 use Rattle.crx_compact.proofs.{Marks.patched-kept, SoundTexts.columns-held}
 use Rattle.std.proofs.lemmas.List.{take_min}
@@ -12,8 +12,8 @@ put-columns : (all : ℕ) (old held text : List ℕ) (first : ℕ) → length ol
 put-columns all old held text first many is put =
     cc (put, is, take_min all text, many, columns_are text 1 all)
 
-pub returns-clause-kept : goal.returns-clause-kept
-returns-clause-kept c =
+pub returns : goal.returns
+returns c =
     let all : ℕ = 2 * c.args.count in
     let before : List ℕ = take all c.args.indicators.now in
     let marks : List ℕ = c.args.marks.now in
@@ -21,10 +21,16 @@ returns-clause-kept c =
     let text = c.bytes-text.ensures.value ∙ c.in-Ok.ensures.ok in
     let same = c.put_flags.auto.held in
     let made = ap length text in
-    rw (take_at c.put_flags.new.held (drop all c.args.indicators.now) all (omega (arith, many, same)))
-    (subst AreHeldFlags (sym (put-columns all before _ _ _ many c.min.ensures c.put_flags.ensures.put
-    ∙ ap (λ (t : List ℕ). columns t 1 all) text))
-    (columns-held c.args.count (patched before marks) c.requires.allowed (record {
-      within = omega (arith, made, ap length c.bytes-text.ensures.value);
-      kept = patched-kept before marks c.requires.held.kept (sym c.in-Ok.ensures.printable);
-    })))
+    let put = put-columns all before _ _ _ many c.min.ensures c.put_flags.ensures.put
+    ∙ ap (λ (t : List ℕ). columns t 1 all) text in
+    let whole = take_at c.put_flags.new.held (drop all c.args.indicators.now) all (omega (arith, many, same)) in
+    record {
+      good = search rules;
+      patched = rw whole put;
+      kept = rw whole (subst AreHeldFlags (sym put) (columns-held c.args.count (patched before marks) c.requires.allowed
+          (record {
+            within = omega (arith, made, ap length c.bytes-text.ensures.value);
+            kept = patched-kept before marks c.requires.held.kept (sym c.in-Ok.ensures.printable);
+          })));
+      err = tt;
+    }

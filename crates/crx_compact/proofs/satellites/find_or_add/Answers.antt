@@ -1,8 +1,8 @@
-use Rattle.crx_compact.proofs.Words.{err_from_is_err_and, inl, inr}
-use Rattle.std.proofs.Common.{rules, refl, ap, sym, subst, ◌∙◌, ◌≡◌, ◌+◌, ◌∷◌, [], length}
+use Rattle.crx_compact.proofs.Words.{err_from_is_err_and}
+use Rattle.std.proofs.Common.{rules, ap, sym, subst, ◌∙◌, ◌≡◌, ◌+◌, ◌∷◌, [], length}
 use Rattle.std.proofs.lemmas.List.{length-append}
 use Rattle.indexmap.proofs.CallerLemmas.{insert_entry-new}
-use Rattle.crx_compact.specs.{Entries.{IsFound, IsOrder}, Placing.SatelliteTail}
+use Rattle.crx_compact.specs.{Entries.{IsFound}, Placing.SatelliteTail}
 use Rattle.crx_compact.proofs.placing.{Found.{found-added, none-there, not-found}, Orders.more-ordered}
 use Rattle.crx_compact.proofs.satellites.find_or_add.Goals as goal
 
@@ -34,13 +34,12 @@ returns-in-Ok-clause-order c =
 pub returns-in_err-reserve-clause-unknown : goal.returns-in_err-reserve-clause-unknown
 returns-in_err-reserve-clause-unknown c =
     let p = err_from_is_err_and c.from_residual.result c.from_residual.ensures.1 in
-    rw p.1 (not-found c.args.name c.args.map.now.entries (c.in_default.ensures.unknown refl), inr (inl c.in_err-reserve.ensures.full))
+    rw p.1 (search (rules, not-found))
 
 pub returns-in_err-reserve-2-clause-unknown : goal.returns-in_err-reserve-2-clause-unknown
 returns-in_err-reserve-2-clause-unknown c =
     let p = err_from_is_err_and c.from_residual-in_err-reserve-2.result c.from_residual-in_err-reserve-2.ensures.1 in
-    rw p.1 (not-found c.args.name c.args.map.now.entries (c.in_default.ensures.unknown refl), inr (inr c.in_err-reserve-2.ensures.full))
+    rw p.1 (search (rules, not-found))
 
 pub returns-clause-unknown : goal.returns-clause-unknown
-returns-clause-unknown c =
-    (not-found c.args.name c.args.map.now.entries (c.in_default.ensures.unknown refl), inl (search rules))
+returns-clause-unknown c = search (rules, not-found)

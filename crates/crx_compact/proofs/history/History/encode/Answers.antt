@@ -3,25 +3,46 @@ use Rattle.crx_compact.proofs.Words.{◌≡◌, ◌++◌, ◌∷◌, [], ℕ, �
 use Rattle.crx_compact.proofs.Words.{◌∙◌, subst, arith, if◌then◌else◌, is_ok, eqb-true, length-map}
 use Rattle.crx_compact.proofs.Words.{satellites_of, has_satellite, Row, HasRoom, OpenHistory, PendingLines}
 use Rattle.crx_compact.proofs.Words.{row_of_parts, tail_of_history, no_tail, row_tail_in, Tail}
-use Rattle.crx_compact.proofs.{Words.{AreRowsWritten, slice_get_within}, Results.by_ok}
+use Rattle.crx_compact.proofs.{Words.{AreRowsWritten, HaveRoom, slice_get_within}, Results.by_ok}
 use Rattle.crx_compact.proofs.ComeRows.{row-new}
-use Rattle.crx_compact.proofs.{Making.{taken_all, taken_more}, RowByRow.{all-at}}
-use Rattle.crx_compact.proofs.{history.History.encode.Goals.In_default}
+use Rattle.crx_compact.proofs.{Making.{taken_all, taken_more}, RowByRow.{all-at, all-next}, placing.Prepared.asked-more}
 use borrow.Author.Count.{falls}
 use Rattle.crx_compact.specs.{Written.IsRowWritten}
 use Rattle.crx_compact.proofs.history.History.encode.Goals as goal
+
+pub loop-wanting-preserved : goal.loop-wanting-preserved
+loop-wanting-preserved c =
+    let rows : List Row = c.args.epoch.now.rows in
+    let row : Row = c.in-Some.wanting.now in
+    let index : ℕ = c.loop-wanting.prepared in
+    let rooms = c.prepare.new.self.rooms in
+    let roomy : HasRoom row.name (length row.values) rooms =
+    rw (c.name.ensures.value, c.values.ensures.value) at c.in_ok-prepare.ensures.asked.room in
+    record {
+      asked = asked-more c.loop-wanting.invariant.asked c.prepare.ensures.asked.asked;
+      room = all-next (λ (r : Row). HasRoom r.name (length r.values) rooms) rows index row
+          (λ i d within. c.prepare.ensures.asked.asked.rooms _ _ (c.loop-wanting.invariant.room i d within))
+          (sym c.in-Some.ensures.value) roomy;
+    }
+
+pub overflow_add-prepared : goal.overflow_add-prepared
+overflow_add-prepared c =
+    omega (arith, slice_get_within c.args.epoch.now.rows c.loop-wanting.prepared _ (sym c.in-Some.ensures.value))
+
+pub loop-wanting-smaller : goal.loop-wanting-smaller
+loop-wanting-smaller c = falls _ _ (slice_get_within _ _ _ (sym c.in-Some.ensures.value))
 
 pub loop-row-init : goal.loop-row-init
 loop-row-init c =
     let same : ◌≡◌ {A = Tail} (record {
       text = take c.self.inside.length c.self.inside.text;
       clock = c.self.inside.clock;
-      rows = c.prepare_rows.new.satellites.rows;
+      rows = c.loop-wanting.satellites.rows;
     }) (tail_of_history c.args.self.now) =
     (λ j. record {
       text = ap (λ (h : OpenHistory). h.text) c.self.view_is j;
       clock = ap (λ (h : OpenHistory). h.clock) c.self.view_is j;
-      rows = (c.prepare_rows.ensures.asked.rows ∙ ap (λ (h : OpenHistory). h.satellites.rows) c.self.view_is)
+      rows = (c.loop-wanting.invariant.asked.rows ∙ ap (λ (h : OpenHistory). h.satellites.rows) c.self.view_is)
           j;
     }) in
     let rooms = c.begin_rows.ensures.rooms in
@@ -31,40 +52,41 @@ loop-row-init c =
           (sym (ap (λ (l : PendingLines). l.lines) c.requires.none))
           (subst (λ (t : Tail). AreRowsWritten (if c.args.in_full then no_tail else t) []
           c.begin_rows.new.self []) same c.begin_rows.ensures.begun);
-      room = search (rules, c.in_ok-prepare_rows.ensures.room);
+      room = subst (HaveRoom c.args.epoch.now.rows) (sym rooms) (subst (λ (rs : List Row). HaveRoom rs c.loop-wanting.satellites.rooms)
+          (taken_all _ _ (sym c.in_default.ensures.value)) c.loop-wanting.invariant.room);
       kept = λ name count has. subst (HasRoom name count) (sym rooms)
-          (c.prepare_rows.ensures.asked.rooms name count (subst (HasRoom name count) (sym known) has));
+          (c.loop-wanting.invariant.asked.rooms name count (subst (HasRoom name count) (sym known) has));
       left = omega (arith, ap (λ (l : PendingLines). l.left) c.requires.none);
       front = ap (λ (l : PendingLines). l.front) c.requires.none;
     }
 
 pub unwrap-requires : goal.unwrap-requires
 unwrap-requires c =
-    let row : Row = c.in-Some.row.now in
+    let row : Row = c.in-Some-row.row.now in
     let rooms = c.loop-row.self.satellites.rooms in
-    let here = sym c.in-Some.ensures.value in
-    c.write_row.ensures.prepared.known (subst (λ (name : List ℕ). HasRoom name (length c.values.result.now) rooms) (sym
-    c.name.ensures.value) (subst (λ (values : List (Option ℤ)). HasRoom row.name (length values) rooms)
-    (sym c.values.ensures.value) (all-at (λ (r : Row). HasRoom r.name (length r.values) rooms)
+    let here = sym c.in-Some-row.ensures.value in
+    c.write_row.ensures.prepared.known (subst (λ (name : List ℕ). HasRoom name (length c.values-in-Some-row.result.now) rooms) (sym
+    c.name-in-Some-row.ensures.value) (subst (λ (values : List (Option ℤ)). HasRoom row.name (length values) rooms)
+    (sym c.values-in-Some-row.ensures.value) (all-at (λ (r : Row). HasRoom r.name (length r.values) rooms)
     c.args.epoch.now.rows c.loop-row.index row c.loop-row.invariant.room here)))
 
 pub overflow_add-index : goal.overflow_add-index
 overflow_add-index c =
-    omega (arith, slice_get_within c.args.epoch.now.rows c.loop-row.index _ (sym c.in-Some.ensures.value))
+    omega (arith, slice_get_within c.args.epoch.now.rows c.loop-row.index _ (sym c.in-Some-row.ensures.value))
 
 pub loop-row-smaller : goal.loop-row-smaller
-loop-row-smaller c = falls _ _ (slice_get_within _ _ _ (sym c.in-Some.ensures.value))
+loop-row-smaller c = falls _ _ (slice_get_within _ _ _ (sym c.in-Some-row.ensures.value))
 
 pub loop-row-preserved : goal.loop-row-preserved
 loop-row-preserved c =
     let rows = c.args.epoch.now.rows in
     let index = c.loop-row.index in
-    let row : Row = c.in-Some.row.now in
-    let here = sym c.in-Some.ensures.value in
+    let row : Row = c.in-Some-row.row.now in
+    let here = sym c.in-Some-row.ensures.value in
     let so_far : List Row = take index rows in
-    let put : Row = row_of_parts c.name.result c.values.result.now c.flags.result.now in
+    let put : Row = row_of_parts c.name-in-Some-row.result c.values-in-Some-row.result.now c.flags.result.now in
     let parts : put ≡ row =
-    (λ j. row_of_parts (c.name.ensures.value j) (c.values.ensures.value j) (c.flags.ensures.value j)) in
+    (λ j. row_of_parts (c.name-in-Some-row.ensures.value j) (c.values-in-Some-row.ensures.value j) (c.flags.ensures.value j)) in
     let after : Tail = if c.args.in_full then no_tail else tail_of_history c.args.self.now in
     let written = IfOk-at_ok (IsRowWritten after so_far put c.loop-row.self c.loop-row.lines c.write_row.new.self c.write_row.new.lines)
     c.unwrap.ensures (c.write_row.ensures.written after so_far c.loop-row.invariant.written).ok in
@@ -83,14 +105,14 @@ loop-row-preserved c =
       front = taken.front ∙ known.front;
     }
 
--- all rows are written
-written : (c : In_default)
-    → AreRowsWritten (if c.args.in_full then no_tail else tail_of_history c.args.self.now)
-    c.args.epoch.now.rows c.loop-row.self c.loop-row.lines.lines
-written c = search (rules, no_tail, tail_of_history, taken_all)
-
 pub end_rows-requires-clause-counted : goal.end_rows-requires-clause-counted
-end_rows-requires-clause-counted c = search (rules, written, length-map, row_tail_in, eqb-true, satellites_of)
+end_rows-requires-clause-counted c =
+    let written : AreRowsWritten (if c.args.in_full then no_tail else tail_of_history c.args.self.now)
+    c.args.epoch.now.rows c.loop-row.self c.loop-row.lines.lines = search (rules, no_tail, tail_of_history, taken_all) in
+    search (rules, written, length-map, row_tail_in, eqb-true, satellites_of)
 
 pub returns-clause-written : goal.returns-clause-written
-returns-clause-written c = search (rules, no_tail, tail_of_history, by_ok, is_ok, written)
+returns-clause-written c =
+    let written : AreRowsWritten (if c.args.in_full then no_tail else tail_of_history c.args.self.now)
+    c.args.epoch.now.rows c.loop-row.self c.loop-row.lines.lines = search (rules, no_tail, tail_of_history, taken_all) in
+    search (rules, no_tail, tail_of_history, by_ok, is_ok, written)

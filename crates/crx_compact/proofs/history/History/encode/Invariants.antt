@@ -1,7 +1,17 @@
 use Rattle.crx_compact.proofs.Words.{◌≡◌, ◌+◌, ◌-◌, if◌then◌else◌, length, take}
 use Rattle.crx_compact.proofs.Words.{HaveRoom, KeepsRooms, AreRowsWritten, tail_of_history, no_tail}
-use Rattle.crx_compact.specs.declared.block.TheConstants.{FIRST_LINES, LINES_LIMIT}
+use Rattle.crx_compact.specs.{Placing.HasAskedRoom, declared.block.TheConstants.{FIRST_LINES, LINES_LIMIT}}
 use Rattle.crx_compact.proofs.history.History.encode.Given as goal
+
+-- there is room for the satellites of the rows up to an index
+abbrev pub invariant-loop-wanting : goal.invariant-loop-wanting
+invariant-loop-wanting l = record {
+  asked : HasAskedRoom l.initial.satellites l.satellites;
+  room : HaveRoom (take l.prepared l.epoch.rows) l.satellites.rooms;
+}
+
+abbrev pub decreases-loop-wanting : goal.decreases-loop-wanting
+decreases-loop-wanting l = length l.epoch.rows - l.prepared
 
 -- the rows up to an index are written, there is room for the satellites of all, and place for the others' lines
 abbrev pub invariant-loop-row : goal.invariant-loop-row

@@ -1,5 +1,5 @@
-use Rattle.std.proofs.Common.{rules, ◌-◌, ◌*◌, ◌++◌, List, ℕ, drop, length, replicate, take, ap, arith, ◌∙◌}
-use Rattle.std.proofs.lemmas.List.{length-take, take_at}
+use Rattle.std.proofs.Common.{rules, ◌≡◌, ◌<◌, ◌+◌, ◌-◌, ◌*◌, ◌++◌, ◌∷◌, [], List, ℕ, append_assoc, drop, length, replicate, set, take, ap, arith}
+use Rattle.std.proofs.lemmas.List.{length-set, length-take, replicate_more, take_at, take_more_set}
 use Rattle.crx_compact.specs.Placing.{SatelliteTail}
 use Rattle.crx_compact.proofs.Resizing.{fewer-held, fewer-types, more-held, more-types}
 use Rattle.crx_compact.proofs.satellite.SatelliteHistory.resize.Goals as goal
@@ -20,25 +20,49 @@ returns-then-count-self c =
           search (rules, fewer-types, c.if-count-self.true, c.self.invariant.1));
     }
 
+-- two more indicators are blank
+two-blank : (xs old : List ℕ) (i k m : ℕ) → 2 * i + 1 < length xs → take (2 * i) xs ≡ old ++ replicate k 32 → m ≡ k + 2
+    → take (2 * (i + 1)) (set (set xs (2 * i) 32) (2 * i + 1) 32) ≡ old ++ replicate m 32
+two-blank xs old i k m within so_far more =
+    let first : take (2 * i + 1) (set xs (2 * i) 32) ≡ take (2 * i) xs ++ 32 ∷ [] =
+    take_more_set xs (2 * i) 32 (omega (arith, within)) in
+    let second : take (2 * i + 1 + 1) (set (set xs (2 * i) 32) (2 * i + 1) 32) ≡ take (2 * i + 1) (set xs (2 * i) 32) ++ 32 ∷ [] =
+    take_more_set (set xs (2 * i) 32) (2 * i + 1) 32 (omega (arith, within, length-set xs (2 * i) 32)) in
+    let next : 2 * (i + 1) ≡ 2 * i + 1 + 1 = omega arith in
+    let last : m ≡ k + 1 + 1 = omega (arith, more) in
+    cc (
+      append_assoc old (replicate k 32) (32 ∷ []),
+      replicate_more {X = ℕ} k 32,
+      append_assoc old (replicate (k + 1) 32) (32 ∷ []),
+      replicate_more {X = ℕ} (k + 1) 32,
+    )
+
+pub loop-index-preserved : goal.loop-index-preserved
+loop-index-preserved c =
+    let room = ap (λ (t : SatelliteTail). t.room) c.self.view_is in
+    let long = ap length c.as_mut_slice-indicators.ensures.value in
+    record {
+      indicators = two-blank c.loop-index.indicators _ c.loop-index.index _ _ (omega (arith, room, long, c.self.invariant.2))
+          c.loop-index.invariant.indicators (omega arith);
+      arcs = search (rules, c.loop-index.invariant.arcs, take_more_set, replicate, append_assoc, replicate_more);
+    }
+
 pub invariant_of-self-2 : goal.invariant_of-self-2
 invariant_of-self-2 c =
     let inside = c.self.inside in
-    let indicators = c.blank_types.new.indicators in
-    let arcs = c.blank_types.new.arcs in
+    let indicators = c.loop-index.indicators in
+    let arcs = c.loop-index.arcs in
     let held = ap (λ (t : SatelliteTail). t.room) c.self.view_is in
     let first = take_at indicators (drop (length indicators) inside.indicators.items) inside.indicators.len
     (omega arith) in
     rw (first, take_at arcs (drop (length arcs) inside.arcs.items) inside.arcs.len (omega arith)) (
       more-held (take (2 * inside.count) inside.indicators.items) (take (2 * c.args.count) indicators)
           (2 * c.args.count - 2 * inside.count)
-          (c.blank_types.ensures.indicators
-          ∙ ap (λ (t : List ℕ). take (2 * inside.count) t
-          ++ replicate (2 * c.args.count - 2 * inside.count) 32)
-          c.deref_mut.ensures.value)
+          (search (rules, c.loop-index.invariant.indicators))
           (omega (arith, length-take (2 * c.args.count) indicators)) c.self.invariant.0,
       omega arith,
       (omega (arith, c.self.invariant.2), omega (arith, c.self.invariant.2), omega (arith, c.self.invariant.2), c.self.invariant.2.3),
     )
 
 pub returns : goal.returns
-returns c = search (rules, take_at, more-types, replicate)
+returns c = search (rules, take_at, more-types, replicate, c.loop-index.invariant.indicators, c.loop-index.invariant.arcs)

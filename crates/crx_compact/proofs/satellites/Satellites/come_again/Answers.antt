@@ -1,9 +1,50 @@
-use Rattle.std.proofs.Common.{sym, subst, arith, drop, length, map, take, All, ◌≡◌, ◌∙◌}
-use Rattle.crx_compact.specs.{Entries.{in_order, placed_rows}, HeldRows.IsAwaitedSatellite}
-use Rattle.crx_compact.specs.{EpochLinesRead.HaveComeAgain, Placing.{row_of_entry, satellite_of}}
-use Rattle.crx_compact.proofs.placing.{Again.{come-again, named-before, none-placed}, SteppedRows.rows-counted}
+use Rattle.std.proofs.Common.{ap, sym, subst, arith, drop, length, map, take, All, ℕ, Option, Some, ◌≡◌, ◌<◌, ◌≤◌, ◌∙◌, option_map, rules, slice_get}
+use Rattle.std.specs.Map.Iter.{deref_pair}
+use borrow.Author.Count.{below_more}
+use Rattle.crx_compact.specs.{Entries.{KeepsTypes, in_order, placed_rows}, HeldRows.IsAwaitedSatellite}
+use Rattle.crx_compact.specs.{EpochLinesRead.HaveComeAgain, Placing.{padded, row_of_entry, row_tail_of, satellite_of}}
+use Rattle.crx_compact.proofs.placing.{Again.{come-again, named-before, none-placed, typed-named}, SteppedRows.{padded-is, rows-counted}}
 use Rattle.crx_compact.proofs.placing.Orders.{length-in_order, there-in_order}
 use Rattle.crx_compact.proofs.satellites.Satellites.come_again.Goals as goal
+
+pub unwrap-requires : goal.unwrap-requires
+unwrap-requires c =
+    let all = c.self.invariant.1 in
+    let below = c.self.invariant.2.index c.loop-place.place
+    (omega (arith, all, c.loop-place-test.true, c.if-count-self.false)) in
+    let within : c.number_at.result < length c.self.inside.known.entries = omega (arith, c.number_at.ensures.value, below) in
+    search rules
+
+pub loop-place-preserved : goal.loop-place-preserved
+loop-place-preserved c =
+    let self = c.self.inside in
+    let es = self.known.entries in
+    let os = in_order self.order.items es in
+    let all = c.self.invariant.1 in
+    let place = c.loop-place.place in
+    let less = c.loop-place-test.true in
+    let name = c.unwrap.result.0.now in
+    let satellite = c.unwrap.result.1.now in
+    let counted = c.count-in-loop-place in
+    let there = ap (slice_get es) (sym c.number_at.ensures.value)
+    ∙ sym c.get_index.ensures.entry ∙ ap (option_map deref_pair) c.unwrap.ensures in
+    let none = none-placed self.placed self.live es c.self.invariant
+    (rw (← c.self.view_is) at c.requires.none) in
+    let awaited = subst (λ n. All IsAwaitedSatellite (map satellite_of (map row_of_entry (drop n (take self.live os)))))
+    none (rw (← c.self.view_is) at c.requires.awaited) in
+    below_more (λ place. KeepsTypes c.args.types.now self.order.items place es) place c.loop-place.invariant (record {
+      entry = (name, satellite);
+      there = there;
+      typed = typed-named c.args.types.now name (named-before self.live os awaited place (name, satellite)
+          (omega (arith, less, c.if-count-self.false)) (omega (arith, all, length-in_order es c.self.invariant.2))
+          (there-in_order es c.self.invariant.2 place (name, satellite)
+          (omega (arith, less, all, c.if-count-self.false)) there))
+          ∙ sym c.in-Some.ensures.value ∙ ap {B = Option ℕ} Some (c.if-found-count.false ∙ counted.ensures.value);
+      own = ap (λ n. padded (record { name = name; count = n }) (Some (row_tail_of name satellite)))
+          (sym counted.ensures.value)
+          ∙ sym (padded-is name counted.result satellite satellite counted.ensures.whole);
+      room = subst (λ n. n ≤ satellite.room) counted.ensures.value counted.ensures.room;
+    })
 
 pub returns-clause-again : goal.returns-clause-again
 returns-clause-again c =
@@ -14,7 +55,7 @@ returns-clause-again c =
     let none = none-placed self.placed self.live es c.self.invariant
     (rw (← c.self.view_is) at c.requires.none) in
     let come = come-again self.known c.len-count.ensures.unique c.self.invariant.2 c.args.types.now self.live all
-    (λ place less. c.if-not-keep_types.ensures.kept place (omega (arith, less, c.if-count-self.false))) in
+    (λ place less. c.loop-place.invariant place (omega (arith, less, c.if-count-self.false))) in
     rw (← c.self.view_is) (subst (λ n. HaveComeAgain c.args.types.now (placed_rows n self.live os es)
     (placed_rows c.args.count self.live os es)) (sym none) (subst (λ n. HaveComeAgain c.args.types.now
     (placed_rows 0 self.live os es) (placed_rows n self.live os es)) (sym c.if-count-self.false) come))
@@ -30,28 +71,3 @@ returns-clause-counted c =
     (rw (← c.self.view_is) at c.requires.none) in
     rw (← c.self.view_is) (subst (λ n. c.args.count ≡ length (map row_of_entry (drop n (take self.live os))))
     (sym none) (c.if-count-self.false ∙ sym (rows-counted self.live os (omega (arith, all, counted)))))
-
-pub keep_types-requires-clause-within : goal.keep_types-requires-clause-within
-keep_types-requires-clause-within c =
-    let all = c.self.invariant.1 in
-    omega (arith, all, c.self.invariant.2.counted, c.if-count-self.false)
-
-pub keep_types-requires-clause-below : goal.keep_types-requires-clause-below
-keep_types-requires-clause-below c =
-    let all = c.self.invariant.1 in
-    λ place less. c.self.invariant.2.index place (omega (arith, less, all, c.if-count-self.false))
-
-pub keep_types-requires-clause-named : goal.keep_types-requires-clause-named
-keep_types-requires-clause-named c =
-    let self = c.self.inside in
-    let es = self.known.entries in
-    let os = in_order self.order.items es in
-    let all = c.self.invariant.1 in
-    let counted = length-in_order es c.self.invariant.2 in
-    let none = none-placed self.placed self.live es c.self.invariant
-    (rw (← c.self.view_is) at c.requires.none) in
-    let awaited = subst (λ n. All IsAwaitedSatellite (map satellite_of (map row_of_entry (drop n (take self.live os)))))
-    none (rw (← c.self.view_is) at c.requires.awaited) in
-    λ place entry less there. named-before self.live os awaited place entry (omega (arith, less, c.if-count-self.false))
-    (omega (arith, all, counted)) (there-in_order es c.self.invariant.2 place entry
-    (omega (arith, less, all, c.if-count-self.false)) there)

@@ -19,7 +19,7 @@ returns-clause-known c =
     rw (← c.self.view_is)
     (λ has. c.make_room.ensures.known (subst (λ (e : Entry). c.args.count ≤ e.1.room) same
     (room-there c.find_or_add.new.map c.in_ok-found.found c.args.name is.at.satellite c.make_room.new.self
-    c.find_or_add.ensures.unique is.at.there c.args.count (is.rooms c.args.name c.args.count has))))
+    c.pair_mut-satellite.ensures.unique is.at.there c.args.count (is.rooms c.args.name c.args.count has))))
 
 pub pair_mut-satellite-requires : goal.pair_mut-satellite-requires
 pair_mut-satellite-requires c = slice_get_within _ _ _ c.in_ok-found.ensures.found.at.there
@@ -42,7 +42,7 @@ returns-clause-asked c =
     let map = c.find_or_add.new.map in
     let there = c.pair_mut-satellite.ensures.value in
     let room = c.make_room.ensures in
-    let unique = c.find_or_add.ensures.unique in
+    let unique = c.pair_mut-satellite.ensures.unique in
     let new = set_value_at map.entries c.in_ok-found.found c.make_room.new.self in
     let front = rows-before es map.entries new is.known (rows-same map.entries c.in_ok-found.found _ _
     c.make_room.new.self there room.flags room.cells) in
