@@ -11,9 +11,7 @@ front-put c =
     search (
       rules,
       put-front,
-      c.self.invariant.0,
-      c.self.invariant.1,
-      c.self.invariant.2,
+      c.self.invariant,
       c.put_line.ensures.put,
       c.deref_mut.ensures.value,
       c.put_line.ensures.rest,
