@@ -1,12 +1,11 @@
 -- Rows that come one by one, each after what is stored of its satellite: the row of the epoch before, or a
 -- blank one.
-use Rattle.crx_compact.proofs.Words.{rules, ◌≡◌, ◌++◌, ◌∷◌, [], ℕ, List, Bool, true, false, not, Some, Result}
-use Rattle.crx_compact.proofs.Words.{IfOk, length, take, slice_get, refl, ap, sym, ◌∙◌, arith}
+use Rattle.crx_compact.proofs.Words.{rules, ◌≡◌, ◌++◌, ◌∷◌, [], ℕ, List, true, false, Some}
+use Rattle.crx_compact.proofs.Words.{length, take, slice_get, refl, ap, sym, ◌∙◌, arith}
 use Rattle.crx_compact.proofs.Words.{bytes_eq, is_among, Row, Satellite, PlacedRows, padded}
 use Rattle.crx_compact.proofs.Words.{padded_among, row_or_blank, row_line_after, row_line_in, row_tail_after}
 use Rattle.crx_compact.proofs.Words.{row_tail_in, RowTail, are_different, take_all, slice_get_within}
 use Rattle.crx_compact.proofs.Characters.{bytes_eq-is}
-use Rattle.std.proofs.Common.{IsOk}
 use Rattle.std.proofs.{lemmas.Bool.or_parts, lemmas.Option.get_or_from_slice_get, lemmas.Grind.common_steps}
 use Rattle.crx_header.proofs.Apart.{other_way, new_at}
 use Rattle.crx_compact.specs.Placing.{HasCome, row_tail_named}
@@ -33,13 +32,6 @@ come-padded rest before satellite same = grind arith
 pub come-name : (name : List ℕ) (rest : List RowTail) → (row_or_blank name rest).name ≡ name
 come-name name [] = refl
 come-name name (row ∷ rest) = grind (arith, common_steps, bytes_eq-is, come-name name rest)
-
--- ---- one that hasn't come yet comes
-
-pub comes : {E : Type 0} (r : Result Bool E) (b : Bool) (H : Type 0) → IsOk r
-    → IfOk r (λ is_new. is_new ≡ not b)
-    → IfOk r (λ is_new. is_new ≡ true → H) → b ≡ false → H
-comes r b H ok answer come new = grind arith
 
 -- what has not come yet, by identifier, is as before
 abbrev pub AreAwaited : {X : Type 0} → (X → List ℕ) → List X → List RowTail → List RowTail → Type 0

@@ -8,8 +8,6 @@ use Rattle.crx_compact.proofs.{Words.{few_kept, ArcTail}, PlaceByPlace.{at-padde
 use Rattle.std.proofs.{lemmas.List.length-take, lemmas.Grind.common_steps}
 use Rattle.crx_compact.specs.{HeldRows.AreHeldFlags, Placing.{SatelliteTail, cells_for, resized}}
 
--- ---- indicators
-
 -- ---- cells
 
 no-cells : (n : ℕ) → cells_for n [] ≡ replicate n None

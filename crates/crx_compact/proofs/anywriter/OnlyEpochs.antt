@@ -1,8 +1,8 @@
 -- The lines that are read as an epoch are ones that some writer may write for it.
-use Rattle.crx_compact.proofs.Words.{◌≡◌, refl, ℕ, zero, suc, List, [], ◌∷◌, ◌++◌, Bool, true, false, Option, Some, None, Result, Ok, map, length, arith, ap, sym, ◌∙◌, ◌*◌, ◌+◌, ◌-◌, ◌<◌, ◌≤◌, ◌⊎◌, inl, inr, subst}
+use Rattle.crx_compact.proofs.Words.{◌≡◌, refl, ℕ, zero, suc, List, [], ◌∷◌, ◌++◌, Bool, true, false, Option, Some, None, map, length, arith, ap, sym, ◌∙◌, ◌*◌, ◌+◌, ◌-◌, ◌<◌, ◌≤◌, ◌⊎◌, inl, inr, subst}
 use Rattle.crx_compact.proofs.Words.{AllByRecursion, option_map, flat_map, if◌then◌else◌, cases_lt, length-append, same_Some, each_place, named}
-use Rattle.crx_compact.proofs.Words.{ReadLine, Content, Overlong, Done, first_line, rules, by_position}
-use Rattle.crx_compact.proofs.Words.{Fault, Count, Row, ReadRow, Satellite, IsWholeEpoch, types_of_satellite}
+use Rattle.crx_compact.proofs.Words.{Done, rules, by_position}
+use Rattle.crx_compact.proofs.Words.{Count, Row, ReadRow, Satellite, IsWholeEpoch, types_of_satellite}
 use Rattle.crx_compact.proofs.Words.{past_of_tail, tail_for_line, tail_left, begins_epoch, epoch_text, columns, at, at-append, at-append_past, at-drop, without_end_blanks, patched, CLOCK_WIDTH, length-columns}
 use Rattle.crx_compact.proofs.PlaceByPlace.{at-take, at-padded}
 use Rattle.crx_compact.proofs.Words.{each_place-same, character_of}
@@ -18,21 +18,6 @@ use Rattle.crx_compact.proofs.{EpochTexts.blank-after, Words.{columns-are, unwra
 use Rattle.crx_compact.specs.AnyWriter.{row_before}
 use Rattle.crx_compact.specs.AnyWriter.{ReadsSomebodysEpoch}
 use Rattle.crx_compact.proofs.anywriter.{OnlyRows.{row-back, arc-back, columns-all}}
-
--- ---- a line that was read
-
-pub record LineBack {X : Type 0} (lines : List ReadLine) (read : List ℕ → Result X Fault) (x : X) (n : ℕ) : Type 0 where
-  pub line : List ℕ
-  pub rest : List ReadLine
-  pub is : lines ≡ Content line ∷ rest
-  pub ok : read line ≡ Ok x
-  pub one : n ≡ 1
-
-pub first-back : {X : Type 0} (lines : List ReadLine) (read : List ℕ → Result X Fault) (x : X) (n : ℕ)
-    → first_line lines read ≡ Done x n → LineBack lines read x n
-first-back [] read x n e = absurd (cc e)
-first-back (Overlong ∷ rest) read x n e = absurd (cc e)
-first-back (Content line ∷ rest) read x n e = grind arith
 
 -- ---- the satellites' lines
 
@@ -109,8 +94,6 @@ names-joined text k (suc count) =
     ap (λ t. columns text (k + 1 + 3 * 0) 3 ++ t) (ap joined later ∙ names-joined text (k + 3) count)
     ∙ ap (λ n. columns text n 3 ++ columns text (k + 3 + 1) (3 * count)) first
     ∙ columns-append text k 3 (3 * count) ∙ ap (columns text (k + 1)) many
-
--- ---- the clock
 
 -- ---- the epoch
 

@@ -1,6 +1,6 @@
 -- The room of the satellites that are known, by look-ups in their map.
 use Rattle.crx_compact.proofs.Words.{◌≡◌, ℕ, ◌≤◌, false, List, [], ◌∷◌, Some, None, option_map, refl, sym}
-use Rattle.crx_compact.proofs.Words.{◌∙◌, inl, inr, arith, subst, rules, bytes_eq, false≢true, is_among}
+use Rattle.crx_compact.proofs.Words.{◌∙◌, inl, inr, arith, rules, bytes_eq, false≢true, is_among}
 use Rattle.crx_compact.proofs.Words.{HasRoom, KeepsRooms}
 use Rattle.std.specs.Map.{lookup}
 use Rattle.std.proofs.{lemmas.Bool.cases_Bool, lemmas.Option.none-some, lemmas.Grind.common_steps}
@@ -38,9 +38,6 @@ rooms-kept old new h name count has =
     let known = known-room name count old has in
     let after = h name known.0 known.1 in
     room-from_look_up name count new after.0 after.1 (omega (arith, known.2, after.2))
-
-pub same-rooms : (old new : List Entry) → new ≡ old → KeepsRooms (rooms_of new) (rooms_of old)
-same-rooms old new is = λ name count has. subst (λ (es : List Entry). HasRoom name count (rooms_of es)) is has
 
 -- one that isn't among them isn't known
 pub unknown : (name : List ℕ) (count : ℕ) (es : List Entry)

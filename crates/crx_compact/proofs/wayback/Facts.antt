@@ -2,12 +2,12 @@
 use Rattle.crx_compact.proofs.Words.{◌≡◌, refl, suc, true, List, Some, at, nat_eq, length, arith, rules}
 use Rattle.crx_compact.proofs.Words.{◌+◌, ◌-◌, ◌*◌, ◌<◌, ℕ, not, ◌∷◌, map, ◌∙◌, Row, All, sym, [], Epoch}
 use Rattle.crx_compact.proofs.Words.{epoch_count, columns-are, name-length, common_steps, Count}
-use Rattle.crx_compact.proofs.Words.{columns, mark_of, is_kept, All-head, All-tail, list_all, flat_map}
+use Rattle.crx_compact.proofs.Words.{columns, is_kept, All-head, All-tail, list_all, flat_map}
 use Rattle.crx_compact.proofs.Words.{and_parts, Satellite, epoch_text, IsSoundRow, ap, HasItsTypes, at-append}
 use Rattle.crx_compact.proofs.Words.{each_place, AllByRecursion, has_satellite, are_different, at-append_past}
-use Rattle.crx_compact.proofs.Words.{Ok, text_difference, satellites_named, each_place-same}
-use Rattle.crx_compact.proofs.Words.{not-true, at-without_end_blanks}
-use Rattle.crx_compact.proofs.Characters.{at-by_position, list_all-append}
+use Rattle.crx_compact.proofs.Words.{Ok, satellites_named, each_place-same}
+use Rattle.crx_compact.proofs.Words.{not-true}
+use Rattle.crx_compact.proofs.Characters.{list_all-append}
 use Rattle.crx_compact.proofs.Words.{IsWholeEpoch, length-append}
 use Rattle.crx_compact.proofs.{Identifiers.{AreNew, new-after}, Characters.{if_some, name-kept}}
 use Rattle.crx_compact.proofs.wayback.Runs.{IsUnmarked}
@@ -42,10 +42,6 @@ head-counted types epoch h = h.sound.head_sound.counted ∙ ap (λ n. Some n) (s
 
 pub unmarked : (text : List ℕ) → list_all is_kept text ≡ true → IsUnmarked text
 unmarked text h p = (grind (arith, common_steps))
-
-pub at-difference : (old new : List ℕ) (p : ℕ)
-    → at (text_difference old new) p ≡ mark_of (at old p) (at new p)
-at-difference old new p = at-without_end_blanks _ p ∙ at-by_position mark_of refl old new p
 
 -- ---- an epoch's head and text
 
