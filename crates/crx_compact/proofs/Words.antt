@@ -29,7 +29,7 @@ pub use Rattle.crx_compact.specs.Placing.{row_of_parts, padded_among, KeepsRooms
 pub use Rattle.crx_compact.specs.PrintedBlocks.{lines_to}
 pub use Rattle.crx_compact.specs.ReadingLaws.{HasSingleLines, Forgets, is_wanted}
 pub use Rattle.crx_compact.specs.ReadingRooms.{HeldColumns}
-pub use Rattle.crx_compact.specs.RowsSoFar.{AreAnnounced, AreRowsSoFar, NamesSatellites}
+pub use Rattle.crx_compact.specs.RowsSoFar.{AreAnnounced, NamesSatellites}
 pub use Rattle.crx_compact.specs.ShownRows.{shown_epoch, shown_row}
 pub use Rattle.crx_compact.specs.Steps.{flags_held, row_line_after, row_line_in, row_tail_after, row_tail_in}
 pub use Rattle.crx_compact.specs.Steps.{lines_after_tail, no_tail, tail_after, tail_written_after}

@@ -1,8 +1,7 @@
--- The satellites of an epoch text, the clock, and the rows of which so many have come, as a history shows them.
-use Rattle.std.specs.Prelude.{◌≡◌, ℕ, ◌≤◌, List, [], length, map, take, true, Some, Ok}
+-- The satellites of an epoch text, and the clock, as a history shows them.
+use Rattle.std.specs.Prelude.{◌≡◌, ℕ, List, [], length, true, Some, Ok}
 use Rattle.crx_text.specs.meaning.Columns.{columns}
 use Rattle.crx_base.specs.declared.limits.TheConstants.{HEAD_WIDTH}
-use Rattle.crx_rinex.specs.meaning.Observations.{Row, Epoch}
 use Rattle.crx_compact.specs.meaning.EpochText.{Satellite, names_in, satellites_named}
 use Rattle.crx_header.specs.meaning.EpochColumns.{epoch_count}
 use Rattle.crx_header.specs.meaning.ObservationTypes.{Count}
@@ -22,17 +21,6 @@ pub record AreAnnounced (text : List ℕ) (satellites : List Satellite) : Type 0
 pub record NamesSatellites (text : List ℕ) (satellites : List Satellite) : Type 0 where
   pub earlier : List Count
   pub named : satellites_named earlier [] (names_in text (length satellites)) ≡ Ok satellites
-
--- the epoch of the rows so far: it has the columns of the text, which announce the satellites, and the rows of the
--- first so many of these
-pub record AreRowsSoFar (epoch : Epoch) (next : Tail) (count : ℕ) (satellites : List Satellite) : Type 0 where
-  pub head : epoch.head ≡ columns next.text 1 HEAD_WIDTH
-  pub announced : AreAnnounced next.text satellites
-  pub counted : length epoch.rows ≡ count
-  pub named : map (λ (r : Row). r.name) epoch.rows ≡ map (λ (s : Satellite). s.name) (take count satellites)
-  pub sized : map (λ (r : Row). length r.values) epoch.rows ≡ map (λ (s : Satellite). s.count) (take count satellites)
-  pub within : count ≤ length satellites
-  pub left : count ≤ length next.rows
 
 -- the clock line read after a tail: the tail of the clock's arc is stored, which shows the clock's value
 pub record HasClock (before : Tail) (line : List ℕ) (old new : Tail) : Type 0 where
