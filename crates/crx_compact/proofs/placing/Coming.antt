@@ -1,11 +1,11 @@
 -- A satellite comes: what its map's entries show of the rows that have come, and of those that haven't.
-use Rattle.crx_compact.proofs.Words.{◌≡◌, ℕ, zero, suc, ◌+◌, ◌<◌, ◌≤◌, Bool, true, false, List, [], ◌∷◌, ◌++◌}
-use Rattle.crx_compact.proofs.Words.{map, take, drop, slice_get, Some, None, option_map, refl, ap}
+use Rattle.crx_compact.proofs.Words.{◌≡◌, ℕ, suc, ◌+◌, ◌<◌, ◌≤◌, Bool, true, false, List, [], ◌∷◌, ◌++◌}
+use Rattle.crx_compact.proofs.Words.{map, take, drop, slice_get, Some, None, option_map, ap}
 use Rattle.crx_compact.proofs.placing.Ranges.{among-up_to, found-in_range, named-map, none-named, not-before}
 use Rattle.crx_compact.proofs.Words.{sym, ◌∙◌, arith, bytes_eq, map-append, take-take, is_among, RowTail}
 use Rattle.crx_compact.proofs.placing.Ranges.{rest-one_more}
 use Rattle.std.specs.{List.IsDistinct, Map.keys_of}
-use Rattle.std.proofs.{lemmas.Bool.or_parts, lemmas.Grind.common_steps}
+use Rattle.std.proofs.{lemmas.Bool.or_parts, lemmas.Grind.common_steps, lemmas.List.{take-append-drop, Folds.list_any-append}}
 use Rattle.crx_header.proofs.Apart.{among-map, other_way}
 use Rattle.crx_compact.specs.meaning.Sequences.{named}
 use Rattle.crx_compact.specs.Entries.{Entry, IsAt, IsPutNext, key_of, placed_rows}
@@ -24,15 +24,10 @@ among-rows name es = among-map (λ (row : RowTail). row.name) row_of_entry name 
 -- one that isn't known has no row
 pub unknown-no_row : (name : List ℕ) (count : ℕ) (es : List Entry) → is_among key_of name es ≡ false
     → has_row name (map row_of_entry (take count es)) ≡ false
-unknown-no_row name count es h = among-rows name (take count es) ∙ first count es h
-  where
-    first : (count : ℕ) (es : List Entry) → is_among key_of name es ≡ false
-        → is_among key_of name (take count es) ≡ false
-    first zero es h = refl
-    first (suc count) [] h = refl
-    first (suc count) (e ∷ es) h =
-        let parts = or_parts (bytes_eq (key_of e) name) (is_among key_of name es) h in
-        rw parts.0 (first count es parts.1)
+unknown-no_row name count es h =
+    let parts = list_any-append (λ (e : Entry). bytes_eq (key_of e) name) (take count es) (drop count es) in
+    let all = take-append-drop count es in
+    among-rows name (take count es) ∙ (or_parts _ _ (sym parts ∙ ap (is_among key_of name) all ∙ h)).0
 
 module _ (name : List ℕ) (placed live found : ℕ) (os es fs : List Entry) (at : IsAt name os found) where
   -- it has come already

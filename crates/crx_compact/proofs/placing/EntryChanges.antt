@@ -1,15 +1,15 @@
 -- One entry of the map gets another value.
-use Rattle.std.proofs.Common.{◌≡◌, ℕ, zero, suc, ◌<◌, ◌≤◌, List, [], ◌∷◌, length, set, slice_get, refl}
-use Rattle.std.proofs.Common.{Some, ap, sym, ◌∙◌, inl, inr, arith, length-set, subst, Bool, true, false}
-use Rattle.std.proofs.{Common.{IsTrue, ◌↔◌, rules}, lemmas.Slice.Eq.bytes_eq-Decides}
-use Rattle.std.proofs.lemmas.Bool.{cases_Bool, cond-true, cond-false, false≢true}
+use Rattle.std.proofs.Common.{◌≡◌, ℕ, suc, ◌<◌, ◌≤◌, List, ◌∷◌, length, set, slice_get}
+use Rattle.std.proofs.Common.{Some, sym, ◌∙◌, arith, length-set, subst, Bool, true, false}
+use Rattle.std.proofs.{Common.{IsTrue, ◌↔◌, cond, map, rules}, lemmas.Slice.Eq.bytes_eq-Decides}
+use Rattle.std.proofs.lemmas.Bool.{cond-true, false≢true}
 use Rattle.std.proofs.{lemmas.List.get_or-set_same, lemmas.Grind.common_steps}
 use Rattle.std.proofs.{lemmas.Map.Entries.hash_map_get_place, lemmas.Option.{same_Some, slice_get_read}}
 use Rattle.std.specs.{Cmp.IsEquivalence, Str.bytes_eq}
 use Rattle.indexmap.proofs.CallerLemmas.{updates-with_value_at}
-use Rattle.indexmap.specs.IndexMap.{IndexMap, IsUnique, get, set_value_at}
+use Rattle.indexmap.specs.IndexMap.{IndexMap, IsUnique, set_value_at}
 use Rattle.crx_compact.specs.Entries.{Entry, IsAt, rooms_of}
-use Rattle.crx_compact.specs.Placing.{HasRoom, KeepsRooms, SatelliteTail}
+use Rattle.crx_compact.specs.Placing.{HasRoom, HasSameRooms, KeepsRooms, SatelliteTail, room_of_entry}
 use Rattle.crx_compact.proofs.Characters.{bytes_eq-same}
 use Rattle.crx_compact.proofs.placing.Rooms.{known-room, room-from_look_up, rooms-kept}
 
@@ -22,11 +22,25 @@ set-there xs i x within = search (rules, slice_get_read, length-set, get_or-set_
 -- the entry keeps its identifier
 pub changed-is : (es : List Entry) (i : ℕ) (name : List ℕ) (before after : SatelliteTail)
     → slice_get es i ≡ Some (name, before) → set_value_at es i after ≡ set es i (name, after)
-changed-is [] i name before after there = refl
-changed-is (e ∷ es) zero name before after there = cc (same_Some e (name, before) there)
 changed-is (e ∷ es) (suc i) name before after there = cc (changed-is es i name before after there)
+changed-is es i name before after there = grind (arith, same_Some)
+
+-- where it shows the same, all do
+pub shown-same : {X : Type 0} (f : Entry → X) (es : List Entry) (i : ℕ) (name : List ℕ) (before after : SatelliteTail)
+    → slice_get es i ≡ Some (name, before) → f (name, after) ≡ f (name, before) → map f (set_value_at es i after) ≡ map f es
+shown-same f (e ∷ es) (suc i) name before after there same = cc (shown-same f es i name before after there same)
+shown-same f es i name before after there same = grind (arith, same_Some)
 
 -- ---- the room of the satellites
+
+pub same-rooms : (rooms : List (List ℕ × ℕ)) → HasSameRooms rooms rooms
+same-rooms rooms = record { forth = λ name count has. has; back = λ name count has. has }
+
+pub rooms-same : (es : List Entry) (i : ℕ) (name : List ℕ) (before after : SatelliteTail)
+    → slice_get es i ≡ Some (name, before) → after.room ≡ before.room
+    → HasSameRooms (rooms_of es) (rooms_of (set_value_at es i after))
+rooms-same es i name before after there same = subst (HasSameRooms (rooms_of es))
+    (sym (shown-same room_of_entry es i name before after there (cc same))) (same-rooms _)
 
 module _ {S : Type 0} (m : IndexMap (List ℕ) SatelliteTail S) (i : ℕ) (name : List ℕ)
     (before after : SatelliteTail)
@@ -46,39 +60,11 @@ module _ {S : Type 0} (m : IndexMap (List ℕ) SatelliteTail S) (i : ℕ) (name 
       → KeepsRooms (rooms_of m.entries) (rooms_of (set_value_at m.entries i after))
   rooms-changed more =
       let updates = updates-with_value_at m i after bytes_eq-equiv unique name before there in
-      rooms-kept _ _ (λ other satellite known. elim (cases_Bool (bytes_eq name other)) [
-        | inl t ↦
-            let same : name ≡ other = (bytes_eq-Decides name other).0 t in
-            let is = same_Some satellite before
-            (cc (known, same, hash_map_get_place bytes_eq-equiv m i name before unique there)) in search rules
-        | inr f ↦ (
-          satellite,
-          updates.0 other ∙ cond-false (bytes_eq name other) (Some after) (get bytes_eq m other) f ∙ known,
-          omega arith,
-        )
-      ])
-
-  -- where its room is no greater, none is
-  pub rooms-changed-back : after.room ≤ before.room
-      → KeepsRooms (rooms_of (set_value_at m.entries i after)) (rooms_of m.entries)
-  rooms-changed-back less =
-      let updates = updates-with_value_at m i after bytes_eq-equiv unique name before there in
-      rooms-kept _ _ (λ other satellite known. elim (cases_Bool (bytes_eq name other)) [
-        | inl t ↦
-            let is = same_Some satellite after (sym known
-            ∙ updates.0 other ∙ cond-true (bytes_eq name other) (Some after) (get bytes_eq m other) t) in (
-              before,
-              ap (λ n. get bytes_eq m n) (sym ((bytes_eq-Decides name other).0 t)) ∙ hash_map_get_place
-                  bytes_eq-equiv m i name before unique there,
-              rw is less,
-            )
-        | inr f ↦ (
-          satellite,
-          sym (cond-false (bytes_eq name other) (Some after) (get bytes_eq m other) f) ∙ sym (updates.0 other)
-              ∙ known,
-          omega arith,
-        )
-      ])
+      let own = hash_map_get_place bytes_eq-equiv m i name before unique there in
+      rooms-kept _ _ (λ other satellite known.
+      let same = (bytes_eq-Decides name other).0 in
+      let found = updates.0 other in
+      (cond (bytes_eq name other) after satellite, grind (arith, common_steps), grind (arith, common_steps, same, same_Some)))
 
   pub has-room : (count : ℕ) → count ≤ after.room
       → HasRoom name count (rooms_of (set_value_at m.entries i after))

@@ -1,15 +1,14 @@
 -- A satellite is found by its identifier, or added behind the others.
 use Rattle.std.proofs.Common.{◌≡◌, ℕ, List, [], ◌∷◌, ◌++◌, length, take, slice_get, get_or, position}
 use Rattle.std.proofs.Common.{Option, Some, None, IfSome, is_some, refl, ap, sym, ◌∙◌, arith}
-use Rattle.std.proofs.{Common.{Bool, false}, lemmas.Bool.cases_Bool, lemmas.Slice.Eq.bytes_eq-Decides}
+use Rattle.std.proofs.{Common.{Bool, false}, lemmas.Slice.Eq.bytes_eq-Decides}
 use Rattle.std.proofs.lemmas.Grind.{common_steps}
 use Rattle.std.proofs.{lemmas.List.length-map, Math.Seq.take-append_seam, lemmas.List.Quantifiers.position-Some}
 use Rattle.std.proofs.lemmas.Option.{get_or_from_slice_get, none-some, slice_get-map}
 use Rattle.std.specs.{Str.bytes_eq, Map.{keys_of, lookup}}
 use Rattle.crx_header.specs.meaning.Satellites.{is_among}
-use Rattle.crx_header.proofs.Apart.{other_way}
 use Rattle.crx_compact.specs.{Entries.{Entry, IsAt, IsFound, key_of}, Placing.SatelliteTail}
-use Rattle.crx_compact.proofs.{RowByRow.is-there, placing.Rooms.{rooms-kept}}
+use Rattle.crx_compact.proofs.{RowByRow.is-there, placing.Rooms.{look_up-among, rooms-kept}}
 
 -- where another identifier is there, which is the same
 pub found-same : (name other : List ℕ) (i : ℕ) (es : List Entry) → (satellite : SatelliteTail)
@@ -31,9 +30,9 @@ pub found-if_some : (name : List ℕ) (es : List Entry) (r : Option ℕ)
 found-if_some name es None is = tt
 found-if_some name es (Some i) is = found-by_look_up name i es is
 
-pub at-seam : {X : Type 0} (xs : List X) (x : X) → slice_get (xs ++ x ∷ []) (length xs) ≡ Some x
-at-seam [] x = refl
-at-seam (y ∷ xs) x = at-seam xs x
+pub at-seam : {X : Type 0} (xs ys : List X) (x : X) → slice_get (xs ++ x ∷ ys) (length xs) ≡ Some x
+at-seam [] ys x = refl
+at-seam (z ∷ xs) ys x = at-seam xs ys x
 
 look_up-more : (test : List ℕ → Bool) (es more : List Entry) (satellite : SatelliteTail)
     → lookup test es ≡ Some satellite → lookup test (es ++ more) ≡ Some satellite
@@ -43,7 +42,7 @@ look_up-more test (e ∷ es) more satellite h = grind (arith, common_steps, look
 pub found-added : (name : List ℕ) (satellite : SatelliteTail) (es new : List Entry)
     → new ≡ es ++ (name, satellite) ∷ [] → satellite.room ≡ 0 → IsFound name (length es) es new
 found-added name satellite es new is none = record {
-  at = record { satellite = satellite; there = ap (λ xs. slice_get xs (length es)) is ∙ at-seam es _ };
+  at = record { satellite = satellite; there = ap (λ xs. slice_get xs (length es)) is ∙ at-seam es [] _ };
   known = ap (take (length es)) is ∙ take-append_seam es ((name, satellite) ∷ []);
   rooms = rooms-kept es new (λ other found known. (
     found,
@@ -59,5 +58,4 @@ none-there r h = grind arith
 -- where no look-up finds it, it isn't among them
 pub not-found : (name : List ℕ) (es : List Entry) → is_some (lookup (bytes_eq name) es) ≡ false
     → is_among key_of name es ≡ false
-not-found name [] h = refl
-not-found name (e ∷ es) h = grind (arith, common_steps, cases_Bool, other_way, not-found name es)
+not-found name es h = sym (look_up-among name es) ∙ h

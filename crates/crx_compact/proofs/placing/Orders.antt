@@ -1,8 +1,8 @@
 -- The entries of a map in an order of their indices.
-use Rattle.std.proofs.Common.{◌≡◌, ℕ, zero, suc, ◌+◌, ◌<◌, false, List, [], ◌∷◌, ◌++◌, length, map, set}
-use Rattle.std.proofs.Common.{slice_get, get_or, Some, option_map, refl, ap, sym, ◌∙◌, inl, inr, arith}
+use Rattle.std.proofs.Common.{◌≡◌, ℕ, ◌+◌, ◌<◌, false, List, [], ◌∷◌, ◌++◌, length, set}
+use Rattle.std.proofs.Common.{slice_get, get_or, Some, option_map, ap, sym, ◌∙◌, inl, inr, arith, length-set}
 use Rattle.std.proofs.lemmas.Bool.{cases_Bool, cases_lt, cases_eq, false≢true}
-use Rattle.std.proofs.lemmas.List.{get_or-map, get_or-set_other, get_or-set_same, get_or_append_left, length-append, length-map}
+use Rattle.std.proofs.lemmas.List.{ext_get_or, get_or-map, get_or-set_other, get_or-set_same, get_or_append_left, length-append, length-map}
 use Rattle.std.proofs.lemmas.List.Folds.{list_any_at, list_any_none}
 use Rattle.std.proofs.lemmas.Grind.{common_steps}
 use Rattle.std.proofs.lemmas.Map.Keys.{IsDistinct-from_apart, apart_from_distinct}
@@ -55,13 +55,7 @@ module _ {order places : List ℕ} (es : List Entry) (is : IsOrder order places 
       get_or-map key_of (in_order order es) k (entry_at es 0) d (omega (arith, below, length-in_order))
       ∙ ap key_of (get_or-map (entry_at es) order k 0 _ (omega (arith, below, is.counted)))
       ∙ sym (get_or-map key_of es (get_or order k 0) _ d (is.index k below)) in
-      let far : one ≡ other → ⊥ = λ e. omega (
-        arith,
-        less,
-        is.forth i (omega (arith, less, within, counted)),
-        is.forth j (omega (arith, within, counted)),
-        ap (λ n. get_or places n 0) e,
-      ) in
+      let far : one ≡ other → ⊥ = grind arith in
       let keys : length (keys_of es) ≡ length es = length-map es key_of in
       let low = is.index i (omega (arith, less, within, counted)) in
       let high = is.index j (omega (arith, within, counted)) in
@@ -77,29 +71,19 @@ module _ {order places : List ℕ} (es : List Entry) (is : IsOrder order places 
   pub set-in_order : (place : ℕ) (e : Entry) → place < length es → in_order order (set es (get_or order place 0) e)
       ≡ set (in_order order es) place e
   set-in_order place e within =
-      changed order place (omega (arith, within, is.counted)) (is.index place within)
-      (λ q below same. let a = is.forth q (omega (arith, below, is.counted)) in let b = is.forth place within in
-      let c = ap (λ n. get_or places n 0) same in omega (arith, a, b, c))
-    where
-      kept : (index : ℕ) (ks : List ℕ) → ((q : ℕ) → q < length ks → get_or ks q 0 ≡ index → ⊥)
-          → map (entry_at (set es index e)) ks ≡ map (entry_at es) ks
-      kept index [] h = refl
-      kept index (k ∷ ks) h =
-          rw (get_or-set_other es index k e _ (λ same. h 0 (omega arith) same))
-          (ap (λ r. entry_at es k ∷ r) (kept index ks (λ q below. h (suc q) (omega (arith, below)))))
-
-      changed : (ks : List ℕ) (p : ℕ) → p < length ks → get_or ks p 0 < length es
-          → ((q : ℕ) → q < length ks → get_or ks q 0 ≡ get_or ks p 0 → q ≡ p)
-          → map (entry_at (set es (get_or ks p 0) e)) ks ≡ set (map (entry_at es) ks) p e
-      changed [] p less below h = absurd (omega (arith, less))
-      changed (k ∷ ks) zero less below h =
-          rw (get_or-set_same es k e _ below) (ap (λ r. e ∷ r) (kept k ks (λ q under same.
-          let no = h (suc q) (omega (arith, under)) same in omega (arith, no))))
-      changed (k ∷ ks) (suc p) less below h =
-          rw (get_or-set_other es (get_or ks p 0) k e _ (λ same.
-          let no = h 0 (omega arith) same in omega (arith, no)))
-          (ap (λ r. entry_at es k ∷ r) (changed ks p (omega (arith, less)) below (λ q under same.
-          let one = h (suc q) (omega (arith, under)) same in omega (arith, one))))
+      let new = set es (get_or order place 0) e in
+      let long = length-map order (entry_at es) in
+      ext_get_or e (in_order order new) (set (in_order order es) place e)
+      (length-map order (entry_at new) ∙ sym (length-set (in_order order es) place e ∙ long)) (λ q less.
+      let below : q < length order = omega (arith, less, length-map order (entry_at new)) in
+      let one = get_or-map (entry_at new) order q 0 e below in
+      let two = get_or-map (entry_at es) order q 0 e below in
+      let forth = is.forth q (omega (arith, below, is.counted)) in
+      let back = is.forth place within in
+      elim (cases_eq q place) [
+        | inl same ↦ grind (arith, get_or-set_same, is.index place within, is.counted)
+        | inr other ↦ grind (arith, get_or-set_other)
+      ])
 
 -- one more index is behind the others
 pub more-ordered : (order places : List ℕ) (count : ℕ) → IsOrder order places count

@@ -3,7 +3,7 @@ use Rattle.crx_compact.proofs.Words.{◌≡◌, slice_index_or, take, ℕ, ◌+�
 use Rattle.crx_compact.proofs.Words.{Some, None, ap, arith, refl, sym, true≢false, rules, bytes_eq, is_among}
 use Rattle.crx_compact.proofs.{Words.{PlacedRows, RowTail}, placing.EntryChanges.{changed-is, enough-room, little-room}}
 use Rattle.crx_compact.proofs.placing.Coming.{come-anew, emptied, come-awaited, is-new, repeated, unknown-no_row}
-use Rattle.crx_compact.proofs.placing.EntryChanges.{rooms-changed, rooms-changed-back}
+use Rattle.crx_compact.proofs.placing.EntryChanges.{rooms-same, same-rooms}
 use Rattle.crx_compact.proofs.placing.Rooms.{unknown}
 use Rattle.std.proofs.{Common.{IsTrue, ◌↔◌, List, ◌∙◌, map, set, slice_get, subst, swap}}
 use Rattle.std.proofs.lemmas.List.{length-map}
@@ -16,9 +16,6 @@ use Rattle.indexmap.proofs.CallerLemmas.{keys-with_value_at}
 use Rattle.indexmap.specs.{IndexMap.{IndexMap, IsUnique, set_value_at}, Layout.length-set_value_at}
 use Rattle.crx_compact.specs.Entries.{Entry, IsPutNext, key_of, placed_rows}
 use Rattle.crx_compact.specs.Placing.{AnswersPlacing, HasAskedRoom, HasCome, HasSameRooms, IsPlaced, SatelliteTail}
-
-same-rooms : (rooms : List (List ℕ × ℕ)) → HasSameRooms rooms rooms
-same-rooms rooms = record { forth = λ name count has. has; back = λ name count has. has }
 
 -- it isn't known
 pub placed-unknown : {name : List ℕ} {count : ℕ} (placed live : ℕ) (os es : List Entry) → is_among key_of name os
@@ -112,19 +109,13 @@ module _ {S : Type 0} (m : IndexMap (List ℕ) SatelliteTail S) (unique : IsUniq
         let es = set_value_at m.entries index after in
         let blank : Entry = (name, after) in
         let changed : in_order order es ≡ set (in_order order m.entries) place blank =
-        ap (in_order order) (changed-is m.entries index name at.satellite after at.there)
-        ∙ ap (λ i. in_order order (set m.entries i blank)) (sym stands.0)
-        ∙ set-in_order m.entries is place blank stands.1 in
+        search (rules, changed-is, set-in_order) in
         let moved-is : in_order moved es ≡ swap (set (in_order order m.entries) place blank) place live =
         ap (map (entry_at es)) e ∙ map-swap _ order place live ∙ ap (λ o. swap o place live) changed in
         let long = length-set_value_at m.entries index after in
         let below : place < length (in_order order m.entries) =
         omega (arith, stands, is.counted, length-map order (entry_at m.entries)) in
-        let room = ap (λ (s : SatelliteTail). s.room) empty in
-        come roomy (record {
-          forth = rooms-changed m index name at.satellite after unique at.there (omega (arith, room));
-          back = rooms-changed-back m index name at.satellite after unique at.there (omega (arith, room));
-        }) (come-anew name placed live place (in_order order m.entries) m.entries es here apart (in_order moved es)
+        come roomy (rooms-same m.entries index name at.satellite after at.there (cc empty)) (come-anew name placed live place (in_order order m.entries) m.entries es here apart (in_order moved es)
         (in_order next es) few beyond (ap (λ o. slice_get o live) moved-is ∙ revived-there live place _ blank beyond below
         ∙ ap (λ (s : SatelliteTail). Some (name, s)) empty)
         (ap (take live) moved-is ∙ revived-front live place _ blank beyond below)

@@ -1,22 +1,19 @@
 -- A satellite gets more room, and no row changes.
 use Rattle.crx_compact.proofs.Words.{take-take, length-take-le, slice_index_or}
-use Rattle.std.proofs.Common.{rules, ◌≡◌, ℕ, suc, ◌<◌, ◌≤◌, List, [], ◌∷◌, length, map, take, drop, slice_get, Some, ap}
-use Rattle.std.proofs.{Common.{◌∙◌, arith, refl, sym, get_or}, Math.Seq.map-set_same, Math.ListN.get_or-map}
-use Rattle.std.proofs.{lemmas.List.{drop-map, get_or-take, length-take, take-map}, lemmas.Option.get_or_from_slice_get}
+use Rattle.std.proofs.Common.{◌≡◌, ℕ, suc, ◌<◌, ◌≤◌, List, [], ◌∷◌, length, map, take, drop, slice_get, Some, ap}
+use Rattle.std.proofs.{Common.{◌∙◌, arith, refl, sym, get_or}, Math.ListN.get_or-map}
+use Rattle.std.proofs.{lemmas.List.{drop-map, get_or-take, length-take, take-map}}
 use Rattle.std.proofs.lemmas.Grind.{common_steps}
 use Rattle.indexmap.specs.IndexMap.{set_value_at}
 use Rattle.crx_compact.specs.{Entries.{Entry, IsOrder, entry_at, in_order}, Placing.{HasAskedRoom, PlacedRows, SatelliteTail, row_of_entry}}
-use Rattle.crx_compact.proofs.placing.EntryChanges.{changed-is}
+use Rattle.crx_compact.proofs.placing.EntryChanges.{shown-same}
 
 -- an entry that shows the same row changes no row
 pub rows-same : (es : List Entry) (i : ℕ) (name : List ℕ) (before after : SatelliteTail)
     → slice_get es i ≡ Some (name, before) → after.flags ≡ before.flags → after.cells ≡ before.cells
     → map row_of_entry (set_value_at es i after) ≡ map row_of_entry es
 rows-same es i name before after there flags cells =
-    ap (map row_of_entry) (changed-is es i name before after there) ∙ map-set_same row_of_entry es i (
-      name,
-      after,
-    ) (name, before) (search (rules, get_or_from_slice_get))
+    shown-same row_of_entry es i name before after there (cc (flags, cells))
 
 -- the first ones of the entries show what those before showed
 pub rows-before : (es known new : List Entry) → take (length es) known ≡ es
@@ -47,8 +44,7 @@ module _ (order places longer : List ℕ) (es new : List Entry) (is : IsOrder or
       → map row_of_entry (take count (in_order longer new)) ≡ map row_of_entry (take count (in_order order es))
   front-same count within =
       let fits : count ≤ length order = omega (arith, within, is.counted) in
-      let ks : take count longer ≡ take count order =
-      sym (take-take count (length order) longer fits) ∙ ap (take count) begins in
+      let ks : take count longer ≡ take count order = grind (arith, take-take) in
       ap (map row_of_entry) (take-map (entry_at new) count longer ∙ ap (map (entry_at new)) ks)
       ∙ rows-front es new front (take count order) (λ q less.
       let below : q < count = omega (arith, less, length-take-le count order fits) in
@@ -62,8 +58,4 @@ module _ (order places longer : List ℕ) (es new : List Entry) (is : IsOrder or
 
 -- room that was asked for twice
 pub asked-more : {one two three : PlacedRows} → HasAskedRoom one two → HasAskedRoom two three → HasAskedRoom one three
-asked-more first next = record {
-  rows = next.rows ∙ first.rows;
-  rest = next.rest ∙ first.rest;
-  rooms = λ name count has. next.rooms name count (first.rooms name count has);
-}
+asked-more first next = grind (arith, common_steps)

@@ -57,6 +57,4 @@ module _ (live place : ℕ) (old : List Entry) (blank : Entry) (behind : live �
         blank (omega (arith, behind, within, counted, length-set (set old place blank) place first.item))
 
     pub revived-front : take live (swap (set old place blank) place live) ≡ take live old
-    revived-front = ap (take live) revived
-        ∙ take-set-le live (set (set old place blank) place first.item) live blank (omega arith)
-        ∙ take-set-le live (set old place blank) place first.item behind ∙ take-set-le live old place blank behind
+    revived-front = grind (arith, common_steps, revived, take-set-le)

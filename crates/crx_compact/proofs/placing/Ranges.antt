@@ -51,26 +51,20 @@ module _ {V : Type 0} where
   -- and is among those up to it
   pub among-up_to : (n : ℕ) (es : List (List ℕ × V)) (i : ℕ) (e : List ℕ × V)
       → slice_get es i ≡ Some e → i < n → is_among name_of e.0 (take n es) ≡ true
-  among-up_to zero es i e there within = absurd (omega (arith, within))
-  among-up_to (suc n) [] i e there within = absurd (none-some e there)
-  among-up_to (suc n) (x ∷ es) zero e there within = search (rules, bytes_eq, same_Some, bytes_eq-same)
   among-up_to (suc n) (x ∷ es) (suc i) e there within =
       grind (arith, among-up_to n es i e there (omega (arith, within)))
+  among-up_to n es i e there within = grind (arith, same_Some, bytes_eq-same)
 
   -- one in a range is found there
   pub found-in_range : (start end : ℕ) (es : List (List ℕ × V)) (i : ℕ) (e : List ℕ × V)
       → IsDistinct bytes_eq (keys_of es) → slice_get es i ≡ Some e → start ≤ i → i < end
       → named name_of e.0 (drop start (take end es)) ≡ Some e
-  found-in_range start zero es i e h there after before = absurd (omega (arith, before))
-  found-in_range start (suc end) [] i e h there after before = absurd (none-some e there)
-  found-in_range zero (suc end) (x ∷ es) zero e h there after before =
-      rw (ap (λ (y : List ℕ × V). bytes_eq y.0 e.0) (same_Some x e there) ∙ bytes_eq-same e.0) there
   found-in_range zero (suc end) (x ∷ es) (suc i) e h there after before =
       rw (apart-at x.0 es i e (IsDistinct-head bytes_eq x.0 (keys_of es) h) there) (found-in_range zero
       end es i e (IsDistinct-tail bytes_eq x.0 (keys_of es) h) there (omega arith) (omega (arith, before)))
-  found-in_range (suc start) (suc end) (x ∷ es) zero e h there after before = absurd (omega (arith, after))
   found-in_range (suc start) (suc end) (x ∷ es) (suc i) e h there after before = found-in_range start end es
       i e (IsDistinct-tail bytes_eq x.0 (keys_of es) h) there (omega (arith, after)) (omega (arith, before))
+  found-in_range start end es i e h there after before = grind (arith, same_Some, bytes_eq-same)
 
   -- in a range that is longer by one, all others are found as before
   pub rest-one_more : (start end : ℕ) (es : List (List ℕ × V)) (e : List ℕ × V) (other : List ℕ)
@@ -86,11 +80,10 @@ module _ {V : Type 0} where
   pub rest-next : (start end : ℕ) (es : List (List ℕ × V)) (e : List ℕ × V) (other : List ℕ)
       → start < end → slice_get es start ≡ Some e → bytes_eq e.0 other ≡ false
       → named name_of other (drop (suc start) (take end es)) ≡ named name_of other (drop start (take end es))
-  rest-next start end [] e other within there differs = absurd (none-some e there)
-  rest-next start zero (x ∷ es) e other within there differs = absurd (omega (arith, within))
-  rest-next zero (suc end) (x ∷ es) e other within there differs = grind arith
   rest-next (suc start) (suc end) (x ∷ es) e other within there differs =
       rest-next start end es e other (omega (arith, within)) there differs
+  rest-next zero (suc end) (x ∷ es) e other within there differs = grind arith
+  rest-next start end es e other within there differs = grind arith
 
   -- one in the place of another is found as if it were the first one, by an identifier that isn't the other's
   in_place : (end i : ℕ) (es : List (List ℕ × V)) (a b : List ℕ × V) (other : List ℕ) → i < end
@@ -105,7 +98,6 @@ module _ {V : Type 0} where
       → start < i → i < end → slice_get es start ≡ Some a → slice_get es i ≡ Some b
       → IsDistinct bytes_eq (keys_of es) → bytes_eq b.0 other ≡ false → named name_of other
       (drop (suc start) (take end (set es i a))) ≡ named name_of other (drop start (take end es))
-  rest-brought start end i [] a b other after before here there h differs = absurd (none-some b there)
   rest-brought zero (suc end) (suc i) (x ∷ es) a b other after before here there h differs =
       let same = same_Some x a here in
       in_place end i es a b other (omega (arith, before)) there (rw (← same) (IsDistinct-head bytes_eq x.0
@@ -113,4 +105,4 @@ module _ {V : Type 0} where
   rest-brought (suc start) (suc end) (suc i) (x ∷ es) a b other after before here there h differs =
       rest-brought start end i es a b other (omega (arith, after)) (omega (arith, before)) here there
       (IsDistinct-tail bytes_eq x.0 (keys_of es) h) differs
-  rest-brought start end i (x ∷ es) a b other after before here there h differs = grind arith
+  rest-brought start end i es a b other after before here there h differs = grind arith

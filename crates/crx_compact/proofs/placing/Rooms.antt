@@ -1,9 +1,9 @@
 -- The room of the satellites that are known, by look-ups in their map.
-use Rattle.crx_compact.proofs.Words.{◌≡◌, ℕ, ◌≤◌, false, List, [], ◌∷◌, Some, None, option_map, refl, sym}
-use Rattle.crx_compact.proofs.Words.{◌∙◌, inl, inr, arith, rules, bytes_eq, false≢true, is_among}
-use Rattle.crx_compact.proofs.Words.{HasRoom, KeepsRooms}
+use Rattle.crx_compact.proofs.Words.{◌≡◌, ℕ, ◌≤◌, false, List, [], ◌∷◌, Some, option_map, refl, sym}
+use Rattle.crx_compact.proofs.Words.{◌∙◌, arith, rules, bytes_eq, false≢true, is_among}
+use Rattle.crx_compact.proofs.Words.{HasRoom, KeepsRooms, is_some, ap}
 use Rattle.std.specs.Map.{lookup}
-use Rattle.std.proofs.{lemmas.Bool.cases_Bool, lemmas.Option.none-some, lemmas.Grind.common_steps}
+use Rattle.std.proofs.{lemmas.Bool.cases_Bool, lemmas.Grind.common_steps}
 use Rattle.crx_header.proofs.Apart.{other_way}
 use Rattle.crx_compact.specs.{Entries.{Entry, key_of, rooms_of}, meaning.Sequences.named}
 use Rattle.crx_compact.specs.Placing.{SatelliteTail}
@@ -39,15 +39,13 @@ rooms-kept old new h name count has =
     let after = h name known.0 known.1 in
     room-from_look_up name count new after.0 after.1 (omega (arith, known.2, after.2))
 
+-- a look-up finds those that are among them
+pub look_up-among : (name : List ℕ) (es : List Entry) → is_some (lookup (bytes_eq name) es) ≡ is_among key_of name es
+look_up-among name [] = refl
+look_up-among name (e ∷ es) = grind (arith, common_steps, cases_Bool, other_way, look_up-among name es)
+
 -- one that isn't among them isn't known
 pub unknown : (name : List ℕ) (count : ℕ) (es : List Entry)
     → is_among key_of name es ≡ false → HasRoom name count (rooms_of es) → ⊥
 unknown name count es new has =
-    none-some (known-room name count es has).0 (sym (none es new) ∙ (known-room name count es has).1)
-  where
-    none : (es : List Entry) → is_among key_of name es ≡ false → lookup (bytes_eq name) es ≡ None
-    none [] h = refl
-    none (e ∷ es) h = elim (cases_Bool (bytes_eq e.0 name)) [
-      | inl t ↦ absurd (false≢true (sym h ∙ rw t refl))
-      | inr f ↦ rw (other_way e.0 name f) (none es (rw f at h))
-    ]
+    false≢true (sym (look_up-among name es ∙ new) ∙ ap is_some (known-room name count es has).1)

@@ -7,7 +7,7 @@ use Rattle.crx_compact.proofs.Words.{text_difference, Row, ArcTail, cell_text, p
 use Rattle.crx_compact.proofs.{Words.{row_line_after, row_tail_after, RowTail}, placing.Found.at-seam}
 use Rattle.crx_compact.proofs.placing.Orders.{set-in_order, there-in_order}
 use Rattle.std.proofs.Common.{set}
-use Rattle.crx_compact.proofs.placing.EntryChanges.{changed-is, rooms-changed, rooms-changed-back}
+use Rattle.crx_compact.proofs.placing.EntryChanges.{changed-is, rooms-same}
 use Rattle.std.specs.Prelude.{flat_map}
 use Rattle.std.proofs.{Math.Seq.{take-set-lt, set-append_seam}, lemmas.Grind.common_steps}
 use Rattle.std.proofs.lemmas.List.{drop-set-lt, map-set, length-take, length-append}
@@ -16,10 +16,8 @@ use Rattle.crx_compact.specs.Placing.{KeepsRest, SatelliteTail, cells_for, row_t
 use Rattle.indexmap.specs.{IndexMap.{IndexMap, IsUnique, set_value_at}, Layout.length-set_value_at}
 
 pub get-take : {X : Type 0} (n i : ℕ) (xs : List X) → i < n → slice_get (take n xs) i ≡ slice_get xs i
-get-take zero i xs within = absurd (omega (arith, within))
-get-take (suc n) i [] within = refl
-get-take (suc n) zero (x ∷ xs) within = refl
 get-take (suc n) (suc i) (x ∷ xs) within = get-take n i xs (omega (arith, within))
+get-take n i xs within = grind arith
 
 abbrev pub rows_of : ℕ → List Entry → List RowTail
 rows_of placed es = map row_of_entry (take placed es)
@@ -83,10 +81,7 @@ module _ {S : Type 0} (m : IndexMap (List ℕ) SatelliteTail S) {order places : 
         rest = ap (λ es. map row_of_entry (drop placed (take live es))) changed
             ∙ ap (λ es. map row_of_entry (drop placed es)) (take-set-lt live os i (name, after) (omega (arith, few, below)))
             ∙ ap (map row_of_entry) (drop-set-lt placed (take live os) i (name, after) below);
-        rooms = record {
-          forth = rooms-changed m index name before after unique there (omega (arith, roomy));
-          back = rooms-changed-back m index name before after unique there (omega (arith, roomy));
-        };
+        rooms = rooms-same m.entries index name before after there (sym roomy);
       }
 
 -- ---- the last row
@@ -95,7 +90,7 @@ pub last-is : {X : Type 0} (xs ys : List X) (x y : X) (i : ℕ) → xs ≡ ys ++
     → (slice_get xs i ≡ Some y) × (slice_set xs i x ≡ ys ++ x ∷ [])
 last-is xs ys x y i e is =
     let same : i ≡ length ys = omega (arith, is, ap length e, length-append ys (y ∷ [])) in
-    rw (e, same) (at-seam ys y, set-append_seam ys y [] x)
+    rw (e, same) (at-seam ys [] y, set-append_seam ys y [] x)
 
 -- a satellite by another count of types
 pub padded-is : (name : List ℕ) (count : ℕ) (satellite after : SatelliteTail) → after ≡ record satellite {
@@ -114,12 +109,11 @@ has-last (x ∷ (y ∷ ys)) some =
 
 -- ---- a row that is written
 
-each_place-below : {X : Type 0} (n : ℕ) (f g : ℕ → X) → ((k : ℕ) → k < n → f k ≡ g k)
+pub each_place-below : {X : Type 0} (n : ℕ) (f g : ℕ → X) → ((k : ℕ) → k < n → f k ≡ g k)
     → each_place n f ≡ each_place n g
 each_place-below zero f g h = refl
-each_place-below (suc n) f g h = ap (λ x. x ∷ each_place n (λ i. f (suc i))) (h 0 (omega arith))
-    ∙ ap (λ r. g 0 ∷ r)
-    (each_place-below n (λ i. f (suc i)) (λ i. g (suc i)) (λ k within. h (suc k) (omega (arith, within))))
+each_place-below (suc n) f g h = cc
+    (h 0 (omega arith), each_place-below n (λ i. f (suc i)) (λ i. g (suc i)) (λ k within. h (suc k) (omega (arith, within))))
 
 cell-there : (n k : ℕ) (cells : List (Option ArcTail)) → k < n
     → slice_index_or (cells_for n cells) k None ≡ slice_index_or cells k None

@@ -1,6 +1,6 @@
 -- The steps of a reader, line by line, agree with what is at all lines so far.
 use Rattle.crx_compact.proofs.Words.{◌≡◌, slice_get, Satellite, rows_read, tail_named, opened_raw, held_after}
-use Rattle.crx_compact.proofs.Words.{refl, List, [], arith, Fault, Count, Place, Fails, NeedsMore, padded}
+use Rattle.crx_compact.proofs.Words.{refl, List, [], arith, Fault, Count, Place, Fails, padded}
 use Rattle.crx_compact.proofs.Words.{rules, ℕ, Result, Content, ReadRow, ArcTail, RowTail, HeldRow, RawStep}
 use Rattle.crx_compact.proofs.Words.{opening, suc, patched, ReadLine, one_line, and_then, ReadCell, held_row}
 use Rattle.crx_compact.proofs.Words.{row_step, ◌+◌, ◌∷◌, ◌++◌, map, Some, None, Ok, Err, sym, ◌∙◌, ap, Done}
@@ -11,7 +11,7 @@ use Rattle.crx_compact.proofs.Words.{BegunEpoch, whole_epoch, tail_opened, take_
 use Rattle.crx_compact.proofs.Words.{HeldEpoch, with_rows, next_step, placed_as, satellite_line_read}
 use Rattle.crx_compact.proofs.Words.{epoch_of_rows, whole_or_awaiting, raw_step_with_row, past_of_tail}
 use Rattle.crx_compact.proofs.Words.{before_clock, place_of_step, append_assoc, length-append}
-use Rattle.crx_compact.proofs.{ShownRows.set-next, soundness.Soundness.{Paired, RowFacts, rows-facts}}
+use Rattle.crx_compact.proofs.{placing.Found.at-seam, ShownRows.set-next, soundness.Soundness.{Paired, RowFacts, rows-facts}}
 use Rattle.crx_compact.proofs.reading.PaddedRows.{row-opened, row-shows}
 use Rattle.std.specs.Option.{is_some}
 use Rattle.crx_compact.specs.OpenEpochs.{OpenRawEpoch, rows_before, raw_step_with_clock, place_of_steps}
@@ -44,11 +44,6 @@ one-more : (before : Tail) (text : List ℕ) (arc : Option ArcTail)
     ≡ after_lines (suc count) (rows_placed before text arc rows (after_lines 1 (row_onto read lines p)))
 one-more before text arc rows read lines count p = grind (arith, common_steps, append_assoc)
 
--- what is behind the first rows
-get-next : {X : Type 0} (xs ys : List X) (x : X) → slice_get (xs ++ x ∷ ys) (length xs) ≡ Some x
-get-next [] ys x = refl
-get-next (z ∷ zs) ys x = get-next zs ys x
-
 -- the awaited satellites' lines, one step each
 rows-steps : (before : Tail) (text : List ℕ) (arc : Option ArcTail) (rows : List RowTail)
     (awaited : List Satellite) (count : ℕ) (lines : List ReadLine) → place_of_steps count
@@ -58,7 +53,7 @@ rows-steps before text arc rows [] count lines = grind (arith, common_steps, tai
 rows-steps before text arc rows (s ∷ ss) count (Content line ∷ lines) =
     let row : RowTail = padded s (tail_named s.name before) in
     let tail : Tail = tail_with text arc (rows ++ rows_before before (s ∷ ss)) in
-    let there : slice_get tail.rows (length rows) ≡ Some row = get-next rows (rows_before before ss) row in
+    let there : slice_get tail.rows (length rows) ≡ Some row = at-seam rows (rows_before before ss) row in
     ap {B = Place HeldEpoch} (λ (o : Option RowTail). place_of_steps count
     (whole_or_awaiting tail (length rows) o) (Content line ∷ lines)) there ∙ ap {B = Place HeldEpoch}
     (λ (o : Option RowTail). place_of_steps (suc count) (row_step (with_rows tail (length rows)) o line)
@@ -88,7 +83,7 @@ rows-steps before text arc rows (s ∷ ss) count (Content line ∷ lines) =
         let set = set-next rows opened (padded s (tail_named s.name before)) left in
         let more = rows_read (past_of_tail before) ss lines in
         cc (next read, one-more before text arc rows read lines count more)
-rows-steps before text arc rows (s ∷ ss) count lines = grind (arith, get-next)
+rows-steps before text arc rows (s ∷ ss) count lines = grind (arith, at-seam)
 
 -- ---- the clock line and the epoch line
 
@@ -101,10 +96,9 @@ read_begun before line satellites =
 rows-shown : (before : Tail) (satellites : List Satellite) (lines : List (List ℕ)) (rows : List ReadRow)
     → Paired (RowFacts (past_of_tail before)) satellites lines rows
     → map (λ (r : ReadRow). r.row) rows ≡ map shown_row (rows_left before rows)
-rows-shown before [] [] [] h = refl
 rows-shown before (s ∷ ss) (l ∷ ls) (r ∷ rs) h = cc
     (row-shows before s l r h.0, rows-shown before ss ls rs h.1)
-rows-shown before satellites lines rows h = absurd h
+rows-shown before satellites lines rows h = grind arith
 
 -- a clock is shown by what it leaves
 clock-shown : (before : Tail) (line : List ℕ) (cell : ReadCell) → clock_line_read (past_of_tail before) line
@@ -121,8 +115,7 @@ read_rows-held before line satellites cell tail lines (Done rows n) h clock e =
     let facts = rows-facts (past_of_tail before) satellites lines rows n e in
     let shown = rows-shown before satellites facts.own rows facts.each in
     search (rules, map-map, take_all, facts.counted)
-read_rows-held before line satellites cell tail lines (Fails n q) h clock e = grind arith
-read_rows-held before line satellites cell tail lines NeedsMore h clock e = refl
+read_rows-held before line satellites cell tail lines p h clock e = grind arith
 
 clock-steps : (before : Tail) (line : List ℕ) (satellites : List Satellite)
     (tail : Option Tail) (lines : List ReadLine) → tail_for_line tail line ≡ Some before
@@ -180,16 +173,14 @@ wanted-where_open types tail (line ∷ lines) =
 step-more : (count : ℕ) (s : RawStep) (lines : List ReadLine) (line : ReadLine) (begun : OpenRawEpoch)
     → open_raw_after s lines ≡ Some begun → place_of_steps count s (lines ++ line ∷ [])
     ≡ place_of_step (suc (count + length lines)) (next_step begun line)
-step-more count (Going so_far) [] line begun h = grind arith
 step-more count (Going so_far) (l ∷ ls) line begun h =
     search (rules, step-more (suc count) (next_step so_far l) ls line begun h)
-step-more count s lines line begun h = absurd (true≢false (sym (ap is_some h)))
+step-more count s lines line begun h = grind arith
 
 open-more : (s : RawStep) (lines : List ReadLine) (line : ReadLine) (begun : OpenRawEpoch) → open_raw_after
     s lines ≡ Some begun → open_raw_after s (lines ++ line ∷ []) ≡ open_raw_after (next_step begun line) []
-open-more (Going so_far) [] line begun h = cc
 open-more (Going so_far) (l ∷ ls) line begun h = open-more (next_step so_far l) ls line begun h
-open-more s lines line begun h = absurd (true≢false (sym (ap is_some h)))
+open-more s lines line begun h = grind arith
 
 pub steps-from_open : StepsFromOpen
 steps-from_open types tail [] line begun h = absurd (true≢false (sym (ap is_some h)))

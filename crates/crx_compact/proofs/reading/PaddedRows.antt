@@ -1,11 +1,11 @@
 -- The rows of an open epoch: a satellite's line is read after the row that the epoch line leaves of it as
 -- after what is kept of the satellite, and what it leaves shows its row.
-use Rattle.crx_compact.proofs.Words.{◌≡◌, None, Some, suc, ◌<◌, ◌*◌, ◌∷◌, map, Err, ◌∙◌, Tail, []}
+use Rattle.crx_compact.proofs.Words.{◌≡◌, None, Some, suc, ◌<◌, ◌*◌, ◌∷◌, map, Err, ◌∙◌, Tail}
 use Rattle.crx_compact.proofs.Words.{Satellite, are_marks, flags_held, tail_named, ap, length-map, each_place}
 use Rattle.crx_compact.proofs.Words.{cells_read, columns, shown_value, past_of_row, after_cells, common_steps}
 use Rattle.crx_compact.proofs.Words.{held_from, BadFlags, and_then, ReadCell, cells_of, shown_row, Truncated}
-use Rattle.crx_compact.proofs.Words.{refl, slice_index_or, index-each_place, ◌otherwise◌next◌, value_at_place}
-use Rattle.crx_compact.proofs.Words.{ℕ, zero, Bool, List, Option, Result, arith, Fault, padded, length, rules}
+use Rattle.crx_compact.proofs.Words.{slice_index_or, index-each_place, ◌otherwise◌next◌, value_at_place}
+use Rattle.crx_compact.proofs.Words.{ℕ, Bool, List, Option, Result, arith, Fault, padded, length, rules}
 use Rattle.crx_compact.proofs.Words.{held_row, row_held, patched, Missing, ReadRow, ArcTail, RowTail, HeldRow}
 use Rattle.crx_compact.proofs.Words.{Ok, arcs_of_tail, past_of_tail, satellite_of, begins_epoch}
 use Rattle.crx_compact.proofs.Words.{row_of_cells, cell_of_tail, if◌then◌else◌, value_of_code, flags_of_tail}
@@ -14,16 +14,10 @@ use Rattle.crx_compact.proofs.SoundTexts.{same-cut}
 use Rattle.crx_compact.proofs.{CellsRead.{cells-within, shown-code}, PlaceByPlace.at-take}
 use Rattle.crx_compact.proofs.{Characters.at-by_position, soundness.Soundness.{AreReadCells, RowFacts}}
 use Rattle.crx_compact.proofs.Marks.{cell-by_kept, cells-count, columns-held, row-by_tail, texts-count}
+use Rattle.crx_compact.proofs.placing.SteppedRows.{each_place-below}
 use Rattle.crx_compact.specs.HeldRows.{row_after}
 
 -- ---- the row that an epoch line leaves
-
-each_place-within : {X : Type 0} (n : ℕ) (f g : ℕ → X)
-    → ((k : ℕ) → k < n → f k ≡ g k) → each_place n f ≡ each_place n g
-each_place-within zero f g h = refl
-each_place-within (suc n) f g h =
-    let rest = each_place-within n (λ i. f (suc i)) (λ i. g (suc i)) (λ k less. h (suc k) (omega arith)) in
-    cc (h 0 (omega arith), rest)
 
 -- its cells are those that are kept
 padded-cell : (s : Satellite) (kept : Option RowTail) (place : ℕ) → place < s.count
@@ -46,7 +40,7 @@ cells-padded : (s : Satellite) (kept : Option RowTail) (marks : List ℕ) (cells
     ≡ held_from (arcs_of_tail kept) (flags_of_tail kept)
     (row_of_cells (past_of_row (arcs_of_tail kept) (flags_of_tail kept)) s.name marks cells)
 cells-padded s kept marks cells many =
-    grind (arith, length-map, columns-padded, flags-padded, each_place-within, padded-cell)
+    grind (arith, length-map, columns-padded, flags-padded, each_place-below, padded-cell)
 
 pub row-padded : (s : Satellite) (kept : Option RowTail) (line : List ℕ)
     → row_held (Some (padded s kept)) s line ≡ row_held kept s line
@@ -86,9 +80,8 @@ cells-show : (arcs : ℕ → Option ArcTail) (texts : List (List ℕ)) (cells : 
     → map shown_value
     (each_place (length (map (λ (c : ReadCell). c.code) cells)) (λ j. arc_of_code (slice_index_or
     (map (λ (c : ReadCell). c.code) cells) j Missing) (arcs j))) ≡ map (λ (c : ReadCell). c.value) cells
-cells-show arcs [] [] h = refl
 cells-show arcs (t ∷ ts) (c ∷ cs) h = search (rules, shown-code, cells-show (λ j. arcs (suc j)) ts cs h.1)
-cells-show arcs texts cells h = absurd h
+cells-show arcs texts cells h = grind arith
 
 -- what a line leaves of its satellite shows the line's row
 pub row-shows : (before : Tail) (s : Satellite) (line : List ℕ) (read : ReadRow)
