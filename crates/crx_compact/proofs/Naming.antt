@@ -1,11 +1,11 @@
 -- The identifiers of an epoch text, read from left to right.
 use Rattle.crx_compact.proofs.Words.{◌≡◌, ◌<◌, refl, ℕ, zero, suc, ◌+◌, ◌*◌, Bool, true, false, ◌||◌, List}
-use Rattle.crx_compact.proofs.Words.{[], ◌∷◌, ◌++◌, drop, Option, Some, None, Ok, Err, All, slice_get}
-use Rattle.crx_compact.proofs.Words.{bytes_eq, sym, ◌∙◌, ap, arith, subst, same_Some, All-head}
+use Rattle.crx_compact.proofs.Words.{[], ◌∷◌, ◌++◌, drop, Some, None, Ok, Err, All}
+use Rattle.crx_compact.proofs.Words.{bytes_eq, sym, ◌∙◌, ap, arith, All-head}
 use Rattle.crx_compact.proofs.Words.{All-tail, each_place, types_of_satellite, columns, BadSatellite}
-use Rattle.crx_compact.proofs.Words.{RepeatedSatellite, Count, before_all, Satellite, names_in}
+use Rattle.crx_compact.proofs.Words.{RepeatedSatellite, Count, Satellite, names_in}
 use Rattle.crx_compact.proofs.Words.{satellites_named, HasRoom, HaveTypesRoom, KeepsRooms}
-use Rattle.crx_compact.proofs.Results.{before-ok, if-err, no-err, ok-same, onto, onto-err, onto-more, onto-ok}
+use Rattle.crx_compact.proofs.{EpochLines.{names_of, satellites-facts}, Results.{onto, onto-err, onto-more, onto-ok}, Words.AllByRecursion}
 use Rattle.std.specs.List.{list_any}
 use Rattle.crx_header.proofs.Apart.{other_way}
 use borrow.Author.Count.{below_more}
@@ -82,9 +82,8 @@ named-all types all place found n e = cc (n.so_far, e, onto-ok found)
 
 pub any-at : (P : List ℕ → Bool) (n k : ℕ) (f : ℕ → List ℕ) → k < n → P (f k) ≡ true
     → list_any P (each_place n f) ≡ true
-any-at P zero k f h e = absurd (omega (arith, h))
-any-at P (suc n) zero f h e = grind arith
 any-at P (suc n) (suc k) f h e = grind (arith, any-at P n k (λ i. f (suc i)) (omega (arith, h)) e)
+any-at P n k f h e = grind arith
 
 pub any-more : (P : List ℕ → Bool) (n : ℕ) (f : ℕ → List ℕ)
     → list_any P (each_place n f) ≡ false → P (f n) ≡ false → list_any P (each_place (n + 1) f) ≡ false
@@ -96,40 +95,17 @@ pub next-name : (text : List ℕ) (count place : ℕ) (name : List ℕ) → plac
 next-name text count place name h e = cc (drop-each_place count place (λ k. columns text (42 + 3 * k) 3) h, e)
 
 -- what holds of all satellites of a text holds of the one at each place
-pub named-each : (P : Satellite → Type 0) (types : List Count) (earlier all : List (List ℕ)) (k : ℕ)
-    (name : List ℕ) (others : List (List ℕ)) (count : ℕ) (named : List Satellite)
-    → satellites_named types earlier all ≡ Ok named → drop k all ≡ name ∷ others
-    → types_of_satellite types name ≡ Some count → All P named → P (record { name = name; count = count })
-named-each P types earlier [] k name others count named is at some h = grind (arith, common_steps)
-named-each P types earlier (n ∷ ns) k name others count named is at some h =
-    by (λ j there rest first all. named-each P types
-    (n ∷ earlier) ns j name others count rest first there some all) (types_of_satellite types n) refl is
-  where
-    After : Type 0
-    After = (j : ℕ) → drop j ns ≡ name ∷ others → (rest : List Satellite) → satellites_named types
-        (n ∷ earlier) ns ≡ Ok rest → All P rest → P (record { name = name; count = count })
-
-    step : After → (c : ℕ) (j : ℕ) → types_of_satellite types n ≡ Some c → drop j (n ∷ ns) ≡ name ∷ others
-        → (rest : List Satellite) → satellites_named types (n ∷ earlier) ns ≡ Ok rest
-        → All P (record { name = n; count = c } ∷ rest) → P (record { name = name; count = count })
-    step after c zero e there rest first all =
-        let same : n ≡ name = same_Some n name (ap (λ (xs : List (List ℕ)). slice_get xs 0) there) in
-        let counted : c ≡ count = same_Some c count (sym e ∙ ap (types_of_satellite types) same ∙ some) in
-        subst (λ (x : List ℕ). P (record { name = x; count = count })) same (subst (λ x. P
-        (record { name = n; count = x })) counted (All-head P (record { name = n; count = c }) rest all))
-    step after c (suc j) e there rest first all =
-        after j there rest first (All-tail P (record { name = n; count = c }) rest all)
-
-    by : After → (o : Option ℕ) → types_of_satellite types n ≡ o → satellite_before earlier n o
-        (satellites_named types (n ∷ earlier) ns) ≡ Ok named → P (record { name = name; count = count })
-    by after None e g = absurd (no-err BadSatellite named g)
-    by after (Some c) e g =
-        let s : Satellite = record { name = n; count = c } in
-        let later = satellites_named types (n ∷ earlier) ns in
-        let rest = before-ok s later named
-        (if-err (list_any (bytes_eq n) earlier) RepeatedSatellite (before_all s later) named g) in
-        step after c k e at rest.from rest.first (subst (All P) (sym (ok-same
-        (s ∷ rest.from) named rest.next)) h)
+named-each : (P : Satellite → Type 0) (types : List Count) (ss : List Satellite) (k : ℕ) (name : List ℕ)
+    (others : List (List ℕ)) (count : ℕ)
+    → AllByRecursion (λ (s : Satellite). types_of_satellite types s.name ≡ Some s.count) ss
+    → drop k (names_of ss) ≡ name ∷ others → types_of_satellite types name ≡ Some count → All P ss
+    → P (record { name = name; count = count })
+named-each P types [] k name others count known at some all = grind (arith, common_steps)
+named-each P types (s ∷ ss) zero name others count known at some all =
+    let same : s.name ≡ name = cc in let counted : s.count ≡ count = cc (known.0) in
+    rw (← same, ← counted) (All-head P s ss all)
+named-each P types (s ∷ ss) (suc k) name others count known at some all =
+    named-each P types ss k name others count known.1 at some (All-tail P s ss all)
 
 -- where each satellite of a text has room, the one at each place has
 pub names-room : (types : List Count) (text : List ℕ) (count : ℕ) (named : List Satellite)
@@ -137,9 +113,9 @@ pub names-room : (types : List Count) (text : List ℕ) (count : ℕ) (named : L
     → HaveTypesRoom named before → KeepsRooms before now → HaveNamesRoom types text count now
 names-room types text count named before now is has kept = λ place cells within some.
     let name = columns text (42 + 3 * place) 3 in
-    kept name cells (named-each (λ (s : Satellite). HasRoom s.name s.count before) types []
-    (names_in text count) place name (drop (place + 1) (names_in text count)) cells named is
-    (next-name text count place name within refl) some has)
+    let facts = satellites-facts types [] (names_in text count) named is in
+    kept name cells (named-each (λ (s : Satellite). HasRoom s.name s.count before) types named place name _ cells
+    facts.known (ap (drop place) facts.same ∙ next-name text count place name within refl) some has)
 
 -- the satellite at one place more has room
 pub names-room-more : (types : List Count) (text : List ℕ) (place : ℕ) (before now : List (List ℕ × ℕ))

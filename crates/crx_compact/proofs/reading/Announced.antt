@@ -1,6 +1,6 @@
 -- The satellites of an open epoch stay those that its text announces, each with its count of types.
-use Rattle.crx_compact.proofs.Words.{◌≡◌, ◌≤◌, zero, suc, List, [], ◌∷◌, length, map, Some, All, arith, rules}
-use Rattle.crx_compact.proofs.Words.{refl, SATELLITES_LIMIT, satellites_few, satellite_of}
+use Rattle.crx_compact.proofs.Words.{◌≡◌, ◌≤◌, suc, List, ◌∷◌, length, map, Some, All, arith, rules}
+use Rattle.crx_compact.proofs.Words.{SATELLITES_LIMIT, satellites_few, satellite_of}
 use Rattle.crx_compact.proofs.Words.{ℕ, unwrap_or, same_Some, columns, IsRowRead, RowTail}
 use Rattle.crx_compact.proofs.Words.{slice_get, slice_set, length-map, IsAnnounced, OpenHistory, common_steps}
 use Rattle.crx_compact.specs.Placing.{HasAllowedCount}
@@ -12,10 +12,9 @@ use Rattle.std.proofs.Math.ListN.{get_or-map}
 pub satellites-set : (rows : List RowTail) (place : ℕ) (row left : RowTail) → slice_get rows place ≡ Some row
     → left.name ≡ row.name → length left.cells ≡ length row.cells
     → map satellite_of (slice_set rows place left) ≡ map satellite_of rows
-satellites-set [] place row left there name sized = refl
-satellites-set (r ∷ rs) zero row left there name sized = cc (name, sized, same_Some r row there)
 satellites-set (r ∷ rs) (suc place) row left there name sized =
     cc (satellites-set rs place row left there name sized)
+satellites-set rows place row left there name sized = grind (arith, same_Some)
 
 -- a row that was read
 pub row-announced : (old new : OpenHistory) (place : ℕ) (line : List ℕ)

@@ -10,19 +10,15 @@ use Rattle.std.specs.Prelude.{IfErr}
 use Rattle.std.proofs.Common.{length-append}
 use Rattle.crx_compact.specs.{OpenEpochs.Faulty, ReadBlocks.{HasReadTo, IsReading}}
 
--- ---- places
+-- ---- a fault
 
-placed-wrong : {X Y : Type 0} (f : X → Y) (place : Place X) (offset : ℕ) (fault : Fault)
-    → placed_as f place ≡ Fails offset fault → place ≡ Fails offset fault
-placed-wrong f place offset fault e = grind arith
-
-record IsPlaced {X Y : Type 0} (f : X → Y) (place : Place X) (thing : Y) (count : ℕ) : Type 0 where
-  from : X
-  here : place ≡ Done from count
-  same : f from ≡ thing
+refused : (types : List Count) (older : List RawEpoch) (lines : List ReadLine) (offset : ℕ) (fault : Fault)
+    → placed_as (held_after (tail_left older)) (epoch_after types (tail_left older) lines) ≡ Fails offset fault
+    → epoch_at types older lines ≡ Fails offset fault
+refused types older lines offset fault e = grind (arith, place-by_tail)
 
 placed-here : {X Y : Type 0} (f : X → Y) (place : Place X) (thing : Y) (count : ℕ)
-    → placed_as f place ≡ Done thing count → IsPlaced f place thing count
+    → placed_as f place ≡ Done thing count → (from : X) × (place ≡ Done from count) × (f from ≡ thing)
 placed-here f place thing count e = grind arith
 
 -- ---- the epoch line
@@ -40,10 +36,7 @@ pub begun-refused : (result : Result (Unit {0}) Fault) (types : List Count)
 begun-refused (Ok u) types older tail line e h = h
 begun-refused (Err fault) types older tail line e (inr h) = inr h
 begun-refused (Err fault) types older tail line e (inl h) =
-    let held = tail_left older in
-    let lines = Content line ∷ [] in
-    inl (place-by_tail types older lines ∙ placed-wrong (held_after held) (epoch_after types held lines) 0
-    fault (cc (steps-agree types held lines, e, h)))
+    let lines = Content line ∷ [] in inl (refused types older lines 0 fault (cc (steps-agree types tail lines)))
 
 -- ---- the lines after it
 
@@ -60,10 +53,10 @@ more-block (Ok (Some epoch)) types older lines line state after r h =
     let many : suc (length lines) ≡ length all = omega (arith, length-append lines (Content line ∷ [])) in
     let placed = placed-here (held_after held) (epoch_after types held all) h.0 (length all)
     (cc (next.place, r.2, h.1)) in
-    let here = place-by_tail types older all ∙ placed.here in
-    let left = left-by_tail placed.from.raw older
-    (reads-soundly types older all placed.from (length all) here).single in
-    (placed.from, here, cc (h.2, placed.same), cc (h.3, placed.same))
+    let here = place-by_tail types older all ∙ placed.1 in
+    let left = left-by_tail placed.0.raw older
+    (reads-soundly types older all placed.0 (length all) here).single in
+    (placed.0, here, cc (h.2, placed.2), cc (h.3, placed.2))
 more-block (Err fault) types older lines line state after r h = h
 
 pub more-refused : (result : Result (Option Epoch) Fault) (types : List Count) (older : List RawEpoch)
@@ -74,8 +67,5 @@ pub more-refused : (result : Result (Option Epoch) Fault) (types : List Count) (
 more-refused (Ok given) types older lines line state r h = h
 more-refused (Err fault) types older lines line state r (inr h) = inr h
 more-refused (Err fault) types older lines line state r (inl h) =
-    let held = tail_left older in
-    let all = lines ++ Content line ∷ [] in
-    let next = steps-from_open types held lines (Content line) r.0 r.1 in
-    inl (place-by_tail types older all ∙ placed-wrong (held_after held) (epoch_after types held all)
-    (length lines) fault (cc (next.place, r.2, h)))
+    let next = steps-from_open types (tail_left older) lines (Content line) r.0 r.1 in
+    inl (refused types older (lines ++ Content line ∷ []) (length lines) fault (cc (next.place, r.2, h)))

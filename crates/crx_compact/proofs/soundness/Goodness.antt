@@ -72,10 +72,9 @@ cells-fit : (value : ℕ → Code → Result (Option ℤ) Fault)
     → ((j : ℕ) (c : Code) (v : Option ℤ) → value j c ≡ Ok v → IsValue v) → (texts : List (List ℕ))
     (cells : List ReadCell) → AreReadCells value texts cells
     → AllByRecursion IsValue (map (λ (c : ReadCell). c.value) cells)
-cells-fit value h [] [] k = tt
 cells-fit value h (t ∷ ts) (c ∷ cs) k = grind
     (arith, cells-fit (λ j. value (suc j)) (λ j. h (suc j)) ts cs k.1)
-cells-fit value h texts cells k = absurd k
+cells-fit value h texts cells k = grind arith
 
 -- ---- rows
 
@@ -122,29 +121,19 @@ row-sound types block satellite line read counts printable known h =
       marks,
     )
 
-abbrev AreKnown : List Count → List Satellite → Type 0
-AreKnown types satellites = AllByRecursion (IsKnown types) satellites
-
-known-all : (types : List Count) (satellites : List Satellite)
-    → AllByRecursion (λ (s : Satellite). types_of_satellite types s.name ≡ Some s.count) satellites
-    → AllByRecursion (λ (n : List ℕ). length n ≡ 3) (names_of satellites) → AreKnown types satellites
-known-all types [] h k = tt
-known-all types (s ∷ ss) h k = (record { typed = h.0; short = k.0 }, known-all types ss h.1 k.1)
-
 rows-sound : (types : List Count) (block : List RawEpoch) (satellites : List Satellite)
     (lines : List (List ℕ))
     (rows : List ReadRow) → AreCounts types → AllByRecursion HasPrintableMarks block
-    → AreKnown types satellites
-    → Paired (RowFacts (past_of_block block)) satellites lines rows
+    → AllByRecursion (λ (s : Satellite). types_of_satellite types s.name ≡ Some s.count) satellites
+    → AllByRecursion (λ (n : List ℕ). length n ≡ 3) (names_of satellites) → Paired (RowFacts (past_of_block block)) satellites lines rows
     → AllByRecursion (λ (r : Row). IsSoundRow r × HasItsTypes types r) (map (λ (r : ReadRow). r.row) rows)
     × AllByRecursion (λ (r : RawRow). list_all is_printable r.marks ≡ true) (map
     (λ (r : ReadRow). r.raw) rows)
-rows-sound types block [] [] [] counts printable known h = (tt, tt)
-rows-sound types block (s ∷ ss) (l ∷ ls) (r ∷ rs) counts printable known h =
-    let rest = rows-sound types block ss ls rs counts printable known.1 h.1 in
-    let row = row-sound types block s l r counts printable known.0 h.0 in
+rows-sound types block (s ∷ ss) (l ∷ ls) (r ∷ rs) counts printable typed short h =
+    let rest = rows-sound types block ss ls rs counts printable typed.1 short.1 h.1 in
+    let row = row-sound types block s l r counts printable (record { typed = typed.0; short = short.0 }) h.0 in
     ((row.0, rest.0), (row.1, rest.1))
-rows-sound types block satellites lines rows counts printable known h = absurd h
+rows-sound types block satellites lines rows counts printable typed short h = grind arith
 
 -- ---- the epoch
 
@@ -159,10 +148,8 @@ reads-whole types older lines read count counts printable e =
     let sound_block : AllByRecursion HasPrintableMarks block = grind (arith, block-printable) in
     let three = each_place-all (λ (m : List ℕ). length m ≡ 3) n (λ k. columns text (42 + 3 * k) 3)
     (λ k. length-columns text (42 + 3 * k) 3) in
-    let known =
-    known-all types facts.satellites facts.line_ok.named.known (rw facts.line_ok.named.same three) in
-    let all = rows-sound types block facts.satellites facts.own facts.rows counts sound_block known
-    facts.rows_ok in
+    let all = rows-sound types block facts.satellites facts.own facts.rows counts sound_block
+    facts.line_ok.named.known (rw facts.line_ok.named.same three) facts.rows_ok in
     let names = (row-names (past_of_block block) facts.satellites facts.own facts.rows facts.rows_ok).1
     ∙ facts.line_ok.named.same in
     let places = length-each_place n (λ k. columns text (42 + 3 * k) 3) in

@@ -1,17 +1,17 @@
 -- What follows of an epoch from its having been read.
-use Rattle.crx_compact.proofs.Words.{◌≡◌, suc, List, drop, Some, None, Done, Code, Past, refl, ◌+◌, ◌*◌}
+use Rattle.crx_compact.proofs.Words.{◌≡◌, suc, List, drop, Some, None, Done, Code, Past, ◌+◌, ◌*◌}
 use Rattle.crx_compact.proofs.Words.{true, length, Option, Result, Count, Place, NeedsMore, RawRow, subst}
 use Rattle.crx_compact.proofs.Words.{rules, Fails, BegunEpoch, begins_epoch, past_of_line, row_of_cells, Row}
 use Rattle.crx_compact.proofs.Words.{epoch_begun, Fault, apart-map, Truncated, Satellite, are_marks}
 use Rattle.crx_compact.proofs.Words.{rows_read, raw_run_of, cells_read, length-map, then_place, first_line}
 use Rattle.crx_compact.proofs.Words.{NotAnEpoch, each_place, ℕ, ℤ, ◌∷◌, map, Ok, sym, ◌∙◌, ap, []}
-use Rattle.crx_compact.proofs.Words.{code_of, Content, Overlong, BadClock, without_end_blanks, take, epoch_against}
+use Rattle.crx_compact.proofs.Words.{code_of, Content, BadClock, without_end_blanks, take, epoch_against}
 use Rattle.crx_compact.proofs.Words.{epoch_at, slice_index_or, AllByRecursion, clock_line_read, common_steps}
 use Rattle.crx_compact.proofs.Words.{Missing, arith, ReadRow, columns, ReadLine, BadField, BadFlags, RawEpoch}
 use Rattle.crx_compact.proofs.Words.{block_of, marks_of, ReadCell, cells_of, ReadEpoch, cell_read}
 use Rattle.crx_compact.proofs.Words.{if◌then◌else◌, satellites_of_line, satellite_line_read, epoch_after_line}
 use Rattle.crx_compact.proofs.Words.{after_cells, raw_row_named, past_of_block, epoch_of_rows}
-use Rattle.crx_compact.proofs.{Words.⊤, Results.{no-err, ok-same, and_then-ok, if-err, if-true, before-ok}}
+use Rattle.crx_compact.proofs.{Words.⊤, Results.{no-err, and_then-ok, if-err, if-true, before-ok}}
 use Rattle.crx_compact.proofs.{wayback.Overlays.columns-cut, Marks.{row_with_marks, cells-count, texts-count}}
 use Rattle.crx_compact.proofs.{Identifiers.each-own, EpochLines.{differ, names_of, LineFacts, line-facts_of}}
 use Rattle.crx_compact.specs.Expansion.{all_ok, text_of, row_from, rows_from, epoch_of_block}
@@ -53,9 +53,8 @@ pub record Begins {X Y : Type 0} (lines : List ReadLine) (read : List ℕ → Re
 pub begins : {X Y : Type 0} (lines : List ReadLine) (read : List ℕ → Result X Fault) (next : X → List ReadLine
     → Place Y) (y : Y) (n : ℕ) → then_place (first_line lines read) lines next ≡ Done y n
     → Begins lines read next y n
-begins [] read next y n e = absurd (cc e)
-begins (Overlong ∷ rest) read next y n e = absurd (cc e)
 begins (Content line ∷ rest) read next y n e = grind arith
+begins lines read next y n e = absurd (cc e)
 
 -- the lines that were read
 cut-at : (lines rest : List ReadLine) (line : List ℕ) (n more : ℕ) (own : List (List ℕ))
@@ -64,13 +63,9 @@ cut-at : (lines rest : List ReadLine) (line : List ℕ) (n more : ℕ) (own : Li
 cut-at lines rest line n more own e k h = cc (h)
 
 -- what is made of the last thing
-pub record Ends {X Y : Type 0} (p : Place X) (make : X → Y) (y : Y) (n : ℕ) : Type 0 where
-  pub from : X
-  pub first : p ≡ Done from n
-  pub made : make from ≡ y
-
-pub ends : {X Y : Type 0} (p : Place X) (lines : List ReadLine) (make : X → Y) (y : Y) (n : ℕ)
-    → then_place p lines (λ x rest. Done (make x) 0) ≡ Done y n → Ends p make y n
+ends : {X Y : Type 0} (p : Place X) (lines : List ReadLine) (make : X → Y) (y : Y) (n : ℕ)
+    → then_place p lines (λ x rest. Done (make x) 0) ≡ Done y n
+    → (from : X) × (p ≡ Done from n) × (make from ≡ y)
 ends p lines make y n e = grind arith
 
 -- ---- cells
@@ -92,11 +87,11 @@ AreReadCells value texts cells = ⊥
 
 read-cells : (value : ℕ → Code → Result (Option ℤ) Fault) (texts : List (List ℕ)) (cells : List ReadCell)
     → cells_read value texts ≡ Ok cells → AreReadCells value texts cells
-read-cells value [] cells e = subst (AreReadCells value []) (ok-same [] cells e) tt
+read-cells value [] cells e = let none : [] ≡ cells = cc in rw (← none) tt
 read-cells value (text ∷ texts) cells e =
     let one = and_then-ok _ _ cells e in
     let two = before-ok one.from _ cells one.next in
-    rw (← ok-same (one.from ∷ two.from) cells two.next) (
+    let same : one.from ∷ two.from ≡ cells = cc two.next in rw (← same) (
       read-cell BadField (value 0) text one.from one.first,
       read-cells (λ j. value (suc j)) texts two.from two.first,
     )
@@ -106,9 +101,8 @@ cells-meant : (value : ℕ → Code → Result (Option ℤ) Fault) (texts : List
     → AreReadCells value texts cells
     → all_ok (each_place (length (map (λ (c : ReadCell). c.code) cells)) (λ j. value j (slice_index_or
     (map (λ (c : ReadCell). c.code) cells) j Missing))) ≡ Ok (map (λ (c : ReadCell). c.value) cells)
-cells-meant value [] [] h = refl
 cells-meant value (t ∷ ts) (c ∷ cs) h = rw h.0.meant (cc (cells-meant (λ j. value (suc j)) ts cs h.1))
-cells-meant value texts cells h = absurd h
+cells-meant value texts cells h = grind arith
 
 -- ---- a satellite's line
 
@@ -133,7 +127,7 @@ line-facts past satellite line read e =
       are_read = read-cells (past.value satellite.name) texts step.from step.first;
       counted = search (rules, cells-count, texts-count);
       marks_ok = if-true (are_marks satellite.count marks) BadFlags (Ok row) read step.next;
-      is_read = grind (arith, ok-same, if-err);
+      is_read = grind (arith, if-err);
     }
 
 -- the row is what the line stands for after those before it
@@ -176,8 +170,8 @@ rows-facts past (s ∷ ss) lines rows count e =
     (λ row others. then_place (rows_read past ss others) others
     (λ more rest. Done (row ∷ more) 0)) rows count e in
     let two = ends (rows_read past ss one.rest) one.rest (λ more. one.from ∷ more) rows one.more one.later in
-    let rest = rows-facts past ss one.rest two.from one.more two.first in
-    rw (← two.made) (record {
+    let rest = rows-facts past ss one.rest two.0 one.more two.1 in
+    rw (← two.2) (record {
       own = one.line ∷ rest.own;
       cut = cut-at lines one.rest one.line count one.more rest.own one.is one.counted rest.cut;
       each = (line-facts past s one.line one.from one.ok, rest.each);
@@ -191,9 +185,8 @@ pub row-names : (past : Past) (satellites : List Satellite) (lines : List (List 
     → Paired (RowFacts past) satellites lines rows
     → (map (λ (r : RawRow). r.name) (map (λ (r : ReadRow). r.raw) rows) ≡ names_of satellites)
     × (map (λ (r : Row). r.name) (map (λ (r : ReadRow). r.row) rows) ≡ names_of satellites)
-row-names past [] [] [] h = (refl, refl)
 row-names past (s ∷ ss) (l ∷ ls) (r ∷ rs) h = grind (arith, common_steps, row-names past ss ls rs h.1)
-row-names past satellites lines rows h = absurd h
+row-names past satellites lines rows h = grind arith
 
 -- ---- the epoch
 
@@ -216,13 +209,9 @@ pub record EpochFacts (types : List Count) (given : List ℕ → Option Past) (p
   pub is_read : epoch_of_rows (record { line = line; past = past_of line; satellites = satellites }) clock
       rows ≡ read
 
-record Begun (types : List Count) (line : List ℕ) (given : Option Past) (begun : BegunEpoch) : Type 0 where
-  satellites_ok : satellites_of_line types begun.past line ≡ Ok begun.satellites
-  line_is : begun.line ≡ line
-  given_is : given ≡ Some begun.past
-
 begun-facts : (types : List Count) (line : List ℕ) (given : Option Past) (begun : BegunEpoch)
-    → epoch_begun types line given ≡ Ok begun → Begun types line given begun
+    → epoch_begun types line given ≡ Ok begun → (begun.line ≡ line) × (given ≡ Some begun.past)
+    × (satellites_of_line types begun.past line ≡ Ok begun.satellites)
 begun-facts types line None begun e = absurd (no-err NotAnEpoch begun e)
 begun-facts types line (Some past) begun e =
     let step = and_then-ok (satellites_of_line types past line)
@@ -237,30 +226,30 @@ pub facts-against : (types : List Count) (given : List ℕ → Option Past) (pas
 facts-against types given past_of lines read count same e =
     let one = begins lines (λ line. epoch_begun types line (given line)) epoch_after_line read count e in
     let begun = begun-facts types one.line (given one.line) one.from one.ok in
-    let past = same one.line one.from.past begun.given_is in
+    let past = same one.line one.from.past begun.1 in
     let two = begins one.rest (clock_line_read one.from.past) (λ clock others. then_place
     (rows_read one.from.past one.from.satellites others) others
     (λ rows rest. Done (epoch_of_rows one.from clock rows) 0))
     read one.more one.later in
     let three = ends (rows_read one.from.past one.from.satellites two.rest) two.rest
     (λ rows. epoch_of_rows one.from two.from rows) read two.more two.later in
-    let rows = rows-facts one.from.past one.from.satellites two.rest three.from two.more three.first in
+    let rows = rows-facts one.from.past one.from.satellites two.rest three.0 two.more three.1 in
     record {
       line = one.line;
       clock_line = two.line;
       own = rows.own;
       cut = grind (arith, cut-at);
-      given_is = begun.given_is ∙ ap {B = Option Past} Some past;
+      given_is = begun.1 ∙ ap {B = Option Past} Some past;
       satellites = one.from.satellites;
       line_ok = grind (arith, line-facts_of);
       clock = two.from;
       clock_ok = subst (λ (p : Past). IsReadCell p.clock (without_end_blanks two.line) two.from) past
           (read-cell BadClock one.from.past.clock (without_end_blanks two.line) two.from
           (if-err (begins_epoch two.line) Truncated _ two.from two.ok));
-      rows = three.from;
-      rows_ok = subst (λ p. Paired (RowFacts p) one.from.satellites rows.own three.from) past rows.each;
+      rows = three.0;
+      rows_ok = subst (λ p. Paired (RowFacts p) one.from.satellites rows.own three.0) past rows.each;
       counted = omega (arith, one.counted, two.counted, rows.counted);
-      is_read = cc (past, begun.line_is, three.made);
+      is_read = cc (past, begun.0, three.2);
     }
 
 -- what the lines of a raw epoch are read against after older ones
@@ -278,10 +267,9 @@ rows-meant : (block : List RawEpoch) (raw : RawEpoch) (satellites : List Satelli
     (rows : List ReadRow) → Paired (RowFacts (past_of_block block)) satellites lines rows → AllByRecursion
     (λ (r : RawRow). raw_row_named r.name raw.rows ≡ Some r) (map (λ (r : ReadRow). r.raw) rows)
     → rows_from (raw ∷ block) (map (λ (r : ReadRow). r.raw) rows) ≡ Ok (map (λ (r : ReadRow). r.row) rows)
-rows-meant block raw [] [] [] h own = refl
 rows-meant block raw (s ∷ ss) (l ∷ ls) (r ∷ rs) h own =
     grind (arith, row-meant block s l r h.0, rows-meant block raw ss ls rs h.1 own.1)
-rows-meant block raw satellites lines rows h own = absurd h
+rows-meant block raw satellites lines rows h own = grind arith
 
 pub reads-soundly : ReadsSoundly
 reads-soundly types older lines read count e =

@@ -4,15 +4,18 @@ use Rattle.crx_compact.proofs.Words.{◌≡◌, is_blank, character_of, each_pla
 use Rattle.crx_compact.proofs.Words.{refl, ◌≢◌, zero, List, length, mark_of, patched, shown, longest, columns}
 use Rattle.crx_compact.proofs.Words.{ℕ, suc, ◌≤◌, [], ◌∷◌, All, ◌∙◌, ap, at, ◌<◌, map, take}
 use Rattle.crx_compact.proofs.Words.{if◌then◌else◌, arith, text_difference, index-each_place, get_or_past}
-use Rattle.crx_compact.proofs.Words.{without_end_blanks, by_position, at-without_end_blanks}
+use Rattle.crx_compact.proofs.Words.{without_end_blanks, at-without_end_blanks}
 use Rattle.crx_compact.proofs.{Words.{rules, patched_in_turn}, SoundTexts.{same-columns}}
 use Rattle.crx_compact.proofs.Characters.{same_characters, at-by_position, at-take_past}
-use Rattle.crx_compact.proofs.PlaceByPlace.{at-take}
+use Rattle.crx_compact.proofs.{PlaceByPlace.at-take, wayback.Runs.IsUnmarked}
 
 -- ---- patch after difference
 
-pub character-mark : (a b : ℕ) → b ≢ 38 → character_of a (mark_of a b) ≡ b
+character-mark : (a b : ℕ) → b ≢ 38 → character_of a (mark_of a b) ≡ b
 character-mark a b h = grind arith
+
+pub patched-again : (old new : List ℕ) → IsUnmarked new → patched old (text_difference old new) ≡ without_end_blanks new
+patched-again old new h = search (rules, same_characters, at-by_position, at-without_end_blanks, character-mark)
 
 -- a character that All speaks of, or the blank after the text
 pub at-All : (P : ℕ → Type 0) → P 32 → (text : List ℕ) → All P text → (p : ℕ) → P (at text p)
@@ -22,9 +25,7 @@ at-All P e (c ∷ cs) h (suc p) = at-All P e cs (λ k d less. h (suc k) d (omega
 
 pub patched-difference : (old new : List ℕ)
     → All (λ c. c ≢ 38) new → patched old (text_difference old new) ≡ without_end_blanks new
-patched-difference old new h = same_characters (by_position character_of old (text_difference old new)) new
-    (λ p. let marked = at-All (λ c. c ≢ 38) (omega arith) new h p in
-    grind (arith, at-by_position, at-without_end_blanks, character-mark))
+patched-difference old new h = patched-again old new (at-All (λ c. c ≢ 38) (omega arith) new h)
 
 -- ---- marks over one another
 

@@ -9,7 +9,7 @@ use Rattle.crx_compact.proofs.Words.{back_to, stretch, epoch_text, row_named, Ro
 use Rattle.crx_compact.proofs.{Words.{arc_tail, rules, arith, IsSoundEpoch}, arcs.Arcs.{code-next, arc-next}}
 use Rattle.crx_compact.proofs.{Lists.mapped-same, wayback.Rows.run-begins, Identifiers.each-own}
 use Rattle.crx_compact.proofs.{wayback.Runs.{marked, named-made, rows_before}, SoundTexts.before-trimmed}
-use Rattle.crx_compact.specs.{Tails.{row_tail, tail_or_nothing}, Laws.{EpochByTail, tail_before}}
+use Rattle.crx_compact.specs.{Tails.{row_tail, tail_or_nothing}, Laws.{EpochByTail}}
 
 -- ---- what a tail holds of a satellite
 
@@ -42,12 +42,10 @@ before-flags : (r : Row) (rs : List Row)
     → text_difference (indicators_before (r ∷ rs)) r.flags ≡ text_difference (head_flags rs) r.flags
 before-flags r rs = grind (arith, before-trimmed)
 
-record RowByTail (full : Bool) (ms older : List Marked) (r : Row) : Type 0 where
-  line : satellite_line (run_of r.name ms) r ≡ row_line_in (start full older).rows r
-  tail : row_tail (run_of r.name ms) r ≡ row_tail_in (start full older).rows r
-
 row-by_tail : (full : Bool) (e : Epoch) (older : List Marked) (r : Row)
-    → row_named r.name e.rows ≡ Some r → RowByTail full (marked full e ∷ older) older r
+    → row_named r.name e.rows ≡ Some r
+    → (satellite_line (run_of r.name (marked full e ∷ older)) r ≡ row_line_in (start full older).rows r)
+    × (row_tail (run_of r.name (marked full e ∷ older)) r ≡ row_tail_in (start full older).rows r)
 row-by_tail full e older r own =
     search (rules, run-begins, code-next, cell-left, before-flags, flags-left, arc-next)
 
@@ -72,9 +70,9 @@ epoch-by_tail m older h =
     let code = code-next e.clock (clocks_before full older) in
     let arc = arc-next e.clock (clocks_before full older) in
     let lines = mapped-same (λ (r : Row). satellite_line (run_of r.name ms) r) (row_line_in rows)
-    (λ r here. (row-by_tail full e older r here).line) e.rows own in
+    (λ r here. (row-by_tail full e older r here).0) e.rows own in
     let tails = mapped-same (λ (r : Row). row_tail (run_of r.name ms) r) (row_tail_in rows)
-    (λ r here. (row-by_tail full e older r here).tail) e.rows own in
+    (λ r here. (row-by_tail full e older r here).1) e.rows own in
     let clock : arc_tail WRITTEN_ORDER (stretch (clocks_before full older)) ≡ (start full older).clock =
     grind arith in
     let text = text-left full older (epoch_text e) in
@@ -82,18 +80,14 @@ epoch-by_tail m older h =
 
 -- ---- an epoch coded after others
 
-written-before : (full : Bool) (epoch : Epoch) (epochs : List Marked)
-    → tail_written_after full (tail_or_nothing epochs) ≡ tail_before (marked full epoch) epochs
-written-before full epoch epochs = grind arith
-
 pub lines-coded : (full : Bool) (epoch : Epoch) (held : Option Tail) (epochs : List Marked)
     → IsSoundEpoch epoch → held ≡ tail_or_nothing epochs
     → lines_after_tail (tail_written_after full held) epoch ≡ compact_epoch (marked full epoch ∷ epochs)
 lines-coded full epoch held epochs h e =
-    cc (e, written-before full epoch epochs, (epoch-by_tail (marked full epoch) epochs h.apart).lines)
+    let made = epoch-by_tail (marked full epoch) epochs h.apart in grind (arith, made.lines)
 
 pub tail-coded : (full : Bool) (epoch : Epoch) (held : Option Tail) (epochs : List Marked)
     → IsSoundEpoch epoch → held ≡ tail_or_nothing epochs
     → tail_after (tail_written_after full held) epoch ≡ tail_of (marked full epoch ∷ epochs)
 tail-coded full epoch held epochs h e =
-    cc (e, written-before full epoch epochs, (epoch-by_tail (marked full epoch) epochs h.apart).tail)
+    let made = epoch-by_tail (marked full epoch) epochs h.apart in grind (arith, made.tail)
