@@ -6,7 +6,7 @@ use Rattle.crx_compact.proofs.Words.{Satellite, IsAnnounced, OpenHistory, padded
 use Rattle.crx_compact.proofs.Words.{RowTail, Tail, arith}
 use Rattle.crx_compact.proofs.EpochLines.{announced, named-by_line}
 
-satellites-again : (before : List RowTail) (satellites : List Satellite)
+pub satellites-again : (before : List RowTail) (satellites : List Satellite)
     → map satellite_of (map (padded_among before) satellites) ≡ satellites
 satellites-again before [] = refl
 satellites-again before (s ∷ ss) = grind (arith, length-each_place, satellites-again before ss)

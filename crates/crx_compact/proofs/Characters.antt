@@ -39,13 +39,10 @@ same_characters (x ∷ xs) (y ∷ ys) h = cc (h 0, same_characters xs ys (λ p. 
 
 pub at-by_position : (f : ℕ → ℕ → ℕ)
     → f 32 32 ≡ 32 → (as' bs : List ℕ) (p : ℕ) → at (by_position f as' bs) p ≡ f (at as' p) (at bs p)
-at-by_position f e [] [] p = sym e
-at-by_position f e (a ∷ as') [] zero = refl
 at-by_position f e (a ∷ as') [] (suc p) = at-by_position f e as' [] p
-at-by_position f e [] (b ∷ bs) zero = refl
 at-by_position f e [] (b ∷ bs) (suc p) = at-by_position f e [] bs p
-at-by_position f e (a ∷ as') (b ∷ bs) zero = refl
 at-by_position f e (a ∷ as') (b ∷ bs) (suc p) = at-by_position f e as' bs p
+at-by_position f e as' bs p = cc e
 
 pub bytes_eq-same : (a : List ℕ) → bytes_eq a a ≡ true
 bytes_eq-same a = (bytes_eq-Decides a a).1 refl
@@ -57,6 +54,5 @@ pub length-is : (name : List ℕ) → is_identifier name ≡ true → length nam
 length-is name h = grind arith
 
 pub name-kept : (name : List ℕ) → length name ≡ 3 → is_identifier name ≡ true → list_all is_kept name ≡ true
-name-kept [] e h = refl
 name-kept (a ∷ b ∷ c ∷ []) e h = grind (arith, common_steps, and_parts)
 name-kept name e h = absurd (omega (arith, e))

@@ -1,20 +1,18 @@
 -- Identifiers that are marked: one more.
-use Rattle.std.proofs.Common.{◌≡◌, ◌<◌, ◌++◌, ◌∷◌, [], ℕ, zero, suc, Bool, true, List, Some, length}
-use Rattle.std.proofs.{Common.{slice_get, slice_index_or, slice_set, arith, refl, sym, ◌∙◌, false, inl, inr}, lemmas.Grind.common_steps}
+use Rattle.std.proofs.Common.{◌≡◌, ◌<◌, ◌++◌, ◌∷◌, [], ℕ, suc, Bool, true, List, Some, length}
+use Rattle.std.proofs.{Common.{slice_get, slice_index_or, slice_set, arith, sym, ◌∙◌, false, inl, inr}, lemmas.Grind.common_steps}
 use Rattle.std.proofs.{lemmas.Bool.{cases_Bool, false≢true}, lemmas.Option.get_or_from_slice_get}
 use Rattle.crx_header.specs.meaning.Satellites.{is_among}
 use Rattle.crx_compact.specs.Refusals.{AreMarked, mark_place}
 
 stays : (marks : List Bool) (i k : ℕ) → slice_get marks k ≡ Some true
     → slice_get (slice_set marks i true) k ≡ Some true
-stays (m ∷ ms) zero zero h = refl
 stays (m ∷ ms) (suc i) (suc k) h = stays ms i k h
-stays marks i k h = h
+stays marks i k h = grind arith
 
 there : (marks : List Bool) (i : ℕ) → i < length marks → slice_get (slice_set marks i true) i ≡ Some true
-there [] i h = absurd (omega (arith, h))
-there (m ∷ ms) zero h = refl
 there (m ∷ ms) (suc i) h = there ms i (omega (arith, h))
+there marks i h = grind arith
 
 -- one that isn't marked is none of them
 pub unmarked : (names : List (List ℕ)) (name : List ℕ) (marks : List Bool) (place : ℕ) (mark : Bool)

@@ -9,7 +9,7 @@ use Rattle.crx_compact.proofs.Words.{cell_read, ReadRow, are_marks, row_of_cells
 use Rattle.crx_compact.proofs.Words.{flags_held, tail_named, shown_row, arcs_of_tail, held_from, columns-are}
 use Rattle.crx_compact.proofs.Words.{list_all-from_at, length-columns, code_of, common_steps}
 use Rattle.crx_compact.proofs.Words.{past_of_row, row_held, value_at_place, at, at-without_end_blanks}
-use Rattle.crx_compact.proofs.{CellsRead.cells-within, Results.{ok-same, and_then-ok, before-ok}}
+use Rattle.crx_compact.proofs.{CellsRead.cells-within, Results.{and_then-ok, before-ok}}
 use Rattle.crx_compact.proofs.{SoundTexts.{held-columns}, PlaceByPlace.{at-padded, at-take}}
 use Rattle.crx_compact.proofs.Characters.{list_all-at, at-by_position}
 use Rattle.std.specs.Prelude.{OnOk}
@@ -62,12 +62,13 @@ line-marks arcs flags satellite line at cells b h good marks e = grind arith
 
 pub cells-count : (value : ℕ → Code → Result (Option ℤ) Fault) (texts : List (List ℕ)) (cells : List ReadCell)
     → cells_read value texts ≡ Ok cells → length cells ≡ length texts
-cells-count value [] cells e = sym (ap length (ok-same [] cells e))
+cells-count value [] cells e = grind (arith, e)
 cells-count value (text ∷ texts) cells e =
     let rest = cells_read (λ j. value (suc j)) texts in
     let one = and_then-ok (cell_read BadField (value 0) (code_of text)) (λ c. before_all c rest) cells e in
     let two = before-ok one.from rest cells one.next in
-    search (rules, ok-same, and_then-ok, before-ok, cells-count (λ j. value (suc j)) texts two.from two.first)
+    let same : one.from ∷ two.from ≡ cells = cc two.next in
+    rw (← same) (ap suc (cells-count (λ j. value (suc j)) texts two.from two.first))
 
 pub texts-count : (count : ℕ) (line : List ℕ) → length (cells_of count line) ≡ count
 texts-count zero line = refl
@@ -89,7 +90,6 @@ line-held arcs flags satellite line left at name held h read e same columned =
     let t : text ≡ flags_held satellite.count (patched flags (drop at line)) = search (rules, held-columns) in
     let marked : List ℕ = patched flags (drop at line) in
     let count : length read.cells ≡ satellite.count = search (rules, cells-count, texts-count) in
-    let many : length left ≡ satellite.count = grind (arith, common_steps, length-map) in
     let kept : text ≡ flags_held (length (map (λ (c : ReadCell). c.code) read.cells)) marked = t ∙ ap (λ n.
     flags_held n marked) (sym (length-map read.cells (λ (c : ReadCell). c.code) ∙ count)) in
     let shown : columns text 1 (2 * length left) ≡ columns marked 1 (2 * length read.cells) =

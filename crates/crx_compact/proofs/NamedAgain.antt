@@ -47,9 +47,7 @@ read-again types text count old new come counted named awaited =
     (λ i d within. (come.again i d within).typed) in
     record {
       satellites = map satellite_of old.rest;
-      read = ap (λ n. satellites_named types [] (names_in text n)) (sym (length-map old.rest satellite_of ∙
-          sym counted)) ∙ named-again named.earlier types [] (names_in text (length (map satellite_of
-          old.rest))) (map satellite_of old.rest) named.named typed;
+      read = search (rules, length-map, named-again);
       rows = come.rows ∙ sym (own-rows types old old.rest come.again);
       awaited = awaited;
       room = All-map (λ (s : Satellite). HasRoom s.name s.count new.rooms) satellite_of old.rest

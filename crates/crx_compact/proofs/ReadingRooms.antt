@@ -1,12 +1,11 @@
 -- The room that an epoch's lines need, by its satellites and by its rows.
-use Rattle.crx_compact.proofs.Words.{arith, length-map, sym, ◌∙◌, ap, subst, ◌≡◌, ℕ, List, Option, Some, Ok, Err, Result}
+use Rattle.crx_compact.proofs.Words.{arith, sym, ◌∙◌, ap, subst, ◌≡◌, ℕ, List, Option, Some, Ok, Err, Result}
 use Rattle.crx_compact.proofs.Words.{length, length-each_place, Fault, Count, Content, and_then, common_steps}
 use Rattle.crx_compact.proofs.Words.{past_of_tail, satellites_of_line, Satellite, before_clock, first_step, opening}
-use Rattle.crx_compact.proofs.Words.{tail_for_line, tail_opened, HasRoom, HaveTypesRoom, padded, cell_of_tail}
+use Rattle.crx_compact.proofs.Words.{tail_for_line, tail_opened, HasRoom, HaveTypesRoom, padded}
 use Rattle.crx_compact.proofs.Words.{tail_named, tail_of_history, OpenHistory, RowTail, Tail}
-use Rattle.crx_compact.proofs.reading.Stages.{line-good}
+use Rattle.crx_compact.proofs.{AnnouncedRows.satellites-again, Words.satellite_of, reading.Stages.line-good}
 use Rattle.std.proofs.Common.{get_or}
-use Rattle.std.proofs.Math.ListN.{get_or-map}
 use Rattle.std.proofs.lemmas.List.Elements.{All-map}
 use Rattle.crx_compact.specs.EpochLinesRead.{AnswersEpochLine}
 use Rattle.crx_compact.specs.OpenEpochs.{OpenRawEpoch, Going, opened_raw, rows_before}
@@ -14,23 +13,17 @@ use Rattle.crx_compact.specs.ReadingRooms.{AsksRoomToBegin, HaveCellsRoom}
 
 -- ---- satellites, and the rows of them
 
-counted : (before : Tail) (s : Satellite) → length (padded s (tail_named s.name before)).cells ≡ s.count
-counted before s = length-each_place s.count (λ place. cell_of_tail place (tail_named s.name before))
-
 types-room : (before : Tail) (satellites : List Satellite) (rooms : List (List ℕ × ℕ))
     → HaveCellsRoom (rows_before before satellites) rooms → HaveTypesRoom satellites rooms
-types-room before satellites rooms h = λ i s less.
-    let row = λ (t : Satellite). padded t (tail_named t.name before) in
-    subst (λ n. HasRoom (get_or satellites i s).name n rooms) (counted before (get_or satellites i s))
-    (subst (λ (r : RowTail). HasRoom r.name (length r.cells) rooms) (get_or-map row satellites i s)
-    (h i (row s) (omega (arith, less, length-map satellites row))))
+types-room before satellites rooms h = subst (λ ss. HaveTypesRoom ss rooms) (satellites-again before.rows satellites)
+    (All-map (λ (s : Satellite). HasRoom s.name s.count rooms) satellite_of (rows_before before satellites) h)
 
 cells-room : (before : Tail) (satellites : List Satellite) (rooms : List (List ℕ × ℕ))
     → HaveTypesRoom satellites rooms → HaveCellsRoom (rows_before before satellites) rooms
 cells-room before satellites rooms h =
     All-map (λ (row : RowTail). HasRoom row.name (length row.cells) rooms)
     (λ (s : Satellite). padded s (tail_named s.name before)) satellites
-    (λ i s less. subst (λ n. HasRoom (get_or satellites i s).name n rooms) (sym (counted before (get_or satellites i s))) (h i s less))
+    (λ i s less. rw (length-each_place (get_or satellites i s).count _) (h i s less))
 
 -- ---- the epoch that a line opens
 

@@ -24,9 +24,8 @@ longer-cells (c ∷ cs) (suc n) h = grind (arith, longer-cells cs n (omega (arit
 -- the cells of fewer types
 pub shorter-cells : (cells : List (Option ArcTail)) (n : ℕ) → n ≤ length cells
     → cells_for n cells ≡ take n cells
-shorter-cells cells zero h = refl
-shorter-cells [] (suc n) h = absurd (omega (arith, h))
 shorter-cells (c ∷ cs) (suc n) h = ap (λ xs. c ∷ xs) (shorter-cells cs n (omega (arith, h)))
+shorter-cells cells n h = grind arith
 
 -- ---- what is stored
 

@@ -7,13 +7,6 @@ use Rattle.std.specs.{Prelude.{OnOk}}
 pub no-err : {X : Type 0} (f : Fault) (x : X) → Err f ≡ Ok x → ⊥
 no-err f x e = true≢false (sym (ap is_ok e))
 
-abbrev ok_value : {X : Type 0} → X → Result X Fault → X
-ok_value d (Ok x) = x
-ok_value d (Err f) = d
-
-pub ok-same : {X : Type 0} (x y : X) → ◌≡◌ {A = Result X Fault} (Ok x) (Ok y) → x ≡ y
-ok-same x y e = ap (ok_value x) e
-
 -- the same of results
 pub record Follows {X Y : Type 0} (r : Result X Fault) (f : X → Result Y Fault) (y : Y) : Type 0 where
   pub from : X

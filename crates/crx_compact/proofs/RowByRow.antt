@@ -1,6 +1,6 @@
 -- Rows one by one: what holds of each, and what is made of those up to an index.
 use Rattle.crx_compact.proofs.Words.{◌≡◌, ◌<◌, ◌+◌, ◌++◌, ◌∷◌, [], ℕ, zero, suc, List, Option, Some, All, length, same_Some}
-use Rattle.crx_compact.proofs.Words.{take, map, slice_get, refl, ap, sym, ◌∙◌, subst, arith}
+use Rattle.crx_compact.proofs.Words.{take, map, slice_get, refl, sym, ◌∙◌, subst, arith}
 use Rattle.crx_compact.proofs.Words.{map-append, slice_get_within}
 use Rattle.crx_compact.proofs.{Words.{printed_row, shown_row, RowTail}, Making.taken_more}
 use Rattle.crx_compact.specs.Entries.{Entry}
@@ -42,9 +42,9 @@ pub printed-next : (before lines more : List (List ℕ)) (rows : List RowTail) (
     → more ≡ lines ++ printed_row (shown_row row) ∷ []
     → more ≡ before ++ map printed_row (map shown_row (take (k + 1) rows))
 printed-next before lines more rows k row so_far here last =
-    let printed = λ (rs : List RowTail). map printed_row (map shown_row rs) in
-    last ∙ ap (λ ls. ls ++ printed_row (shown_row row) ∷ []) so_far
-    ∙ append_assoc before (printed (take k rows)) (printed_row (shown_row row) ∷ [])
-    ∙ ap (λ ls. before ++ ls) (sym (ap printed (taken_more rows k row here)
-    ∙ ap (map printed_row) (map-append shown_row (take k rows) (row ∷ []))
-    ∙ map-append printed_row (map shown_row (take k rows)) (shown_row row ∷ [])))
+    let taken = taken_more rows k row here in
+    let shown = map-append shown_row (take k rows) (row ∷ []) in
+    cc (
+      map-append printed_row (map shown_row (take k rows)) (shown_row row ∷ []),
+      append_assoc before (map printed_row (map shown_row (take k rows))) (printed_row (shown_row row) ∷ []),
+    )

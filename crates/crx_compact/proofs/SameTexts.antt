@@ -1,5 +1,5 @@
 -- Texts are the same where their two ends are, which meet: compared as lanes.
-use Rattle.crx_compact.proofs.Words.{true, false, ℕ, ◌≡◌, ◌+◌, ◌-◌, ◌*◌, ◌%◌, ◌^◌, ◌≤◌, Bool, not, cond}
+use Rattle.crx_compact.proofs.Words.{true, ℕ, ◌≡◌, ◌+◌, ◌-◌, ◌*◌, ◌%◌, ◌^◌, ◌≤◌, Bool, not, cond}
 use Rattle.crx_compact.proofs.Words.{nat_eq, eqb, List, [], ◌∷◌, length, take, drop, map, w8, refl, sym, ◌∙◌}
 use Rattle.crx_compact.proofs.Words.{arith, ◌≢◌, MatchBool, length-drop, length-take-le, take_all}
 use Rattle.crx_compact.proofs.Words.{length-chunk, length-zip2, mask_l-mod, tops_compared, common_steps}
@@ -14,17 +14,14 @@ differs a b = not (eqb a b)
 abbrev pub others : List ℕ → List ℕ → ℕ
 others xs ys = mask_l (map (top 7) (zip2 (λ a b. cond (differs a b) 255 0) xs ys)) % 2 ^ 64
 
-no_first : (b : Bool) (m : ℕ) → cond b 1 0 + 2 * m ≡ 0 → (b ≡ false) × (m ≡ 0)
-no_first b m e = grind arith
-
-equal : (a b : ℕ) → differs a b ≡ false → a ≡ b
-equal a b e = grind (arith, nat_tests)
+first_same : (a b m : ℕ) → cond (differs a b) 1 0 + 2 * m ≡ 0 → (a ≡ b) × (m ≡ 0)
+first_same a b m e = grind (arith, nat_tests)
 
 none_differ : (xs ys : List ℕ) → length ys ≡ length xs → mask_l (zip2 differs xs ys) ≡ 0 → xs ≡ ys
 none_differ [] [] long none = refl
 none_differ (x ∷ xs) (y ∷ ys) long none =
-    let parts = no_first (differs x y) (mask_l (zip2 differs xs ys)) none in
-    cc (equal x y parts.0, none_differ xs ys (omega arith) parts.1)
+    let parts = first_same x y (mask_l (zip2 differs xs ys)) none in
+    cc (parts.0, none_differ xs ys (omega arith) parts.1)
 none_differ xs ys long none = absurd (omega arith)
 
 same_rows : (xs ys : List ℕ) → length ys ≡ length xs → length xs ≤ 64 → others xs ys ≡ 0 → xs ≡ ys

@@ -5,7 +5,7 @@ use Rattle.crx_compact.proofs.Words.{slice_get, slice_set, refl, same_Some, ap, 
 use Rattle.crx_compact.proofs.Words.{is_among, has_satellite, Row, IsSoundRow, OpenHistory, PlacedRows}
 use Rattle.crx_compact.proofs.Words.{row_or_blank, row_line_after, row_line_in, row_tail_after, row_tail_in}
 use Rattle.crx_compact.proofs.Words.{RowTail, Tail, AreRowsWritten, arith, among-map, apart-push, HasCome}
-use Rattle.crx_compact.proofs.{ComeRows.{awaited-after, come-line, come-name, come-tail}}
+use Rattle.crx_compact.proofs.{ComeRows.{awaited-after, come-name, come-row}}
 use Rattle.crx_compact.proofs.placing.SteppedRows.{last-is}
 use Rattle.std.proofs.lemmas.List.Elements.{All-push}
 use Rattle.crx_compact.specs.Placing.{IsLineWritten, row_of_parts, row_tail_named}
@@ -56,16 +56,15 @@ written-next after rows row old new come placed place lines more line same writt
     let awaited = λ (name : List ℕ) (absent : has_satellite name rows ≡ false).
     ap (λ (p : PlacedRows). row_tail_named name p.rest) same ∙ written.others name absent in
     let next = awaited-after (λ (r : Row). r.name) rows row after.rows placed come awaited has in
-    let tail = come-tail placed.rest after.rows row (awaited row.name fresh) in
-    let made = come-line placed.rest after.rows row (awaited row.name fresh) in
+    let row_is = come-row placed.rest after.rows row (awaited row.name fresh) in
     let left = put.rows ∙ (λ j. slice_set come.rows place (row_tail_after (Some (is j)) (own j))) ∙ last.put _ in
     let more_is = longer ∙ (λ j. lines ++ put.made j ∷ []) ∙ (λ j. lines ++ row_line_after (Some (is j)) (own j) ∷ []) in
     record {
       text = text ∙ written.text;
       clock = clock ∙ written.clock;
-      rows_after = cc (left, written.rows_after, same, tail, map-append (row_tail_in after.rows) rows (row ∷ []));
+      rows_after = cc (left, written.rows_after, same, row_is.0, map-append (row_tail_in after.rows) rows (row ∷ []));
       others = λ name absent. ap (row_tail_named name) put.kept.rest ∙ next name absent;
-      lines_made = cc (more_is, written.lines_made, made, map-append (row_line_in after.rows) rows (row ∷ []));
+      lines_made = cc (more_is, written.lines_made, row_is.1, map-append (row_line_in after.rows) rows (row ∷ []));
       sound = All-push IsSoundRow rows row written.sound sound;
       apart = apart-push (λ (r : Row). r.name) rows row written.apart fresh;
     }

@@ -10,14 +10,14 @@ use Rattle.crx_compact.proofs.reading.RawTailing.{place-by_tail, left-by_tail}
 use Rattle.crx_compact.proofs.soundness.Soundness.{reads-soundly}
 use Rattle.crx_compact.proofs.wayback.Facts.{IsTypedRow, typed-rows, text-kept, satellites_of_rows}
 use Rattle.crx_compact.proofs.wayback.Reading.{text-other, text-columns, text-good}
-use Rattle.crx_compact.proofs.Words.{append-nil, rules}
+use Rattle.crx_compact.proofs.Words.{append-nil, map-map, rules}
 use Rattle.crx_compact.specs.OpenEpochs.{held_after, placed_as}
 use Rattle.crx_compact.specs.meaning.AnyWriter.{WrittenRow, WrittenEpoch, code_now, row_now, epoch_now, goes_on_from, nothing_written, AreRowLines, AreLinesAfter}
 use Rattle.crx_compact.specs.AnyWriter.{value_now, row_left, epoch_left, EpochReads, IsLeft, ReadsAnyEpoch}
 use Rattle.crx_compact.proofs.anywriter.{Arcs.{Goes, goes}, Rows.{any-row, marks-printable, at-same, all-same, CanFollow, row-follows}, Texts.{spelled-characters, code-printable}}
 use Rattle.crx_compact.proofs.Words.{is_event_line, is_event_flag, is_observation_flag, character_at}
 use Rattle.crx_compact.proofs.Words.{character_of, by_position, at, common_steps}
-use Rattle.crx_compact.proofs.Words.{and_parts, same_Some}
+use Rattle.crx_compact.proofs.Words.{and_parts}
 use Rattle.crx_compact.proofs.{Characters.{if_some, at-by_position}}
 use Rattle.crx_compact.proofs.{wayback.Facts.{text-head, head-counted}}
 
@@ -27,8 +27,7 @@ abbrev satellites_written : List WrittenRow → List Satellite
 satellites_written rows = map (λ (r : WrittenRow). record { name = r.name; count = length r.arcs }) rows
 
 satellites-same : (rows : List WrittenRow) → satellites_of_rows (map row_now rows) ≡ satellites_written rows
-satellites-same [] = refl
-satellites-same (r ∷ rs) = cc (length-map r.arcs value_now, satellites-same rs)
+satellites-same rows = simp (map-map, length-map)
 
 record RowsRead (base : WrittenEpoch) (rows : List WrittenRow) (lines : List (List ℕ)) : Type 0 where
   reads : List ReadRow
@@ -43,8 +42,6 @@ rows-read : (types : List Count) (base : WrittenEpoch) (rows : List WrittenRow) 
     → AllByRecursion (IsTypedRow types) (map row_now rows) → AreRowLines base rows lines → RowsRead base rows lines
 rows-read types base [] [] h k = record
     { reads = []; place = λ rest. refl; shown = refl; leaves = refl; follow = tt }
-rows-read types base [] (line ∷ lines) h k = absurd k
-rows-read types base (r ∷ rs) [] h k = absurd k
 rows-read types base (r ∷ rs) (line ∷ lines) h k =
     let first = any-row base r line h.0.0 k.0 in
     let others = rows-read types base rs lines h.1 k.1 in
@@ -56,6 +53,7 @@ rows-read types base (r ∷ rs) (line ∷ lines) h k =
       leaves = cc (first.leaves, others.leaves);
       follow = (row-follows base r line h.0.0 k.0, others.follow);
     }
+rows-read types base rows lines h k = absurd k
 
 -- ---- the epoch line
 
@@ -115,7 +113,6 @@ module _ (types : List Count) (base now : WrittenEpoch) (line clock : List ℕ) 
           → is_event_line line ≡ false
       pick false e f = rw e refl
       pick true e f =
-          let start : base ≡ nothing_written = same_Some base nothing_written (sym f) in
           let made : patched [] line ≡ without_end_blanks (epoch_text (epoch_now now)) = search (rules) in
           rw (e, full-no_event types (epoch_now now) line whole made) refl
 
@@ -177,6 +174,5 @@ module _ (types : List Count) (base now : WrittenEpoch) (line clock : List ℕ) 
       }
 
 pub any-epoch : ReadsAnyEpoch
-any-epoch types before raws now [] left whole h = absurd h
-any-epoch types before raws now (line ∷ []) left whole h = absurd h
 any-epoch types before raws now (line ∷ clock ∷ lines) left whole h = grind (arith, by_parts)
+any-epoch types before raws now lines left whole h = absurd h

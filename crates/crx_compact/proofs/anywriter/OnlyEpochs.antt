@@ -1,9 +1,9 @@
 -- The lines that are read as an epoch are ones that some writer may write for it.
-use Rattle.crx_compact.proofs.Words.{◌≡◌, refl, ℕ, zero, suc, List, [], ◌∷◌, ◌++◌, Bool, true, false, Option, Some, None, map, length, arith, ap, sym, ◌∙◌, ◌*◌, ◌+◌, ◌-◌, ◌<◌, ◌≤◌, ◌⊎◌, inl, inr, subst}
+use Rattle.crx_compact.proofs.Words.{◌≡◌, refl, ℕ, zero, suc, List, [], ◌∷◌, ◌++◌, Bool, true, false, Option, Some, None, map, length, arith, ap, sym, ◌∙◌, ◌*◌, ◌+◌, ◌-◌, ◌≤◌, inl, inr, subst}
 use Rattle.crx_compact.proofs.Words.{AllByRecursion, option_map, flat_map, if◌then◌else◌, cases_lt, length-append, same_Some, each_place, named}
 use Rattle.crx_compact.proofs.Words.{Done, rules, by_position}
 use Rattle.crx_compact.proofs.Words.{Count, Row, ReadRow, Satellite, IsWholeEpoch, types_of_satellite}
-use Rattle.crx_compact.proofs.Words.{past_of_tail, tail_for_line, tail_left, begins_epoch, epoch_text, columns, at, at-append, at-append_past, at-drop, without_end_blanks, patched, CLOCK_WIDTH, length-columns}
+use Rattle.crx_compact.proofs.Words.{past_of_tail, tail_for_line, tail_left, begins_epoch, epoch_text, columns, at-append, at-append_past, at-drop, without_end_blanks, patched, CLOCK_WIDTH, length-columns}
 use Rattle.crx_compact.proofs.PlaceByPlace.{at-take, at-padded}
 use Rattle.crx_compact.proofs.Words.{each_place-same, character_of}
 use Rattle.crx_compact.proofs.{SoundTexts.{patched-trimmed, trimmed-again}, EpochLines.{names_of}}
@@ -72,14 +72,12 @@ joined names = flat_map (λ (n : List ℕ). n) names
 columns-append : (text : List ℕ) (k m n : ℕ)
     → columns text (k + 1) m ++ columns text (k + m + 1) n ≡ columns text (k + 1) (m + n)
 columns-append text k m n = sym (columns-are text (k + 1) (m + n) _
-    (grind (arith, length-append, length-columns)) (λ p less. by_place p less (cases_lt p m)))
-  where
-    by_place : (p : ℕ) → p < m + n → (p < m) ⊎ (m ≤ p)
-        → at text (k + 1 - 1 + p) ≡ at (columns text (k + 1) m ++ columns text (k + m + 1) n) p
-    by_place p less (inl few) = grind (arith, at-take, at-padded, at-drop, at-append, length-columns)
-    by_place p less (inr more) =
-        let here : p ≡ m + (p - m) = omega (arith, more) in
-        grind (arith, at-take, at-padded, at-drop, at-append_past, length-columns)
+    (grind (arith, length-append, length-columns)) (λ p less. elim (cases_lt p m) [
+      | inl few ↦ grind (arith, at-take, at-padded, at-drop, at-append, length-columns)
+      | inr more ↦
+          let here : p ≡ m + (p - m) = omega (arith, more) in
+          grind (arith, at-take, at-padded, at-drop, at-append_past, length-columns)
+    ]))
 
 -- identifiers one after another
 names-joined : (text : List ℕ) (k count : ℕ)

@@ -1,6 +1,6 @@
 -- Each line that is read is one that some writer may write.
 use Rattle.crx_compact.proofs.Words.{◌≡◌, refl, ℕ, ℤ, zero, suc, List, [], ◌∷◌, ◌++◌, Option, Some, None, Ok, map, length, min, arith, ap, sym, ◌∙◌, ◌*◌, ◌+◌, ◌≤◌, inl, inr, drop}
-use Rattle.crx_compact.proofs.Words.{list_all, slice_index_or, ReadCell, cells_of, after_cells, first_cell, after_cell, is_blank}
+use Rattle.crx_compact.proofs.Words.{list_all, ReadCell, cells_of, after_cells, first_cell, after_cell, is_blank}
 use Rattle.crx_compact.proofs.Words.{Code, Missing, Start, Step, code_of, difference, value_of_code}
 use Rattle.crx_compact.proofs.Words.{without_end_blanks, before_end_blanks, length-map, rules, replicate}
 use Rattle.crx_compact.proofs.arcs.Inversion.{numbers_of}
@@ -16,7 +16,7 @@ use Rattle.crx_compact.proofs.{wayback.Overlays.at_past}
 use Rattle.crx_compact.proofs.SoundTexts.{patched-trimmed, trimmed-again, same-cut, cut-all}
 use Rattle.crx_compact.specs.meaning.AnyWriter.{Arc, WrittenEpoch, code_now, MayFollow, arc_in, flags_in}
 use Rattle.crx_compact.specs.AnyWriter.{value_now, arc_left, epoch_left, row_before, IsSomebodysRow, ReadsSomebodysRow}
-use Rattle.crx_compact.proofs.anywriter.Rows.{tail-found, cell-found, flags-found}
+use Rattle.crx_compact.proofs.anywriter.Rows.{arc_at, tail-found, cell-found, flags-found}
 use Rattle.crx_compact.proofs.anywriter.Arcs.{values-back, tail_at}
 use Rattle.crx_compact.proofs.anywriter.Texts.{with_blanks, one-text}
 
@@ -59,9 +59,6 @@ arc-back width (Some a) (Step d) v e =
     }
 
 -- ---- the cells of a line
-
-abbrev arc_at : List (Option Arc) → ℕ → Option Arc
-arc_at arcs j = slice_index_or arcs j None
 
 record CellsBack (found : ℕ → Option Arc) (texts : List (List ℕ)) (cells : List ReadCell) : Type 0 where
   arcs : List (Option Arc)

@@ -1,16 +1,15 @@
 -- Our own writer's epochs are ones that any writer may write.
 use Rattle.std.proofs.lemmas.List.Folds.{flat_map-map}
-use Rattle.crx_compact.proofs.Words.{◌≡◌, refl, ℕ, ℤ, zero, suc, List, [], ◌∷◌, Bool, true, false, Option, Some, None, map, length, arith, ap, sym, ◌∙◌, ◌≤◌, drop, subst}
+use Rattle.crx_compact.proofs.Words.{◌≡◌, refl, ℕ, ℤ, suc, List, [], ◌∷◌, Bool, true, false, Option, Some, None, map, length, arith, ap, sym, ◌∙◌, ◌≤◌, drop, subst}
 use Rattle.crx_compact.proofs.Words.{list_all, AllByRecursion, option_map, rules, if◌then◌else◌, slice_index_or, get_or_past}
 use Rattle.crx_compact.proofs.Words.{Count, Row, Epoch, Marked, AreWhole, IsWholeEpoch, epoch_text, newest_text, since_full, run_of, arc_of, clock_arc, row_named, stretch, named, codes_of, indicators_before, satellite_line, epoch_line, compact_epoch}
-use Rattle.crx_compact.proofs.Words.{at-without_end_blanks, without_end_blanks, patched, text_difference}
+use Rattle.crx_compact.proofs.Words.{without_end_blanks, patched, text_difference}
 use Rattle.crx_compact.proofs.Words.{is_blank, begins_epoch}
 use Rattle.crx_compact.proofs.Words.{code_at, code_text, code_of-code_text, WRITTEN_ORDER, each_place, map-each_place, index-each_place, each_place-same, length-each_place}
-use Rattle.crx_compact.proofs.Characters.{same_characters, at-by_position}
 use Rattle.crx_compact.proofs.Identifiers.{each-own}
 use Rattle.crx_compact.proofs.anywriter.Texts.{code-characters}
-use Rattle.crx_compact.proofs.wayback.Overlays.{character-mark}
-use Rattle.crx_compact.proofs.wayback.Runs.{IsUnmarked, marked, rows_before, named-made, begins_full, begins_later}
+use Rattle.crx_compact.proofs.wayback.Overlays.{patched-again}
+use Rattle.crx_compact.proofs.wayback.Runs.{marked, rows_before, named-made, begins_full, begins_later}
 use Rattle.crx_compact.proofs.wayback.Rows.{IsRowOf, run-begins, rows-of_run, run-printable, clock-printable, values-again}
 use Rattle.crx_compact.proofs.wayback.Reading.{no-end_blanks}
 use Rattle.crx_compact.proofs.SoundTexts.{difference-length, trimmed-again}
@@ -90,18 +89,14 @@ flags-left full name older r = refl
 
 -- ---- a satellite's line
 
-patched-again : (old new : List ℕ) → IsUnmarked new → patched old (text_difference old new) ≡ without_end_blanks new
-patched-again old new h = search (rules, same_characters, at-by_position, at-without_end_blanks, character-mark)
-
 no-more : (n : ℕ) (old new : List ℕ) → length old ≤ n → length new ≤ n
     → list_all is_blank (drop n (text_difference old new)) ≡ true
 no-more n old new h k = search (rules, drop_of_length-le, difference-length)
 
 follows-at : (before : Option Arc) (n : ℕ) (a : ℕ → Option Arc) (j : ℕ) → MayFollow before (a j)
     → MayFollow before (slice_index_or (each_place n a) j None)
-follows-at before zero a j h = tt
-follows-at before (suc n) a zero h = h
 follows-at before (suc n) a (suc j) h = follows-at before n (λ i. a (suc i)) j h
+follows-at before n a j h = search rules
 
 row-line : (types : List Count) (found : Option WrittenRow) (r : Row) (rs : List Row)
     → AllByRecursion (IsRowOf types r.name) (r ∷ rs)

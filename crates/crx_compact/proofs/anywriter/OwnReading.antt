@@ -1,17 +1,17 @@
 -- What was written here is read back, since any writer may write it.
-use Rattle.crx_compact.proofs.Words.{◌≡◌, refl, ℤ, List, [], ◌∷◌, ◌++◌, ◌+◌, Bool, true, false, Option, Some, None, map, length, drop, arith, ap, sym, ◌∙◌}
-use Rattle.crx_compact.proofs.Words.{append_assoc, length-append, length-map, map-append, drop-append_seam, subst, IsWholeEpoch}
+use Rattle.crx_compact.proofs.Words.{◌≡◌, refl, ℤ, List, [], ◌∷◌, Bool, true, false, Option, Some, None, map, arith, ap, sym, ◌∙◌}
+use Rattle.crx_compact.proofs.Words.{append_assoc, length-map, map-append, drop-append_seam, subst, IsWholeEpoch}
 use Rattle.crx_compact.proofs.Words.{Count, Row, Epoch, Marked, AreWhole, since_full, run_of, satellite_line, epoch_line, compact_epoch}
-use Rattle.crx_compact.proofs.Words.{map-each_place, each_place-same, WRITTEN_ORDER, epoch_text, without_end_blanks}
-use Rattle.crx_compact.proofs.Words.{Content, ReadEpoch, Tail, tail_left, common_steps, rules}
+use Rattle.crx_compact.proofs.Words.{map-each_place, map-map, WRITTEN_ORDER, epoch_text, without_end_blanks}
+use Rattle.crx_compact.proofs.Words.{ReadEpoch, Tail, tail_left, common_steps}
 use Rattle.crx_compact.proofs.wayback.Runs.{marked}
 use Rattle.crx_compact.proofs.reading.LineByLine.{steps-agree}
 use Rattle.crx_compact.proofs.anywriter.{Epochs.{any-epoch, held-reads, tail-for}, Own.{arc_written, row_written, epoch_written, epoch-same, full-lines, later-lines}}
 use Rattle.crx_compact.specs.ArcTails.{arc_tail}
 use Rattle.crx_compact.specs.AnyWriter.{arc_left, row_left, epoch_left, IsLeft}
 use Rattle.crx_compact.specs.Tails.{row_tail, tail_of, tail_or_nothing}
-use Rattle.crx_compact.specs.ReadingLaws.{lines_of_epoch, EachReadsBack, text_lines, epochs_at}
-use Rattle.crx_compact.specs.ReadingLaws.{marked_of, counts_of, OneTail, ReadsBack, StepsReadBack}
+use Rattle.crx_compact.specs.ReadingLaws.{lines_of_epoch, EachReadsBack, text_lines}
+use Rattle.crx_compact.specs.ReadingLaws.{marked_of, OneTail, ReadsBack, StepsReadBack}
 use Rattle.crx_compact.specs.meaning.AnyWriter.{WrittenEpoch, AreEpochLines, epoch_now}
 
 -- ---- the tail that an epoch leaves
@@ -21,8 +21,7 @@ arc-left xs = grind arith
 
 rows-left : (ms : List Marked) (rows : List Row) → map row_left (map (λ (r : Row). row_written (run_of r.name ms) r) rows)
     ≡ map (λ (r : Row). row_tail (run_of r.name ms) r) rows
-rows-left ms [] = refl
-rows-left ms (r ∷ rs) = search (rules, map-each_place, each_place-same, arc-left, rows-left ms rs)
+rows-left ms rows = simp (map-map, map-each_place, arc-left)
 
 pub own-left : (types : List Count) (full : Bool) (e : Epoch) (older : List Marked)
     → AreWhole types (since_full (marked full e ∷ older))
@@ -105,18 +104,9 @@ reads-back (t ∷ older) h =
     let text = text_lines ms in
     let lines = compact_epoch (m ∷ ms) in
     let rows = length-map m.epoch.rows (λ (r : Row). satellite_line (run_of r.name (m ∷ ms)) r) in
-    let count : length text + (2 + length m.epoch.rows + 0) ≡ length (text ++ lines) =
-    omega (arith, length-append text lines, rows) in
     record {
       reads = record { raw = next.raw; epoch = m.epoch } ∷ first.reads;
-      all = λ rest.
-          let all = map Content (text ++ lines) ++ rest in
-          let split = ap (λ l. l ++ rest) (map-append Content text lines)
-          ∙ append_assoc (map Content text) (map Content lines) rest in
-          let begun = ap (epochs_at (counts_of older)) split ∙ first.all (map Content lines ++ rest) in
-          let left : drop (length text) all ≡ map Content lines ++ rest =
-          cc (split, length-map text Content, drop-append_seam (map Content text) (map Content lines ++ rest)) in
-          rw (begun, left, next.reads rest, count) refl;
+      all = grind (arith, common_steps, map-append, append_assoc, length-map, drop-append_seam);
       epochs_are = cc first.epochs_are;
       tail = next.tail;
     }

@@ -1,5 +1,5 @@
 -- A satellite's line, whoever wrote it, reads as its row.
-use Rattle.crx_compact.proofs.Words.{◌≡◌, refl, ℕ, ℤ, zero, suc, List, [], ◌∷◌, true, false, Option, Some, None, Result, Ok, map, length, arith, ap, sym, ◌∙◌, ◌*◌, ◌+◌, drop}
+use Rattle.crx_compact.proofs.Words.{◌≡◌, refl, ℕ, ℤ, suc, List, [], ◌∷◌, true, false, Option, Some, None, Result, Ok, map, length, arith, ap, sym, ◌∙◌, ◌*◌, ◌+◌, drop}
 use Rattle.crx_compact.proofs.Words.{list_all, length-map, slice_index_or, option_map, rules, common_steps}
 use Rattle.crx_compact.proofs.Words.{Code, Missing, Fault, code_of, cells_of, after_cells, cells_read, ReadCell, IsValue, OBSERVATION_WIDTH}
 use Rattle.crx_compact.proofs.Words.{without_end_blanks, patched, character_of, by_position, at, at-without_end_blanks, at-drop, list_all-from_at, is_blank, is_kept, is_printable}
@@ -17,16 +17,15 @@ use Rattle.crx_compact.proofs.Words.{Bool}
 abbrev codes_wanted : List (Option Arc) → List (Option Code)
 codes_wanted arcs = map (λ (arc : Option Arc). Some (code_now arc)) arcs
 
-abbrev arc_at : List (Option Arc) → ℕ → Option Arc
+abbrev pub arc_at : List (Option Arc) → ℕ → Option Arc
 arc_at arcs j = slice_index_or arcs j None
 
 -- ---- what the epoch before left of a satellite
 
 at-map : {X : Type 0} (f : Option Arc → Option X) → f None ≡ None → (arcs : List (Option Arc)) (j : ℕ)
     → slice_index_or (map f arcs) j None ≡ f (arc_at arcs j)
-at-map f e [] j = sym e
-at-map f e (a ∷ as') zero = refl
 at-map f e (a ∷ as') (suc j) = at-map f e as' j
+at-map f e arcs j = cc e
 
 pub tail-found : (name : List ℕ) (before : WrittenEpoch) → tail_named name (epoch_left before)
     ≡ option_map row_left (named (λ (r : WrittenRow). r.name) name before.rows)
@@ -38,15 +37,13 @@ cell-found None j = refl
 cell-found (Some r) j = at-map arc_left refl r.arcs j
 
 pub flags-found : (found : Option WrittenRow) → flags_of_tail (option_map row_left found) ≡ without_end_blanks (flags_in found)
-flags-found None = refl
-flags-found (Some r) = refl
+flags-found found = grind arith
 
 -- ---- its codes
 
 are-texts : (ts : List (List ℕ)) (arcs : List (Option Arc)) → map code_of ts ≡ codes_wanted arcs → AreTexts ts
-are-texts [] arcs e = tt
-are-texts (t ∷ ts) [] e = absurd (cc e)
 are-texts (t ∷ ts) (a ∷ arcs) e = (spelled-characters t (code_now a) (cc e), are-texts ts arcs (cc e))
+are-texts ts arcs e = grind (arith, e)
 
 abbrev cell_now : Option Arc → ReadCell
 cell_now arc = record { code = code_now arc; value = value_now arc }
@@ -55,10 +52,9 @@ cells-good : (value : ℕ → Code → Result (Option ℤ) Fault) (ts : List (Li
     → map code_of ts ≡ codes_wanted arcs → ((j : ℕ) → value j (code_now (arc_at arcs j)) ≡ Ok (value_now (arc_at arcs j)))
     → cells_read value ts ≡ Ok (map cell_now arcs)
 cells-good value [] [] e h = refl
-cells-good value [] (a ∷ arcs) e h = absurd (cc e)
-cells-good value (t ∷ ts) [] e h = absurd (cc e)
 cells-good value (t ∷ ts) (a ∷ arcs) e h = cc
     (e, h 0, cells-good (λ j. value (suc j)) ts arcs (cc e) (λ j. h (suc j)))
+cells-good value ts arcs e h = absurd (cc e)
 
 arcs-left : (arcs : List (Option Arc)) (b : ℕ → Option ArcTail)
     → ((j : ℕ) → arc_of_code (code_now (arc_at arcs j)) (b j) ≡ arc_left (arc_at arcs j))
