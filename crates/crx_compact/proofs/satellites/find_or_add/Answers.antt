@@ -33,13 +33,11 @@ returns-in-Ok-clause-order c =
 
 pub returns-in_err-reserve-clause-unknown : goal.returns-in_err-reserve-clause-unknown
 returns-in_err-reserve-clause-unknown c =
-    let p = err_from_is_err_and c.from_residual.result c.from_residual.ensures.1 in
-    rw p.1 (search (rules, not-found))
+    search (rules, err_from_is_err_and, c.from_residual.ensures, not-found)
 
 pub returns-in_err-reserve-2-clause-unknown : goal.returns-in_err-reserve-2-clause-unknown
 returns-in_err-reserve-2-clause-unknown c =
-    let p = err_from_is_err_and c.from_residual-in_err-reserve-2.result c.from_residual-in_err-reserve-2.ensures.1 in
-    rw p.1 (search (rules, not-found))
+    search (rules, err_from_is_err_and, c.from_residual-in_err-reserve-2.ensures, not-found)
 
 pub returns-clause-unknown : goal.returns-clause-unknown
 returns-clause-unknown c = search (rules, not-found)

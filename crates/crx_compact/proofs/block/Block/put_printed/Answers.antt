@@ -1,3 +1,4 @@
+use Rattle.std.proofs.Common.{rules}
 use Rattle.crx_compact.proofs.Words.{◌+◌, ◌*◌, ◌≡◌, drop, length, set, ap, arith, length-set, take_at}
 use Rattle.crx_compact.proofs.Words.{printed_row, shown_row, ◌∙◌, take, ◌++◌, PendingLines}
 use Rattle.crx_compact.proofs.{LineTexts.{BlockPushed, row-pushed}}
@@ -39,6 +40,4 @@ invariant_of-self c =
     rw (stored at) (pushed at).still
 
 pub returns-clause-lines : goal.returns-clause-lines
-returns-clause-lines c =
-    let at = (goal.at.returns-clause-lines c).After-print_line-length in
-    (_, c.entry.ensures.there, rw (← c.self.view_is, stored at) (pushed at).is)
+returns-clause-lines c = search (rules, c.entry.ensures.there, c.self.view_is, stored, pushed)

@@ -16,9 +16,7 @@ unwrap-requires c = search (rules, ok-unless, code_text_length)
 
 -- the first lines are no longer than the text of an epoch
 pub put_front-requires-clause-short : goal.put_front-requires-clause-short
-put_front-requires-clause-short c =
-    let code : c.bytes.result.now ≡ code_text c.push.result = search (rules, c.bytes.ensures.value) in
-    omega (arith, ap length code, code_text_length c.push.result (search rules))
+put_front-requires-clause-short c = search (rules, code_text, c.bytes.ensures.value, code_text_length)
 
 -- the difference of two epochs' texts
 marks : (c : After-bytes-2) → c.bytes-2.result.now

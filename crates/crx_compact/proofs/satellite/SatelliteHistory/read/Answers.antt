@@ -18,12 +18,8 @@ returns-in_err-at c =
     })
 
 pub returns-then-is_empty : goal.returns-then-is_empty
-returns-then-is_empty c = record {
-  ok = search (rules, take_rest, none-there, take_at, stored-read, no-marks, indicators-left, length-take-le);
-  err = tt;
-  sized = search (rules, length-take-le, take_at);
-  room = grind (arith, common_steps);
-}
+returns-then-is_empty c =
+    search (rules, take_rest, none-there, take_at, stored-read, no-marks, indicators-left, length-take-le)
 
 pub returns : goal.returns
 returns c =
