@@ -4,6 +4,7 @@ ghost use Rattle.std.specs.Prelude.{◌≡◌, ◌<◌, List, ℕ, [], ◌++◌}
 ghost use Rattle.std.specs.Borrow.{ftrue};
 ghost use Rattle.std.proofs.Common.{◌∙◌, refl};
 ghost use Rattle.crx_program.specs.Logs.{adds_none, adds_both};
+ghost use Rattle.crx_program.specs.meaning.Calls.{Call, with_call};
 
 pub mod opener;
 
@@ -18,11 +19,13 @@ use std::marker::{Model, PhantomData};
 /// more than all other work. The reader of lines itself reads the input in pieces of that size.
 pub const OUTPUT_BUFFER: usize = 65536;
 
-/// Bytes that contracts alone read. It takes no memory, and its methods do nothing at run time.
+/// Bytes, and the calls that opened files, or failed to, in their order. Contracts alone read them; the log
+/// takes no memory, and its methods do nothing at run time.
 #[derive(Drop)]
 pub struct Log {
     marker: PhantomData<u8>,
     pub ghost bytes: { List ℕ },
+    pub ghost calls: { List Call },
 }
 
 impl Model for Log {
@@ -30,9 +33,9 @@ impl Model for Log {
 }
 
 impl Log {
-    /// The log of no byte.
+    /// The log of no byte and no call.
     pub(crate) fn new() -> Log
-        ensures { result.bytes ≡ [] }
+        ensures { (result.bytes ≡ []) × (result.calls ≡ []) }
     {
         Log {
             marker: PhantomData,
@@ -43,6 +46,12 @@ impl Log {
     #[inline(always)]
     pub(crate) fn add(&mut self, _more: &[u8])
         ensures { self.new.bytes ≡ self.old.bytes ++ _more.now }
+    {}
+
+    /// Adds a call with this name and these options.
+    #[inline(always)]
+    fn add_call(&mut self, _name: &[u8], _how: &OpenOptions)
+        ensures { self.new.calls ≡ with_call self.old.calls _name.now _how.now }
     {}
 }
 

@@ -1,9 +1,8 @@
 //! Opening files: each call that opens one is logged.
 
-ghost use Rattle.std.specs.Prelude.{◌≡◌, List, [], None, Some, IfOk, is_some, true};
-ghost use Rattle.std.specs.Borrow.{ftrue};
+ghost use Rattle.std.specs.Prelude.{◌≡◌, [], None, Some, IfOk, is_some, true};
 ghost use Rattle.std.specs.Io.Buffered.{writer_buffer, writer_inner};
-ghost use Rattle.crx_program.specs.meaning.Calls.{Call, options_to_read, with_call};
+ghost use Rattle.crx_program.specs.meaning.Calls.{options_to_read, with_call};
 
 use super::{FileBuffer, Log, Logged, OUTPUT_BUFFER, Opening, SourceFile, TargetFile};
 use crate::late_writer::LateWriter;
@@ -13,44 +12,14 @@ use std::alloc::Global;
 use std::fs::OpenOptions;
 use std::io;
 use std::io::{BufWriter, Write};
-use std::marker::{Model, PhantomData};
 use std::rt::Files;
-
-/// The calls that opened files, or failed to, in their order. Contracts alone read them; the log takes no
-/// memory, and its methods do nothing at run time.
-#[derive(Drop)]
-pub struct CallLog {
-    marker: PhantomData<u8>,
-    pub ghost calls: { List Call },
-}
-
-impl Model for CallLog {
-    ghost also_owns = { λ _. ftrue };
-}
-
-impl CallLog {
-    /// The log of no call.
-    fn new() -> CallLog
-        ensures { result.calls ≡ [] }
-    {
-        CallLog {
-            marker: PhantomData,
-        }
-    }
-
-    /// Adds a call with this name and these options.
-    #[inline(always)]
-    fn add(&mut self, _name: &[u8], _how: &OpenOptions)
-        ensures { self.new.calls ≡ with_call self.old.calls _name.now _how.now }
-    {}
-}
 
 /// The files of a machine, and a log of the calls that opened one. Who has this and not the machine opens no
 /// file that isn't logged.
 #[derive(Drop)]
 pub struct Opener<'a, H: Files> {
     files: &'a H,
-    log: CallLog,
+    log: Log,
 }
 
 impl<'a, H: Files> Opener<'a, H> {
@@ -60,7 +29,7 @@ impl<'a, H: Files> Opener<'a, H> {
     {
         Opener {
             files,
-            log: CallLog::new(),
+            log: Log::new(),
         }
     }
 
@@ -68,7 +37,7 @@ impl<'a, H: Files> Opener<'a, H> {
     fn open(&mut self, how: &OpenOptions, name: &str) -> io::Result<H::File>
         ensures calls { self.new.log.calls ≡ with_call self.old.log.calls name.now how.now }
     {
-        self.log.add(name.as_bytes(), how);
+        self.log.add_call(name.as_bytes(), how);
         how.open(self.files, name)
     }
 
@@ -84,7 +53,7 @@ impl<'a, H: Files> Opener<'a, H> {
     {
         let mut how = OpenOptions::new();
         how.read(true);
-        self.log.add(name.as_bytes(), &how);
+        self.log.add_call(name.as_bytes(), &how);
         let inner = open_file(self.files, name)?;
         Ok(Logged {
             inner,

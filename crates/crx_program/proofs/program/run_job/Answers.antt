@@ -1,14 +1,11 @@
 use Rattle.std.proofs.Common.{◌∙◌, Some, ap, inl, inr, refl, sym}
 use Rattle.crx_program.{proofs.CallLemmas.{called-both, called-to_read, made-after_read}}
-use Rattle.crx_program.{proofs.FilterEnds.still_not_begun, specs.meaning.Jobs.CannotRead}
-use Rattle.crx_program.specs.meaning.Jobs.{call_to_read, call_to_write}
-use Rattle.crx_runs.specs.meaning.Spans.{span}
+use Rattle.crx_program.specs.meaning.Jobs.{CannotRead, call_to_read, call_to_write}
 use Rattle.crx_program.proofs.program.run_job.Goals as goal
 
 pub returns-in-Ok-open_to_read-clause-done : goal.returns-in-Ok-open_to_read-clause-done
 returns-in-Ok-open_to_read-clause-done g c =
     let job = c.args.job.now in
-    let messages = span g.M.Sink c.args.messages.now c.run_to_target-ended.new.messages in
     let opened = c.in-Ok-open_to_read.ensures in
     let named = c.in-Some.is ∙ ap Some (sym c.text.ensures.value) in
     let first = c.args.files.now.log.calls in
@@ -30,9 +27,15 @@ returns-in-Ok-open_to_read-clause-done g c =
           begun.1,
         ),
       )
-      | inr not_begun ↦ inr (still_not_begun job messages c.run_to_target-ended.result.status _ _ _ _
-          not_begun (λ same. (refl, same.1, same.2)) (λ why made. made-after_read why (call_to_read job.source)
-          (call_to_write job.target job.force) first between last read made))
+      | inr not_begun ↦ inr (record {
+        why = not_begun.why;
+        can = not_begun.can;
+        shown = not_begun.shown;
+        status_is = not_begun.status_is;
+        same = (refl, not_begun.same.1, not_begun.same.2);
+        opened = made-after_read not_begun.why (call_to_read job.source) (call_to_write job.target job.force)
+            first between last read not_begun.opened;
+      })
     ]
 
 pub returns-in-Err-clause-done : goal.returns-in-Err-clause-done

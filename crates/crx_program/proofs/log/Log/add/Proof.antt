@@ -30,7 +30,7 @@ add_spec 𝓤 𝓛 𝓜 𝓡 wired =
     (λ κs qs bounds a g are.
     let b = a.0.ref_ptr.0 in let o = a.0.ref_ptr.1 in let h : Log = a.0.now in
     let s : Val = slice_val a.1.0.ref_ptr (length a.1.0.now) in
-    let h' : Log = record { marker = h.marker; bytes = h.bytes ++ a.1.0.now } in
+    let h' : Log = record { marker = h.marker; bytes = h.bytes ++ a.1.0.now; calls = h.calls } in
     let at : List Val × (List Val × Unit {0}) = (vptr b o ∷ [], (s ∷ [], tt)) in
     let Post : Val → SProp 𝓤 = (walk_of 𝓛 it.ended stayed c).post ((κs, qs, bounds, a, at), g) in
     qed 𝓛 (((‵ (flft κs.0 qs.0) ⊛ (‵ (flft κs.1.0 qs.1.0) ⊛ ‵ ftrue)) ⊛ ‵

@@ -1,4 +1,4 @@
--- `new` makes a value of no bytes, at the empty list.
+-- `new` makes a value of no bytes and no calls, at the empty lists.
 use mathlib.Core.{List.{[], ◌∷◌}, Path.refl}
 use mir.Val.{Val, vstruct, vcons, vnil}
 use types.{ByLocal.{alloc_all, pass_all, free_all, look_at, get, sets}, Kit.{raw, ◌$◌, ◌∵◌, !, qed, keep}}
@@ -16,7 +16,7 @@ pub new_spec : {M : Type 1} → stated.statement M
 new_spec 𝓤 𝓛 𝓜 𝓡 wired =
     let 𝓣 = tables 𝓤 𝓛.H 𝓜 𝓡 𝓡.env in let c = it.clauses 𝓛 𝓜.mem 𝓡.returns in
     let v : Val = vstruct (vcons (vstruct vnil) vnil) in
-    let r : Log = record { marker = record {}; bytes = [] } in
+    let r : Log = record { marker = record {}; bytes = []; calls = [] } in
     proved 𝓛 it.ended tt c 𝓜 𝓡 tt #it code.function (code.unfolded 𝓤 𝓛.H 𝓜 𝓡 wired) (λ κs. tt) (λ κs. tt)
     (λ κs qs bounds a g _. qed 𝓛
     (raw (on_entry 𝓛 it.signature κs qs a tt) ∷ raw ((c κs a).requires g) ∷ []) ∵ keep ! [] $ enter ! 𝓣.C 𝓣.Λ
@@ -24,5 +24,5 @@ new_spec 𝓤 𝓛 𝓜 𝓡 wired =
     sets ! (agg ! (and_then ! (get ! refl) (no_more !))) refl (tt, (tt, tt)) $ returns ! (look_at ! 0 refl) $
     free_all ! refl $ pure_i ! ((T.the_row).own_val r (v ∷ [])) ((λ vss. (tt, ((λ uss. (tt, tt)), tt))), tt)
     (((vstruct vnil ∷ [], tt), (refl, ((tt, (refl, tt)), tt))), tt) $ suffices ! _
-    (ends_at 𝓛 it.ended tt c ((κs, qs, bounds, a, tt), g) v r tt tt) $ says ! refl $ nothing ! $ join ! $
+    (ends_at 𝓛 it.ended tt c ((κs, qs, bounds, a, tt), g) v r tt tt) $ says ! (refl, refl) $ nothing ! $ join ! $
     nothing ! $ done !))

@@ -13,15 +13,15 @@ use denote.Triple.Walked.{says, Stays, stay_ref, walk_of, Goes-ref, ends_at, sta
 use denote.Triple.Walked.{stay_none_ref, Goes-none_ref}
 use Rattle.std.proofs.raw_atomic.Walks.{proved}
 use Rattle.std.specs.contracts.fs.options.OpenOptions as How
-use Rattle.crx_program.specs.{contracts.log.opener.CallLog.add.Key.name as #it, declared.log.opener.CallLog.CallLog}
+use Rattle.crx_program.specs.{contracts.log.Log.add_call.Key.name as #it, declared.log.Log.Log}
 use Rattle.crx_program.specs.meaning.Calls.{with_call}
-use Rattle.crx_program.specs.contracts.log.opener.CallLog as T
-use Rattle.crx_program.specs.contracts.log.opener.CallLog.add as it
-use Rattle.crx_program.proofs.log.opener.CallLog.add.Statement as stated
-use Rattle.crx_program.proofs.log.opener.CallLog.add.Code as code
+use Rattle.crx_program.specs.contracts.log.Log as T
+use Rattle.crx_program.specs.contracts.log.Log.add_call as it
+use Rattle.crx_program.proofs.log.Log.add_call.Statement as stated
+use Rattle.crx_program.proofs.log.Log.add_call.Code as code
 
-pub add_spec : {M : Type 1} → stated.statement M
-add_spec 𝓤 𝓛 𝓜 𝓡 wired =
+pub add_call_spec : {M : Type 1} → stated.statement M
+add_call_spec 𝓤 𝓛 𝓜 𝓡 wired =
     let 𝓣 = tables 𝓤 𝓛.H 𝓜 𝓡 𝓡.env in let c = it.clauses 𝓛 𝓜.mem 𝓡.returns in
     let stayed : Stays (it.ended).signature.params (it.ended).kept = (
       stay_ref (0 ∷ []) tt (plain (λ _. T.the_row)),
@@ -46,10 +46,10 @@ add_spec 𝓤 𝓛 𝓜 𝓡 wired =
       ),
     ))
     (λ κs qs bounds a g are.
-    let b = a.0.ref_ptr.0 in let o = a.0.ref_ptr.1 in let h : CallLog = a.0.now in
+    let b = a.0.ref_ptr.0 in let o = a.0.ref_ptr.1 in let h : Log = a.0.now in
     let s : Val = slice_val a.1.0.ref_ptr (length a.1.0.now) in
     let r : Val = vptr a.1.1.0.ref_ptr.0 a.1.1.0.ref_ptr.1 in
-    let h' : CallLog = record { marker = h.marker; calls = with_call h.calls a.1.0.now a.1.1.0.now } in
+    let h' : Log = record { marker = h.marker; bytes = h.bytes; calls = with_call h.calls a.1.0.now a.1.1.0.now } in
     let at : List Val × (List Val × (List Val × Unit {0})) = (vptr b o ∷ [], (s ∷ [], (r ∷ [], tt))) in
     let Post : Val → SProp 𝓤 = (walk_of 𝓛 it.ended stayed c).post ((κs, qs, bounds, a, at), g) in
     qed 𝓛 (((‵ (flft κs.0 qs.0) ⊛ (‵ (flft κs.1.0 qs.1.0) ⊛ (‵ (flft κs.1.1.0 qs.1.1.0) ⊛ ‵ ftrue))) ⊛ ‵
