@@ -18,11 +18,8 @@ record Fits (most : ℕ) (text : List ℕ) : Type 0 where
 joined : (m n : ℕ) (xs ys : List ℕ) → Fits m xs → Fits n ys → Fits (m + n) (xs ++ ys)
 joined = grind (arith, common_steps, length-append, list_all-append)
 
-digit : (n : ℕ) → n < 10 → is_printable (48 + n) ≡ true
-digit n h = grind arith
-
 digits : (n : ℕ) → n < 100 → Fits 2 (two_digits n)
-digits = grind (arith, common_steps, digit)
+digits = grind (arith, common_steps)
 
 -- the names of months
 abbrev fits_three : List ℕ → Bool

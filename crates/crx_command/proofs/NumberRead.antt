@@ -9,13 +9,12 @@ use Rattle.crx_command.specs.meaning.Planning.{counted_argument}
 
 digits_pass : (ds : List ℕ) → AllDigits 10 ds → list_all (λ d. nat_lt (digit_value d) 10) ds ≡ true
 digits_pass [] h = refl
-digits_pass (d ∷ ds) h = rw (lt-ltb _ 10 h.0) (digits_pass ds h.1)
+digits_pass (d ∷ ds) h = grind (arith, common_steps, lt-ltb, digits_pass ds)
 
 digits_from : (ds : List ℕ) → list_all (λ d. nat_lt (digit_value d) 10) ds ≡ true → AllDigits 10 ds
 digits_from [] e = tt
 digits_from (d ∷ ds) e =
-    let parts = both _ _ e in
-    (ltb-true _ _ parts.0, digits_from ds parts.1)
+    grind (arith, common_steps, both, ltb-true, digits_from ds)
 
 module _ {E : Type 0} (G : List ℕ
     → Result ℕ E → Type 0)
