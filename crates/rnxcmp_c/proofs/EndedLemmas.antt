@@ -4,10 +4,11 @@ use Rattle.rnxcmp_c.proofs.Words.{◌≡◌, ◌⊎◌, ℕ, List, true, code_of
 use Rattle.rnxcmp_c.proofs.Words.{checked, what-passes, FilterResult, Answer, OUTPUT_LIMIT, BothTexts}
 use Rattle.rnxcmp_c.proofs.Words.{HasNoMemory, RunHasEnded, RunHasResult, StopsAtLimit, StopsForMemory}
 use Rattle.rnxcmp_c.proofs.Words.{StopsWhenFull, Task, Compact, Expand, Check, run_for, CallBringsBackWhatPasses}
-use Rattle.rnxcmp_c.proofs.{Kept.{brings-back, judges-status, saves-all_else}, Lossless.brings-back_passed}
+use Rattle.rnxcmp_c.proofs.{Kept.brings-back, Lossless.brings-back_passed}
 use Rattle.rnxcmp_c.proofs.Words.{CallBringsBackWhatWasCompacted, CallSavesAllElse}
 use Rattle.rnxcmp_c.specs.meaning.Ended.{CheckPromises, ExpansionPromises}
 use Rattle.rnxcmp_c.specs.meaning.Stretches.{CallKeepsUndamaged, CallWritesWholeUnits}
+use Rattle.crx_filter.proofs.{damage.DamageStays.all-saved, standard.CheckStandard.named-where_not}
 use Rattle.crx_filter.proofs.accounts.ByResults.{compaction-keeps, expansion-keeps}
 use Rattle.crx_filter.specs.meaning.{ByResults.ExpansionKeeps, CompactText.ReadsAnyText}
 use Rattle.rnxcmp_c.specs.meaning.Kept.{TaskKeeps}
@@ -29,7 +30,7 @@ pub record KeepsPromises (holds : FilterResult → Type 0) (choices : Choices) (
 pub keeps-promises : (holds : FilterResult → Type 0) (choices : Choices) (text : List ℕ)
     → holds (expanded text choices) → KeepsPromises holds choices text
 keeps-promises holds choices text whole =
-    search (rules, brings-back_passed, brings-back, saves-all_else, rest-kept, first-units, expansion-keeps, reads-any)
+    search (rules, brings-back_passed, brings-back, all-saved, rest-kept, first-units, expansion-keeps, reads-any)
 
 pub task-keeps : (task : Task) (holds : FilterResult → Type 0) (input : List ℕ)
     → holds ((run_for task).result input) → TaskKeeps task holds input
@@ -67,4 +68,4 @@ module _ (fed : List ℕ) (made kept : BothTexts) (answer : Answer) where
       let status = ap (λ (a : Answer). a.status) whole.answered in search (rules, k, only-text, status)
 
   pub run-check : Has (checked fed) → CheckPromises fed answer
-  run-check whole = grind (arith, common_steps, RunHasResult.answered whole, what-passes, judges-status)
+  run-check whole = grind (arith, common_steps, RunHasResult.answered whole, what-passes, named-where_not)

@@ -1,11 +1,9 @@
--- What the answers of calls bring back, save and judge follows from what they are, by the laws.
+-- What the answers of calls bring back follows from what they are, by the laws.
 use Rattle.std.proofs.{Common.arith, lemmas.Grind.common_steps}
-use Rattle.rnxcmp_c.proofs.Words.{ℕ, ◌≡◌, List, Choices, expanded, FilterResult, checked}
-use Rattle.rnxcmp_c.proofs.Words.{CallBringsBackWhatWasCompacted, CallSavesAllElse, AnswersWithin, Answer, BothTexts}
-use Rattle.rnxcmp_c.proofs.Words.{length, true}
+use Rattle.rnxcmp_c.proofs.Words.{ℕ, ◌≡◌, List, Choices, expanded, FilterResult}
+use Rattle.rnxcmp_c.proofs.Words.{CallBringsBackWhatWasCompacted, AnswersWithin, Answer, BothTexts}
+use Rattle.rnxcmp_c.proofs.Words.{length}
 use Rattle.{crx_compact.proofs.Words.cases_lt}
-use Rattle.rnxcmp_c.specs.meaning.Promises.{CallJudgesStandard}
-use Rattle.crx_filter.proofs.{damage.DamageStays.all-saved, standard.CheckStandard.named-where_not}
 use Rattle.crx_filter.proofs.anywriter.ComesBack.{normal-comes_back, standard-comes_back, comes-back}
 
 -- ---- the way back
@@ -14,19 +12,6 @@ pub brings-back : (holds : FilterResult → Type 0) (expanding : Choices) (text 
     → holds (expanded text expanding) → CallBringsBackWhatWasCompacted holds text
 brings-back holds expanding text answered file compacting dated same =
     grind (arith, common_steps, standard-comes_back, normal-comes_back, comes-back)
-
--- ---- damage
-
-pub saves-all_else : (holds : FilterResult → Type 0) (expanding : Choices) (damaged : List ℕ)
-    → expanding.skip ≡ true → holds (expanded damaged expanding) → CallSavesAllElse holds damaged
-saves-all_else holds expanding damaged skips answered before s damage =
-    (expanded damaged expanding, all-saved before s damaged expanding skips damage, answered)
-
--- ---- standard files
-
-pub judges-status : (file : List ℕ) (status : ℕ) → status ≡ (checked file).status
-    → CallJudgesStandard status file
-judges-status file status is good = grind (arith, common_steps, named-where_not)
 
 -- ---- status 0
 
