@@ -1,25 +1,11 @@
-use Rattle.std.proofs.Common.{◌∙◌, [], ap, sym, append-nil, map, inl, inr, refl, string_bytes}
-use Rattle.crx_command.specs.meaning.Planning.{plan_of}
+use Rattle.std.proofs.Common.{[], sym, append-nil, inl, inr, refl}
 use Rattle.crx_program.proofs.Refusals.{some_line}
 use Rattle.crx_program.specs.Logs.{adds_none}
 use Rattle.crx_program.specs.meaning.Jobs.{NoMemory, calls_of}
 use Rattle.rnxcmp.proofs.host.run_streams.Goals as goal
 
-pub returns-in-Ok-clause-help : goal.returns-in-Ok-clause-help
-returns-in-Ok-clause-help c = λ e.
-    c.run_over.ensures.help (ap (λ words. plan_of (map string_bytes words)) c.in-Ok.ensures.words ∙ e)
-
-pub returns-in-Ok-clause-opens : goal.returns-in-Ok-clause-opens
-returns-in-Ok-clause-opens c = λ job e.
-    c.run_over.ensures.opens job (ap (λ words. plan_of (map string_bytes words)) c.in-Ok.ensures.words ∙ e)
-
-pub returns-in-Ok-clause-front : goal.returns-in-Ok-clause-front
-returns-in-Ok-clause-front c = λ job e.
-    c.run_over.ensures.front job (ap (λ words. plan_of (map string_bytes words)) c.in-Ok.ensures.words ∙ e)
-
-pub returns-in-Ok-clause-keeps : goal.returns-in-Ok-clause-keeps
-returns-in-Ok-clause-keeps c = λ job e well. c.run_over.ensures.keeps job
-    (ap (λ words. plan_of (map string_bytes words)) c.in-Ok.ensures.words ∙ e) well
+pub returns-in-Ok : goal.returns-in-Ok
+returns-in-Ok c = rw c.in-Ok.ensures.words at c.run_over.ensures
 
 pub returns-in-Err-clause-refused : goal.returns-in-Err-clause-refused
 returns-in-Err-clause-refused c = λ refusal e.
