@@ -97,12 +97,4 @@ part-then j xs ys a b = carried-part (carry j xs a) xs _ (part-resumed xs xs ys 
 -- and what came after two texts, over both stretches after the first text
 pub carry-on : {first second both : Device} → Joins first second both → (xs ys all : List ℕ)
     → all ≡ xs ++ ys → TookAll first ys → Carries (resumed second all) (resumed both xs)
-carry-on j xs ys all is a = record {
-  took = λ text t. (
-    ys ++ t.0,
-    t.1 ∙ ap (λ (l : List ℕ). l ++ t.0) is ∙ append_assoc xs ys t.0,
-    j.joined ys t.0 a.0 t.2,
-  );
-  before = j.start ∙ sym a.1 ∙ sym j.same;
-  after = j.end;
-}
+carry-on j xs ys all is a = grind (arith, common_steps, append_assoc)

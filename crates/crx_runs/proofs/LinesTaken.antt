@@ -1,7 +1,7 @@
 -- A line that an engine takes, at once or a second time.
 use Rattle.std.proofs.lemmas.Grind.{common_steps}
 use Rattle.std.proofs.Common.{◌≡◌, ◌⊎◌, ℕ, ◌+◌, Bool, true, false, List, [], ◌∷◌, ◌++◌, length}
-use Rattle.std.proofs.Common.{Some, None, Result, Ok, Err, IfOk, IfErr, refl, sym, ap, subst, ◌∙◌}
+use Rattle.std.proofs.Common.{Some, None, Result, Ok, Err, IfOk, IfErr, refl, sym, ap, ◌∙◌}
 use Rattle.std.proofs.Common.{arith, append_assoc, append-nil}
 use Rattle.crx_base.specs.{declared.fault.{At.At, Fault.TheVariants.OutOfMemory}, meaning.Lines.InputLine}
 use Rattle.crx_base.specs.meaning.Lines.{lines_text}
@@ -72,8 +72,7 @@ module _ {writer1 writer2 writer messages1 messages2 messages : Device} (w : Joi
       → warned ≡ are_some (awaited_notices earlier ++ step_notices step)
       → IsDone (filter.so_far lines) (filter.so_far (with_next lines line)) shown writer messages warned
   line-done step stays drained a shown kept out warned flag =
-      let adds = answers-add filter shows ready lines earlier line step stays drained a in
-      step-done w m _ _ (awaited_notices earlier) wrote reported _ _ (kept adds.0) adds.1 out warned flag
+      grind (arith, common_steps, answers-add, step-done, awaited_notices)
 
   cut-by : (step : Step) → Stays step → IsDrainedAfter step ready
       → EngineAnswers filter shows ready lines earlier line (Ok step) → (halt : Halt)
@@ -151,9 +150,7 @@ pub again-out : {writer messages : Device} (ready : List (List ℕ)) (step : Ste
     (Ok warned)
     → TookAll writer [] × TookAll messages (notices_text (notice ∷ [])) × (warned ≡ true)
 again-out {writer = writer} {messages = messages} ready step notice warned is drained settled =
-    let s = subst (λ (s : Step). IsSettled writer messages (made_by ready s) (Ok warned)) is settled in
-    let none : ready ≡ [] = subst (λ (s : Step). IsDrainedAfter s ready) is drained in
-    (subst (λ (r : List (List ℕ)). TookAll writer (lines_text r)) none s.0.wrote, s.0.reported, s.1)
+    grind (arith, common_steps, made_by, lines_text)
 
 -- the end of the input
 concludes-add : (filter : Filter) (ready : List (List ℕ)) (lines : List InputLine) (step : Step)
@@ -185,8 +182,7 @@ pub end-comes : (filter : Filter) (ready : List (List ℕ)) (lines : List InputL
     → IfOk result (IsDone (filter.so_far lines) (filter.whole lines) shown writer2 messages2)
     × IfErr result (EndEndsRun filter lines writer2 messages2)
 end-comes filter ready lines step shown is w m wrote reported (Ok warned) drained a settled =
-    let adds = concludes-add filter ready lines step drained a in
-    (step-done w m _ _ [] wrote reported _ _ is adds settled.0 warned settled.1, tt)
+    grind (arith, common_steps, concludes-add, step-done)
 end-comes filter ready lines step shown is w m wrote reported (Err halt) drained a settled =
     let adds = concludes-add filter ready lines step drained a in
     let ends = step-ends w m _ _ [] wrote reported None (length lines) _ _ (λ some. adds) (all-next adds) halt

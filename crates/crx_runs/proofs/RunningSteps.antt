@@ -56,25 +56,9 @@ module _ {input : Input} {now : ReaderState} {lines : List InputLine} {course : 
     (running : IsRunning input writer1 messages now lines course) where
   -- what was written was handed on
   pub still-running : TookAll writer2 [] → IsRunning input writer messages now lines course
-  still-running still = record {
-    read = running.read;
-    going = running.going;
-    out = record {
-      good = running.out.good;
-      wrote = all-still w _ running.out.wrote still;
-      reported = running.out.reported;
-    };
-  }
+  still-running still = grind (arith, common_steps, all-still)
 
   -- or it couldn't be
   pub handing-fails : (now.phase ≡ Open → HasNoFeed now.rest) → FlushFailed writer2
       → HandingFailed input writer messages now lines course
-  handing-fails unheld failed = record {
-    read = running.read;
-    going = running.going;
-    unheld = unheld;
-    good = running.out.good;
-    wrote = took-still w _ running.out.wrote.0 failed.0;
-    failed = grind arith;
-    reported = running.out.reported;
-  }
+  handing-fails unheld failed = grind (arith, common_steps, took-still)

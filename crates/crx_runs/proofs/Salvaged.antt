@@ -1,4 +1,5 @@
 -- What is after a run, by how it ended.
+use Rattle.std.proofs.lemmas.Grind.{common_steps}
 use Rattle.std.proofs.Common.{arith, ◌≡◌, ◌⊎◌, inl, inr, ℕ, ◌≤◌, List, [], ◌++◌, length, take, drop, refl}
 use Rattle.std.proofs.{Common.{sym, ap, subst, ◌∙◌, append-nil, append_assoc}, lemmas.List.take_all}
 use Rattle.std.proofs.lemmas.List.{take-append-drop}
@@ -70,10 +71,7 @@ complete-stopped given lines _ start counted s = absurd s
 -- ---- prefixes
 
 begins-more : {text middle first : List ℕ} → Begins text middle → Begins middle first → Begins text first
-begins-more {first = first} a b = record {
-  rest = b.rest ++ a.rest;
-  same = a.same ∙ ap (λ t. t ++ a.rest) b.same ∙ append_assoc first b.rest a.rest;
-}
+begins-more {first = first} a b = grind (arith, common_steps, append_assoc)
 
 pub begins-itself : (text : List ℕ) → Begins text text
 begins-itself text = record { rest = []; same = sym (append-nil text) }

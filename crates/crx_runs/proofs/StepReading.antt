@@ -1,6 +1,7 @@
 -- What a reader of lines answers, by the lines that were read before.
-use Rattle.std.proofs.Common.{◌≡◌, ◌⊎◌, ⊎_elim, inl, ℕ, ◌+◌, true, List, [], ◌++◌, length, Option, Some, None}
-use Rattle.std.proofs.Common.{Result, Ok, Err, arith, refl, sym, ◌∙◌, ◌≢◌}
+use Rattle.std.proofs.lemmas.Grind.{common_steps}
+use Rattle.std.proofs.Common.{◌≡◌, ◌⊎◌, ⊎_elim, ℕ, ◌+◌, true, List, [], ◌++◌, length, Option, Some, None}
+use Rattle.std.proofs.Common.{Result, Ok, Err, arith, refl, ◌∙◌, ◌≢◌}
 use Rattle.std.{proofs.lemmas.List.Elements.{All-from_get_or}, specs.List.{Contains}}
 use Rattle.crx_lines.{proofs.ProgressLemmas.HasRead-next, specs.Progress.{AtAnswer, HasRead}}
 use Rattle.crx_lines.specs.Devices.{tally_after_line}
@@ -108,8 +109,5 @@ held-answers old new at_end tally (Err at) held some = held-long old new at_end 
 pub held-asked : {step : List ℕ → Type 0} {at_end : Type 0} {tally : Tally} {old new : ReaderState}
     (r : Result (Option Line) At) → step [] → old.phase ≡ Open → AnswersHeld line_shown line_number old r new
     → (r ≡ Ok None → ⊥) → HasAsked step at_end tally tally old new r
-held-asked {at_end = at_end} {tally = tally} {old = old} {new = new} r none opened held some = record {
-  going = inl opened;
-  at_open = λ _. ([], none, held-answers old new at_end tally r held some);
-  at_ended = λ ended. absurd (ended-not-open (sym ended ∙ opened));
-}
+held-asked {at_end = at_end} {tally = tally} {old = old} {new = new} r none opened held some =
+    grind (arith, common_steps, held-answers, ended-not-open)
