@@ -202,10 +202,6 @@ pub whole-read : (skip : Bool) (version program : List ℕ) (rest : List ReadLin
     ≡ ended_reading skip (reading_from compact_place skip [] 3 rest)
 whole-read skip version program rest e f = rw (two-read version program rest e f, whole_compact) refl
 
-ends-well : (skip : Bool) (items : List (Item ReadEpoch)) (number : ℕ) → header_has_ended items ≡ true → records_left items ≡ 0
-    → ended_reading skip (record { items = items; stop = AtLines number [] }) ≡ record { items = items; fault = None }
-ends-well skip items number e f = rw (closes-well items e f) refl
-
 -- where units are read, there is no warning
 pub units-silent : (items : List (Item ReadEpoch)) (units : List (FileUnit Epoch)) → rinex_items items ≡ as_items units
     → warnings_in items ≡ []
@@ -217,7 +213,7 @@ pub units-well : (skip : Bool) (items : List (Item ReadEpoch)) (number : ℕ) (u
     → result_of expanded_unit (ended_reading skip (record { items = items; stop = AtLines number [] }))
     ≡ written_well (rinex_text units)
 units-well skip items number units header left known =
-    grind (arith, common_steps, ends-well, result-well, printed-read, units-silent)
+    grind (arith, common_steps, closes-well, result-well, printed-read, units-silent)
 
 -- how compact text of some units is read
 record TextRead (skip : Bool) (units : List (FileUnit Epoch)) (text : List ℕ) : Type 0 where
@@ -234,7 +230,7 @@ text-read : (skip : Bool) (units : List (FileUnit Epoch)) (text : List ℕ) → 
 text-read skip units text file h =
     let r = all-read skip 3 units h.lines h.last (in-place units file.in_place) h.written in
     let none : records_left r.items ≡ 0 = r.like.left ∙ file.complete in
-    grind (arith, common_steps, whole-read, ends-well)
+    grind (arith, common_steps, whole-read, closes-well)
 
 pub any-text : ExpandsAnyText
 any-text text choices units file h =

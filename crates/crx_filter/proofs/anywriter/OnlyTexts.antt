@@ -1,6 +1,6 @@
 -- A text whose expansion ends with status 0 is compact text of a whole file.
 use Rattle.crx_filter.proofs
-use proofs.Words.{ℕ, ◌≡◌, Bool, true, List, [], ◌∷◌, append-nil, map, reverse, Option, None, arith}
+use proofs.Words.{ℕ, ◌≡◌, Bool, List, [], ◌∷◌, append-nil, map, reverse, Option, None, arith}
 use proofs.Words.{Ok, ap, sym, ◌∙◌, subst, ◌&&◌, common_steps}
 use proofs.Words.{lines_of, as_read, ReadLine, Content, Overlong, At}
 use proofs.Words.{by_bool, warnings_in}
@@ -29,14 +29,10 @@ record FirstBack (lines : List ReadLine) : Type 0 where
 abbrev is_version : List ℕ → Bool
 is_version line = bytes_eq (without_blanks (columns line 1 20)) CRINEX_VERSION && has_label CRINEX_VERSION_LABEL line
 
-second-back : (skip : Bool) (version : List ℕ) (lines : List ReadLine) → is_version version ≡ true
-    → WholeReading.fault (whole_compact skip (Content version ∷ lines)) ≡ None → FirstBack (Content version ∷ lines)
-second-back skip version lines h4 h5 = grind (arith, common_steps)
-
 two-back : (skip : Bool) (lines : List ReadLine) → WholeReading.fault (whole_compact skip lines) ≡ None → FirstBack lines
 two-back skip [] f = absurd (cc f)
 two-back skip (Overlong ∷ rest) f = absurd (cc f)
-two-back skip (Content version ∷ rest) f = by_bool (is_version version) (λ on. second-back skip version rest on f)
+two-back skip (Content version ∷ rest) f = by_bool (is_version version) (λ on. grind (arith, common_steps))
     (λ off. let never = rw (off, whole_compact) at f in absurd (cc never))
 
 -- ---- status 0

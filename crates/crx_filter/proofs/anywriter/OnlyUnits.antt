@@ -2,7 +2,7 @@
 use Rattle.crx_filter.proofs
 use proofs.Words.{ℕ, ◌≡◌, ◌+◌, false, List, [], ◌∷◌, ◌++◌, map, length, drop, take, Option, Some, arith}
 use proofs.Words.{None, refl, ap, sym, ◌∙◌, subst, common_steps}
-use proofs.Words.{ReadLine, Content, Epoch, Place, Done, FileUnit, HeaderLine, EventLine, EventRecord}
+use proofs.Words.{ReadLine, Content, Epoch, Place, Done, FileUnit, EventRecord}
 use proofs.Words.{Observation, Item, Accepted, ReadEpoch}
 use proofs.Words.{records_count_types, declaring_lines, types_in_force, raws_kept}
 use proofs.Words.{by_bool, compact_place, IsWholeEpoch}
@@ -38,12 +38,6 @@ pub record UnitBack (items : List (Item ReadEpoch)) (units : List (FileUnit Epoc
 
 module _ (items : List (Item ReadEpoch)) (units : List (FileUnit Epoch)) (before : Option WrittenEpoch)
     (s : Standing items units before) where
-  header-back : (line : List ℕ) → UnitBack items units before (HeaderLine line) (Content line ∷ [])
-  header-back line = grind (arith, common_steps)
-
-  event-back : (line : List ℕ) → UnitBack items units before (EventLine line) (Content line ∷ [])
-  event-back line = grind (arith, common_steps)
-
   count-same : records_count_types items ≡ records_count_types (as_items units)
   count-same = sym (count-read items) ∙ ap records_count_types s.known
 
@@ -101,10 +95,10 @@ module _ (items : List (Item ReadEpoch)) (units : List (FileUnit Epoch)) (before
 
   place-back : (lines : List ReadLine) → Back lines (compact_place items lines)
   place-back lines = of-unit (Back lines) tt (λ offset fault. tt) compact_beginning items lines
-      (λ line rest is open_header good. rw is (header-back line))
+      (λ line rest is open_header good. rw is (grind (arith, common_steps)))
       (λ line rest is ended some good. rw is (record-back line))
       (λ ended none. of-compact (Back lines) tt (λ offset fault. tt) (types_in_force items) (raws_kept items) lines
-      (λ line rest is event counted. rw is (event-back line)) (λ read count e. epoch-back read lines count e))
+      (λ line rest is event counted. rw is (grind (arith, common_steps))) (λ read count e. epoch-back read lines count e))
 
   pub unit-back : (lines : List ReadLine) (unit : FileUnit ReadEpoch) (count : ℕ)
       → compact_place items lines ≡ Done unit count → UnitBack items units before unit (take count lines)

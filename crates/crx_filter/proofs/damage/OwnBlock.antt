@@ -1,10 +1,10 @@
 -- The compact text of a standard file that is compacted here, damaged in one block: that is a stretch of it.
 use Rattle.crx_filter.proofs
-use proofs.Words.{common_steps, arith, ℕ, suc, ◌≡◌, ◌⊎◌, inl, inr, true, false, List, [], ◌∷◌, ◌++◌, map}
+use proofs.Words.{common_steps, arith, ℕ, suc, ◌≡◌, true, false, List, [], ◌∷◌, ◌++◌, map}
 use proofs.Words.{length, drop, take, Option}
 use proofs.Words.{refl, ap, sym, ◌∙◌, subst, append_assoc, append-nil, AllByRecursion, flat_map, list_all}
 use proofs.Words.{map-append}
-use proofs.Words.{drop-append_seam, and_parts, not-true, by_bool, Piece, InputLine, pieces_of, lines_of}
+use proofs.Words.{drop-append_seam, and_parts, not-true, by_bool, InputLine, pieces_of, lines_of}
 use proofs.Words.{lines_text}
 use proofs.Words.{Content, as_read, Epoch, IsWholeEpoch, printed_epoch, Observation, epoch_line, Choices}
 use proofs.Words.{is_date, expanded, Item, Accepted, records_left, types_in_force, marked_epochs}
@@ -14,7 +14,7 @@ use proofs.Words.{lines_of_epochs}
 use proofs.Words.{line_of, whole_of}
 use Rattle.crx_filter.specs.Damage.{may_replace, IsOwnDamaged, IsOwnSalvaged, IsOfCompaction}
 use Rattle.crx_filter.specs.OwnStretches.{OwnStretch, may_come_instead, HasOwnStretches, IsReadWhole}
-use Rattle.crx_filter.specs.OwnStretches.{read_of_file, own_text}
+use Rattle.crx_filter.specs.OwnStretches.{read_of_file}
 use Rattle.crx_filter.specs.meaning.{Damage.{is_inside, epochs_among, IsDamaged}}
 use Rattle.crx_filter.specs.meaning.{UnitsAndText.as_items}
 use Rattle.std.proofs.lemmas.List.{take-append-drop}
@@ -87,11 +87,6 @@ inside-read (line ∷ lines) e =
 may-come : (lines : List InputLine) → list_all may_replace lines ≡ true → list_all may_come_instead lines ≡ true
 may-come = all-weaker may_replace may_come_instead (λ line e. grind (arith, common_steps, and_parts, not-true, by_bool))
 
-first-allowed : (line : List ℕ) (lines : List InputLine) → IsClean line → is_event_line line ≡ false
-    → list_all may_come_instead lines ≡ true
-    → list_all may_come_instead (line_of (record { bytes = line; is_ended = true }) ∷ lines) ≡ true
-first-allowed line lines clean none e = grind (arith, common_steps, return-kept, line_of, by_bool)
-
 -- ---- a damaged text
 
 module _ (input : List ℕ) (choices : Choices) (damaged : List ℕ) (d : IsOwnDamaged input choices damaged) where
@@ -137,15 +132,6 @@ module _ (input : List ℕ) (choices : Choices) (damaged : List ℕ) (d : IsOwnD
   first-piece = rw (append-nil (full ++ 10 ∷ []), append_assoc full (10 ∷ []) d.instead)
       (pieces-first full d.instead first-clean.one_line)
 
-  ended : (d.after ≡ []) ⊎ (list_all (λ (piece : Piece). piece.is_ended) (pieces_of d.instead) ≡ true)
-      → ((d.after ≡ []) × (◌≡◌ {A = List OwnStretch} [] [])) ⊎ (list_all (λ (piece : Piece). piece.is_ended)
-      (pieces_of (lines_text (full ∷ []) ++ d.instead)) ≡ true)
-  ended (inl none) = inl (none, refl)
-  ended (inr all) = inr (rw first-piece all)
-
-  text-is : damaged ≡ lines_text (compact_lines choices d.before) ++ own_text choices d.before (stretch ∷ [])
-  text-is = d.text ∙ rw (d.parts, epochs-items d.before epochs, text-append) (simp (append_assoc, append-nil))
-
   abbrev own-stretches : HasOwnStretches input choices damaged
   own-stretches = record {
     file_good = read-whole;
@@ -157,13 +143,13 @@ module _ (input : List ℕ) (choices : Choices) (damaged : List ℕ) (d : IsOwnD
       record {
         between = (first-in_place.0).1;
         types = rw (← epochs-items d.before epochs) (epochs-left d.before epochs (first-in_place.0).1).1;
-        allowed = rw first-piece (first-allowed full (lines_of d.instead) first-clean no-event (may-come (lines_of d.instead) d.allowed));
+        allowed = rw first-piece (grind (arith, common_steps, return-kept, line_of, by_bool, first-clean, no-event, may-come (lines_of d.instead) d.allowed));
         anew = rw (← epochs-items d.before epochs) d.anew;
-        ended = ended d.ended;
+        ended = rw first-piece (grind (arith, common_steps, d.ended));
       },
       tt,
     );
-    text = text-is;
+    text = d.text ∙ rw (d.parts, epochs-items d.before epochs, text-append) (simp (append_assoc, append-nil));
   }
 
   -- its stretch is such a block as anybody's

@@ -11,7 +11,7 @@ use proofs.{reading.{ForwardCompact.compact-forward, Resuming.resumed}, wayback.
 use proofs.stretches.OpenReading.{IsOpen, open-continued, pending}
 use proofs.damage.GoingOn.{with_warnings, warned-between, warned-types}
 use Rattle.crx_compact.proofs.Words.{tail_left}
-use Rattle.crx_compact.specs.meaning.AnyWriter.{WrittenEpoch, AreEpochLines}
+use Rattle.crx_compact.specs.meaning.AnyWriter.{WrittenEpoch}
 use Rattle.crx_filter.specs.meaning.{Stretches.AreLinesOn, UnitsAndText.as_items}
 use Rattle.crx_filter.specs.meaning.WrittenStandard.{rinex_items}
 
@@ -21,9 +21,6 @@ abbrev pub BeginWithMark : List (List ℕ) → Type 0
 BeginWithMark [] = ⊥
 BeginWithMark (line ∷ others) = begins_epoch line ≡ true
 
-epoch-begins : (now : WrittenEpoch) (lines : List (List ℕ)) → AreEpochLines None now lines → BeginWithMark lines
-epoch-begins now lines h3 = grind (arith, common_steps)
-
 more-begin : (lines more : List (List ℕ)) → BeginWithMark lines → BeginWithMark (lines ++ more)
 more-begin [] more h = absurd h
 more-begin (line ∷ others) more h = h
@@ -31,7 +28,7 @@ more-begin (line ∷ others) more h = h
 pub units-begin : (block units : List (FileUnit Epoch)) (unit : FileUnit Epoch) (lines : List (List ℕ)) (now : Option WrittenEpoch)
     → AreInPlace (as_items (unit ∷ (units ++ block))) → header_has_ended (as_items block) ≡ true
     → records_left (as_items block) ≡ 0 → AreLinesOn block None (unit ∷ units) lines now → BeginWithMark lines
-units-begin block [] unit lines now h header left k = grind (arith, common_steps, and_parts, epoch-begins)
+units-begin block [] unit lines now h header left k = grind (arith, common_steps, and_parts)
 units-begin block (next ∷ units) unit lines now h header left k =
     rw k.4 (more-begin k.1 k.2 (units-begin block units next k.1 k.0 h.1 header left k.3))
 

@@ -82,10 +82,5 @@ stretches-cut choices before (s ∷ later) h good header =
     let block-header = header-append s.lost before header in
     let rest = stretches-cut choices next later h.1 good (header-append s.kept block block-header) in
     rw (kept-lines choices s.kept block here.in_place block-header) (ended-cut s.instead (lines_on choices.every s.kept block)
-    (own_text choices next later) (kept-clean choices s.kept block here) (none-kept (IsOwnStretch.ended h.0))
+    (own_text choices next later) (kept-clean choices s.kept block here) (grind (arith, common_steps, IsOwnStretch.ended h.0))
     ∙ rw (rest, append_assoc) refl)
-  where
-    none-kept : {X : Type 0} → ((s.kept ≡ []) × (later ≡ [])) ⊎ X → ((lines_on choices.every s.kept (up_to_own_end before s) ≡ [])
-        × (own_text choices (up_to_own_next before s) later ≡ [])) ⊎ X
-    none-kept (inl (e, f)) = inl (rw e refl, rw f refl)
-    none-kept (inr x) = inr x

@@ -1,9 +1,9 @@
 -- Lines that are written and cut again are these lines; and what is read of an input holds no LF and isn't
 -- too long.
 use Rattle.crx_filter.proofs.Words
-use Words.{common_steps, arith, ℕ, ◌≡◌, ◌≢◌, ◌≤◌, true, false, cond, ◌⊎◌, List, [], ◌∷◌, map, length, refl}
-use Words.{ap, append_assoc, ⊤, ◌==◌, AllByRecursion, All-head, All-tail, All-cons, All-nil, ltb-false}
-use Words.{eqb_tells, Piece, InputLine, pieces_of, onto_first, ends_with_return, without_return, line_of}
+use Words.{common_steps, arith, ℕ, ◌≡◌, ◌≤◌, true, false, List, [], ◌∷◌, map, length, refl}
+use Words.{ap, append_assoc, ⊤, AllByRecursion, All-head, All-tail, All-cons, All-nil, ltb-false}
+use Words.{eqb_tells, Piece, pieces_of, ends_with_return, without_return, line_of}
 use Words.{lines_of, HasNoFeed, ReadLine, Content, Overlong, as_read, LINE_LIMIT, lines_text}
 use Rattle.{crx_lines.proofs.PieceLemmas.{pieces-first, NoFeed}, std.proofs.lemmas.Bool.le-ltb}
 
@@ -18,12 +18,9 @@ return-kept [] e = refl
 return-kept (b ∷ []) e = rw e refl
 return-kept (b ∷ c ∷ bs) e = ap (λ l. b ∷ l) (return-kept (c ∷ bs) e)
 
-as-read-short : (l : InputLine) → length l.content ≤ LINE_LIMIT → as_read l ≡ Content l.content
-as-read-short l h = rw (le-ltb LINE_LIMIT (length l.content) h) refl
-
 pub as-read-clean : (line : List ℕ)
     → IsClean line → as_read (line_of (record { bytes = line; is_ended = true })) ≡ Content line
-as-read-clean line h = grind (arith, common_steps, return-kept, as-read-short, line_of)
+as-read-clean line h = grind (arith, common_steps, return-kept, le-ltb, line_of)
 
 -- the first of some lines, cut off their text
 pub first-cut : (line : List ℕ) (lines : List (List ℕ)) → HasNoFeed line → pieces_of
@@ -49,14 +46,9 @@ OfContent P Overlong = ⊤
 abbrev FeedsNone : Piece → Type 0
 FeedsNone p = HasNoFeed p.bytes
 
-by-byte : (b : ℕ) (ps : List Piece) → AllByRecursion FeedsNone ps
-    → ((b == 10) ≡ true) × (b ≡ 10) ⊎ ((b == 10) ≡ false) × (b ≢ 10) → AllByRecursion FeedsNone
-    (cond (b == 10) (record { bytes = []; is_ended = true } ∷ ps) (onto_first b ps))
-by-byte b ps h v1 = grind (arith, All-nil)
-
 pieces-no_feed : (input : List ℕ) → AllByRecursion FeedsNone (pieces_of input)
 pieces-no_feed [] = tt
-pieces-no_feed (b ∷ bs) = by-byte b (pieces_of bs) (pieces-no_feed bs) (eqb_tells b 10)
+pieces-no_feed (b ∷ bs) = grind (arith, common_steps, All-nil, pieces-no_feed bs, eqb_tells b 10)
 
 no_feed-without_return : (bytes : List ℕ) → HasNoFeed bytes → HasNoFeed (without_return bytes)
 no_feed-without_return [] h = h

@@ -59,15 +59,11 @@ place-fits before lines =
     (λ line rest is event counted good. (same.header ∙ ended, same.left ∙ none, event, counted))
     (λ read count e good. (same.header ∙ ended, same.left ∙ none, rw same.lines good)))
 
-good-before : (before : List (Item ReadEpoch)) (unit : FileUnit ReadEpoch)
-    → AreGoodEpochs (Accepted unit ∷ before) → AreGoodEpochs before
-good-before before v1 h = grind (arith)
-
 items-placed : (items : List (Item ReadEpoch)) → ItemsAreRead compact_place items → AreGoodEpochs items
     → AreInPlace (rinex_items items)
 items-placed [] h good = tt
-items-placed (Accepted unit ∷ before) h good =
-    grind (arith, items-placed before h.1 (good-before before unit good), place-fits, good-before)
+items-placed (Accepted (Observation read) ∷ before) h good = grind (arith, items-placed before h.1 good.1, place-fits)
+items-placed (Accepted unit ∷ before) h good = grind (arith, items-placed before h.1 good, place-fits)
 items-placed (Warned at ∷ before) h good = grind (arith, items-placed before h.1 good, read-as before)
 
 -- ---- what is copied is a line
