@@ -1,6 +1,6 @@
 //! The satellites of a history, in the order of the file: Hatanaka's Compact RINEX 3.0.
 
-ghost use Rattle.std.specs.Prelude.{List, ℕ, All, ◌≡◌, ◌≤◌, ◌<◌, ◌+◌, ◌*◌, ◌++◌, ◌∷◌, [], false, is_some, None, Some, length, take, map, slice_get, slice_index_or, swap, OnErr, IfOk, IfSome, IsOk};
+ghost use Rattle.std.specs.Prelude.{List, ℕ, All, ◌≡◌, ◌≤◌, ◌<◌, ◌+◌, ◌*◌, ◌++◌, ◌∷◌, ◌⊎◌, [], false, is_some, None, Some, length, take, map, slice_get, slice_index_or, swap, vec_capacity, vec_len, OnErr, IfOk, IfSome, IsOk};
 ghost use Rattle.std.specs.Bool.{OnTrue};
 ghost use Rattle.std.specs.List.{flat_map};
 ghost use Rattle.std.specs.Map.{lookup};
@@ -17,7 +17,7 @@ ghost use Rattle.crx_compact.specs.HeldRows.{IsAwaitedSatellite};
 ghost use Rattle.crx_compact.specs.Placing.{AnswersPlacing, AnswersRow, AsksRoom, HasAllowedCount, HasRoom, IsLineWritten, KeepsRest, MayWrite, SatelliteTail, padded, row_tail_of, satellite_of};
 ghost use Rattle.crx_compact.specs.Refusals.{mark_place};
 ghost use Rattle.crx_compact.specs.Tails.{RowTail};
-ghost use Rattle.indexmap.specs.IndexMap.{IsUnique};
+ghost use Rattle.indexmap.specs.IndexMap.{IsUnique, spare};
 
 use crate::satellite::SatelliteHistory;
 use crx_base::limits::{HEAD_WIDTH, NAME_WIDTH};
@@ -354,7 +354,9 @@ fn find_or_add(
     ensures found { IfOk result (λ found. IsFound name found map.old.entries map.new.entries) }
     ensures front { take (length order.old.items) order.new.items ≡ order.old.items }
     ensures unknown { OnErr result ((is_among key_of name map.old.entries ≡ false)
-        × (map.new.entries ≡ map.old.entries) × (order.new.items ≡ order.old.items)) }
+        × (map.new.entries ≡ map.old.entries) × (order.new.items ≡ order.old.items)
+        × ((spare map.old ≡ 0) ⊎ ((vec_capacity order.old < vec_len order.old + 1)
+        ⊎ (vec_capacity places.old < vec_len places.old + 1)))) }
 {
     let count = map.len();
     if let Some(found) = find(map, near, name) {

@@ -1,4 +1,4 @@
-use Rattle.crx_compact.proofs.Words.{err_from_is_err_and}
+use Rattle.crx_compact.proofs.Words.{err_from_is_err_and, inl, inr}
 use Rattle.std.proofs.Common.{rules, ap, sym, subst, ◌∙◌, ◌≡◌, ◌+◌, ◌∷◌, [], length}
 use Rattle.std.proofs.lemmas.List.{length-append}
 use Rattle.indexmap.proofs.CallerLemmas.{insert_entry-new}
@@ -31,13 +31,16 @@ returns-in-Ok-clause-order c =
     )
     (more-ordered c.args.order.now.items c.args.places.now.items (length es) c.requires.order)
 
+-- it wasn't there, nothing changed, and there was no room for one more
 pub returns-in_err-reserve-clause-unknown : goal.returns-in_err-reserve-clause-unknown
 returns-in_err-reserve-clause-unknown c =
-    search (rules, err_from_is_err_and, c.from_residual.ensures, not-found)
+    let p = err_from_is_err_and c.from_residual.result c.from_residual.ensures.1 in
+    rw p.1 (search (rules, not-found), search rules, search rules, inr (inl c.in_err-reserve.ensures.full))
 
 pub returns-in_err-reserve-2-clause-unknown : goal.returns-in_err-reserve-2-clause-unknown
 returns-in_err-reserve-2-clause-unknown c =
-    search (rules, err_from_is_err_and, c.from_residual-in_err-reserve-2.ensures, not-found)
+    let p = err_from_is_err_and c.from_residual-in_err-reserve-2.result c.from_residual-in_err-reserve-2.ensures.1 in
+    rw p.1 (search (rules, not-found), search rules, search rules, inr (inr c.in_err-reserve-2.ensures.full))
 
 pub returns-clause-unknown : goal.returns-clause-unknown
-returns-clause-unknown c = search (rules, not-found)
+returns-clause-unknown c = (search (rules, not-found), search rules, search rules, inl (search rules))
