@@ -12,7 +12,8 @@ use Rattle.crx_compact.specs.Placing.{HasCome, row_tail_named}
 
 -- ---- a blank row is none
 
-pub come-row : (rest before : List RowTail) (row : Row) → row_tail_named row.name rest ≡ row_tail_named row.name before
+pub come-row : (rest before : List RowTail) (row : Row) → row_tail_named row.name rest ≡ row_tail_named
+    row.name before
     → (row_tail_after (Some (row_or_blank row.name rest)) row ≡ row_tail_in before row)
     × (row_line_after (Some (row_or_blank row.name rest)) row ≡ row_line_in before row)
 come-row rest before row same = grind arith

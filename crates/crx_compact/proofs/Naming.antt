@@ -5,7 +5,8 @@ use Rattle.crx_compact.proofs.Words.{bytes_eq, sym, ◌∙◌, ap, arith, All-he
 use Rattle.crx_compact.proofs.Words.{All-tail, each_place, types_of_satellite, columns, BadSatellite}
 use Rattle.crx_compact.proofs.Words.{RepeatedSatellite, Count, Satellite, names_in}
 use Rattle.crx_compact.proofs.Words.{satellites_named, HasRoom, HaveTypesRoom, KeepsRooms}
-use Rattle.crx_compact.proofs.{EpochLines.{names_of, satellites-facts}, Results.{onto, onto-err, onto-more, onto-ok}, Words.AllByRecursion}
+use Rattle.crx_compact.proofs.{EpochLines.{names_of, satellites-facts}}
+use Rattle.crx_compact.proofs.{Results.{onto, onto-err, onto-more, onto-ok}, Words.AllByRecursion}
 use Rattle.std.specs.List.{list_any}
 use Rattle.crx_header.proofs.Apart.{other_way}
 use borrow.Author.Count.{below_more}
@@ -114,7 +115,8 @@ pub names-room : (types : List Count) (text : List ℕ) (count : ℕ) (named : L
 names-room types text count named before now is has kept = λ place cells within some.
     let name = columns text (42 + 3 * place) 3 in
     let facts = satellites-facts types [] (names_in text count) named is in
-    kept name cells (named-each (λ (s : Satellite). HasRoom s.name s.count before) types named place name _ cells
+    kept name cells (named-each (λ (s : Satellite). HasRoom s.name s.count before) types named place name _
+    cells
     facts.known (ap (drop place) facts.same ∙ next-name text count place name within refl) some has)
 
 -- the satellite at one place more has room

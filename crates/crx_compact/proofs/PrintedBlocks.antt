@@ -16,9 +16,11 @@ pub block-whole : (tail : Tail) (lines : List (List ℕ)) → lines ≡ lines_to
 block-whole tail lines is = grind (arith, take_all)
 
 -- the first line, in place of all lines
-pub head-printed : (count : ℕ) (tail : Tail) (line : List ℕ) (none block : PendingLines) → count ≡ 0 → none ≡ no_lines
+pub head-printed : (count : ℕ) (tail : Tail) (line : List ℕ) (none block : PendingLines) → count ≡ 0
+    → none ≡ no_lines
     → block.lines ≡ none.lines ++ line ∷ [] → HasTakenLine none block
-    → line ≡ printed_head (columns tail.text 1 HEAD_WIDTH) (shown_value tail.clock) → IsPrinted count tail block
+    → line ≡ printed_head (columns tail.text 1 HEAD_WIDTH) (shown_value tail.clock)
+    → IsPrinted count tail block
 head-printed count tail line none block zero emptied lines taken is = record {
   lines = lines ∙ (λ j. PendingLines.lines (emptied j) ++ is j ∷ []) ∙ ap (λ n. lines_to n tail) (sym zero);
   left = omega (arith, zero, taken.left, ap (λ (l : PendingLines). l.left) emptied);

@@ -15,7 +15,8 @@ use Rattle.crx_compact.specs.ReadingRooms.{AsksRoomToBegin, HaveCellsRoom}
 
 types-room : (before : Tail) (satellites : List Satellite) (rooms : List (List ℕ × ℕ))
     → HaveCellsRoom (rows_before before satellites) rooms → HaveTypesRoom satellites rooms
-types-room before satellites rooms h = subst (λ ss. HaveTypesRoom ss rooms) (satellites-again before.rows satellites)
+types-room before satellites rooms h = subst (λ ss. HaveTypesRoom ss rooms) (satellites-again before.rows
+    satellites)
     (All-map (λ (s : Satellite). HasRoom s.name s.count rooms) satellite_of (rows_before before satellites) h)
 
 cells-room : (before : Tail) (satellites : List Satellite) (rooms : List (List ℕ × ℕ))

@@ -1,5 +1,6 @@
 -- Rows one by one: what holds of each, and what is made of those up to an index.
-use Rattle.crx_compact.proofs.Words.{◌≡◌, ◌<◌, ◌+◌, ◌++◌, ◌∷◌, [], ℕ, zero, suc, List, Option, Some, All, length, same_Some}
+use Rattle.crx_compact.proofs.Words.{◌≡◌, ◌<◌, ◌+◌, ◌++◌, ◌∷◌, [], ℕ, zero, suc, List, Option, Some, All}
+use Rattle.crx_compact.proofs.Words.{length, same_Some}
 use Rattle.crx_compact.proofs.Words.{take, map, slice_get, refl, sym, ◌∙◌, subst, arith}
 use Rattle.crx_compact.proofs.Words.{map-append, slice_get_within}
 use Rattle.crx_compact.proofs.{Words.{printed_row, shown_row, RowTail}, Making.taken_more}

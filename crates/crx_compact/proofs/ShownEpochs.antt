@@ -6,7 +6,8 @@ use Rattle.crx_compact.proofs.Words.{length, Option, is_ok, take_all, BadEpoch, 
 use Rattle.crx_compact.proofs.Words.{false, slice_get_within, length-take-le, tail_of_history}
 use Rattle.crx_compact.proofs.Words.{has_satellite, satellite_of}
 use Rattle.crx_compact.proofs.Words.{epoch_count, RowTail, shown_epoch, IsAnnounced, OpenHistory}
-use Rattle.crx_compact.proofs.{Words.{is_some, begun, is_full_epoch, among-map, apart-map, new_at}, Making.taken_more}
+use Rattle.crx_compact.proofs.{Words.{is_some, begun, is_full_epoch, among-map, apart-map, new_at}}
+use Rattle.crx_compact.proofs.{Making.taken_more}
 use Rattle.std.proofs.lemmas.Option.{get_or_from_slice_get}
 use Rattle.std.specs.Prelude.{MatchResult}
 use Rattle.crx_rinex.specs.meaning.EpochLines.{ObservationHead}
@@ -43,9 +44,13 @@ row-shown history index row h there =
     let inside = slice_get_within rows index row there in
     let apart = apart-map (λ (s : Satellite). s.name) satellite_of rows in
     let all = take_all (length rows) rows (omega arith) in
-    let new = new_at (λ (r : RowTail). r.name) (length rows) rows index row (cc h.announced.apart) inside inside in
+    let new = new_at (λ (r : RowTail). r.name) (length rows) rows index row (cc h.announced.apart) inside
+    inside in
     record {
-      new = cc (among-map (λ (r : Row). r.name) shown_row row.name (take index rows), get_or_from_slice_get rows index row row there);
+      new = cc (
+        among-map (λ (r : Row). r.name) shown_row row.name (take index rows),
+        get_or_from_slice_get rows index row row there,
+      );
       wanted = grind (arith, differ, length-map, length-take-le);
       with = cc (taken_more rows index row there, map-append shown_row (take index rows) (row ∷ []));
     }

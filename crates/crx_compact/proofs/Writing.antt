@@ -62,9 +62,22 @@ written-next after rows row old new come placed place lines more line same writt
     record {
       text = text ∙ written.text;
       clock = clock ∙ written.clock;
-      rows_after = cc (left, written.rows_after, same, row_is.0, map-append (row_tail_in after.rows) rows (row ∷ []));
+      rows_after = cc (
+        left,
+        written.rows_after,
+        same,
+        row_is.0,
+        map-append (row_tail_in after.rows) rows
+            (row ∷ []),
+      );
       others = λ name absent. ap (row_tail_named name) put.kept.rest ∙ next name absent;
-      lines_made = cc (more_is, written.lines_made, row_is.1, map-append (row_line_in after.rows) rows (row ∷ []));
+      lines_made = cc (
+        more_is,
+        written.lines_made,
+        row_is.1,
+        map-append (row_line_in after.rows) rows
+            (row ∷ []),
+      );
       sound = All-push IsSoundRow rows row written.sound sound;
       apart = apart-push (λ (r : Row). r.name) rows row written.apart fresh;
     }

@@ -124,8 +124,8 @@ impl<D: Direction> LineEngine<D> {
         }
     }
 
-    /// Takes a line where no epoch is open as [`LineEngine::answer_line`] does, by its parts. An answer that took
-    /// its place within that one, or a place for the line, would be set to zero at every line.
+    /// Takes a line where no epoch is open as [`LineEngine::answer_line`] does, by its parts. An answer
+    /// that took its place within that one, or a place for the line, would be set to zero at every line.
     #[inline(never)]
     fn take_between(
         &mut self,

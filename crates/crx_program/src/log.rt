@@ -100,8 +100,8 @@ pub type FileBuffer<F> = BufWriter<LateWriter<UntilFailure<Uninterrupted<F>>>>;
 /// interruption.
 pub type TargetStream<F> = Logged<Std<BufWriter<UntilFailure<Uninterrupted<F>>>>>;
 
-/// A file that is written over a buffer, as a device that knows what was written to it, and the file's name. It
-/// hands on no interruption.
+/// A file that is written over a buffer, as a device that knows what was written to it, and the file's
+/// name. It hands on no interruption.
 pub type TargetFile<F> = Logged<Std<FileBuffer<F>>>;
 
 impl<S> Logged<S> {

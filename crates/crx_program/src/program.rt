@@ -36,10 +36,10 @@ pub struct Ended<F: Write + Drop> {
     pub target: Option<TargetFile<F>>,
 }
 
-/// Has the buffer of a device hand on what it still holds, and lets go of the device. No byte more is written:
-/// a run that ended since a message couldn't be written hasn't flushed what it wrote before. After a write
-/// that failed nothing is handed on. A run whose output wasn't handed on before has ended with status 1, so a
-/// failure says nothing more.
+/// Has the buffer of a device hand on what it still holds, and lets go of the device. No byte more is
+/// written: a run that ended since a message couldn't be written hasn't flushed what it wrote before. After
+/// a write that failed nothing is handed on. A run whose output wasn't handed on before has ended with
+/// status 1, so a failure says nothing more.
 pub(crate) fn close_buffer<W: Write + Drop>(device: Logged<Std<BufWriter<W>>>) -> Log
     ensures { result.bytes ≡ device.log.bytes }
 {
@@ -287,8 +287,8 @@ pub fn run<H: Files + Clock, R: Source, W: Sink, M: Sink>(
     run_with_files(&mut files, alloc, moment, words, input, output, messages).close()
 }
 
-/// Does the same at a moment that is given, opens files by this opener alone, and answers the devices of these
-/// too (see [`run`]). The default date is that of the moment, and empty where there is none.
+/// Does the same at a moment that is given, opens files by this opener alone, and answers the devices of
+/// these too (see [`run`]). The default date is that of the moment, and empty where there is none.
 pub fn run_with_files<H: Files, R: Source, W: Sink, M: Sink>(
     files: &mut Opener<'_, H>,
     alloc: Global,

@@ -1,7 +1,8 @@
 -- Texts that spell a number as printing does.
 use Rattle.std.proofs.Common.{◌≡◌, ℕ, ℤ, pos, neg_ℤ, zero, suc, ◌+◌, ◌-◌, ◌*◌, ◌/◌, ◌%◌, ◌<◌, ◌≤◌, ◌^◌}
 use Rattle.std.proofs.Common.{Bool, true, false, not, ◌&&◌, ◌||◌, eqb, List, [], ◌∷◌, ◌++◌, length, take, drop}
-use Rattle.std.proofs.Common.{get_or, replicate, Option, Some, None, refl, sym, ap, ◌∙◌, arith, subst, eqb-true}
+use Rattle.std.proofs.Common.{get_or, replicate, Option, Some, None, refl, sym, ap, ◌∙◌, arith, subst}
+use Rattle.std.proofs.Common.{eqb-true}
 use Rattle.std.proofs.lemmas.{Grind.common_steps, Fmt.{decimal-digits_value, decimal_digit}}
 use Rattle.std.specs.{Char.is_ascii_digit, Str.{all_ascii_digits, Parse.{digits_value, digits_value_after}}}
 use Rattle.std.proofs.lemmas.{Bool.{and_parts, eqb-false}, Option.{same_Some, none-some}}

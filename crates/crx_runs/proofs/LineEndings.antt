@@ -3,11 +3,14 @@ use Rattle.std.proofs.lemmas.Grind.{common_steps}
 use Rattle.std.proofs.Common.{◌≡◌, ◌⊎◌, inl, inr, ℕ, ◌<◌, List, [], ◌++◌, length, Option, Some, None, Bool}
 use Rattle.std.proofs.Common.{refl, sym, ap, ◌∙◌, arith, append_assoc, append-nil, length-append}
 use Rattle.crx_base.specs.declared.fault.{At.At, Fault.TheVariants.OutOfMemory}
-use Rattle.crx_runs.proofs.DeviceSpans.{Joins, Carries, all-all, all-resumed, carry-on, none-resumed, part-resumed}
-use Rattle.crx_runs.{proofs.DeviceSpans.notices-append, specs.Endings.{Adds, IsAllOut, EndsAt, EndsFrom, resumed}}
+use Rattle.crx_runs.proofs.DeviceSpans.{Joins, Carries, all-all, all-resumed, carry-on, none-resumed}
+use Rattle.crx_runs.proofs.DeviceSpans.{part-resumed}
+use Rattle.crx_runs.{proofs.DeviceSpans.notices-append}
+use Rattle.crx_runs.{specs.Endings.{Adds, IsAllOut, EndsAt, EndsFrom, resumed}}
 use Rattle.crx_runs.specs.{Engines.EndsWith, Taking.IsDone, declared.one_line.Halt.Halt}
 use Rattle.crx_runs.specs.declared.one_line.Halt.TheVariants.{Fault, Unwritten, Unreported}
-use Rattle.crx_runs.specs.meaning.{Messages.notices_text, Results.{Course, are_some}, Spans.{Device, TookAll, AreNext}}
+use Rattle.crx_runs.specs.meaning.{Messages.notices_text, Results.{Course, are_some}}
+use Rattle.crx_runs.specs.meaning.{Spans.{Device, TookAll, AreNext}}
 
 none-some : {A : Type 0} (x : A) → ◌≡◌ {A = Option A} None (Some x) → ⊥
 none-some x e = cc

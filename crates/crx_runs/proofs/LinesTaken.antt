@@ -7,13 +7,15 @@ use Rattle.crx_base.specs.{declared.fault.{At.At, Fault.TheVariants.OutOfMemory}
 use Rattle.crx_base.specs.meaning.Lines.{lines_text}
 use Rattle.crx_runs.proofs.{DeviceSpans.Joins, LineEndings.{all-next, answer-ends, step-done, step-ends}}
 use Rattle.crx_runs.specs.Endings.{Adds, EndEndsRun, EndsAt, IsAllOut, LineEndsRun, WarnsAtEnd}
-use Rattle.crx_runs.specs.Engines.{Awaited, awaited_notices, EngineAnswers, IsDrainedAfter, EndsWith, Concludes}
+use Rattle.crx_runs.specs.Engines.{Awaited, awaited_notices, EngineAnswers, IsDrainedAfter, EndsWith}
+use Rattle.crx_runs.specs.Engines.{Concludes}
 use Rattle.crx_runs.specs.Engines.{GoesOn, RunsOutAt, Stays, answer_given}
 use Rattle.crx_runs.specs.Taking.{IsDone, IsSettled, made_by, step_notices}
 use Rattle.crx_runs.specs.declared.engine.HandedOut.{HandedOut, TheVariants.{Nothing, Lines, AsItIs}}
 use Rattle.crx_runs.specs.declared.{engine.Step.{Step, TheVariants.{Quiet, Ready, Warned}}, one_line.Halt.Halt}
 use Rattle.crx_runs.specs.declared.one_line.Halt.TheVariants.{Fault, Unwritten}
-use Rattle.crx_runs.specs.meaning.{Filters.{Filter, with_next}, Messages.notices_text, Results.{Course, are_some}}
+use Rattle.crx_runs.specs.meaning.{Filters.{Filter, with_next}, Messages.notices_text}
+use Rattle.crx_runs.specs.meaning.{Results.{Course, are_some}}
 use Rattle.crx_runs.specs.meaning.Spans.{Device, TookAll, TookPart, AreNext, IsPart}
 
 -- a course that goes on by some lines adds their text

@@ -54,8 +54,8 @@ fn await_output<R: Source, W: Sink>(reader: &R, writer: &mut W)
 }
 
 /// Has what was written handed on, where a read may have to wait, and answers whether that went well. Where
-/// it didn't, a flush fails too, by which the failure is counted. For an answer that can hold a fault [`step`]
-/// would clear a place at each line.
+/// it didn't, a flush fails too, by which the failure is counted. For an answer that can hold a fault
+/// [`step`] would clear a place at each line.
 #[inline(never)]
 fn hand_on<R: Source, W: Sink>(reader: &R, writer: &mut W) -> bool
     ensures still { result ≡ true → TookAll (span W.Sink writer.old writer.new) [] }

@@ -30,7 +30,16 @@ pub record KeepsPromises (holds : FilterResult → Type 0) (choices : Choices) (
 pub keeps-promises : (holds : FilterResult → Type 0) (choices : Choices) (text : List ℕ)
     → holds (expanded text choices) → KeepsPromises holds choices text
 keeps-promises holds choices text whole =
-    search (rules, brings-back_passed, brings-back, all-saved, rest-kept, first-units, expansion-keeps, reads-any)
+    search (
+      rules,
+      brings-back_passed,
+      brings-back,
+      all-saved,
+      rest-kept,
+      first-units,
+      expansion-keeps,
+      reads-any,
+    )
 
 pub task-keeps : (task : Task) (holds : FilterResult → Type 0) (input : List ℕ)
     → holds ((run_for task).result input) → TaskKeeps task holds input

@@ -1,6 +1,7 @@
 -- What became of a run by some bytes, of which it may have as many as an input may have.
 use Rattle.std.proofs.lemmas.{Grind.common_steps, List.take-take}
-use Rattle.rnxcmp_c.proofs.Words.{◌≡◌, ◌∙◌, ℕ, ◌-◌, ◌<◌, ◌≤◌, ap, false, List, length, take, Option, None, is_some, arith}
+use Rattle.rnxcmp_c.proofs.Words.{◌≡◌, ◌∙◌, ℕ, ◌-◌, ◌<◌, ◌≤◌, ap, false, List, length, take, Option, None}
+use Rattle.rnxcmp_c.proofs.Words.{is_some, arith}
 use Rattle.rnxcmp_c.proofs.Words.{length-take, INPUT_LIMIT, Outcome, FeedsBy, FeedsBytes, HasFed, ReaderRuns}
 use Rattle.rnxcmp_c.proofs.Words.{StandsBy, answer_now, HandlePast, fed_with, Task, StopsSoon}
 use Rattle.rnxcmp_c.proofs.Words.{filter_for, Answer, Reader}
@@ -19,7 +20,17 @@ module _ (task : Task) (old new : Reader) (past : HandlePast) (bytes allowed : L
       let most : ℕ = INPUT_LIMIT - length past.fed in
       let same : allowed ≡ take most bytes = first ∙ ap (λ n. take (INPUT_LIMIT - n) bytes) runs.counted in
       let few : used ≤ most = omega (arith, count.within, ap length same, length-take most bytes) in
-      grind (arith, common_steps, take-take used most bytes few, same, fed, soon, count.some, count.all, count.still)
+      grind (
+        arith,
+        common_steps,
+        take-take used most bytes few,
+        same,
+        fed,
+        soon,
+        count.some,
+        count.all,
+        count.still,
+      )
 
   -- there are some, and an input may have none of them
   pub passed-bytes : 0 < length bytes → length allowed ≡ 0 → used ≡ 0 → ReaderHasPassed task new past

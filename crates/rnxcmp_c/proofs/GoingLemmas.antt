@@ -78,7 +78,8 @@ flag-grows : (before after : Course) (shown : Type 0) (old new : HandleState)
     → new.warned ≡ are_some after.warnings
 flag-grows before after shown old new flag moved = grind arith
 
-text-ends : (before after : Course) (old new : HandleState) (past : HandlePast) (at : At) → IsText before old past
+text-ends : (before after : Course) (old new : HandleState) (past : HandlePast) (at : At)
+    → IsText before old past
     → EndsThere before after old.output new.output old.messages new.messages at → IsText after new past
 text-ends before after old new past at text ends = grind (arith, common_steps, append_assoc, notices-both)
 
@@ -104,7 +105,8 @@ pub adds-kept : (course : Course) (old new : HandleState) (past : HandlePast)
     → IsKeptWithin new past
 adds-kept course old new past wrote left adds limited = grind (arith, common_steps)
 
-module _ {filter : Filter} {shows : List InputLine → List Awaited → Type 0} {held : HandleState} {past : HandlePast}
+module _ {filter : Filter} {shows : List InputLine → List Awaited → Type 0} {held : HandleState} {past :
+    HandlePast}
     (is : IsGoing filter shows held past) (piece : Piece) (bytes : List ℕ)
     (added : piece.bytes.items ≡ take LINE_ROOM (held.tail.bytes.items ++ bytes)) (none : HasNoFeed bytes)
   where
@@ -231,7 +233,8 @@ module _ {filter : Filter} {shows : List InputLine → List Awaited → Type 0} 
         grind (arith, common_steps, line-after, text-fed, text-kept, mid-text)
 
 -- what ended a run in bytes that came after some ended it in those that came after fewer
-pub breaks-after : (filter : Filter) (before then : List ℕ) (held : HandleState) (past : HandlePast) (stop : Stop)
+pub breaks-after : (filter : Filter) (before then : List ℕ) (held : HandleState) (past : HandlePast)
+    (stop : Stop)
     → length (ended_lines_of before) ≤ length (ended_lines_of then) → RunBreaks then filter held past stop
     → RunBreaks before filter held past stop
 breaks-after = grind arith
@@ -239,7 +242,8 @@ breaks-after = grind arith
 -- ---- the end
 
 -- what is held once some lines were taken
-pub record IsHeldAfter (filter : Filter) (held : HandleState) (past : HandlePast) (lines : List InputLine) : Type
+pub record IsHeldAfter (filter : Filter) (held : HandleState) (past : HandlePast) (lines : List InputLine) :
+    Type
     0 where
   pub text : IsText (filter.so_far lines) held past
   pub sound : (filter.so_far lines).fault ≡ None

@@ -8,10 +8,12 @@ use Rattle.rnxcmp_c.proofs.Words.{InputTooLong, OutOfMemory, IsLawful, Filter, w
 use Rattle.rnxcmp_c.proofs.Words.{Course, check-lawful, compaction-lawful, expansion-lawful}
 use Rattle.rnxcmp_c.proofs.Words.{Outcome, IsMemoryLacking, waiting, IsAll, IsCutBy, IsText}
 use Rattle.rnxcmp_c.proofs.Words.{RunBreaks, RunFails, Stop, Fault, Limit, notices_text, result_of_course}
-use Rattle.rnxcmp_c.proofs.Words.{ReaderRuns, FilterResult, BothTexts, Answer, RunHasEnded, StopsAtLimit, StopsWhenFull, sym}
+use Rattle.rnxcmp_c.proofs.Words.{ReaderRuns, FilterResult, BothTexts, Answer, RunHasEnded, StopsAtLimit}
+use Rattle.rnxcmp_c.proofs.Words.{StopsWhenFull, sym}
 use Rattle.rnxcmp_c.proofs.Words.{engine_filter, has_ended_of, run_for}
 use Rattle.rnxcmp_c.proofs.Words.{KeepsToLimit, HandlePast, limit_for, result_for, Task, Compact}
-use Rattle.rnxcmp_c.proofs.Words.{Expand, Check, filter_for, memory_next, with_one_more, AnyEngine, HandleState}
+use Rattle.rnxcmp_c.proofs.Words.{Expand, Check, filter_for, memory_next, with_one_more, AnyEngine}
+use Rattle.rnxcmp_c.proofs.Words.{HandleState}
 use Rattle.rnxcmp_c.proofs.Words.{Reader, line_reached, ended_lines_of, OUTPUT_LIMIT}
 use Rattle.rnxcmp_c.specs.{Going.{LineFails, Breaks}, Handles.{EndsAs, EndsWithin, IsOf, IsPut, EndsRunBy}}
 use Rattle.rnxcmp_c.specs.Handles.{IsOverAtEnd, IsOverByBytes, RanOut, status_at_end}
@@ -200,7 +202,8 @@ module _ (task : Task) (engine : AnyEngine) (is : IsOf task engine) (held mid : 
       (rw (filter-is task engine is) at fails.0)
   stops-at_end Limit fails stopped =
       let passes = rw (filter-is task engine is) at fails in
-      let stops = is-over_limit task held mid outcome past stopped past.fed passes.lines passes.others passes.first
+      let stops = is-over_limit task held mid outcome past stopped past.fed passes.lines passes.others
+      passes.first
       (rw limit at passes.limited) (omega (arith, passes.within, limit)) (omega (arith, passes.over, limit))
       passes.good passes.text in (ended-as _ _ _ _ _ stops.0 (λ result is. inr (inl is)), stops.1)
 

@@ -1,7 +1,8 @@
 -- What was taken from a handle was kept before, and its run's state doesn't change by that.
 use Rattle.std.proofs.{lemmas.Grind.common_steps, Common.arith}
 use Rattle.rnxcmp_c.proofs.Words.{◌≡◌, inl, inr, ℕ, List, ◌++◌, Option, Some, None, sym}
-use Rattle.rnxcmp_c.proofs.Words.{append_assoc, FilterResult, KeepsToLimit, Outcome, StandsBy, limit_for, subst}
+use Rattle.rnxcmp_c.proofs.Words.{append_assoc, FilterResult, KeepsToLimit, Outcome, StandsBy, limit_for}
+use Rattle.rnxcmp_c.proofs.Words.{subst}
 use Rattle.rnxcmp_c.proofs.Words.{HandlePast, Task, taken_with}
 use Rattle.rnxcmp_c.proofs.Words.{waiting, Pending, Reader}
 use Rattle.rnxcmp_c.specs.Handles.{EndsAs, IsOver}
@@ -32,7 +33,8 @@ module _ (task : Task) (old : Reader) (past : HandlePast) (output messages : Pen
     ends = grind (arith, common_steps, ended.ends, same-output, same-messages);
   }
 
-  still-over : (result : FilterResult) → IsOver task past.fed old.held result → IsOver task past.fed new.held result
+  still-over : (result : FilterResult) → IsOver task past.fed old.held result
+      → IsOver task past.fed new.held result
   still-over result (inl whole) = inl whole
   still-over result (inr (inl (inl limit))) = inr (inl (inl limit))
   still-over result (inr (inl (inr ran))) =

@@ -1,9 +1,13 @@
 -- The lines that are read as an epoch are ones that some writer may write for it.
-use Rattle.crx_compact.proofs.Words.{◌≡◌, refl, ℕ, zero, suc, List, [], ◌∷◌, ◌++◌, Bool, true, false, Option, Some, None, map, length, arith, ap, sym, ◌∙◌, ◌*◌, ◌+◌, ◌-◌, ◌≤◌, inl, inr, subst}
+use Rattle.crx_compact.proofs.Words.{◌≡◌, refl, ℕ, zero, suc, List, [], ◌∷◌, ◌++◌, Bool, true, false, Option}
+use Rattle.crx_compact.proofs.Words.{Some, None, map, length, arith, ap, sym, ◌∙◌, ◌*◌, ◌+◌, ◌-◌, ◌≤◌, inl}
+use Rattle.crx_compact.proofs.Words.{inr, subst}
 use Rattle.crx_compact.proofs.Words.{AllByRecursion, option_map, flat_map, if◌then◌else◌, cases_lt, length-append, same_Some, each_place, named}
 use Rattle.crx_compact.proofs.Words.{Done, rules, by_position}
 use Rattle.crx_compact.proofs.Words.{Count, Row, ReadRow, Satellite, IsWholeEpoch, types_of_satellite}
-use Rattle.crx_compact.proofs.Words.{past_of_tail, tail_for_line, tail_left, begins_epoch, epoch_text, columns, at-append, at-append_past, at-drop, without_end_blanks, patched, CLOCK_WIDTH, length-columns}
+use Rattle.crx_compact.proofs.Words.{past_of_tail, tail_for_line, tail_left, begins_epoch, epoch_text}
+use Rattle.crx_compact.proofs.Words.{columns, at-append, at-append_past, at-drop, without_end_blanks, patched}
+use Rattle.crx_compact.proofs.Words.{CLOCK_WIDTH, length-columns}
 use Rattle.crx_compact.proofs.PlaceByPlace.{at-take, at-padded}
 use Rattle.crx_compact.proofs.Words.{each_place-same, character_of}
 use Rattle.crx_compact.proofs.{SoundTexts.{patched-trimmed, trimmed-again}, EpochLines.{names_of}}

@@ -1,6 +1,7 @@
 -- Each line that is read is one that some writer may write.
 use Rattle.crx_compact.proofs.Words.{◌≡◌, refl, ℕ, ℤ, zero, suc, List, [], ◌∷◌, ◌++◌, Option, Some, None, Ok, map, length, min, arith, ap, sym, ◌∙◌, ◌*◌, ◌+◌, ◌≤◌, inl, inr, drop}
-use Rattle.crx_compact.proofs.Words.{list_all, ReadCell, cells_of, after_cells, first_cell, after_cell, is_blank}
+use Rattle.crx_compact.proofs.Words.{list_all, ReadCell, cells_of, after_cells, first_cell, after_cell}
+use Rattle.crx_compact.proofs.Words.{is_blank}
 use Rattle.crx_compact.proofs.Words.{Code, Missing, Start, Step, code_of, difference, value_of_code}
 use Rattle.crx_compact.proofs.Words.{without_end_blanks, before_end_blanks, length-map, rules, replicate}
 use Rattle.crx_compact.proofs.arcs.Inversion.{numbers_of}

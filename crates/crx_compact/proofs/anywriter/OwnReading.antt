@@ -1,6 +1,8 @@
 -- What was written here is read back, since any writer may write it.
-use Rattle.crx_compact.proofs.Words.{◌≡◌, refl, ℤ, List, [], ◌∷◌, Bool, true, false, Option, Some, None, map, arith, ap, sym, ◌∙◌}
-use Rattle.crx_compact.proofs.Words.{append_assoc, length-map, map-append, drop-append_seam, subst, IsWholeEpoch}
+use Rattle.crx_compact.proofs.Words.{◌≡◌, refl, ℤ, List, [], ◌∷◌, Bool, true, false, Option, Some, None, map}
+use Rattle.crx_compact.proofs.Words.{arith, ap, sym, ◌∙◌}
+use Rattle.crx_compact.proofs.Words.{append_assoc, length-map, map-append, drop-append_seam, subst}
+use Rattle.crx_compact.proofs.Words.{IsWholeEpoch}
 use Rattle.crx_compact.proofs.Words.{Count, Row, Epoch, Marked, AreWhole, since_full, run_of, satellite_line, epoch_line, compact_epoch}
 use Rattle.crx_compact.proofs.Words.{map-each_place, map-map, WRITTEN_ORDER, epoch_text, without_end_blanks}
 use Rattle.crx_compact.proofs.Words.{ReadEpoch, Tail, tail_left, common_steps}

@@ -1,5 +1,6 @@
 -- A satellite's line, whoever wrote it, reads as its row.
-use Rattle.crx_compact.proofs.Words.{◌≡◌, refl, ℕ, ℤ, suc, List, [], ◌∷◌, true, false, Option, Some, None, Result, Ok, map, length, arith, ap, sym, ◌∙◌, ◌*◌, ◌+◌, drop}
+use Rattle.crx_compact.proofs.Words.{◌≡◌, refl, ℕ, ℤ, suc, List, [], ◌∷◌, true, false, Option, Some, None}
+use Rattle.crx_compact.proofs.Words.{Result, Ok, map, length, arith, ap, sym, ◌∙◌, ◌*◌, ◌+◌, drop}
 use Rattle.crx_compact.proofs.Words.{list_all, length-map, slice_index_or, option_map, rules, common_steps}
 use Rattle.crx_compact.proofs.Words.{Code, Missing, Fault, code_of, cells_of, after_cells, cells_read, ReadCell, IsValue, OBSERVATION_WIDTH}
 use Rattle.crx_compact.proofs.Words.{without_end_blanks, patched, character_of, by_position, at, at-without_end_blanks, at-drop, list_all-from_at, is_blank, is_kept, is_printable}

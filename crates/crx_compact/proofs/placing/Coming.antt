@@ -5,7 +5,8 @@ use Rattle.crx_compact.proofs.placing.Ranges.{among-up_to, found-in_range, named
 use Rattle.crx_compact.proofs.Words.{sym, ◌∙◌, arith, bytes_eq, map-append, take-take, is_among, RowTail}
 use Rattle.crx_compact.proofs.placing.Ranges.{rest-one_more}
 use Rattle.std.specs.{List.IsDistinct, Map.keys_of}
-use Rattle.std.proofs.{lemmas.Bool.or_parts, lemmas.Grind.common_steps, lemmas.List.{take-append-drop, Folds.list_any-append}}
+use Rattle.std.proofs.{lemmas.Bool.or_parts, lemmas.Grind.common_steps}
+use Rattle.std.proofs.{lemmas.List.{take-append-drop, Folds.list_any-append}}
 use Rattle.crx_header.proofs.Apart.{among-map, other_way}
 use Rattle.crx_compact.specs.meaning.Sequences.{named}
 use Rattle.crx_compact.specs.Entries.{Entry, IsAt, IsPutNext, key_of, placed_rows}

@@ -26,9 +26,12 @@ changed-is (e ∷ es) (suc i) name before after there = cc (changed-is es i name
 changed-is es i name before after there = grind (arith, same_Some)
 
 -- where it shows the same, all do
-pub shown-same : {X : Type 0} (f : Entry → X) (es : List Entry) (i : ℕ) (name : List ℕ) (before after : SatelliteTail)
-    → slice_get es i ≡ Some (name, before) → f (name, after) ≡ f (name, before) → map f (set_value_at es i after) ≡ map f es
-shown-same f (e ∷ es) (suc i) name before after there same = cc (shown-same f es i name before after there same)
+pub shown-same : {X : Type 0} (f : Entry → X) (es : List Entry) (i : ℕ) (name : List ℕ) (before after :
+    SatelliteTail)
+    → slice_get es i ≡ Some (name, before) → f (name, after) ≡ f (name, before)
+    → map f (set_value_at es i after) ≡ map f es
+shown-same f (e ∷ es) (suc i) name before after there same = cc (shown-same f es i name before after there
+    same)
 shown-same f es i name before after there same = grind (arith, same_Some)
 
 -- ---- the room of the satellites
@@ -63,8 +66,16 @@ module _ {S : Type 0} (m : IndexMap (List ℕ) SatelliteTail S) (i : ℕ) (name 
       let own = hash_map_get_place bytes_eq-equiv m i name before unique there in
       rooms-kept _ _ (λ other satellite known.
       let same = (bytes_eq-Decides name other).0 in
-      let found = updates.0 other in
-      (cond (bytes_eq name other) after satellite, grind (arith, common_steps), grind (arith, common_steps, same, same_Some)))
+      let found = updates.0 other in (
+        cond (bytes_eq name other) after satellite,
+        grind (arith, common_steps),
+        grind (
+          arith,
+          common_steps,
+          same,
+          same_Some,
+        ),
+      ))
 
   pub has-room : (count : ℕ) → count ≤ after.room
       → HasRoom name count (rooms_of (set_value_at m.entries i after))

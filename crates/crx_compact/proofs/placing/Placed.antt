@@ -115,7 +115,8 @@ module _ {S : Type 0} (m : IndexMap (List ℕ) SatelliteTail S) (unique : IsUniq
         let long = length-set_value_at m.entries index after in
         let below : place < length (in_order order m.entries) =
         omega (arith, stands, is.counted, length-map order (entry_at m.entries)) in
-        come roomy (rooms-same m.entries index name at.satellite after at.there (cc empty)) (come-anew name placed live place (in_order order m.entries) m.entries es here apart (in_order moved es)
+        come roomy (rooms-same m.entries index name at.satellite after at.there (cc empty)) (come-anew name
+        placed live place (in_order order m.entries) m.entries es here apart (in_order moved es)
         (in_order next es) few beyond (ap (λ o. slice_get o live) moved-is ∙ revived-there live place _ blank beyond below
         ∙ ap (λ (s : SatelliteTail). Some (name, s)) empty)
         (ap (take live) moved-is ∙ revived-front live place _ blank beyond below)

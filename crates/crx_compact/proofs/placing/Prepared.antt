@@ -1,6 +1,7 @@
 -- A satellite gets more room, and no row changes.
 use Rattle.crx_compact.proofs.Words.{take-take, length-take-le, slice_index_or}
-use Rattle.std.proofs.Common.{◌≡◌, ℕ, suc, ◌<◌, ◌≤◌, List, [], ◌∷◌, length, map, take, drop, slice_get, Some, ap}
+use Rattle.std.proofs.Common.{◌≡◌, ℕ, suc, ◌<◌, ◌≤◌, List, [], ◌∷◌, length, map, take, drop, slice_get, Some}
+use Rattle.std.proofs.Common.{ap}
 use Rattle.std.proofs.{Common.{◌∙◌, arith, refl, sym, get_or}, Math.ListN.get_or-map}
 use Rattle.std.proofs.{lemmas.List.{drop-map, get_or-take, length-take, take-map}}
 use Rattle.std.proofs.lemmas.Grind.{common_steps}

@@ -40,7 +40,8 @@ rooms-kept old new h name count has =
     room-from_look_up name count new after.0 after.1 (omega (arith, known.2, after.2))
 
 -- a look-up finds those that are among them
-pub look_up-among : (name : List ℕ) (es : List Entry) → is_some (lookup (bytes_eq name) es) ≡ is_among key_of name es
+pub look_up-among : (name : List ℕ) (es : List Entry) → is_some (lookup (bytes_eq name) es) ≡ is_among key_of
+    name es
 look_up-among name [] = refl
 look_up-among name (e ∷ es) = grind (arith, common_steps, cases_Bool, other_way, look_up-among name es)
 

@@ -112,8 +112,11 @@ has-last (x ∷ (y ∷ ys)) some =
 pub each_place-below : {X : Type 0} (n : ℕ) (f g : ℕ → X) → ((k : ℕ) → k < n → f k ≡ g k)
     → each_place n f ≡ each_place n g
 each_place-below zero f g h = refl
-each_place-below (suc n) f g h = cc
-    (h 0 (omega arith), each_place-below n (λ i. f (suc i)) (λ i. g (suc i)) (λ k within. h (suc k) (omega (arith, within))))
+each_place-below (suc n) f g h = cc (
+  h 0 (omega arith),
+  each_place-below n (λ i. f (suc i)) (λ i. g (suc i)) (λ k within. h (suc k) (omega
+      (arith, within))),
+)
 
 cell-there : (n k : ℕ) (cells : List (Option ArcTail)) → k < n
     → slice_index_or (cells_for n cells) k None ≡ slice_index_or cells k None

@@ -13,7 +13,8 @@ use Rattle.crx_compact.specs.{OpenEpochs.Faulty, ReadBlocks.{HasReadTo, IsReadin
 -- ---- a fault
 
 refused : (types : List Count) (older : List RawEpoch) (lines : List ReadLine) (offset : ℕ) (fault : Fault)
-    → placed_as (held_after (tail_left older)) (epoch_after types (tail_left older) lines) ≡ Fails offset fault
+    → placed_as (held_after (tail_left older)) (epoch_after types (tail_left older) lines) ≡ Fails offset
+    fault
     → epoch_at types older lines ≡ Fails offset fault
 refused types older lines offset fault e = grind (arith, place-by_tail)
 
@@ -36,7 +37,8 @@ pub begun-refused : (result : Result (Unit {0}) Fault) (types : List Count)
 begun-refused (Ok u) types older tail line e h = h
 begun-refused (Err fault) types older tail line e (inr h) = inr h
 begun-refused (Err fault) types older tail line e (inl h) =
-    let lines = Content line ∷ [] in inl (refused types older lines 0 fault (cc (steps-agree types tail lines)))
+    let lines = Content line ∷ [] in inl (refused types older lines 0 fault (cc (steps-agree types tail
+    lines)))
 
 -- ---- the lines after it
 

@@ -11,7 +11,8 @@ use Rattle.crx_compact.proofs.Words.{BegunEpoch, whole_epoch, tail_opened, take_
 use Rattle.crx_compact.proofs.Words.{HeldEpoch, with_rows, next_step, placed_as, satellite_line_read}
 use Rattle.crx_compact.proofs.Words.{epoch_of_rows, whole_or_awaiting, raw_step_with_row, past_of_tail}
 use Rattle.crx_compact.proofs.Words.{before_clock, place_of_step, append_assoc, length-append}
-use Rattle.crx_compact.proofs.{placing.Found.at-seam, ShownRows.set-next, soundness.Soundness.{Paired, RowFacts, rows-facts}}
+use Rattle.crx_compact.proofs.{placing.Found.at-seam, ShownRows.set-next}
+use Rattle.crx_compact.proofs.{soundness.Soundness.{Paired, RowFacts, rows-facts}}
 use Rattle.crx_compact.proofs.reading.PaddedRows.{row-opened, row-shows}
 use Rattle.std.specs.Option.{is_some}
 use Rattle.crx_compact.specs.OpenEpochs.{OpenRawEpoch, rows_before, raw_step_with_clock, place_of_steps}

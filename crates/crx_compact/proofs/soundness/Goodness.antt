@@ -125,13 +125,15 @@ rows-sound : (types : List Count) (block : List RawEpoch) (satellites : List Sat
     (lines : List (List ℕ))
     (rows : List ReadRow) → AreCounts types → AllByRecursion HasPrintableMarks block
     → AllByRecursion (λ (s : Satellite). types_of_satellite types s.name ≡ Some s.count) satellites
-    → AllByRecursion (λ (n : List ℕ). length n ≡ 3) (names_of satellites) → Paired (RowFacts (past_of_block block)) satellites lines rows
+    → AllByRecursion (λ (n : List ℕ). length n ≡ 3) (names_of satellites)
+    → Paired (RowFacts (past_of_block block)) satellites lines rows
     → AllByRecursion (λ (r : Row). IsSoundRow r × HasItsTypes types r) (map (λ (r : ReadRow). r.row) rows)
     × AllByRecursion (λ (r : RawRow). list_all is_printable r.marks ≡ true) (map
     (λ (r : ReadRow). r.raw) rows)
 rows-sound types block (s ∷ ss) (l ∷ ls) (r ∷ rs) counts printable typed short h =
     let rest = rows-sound types block ss ls rs counts printable typed.1 short.1 h.1 in
-    let row = row-sound types block s l r counts printable (record { typed = typed.0; short = short.0 }) h.0 in
+    let row = row-sound types block s l r counts printable (record { typed = typed.0; short = short.0 }) h.0
+    in
     ((row.0, rest.0), (row.1, rest.1))
 rows-sound types block satellites lines rows counts printable typed short h = grind arith
 

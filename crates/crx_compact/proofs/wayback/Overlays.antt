@@ -14,8 +14,15 @@ use Rattle.crx_compact.proofs.{PlaceByPlace.at-take, wayback.Runs.IsUnmarked}
 character-mark : (a b : ℕ) → b ≢ 38 → character_of a (mark_of a b) ≡ b
 character-mark a b h = grind arith
 
-pub patched-again : (old new : List ℕ) → IsUnmarked new → patched old (text_difference old new) ≡ without_end_blanks new
-patched-again old new h = search (rules, same_characters, at-by_position, at-without_end_blanks, character-mark)
+pub patched-again : (old new : List ℕ) → IsUnmarked new → patched old (text_difference old new) ≡
+    without_end_blanks new
+patched-again old new h = search (
+  rules,
+  same_characters,
+  at-by_position,
+  at-without_end_blanks,
+  character-mark,
+)
 
 -- a character that All speaks of, or the blank after the text
 pub at-All : (P : ℕ → Type 0) → P 32 → (text : List ℕ) → All P text → (p : ℕ) → P (at text p)

@@ -6,7 +6,8 @@ use proofs.Words.{pieces_of, as_read, Epoch, FileUnit, Choices, is_date, compact
 use proofs.Words.{FilterResult, compact_lines, printed_items, whole_of, IsStandard}
 use proofs.Words.{HaveNoReturns, written_well}
 use proofs.anywriter.{AnyText.any-text, OwnText.{own-items, units-printed, whole-items}}
-use proofs.wayback.{Canonical.same-compaction, NormalForm.standard-as_normal, Units.{compacts, settled, no-returns, units_in}}
+use proofs.wayback.{Canonical.same-compaction, NormalForm.standard-as_normal}
+use proofs.wayback.{Units.{compacts, settled, no-returns, units_in}}
 use proofs.wayback.{Standard.{NoReturn, plain-no_return, plain-text, same-reading, whole-copied}, WayBack.{IsSettled, whole-settled}}
 use Rattle.crx_filter.specs.meaning.{Canonical.IsCanonical, UnitsAndText.TextsOfUnits}
 use Rattle.crx_filter.specs.WayBack.{ComesBack, NormalFormComesBack, StandardComesBack}
@@ -41,7 +42,8 @@ pub standard-where_kept : (input : List ℕ) (compacting expanding : Choices)
     → is_date compacting.date ≡ true → (whole_of input).fault ≡ None → HaveNoReturns (whole_of input).items
     → (expanded (compacted input compacting).output expanding).output ≡ input → IsStandard input
 standard-where_kept input compacting expanding dated good none same = subst IsStandard
-    (sym (ap (λ (r : FilterResult). r.output) (normal-comes_back input compacting expanding dated good none)) ∙ same)
+    (sym (ap (λ (r : FilterResult). r.output) (normal-comes_back input compacting expanding dated good none))
+    ∙ same)
     (standard-as_normal input (record { good = good; no_returns = none }))
 
 -- two files have the same compact text exactly where they have the same normal form

@@ -57,7 +57,12 @@ module _ (items : List (Item ReadEpoch)) (units : List (FileUnit Epoch)) (before
     own = line ∷ [];
     cut = refl;
     now = before;
-    stands = record { known = cc s.known; left = rw off s.left; whole = rw (steady-types line off) s.whole; good = s.good };
+    stands = record {
+      known = cc s.known;
+      left = rw off s.left;
+      whole = rw (steady-types line off) s.whole;
+      good = s.good;
+    };
     written = (refl, rw (← count-same, off) refl);
   })
 
@@ -71,7 +76,10 @@ module _ (items : List (Item ReadEpoch)) (units : List (FileUnit Epoch)) (before
       let good = reads-whole types raws lines read count (counts-in_force items) (marks-printable items s.good) e in
       let whole : IsWholeEpoch types (epoch_now found.now) = rw found.epoch good.whole in
       let any = any-epoch types before raws found.now found.own (λ b e. s.left ∙ ap (option_map epoch_left) e) whole found.written in
-      let split : map Content found.own ++ drop count lines ≡ lines = cc (found.cut, take-append-drop count lines) in
+      let split : map Content found.own ++ drop count lines ≡ lines = cc (
+        found.cut,
+        take-append-drop count lines,
+      ) in
       let same : record { raw = any.raw; epoch = epoch_now found.now } ≡ read =
       done-things (record { raw = any.raw; epoch = epoch_now found.now }) read (2 + length found.now.rows) count
       (sym (any.reads (drop count lines)) ∙ ap (epoch_at types raws) split ∙ e) in
@@ -98,7 +106,8 @@ module _ (items : List (Item ReadEpoch)) (units : List (FileUnit Epoch)) (before
       (λ line rest is open_header good. rw is (grind (arith, common_steps)))
       (λ line rest is ended some good. rw is (record-back line))
       (λ ended none. of-compact (Back lines) tt (λ offset fault. tt) (types_in_force items) (raws_kept items) lines
-      (λ line rest is event counted. rw is (grind (arith, common_steps))) (λ read count e. epoch-back read lines count e))
+      (λ line rest is event counted. rw is (grind (arith, common_steps))) (λ read count e. epoch-back read
+      lines count e))
 
   pub unit-back : (lines : List ReadLine) (unit : FileUnit ReadEpoch) (count : ℕ)
       → compact_place items lines ≡ Done unit count → UnitBack items units before unit (take count lines)

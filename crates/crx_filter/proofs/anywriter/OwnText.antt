@@ -6,11 +6,13 @@ use proofs.Words.{refl, ap, sym, ◌∙◌, subst}
 use proofs.Words.{append-nil, append_assoc, if◌then◌else◌, lines_of, lines_text, as_read}
 use proofs.Words.{Epoch, FileUnit, HeaderLine, EventLine}
 use proofs.Words.{EventRecord, Observation, Count, Marked, Choices, is_date, Item, Accepted, Warned}
-use proofs.Words.{is_at_start, Content, records_count_types, types_in_force, is_in_full, marked_epochs, compact_epoch}
+use proofs.Words.{is_at_start, Content, records_count_types, types_in_force, is_in_full, marked_epochs}
+use proofs.Words.{compact_epoch}
 use proofs.Words.{compact_lines}
 use proofs.Words.{version_line, program_line, AreInPlace, BeginsAnew, HaveNoReturns, printed_items}
 use proofs.damage.TextAfter.{lines_on, written-on, begins-rest}
-use proofs.{damage.DamagedText.front-cut, stretches.StretchesCut.AreGood, wayback.Carried.{started, units-like, units-placed}}
+use proofs.{damage.DamagedText.front-cut, stretches.StretchesCut.AreGood}
+use proofs.{wayback.Carried.{started, units-like, units-placed}}
 use proofs.wayback.First.{program-clean, program-read, version-clean}
 use proofs.wayback.Items.{marked_now, body_unit, not-interrupted, whole-next}
 use proofs.{anywriter.AnyText.of-nothing, wayback.Reading.lines_back}
@@ -90,7 +92,8 @@ module _ (start : Option WrittenEpoch) (choices : Choices) (block : List (Item E
   pub own-on : (items : List (Item Epoch)) → AreInPlace (items ++ block) → GoAnew choices block items
       → AreLinesOn (units_in block) start (units_in items) (lines_on choices.every items block) (before_all items)
   own-on [] h anew = (refl, refl)
-  own-on (Warned at ∷ items) h anew = own-on items h.1 (λ e. begins-rest choices block (Warned at) items (anew e))
+  own-on (Warned at ∷ items) h anew = own-on items h.1 (λ e. begins-rest choices block (Warned at) items
+      (anew e))
   own-on (Accepted unit ∷ items) h anew = (
     before_all items,
     lines_on choices.every items block,
@@ -126,9 +129,11 @@ pub whole-file : (units : List (FileUnit Epoch)) → MakeAFile units → AreWhol
 whole-file units h = subst AreWholeFile (units-again units) (whole-items (as_items units) (settled units h))
 
 -- the lines of its text, whatever comes after it
-pub own-cut : (choices : Choices) (before : List (Item Epoch)) (more : List ℕ) → is_date choices.date ≡ true → AreGood before
+pub own-cut : (choices : Choices) (before : List (Item Epoch)) (more : List ℕ) → is_date choices.date ≡ true
+    → AreGood before
     → is_at_start before ≡ false → map as_read (lines_of (lines_text (compact_lines choices before) ++ more))
-    ≡ map Content (version_line ∷ program_line choices.date ∷ lines_back choices.every before) ++ map as_read (lines_of more)
+    ≡ map Content (version_line ∷ program_line choices.date ∷ lines_back choices.every before) ++ map as_read
+    (lines_of more)
 own-cut choices before more dated h begun =
     grind (arith, lines-same, front-cut, version-clean, program-clean, lines-clean)
 

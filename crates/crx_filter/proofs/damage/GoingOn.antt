@@ -35,7 +35,8 @@ pub record GoesOnAt (most : ℕ) (items : List (Item ReadEpoch)) (tail : List Re
 -- an epoch that is open is cut off, and reading goes on at the very line that does so
 pub open-goes_on : (items : List (Item ReadEpoch)) (number : ℕ) (first : List ℕ) (rest : List ReadLine) (line
     : List ℕ) (tail : List ReadLine) → IsBetweenUnits items → is_event_line first ≡ false → compact_place
-    items (Content first ∷ rest) ≡ NeedsMore → begins_epoch line ≡ true → GoesOnAt 1 items (Content line ∷ tail)
+    items (Content first ∷ rest) ≡ NeedsMore → begins_epoch line ≡ true
+    → GoesOnAt 1 items (Content line ∷ tail)
     (reading_from compact_place true items number (Content first ∷ (rest ++ Content line ∷ tail)))
 open-goes_on items number first rest line tail h no_event e begins =
     let open_lines = Content first ∷ rest in

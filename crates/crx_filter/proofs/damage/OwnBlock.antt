@@ -27,13 +27,15 @@ use proofs.damage.{TextAfter.lines_on}
 use proofs.{reading.Each.header-append, wayback.First.all-weaker}
 use proofs.stretches.{OwnStretches.{file-good, file-settled, own-damage, text_of_own}}
 use proofs.stretches.StretchesCut.{AreGood, good-before, kept-clean, as_stretch}
-use proofs.wayback.{Carried.{units_in, units-like, units-placed}, Cut.{IsClean, return-kept}, Items.{marked_now, epoch-stands}, Standard.{NoReturn, same-reading}}
+use proofs.wayback.{Carried.{units_in, units-like, units-placed}, Cut.{IsClean, return-kept}}
+use proofs.wayback.{Items.{marked_now, epoch-stands}, Standard.{NoReturn, same-reading}}
 use proofs.wayback.{Standard.{whole-copied, plain-no_return}}
 
 -- ---- the epochs of a block
 
 epochs-left : (before : List (Item Epoch)) (epochs : List Epoch) → records_left before ≡ 0
-    → (records_left (with_epochs before epochs) ≡ 0) × (types_in_force (with_epochs before epochs) ≡ types_in_force before)
+    → (records_left (with_epochs before epochs) ≡ 0) × (types_in_force (with_epochs before epochs) ≡
+    types_in_force before)
 epochs-left before [] h = (h, refl)
 epochs-left before (epoch ∷ later) h = epochs-left (Accepted (Observation epoch) ∷ before) later refl
 
@@ -85,7 +87,13 @@ inside-read (line ∷ lines) e =
     grind (arith, common_steps, and_parts, not-true, by_bool, inside-read lines (and_parts (may_replace line) _ e).1)
 
 may-come : (lines : List InputLine) → list_all may_replace lines ≡ true → list_all may_come_instead lines ≡ true
-may-come = all-weaker may_replace may_come_instead (λ line e. grind (arith, common_steps, and_parts, not-true, by_bool))
+may-come = all-weaker may_replace may_come_instead (λ line e. grind (
+  arith,
+  common_steps,
+  and_parts,
+  not-true,
+  by_bool,
+))
 
 -- ---- a damaged text
 
@@ -143,7 +151,16 @@ module _ (input : List ℕ) (choices : Choices) (damaged : List ℕ) (d : IsOwnD
       record {
         between = (first-in_place.0).1;
         types = rw (← epochs-items d.before epochs) (epochs-left d.before epochs (first-in_place.0).1).1;
-        allowed = rw first-piece (grind (arith, common_steps, return-kept, line_of, by_bool, first-clean, no-event, may-come (lines_of d.instead) d.allowed));
+        allowed = rw first-piece (grind (
+          arith,
+          common_steps,
+          return-kept,
+          line_of,
+          by_bool,
+          first-clean,
+          no-event,
+          may-come (lines_of d.instead) d.allowed,
+        ));
         anew = rw (← epochs-items d.before epochs) d.anew;
         ended = rw first-piece (grind (arith, common_steps, d.ended));
       },
@@ -190,7 +207,8 @@ module _ (input : List ℕ) (choices : Choices) (damaged : List ℕ) (d : IsOwnD
       rw (d.parts, printed-append d.after (with_epochs d.before epochs), drop-append_seam) (sym (units-printed d.after)) in
       record {
         epochs = k.epochs;
-        whole = subst (λ types. AllByRecursion (IsWholeEpoch types) k.epochs) (sym (units-like d.before before-good.in_place).types) k.whole;
+        whole = subst (λ types. AllByRecursion (IsWholeEpoch types) k.epochs) (sym (units-like d.before
+            before-good.in_place).types) k.whole;
         warnings = k.warnings;
         few = k.few;
         output = cc (

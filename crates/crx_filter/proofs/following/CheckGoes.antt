@@ -40,7 +40,8 @@ record IsReported (found : Findings) (step reads : LineStep OpenEpoch Totals) : 
   text : report_unless (failed_by step.answer) found ≡ lines_text step.handed_out
 
 end-reported : (found : Findings) (number : ℕ) (phase : Phase OpenEpoch) (types : List Count) (kept : Totals)
-    → IsReported found (state_end_with check_by_line (report_lines found) (state_in no_choices number phase types
+    → IsReported found (state_end_with check_by_line (report_lines found) (state_in no_choices number phase
+    types
     kept)) (state_end checking (state_in no_choices number phase types kept))
 end-reported found number phase types kept =
     grind (arith, common_steps, state_end, state_end_with, fault_at_end_in)
@@ -60,7 +61,8 @@ check-goes choices taken = record {
   );
   ends = λ lines. grind (arith, end-reported, check-ended, same-state);
   number = λ lines. length-map lines as_read;
-  memory_first = λ lines line needed. allowed-first check-carried_out check-takes 1 (length (map as_read lines))
+  memory_first = λ lines line needed. allowed-first check-carried_out check-takes 1 (length (map as_read
+      lines))
       (map as_read lines) (as_read line) (omega arith);
   memory_again = λ lines line next notice needed is takes. false-true
       (sym (step-quiet (map as_read lines) (as_read line)).once

@@ -29,7 +29,8 @@ compaction-collects choices lines line =
     let whole = compaction-carried_out choices in
     let same : AreSame (collecting compaction as_it_is) (collected_of whole as_it_is as_it_is)
     (compact_unit choices) choices = λ items ls epoch count here.
-    both-same whole as_it_is as_it_is items epoch epoch (same-epochs choices items ls epoch count here) refl in
+    both-same whole as_it_is as_it_is items epoch epoch (same-epochs choices items ls epoch count here) refl
+    in
     let on = more-line (collecting-carried_out whole as_it_is as_it_is (agree-begins same)
     (agree-continues same)) 1 (length lines) (length (lines ++ line ∷ [])) lines (lines ++ line ∷ []) line
     (omega arith) (length-append lines (line ∷ [])) refl in

@@ -28,7 +28,10 @@ same-epochs choices items lines epoch count here =
     (sound-epoch_place (types_in_force items) lines epoch count (counts-in_force items) here).0.sound.apart in
     record {
       kept = λ number phase types kept either. rw (either-same either) (ap (λ (t : Tail). record
-          { index = epochs_accepted items + 1; tail = Some t }) (cc (same-tail choices items epoch, by_tail.tail)));
+          { index = epochs_accepted items + 1; tail = Some t }) (cc (
+            same-tail choices items epoch,
+            by_tail.tail,
+          )));
       lines = λ number phase types kept either. rw (either-same either) (ap (λ t. lines_after_tail t epoch)
           (sym (same-tail choices items epoch)) ∙ sym by_tail.lines);
     }

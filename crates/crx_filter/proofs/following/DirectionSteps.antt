@@ -24,10 +24,12 @@ compaction-goes choices taken = record {
   ends = λ lines. grind (arith, compaction-ended choices (map as_read lines), reverse-append, append-nil);
   number = λ lines. length-map lines as_read;
   memory_first = λ lines line needed takes. rw needed (allowed-first (compaction-carried_out choices)
-      (compaction-takes choices) 1 (length (map as_read lines)) (map as_read lines) (as_read line) (omega arith)
+      (compaction-takes choices) 1 (length (map as_read lines)) (map as_read lines) (as_read line)
+      (omega arith)
       takes);
   memory_again = λ lines line next notice needed step takes. rw needed (allowed-again (compaction-carried_out
-      choices) (compaction-takes choices) 1 (length (map as_read lines)) (map as_read lines) (as_read line) next
+      choices) (compaction-takes choices) 1 (length (map as_read lines)) (map as_read lines) (as_read line)
+      next
       notice (omega arith) step takes);
   too_long_first = λ types kept. refl;
   too_long_next = λ so_far. refl;

@@ -200,7 +200,8 @@ module _ (choices : Choices) where
   pub expansion-collects : Collects expansion of_held (expansion_state choices) (satellites_expanded choices)
   expansion-collects lines line =
       let whole = expansion-carried_out choices in
-      let same : AreSame (collecting expansion of_held) kept_of expanded_unit choices = λ items ls read held count here is.
+      let same : AreSame (collecting expansion of_held) kept_of expanded_unit choices = λ items ls read held
+      count here is.
       let own = same-epochs choices items ls read held count here is in
       both-same whole of_held of_read items read held own (same-satellites (types_in_force items)
       (raws_kept items) ls read count held.tail here (own.kept 0 BetweenUnits [] (tail_of_items items)

@@ -208,7 +208,8 @@ module _ {E U O K : Type 0} {beginning : List (Item E) → List ReadLine → Pla
 
   -- the next line completes a unit
   pub followed-unit : (count n : ℕ) (items : List (Item E)) (phase : Phase O)
-      (kept : K) (line : ReadLine) (unit : FileUnit E) (same : FileUnit U) → phase_after_items {O = O} (Accepted unit ∷ items) None ≡ phase_after phase same
+      (kept : K) (line : ReadLine) (unit : FileUnit E) (same : FileUnit U) → phase_after_items {O = O}
+      (Accepted unit ∷ items) None ≡ phase_after phase same
       → types_in_force (Accepted unit ∷ items) ≡ types_after phase (types_in_force items) same
       → direction.kept_after (state_at count phase items kept) same ≡ kept_of (Accepted unit ∷ items)
       → direction.written (state_at count phase items kept) same ≡ unit_lines items unit → Follows

@@ -172,7 +172,8 @@ module _ {E U O K : Type 0} {beginning : List (Item E) → List ReadLine → Pla
       direction (state_at h count phase items (kept_of items)) line (made_of_unit (unless_wrong same fault))))
   simple-line units items count line phase None unit same here never never_in phases types keeps lines = rw
       (last-here h.forward choices.skip units items (count + 1) [] line unit 1 (h.forward.wants items) here)
-      (followed-unit h count (count + 1 + 1) items phase (kept_of items) line unit same phases types keeps lines)
+      (followed-unit h count (count + 1 + 1) items phase (kept_of items) line unit same phases types keeps
+      lines)
   simple-line units items count line phase (Some fault) unit same here never never_in phases types keeps
       lines = grind (arith, common_steps, last-ends, h.forward, followed-end)
 
@@ -225,7 +226,8 @@ module _ {E U O K : Type 0} {beginning : List (Item E) → List ReadLine → Pla
           (reads h (suc units) items (count + 1) (l ∷ [])) (fed_once (step_of_made direction (state_at
           h count phase items (kept_of items)) l (made_of_unit (unless_wrong (EventRecord content) fault))))
       simple content l fault here = simple-line units items count l phase fault (EventRecord content)
-          (EventRecord content) here (λ f. grind (arith, common_steps, never-before)) (λ f. never-before choices.skip (is_skippable f)) (rw (ended, some)
+          (EventRecord content) here (λ f. grind (arith, common_steps, never-before)) (λ f. never-before
+          choices.skip (is_skippable f)) (rw (ended, some)
           (records-phase _ _)) (record-types (records_count_types items) (declaring_lines items) content)
           (h.record_kept items count (suc left) (types_in_force items) content)
           (h.record_lines items count phase (types_in_force items) (kept_of items) content)

@@ -37,7 +37,8 @@ compaction-takes choices = record {
   first = λ items line other good. false-true good;
   next = λ items lines line so_far opens good. step-takes choices items (lines ++ Content line ∷ [])
       (length lines) (epoch_step so_far (Content line)) (after-first items lines so_far opens)
-      (fine-row so_far (next_row so_far line) good) ((compaction-carried_out choices).continues items lines (Content line) so_far opens);
+      (fine-row so_far (next_row so_far line) good) ((compaction-carried_out choices).continues items lines
+      (Content line) so_far opens);
 }
 
 pub check-takes : TakesAsItStands rinex_beginning checking rinex_open totals_of check_takes

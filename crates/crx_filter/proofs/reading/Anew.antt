@@ -246,7 +246,8 @@ module _ (one_number : Type 0) (skip : Bool) where
       → AreSame a b lines → ReadAlike units a b m n lines
   reads-same zero a b m n lines h = lines-stopped a b m n lines h.alike
   reads-same (suc units) a b m n lines h = one-step units a b m n lines h.alike
-      (place-same a b h.alike lines h.goes_on (records_left a) refl) (λ unit count e. reads-same units _ _ _ _ _
+      (place-same a b h.alike lines h.goes_on (records_left a) refl) (λ unit count e. reads-same units _ _ _
+      _ _
       (subst (Next a b h.alike lines) e (next-same a b h.alike lines h.goes_on)))
       (λ at other i j ls. reads-same units _ _ i j ls (same-warned a b at other ls h.alike))
 

@@ -52,11 +52,19 @@ module _ {E U O K : Type 0} {beginning : List (Item E) → List ReadLine → Pla
       let is : fault_at_end items [] ≡ Some (cond (is_at_start items) MissingVersion NoEndOfHeader) =
       grind (arith, common_steps) in
       rw is (ends-same items count (InHeader (is_at_start items)) (kept_of items)
-      (Some (cond (is_at_start items) MissingVersion NoEndOfHeader)) (λ f. grind (arith, common_steps, never-before))))
+      (Some (cond (is_at_start items) MissingVersion NoEndOfHeader)) (λ f. grind (
+        arith,
+        common_steps,
+        never-before,
+      ))))
       (λ left e some.
       let is : fault_at_end items [] ≡ Some Truncated = grind (arith, common_steps, nat_lt) in
       rw is (ends-same items count (InEvent (suc left)
-      (records_count_types items)) (kept_of items) (Some Truncated) (λ f. grind (arith, common_steps, never-before))))
+      (records_count_types items)) (kept_of items) (Some Truncated) (λ f. grind (
+        arith,
+        common_steps,
+        never-before,
+      ))))
       (λ e none. rw (closes-well items e none) (ends-same items count BetweenUnits (kept_of items) None
       (λ f. skipped-same {O = O} choices count BetweenUnits (types_in_force items) (kept_of items) items f e
       none refl)))

@@ -53,7 +53,15 @@ module _ {E : Type 0} (place : List (Item E) → List ReadLine → Place (FileUn
       (λ on. rw (on, after_fault) (looked-kept (Warned at ∷ items) (reading_within place skip units (Warned at ∷ items))
       (number + max offset 1) (drop (max offset 1) lines)
       (λ n. rw (drop-drop n (max offset 1) lines) (k.passed items lines at (max offset 1 + n) on h))
-      (within-kept k units (Warned at ∷ items)))) (λ off. rw (off, after_fault) (lines, h, (offset, e, off)))))
+      (within-kept k units (Warned at ∷ items)))) (λ off. rw (off, after_fault) (
+        lines,
+        h,
+        (
+          offset,
+          e,
+          off,
+        ),
+      ))))
       (λ e. rw (within-wanted place skip units items number lines e) (lines, h, refl))
 
   -- ---- the end

@@ -13,7 +13,8 @@ use Words.{is_skipped, ap, AtFault}
 use Rattle.crx_filter.specs.meaning.{Damage.is_inside, Stretches.begins_no_event}
 use Rattle.crx_filter.proofs.damage.BlockReading.{bad-event, epoch-here, fault-here, skipped-here}
 use Rattle.crx_filter.proofs.damage.GoingOn.{GoesOnAt, open-goes_on, EndsAfter, ends-inside}
-use Rattle.crx_filter.proofs.{following.Lines.IsStopped, reading.{ForwardCompact.compact-forward, Stopping.reading-stopped}}
+use Rattle.crx_filter.proofs.{following.Lines.IsStopped}
+use Rattle.crx_filter.proofs.{reading.{ForwardCompact.compact-forward, Stopping.reading-stopped}}
 use Rattle.crx_filter.proofs.reading.KeptThroughout.{IsKept, KeptAt, looked-kept, within-kept}
 use Rattle.crx_filter.proofs.reading.Resuming.{by_place, within-here, within-wrong}
 use Rattle.crx_filter.proofs.reading.Resuming.{within-wanted, looked-here, resumed}
@@ -95,7 +96,8 @@ pub stretch-more : (items : List (Item ReadEpoch)) (so_far lines : List ReadLine
     → IsStretchRead items (reading_from compact_place true [] 3 (so_far ++ lines))
 stretch-more items so_far lines between stops text =
     let all = reading_from compact_place true [] 3 (so_far ++ lines) in
-    is-open items all.items all.stop _ (rw (resumed compact_place compact-forward true [] 3 so_far lines) (goes-on stops))
+    is-open items all.items all.stop _ (rw (resumed compact_place compact-forward true [] 3 so_far lines)
+    (goes-on stops))
     (reading-stopped compact_place compact-forward true [] 3 _ (so_far ++ lines) refl)
   where
     r : Reading ReadEpoch
@@ -104,9 +106,11 @@ stretch-more items so_far lines between stops text =
     within : (number : ℕ) (ls : List ReadLine) → ReadsEpochs items items ls
         → KeptAt compact_place true (ReadsEpochs items) (reading_from compact_place true items number ls)
     within number ls h =
-        within-kept compact_place true (ReadsEpochs items) (epochs-kept items) (length ls + 1) items number ls h
+        within-kept compact_place true (ReadsEpochs items) (epochs-kept items) (length ls + 1) items number
+        ls h
 
-    goes-on : IsOpen items r → KeptAt compact_place true (ReadsEpochs items) (continued_reading compact_place true r lines)
+    goes-on : IsOpen items r → KeptAt compact_place true (ReadsEpochs items) (continued_reading compact_place
+        true r lines)
     goes-on (inl (number, rest, none, e, is)) = rw is (within number (rest ++ lines)
         ([], tt, refl, between, rw (list_all-append begins_no_event rest lines, none) text))
     goes-on (inr (number, is)) = rw is (looked-kept compact_place true (ReadsEpochs items) items
@@ -167,7 +171,8 @@ few-warned (suc units) items number lines h = by_place (compact_place items line
 -- reading goes on at some lines, after these items and a warning, if an epoch was open
 pub open-continued : (items : List (Item ReadEpoch)) (r : Reading ReadEpoch) (line : List ℕ)
     (tail : List ReadLine) → IsBetweenUnits items → IsOpen items r → begins_epoch line ≡ true
-    → GoesOnAt (pending r.stop) items (Content line ∷ tail) (continued_reading compact_place true r (Content line ∷ tail))
+    → GoesOnAt (pending r.stop) items (Content line ∷ tail) (continued_reading compact_place true r
+    (Content line ∷ tail))
 open-continued items r line tail between (inl (number, [], none, e, is)) begins =
     record { warnings = []; few = omega arith; number = number; same = cc (is) }
 open-continued items r line tail between (inl (number, Overlong ∷ rest, none, e, is)) begins = grind arith

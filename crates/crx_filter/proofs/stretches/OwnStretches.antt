@@ -14,7 +14,8 @@ use Rattle.crx_filter.specs.OwnStretches.{read_of_file, IsReadWhole, OwnStretch,
 use Rattle.crx_filter.specs.OwnStretches.{up_to_own_next, with_own, own_text}
 use Rattle.crx_filter.specs.OwnStretches.{may_come_instead, AreOwnStretches, HasOwnStretches, SavesOwn}
 use Rattle.crx_filter.specs.OwnStretches.{KeepsOwnRest, BeginsWithOwn}
-use proofs.anywriter.{AnyText.first-units, OwnText.{units-append, units-printed, state_after, state_on, own-on, own-cut, own-lines, whole-items}}
+use proofs.anywriter.{AnyText.first-units}
+use proofs.anywriter.{OwnText.{units-append, units-printed, state_after, state_on, own-on, own-cut, own-lines, whole-items}}
 use proofs.damage.{ItemTexts.rest-in_place, TextAfter.begins-rest}
 use proofs.stretches.StretchesCut.{AreGood, good-before, good-up_to, as_stretch, as_stretches, stretches-cut}
 use proofs.stretches.StretchesSaved.{rest-kept}
@@ -81,7 +82,8 @@ left-before : (choices : Choices) (kept block : List (Item Epoch)) → AreInPlac
 left-before choices [] block h anew closed = closed refl
 left-before choices (item ∷ []) block h anew closed = grind (arith, common_steps)
 left-before choices (newest ∷ item ∷ items) block h anew closed = left-before choices (item ∷ items) block
-    (rest-in_place (newest ∷ []) _ h) (begins-rest choices block newest (item ∷ items) anew) (λ e. absurd (cc e))
+    (rest-in_place (newest ∷ []) _ h) (begins-rest choices block newest (item ∷ items) anew) (λ e. absurd
+    (cc e))
 
 lines-allowed : (lines : List InputLine) → list_all may_come_instead lines ≡ true
     → list_all begins_no_event (map as_read lines) ≡ true
@@ -125,7 +127,8 @@ one-stretch choices before s later h placed closed =
 pub own-as : (choices : Choices) (before : List (Item Epoch)) (stretches : List OwnStretch)
     → AreOwnStretches choices before stretches → AreGood (with_own before stretches)
     → records_left (with_own before stretches) ≡ 0
-    → (with_stretches (units_in before) (as_stretches choices.every before stretches) ≡ units_in (with_own before stretches))
+    → (with_stretches (units_in before) (as_stretches choices.every before stretches) ≡ units_in
+    (with_own before stretches))
     × AreStretches (units_in before) (as_stretches choices.every before stretches)
 own-as choices before [] h good closed = (refl, tt)
 own-as choices before (s ∷ later) h good closed =
@@ -169,7 +172,8 @@ module _ (file : List ℕ) (choices : Choices) (damaged : List ℕ) (dated : is_
         file = subst AreWholeFile (ap units_in d.parts ∙ sym as_own.0)
             (file-whole file choices d.file_good);
         header = sym (units-like d.before (good-up_to d.before d.stretches good).in_place).header ∙ d.header;
-        text = begins-own choices d.before (own_text choices d.before d.stretches) dated (good-up_to d.before d.stretches good)
+        text = begins-own choices d.before (own_text choices d.before d.stretches) dated (good-up_to d.before
+            d.stretches good)
             (started d.before d.header);
         each = as_own.1;
         rest = stretches-cut choices d.before d.stretches d.each good d.header;

@@ -82,5 +82,9 @@ stretches-cut choices before (s ∷ later) h good header =
     let block-header = header-append s.lost before header in
     let rest = stretches-cut choices next later h.1 good (header-append s.kept block block-header) in
     rw (kept-lines choices s.kept block here.in_place block-header) (ended-cut s.instead (lines_on choices.every s.kept block)
-    (own_text choices next later) (kept-clean choices s.kept block here) (grind (arith, common_steps, IsOwnStretch.ended h.0))
+    (own_text choices next later) (kept-clean choices s.kept block here) (grind (
+      arith,
+      common_steps,
+      IsOwnStretch.ended h.0,
+    ))
     ∙ rw (rest, append_assoc) refl)

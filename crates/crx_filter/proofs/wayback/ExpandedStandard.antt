@@ -54,21 +54,31 @@ place-fits before lines =
     let same = read-as before in
     of-unit (OfHere (Fits before)) tt (λ offset fault. tt) compact_beginning before lines
     (λ line rest is off right good. (same.header ∙ off, cc (same.start, right)))
-    (λ line rest is ended some right good. (same.header ∙ ended, omega (arith, some, same.left), cc (same.counts, right)))
-    (λ ended none. of-compact (OfHere (Fits before)) tt (λ offset fault. tt) (types_in_force before) (raws_kept before) lines
+    (λ line rest is ended some right good. (
+      same.header ∙ ended,
+      omega (arith, some, same.left),
+      cc (same.counts, right),
+    ))
+    (λ ended none. of-compact (OfHere (Fits before)) tt (λ offset fault. tt) (types_in_force before)
+    (raws_kept before) lines
     (λ line rest is event counted good. (same.header ∙ ended, same.left ∙ none, event, counted))
     (λ read count e good. (same.header ∙ ended, same.left ∙ none, rw same.lines good)))
 
 items-placed : (items : List (Item ReadEpoch)) → ItemsAreRead compact_place items → AreGoodEpochs items
     → AreInPlace (rinex_items items)
 items-placed [] h good = tt
-items-placed (Accepted (Observation read) ∷ before) h good = grind (arith, items-placed before h.1 good.1, place-fits)
+items-placed (Accepted (Observation read) ∷ before) h good = grind (
+  arith,
+  items-placed before h.1 good.1,
+  place-fits,
+)
 items-placed (Accepted unit ∷ before) h good = grind (arith, items-placed before h.1 good, place-fits)
 items-placed (Warned at ∷ before) h good = grind (arith, items-placed before h.1 good, read-as before)
 
 -- ---- what is copied is a line
 
-pub compact-first : (items : List (Item ReadEpoch)) (lines : List ReadLine) → OfHere (IsFirst lines) (compact_place items lines)
+pub compact-first : (items : List (Item ReadEpoch)) (lines : List ReadLine) → OfHere (IsFirst lines)
+    (compact_place items lines)
 compact-first items lines =
     let First = OfHere (IsFirst {E = ReadEpoch} lines) in
     of-unit First tt (λ offset fault. tt) compact_beginning items lines
@@ -85,7 +95,8 @@ items-copied : (P : List ℕ → Type 0) (skip : Bool) (number : ℕ) (lines : L
     → OfCopiedLines P (rinex_items (reading_from compact_place skip [] number lines).items)
 items-copied P skip number lines all =
     let items = (reading_from compact_place skip [] number lines).items in
-    of-copied P (rinex_items items) (rw copied-read (all-copied compact_place compact-forward compact-first skip number lines P all))
+    of-copied P (rinex_items items) (rw copied-read (all-copied compact_place compact-forward compact-first
+    skip number lines P all))
 
 pub compact-copied : (P : List ℕ → Type 0) (skip : Bool) (lines : List ReadLine)
     → AllByRecursion (OfContent P) lines → OfCopiedLines P (rinex_items (compact_reading skip lines).items)

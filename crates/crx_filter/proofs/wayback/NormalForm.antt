@@ -34,8 +34,17 @@ stands items (EventLine line) h = body-place rinex_beginning items (Content line
 stands items (EventRecord line) h = grind (arith, common_steps, record-here, rinex_beginning)
 stands items (Observation epoch) h =
     let lines = map Content (printed_epoch epoch) in
-    let counted : length epoch.rows + 1 ≡ length (printed_epoch epoch) = omega (arith, length-map epoch.rows printed_row) in
-    cc (body-place rinex_beginning items lines h.0 h.1, append-nil lines, epoch-back (types_in_force items) epoch [] h.2, counted)
+    let counted : length epoch.rows + 1 ≡ length (printed_epoch epoch) = omega (
+      arith,
+      length-map epoch.rows printed_row,
+    ) in
+    cc (
+      body-place rinex_beginning items lines h.0 h.1,
+      append-nil lines,
+      epoch-back (types_in_force items)
+          epoch [] h.2,
+      counted,
+    )
 
 printed-read : (skip : Bool) (units : List (FileUnit Epoch)) → AreInPlace (as_items units)
     → AllRead rinex_place skip [] 1 (printed_items (as_items units)) (as_items units)

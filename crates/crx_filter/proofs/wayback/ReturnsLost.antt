@@ -15,7 +15,8 @@ use proofs.wayback.{Standard.same-reading, Reading.lines_back, ExpandedWhole.{Ar
 use proofs.wayback.{WayBack.{IsSettled, whole-settled, lines-same, written-all}, Cut.{IsClean, CanStand}, Carried.started}
 use proofs.wayback.Returns.{returns, returns-kept, returns-fewer, returns_in, total-append, in-text}
 use proofs.wayback.Returns.{in-printable, returns_read, returns_left, left-kept, read-written}
-use proofs.wayback.{Returns.{read-input, read-cut}, Reading.{copied, rinex-first, whole-counted}, ExpandedStandard.compact-first}
+use proofs.wayback.{Returns.{read-input, read-cut}, Reading.{copied, rinex-first, whole-counted}}
+use proofs.wayback.{ExpandedStandard.compact-first}
 use proofs.{Words.{rinex_place, whole_rinex}, reading.{Forward.rinex-forward, ForwardCompact.compact-forward}}
 use proofs.wayback.First.{program-printable, program-clean, version-clean, printable-no_feed}
 use Rattle.crx_filter.specs.WayBack.{IsStandardWhereSame}

@@ -61,7 +61,15 @@ pub plain-no_return : (ps : List Piece) → list_all (λ (line : InputLine). lin
     (map line_of ps) ≡ true → AllByRecursion (OfContent NoReturn) (map as_read (map line_of ps))
 plain-no_return [] e = tt
 plain-no_return (p ∷ ps) e =
-    grind (arith, common_steps, plain-parts p ps e, return-kept, by_bool, plain-no_return ps (plain-parts p ps e).2)
+    grind (
+      arith,
+      common_steps,
+      plain-parts p ps e,
+      return-kept,
+      by_bool,
+      plain-no_return ps (plain-parts p
+          ps e).2,
+    )
 
 -- ---- the text of an input's plain lines is the input
 

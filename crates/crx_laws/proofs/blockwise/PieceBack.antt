@@ -12,10 +12,12 @@ use Rattle.crx_filter.proofs.anywriter.OwnText.{own-on, printed-append, state_on
 use Rattle.crx_filter.proofs.damage.{ItemTexts.rest-in_place, TextAfter.lines_on}
 use Rattle.crx_filter.proofs.reading.{ForwardCompact.compact-forward, Resuming.resumed}
 use Rattle.crx_filter.proofs.stretches.{KeptUnits.{CanGoOnAs, like-block}, StretchesCut.{AreGood, good-before, kept-lines, kept-clean}}
-use Rattle.crx_filter.proofs.stretches.OwnStretches.{begins-own, file-good, file-settled, file-whole, units-before}
+use Rattle.crx_filter.proofs.stretches.OwnStretches.{begins-own, file-good, file-settled, file-whole}
+use Rattle.crx_filter.proofs.stretches.OwnStretches.{units-before}
 use Rattle.crx_filter.proofs.stretches.{StretchesRead.header-on}
 use Rattle.crx_filter.specs.meaning.CompactText.{AreUnitsInPlace}
-use Rattle.crx_filter.proofs.wayback.{Carried.{started, units-like}, Cut.lines-cut, Units.units_in, WayBack.IsSettled}
+use Rattle.crx_filter.proofs.wayback.{Carried.{started, units-like}, Cut.lines-cut, Units.units_in}
+use Rattle.crx_filter.proofs.wayback.{WayBack.IsSettled}
 use Rattle.crx_compact.proofs.Words.{tail_left}
 use Rattle.crx_laws.specs.Blocks.{IsPieceAfter, IsOwnPieceAfter}
 
@@ -79,7 +81,8 @@ own-piece file front choices expanding text dated h =
           (file-whole file choices h.file_good).in_place));
       header = sym (units-like h.before placed).header ∙ h.header;
       begins = sym (units-like h.before placed).left ∙ (h.whole).0;
-      ends = ap (λ us. records_left (as_items us)) (sym units) ∙ sym (units-like (h.piece ++ h.before) good.in_place).left ∙ (h.whole).1;
+      ends = ap (λ us. records_left (as_items us)) (sym units) ∙ sym (units-like (h.piece ++ h.before)
+          good.in_place).left ∙ (h.whole).1;
       types = sym (units-like first settled.in_place).types ∙ h.types ∙ (units-like h.before placed).types;
       begun = begun;
       lines = lines;

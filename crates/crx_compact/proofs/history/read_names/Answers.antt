@@ -11,7 +11,8 @@ use Rattle.crx_compact.proofs.{NamesCome.{HasNameCome, among-rows, awaited-one, 
 use Rattle.crx_text.proofs.EachPlace.{drop_all-each_place}
 use Rattle.crx_compact.specs.Placing.{IsPlaced}
 use Rattle.crx_compact.proofs.{Results.from_some, placing.Placed.placed-asked}
-use Rattle.crx_compact.proofs.history.read_names.Goals.{Joined-place, in-Some-place, in-None+in_ok-prepare_names-in-None}
+use Rattle.crx_compact.proofs.history.read_names.Goals.{Joined-place, in-Some-place}
+use Rattle.crx_compact.proofs.history.read_names.Goals.{in-None+in_ok-prepare_names-in-None}
 use Rattle.crx_compact.proofs.history.read_names.Goals as goal
 
 -- whether a satellite has come already
@@ -55,7 +56,8 @@ returns-in_err-prepare_names-in-None c =
 
 -- the satellite has come, or had come already, where none of the text has a fault or no room was asked for
 placed : (c : Joined-place)
-    → IsPlaced c.identifier-name.result c.in-Some.cells c.loop-index.satellites c.match-place.satellites c.match-place.is_new
+    → IsPlaced c.identifier-name.result c.in-Some.cells c.loop-index.satellites c.match-place.satellites
+    c.match-place.is_new
     × ((is_ok (satellites_named c.args.types.now [] (names_in c.args.text.now c.args.count)) ≡ true)
     ⊎ KeepsRooms c.match-place.satellites.rooms c.loop-index.satellites.rooms)
     × KeepsRooms c.loop-index.satellites.rooms c.match-place.satellites.rooms
@@ -103,11 +105,13 @@ resize_last-requires-clause-room c before row last_is =
     (n : List ℕ). HasRoom n c.in-Some.cells c.match-place.satellites.rooms) (sym (come-name
     c.identifier-name.result awaited.rest)) (is.room c.if-not-is_new.false))
 
-kept-back : {A : Type 0} (one two three four : List (List ℕ × ℕ)) → A ⊎ KeepsRooms two one → A ⊎ KeepsRooms three two
+kept-back : {A : Type 0} (one two three four : List (List ℕ × ℕ)) → A ⊎ KeepsRooms two one
+    → A ⊎ KeepsRooms three two
     → KeepsRooms four three → A ⊎ KeepsRooms four one
 kept-back one two three four (inl good) q r = inl good
 kept-back one two three four (inr p) (inl good) r = inl good
-kept-back one two three four (inr p) (inr q) r = inr (λ name count has. p name count (q name count (r name count has)))
+kept-back one two three four (inr p) (inr q) r = inr (λ name count has. p name count (q name count
+    (r name count has)))
 
 pub loop-index-preserved : goal.loop-index-preserved
 loop-index-preserved c =
@@ -138,7 +142,8 @@ loop-index-preserved c =
           (λ i d within. kept _ _ (found.6 i d within))
           (c.resize_last.ensures.kept.rooms.forth name c.in-Some.cells
           (placed.0.room c.if-not-is_new.false)),
-      kept-back c.args.satellites.now.rooms c.loop-index.satellites.rooms c.match-place.satellites.rooms after.rooms
+      kept-back c.args.satellites.now.rooms c.loop-index.satellites.rooms c.match-place.satellites.rooms
+          after.rooms
           found.7 placed.1 c.resize_last.ensures.kept.rooms.back,
     )
 

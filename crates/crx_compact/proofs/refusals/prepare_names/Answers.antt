@@ -1,15 +1,22 @@
-use Rattle.crx_compact.proofs.Words.{arith, rules, ◌≡◌, ◌<◌, ◌+◌, ◌*◌, ◌++◌, ◌∷◌, [], not, true, false, Bool, ℕ, List, map, refl, sym, ap, subst, ◌∙◌}
-use Rattle.crx_compact.proofs.Words.{BadSatellite, RepeatedSatellite, Satellite, bytes_eq, columns, is_among, names_in, slice_set}
-use Rattle.crx_compact.proofs.Words.{false≢true, same_Some, inr, length-set, map-append, types_of_satellite, HasRoom}
-use Rattle.crx_compact.proofs.{Marked.{marked-more, unmarked}, NamesCome.refused-by, Results.by_ok, placing.Prepared.asked-more}
-use Rattle.crx_compact.proofs.Naming.{any-at, any-more, named-all, named-bad, named-more, named-twice, names-room, names-room-more, next-name}
+use Rattle.crx_compact.proofs.Words.{arith, rules, ◌≡◌, ◌<◌, ◌+◌, ◌*◌, ◌++◌, ◌∷◌, [], not, true, false, Bool}
+use Rattle.crx_compact.proofs.Words.{ℕ, List, map, refl, sym, ap, subst, ◌∙◌}
+use Rattle.crx_compact.proofs.Words.{BadSatellite, RepeatedSatellite, Satellite, bytes_eq, columns, is_among}
+use Rattle.crx_compact.proofs.Words.{names_in, slice_set}
+use Rattle.crx_compact.proofs.Words.{false≢true, same_Some, inr, length-set, map-append, types_of_satellite}
+use Rattle.crx_compact.proofs.Words.{HasRoom}
+use Rattle.crx_compact.proofs.{Marked.{marked-more, unmarked}, NamesCome.refused-by, Results.by_ok}
+use Rattle.crx_compact.proofs.{placing.Prepared.asked-more}
+use Rattle.crx_compact.proofs.Naming.{any-at, any-more, named-all, named-bad, named-more, named-twice}
+use Rattle.crx_compact.proofs.Naming.{names-room, names-room-more, next-name}
 use Rattle.std.specs.{List.list_any}
 use Rattle.crx_header.proofs.Apart.{among-map}
 use Rattle.crx_text.proofs.EachPlace.{drop_all-each_place, each_place-more}
 use Rattle.crx_compact.specs.Refusals.{AreMarked, mark_place}
 use Rattle.std.proofs.lemmas.Option.{none-some}
-use Rattle.crx_compact.proofs.refusals.prepare_names.Goals.{in-Some-types_of_satellite+else-is_err, in_default-types_of_satellite}
-use Rattle.crx_compact.proofs.refusals.prepare_names.Goals.{then-marks-mark+else-loop-before-test, else-marks-mark}
+use Rattle.crx_compact.proofs.refusals.prepare_names.Goals.{in-Some-types_of_satellite+else-is_err}
+use Rattle.crx_compact.proofs.refusals.prepare_names.Goals.{in_default-types_of_satellite}
+use Rattle.crx_compact.proofs.refusals.prepare_names.Goals.{then-marks-mark+else-loop-before-test}
+use Rattle.crx_compact.proofs.refusals.prepare_names.Goals.{else-marks-mark}
 use Rattle.crx_compact.proofs.refusals.prepare_names.Goals as goal
 
 -- ---- the first fault
@@ -24,7 +31,8 @@ stands text place name found b same is = search (rules, among-map, is_among)
 pub returns-in_default-clause-err : goal.returns-in_default-clause-err
 returns-in_default-clause-err c =
     let found = c.loop-index.invariant in
-    refused-by BadSatellite _ _ _ (λ out. cc) (named-bad c.args.types.now (names_in c.args.text.now c.args.count)
+    refused-by BadSatellite _ _ _ (λ out. cc) (named-bad c.args.types.now (names_in c.args.text.now
+    c.args.count)
     c.loop-index.index found.0 c.identifier-name.result found.1 (search (rules, next-name))
     (sym c.in_default.ensures.value)) (λ name count has. has)
 
@@ -34,9 +42,11 @@ returns-then-eq-clause-err c =
     let name = c.identifier-name.result in
     let text = c.args.text.now in
     let index = c.loop-index.index in
-    let among = any-at (λ (n : List ℕ). bytes_eq n name) index c.loop-before.before (λ k. columns text (42 + 3 * k) 3)
+    let among = any-at (λ (n : List ℕ). bytes_eq n name) index c.loop-before.before (λ k. columns text
+    (42 + 3 * k) 3)
     c.loop-before-test.true (search (rules, c.identifier.ensures.value, c.eq.ensures, c.if-eq.true)) in
-    refused-by RepeatedSatellite _ _ _ (λ out. cc) (named-twice c.args.types.now (names_in text c.args.count) index
+    refused-by RepeatedSatellite _ _ _ (λ out. cc) (named-twice c.args.types.now (names_in text c.args.count)
+    index
     found.0 name c.in-Some.field-0 found.1 (search (rules, next-name)) (sym c.in-Some.ensures.value)
     (stands text index name found.0 true found.2 among)) (λ name count has. has)
 
@@ -55,7 +65,8 @@ loop-index-preserved c =
     let satellite : Satellite = record { name = name; count = c.in-Some.field-0 } in
     let fresh : is_among (λ (n : List ℕ). n) name (names_in text index) ≡ false = elim c.if-marks-mark.branch [
       | then-marks-mark+else-loop-before-test w ↦
-          subst (λ n. is_among (λ (n : List ℕ). n) name (names_in text n) ≡ false) (omega arith) w.loop-before.invariant
+          subst (λ n. is_among (λ (n : List ℕ). n) name (names_in text n) ≡ false) (omega arith)
+          w.loop-before.invariant
       | else-marks-mark w ↦ search (rules, unmarked)
     ] in (
       found.0 ++ satellite ∷ [],
@@ -70,7 +81,8 @@ loop-index-preserved c =
           ∙ sym (each_place-more index (λ k. columns text (42 + 3 * k) 3)))
           (marked-more (names_in text index) name c.loop-index.marks
           (subst (λ n. mark_place name < n) (sym found.4)
-          (subst (λ n. n < 2048) c.place_of_mark-mark.ensures.value c.place_of_mark-mark.ensures.within)) found.3)),
+          (subst (λ n. n < 2048) c.place_of_mark-mark.ensures.value c.place_of_mark-mark.ensures.within))
+          found.3)),
       length-set c.loop-index.marks c.place_of_mark-mark.result true ∙ found.4,
     )
 
@@ -87,7 +99,15 @@ returns-then-is_err-clause-asked c = record {
 
 pub returns-then-is_err-clause-err : goal.returns-then-is_err-clause-err
 returns-then-is_err-clause-err c = record {
-  answer = record { answered = inr refl; memory = λ out. search (rules, c.loop-index.invariant, named-all, drop_all-each_place) };
+  answer = record {
+    answered = inr refl;
+    memory = λ out. search (
+      rules,
+      c.loop-index.invariant,
+      named-all,
+      drop_all-each_place,
+    );
+  };
   unasked = λ other name count has. absurd (other refl);
   wanting = λ named is has.
       let rooms = c.args.satellites.now.rooms in

@@ -1,4 +1,5 @@
-use Rattle.crx_compact.proofs.{Words.{◌≡◌, ℕ, List, false, is_among, length, map, names_in, Satellite}, Naming.NamedSoFar}
+use Rattle.crx_compact.proofs.{Words.{◌≡◌, ℕ, List, false, is_among, length, map, names_in, Satellite}}
+use Rattle.crx_compact.proofs.{Naming.NamedSoFar}
 use Rattle.crx_compact.specs.{Placing.{HasAskedRoom, HaveNamesRoom}, Refusals.AreMarked}
 use Rattle.crx_compact.proofs.refusals.prepare_names.Given as goal
 

@@ -23,11 +23,16 @@ returns c =
     let made = ap length text in
     let put = put-columns all before _ _ _ many c.min.ensures c.put_flags.ensures.put
     ∙ ap (λ (t : List ℕ). columns t 1 all) text in
-    let whole = take_at c.put_flags.new.held (drop all c.args.indicators.now) all (omega (arith, many, same)) in
+    let whole = take_at c.put_flags.new.held (drop all c.args.indicators.now) all (omega (
+      arith,
+      many,
+      same,
+    )) in
     record {
       good = search rules;
       patched = rw whole put;
-      kept = rw whole (subst AreHeldFlags (sym put) (columns-held c.args.count (patched before marks) c.requires.allowed
+      kept = rw whole (subst AreHeldFlags (sym put) (columns-held c.args.count (patched before marks)
+          c.requires.allowed
           (record {
             within = omega (arith, made, ap length c.bytes-text.ensures.value);
             kept = patched-kept before marks c.requires.held.kept (sym c.in-Ok.ensures.printable);

@@ -1,4 +1,5 @@
-use Rattle.std.proofs.{lemmas.Grind.common_steps, lemmas.Result.err_from_is_err_and, Common.{◌≡◌, arith, ⊎_elim, inl, inr, [], Ok, None, refl, sym, ap, ◌∙◌, subst}}
+use Rattle.std.proofs.{lemmas.Grind.common_steps, lemmas.Result.err_from_is_err_and}
+use Rattle.std.proofs.{Common.{◌≡◌, arith, ⊎_elim, inl, inr, [], Ok, None, refl, sym, ap, ◌∙◌, subst}}
 use Rattle.crx_base.specs.declared.fault.Fault.TheVariants.{LineTooLong}
 use Rattle.crx_lines.specs.{Readers.reading, Reading.{HasNoFeed}, Reading.ReaderState}
 use Rattle.crx_lines.specs.declared.phase.Phase.TheVariants.{Open}

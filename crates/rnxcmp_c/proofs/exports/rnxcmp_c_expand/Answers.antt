@@ -4,7 +4,8 @@ use Rattle.rnxcmp_c.proofs.Kept.{zero-answered}
 use Rattle.crx_filter.proofs.anywriter.OnlyTexts.{only-text}
 use Rattle.rnxcmp_c.proofs.{RunLemmas.answers-within, Words.{◌≤◌, length, map, refl, subst, sym, ap, ◌∙◌}}
 use Rattle.rnxcmp_c.proofs.Words.{INPUT_LIMIT, lines_of, as_read, whole_compact, FilterResult, AnswersWithin}
-use Rattle.rnxcmp_c.proofs.{Words.{Choices, HasNoMemory, rooms, Expand}, exports.rnxcmp_c_expand.Goals.After-answer_of}
+use Rattle.rnxcmp_c.proofs.{Words.{Choices, HasNoMemory, rooms, Expand}}
+use Rattle.rnxcmp_c.proofs.{exports.rnxcmp_c_expand.Goals.After-answer_of}
 use Rattle.crx_filter.specs.meaning.{ByResults.ExpansionKeeps, Expanded.expanded_unit, Written.result_of}
 use Rattle.rnxcmp_c.proofs.exports.rnxcmp_c_expand.Goals as goal
 
@@ -23,7 +24,8 @@ promised c within memory =
     within before after c.new-written.ensures c.new-reported.ensures c.answer_of.ensures memory)
 
 pub answer_of-requires : goal.answer_of-requires
-answer_of-requires c = take-enough (Expand c.in-Ok.options 0) c.expand-outcome.ensures.runs.2 c.new-written.ensures
+answer_of-requires c = take-enough (Expand c.in-Ok.options 0) c.expand-outcome.ensures.runs.2
+    c.new-written.ensures
     c.new-reported.ensures c.taken_at_most.ensures refl
 
 -- of the choices alone whether faults are skipped counts

@@ -4,4 +4,11 @@ use Rattle.rnxcmp_c.proofs.handle.open.Goals as goal
 
 pub returns-in-Some-clause-opened : goal.returns-in-Some-clause-opened
 returns-in-Some-clause-opened c =
-    search (rules, c.put_in.ensures.opened, c.put_in.ensures.reader, c.in-Ok.ensures, c.in-Some.ensures, fresh-stands)
+    search (
+      rules,
+      c.put_in.ensures.opened,
+      c.put_in.ensures.reader,
+      c.in-Ok.ensures,
+      c.in-Some.ensures,
+      fresh-stands,
+    )

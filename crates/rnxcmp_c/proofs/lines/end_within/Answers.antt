@@ -1,7 +1,8 @@
 use Rattle.std.proofs.{Common.arith, lemmas.Grind.common_steps}
 use Rattle.rnxcmp_c.proofs.{Cut.{halted-stops, kept-where_done}, WithinLemmas.{Ended, Kept, marks-within}}
 use Rattle.rnxcmp_c.proofs.{WithinLemmas.{step-stays, step-stops}, Words.{List, [], None, refl, IfErr-weaker}}
-use Rattle.rnxcmp_c.proofs.{Words.{IfOk-weaker, on_ok_weaker, InputLine, HandleState}, lines.end_within.Given.Over}
+use Rattle.rnxcmp_c.proofs.{Words.{IfOk-weaker, on_ok_weaker, InputLine, HandleState}}
+use Rattle.rnxcmp_c.proofs.{lines.end_within.Given.Over}
 use Rattle.rnxcmp_c.proofs.lines.end_within.Goals.{After-take_end-taken}
 use Rattle.rnxcmp_c.proofs.lines.end_within.Goals as goal
 

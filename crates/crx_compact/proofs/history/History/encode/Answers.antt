@@ -5,7 +5,8 @@ use Rattle.crx_compact.proofs.Words.{satellites_of, has_satellite, Row, HasRoom,
 use Rattle.crx_compact.proofs.Words.{row_of_parts, tail_of_history, no_tail, row_tail_in, Tail}
 use Rattle.crx_compact.proofs.{Words.{AreRowsWritten, HaveRoom, slice_get_within}, Results.by_ok}
 use Rattle.crx_compact.proofs.ComeRows.{row-new}
-use Rattle.crx_compact.proofs.{Making.{taken_all, taken_more}, RowByRow.{all-at, all-next}, placing.Prepared.asked-more}
+use Rattle.crx_compact.proofs.{Making.{taken_all, taken_more}, RowByRow.{all-at, all-next}}
+use Rattle.crx_compact.proofs.{placing.Prepared.asked-more}
 use borrow.Author.Count.{falls}
 use Rattle.crx_compact.specs.{Written.IsRowWritten}
 use Rattle.crx_compact.proofs.history.History.encode.Goals as goal
@@ -27,7 +28,11 @@ loop-wanting-preserved c =
 
 pub overflow_add-prepared : goal.overflow_add-prepared
 overflow_add-prepared c =
-    omega (arith, slice_get_within c.args.epoch.now.rows c.loop-wanting.prepared _ (sym c.in-Some.ensures.value))
+    omega (
+      arith,
+      slice_get_within c.args.epoch.now.rows c.loop-wanting.prepared _
+          (sym c.in-Some.ensures.value),
+    )
 
 pub loop-wanting-smaller : goal.loop-wanting-smaller
 loop-wanting-smaller c = falls _ _ (slice_get_within _ _ _ (sym c.in-Some.ensures.value))
@@ -42,7 +47,8 @@ loop-row-init c =
     (λ j. record {
       text = ap (λ (h : OpenHistory). h.text) c.self.view_is j;
       clock = ap (λ (h : OpenHistory). h.clock) c.self.view_is j;
-      rows = (c.loop-wanting.invariant.asked.rows ∙ ap (λ (h : OpenHistory). h.satellites.rows) c.self.view_is)
+      rows = (c.loop-wanting.invariant.asked.rows ∙ ap (λ (h : OpenHistory). h.satellites.rows)
+          c.self.view_is)
           j;
     }) in
     let rooms = c.begin_rows.ensures.rooms in
@@ -52,7 +58,8 @@ loop-row-init c =
           (sym (ap (λ (l : PendingLines). l.lines) c.requires.none))
           (subst (λ (t : Tail). AreRowsWritten (if c.args.in_full then no_tail else t) []
           c.begin_rows.new.self []) same c.begin_rows.ensures.begun);
-      room = subst (HaveRoom c.args.epoch.now.rows) (sym rooms) (subst (λ (rs : List Row). HaveRoom rs c.loop-wanting.satellites.rooms)
+      room = subst (HaveRoom c.args.epoch.now.rows) (sym rooms) (subst (λ (rs : List Row). HaveRoom rs
+          c.loop-wanting.satellites.rooms)
           (taken_all _ _ (sym c.in_default.ensures.value)) c.loop-wanting.invariant.room);
       kept = λ name count has. subst (HasRoom name count) (sym rooms)
           (c.loop-wanting.invariant.asked.rooms name count (subst (HasRoom name count) (sym known) has));
@@ -65,8 +72,10 @@ unwrap-requires c =
     let row : Row = c.in-Some-row.row.now in
     let rooms = c.loop-row.self.satellites.rooms in
     let here = sym c.in-Some-row.ensures.value in
-    c.write_row.ensures.prepared.known (subst (λ (name : List ℕ). HasRoom name (length c.values-in-Some-row.result.now) rooms) (sym
-    c.name-in-Some-row.ensures.value) (subst (λ (values : List (Option ℤ)). HasRoom row.name (length values) rooms)
+    c.write_row.ensures.prepared.known (subst (λ (name : List ℕ). HasRoom name
+    (length c.values-in-Some-row.result.now) rooms) (sym
+    c.name-in-Some-row.ensures.value) (subst (λ (values : List (Option ℤ)). HasRoom row.name (length values)
+    rooms)
     (sym c.values-in-Some-row.ensures.value) (all-at (λ (r : Row). HasRoom r.name (length r.values) rooms)
     c.args.epoch.now.rows c.loop-row.index row c.loop-row.invariant.room here)))
 
@@ -84,9 +93,11 @@ loop-row-preserved c =
     let row : Row = c.in-Some-row.row.now in
     let here = sym c.in-Some-row.ensures.value in
     let so_far : List Row = take index rows in
-    let put : Row = row_of_parts c.name-in-Some-row.result c.values-in-Some-row.result.now c.flags.result.now in
+    let put : Row = row_of_parts c.name-in-Some-row.result c.values-in-Some-row.result.now c.flags.result.now
+    in
     let parts : put ≡ row =
-    (λ j. row_of_parts (c.name-in-Some-row.ensures.value j) (c.values-in-Some-row.ensures.value j) (c.flags.ensures.value j)) in
+    (λ j. row_of_parts (c.name-in-Some-row.ensures.value j) (c.values-in-Some-row.ensures.value j)
+    (c.flags.ensures.value j)) in
     let after : Tail = if c.args.in_full then no_tail else tail_of_history c.args.self.now in
     let written = IfOk-at_ok (IsRowWritten after so_far put c.loop-row.self c.loop-row.lines c.write_row.new.self c.write_row.new.lines)
     c.unwrap.ensures (c.write_row.ensures.written after so_far c.loop-row.invariant.written).ok in
@@ -108,11 +119,21 @@ loop-row-preserved c =
 pub end_rows-requires-clause-counted : goal.end_rows-requires-clause-counted
 end_rows-requires-clause-counted c =
     let written : AreRowsWritten (if c.args.in_full then no_tail else tail_of_history c.args.self.now)
-    c.args.epoch.now.rows c.loop-row.self c.loop-row.lines.lines = search (rules, no_tail, tail_of_history, taken_all) in
+    c.args.epoch.now.rows c.loop-row.self c.loop-row.lines.lines = search (
+      rules,
+      no_tail,
+      tail_of_history,
+      taken_all,
+    ) in
     search (rules, written, length-map, row_tail_in, eqb-true, satellites_of)
 
 pub returns-clause-written : goal.returns-clause-written
 returns-clause-written c =
     let written : AreRowsWritten (if c.args.in_full then no_tail else tail_of_history c.args.self.now)
-    c.args.epoch.now.rows c.loop-row.self c.loop-row.lines.lines = search (rules, no_tail, tail_of_history, taken_all) in
+    c.args.epoch.now.rows c.loop-row.self c.loop-row.lines.lines = search (
+      rules,
+      no_tail,
+      tail_of_history,
+      taken_all,
+    ) in
     search (rules, no_tail, tail_of_history, by_ok, is_ok, written)

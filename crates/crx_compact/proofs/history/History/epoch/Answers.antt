@@ -1,4 +1,5 @@
-use Rattle.crx_compact.proofs.Words.{arith, rules, ap, sym, ◌∙◌, slice_get, option_map, slice_get-map, same_Some, shown_row}
+use Rattle.crx_compact.proofs.Words.{arith, rules, ap, sym, ◌∙◌, slice_get, option_map, slice_get-map}
+use Rattle.crx_compact.proofs.Words.{same_Some, shown_row}
 use Rattle.crx_compact.proofs.Words.{IsAwaitedSatellite, OpenHistory, satellite_of}
 use Rattle.crx_compact.proofs.{RowByRow.{all-at, is-there}, ShownEpochs.row-shown}
 use Rattle.crx_compact.specs.Placing.{row_tail_of}
@@ -9,7 +10,15 @@ pub row-requires : goal.row-requires
 row-requires c =
     let sound = all-at IsAwaitedSatellite _ c.loop-index.index
     (satellite_of (row_tail_of c.entry.result.0.now c.entry.result.1.now)) c.requires.announced.satellites
-    (search (rules, slice_get-map, satellite_of, option_map, slice_get, c.self.view_is, c.entry.ensures.there)) in
+    (search (
+      rules,
+      slice_get-map,
+      satellite_of,
+      option_map,
+      slice_get,
+      c.self.view_is,
+      c.entry.ensures.there,
+    )) in
     record { named = sound.named; allowed = sound.counted }
 
 -- no identifier is there twice, so a row is refused for want of memory alone
@@ -17,7 +26,8 @@ pub unreachable-requires : goal.unreachable-requires
 unreachable-requires c =
     let index = c.loop-index.index in
     let at = row-shown c.args.self.now index _ c.requires.announced
-    (ap (λ (h : OpenHistory). slice_get h.satellites.rows index) (sym c.self.view_is) ∙ c.entry.ensures.there) in
+    (ap (λ (h : OpenHistory). slice_get h.satellites.rows index) (sym c.self.view_is)
+    ∙ c.entry.ensures.there) in
     let new = at.new in
     let shown = c.in_ok-row.ensures.ok in
     grind (arith, common_steps, new, shown, c.loop-index.invariant, c.push.ensures.refused)
@@ -28,5 +38,6 @@ loop-index-preserved c =
     let row = is-there c.self.inside.satellites.rows index (omega arith) in
     let at = row-shown c.args.self.now index row.item c.requires.announced
     (ap (λ (h : OpenHistory). slice_get h.satellites.rows index) (sym c.self.view_is) ∙ row.there) in
-    let shown = c.in_ok-row.ensures.ok ∙ ap shown_row (same_Some _ row.item (sym c.entry.ensures.there ∙ row.there)) in
+    let shown = c.in_ok-row.ensures.ok ∙ ap shown_row (same_Some _ row.item (sym c.entry.ensures.there
+    ∙ row.there)) in
     cc (c.in-Ok.ensures.ok, shown, c.loop-index.invariant, at.with)

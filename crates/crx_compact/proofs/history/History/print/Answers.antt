@@ -1,5 +1,7 @@
-use Rattle.crx_compact.proofs.Words.{◌≡◌, ◌≤◌, ◌+◌, ◌-◌, sym, ap, subst, ◌∙◌, arith, ℕ, List, length, take, columns, HEAD_WIDTH}
-use Rattle.crx_compact.proofs.Words.{OpenHistory, few_kept, length-columns, printed_head, shown_value, slice_get, tail_of_history, without_end_blanks}
+use Rattle.crx_compact.proofs.Words.{◌≡◌, ◌≤◌, ◌+◌, ◌-◌, sym, ap, subst, ◌∙◌, arith, ℕ, List, length, take}
+use Rattle.crx_compact.proofs.Words.{columns, HEAD_WIDTH}
+use Rattle.crx_compact.proofs.Words.{OpenHistory, few_kept, length-columns, printed_head, shown_value}
+use Rattle.crx_compact.proofs.Words.{slice_get, tail_of_history, without_end_blanks}
 use Rattle.crx_compact.proofs.reading.Announced.{rows-allowed, rows-few}
 use Rattle.crx_compact.proofs.{PrintedBlocks.{head-printed, row-printed}, RowByRow.{all-at}, Words.rules}
 use Rattle.crx_compact.specs.{Placing.HasAllowedCount, PrintedBlocks.IsPrinted}
@@ -9,17 +11,28 @@ use Rattle.crx_compact.proofs.history.History.print.Goals as goal
 
 -- the columns without their end blanks are no more than the columns
 few : (text line : List ℕ) → line ≡ without_end_blanks (columns text 1 HEAD_WIDTH) → length line ≤ 41
-few text line is = omega (arith, ap length is, few_kept (columns text 1 HEAD_WIDTH), length-columns text 1 HEAD_WIDTH)
+few text line is = omega (
+  arith,
+  ap length is,
+  few_kept (columns text 1 HEAD_WIDTH),
+  length-columns text 1 HEAD_WIDTH,
+)
 
 pub put-requires-clause-short : goal.put-requires-clause-short
 put-requires-clause-short c =
-    omega (arith, few (take c.self.inside.length c.self.inside.text) c.end_trimmed.result.now c.end_trimmed.ensures.value)
+    omega (
+      arith,
+      few (take c.self.inside.length c.self.inside.text) c.end_trimmed.result.now
+          c.end_trimmed.ensures.value,
+    )
 
 pub returns-in_default : goal.returns-in_default
 unfolding numbers.number_text
 returns-in_default c =
-    let clock = ap (λ (h : OpenHistory). shown_value h.clock) (sym c.self.view_is) ∙ sym c.in_default.ensures.value in
-    let line = c.end_trimmed.ensures.value ∙ ap (λ (h : OpenHistory). without_end_blanks (columns h.text 1 HEAD_WIDTH)) c.self.view_is
+    let clock = ap (λ (h : OpenHistory). shown_value h.clock) (sym c.self.view_is)
+    ∙ sym c.in_default.ensures.value in
+    let line = c.end_trimmed.ensures.value ∙ ap (λ (h : OpenHistory). without_end_blanks (columns h.text 1
+    HEAD_WIDTH)) c.self.view_is
     ∙ sym (end_blanks-more (columns c.args.self.now.text 1 HEAD_WIDTH) 15)
     ∙ ap (printed_head (columns c.args.self.now.text 1 HEAD_WIDTH)) (sym clock) in
     record {

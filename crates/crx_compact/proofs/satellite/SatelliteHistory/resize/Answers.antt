@@ -1,4 +1,5 @@
-use Rattle.std.proofs.Common.{rules, ◌≡◌, ◌<◌, ◌+◌, ◌-◌, ◌*◌, ◌++◌, ◌∷◌, [], List, ℕ, append_assoc, drop, length, replicate, set, take, ap, arith}
+use Rattle.std.proofs.Common.{rules, ◌≡◌, ◌<◌, ◌+◌, ◌-◌, ◌*◌, ◌++◌, ◌∷◌, [], List, ℕ, append_assoc, drop}
+use Rattle.std.proofs.Common.{length, replicate, set, take, ap, arith}
 use Rattle.std.proofs.lemmas.List.{length-set, length-take, replicate_more, take_at, take_more_set}
 use Rattle.crx_compact.specs.Placing.{SatelliteTail}
 use Rattle.crx_compact.proofs.Resizing.{fewer-held, fewer-types, more-held, more-types}
@@ -21,12 +22,14 @@ returns-then-count-self c =
     }
 
 -- two more indicators are blank
-two-blank : (xs old : List ℕ) (i k m : ℕ) → 2 * i + 1 < length xs → take (2 * i) xs ≡ old ++ replicate k 32 → m ≡ k + 2
+two-blank : (xs old : List ℕ) (i k m : ℕ) → 2 * i + 1 < length xs → take (2 * i) xs ≡ old ++ replicate k 32
+    → m ≡ k + 2
     → take (2 * (i + 1)) (set (set xs (2 * i) 32) (2 * i + 1) 32) ≡ old ++ replicate m 32
 two-blank xs old i k m within so_far more =
     let first : take (2 * i + 1) (set xs (2 * i) 32) ≡ take (2 * i) xs ++ 32 ∷ [] =
     take_more_set xs (2 * i) 32 (omega (arith, within)) in
-    let second : take (2 * i + 1 + 1) (set (set xs (2 * i) 32) (2 * i + 1) 32) ≡ take (2 * i + 1) (set xs (2 * i) 32) ++ 32 ∷ [] =
+    let second : take (2 * i + 1 + 1) (set (set xs (2 * i) 32) (2 * i + 1) 32) ≡ take (2 * i + 1) (set xs
+    (2 * i) 32) ++ 32 ∷ [] =
     take_more_set (set xs (2 * i) 32) (2 * i + 1) 32 (omega (arith, within, length-set xs (2 * i) 32)) in
     let next : 2 * (i + 1) ≡ 2 * i + 1 + 1 = omega arith in
     let last : m ≡ k + 1 + 1 = omega (arith, more) in
@@ -42,9 +45,21 @@ loop-index-preserved c =
     let room = ap (λ (t : SatelliteTail). t.room) c.self.view_is in
     let long = ap length c.as_mut_slice-indicators.ensures.value in
     record {
-      indicators = two-blank c.loop-index.indicators _ c.loop-index.index _ _ (omega (arith, room, long, c.self.invariant.2))
+      indicators = two-blank c.loop-index.indicators _ c.loop-index.index _ _ (omega (
+        arith,
+        room,
+        long,
+        c.self.invariant.2,
+      ))
           c.loop-index.invariant.indicators (omega arith);
-      arcs = search (rules, c.loop-index.invariant.arcs, take_more_set, replicate, append_assoc, replicate_more);
+      arcs = search (
+        rules,
+        c.loop-index.invariant.arcs,
+        take_more_set,
+        replicate,
+        append_assoc,
+        replicate_more,
+      );
     }
 
 pub invariant_of-self-2 : goal.invariant_of-self-2
@@ -65,4 +80,11 @@ invariant_of-self-2 c =
     )
 
 pub returns : goal.returns
-returns c = search (rules, take_at, more-types, replicate, c.loop-index.invariant.indicators, c.loop-index.invariant.arcs)
+returns c = search (
+  rules,
+  take_at,
+  more-types,
+  replicate,
+  c.loop-index.invariant.indicators,
+  c.loop-index.invariant.arcs,
+)

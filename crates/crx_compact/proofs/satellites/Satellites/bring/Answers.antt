@@ -1,4 +1,5 @@
-use Rattle.std.proofs.{Common.{arith, ap, option_map, refl, subst, sym, ◌∙◌}, lemmas.Option.{same_Some, slice_get_within}}
+use Rattle.std.proofs.{Common.{arith, ap, option_map, refl, subst, sym, ◌∙◌}}
+use Rattle.std.proofs.{lemmas.Option.{same_Some, slice_get_within}}
 use Rattle.std.specs.Map.Iter.{deref_pair}
 use Rattle.indexmap.specs.Layout.{length-set_value_at}
 use Rattle.crx_compact.proofs.RowByRow.{room-known}
@@ -22,13 +23,15 @@ pub returns-then-not-has_room : goal.returns-then-not-has_room
 returns-then-not-has_room c =
     let stands = place-is c.self.invariant.2 c.in-Some.ensures.found c.number_at-place.ensures.value in
     rw (← c.self.view_is) (placed-not c.self.inside.known c.find.ensures.unique c.self.invariant.2 _ _
-    c.in-Some.ensures.found stands c.if-place-self.false (room-known _ _ (sym c.get_index.ensures.entry ∙ ap (option_map deref_pair) c.unwrap.ensures) c.has_room.ensures.value) c.if-not-has_room.true)
+    c.in-Some.ensures.found stands c.if-place-self.false (room-known _ _ (sym c.get_index.ensures.entry
+    ∙ ap (option_map deref_pair) c.unwrap.ensures) c.has_room.ensures.value) c.if-not-has_room.true)
 
 pub returns-then-place-self-2 : goal.returns-then-place-self-2
 returns-then-place-self-2 c =
     let stands = place-is c.self.invariant.2 c.in-Some.ensures.found c.number_at-place.ensures.value in
     rw (← c.self.view_is) (placed-exchanged c.self.inside.known c.find.ensures.unique c.self.invariant.2 _ _
-    c.in-Some.ensures.found stands c.if-place-self.false (room-known _ _ (sym c.get_index.ensures.entry ∙ ap (option_map deref_pair) c.unwrap.ensures) c.has_room.ensures.value) c.if-not-has_room.false
+    c.in-Some.ensures.found stands c.if-place-self.false (room-known _ _ (sym c.get_index.ensures.entry
+    ∙ ap (option_map deref_pair) c.unwrap.ensures) c.has_room.ensures.value) c.if-not-has_room.false
     c.if-place-self-2.true c.exchange.ensures.exchanged)
 
 pub pair_mut-satellite-requires : goal.pair_mut-satellite-requires
@@ -50,7 +53,9 @@ returns c =
     let order = c.self.invariant.2 in
     let same = same_Some _ _ (sym found.there ∙ c.pair_mut-satellite.ensures.value) in
     rw (← c.self.view_is) (placed-anew c.self.inside.known c.find.ensures.unique order _ _ found
-    (place-is order found c.number_at-place.ensures.value) c.if-place-self.false (room-known _ _ (sym c.get_index.ensures.entry ∙ ap (option_map deref_pair) c.unwrap.ensures) c.has_room.ensures.value)
+    (place-is order found c.number_at-place.ensures.value) c.if-place-self.false (room-known _ _
+    (sym c.get_index.ensures.entry ∙ ap (option_map deref_pair) c.unwrap.ensures)
+    c.has_room.ensures.value)
     c.if-not-has_room.false c.self.invariant.0 c.if-place-self-2.false
     (c.resize.ensures.resized ∙ ap (λ (e : Entry). emptied e.1) (sym same)) c.exchange-2.ensures.exchanged
     (subst (IsOrder _ _) order.counted c.exchange-2.ensures.order) c.exchange-3.ensures.exchanged)

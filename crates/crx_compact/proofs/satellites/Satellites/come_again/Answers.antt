@@ -1,9 +1,12 @@
-use Rattle.std.proofs.Common.{ap, sym, subst, arith, drop, length, map, take, All, ℕ, Option, Some, ◌≡◌, ◌<◌, ◌≤◌, ◌∙◌, option_map, rules, slice_get}
+use Rattle.std.proofs.Common.{ap, sym, subst, arith, drop, length, map, take, All, ℕ, Option, Some, ◌≡◌, ◌<◌}
+use Rattle.std.proofs.Common.{◌≤◌, ◌∙◌, option_map, rules, slice_get}
 use Rattle.std.specs.Map.Iter.{deref_pair}
 use borrow.Author.Count.{below_more}
 use Rattle.crx_compact.specs.{Entries.{KeepsTypes, in_order, placed_rows}, HeldRows.IsAwaitedSatellite}
-use Rattle.crx_compact.specs.{EpochLinesRead.HaveComeAgain, Placing.{padded, row_of_entry, row_tail_of, satellite_of}}
-use Rattle.crx_compact.proofs.placing.{Again.{come-again, named-before, none-placed, typed-named}, SteppedRows.{padded-is, rows-counted}}
+use Rattle.crx_compact.specs.{EpochLinesRead.HaveComeAgain}
+use Rattle.crx_compact.specs.{Placing.{padded, row_of_entry, row_tail_of, satellite_of}}
+use Rattle.crx_compact.proofs.placing.{Again.{come-again, named-before, none-placed, typed-named}}
+use Rattle.crx_compact.proofs.placing.{SteppedRows.{padded-is, rows-counted}}
 use Rattle.crx_compact.proofs.placing.Orders.{length-in_order, there-in_order}
 use Rattle.crx_compact.proofs.satellites.Satellites.come_again.Goals as goal
 
@@ -12,7 +15,11 @@ unwrap-requires c =
     let all = c.self.invariant.1 in
     let below = c.self.invariant.2.index c.loop-place.place
     (omega (arith, all, c.loop-place-test.true, c.if-count-self.false)) in
-    let within : c.number_at.result < length c.self.inside.known.entries = omega (arith, c.number_at.ensures.value, below) in
+    let within : c.number_at.result < length c.self.inside.known.entries = omega (
+      arith,
+      c.number_at.ensures.value,
+      below,
+    ) in
     search rules
 
 pub loop-place-preserved : goal.loop-place-preserved
@@ -30,16 +37,23 @@ loop-place-preserved c =
     ∙ sym c.get_index.ensures.entry ∙ ap (option_map deref_pair) c.unwrap.ensures in
     let none = none-placed self.placed self.live es c.self.invariant
     (rw (← c.self.view_is) at c.requires.none) in
-    let awaited = subst (λ n. All IsAwaitedSatellite (map satellite_of (map row_of_entry (drop n (take self.live os)))))
+    let awaited = subst (λ n. All IsAwaitedSatellite (map satellite_of (map row_of_entry (drop n
+    (take self.live os)))))
     none (rw (← c.self.view_is) at c.requires.awaited) in
-    below_more (λ place. KeepsTypes c.args.types.now self.order.items place es) place c.loop-place.invariant (record {
+    below_more (λ place. KeepsTypes c.args.types.now self.order.items place es) place c.loop-place.invariant
+    (record {
       entry = (name, satellite);
       there = there;
       typed = typed-named c.args.types.now name (named-before self.live os awaited place (name, satellite)
-          (omega (arith, less, c.if-count-self.false)) (omega (arith, all, length-in_order es c.self.invariant.2))
+          (omega (arith, less, c.if-count-self.false)) (omega (
+            arith,
+            all,
+            length-in_order es c.self.invariant.2,
+          ))
           (there-in_order es c.self.invariant.2 place (name, satellite)
           (omega (arith, less, all, c.if-count-self.false)) there))
-          ∙ sym c.in-Some.ensures.value ∙ ap {B = Option ℕ} Some (c.if-found-count.false ∙ counted.ensures.value);
+          ∙ sym c.in-Some.ensures.value ∙ ap {B = Option ℕ} Some (c.if-found-count.false
+          ∙ counted.ensures.value);
       own = ap (λ n. padded (record { name = name; count = n }) (Some (row_tail_of name satellite)))
           (sym counted.ensures.value)
           ∙ sym (padded-is name counted.result satellite satellite counted.ensures.whole);

@@ -12,11 +12,13 @@ returns-then-not-has_room c =
     rw (← c.self.view_is)
     (placed-not c.self.inside.known c.key_at.ensures.unique c.self.invariant.2 _ _ (found-same c.args.name.now _ _ _
     c.key_at.ensures.there c.if-is_same_identifier.ensures.same) (sym c.number_at-next.ensures.value, search rules) (search rules)
-    (room-known _ _ (sym c.get_index.ensures.entry ∙ ap (option_map deref_pair) c.unwrap.ensures) c.has_room.ensures.value) c.if-not-has_room.true)
+    (room-known _ _ (sym c.get_index.ensures.entry ∙ ap (option_map deref_pair) c.unwrap.ensures)
+    c.has_room.ensures.value) c.if-not-has_room.true)
 
 pub returns-then-is_same_identifier : goal.returns-then-is_same_identifier
 returns-then-is_same_identifier c =
     rw (← c.self.view_is)
     (placed-next c.self.inside.known c.key_at.ensures.unique c.self.invariant.2 _ _ (found-same c.args.name.now _ _ _
     c.key_at.ensures.there c.if-is_same_identifier.ensures.same) (sym c.number_at-next.ensures.value, search rules) (search rules)
-    (room-known _ _ (sym c.get_index.ensures.entry ∙ ap (option_map deref_pair) c.unwrap.ensures) c.has_room.ensures.value) c.if-not-has_room.false c.if-self.true (put-same _ _))
+    (room-known _ _ (sym c.get_index.ensures.entry ∙ ap (option_map deref_pair) c.unwrap.ensures)
+    c.has_room.ensures.value) c.if-not-has_room.false c.if-self.true (put-same _ _))

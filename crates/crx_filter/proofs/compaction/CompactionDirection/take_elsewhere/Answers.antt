@@ -5,7 +5,8 @@ use Rattle.crx_filter.proofs.steps.{CompactionKnows.refused-takes, CompactionSte
 use Rattle.crx_filter.proofs.steps.Together.{begun-asked, begun-holds, begun-kept, begun-open, begun-rows}
 use Rattle.crx_filter.proofs.steps.Together.{begun-together, begun-whole, closed-together, none-there}
 use Rattle.crx_filter.proofs.steps.Together.{same-together, served-closed, served-open}
-use Rattle.{crx_filter.proofs.compaction.CompactionDirection.take_elsewhere.Goals.After-begin, crx_lines.specs.Reading.line_shown}
+use Rattle.{crx_filter.proofs.compaction.CompactionDirection.take_elsewhere.Goals.After-begin}
+use Rattle.{crx_lines.specs.Reading.line_shown}
 use Rattle.std.proofs.lemmas.Result.{err_from_is_err_and}
 use Rattle.crx_filter.proofs.compaction.CompactionDirection.take_elsewhere.Goals as goal
 

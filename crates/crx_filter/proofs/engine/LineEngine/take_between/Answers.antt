@@ -39,7 +39,8 @@ returns-in-Ok g c =
             (d.parts c.self.inside.direction) (d.parts c.take_elsewhere-taken.new.self) _ _ out _ _ refl
             c.in-Ok.ensures.takes.reads;
         notes = λ lines counted come known. notes-handed
-            (d.notes c.take_elsewhere-taken.new.self c.self.inside.options) lines (line_shown c.of-line.result) out _
+            (d.notes c.take_elsewhere-taken.new.self c.self.inside.options) lines
+            (line_shown c.of-line.result) out _
             (c.in-Ok.ensures.takes.notes c.self.inside.options lines come known
             (c.of-line.ensures.number ∙ next.next ∙ ap (λ n. n + 1) counted));
       };

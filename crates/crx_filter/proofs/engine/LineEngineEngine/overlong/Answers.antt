@@ -7,6 +7,8 @@ returns-clause-answers g c = λ lines notices line shown awaited long.
     let d = g.D.Direction in
     let was = c.args.self.now in
     let then = c.overlong.new.self in
-    answers-counted (d.filter was.options) (engine_took d then) _ _ (engine_ready d then) lines notices line _ shown.1
+    answers-counted (d.filter was.options) (engine_took d then) _ _ (engine_ready d then) lines notices line
+    _ shown.1
     (steps-counted d.by_line (engine_state d was) (engine_state d then) Overlong {room = ⊤} _ _
-    (inl c.overlong.ensures.stops.steps)) ((c.overlong.ensures.answers line long).answers lines notices shown.0 awaited)
+    (inl c.overlong.ensures.stops.steps)) ((c.overlong.ensures.answers line long).answers lines notices
+    shown.0 awaited)

@@ -14,7 +14,8 @@ returns-clause-stepped g c =
     }
 
 pub returns-clause-count : goal.returns-clause-count
-returns-clause-count g c = steps-counted g.D.Direction.by_line _ _ _ _ _ c.answer_line.ensures.reads.takes.steps
+returns-clause-count g c = steps-counted g.D.Direction.by_line _ _ _ _ _
+    c.answer_line.ensures.reads.takes.steps
 
 pub returns-clause-answers : goal.returns-clause-answers
 returns-clause-answers g c = λ lines notices shown awaited.
@@ -23,6 +24,7 @@ returns-clause-answers g c = λ lines notices shown awaited.
     let took = c.answer_line.ensures in
     answers-counted (d.filter c.args.self.now.options) (engine_took d c.answer_line.new.self) _ _
     (lines_handed_out c.answer_line.result line.content (engine_ready d c.answer_line.new.self)) lines notices
-    line _ shown.1 (returns-clause-count g c) ((line-answered d c.args.self.now took.goes c.answer_line.new.self line
+    line _ shown.1 (returns-clause-count g c) ((line-answered d c.args.self.now took.goes
+    c.answer_line.new.self line
     (Content line.content) _ (as-read-within line line.content c.args.line.short refl) took.reads.notes
     took.reads.takes).answers lines notices shown.0 awaited)

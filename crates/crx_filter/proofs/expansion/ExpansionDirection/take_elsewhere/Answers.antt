@@ -1,6 +1,7 @@
 use Rattle.crx_filter.proofs.{Words.{common_steps, arith, ◌≡◌, []}, steps.ExpansionKnows.{expansion_of, reader-takes}}
 use Rattle.{crx_lines.specs.Reading.line_shown, std.proofs.lemmas.Result.err_from_is_err_and}
-use Rattle.crx_filter.{proofs.expansion.ExpansionDirection.take_elsewhere.Goals.After-read_between, specs.ExpansionParts.expansion_ready}
+use Rattle.crx_filter.{proofs.expansion.ExpansionDirection.take_elsewhere.Goals.After-read_between}
+use Rattle.crx_filter.{specs.ExpansionParts.expansion_ready}
 use Rattle.crx_filter.proofs.expansion.ExpansionDirection.take_elsewhere.Goals as goal
 
 -- no line is ready beside one that is copied

@@ -1,6 +1,7 @@
 use Rattle.crx_filter.proofs.Words.{common_steps, arith, ◌≡◌, ◌∙◌, ap, refl, sym, List, ℕ, Bool, false, [], None, Some}
 use Rattle.crx_filter.proofs.Words.{Content, Option, if◌then◌else◌}
-use Rattle.crx_filter.proofs.{lender.Lender.feed.{Given.Over, Goals.After-answer_line}, steps.EngineAnswers.as-read-within}
+use Rattle.crx_filter.proofs.{lender.Lender.feed.{Given.Over, Goals.After-answer_line}}
+use Rattle.crx_filter.proofs.{steps.EngineAnswers.as-read-within}
 use Rattle.crx_filter.{proofs.steps.EngineAnswers.line-answered, specs.LenderState.lines_then}
 use Rattle.{crx_filter.specs.EngineState.{LineIsAnswered, engine_ready}, crx_lines.specs.Reading.line_shown}
 use Rattle.crx_runs.specs.{Engines.{answer_given, lines_handed_out}, declared.engine.HandedOut.HandedOut}
@@ -11,12 +12,14 @@ use Rattle.crx_filter.proofs.lender.Lender.feed.Goals as goal
 fed : (g : Over) (c : After-answer_line g) (out : Option HandedOut) → c.answer_line.result ≡ out
     → LineIsAnswered g.D.Direction c.self.inside.engine (line_shown c.args.line)
     (Content (line_shown c.args.line).content) (answer_given out c.answer_line.new.self.answer)
-    (lines_handed_out out (line_shown c.args.line).content (engine_ready g.D.Direction c.answer_line.new.self))
+    (lines_handed_out out (line_shown c.args.line).content (engine_ready g.D.Direction
+    c.answer_line.new.self))
     c.answer_line.new.self
 fed g c out is =
     let line = line_shown c.args.line in
     let took = c.answer_line.ensures in
-    line-answered g.D.Direction c.self.inside.engine took.goes c.answer_line.new.self line (Content line.content)
+    line-answered g.D.Direction c.self.inside.engine took.goes c.answer_line.new.self line
+    (Content line.content)
     (answer_given out c.answer_line.new.self.answer) (as-read-within line line.content c.args.line.short refl)
     (rw is at took.reads.notes) (rw is at took.reads.takes)
 

@@ -1,5 +1,6 @@
 use Rattle.std.proofs.Common.{◌≡◌, ℕ, ◌+◌, ◌-◌, ◌≤◌, ⊎_elim, inl, inr, cond, List, [], ◌∷◌, ◌++◌, Err, length}
-use Rattle.std.proofs.{Common.{true, ◌<◌, ◌⊎◌, take, drop, sym, ap, ◌∙◌, refl, arith, rules}, lemmas.List.length-drop}
+use Rattle.std.proofs.{Common.{true, ◌<◌, ◌⊎◌, take, drop, sym, ap, ◌∙◌, refl, arith, rules}}
+use Rattle.std.proofs.{lemmas.List.length-drop}
 use Rattle.crx_lines.proofs.AdvanceLemmas.{piece_at, passed-within, takes, some-byte, whole-piece, held-is}
 use Rattle.crx_lines.proofs.AdvanceLemmas.{some-read, too-long, none-passed, content-long, over-fault}
 use Rattle.crx_lines.proofs.{AdvanceLemmas.{read-fault}, DeviceLemmas.{tally-same, tally-line}}

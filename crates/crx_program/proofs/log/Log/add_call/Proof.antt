@@ -49,7 +49,12 @@ add_call_spec 𝓤 𝓛 𝓜 𝓡 wired =
     let b = a.0.ref_ptr.0 in let o = a.0.ref_ptr.1 in let h : Log = a.0.now in
     let s : Val = slice_val a.1.0.ref_ptr (length a.1.0.now) in
     let r : Val = vptr a.1.1.0.ref_ptr.0 a.1.1.0.ref_ptr.1 in
-    let h' : Log = record { marker = h.marker; bytes = h.bytes; calls = with_call h.calls a.1.0.now a.1.1.0.now } in
+    let h' : Log = record {
+      marker = h.marker;
+      bytes = h.bytes;
+      calls = with_call h.calls a.1.0.now
+          a.1.1.0.now;
+    } in
     let at : List Val × (List Val × (List Val × Unit {0})) = (vptr b o ∷ [], (s ∷ [], (r ∷ [], tt))) in
     let Post : Val → SProp 𝓤 = (walk_of 𝓛 it.ended stayed c).post ((κs, qs, bounds, a, at), g) in
     qed 𝓛 (((‵ (flft κs.0 qs.0) ⊛ (‵ (flft κs.1.0 qs.1.0) ⊛ (‵ (flft κs.1.1.0 qs.1.1.0) ⊛ ‵ ftrue))) ⊛ ‵

@@ -9,5 +9,6 @@ returns-in-Ok c = λ task past is.
     c.status_at_end.ensures ends.0.1 ends.0.0
 
 pub returns-in-Err : goal.returns-in-Err
-returns-in-Err c = λ task past is. stops-at_end task _ is.is_of c.outcome_of.new.held _ (c.in-Err.ensures.keeps.1 ∙ is.limit)
+returns-in-Err c = λ task past is. stops-at_end task _ is.is_of c.outcome_of.new.held _
+    (c.in-Err.ensures.keeps.1 ∙ is.limit)
     _ past _ (c.in-Err.ensures.ends past is.going).1 c.outcome_of.ensures

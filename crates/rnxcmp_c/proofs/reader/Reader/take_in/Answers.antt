@@ -16,7 +16,10 @@ returns-then-not-is_empty c = λ task past stands.
     grind arith in
     fed-by task old _ past _ 0 _ _ none (passed-bytes task old _ past _ _ 0 _
     (first-allowed _ _ _ c.min-count.ensures) c.answer.ensures runs is_full.1 is_full.0 refl
-    (passed-over task old c.outcome_of.new.held _ past runs (grind (arith, common_steps)) c.outcome_of.ensures))
+    (passed-over task old c.outcome_of.new.held _ past runs (grind (
+      arith,
+      common_steps,
+    )) c.outcome_of.ensures))
 
 pub returns : goal.returns
 returns c = λ task past stands.

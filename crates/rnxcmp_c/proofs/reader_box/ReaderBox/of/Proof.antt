@@ -1,6 +1,7 @@
 -- `of` moves the pointer, and what the parts owned goes with it.
 use Rattle.std.proofs.{Common.arith, lemmas.Grind.common_steps}
-use Rattle.rnxcmp_c.proofs.{LooseValues.{both, Loose, loose_good, loose_out}, ReaderBoxValues.{word, place_in}}
+use Rattle.rnxcmp_c.proofs.{LooseValues.{both, Loose, loose_good, loose_out}}
+use Rattle.rnxcmp_c.proofs.{ReaderBoxValues.{word, place_in}}
 use Rattle.rnxcmp_c.proofs.RawWords.{List, [], ◌∷◌, ◌++◌, refl, Val, vptr, SProp, emp}
 use Rattle.rnxcmp_c.proofs.RawWords.{ftrue, fsep, WpFn, ‵, raw, ◌⊛◌, ◌$◌, ◌∵◌, !, qed, move, keep, drop}
 use Rattle.rnxcmp_c.proofs.RawWords.{split, join, fsplit, fjoin, suffices, regoal, prop, done, stop, fld}
