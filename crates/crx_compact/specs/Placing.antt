@@ -182,7 +182,8 @@ satellite_of row = record { name = row.name; count = length row.cells }
 abbrev pub row_read : RowTail → List ℕ → Result HeldRow Fault
 row_read row line = row_held (Some row) (satellite_of row) line
 
--- marks were read over the indicators of so many types, which they change, or are none
+-- marks were read over the indicators of so many types, which are then as the marks change them; or they are no
+-- marks, which is the fault BadFlags. Either way each indicator may be there
 pub record AnswersMarks (count : ℕ) (marks old new : List ℕ) (answer : Result (Unit {0}) Fault) : Type 0 where
   pub good : OnOk answer (are_marks count marks ≡ true)
   pub patched : OnOk answer (take (2 * count) new ≡ columns (patched (take (2 * count) old) marks) 1 (2 * count))

@@ -332,7 +332,8 @@ impl History {
     {
         if count == 0 {
             lines.clear();
-            // Most epochs have no clock offset: that the columns are put as they are saves 130 instructions.
+            // Most epochs have no clock offset. That the columns are put as they are then saves some 130
+            // instructions.
             let Some(_) = self.clock.value() else {
                 lines.put(end_trimmed(&self.text[..self.length], 1, HEAD_WIDTH));
                 return;
@@ -398,7 +399,8 @@ fn read_names(
         let Some(cells) = types_of_satellite(types, &name) else {
             return Err(Fault::BadSatellite);
         };
-        // Mostly it has room; else room is asked for all of the text, and only where none has a fault.
+        // Mostly the satellite has room. Else room is asked for all of the text, and only where no satellite
+        // has a fault.
         let is_new = match satellites.place(&name, cells) {
             Some(is_new) => is_new,
             None => {

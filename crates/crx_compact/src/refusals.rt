@@ -18,8 +18,8 @@ use crx_rinex::types_of_satellite;
 /// Asks for room for so many satellites of an epoch text, each with as many types as its system has, where
 /// none of them has a fault. No row changes.
 ///
-/// Each identifier is marked, and one that isn't marked yet is none of those before it. So mostly it needn't
-/// be compared with these, which would take 20 instructions for each two of an epoch's satellites.
+/// Each identifier is marked at its place. Where that place has no mark yet, it is none of those before it,
+/// and needn't be compared with them: that would take 20 instructions for each two of an epoch's satellites.
 #[cold]
 #[inline(never)]
 pub(crate) fn prepare_names(

@@ -274,7 +274,7 @@ pub(crate) fn put_first(bytes: &mut [u8], text: &[u8])
 /// Replaces indicators, the first two for each of so many types, by those that marks make of them.
 ///
 /// `BadFlags` comes where the marks hold a character outside 32 to 126, or anything but blanks past the
-/// indicators; then these are as they were.
+/// indicators.
 #[inline(never)]
 fn patch_indicators(
     indicators: &mut [u8],

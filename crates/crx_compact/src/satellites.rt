@@ -184,7 +184,8 @@ impl Satellites {
         let order = &self.order;
         for place in 0..count {
             let (name, satellite) = known.get_index(number_at(order, place)).unwrap();
-            // Each has the form of an identifier, so its letter alone is read: this saves 10 instructions.
+            // Each has the form of an identifier, so its letter alone is read: this saves 10 instructions for
+            // each of them.
             let Some(found) = types.count(name[0]) else {
                 return false;
             };

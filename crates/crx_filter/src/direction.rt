@@ -55,7 +55,7 @@ pub trait Direction: Drop {
     // How many units it has counted, at most one a line.
     ghost counted: { Self → ℕ };
 
-    // What it has open was begun by these choices.
+    // Whether what it has open was begun by these choices; so it is where nothing is open.
     ghost was_begun_by: { Self → Choices → Bool };
 
     // Whether it takes memory before the first line.
@@ -68,7 +68,7 @@ pub trait Direction: Drop {
     // satellites of their epochs, or what a check has noted of them.
     ghost notes: { Self → Choices → List InputLine → Type 0 };
 
-    // What it has found in these lines at a good end.
+    // At a good end its report is that of these lines; a direction without one has nothing to say.
     ghost report_is: { Self → List InputLine → Type 0 };
 
     // Whether a line that comes after these may need more memory than they did; where none is needed at all,

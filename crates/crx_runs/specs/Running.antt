@@ -56,15 +56,17 @@ StepGoes filter shows input writer messages now lines (Ok (Some warned)) =
 StepGoes filter shows input writer messages now lines (Err halt) =
     StopsAt filter input writer messages now lines halt
 
--- a run can take its next step: no line is pending, and the lines that were read are those that its engine has taken
+-- a run can take its next step: no line is pending, its input can be read on and is within its limit, and its
+-- engine has taken as many lines as were read
 pub record CanStep {E : Type 0} (engine : EngineGhosts E) (before : E) (old : ReaderState) : Type 0 where
   pub drained : engine.ready before ≡ []
   pub going : (old.phase ≡ Open) ⊎ (old.phase ≡ Ended)
   pub next : old.number ≡ engine.taken before
   pub counted : IsWithinLimit old
 
--- a run took a step: no line is pending then, and with a line it comes farther in its input. The reader was asked only
--- where no line was held with its LF, and nothing is reported before what was written is handed on
+-- a run took a step by the same filter. Unless that ended it no line is pending, and with a line it came farther,
+-- within the limit of an input. The reader was asked only where no line was held with its LF. Nothing is reported
+-- before what was written is handed on, where that is awaited
 pub record RunHasStepped {E R W M : Type 0} (engine : EngineGhosts E) (sink : SinkGhosts W) (before after : E)
     (old new : ReaderState) (reader reader' : R) (writer : W) (messages messages' : M)
     (result : Result (Option Bool) Halt) : Type 0 where

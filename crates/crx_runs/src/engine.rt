@@ -88,6 +88,7 @@ pub trait Engine {
     fn overlong(&mut self, number: u64) -> Result<Step, At>
         requires next { IsNextLine (ready self.old) (taken self.old) number }
         ensures stepped { HasStepped (filter self.old) (filter self.new) (ready self.new) result }
+        ensures count { IfOk result (λ step. taken self.new ≡ taken_after step (taken self.old)) }
         ensures once { IfOk result Stays }
         ensures answers { (lines : List InputLine) (notices : List Awaited) (line : InputLine)
             → shows self.old lines notices

@@ -37,7 +37,7 @@ impl From<At> for Halt {
 }
 
 /// Writes what a step made ready, or reports its warning; whether it was a warning. Before a warning what was
-/// written is handed on, where that is awaited; where that fails, it is told before the next read.
+/// written is handed on, where that is awaited. A failure of that is told before the next read.
 #[inline(never)]
 fn carry_out<E: Engine, W: Sink, M: Sink>(
     engine: &mut E,
