@@ -4,9 +4,9 @@
 ghost use Rattle.std.specs.Prelude.{◌≡◌, [], None, map, string_bytes};
 ghost use Rattle.crx_command.specs.meaning.Planning.{Help, Refusal, Refused, Run, plan_of};
 ghost use Rattle.crx_program.specs.meaning.Jobs.{IsJobDone};
-ghost use Rattle.crx_program.specs.meaning.Kept.{KeepsItsPromises};
+ghost use Rattle.crx_program.specs.meaning.Kept.{DoesItsJob};
 ghost use Rattle.crx_program.specs.meaning.Program.{IsHelped, IsRefused, IsShown, at_start};
-ghost use Rattle.crx_program.specs.meaning.Streams.{FromUnused, HasLogsOf, IsExact, IsPrefix, IsUnused, OpensInOrder};
+ghost use Rattle.crx_program.specs.meaning.Streams.{FromUnused, HasLogsOf, HasNoFiles, IsUnused};
 ghost use Rattle.crx_runs.specs.meaning.Spans.{reader_span, span};
 
 use crate::log::opener::Opener;
@@ -60,8 +60,7 @@ pub fn without_memory<I: Read, O: Write + Drop, E: Write, F: Write + Drop>(
         IsShown (span ⟦<MessageDevice<E> as Sink>⟧ messages result.messages) (at_start Fault.OutOfMemory)) }
     ensures input { IsUnused stdin result.input }
     ensures output { IsUnused stdout result.output }
-    ensures source { result.source ≡ None }
-    ensures target { result.target ≡ None }
+    ensures files { HasNoFiles result }
 {
     let mut messages = Logged::new(Std::new(stderr));
     let status = report_at_start(&mut messages, Fault::OutOfMemory);
@@ -91,14 +90,13 @@ pub fn run_over<H: Files, I: Read, O: Write + Drop, E: Write>(
     ensures refused { (refusal : Refusal) → plan_of (map string_bytes words.items) ≡ Refused refusal
         → FromUnused stderr (λ messages.
         IsRefused (span ⟦<MessageDevice<E> as Sink>⟧ messages result.messages) refusal result.status)
-        × (result.input.log.bytes ≡ []) × (result.output.log.bytes ≡ []) × (result.source ≡ None)
-        × (result.target ≡ None) × (files.new.log.calls ≡ files.old.log.calls) }
+        × (result.input.log.bytes ≡ []) × (result.output.log.bytes ≡ []) × HasNoFiles result
+        × (files.new.log.calls ≡ files.old.log.calls) }
     ensures help { plan_of (map string_bytes words.items) ≡ Help
         → FromUnused stdout (λ output. FromUnused stderr (λ messages.
         IsHelped (span ⟦<OutputDevice<O> as Sink>⟧ output result.output)
         (span ⟦<MessageDevice<E> as Sink>⟧ messages result.messages) result.status))
-        × (result.input.log.bytes ≡ []) × (result.source ≡ None) × (result.target ≡ None)
-        × (files.new.log.calls ≡ files.old.log.calls) }
+        × (result.input.log.bytes ≡ []) × HasNoFiles result × (files.new.log.calls ≡ files.old.log.calls) }
     ensures done { (job : Job) → plan_of (map string_bytes words.items) ≡ Run job
         → FromUnused stdin (λ input. FromUnused stdout (λ output.
         FromUnused stderr (λ messages.
@@ -108,14 +106,8 @@ pub fn run_over<H: Files, I: Read, O: Write + Drop, E: Write>(
         (span ⟦<MessageDevice<E> as Sink>⟧ messages result.messages) result.status
         ((result.input ≡ input) × (result.output ≡ output) × (result.target ≡ None))
         files.old.log.calls files.new.log.calls))) }
-    ensures opens { (job : Job) → plan_of (map string_bytes words.items) ≡ Run job
-        → OpensInOrder job files.old.log.calls files.new.log.calls }
-    ensures exact { (job : Job) → plan_of (map string_bytes words.items) ≡ Run job
-        → (result.status ≡ 1 → ⊥) → IsExact moment job result }
-    ensures front { (job : Job) → plan_of (map string_bytes words.items) ≡ Run job
-        → IsPrefix moment job result }
-    ensures keeps { (job : Job) → plan_of (map string_bytes words.items) ≡ Run job
-        → (result.status ≡ 1 → ⊥) → KeepsItsPromises moment job result }
+    ensures does { (job : Job) → plan_of (map string_bytes words.items) ≡ Run job
+        → DoesItsJob moment job files.old.log.calls files.new.log.calls result }
 {
     let mut input = Logged::new(Std::new(stdin).waiting(may_wait));
     let mut output = Logged::new(Std::new(stdout));

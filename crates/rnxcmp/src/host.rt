@@ -4,9 +4,9 @@ ghost use Rattle.std.specs.Prelude.{◌≡◌, [], None, drop, map, string_bytes
 ghost use Rattle.std.specs.Vec.Iter.{into_iter_items};
 ghost use Rattle.crx_command.specs.meaning.Planning.{Help, Refusal, Refused, Run, plan_of};
 ghost use Rattle.crx_program.specs.meaning.Jobs.{IsJobDone};
-ghost use Rattle.crx_program.specs.meaning.Kept.{KeepsItsPromises};
+ghost use Rattle.crx_program.specs.meaning.Kept.{DoesItsJob};
 ghost use Rattle.crx_program.specs.meaning.Program.{IsHelped, IsRefused};
-ghost use Rattle.crx_program.specs.meaning.Streams.{FromUnused, IsExact, IsPrefix, OpensInOrder};
+ghost use Rattle.crx_program.specs.meaning.Streams.{FromUnused, HasNoFiles};
 ghost use Rattle.crx_runs.specs.meaning.Spans.{reader_span, span};
 
 use crate::{Job, UsageFault, Word};
@@ -62,14 +62,13 @@ pub fn run_streams(
         → plan_of (map string_bytes (drop 1 (into_iter_items arguments))) ≡ Refused refusal
         → FromUnused stderr (λ messages.
         IsRefused (span ⟦<MessageDevice<Stderr> as Sink>⟧ messages result.messages) refusal result.status)
-        × (result.input.log.bytes ≡ []) × (result.output.log.bytes ≡ []) × (result.source ≡ None)
-        × (result.target ≡ None) × (files.new.log.calls ≡ files.old.log.calls) }
+        × (result.input.log.bytes ≡ []) × (result.output.log.bytes ≡ []) × HasNoFiles result
+        × (files.new.log.calls ≡ files.old.log.calls) }
     ensures help { plan_of (map string_bytes (drop 1 (into_iter_items arguments))) ≡ Help
         → FromUnused stdout (λ output. FromUnused stderr (λ messages.
         IsHelped (span ⟦<OutputDevice<Stdout> as Sink>⟧ output result.output)
         (span ⟦<MessageDevice<Stderr> as Sink>⟧ messages result.messages) result.status))
-        × (result.input.log.bytes ≡ []) × (result.source ≡ None) × (result.target ≡ None)
-        × (files.new.log.calls ≡ files.old.log.calls) }
+        × (result.input.log.bytes ≡ []) × HasNoFiles result × (files.new.log.calls ≡ files.old.log.calls) }
     ensures done { (job : Job)
         → plan_of (map string_bytes (drop 1 (into_iter_items arguments))) ≡ Run job
         → FromUnused stdin (λ input. FromUnused stdout (λ output. FromUnused stderr (λ messages.
@@ -79,18 +78,8 @@ pub fn run_streams(
         (span ⟦<MessageDevice<Stderr> as Sink>⟧ messages result.messages) result.status
         ((result.input ≡ input) × (result.output ≡ output) × (result.target ≡ None))
         files.old.log.calls files.new.log.calls))) }
-    ensures opens { (job : Job)
-        → plan_of (map string_bytes (drop 1 (into_iter_items arguments))) ≡ Run job
-        → OpensInOrder job files.old.log.calls files.new.log.calls }
-    ensures exact { (job : Job)
-        → plan_of (map string_bytes (drop 1 (into_iter_items arguments))) ≡ Run job
-        → (result.status ≡ 1 → ⊥) → IsExact moment job result }
-    ensures front { (job : Job)
-        → plan_of (map string_bytes (drop 1 (into_iter_items arguments))) ≡ Run job
-        → IsPrefix moment job result }
-    ensures keeps { (job : Job)
-        → plan_of (map string_bytes (drop 1 (into_iter_items arguments))) ≡ Run job
-        → (result.status ≡ 1 → ⊥) → KeepsItsPromises moment job result }
+    ensures does { (job : Job) → plan_of (map string_bytes (drop 1 (into_iter_items arguments))) ≡ Run job
+        → DoesItsJob moment job files.old.log.calls files.new.log.calls result }
 {
     match words_given(alloc, arguments) {
         Ok(words) => run_over(files, alloc, moment, words, waits, stdin, stdout, stderr),

@@ -8,8 +8,9 @@ use Rattle.crx_command.specs.declared.job.Job.{Job}
 use Rattle.crx_command.specs.declared.job.Tool.{Tool}
 use Rattle.crx_command.specs.declared.job.Tool.TheVariants.{Compact, Expand, Check}
 use Rattle.crx_program.specs.declared.streams.Whole.{Whole}
+use Rattle.crx_program.specs.meaning.Calls.{Call}
 use Rattle.crx_program.specs.meaning.Jobs.{IsChosen}
-use Rattle.crx_program.specs.meaning.Streams.{ReadsGave, WritesTook}
+use Rattle.crx_program.specs.meaning.Streams.{IsExact, IsPrefix, OpensInOrder, ReadsGave, WritesTook}
 
 -- the logs of the output and of the messages, and the status, are those of a result without a fault
 pub record IsLogged (written reported : List ℕ) (status : ℕ) (result : FilterResult) : Type 0 where
@@ -31,3 +32,12 @@ KeepsItsPromises moment job whole = (given : List ℕ) × (written : List ℕ) �
     × WritesTook job.target job.force whole.target whole.output written
     × IsChosen moment job.tool job.date job.every job.skip choices
     × ToolKeeps job.tool choices (IsLogged written whole.messages.log.bytes whole.status) whole.status given
+
+-- a run does what its arguments ask for: which files it opens; that it is exact and keeps its promises,
+-- unless the status is 1; and that it writes a prefix in each case
+pub record DoesItsJob {I O E F : Type 0} (moment : Option Timestamp) (job : Job) (before after : List Call)
+    (whole : Whole I O E F) : Type 0 where
+  pub opens : OpensInOrder job before after
+  pub exact : (whole.status ≡ 1 → ⊥) → IsExact moment job whole
+  pub front : IsPrefix moment job whole
+  pub keeps : (whole.status ≡ 1 → ⊥) → KeepsItsPromises moment job whole

@@ -1,6 +1,7 @@
 -- What a run over standard streams read, wrote and reported, by the logs of its devices.
 use Rattle.std.specs.Prelude.{◌≡◌, ◌⊎◌, ◌<◌, ℕ, Bool, true, false, List, [], ◌++◌, Option, Some, None}
 use Rattle.std.specs.Option.{option_map}
+use Rattle.std.specs.declared.fs.options.OpenOptions.{OpenOptions}
 use Rattle.crx_base.specs.meaning.Lines.{lines_of}
 use Rattle.crx_lines.specs.declared.device.Std.{Std}
 use Rattle.crx_base.specs.meaning.Choices.{Choices}
@@ -82,6 +83,10 @@ abbrev pub OpensInOrder : Job → List Call → List Call → Type 0
 OpensInOrder job before after = (made : List Call) × (rest : List Call)
     × (after ≡ before ++ made) × (made ++ rest ≡ calls_of job)
 
+-- a run handed back no file: it opened none, or let go of those that it opened
+abbrev pub HasNoFiles : {I O E F : Type 0} → Whole I O E F → Type 0
+HasNoFiles whole = (whole.source ≡ None) × (whole.target ≡ None)
+
 -- closing a run reads, writes and reports nothing more
 pub record HasLogsOf {I O E F : Type 0} (whole : Whole I O E F) (closed : Closed) : Type 0 where
   pub input : closed.input.bytes ≡ whole.input.log.bytes
@@ -102,3 +107,12 @@ IsUnused stream device = (device.inner.inner ≡ stream) × (device.log.bytes �
 -- this holds of an unused device of this stream, from which a run led to the one that it handed back
 abbrev pub FromUnused : {D : Type 0} → D → (Logged (Std D) → Type 0) → Type 0
 FromUnused {D = D} stream holds = (first : Logged (Std D)) × IsUnused stream first × holds first
+
+-- the device of a file that was opened by this name, for writing where there are options: nothing went
+-- through it yet, and no failure was counted
+pub record IsOpened {F : Type 0} (name : List ℕ) (how : Option OpenOptions) (device : Logged (Std F))
+    : Type 0 where
+  pub name_is : device.opening.name.bytes ≡ name
+  pub how_is : device.opening.how ≡ how
+  pub log : device.log.bytes ≡ []
+  pub failures : device.inner.failures ≡ 0

@@ -3,6 +3,7 @@
 ghost use Rattle.std.specs.Prelude.{◌≡◌, [], None, Some, IfOk, is_some, true};
 ghost use Rattle.std.specs.Io.Buffered.{writer_buffer, writer_inner};
 ghost use Rattle.crx_program.specs.meaning.Calls.{options_to_read, with_call};
+ghost use Rattle.crx_program.specs.meaning.Streams.{IsOpened};
 
 use super::{FileBuffer, Log, Logged, OUTPUT_BUFFER, Opening, SourceFile, TargetFile};
 use crate::late_writer::LateWriter;
@@ -45,10 +46,8 @@ impl<'a, H: Files> Opener<'a, H> {
     /// has a name: the one that they were given, and hand on to the machine.
     pub fn open_to_read(&mut self, name: &str) -> io::Result<SourceFile<H::File>>
         ensures calls { self.new.log.calls ≡ with_call self.old.log.calls name.now options_to_read }
-        ensures name { IfOk result (λ device. device.opening.name.bytes ≡ name.now) }
-        ensures log { IfOk result (λ device. device.log.bytes ≡ []) }
+        ensures opened { IfOk result (IsOpened name.now None) }
         ensures unread { IfOk result (λ device. device.inner.is_unread ≡ true) }
-        ensures failures { IfOk result (λ device. device.inner.failures ≡ 0) }
         ensures ends { IfOk result (λ device. device.inner.ends ≡ 0) }
     {
         let mut how = OpenOptions::new();
@@ -71,10 +70,7 @@ impl<'a, H: Files> Opener<'a, H> {
     ) -> io::Result<TargetFile<H::File>>
         requires empty { writer_buffer buffer ≡ [] }
         ensures calls { self.new.log.calls ≡ with_call self.old.log.calls name.now how }
-        ensures name { IfOk result (λ device. device.opening.name.bytes ≡ name.now) }
-        ensures how { IfOk result (λ device. device.opening.how ≡ Some how) }
-        ensures log { IfOk result (λ device. device.log.bytes ≡ []) }
-        ensures failures { IfOk result (λ device. device.inner.failures ≡ 0) }
+        ensures opened { IfOk result (IsOpened name.now (Some how)) }
         ensures empty { IfOk result (λ device. writer_buffer device.inner.inner ≡ []) }
         ensures file { IfOk result (λ device. is_some (writer_inner device.inner.inner).writer ≡ true) }
     {

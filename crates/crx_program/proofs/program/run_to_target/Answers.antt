@@ -6,13 +6,13 @@ use Rattle.crx_program.proofs.program.run_to_target.Goals as goal
 pub returns-in-Ok-open_to_write-clause-done : goal.returns-in-Ok-open_to_write-clause-done
 returns-in-Ok-open_to_write-clause-done g c =
     let named = c.in-Some.is ∙ ap Some (sym c.text.ensures.value) in
-    let opened = c.in-Ok-open_to_write.ensures in
+    let opened = c.in-Ok-open_to_write.ensures.opened in
     inl (
       called-to_write c.args.files.now.log.calls c.open_to_write.new.self.log.calls c.text.result.now
           c.options_to_write.result c.args.job.now.target c.args.job.now.force named c.options_to_write.ensures c.open_to_write.ensures.calls,
       rw named (
         c.in-Ok-open_to_write.device.opening,
-        (opened.name, opened.how ∙ ap Some c.options_to_write.ensures),
+        (opened.name_is, opened.how_is ∙ ap Some c.options_to_write.ensures),
         (
           c.in-Ok-open_to_write.device,
           c.filter-status.new.writer,

@@ -38,15 +38,13 @@ returns g c =
         (c.new-messages.result, messages, (ended.refused refusal e).0),
         rw (ended.refused refusal e).1 c.new-input.ensures.log,
         rw (ended.refused refusal e).2 c.new-output.ensures.log,
-        (ended.refused refusal e).3,
-        (ended.refused refusal e).4,
+        ((ended.refused refusal e).3, (ended.refused refusal e).4),
         (ended.refused refusal e).5,
       );
       help = λ e. (
         (c.new-output.result, output, (c.new-messages.result, messages, (ended.help e).0)),
         rw (ended.help e).1 c.new-input.ensures.log,
-        (ended.help e).2,
-        (ended.help e).3,
+        ((ended.help e).2, (ended.help e).3),
         (ended.help e).4,
       );
       done = λ job e. (
@@ -62,15 +60,18 @@ returns g c =
           ),
         ),
       );
-      opens = λ job e. (run job e).2;
-      exact = λ job e. (run job e).0;
-      front = λ job e. (run job e).1;
-      keeps = λ job e well. kept-of_exact {E = g.row.E.Denot} c.args.moment job (record {
-        status = _;
-        input = _;
-        output = _;
-        messages = c.run_with_files-ended.new.messages;
-        source = _;
-        target = _;
-      }) well ((run job e).0 well);
+      does = λ job e.
+          let run = run job e in record {
+            opens = run.2;
+            exact = run.0;
+            front = run.1;
+            keeps = λ well. kept-of_exact {E = g.row.E.Denot} c.args.moment job (record {
+              status = _;
+              input = _;
+              output = _;
+              messages = c.run_with_files-ended.new.messages;
+              source = _;
+              target = _;
+            }) well (run.0 well);
+          };
     }

@@ -17,8 +17,7 @@ returns-in-Err-clause-refused c = λ refusal e.
       ),
       c.without_memory.ensures.input.1,
       c.without_memory.ensures.output.1,
-      c.without_memory.ensures.source,
-      c.without_memory.ensures.target,
+      c.without_memory.ensures.files,
       refl,
     )
 
@@ -39,8 +38,7 @@ returns-in-Err-clause-help c = λ e.
         ),
       ),
       c.without_memory.ensures.input.1,
-      c.without_memory.ensures.source,
-      c.without_memory.ensures.target,
+      c.without_memory.ensures.files,
       refl,
     )
 
@@ -60,22 +58,21 @@ returns-in-Err-clause-done c = λ job e.
             can = tt;
             shown = inl shown.2;
             status_is = c.without_memory.ensures.status;
-            same = (refl, refl, c.without_memory.ensures.target);
+            same = (refl, refl, c.without_memory.ensures.files.1);
             opened = inl refl;
           }),
         ),
       ),
     )
 
-pub returns-in-Err-clause-opens : goal.returns-in-Err-clause-opens
-returns-in-Err-clause-opens c = λ job e. ([], calls_of job, sym (append-nil c.args.files.now.log.calls), refl)
-
-pub returns-in-Err-clause-exact : goal.returns-in-Err-clause-exact
-returns-in-Err-clause-exact c = λ job e well. absurd (well c.without_memory.ensures.status)
-
-pub returns-in-Err-clause-keeps : goal.returns-in-Err-clause-keeps
-returns-in-Err-clause-keeps c = λ job e well. absurd (well c.without_memory.ensures.status)
-
-pub returns-in-Err-clause-front : goal.returns-in-Err-clause-front
-returns-in-Err-clause-front c = λ job e.
-    inr (c.without_memory.ensures.input.1, c.without_memory.ensures.output.1, c.without_memory.ensures.target)
+pub returns-in-Err-clause-does : goal.returns-in-Err-clause-does
+returns-in-Err-clause-does c = λ job e. record {
+  opens = ([], calls_of job, sym (append-nil c.args.files.now.log.calls), refl);
+  exact = λ well. absurd (well c.without_memory.ensures.status);
+  front = inr (
+    c.without_memory.ensures.input.1,
+    c.without_memory.ensures.output.1,
+    c.without_memory.ensures.files.1,
+  );
+  keeps = λ well. absurd (well c.without_memory.ensures.status);
+}
