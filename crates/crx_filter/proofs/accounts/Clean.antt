@@ -1,13 +1,13 @@
 -- The lines of an accepted epoch of compact text are printable.
 use Rattle.crx_filter.proofs.Words
-use Words.{arith, common_steps, [], ℕ, ℤ, zero, suc, ◌≡◌, true, List, ◌∷◌, ◌++◌, take, Option, Some, None}
+use Words.{arith, common_steps, [], ℕ, ℤ, zero, suc, ◌≡◌, true, List, ◌∷◌, take, Option, Some}
 use Words.{Result, Ok, refl, ⊤, list_all, ReadLine, Fault, Place, Done, then_place, first_line, Count}
 use Words.{RawEpoch, Past, Satellite, BegunEpoch, epoch_begun, code_of, without_end_blanks, cell_read}
 use Words.{clock_line_read, satellite_line_read, rows_read, epoch_at, BadField, BadClock, Truncated}
 use Words.{begins_epoch}
 use Rattle.std.{proofs.Common.take-add, specs.Str.all_ascii_digits}
 use Rattle.{crx_base.specs.meaning.Lines.is_printable, crx_text.specs.declared.code.Code.Code}
-use Rattle.crx_text.specs.meaning.{Numbers.without_minus, Codes.{coded_number, step_of, first_cell}}
+use Rattle.crx_text.specs.meaning.{Numbers.without_minus, Codes.{coded_number, first_cell}}
 use Rattle.{crx_text.specs.meaning.Codes.after_cell, crx_compact.proofs.Results.{no-err, and_then-ok, if-err}}
 use Rattle.crx_compact.{proofs.Results.before-ok, specs.meaning.Cells.{ReadCell, cells_of, after_cells}}
 use Rattle.crx_compact.specs.meaning.{Cells.cells_read, CompactPlaces.ReadRow}
@@ -21,18 +21,14 @@ digits-printable (c ∷ cs) h = grind (arith, common_steps, digits-printable cs)
 
 minus-printable : (text : List ℕ) → list_all is_printable (without_minus text) ≡ true
     → list_all is_printable text ≡ true
-minus-printable [] h = refl
-minus-printable (c ∷ cs) h = grind arith
+minus-printable text h = grind (arith, common_steps)
 
 number-printable : (text : List ℕ) (z : ℤ) → coded_number text ≡ Some z → list_all is_printable text ≡ true
 unfolding coded_number
 number-printable text z h = grind (arith, h, minus-printable, digits-printable)
 
-step-printable : (text : List ℕ) (code : Code) → step_of text ≡ Some code → list_all is_printable text ≡ true
-step-printable text code h = grind (arith, common_steps, number-printable)
-
 code-printable : (text : List ℕ) (code : Code) → code_of text ≡ Some code → list_all is_printable text ≡ true
-code-printable text code h = grind (arith, common_steps, step-printable, number-printable)
+code-printable text code h = grind (arith, common_steps, number-printable)
 
 untrimmed : (text : List ℕ) → list_all is_printable (without_end_blanks text) ≡ true
     → list_all is_printable text ≡ true
@@ -52,8 +48,7 @@ epoch_line-printable types line earlier begun h = grind (arith, common_steps)
 
 cell-some : (f : Fault) (value : Code → Result (Option ℤ) Fault) (o : Option Code) (x : ReadCell)
     → cell_read f value o ≡ Ok x → (code : Code) × (o ≡ Some code)
-cell-some f value None x h = absurd (no-err f x h)
-cell-some f value (Some code) x h = (code, refl)
+cell-some f value o x h = grind (arith, common_steps, no-err)
 
 clock_line-printable : (past : Past) (line : List ℕ) (cell : ReadCell)
     → clock_line_read past line ≡ Ok cell → list_all is_printable line ≡ true
@@ -86,11 +81,6 @@ abbrev pub IsCleanWhere : {X : Type 0} → List ReadLine → Place X → Type 0
 IsCleanWhere lines (Done x count) = list_all is_clean (take count lines) ≡ true
 IsCleanWhere lines p = ⊤
 
-clean-append : (xs ys : List ReadLine) → list_all is_clean xs ≡ true → list_all is_clean ys ≡ true
-    → list_all is_clean (xs ++ ys) ≡ true
-clean-append [] ys h k = k
-clean-append (x ∷ xs) ys h k = grind (arith, common_steps, clean-append xs ys)
-
 clean-first : {X : Type 0} (lines : List ReadLine) (read : List ℕ → Result X Fault)
     → ((line : List ℕ) (x : X) → read line ≡ Ok x → list_all is_printable line ≡ true)
     → IsCleanWhere lines (first_line lines read)
@@ -99,7 +89,7 @@ clean-first lines read h = grind (arith, common_steps)
 clean-then : {X Y : Type 0} (p : Place X) (lines : List ReadLine) (f : X → List ReadLine → Place Y)
     → IsCleanWhere lines p → ((x : X) (ls : List ReadLine) → IsCleanWhere ls (f x ls))
     → IsCleanWhere lines (then_place p lines f)
-clean-then p lines f h k = grind (arith, common_steps, clean-append, take-add)
+clean-then p lines f h k = grind (arith, common_steps, take-add)
 
 clean-rows : (past : Past) (satellites : List Satellite) (lines : List ReadLine)
     → IsCleanWhere lines (rows_read past satellites lines)

@@ -14,7 +14,7 @@ use proofs.Words.{IsWholeEpoch, expanded_unit, expanded, printed_items, warnings
 use proofs.Words.{written_well}
 use Rattle.crx_filter.proofs.{Words.{IsInPlace, AreInPlace}, following.Following.body-place}
 use Rattle.crx_filter.proofs.reading.{ForwardCompact.{compact-forward, compact_beginning}, Ending.closes-well}
-use Rattle.crx_filter.proofs.wayback.{Carried.{IsLike, header-here, record-here, unit-more}, WayBack.result-well}
+use Rattle.crx_filter.proofs.wayback.{Carried.{IsLike, header-here, record-here, unit-more}}
 use Rattle.crx_filter.specs.meaning.{Expanded.{rinex_unit, crinex_version, crinex_program, empties_state}, WrittenStandard.rinex_items}
 use Rattle.crx_filter.specs.meaning.UnitsAndText.{as_items, rinex_text}
 use Rattle.crx_compact.proofs.Words.{epoch_at, at}
@@ -213,7 +213,7 @@ pub units-well : (skip : Bool) (items : List (Item ReadEpoch)) (number : ℕ) (u
     → result_of expanded_unit (ended_reading skip (record { items = items; stop = AtLines number [] }))
     ≡ written_well (rinex_text units)
 units-well skip items number units header left known =
-    grind (arith, common_steps, closes-well, result-well, printed-read, units-silent)
+    grind (arith, common_steps, closes-well, printed-read, units-silent)
 
 -- how compact text of some units is read
 record TextRead (skip : Bool) (units : List (FileUnit Epoch)) (text : List ℕ) : Type 0 where
@@ -235,7 +235,7 @@ text-read skip units text file h =
 pub any-text : ExpandsAnyText
 any-text text choices units file h =
     let r = text-read choices.skip units text file h in
-    grind (arith, common_steps, result-well, printed-read, units-silent)
+    grind (arith, common_steps, printed-read, units-silent)
 
 pub one-file : IsOfOneFile
 one-file text one two h k first second =

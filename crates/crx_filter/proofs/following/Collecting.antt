@@ -1,7 +1,7 @@
 -- A direction that also keeps something of each epoch that was accepted: with it one line more gives that of those
 -- after it.
 use Rattle.crx_filter.proofs
-use proofs.Words.{common_steps, ℕ, ◌≡◌, inl, inr, true, false, List, [], ◌∷◌, ◌++◌, map, refl, ap, sym, ◌∙◌}
+use proofs.Words.{common_steps, ℕ, ◌≡◌, inl, inr, true, false, List, [], ◌∷◌, ◌++◌, map, ap, sym, ◌∙◌}
 use proofs.Words.{arith, length, map-append, InputLine, ReadLine, as_read, Option, FileUnit, Observation}
 use proofs.Words.{Place, Choices, Item, Count, types_in_force, RunState, Phase, Made, Completes, Rejects}
 use proofs.Words.{Direction, Notice, LineStep, made_in, kept_in, state_next, step_of_made, is_again, fed}
@@ -115,20 +115,17 @@ module _ {U O K V : Type 0} (direction : Direction U O K) (epoch_of : U → V) w
 
     lines-brought : {X : Type 0} (lines : List (List ℕ)) (content : List ℕ)
         → brings_nothing (answer_of_lines lines) (Content content) ≡ true → X
-    lines-brought [] content passed = false-true passed
-    lines-brought (line ∷ lines) content passed = false-true passed
+    lines-brought lines content passed = grind (arith, common_steps, false-true)
 
     passed-adds : (s : RunState O K) (content : List ℕ) (made : Made U O)
         → brings_nothing (step_of_made direction s (Content content) made).answer (Content content) ≡ true
         → add_made epoch_of epochs made ≡ epochs
-    passed-adds s content (Completes unit) passed = lines-brought (direction.written s unit) content passed
-    passed-adds s content made passed = refl
+    passed-adds s content made passed = grind (arith, common_steps, lines-brought)
 
     past-adds : (s : RunState O K) (line : ReadLine)
         → brings_nothing (state_next direction s line).answer line ≡ true
         → add_made epoch_of epochs (made_in direction s.phase s.types s.kept line) ≡ epochs
-    past-adds s Overlong passed = long-adds s.phase s.types s.kept
-    past-adds s (Content content) passed = grind (arith, common_steps, passed-adds)
+    past-adds s line passed = grind (arith, common_steps, long-adds, passed-adds)
 
   -- the epochs of some lines, where one line more adds to them what it is fed as
   abbrev pub Collects : (List ReadLine → RunState O K) → (List ReadLine → List V) → Type 0

@@ -2,7 +2,7 @@
 use Rattle.crx_filter.proofs
 use proofs.Words.{common_steps, arith, ℕ, suc, ◌≡◌, Bool, true, false, cond, List, [], ◌∷◌, ◌++◌, length}
 use proofs.Words.{Option, Some, None, Result, Ok, Err, refl, ap, sym, ◌∙◌, true≢false, is_some, none-some}
-use proofs.Words.{ReadLine, Content, Overlong, Fault, BadEpoch, is_event_line, records_in, Place, Done, Fails}
+use proofs.Words.{ReadLine, Content, Fault, BadEpoch, is_event_line, records_in, Place, Done, Fails}
 use proofs.Words.{NeedsMore, FileUnit, EventLine, RawEpoch, ReadEpoch, epoch_at, Tail, OpenRawEpoch, RawStep}
 use proofs.Words.{first_step, next_step, open_raw_after, Choices, Item, types_in_force, raws_kept, event_line}
 use proofs.Words.{as_observation, expanded_unit, Made, made_of_unit, made_of_raw_step, Direction, expansion}
@@ -52,8 +52,7 @@ steps-last step = grind (arith, common_steps)
 -- where an epoch is open, no event began
 no-event : (items : List (Item ReadEpoch)) (lines : List ReadLine) (so_far : OpenRawEpoch) (b : Bool)
     → begins_event lines ≡ b → compact_open items lines ≡ Some so_far → begins_event lines ≡ false
-no-event items lines so_far true e opens = grind (arith, common_steps, none-some, begins_event, compact_open)
-no-event items lines so_far false e opens = e
+no-event items lines so_far b e opens = grind (arith, common_steps, none-some, begins_event, compact_open)
 
 at-observation : (items : List (Item ReadEpoch)) (line : ReadLine) (lines : List ReadLine)
     → begins_event (line ∷ lines) ≡ false → compact_beginning items (line ∷ lines)
@@ -107,8 +106,7 @@ module _ {K : Type 0} {direction : Direction HeldEpoch OpenRawEpoch K} {kept_of 
 
   pub agree-begins : (items : List (Item ReadEpoch)) (line : ReadLine)
       → Agrees items (line ∷ []) (compact_begins (types_in_force items) (tail_of_items items) line)
-  agree-begins items Overlong = (0, refl)
-  agree-begins items (Content content) = grind (arith, common_steps, agree-content)
+  agree-begins items line = grind (arith, common_steps, agree-content)
 
   pub agree-continues : (items : List (Item ReadEpoch))
       (lines : List ReadLine) (line : ReadLine) (so_far : OpenRawEpoch) → compact_open items lines ≡ Some so_far

@@ -85,11 +85,6 @@ pub body-place : {E : Type 0} (beginning : List (Item E) → List ReadLine → P
     → records_left items ≡ 0 → unit_place beginning items lines ≡ beginning items lines
 body-place beginning items lines ended none = rw (ended, none) refl
 
-pub body-phase : {E O : Type 0} (items : List (Item E)) (so_far : Option O) → header_has_ended items ≡ true
-    → records_left items ≡ 0 → phase_after_items items so_far
-    ≡ phase_in_body 0 (records_count_types items) so_far
-body-phase items so_far ended none = rw (ended, none) refl
-
 pub records-phase : {O : Type 0} (left : ℕ) (counted : Bool)
     → phase_in_body {O = O} left counted None ≡ with_records_left left counted
 records-phase left counted = grind (arith, common_steps)

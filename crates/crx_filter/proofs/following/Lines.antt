@@ -15,7 +15,7 @@ use proofs.Words.{phase_after, types_after, may_skip, is_in_epoch, is_skipped_in
 use proofs.Words.{step_of_made, state_next, phase_in_body, phase_after_items, state_of, and_parts, by_bool}
 use proofs.Words.{false-true, Completes}
 use proofs.{Pending.again-lines, following.Following.{IsCarriedOut, AreKept, IsInside, Follows, Agrees}}
-use proofs.following.Following.{place, reads, state_at, emptied-same, skipped-same, body-place, body-phase}
+use proofs.following.Following.{place, reads, state_at, emptied-same, skipped-same, body-place}
 use proofs.following.Following.{fed-once, fed-twice, failed-ends, failed-skipped, followed-unit, followed-end}
 use proofs.following.Following.{last-here, last-ends, last-skipped, skipped-again, records-phase, body-once}
 use proofs.reading.Resuming.{enough-units, looked-here, looked-on}
@@ -276,15 +276,14 @@ module _ {E U O K : Type 0} {beginning : List (Item E) → List ReadLine → Pla
           (records_count_types items)) rest (sym (record-place beginning items left rest e some) ∙ wanted))
           (rw (e, some) refl)
       cases true e zero none None opens =
-          grind (arith, common_steps, both, body-place, body-phase, phase_in_body, records_count_types)
+          grind (arith, common_steps, both, body-place, phase_in_body, records_count_types)
       cases true e zero none (Some so_far) opens =
-          grind (arith, common_steps, both, body-phase, phase_in_body, records_count_types)
+          grind (arith, common_steps, both, phase_in_body, records_count_types)
 
   -- an epoch that is open has some lines
   pub some_lines : (items : List (Item E)) (so_far : O) (ls : List ReadLine)
       → open_with items ls ≡ Some so_far → 0 < length ls
-  some_lines items so_far [] e = absurd (none-some so_far (sym (h.none_open items) ∙ e))
-  some_lines items so_far (l ∷ ls) e = omega arith
+  some_lines items so_far ls e = grind (arith, common_steps, none-some)
 
   -- one line more, where more lines are wanted
   lines-line : (items : List (Item E)) (number count : ℕ) (rest : List ReadLine) (line : ReadLine)

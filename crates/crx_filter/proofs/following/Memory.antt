@@ -27,9 +27,7 @@ counts-well line = by_types (is_types_line line) refl (count_in line) refl
   where
     by_types : (b : Bool) → is_types_line line ≡ b → (o : Option Count) → count_in line ≡ o
         → is_some (cond b o None) ≡ true → (b ≡ true) × (types_fault line ≡ None)
-    by_types true is None e h = false-true h
-    by_types true is (Some count) e h = (refl, rw (is, e) refl)
-    by_types false is o e h = false-true h
+    by_types b is o e h = grind (arith, common_steps, false-true)
 
 -- a header line, by its fault
 header-takes : {E : Type 0} (takes : ℕ → Bool) (items : List (Item E)) (is_first : Bool)
@@ -139,8 +137,7 @@ module _ {E U O K : Type 0} {beginning : List (Item E) → List ReadLine → Pla
           (kept_of items))
 
       not_none : (ls : List ReadLine) → open_with items ls ≡ Some so_far → nat_lt 0 (length ls) ≡ true
-      not_none [] opens = absurd (none-some so_far (sym (h.none_open items) ∙ opens))
-      not_none (l ∷ ls) opens = search rules
+      not_none ls opens = grind (arith, common_steps, none-some)
 
       anew : (l : ReadLine) → takes_memory direction (after_warning direction before (can_go_on line))
           l ≡ true → line_takes (place h) takes (Warned at ∷ items) [] l ≡ true

@@ -1,6 +1,6 @@
 -- The memory that a compaction and a check take, by what is at their lines.
 use Rattle.crx_filter.proofs
-use proofs.Words.{common_steps, ℕ, ◌≡◌, Bool, true, false, List, [], ◌∷◌, ◌++◌, length, Some, Result, refl}
+use proofs.Words.{common_steps, ℕ, ◌≡◌, Bool, true, false, List, [], ◌∷◌, ◌++◌, length, Some, Result}
 use proofs.Words.{arith, none-some, ReadLine, Content, Fault, OpenEpoch, next_row, Epoch, Row, EpochStep}
 use proofs.Words.{Faulty, after_row, epoch_step, Choices, Item, compaction_takes, place_takes, checking}
 use proofs.Words.{totals_of, compaction, made_of_epoch_step, rinex_open, written_of, compact_unit, false-true}
@@ -26,8 +26,7 @@ step-takes choices items lines count step takes fine a = grind (arith, common_st
 -- an epoch's line is before it
 after-first : (items : List (Item Epoch)) (lines : List ReadLine) (so_far : OpenEpoch)
     → rinex_open items lines ≡ Some so_far → compaction_takes (length lines) ≡ true
-after-first items [] so_far opens = absurd (none-some so_far opens)
-after-first items (line ∷ lines) so_far opens = refl
+after-first items lines so_far opens = grind (arith, common_steps, none-some)
 
 -- ---- both
 

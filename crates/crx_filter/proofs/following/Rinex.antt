@@ -2,7 +2,7 @@
 -- that reads RINEX goes this way.
 use Rattle.crx_filter.proofs.Words
 use Words.{common_steps, arith, ℕ, zero, suc, ◌≡◌, ◌⊎◌, List, [], ◌∷◌, ◌++◌, length, Some, None, Result, Ok}
-use Words.{Err, inl, inr, refl, sym, ◌∙◌, none-some, ReadLine, Content, Overlong, Fault, Epoch, Count, Done}
+use Words.{Err, inl, inr, refl, sym, ◌∙◌, none-some, ReadLine, Content, Fault, Epoch, Count, Done}
 use Words.{NeedsMore, after_lines, then_place, FileUnit, Observation, OpenEpoch, Beginning, EventBegins}
 use Words.{EpochBegins, beginning_of, opened, rows_wanted, epoch_of, rows_at, epoch_place, EpochStep, Going}
 use Words.{Whole, Faulty, when_wanted, epoch_step, Choices, Item, types_in_force, Made, Direction}
@@ -53,8 +53,7 @@ module _ {K : Type 0} {direction : Direction Epoch OpenEpoch K} {kept_of : List 
 
   pub agree-begins : (items : List (Item Epoch)) (line : ReadLine)
       → Agrees items (line ∷ []) (rinex_begins (types_in_force items) (kept_of items) line)
-  agree-begins items Overlong = (0, refl)
-  agree-begins items (Content content) = agree-beginning items content (beginning_of content) refl
+  agree-begins items line = grind (arith, common_steps, agree-beginning, beginning_of)
 
   agree-step : (items : List (Item Epoch)) (lines : List ReadLine) (line : ReadLine) (step : EpochStep)
       → epoch_place (types_in_force items) (lines ++ line ∷ []) ≡ place_after (length lines) step

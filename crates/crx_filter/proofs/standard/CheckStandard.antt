@@ -1,5 +1,5 @@
 -- A file is named as standard exactly where it is; and that is where it comes back.
-use Rattle.crx_filter.proofs.Words.{ℕ, ◌≡◌, ◌+◌, Bool, true, List, [], ◌∷◌, length, Option, Some, None, refl}
+use Rattle.crx_filter.proofs.Words.{ℕ, ◌≡◌, ◌+◌, Bool, true, List, [], ◌∷◌, length, Option, None, refl}
 use Rattle.crx_filter.proofs.Words.{arith, list_all, none-some, and_parts, InputLine, Choices}
 use Rattle.crx_filter.proofs.Words.{first_not_standard, common_steps, by_bool, bytes_eq, is_standard_line}
 use Rattle.crx_filter.proofs.{reading.Each.contents, standard.CheckEnded.whole-many}
@@ -37,8 +37,7 @@ named-where_not input good = grind (arith, none-named, whole-many, all-standard)
 -- ---- the status
 
 pub none-where_0 : (named : Option ℕ) → report_status named ≡ 0 → named ≡ None
-none-where_0 None e = refl
-none-where_0 (Some number) e = absurd (cc)
+none-where_0 named e = grind (arith, common_steps)
 
 pub standard-exactly_where_same : (input : List ℕ) (compacting expanding : Choices)
     → IsStandardExactlyWhereSame input compacting expanding

@@ -3,12 +3,12 @@
 use Rattle.crx_filter.proofs
 use proofs.Words.{common_steps, arith, ℕ, ◌≡◌, inl, inr, ◌+◌, true, false, List, [], ◌∷◌, map, length, Some}
 use proofs.Words.{Result, Ok, Err, refl, ap, sym, subst, ◌∙◌, append-nil, ◌≤◌, rules, and_parts, reverse}
-use proofs.Words.{◌&&◌, InputLine, is_long, ReadLine, Content, Overlong, as_read, At, OutOfMemory, LINE_LIMIT}
+use proofs.Words.{InputLine, is_long, ReadLine, Content, Overlong, as_read, At, OutOfMemory, LINE_LIMIT}
 use proofs.Words.{Choices, step_made, Steps, is_again, fed_once, fed_twice, fed, LookingOn}
-use proofs.Words.{RunState, Direction, Made, Rejects, Notice, LineStep, made_in, may_skip, is_in_epoch}
-use proofs.Words.{is_skipped_in, step_of_made, state_next, takes_memory, can_go_on, is_skippable, ◌++◌}
+use proofs.Words.{RunState, Direction, Made, Rejects, Notice, LineStep, made_in, is_in_epoch}
+use proofs.Words.{is_skipped_in, step_of_made, state_next, takes_memory, can_go_on, ◌++◌}
 use proofs.Words.{by_bool, Completes, false≢true, answer_of_step, noticed_by, false-true}
-use proofs.Words.{after_warning, failed_by, Bool}
+use proofs.Words.{failed_by, Bool}
 use Rattle.std.specs.Prelude.{IfOk}
 use Rattle.crx_filter.specs.DirectionParts.{EngineParts, HasClosed, IsAfterLines, ComesAfter, TakesLine}
 use Rattle.crx_filter.specs.{EngineLaws.{GoesLineByLine}, EngineLines.HasTaken, EngineSteps.RanOut}
@@ -39,26 +39,13 @@ again-by-made : {U O K : Type 0} (direction : Direction U O K)
     (before next : RunState O K) (line : ReadLine) (at : At) (handed_out : List (List ℕ)) (made : Made U O)
     → record { answer = Notice at true; handed_out = handed_out; next = next }
     ≡ step_of_made direction before line made → ComesAgain direction before next line
-again-by-made {O = O} {K = K} direction before next line at handed_out (Rejects fault) e =
-    by_bool (is_skipped_in before fault) (λ on.
-    let is = e ∙ failed-skipped direction before line fault on in
-    let yes = ap (λ (s : LineStep O K). is_again s.answer) is in
-    let both = and_parts (is_in_epoch before.phase) (can_go_on line) (sym yes) in
-    let then = ap (λ (s : LineStep O K). s.next) is ∙ ap (after_warning direction before) (sym yes) in
-    record {
-      skips = (and_parts before.choices.skip (may_skip before.phase && is_skippable fault) on).0;
-      epoch = both.0;
-      fits = both.1;
-      phase = ap (λ (s : RunState O K). s.phase) then;
-      number = ap (λ (s : RunState O K). s.number) then;
-      choices = ap (λ (s : RunState O K). s.choices) then;
-      types = ap (λ (s : RunState O K). s.types) then;
-      kept = ap (λ (s : RunState O K). s.kept) then;
-    }) (λ off. false-true (sym (ap (λ (s : LineStep O K). is_again s.answer)
-    (e ∙ failed-ends direction before line fault off))))
-again-by-made {O = O} {K = K} direction before next line at handed_out (Completes unit) e =
-    absurd (cc (again-lines (direction.written before unit), ap (λ (s : LineStep O K). is_again s.answer) e))
-again-by-made {O = O} {K = K} direction before next line at handed_out made e = grind (arith, common_steps)
+again-by-made direction before next line at handed_out (Rejects fault) e =
+    by_bool (is_skipped_in before fault)
+    (λ on. grind (arith, common_steps, e, failed-skipped direction before line fault on, and_parts))
+    (λ off. grind (arith, common_steps, e, failed-ends direction before line fault off))
+again-by-made direction before next line at handed_out (Completes unit) e =
+    grind (arith, common_steps, e, again-lines (direction.written before unit))
+again-by-made direction before next line at handed_out made e = grind (arith, common_steps)
 
 pub comes-again : {U O K : Type 0}
     (direction : Direction U O K) (before next : RunState O K) (line : ReadLine) (at : At)

@@ -2,7 +2,7 @@
 use Rattle.crx_filter.proofs.Words
 use Rattle.crx_filter.specs
 use Words.{common_steps, arith, ◌≡◌, ℕ, ◌+◌, Bool, true, false, ◌&&◌, List, [], Option, Some, None, Result}
-use Words.{Ok, Err, refl, Content, Overlong, At, Fault, LineTooLong, Count, Choices, RunState, Direction}
+use Words.{Ok, Err, Content, Overlong, At, Fault, LineTooLong, Count, Choices, RunState, Direction}
 use Words.{Rejects, made_in, is_skipped_in, may_skip, is_skippable, failed_step, state_next}
 use Words.{begins_epoch, step_made, is_held, phase_of_stage, Stage, false≢true, InputLine, with_next}
 use Words.{ReadLine, Steps, as_read, length}
@@ -11,7 +11,6 @@ use specs.{DirectionParts.{ComesAfter, KnowsStill}, EngineState.{KnowsAfter}}
 use specs.{DirectionParts.hands_out, EngineSteps.answer_of_step, LineByLine.{end_step, answer_of_lines}}
 use specs.{LineByLine.fault_at_end_in, LineByLine.state_end_with, Stages.{bare_phase, is_settled}}
 use specs.declared.stage.Stage.TheVariants.{Looking, Closed, Ended}
-use Rattle.crx_filter.proofs.{steps.EngineLemmas.{fatal-counts, out-fatal}}
 use Rattle.crx_filter.proofs.steps.EngineLemmas.{ran-out}
 use Rattle.crx_runs.specs.declared.engine.Step.{Step, TheVariants.{Warned}}
 use Rattle.std.proofs.Common.{OnErr, IfOk}
@@ -62,13 +61,6 @@ module _ {U O K : Type 0} (direction : Direction U O K) where
   handed-line serves choices last before parts line room out stored ready chosen reads =
       grind (arith, common_steps, reads.takes choices last chosen)
 
-  -- a fault that isn't skipped ends the run
-  fatal-answer : (before after : RunState O K) (line : List ℕ) (fault : Fault) (result : Result Step At)
-      → step_made result [] after ≡ failed_step direction before (Content line) fault
-      → is_skippable fault ≡ false → result ≡ Err (record { line = before.number + 1; fault = fault })
-  fatal-answer before after line fault result step fatal =
-      grind (arith, common_steps, may_skip, is_skippable, failed_step, step)
-
   -- a fault that a line was refused with is answered so
   pub refused-stops : (choices : Choices) (last : ℕ) (stage : Stage) (fault : Fault) (goes_on : Bool)
       (before parts : DirectionParts O K) (line : List ℕ) (room : Type 0) (serves : Choices → Type 0)
@@ -89,7 +81,7 @@ module _ {U O K : Type 0} (direction : Direction U O K) where
       (state_by choices last before) after → Reads direction serves before line room (Err fault) given parts
       → TakesLine direction (state_by choices last before) (Content line) room result ready after
   refused-line choices last fault serves before parts line room result given ready after stopped reads =
-      grind (arith, out-fatal, ran-out, fatal-answer, fatal-counts, after-error)
+      grind (arith, ran-out, after-error)
 
   -- a line that is too long is a fault wherever lines are read
   made-too_long : ((types : List Count) (kept : K) → direction.begins types kept Overlong ≡ Rejects
@@ -136,8 +128,7 @@ module _ {U O K : Type 0} (direction : Direction U O K) where
         ≡ answer_of_lines closing → ready ≡ closing → after.stage ≡ Closed → after.kept ≡ before.kept
         → fault_at_end_in (bare_phase stage) ≡ None → step_made result ready (state_by choices number after)
         ≡ state_end_with direction closing (state_by choices number before)
-    ends-well result ready answered handed_out staged kept none =
-        rw (ends, none, staged, kept, typed, answered, handed_out) refl
+    ends-well result ready answered handed_out staged kept none = grind (arith, common_steps, ends)
 
     module _ (fault : Fault) (a b c : Bool) (is-a : a ≡ choices.skip) (is-b : b ≡ may_skip (bare_phase stage))
         (is-c : c ≡ is_skippable fault) (some : fault_at_end_in (bare_phase stage) ≡ Some fault)

@@ -1,22 +1,10 @@
 -- Facts of an engine's steps in either direction: held epochs, faults that count, memory that ran out, a
 -- fault that is answered again.
-use Rattle.crx_filter.proofs.Words.{common_steps, arith, ◌≡◌, ℕ, ◌+◌, true, false, List, Result, Err}
-use Rattle.crx_filter.proofs.Words.{ap, ReadLine, At, Fault, OutOfMemory, RunEnded, RunState, Direction}
-use Rattle.crx_filter.proofs.Words.{may_skip, is_skipped_in, failed_step, takes_memory, is_skippable}
+use Rattle.crx_filter.proofs.Words.{common_steps, arith, ◌≡◌, ℕ, ◌+◌, true, List, Result, Err}
+use Rattle.crx_filter.proofs.Words.{ReadLine, At, Fault, OutOfMemory, RunEnded, RunState, Direction}
+use Rattle.crx_filter.proofs.Words.{takes_memory}
 use Rattle.crx_filter.{proofs.Words.{step_made, Steps}, specs.EngineSteps.RanOut}
 use Rattle.{crx_filter.specs.LineByLine.state_end_with, crx_runs.specs.declared.engine.Step.Step}
-
--- memory that ran out isn't skipped
-pub out-fatal : (fault : Fault) → fault ≡ OutOfMemory → is_skippable fault ≡ false
-out-fatal fault is = ap is_skippable is
-
--- a line whose fault isn't skipped counts
-pub fatal-counts : {U O K : Type 0} (direction : Direction U O K) (before after : RunState O K) (line :
-    ReadLine) (fault : Fault) (result : Result Step At) (handed_out : List (List ℕ)) → step_made result
-    handed_out after ≡ failed_step direction before line fault → is_skippable fault ≡ false → after.number ≡
-    before.number + 1
-fatal-counts {O = O} {K = K} direction before after line fault result handed_out step fatal =
-    grind (arith, common_steps, is_skipped_in, may_skip, is_skippable, failed_step)
 
 pub ran-out : {U O K : Type 0} (direction : Direction U O K) (before after : RunState O K) (line : ReadLine)
     (room : Type 0) (result : Result Step At) (fault : Fault) → fault ≡ OutOfMemory → result ≡ Err

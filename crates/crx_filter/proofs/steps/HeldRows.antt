@@ -1,6 +1,6 @@
 -- The rows of the epoch whose compact lines come have room, line by line.
 use Rattle.crx_filter.proofs.Words.{common_steps, arith, ◌≡◌, Bool, refl, sym}
-use Rattle.crx_filter.proofs.Words.{subst, ℕ, List, [], ◌∷◌, length, map, Option, Some, None, Result, Ok, Err}
+use Rattle.crx_filter.proofs.Words.{subst, ℕ, List, [], ◌∷◌, length, map, Option, Some, None, Result, Ok}
 use Rattle.crx_filter.proofs.Words.{length-map, Fault, Content, Satellite, Tail, All, All-nil, All-cons}
 use Rattle.crx_filter.proofs.Words.{All-head, All-tail, OpenRawEpoch, next_step, RawStep, satellite_line_read}
 use Rattle.crx_compact.proofs.{Results.{and_then-ok}, reading.Announced.satellites-set}
@@ -76,16 +76,12 @@ step-satellites begun line = by_clock begun.clock
 
     with_clock : (r : Result ReadCell Fault) → StepHas (map satellite_of_tail begun.rows)
         (raw_step_with_clock begun r)
-    with_clock (Err fault) = tt
-    with_clock (Ok cell) = awaiting _ _ _ refl
+    with_clock r = grind (arith, common_steps, awaiting)
 
     with_row : (row : RowTail) → slice_get begun.rows begun.count ≡ Some row → (r : Result HeldRow Fault)
         → row_held (Some row) (satellite_of_tail row) line ≡ r
         → StepHas (map satellite_of_tail begun.rows) (raw_step_with_row begun r)
-    with_row row there (Err fault) e = tt
-    with_row row there (Ok held) e =
-        let left = left-row row line held e in
-        awaiting _ _ _ (satellites-set begun.rows begun.count row held.tail there left.0 left.1)
+    with_row row there r e = grind (arith, common_steps, left-row, awaiting, satellites-set)
 
     by_row : (o : Option RowTail) → awaited_row begun ≡ o → StepHas (map satellite_of_tail begun.rows)
         (row_step begun o line)

@@ -3,13 +3,13 @@ use Rattle.crx_filter.proofs
 use proofs.Words.{common_steps, ℕ, ◌≡◌, ◌+◌, ◌*◌, ◌≤◌, Bool, true, false, cond, List, [], ◌∷◌, map, length}
 use proofs.Words.{Option, Some, None, refl, arith, nat_lt, not, AllByRecursion, list_all, ltb-false, lines_of}
 use proofs.Words.{ReadLine, as_read, is_printable, Fault, TYPES_LIMIT, Epoch}
-use proofs.Words.{lines_text, FileUnit, HeaderLine, Observation, compact_epoch, ReadEpoch, Choices}
+use proofs.Words.{FileUnit, HeaderLine, Observation, compact_epoch, Choices}
 use proofs.Words.{Item, Accepted, Warned, is_at_start, header_has_ended, records_left, types_in_force}
 use proofs.Words.{WholeReading, Stop, AtFault, AtLines, Looking, is_skipped, fault_at_end}
-use proofs.Words.{ended_with, ended_reading, warnings_in, written_lines, result_of, rinex_place}
+use proofs.Words.{ended_with, ended_reading, written_lines, rinex_place}
 use proofs.Words.{marked_epochs, whole_rinex, version_line, program_line, compact_lines, rinex_reading}
-use proofs.Words.{expanded_unit, AreInPlace}
-use proofs.Words.{OfCopiedLine, OfCopiedLines, HaveNoReturns, written_well, Place, by_bool}
+use proofs.Words.{AreInPlace}
+use proofs.Words.{OfCopiedLine, OfCopiedLines, HaveNoReturns, Place, by_bool}
 use Rattle.crx_compact.proofs.wayback.Standing.{lines-short}
 use proofs.{following.Lines.IsStopped, reading.{Each.all-append, Forward.rinex-forward}}
 use proofs.reading.{InPlace.items-in_place, Stopping.reading-stopped}
@@ -127,8 +127,3 @@ lines-clean every items h k e =
     written-all IsClean IsClean (body_unit every) (unit-clean every) items h (copied-clean items k e)
 
 -- ---- what is written in the end
-
-pub result-well : (items : List (Item ReadEpoch)) (lines : List (List ℕ))
-    → written_lines expanded_unit items ≡ lines → warnings_in items ≡ []
-    → result_of expanded_unit (record { items = items; fault = None }) ≡ written_well (lines_text lines)
-result-well items lines e f = cc
