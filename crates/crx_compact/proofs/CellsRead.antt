@@ -114,15 +114,7 @@ first-refused count arcs k rest fault less refused = search (rules, get_or-take)
 
 pub read-none : (first : List (Option ArcTail)) (line : List ℕ) → ReadUpTo first line 0 0 first
 read-none first line =
-    record {
-      cells = [];
-      counted = refl;
-      so_far = refl;
-      marks = refl;
-      within = omega arith;
-      made = refl;
-      shown = refl;
-    }
+    search rules
 
 pub read-all : (first : List (Option ArcTail)) (line : List ℕ) (at k : ℕ) (arcs : List (Option ArcTail))
     → ReadUpTo first line at k arcs → k ≡ length first → CellsAreRead first (length first) line arcs at

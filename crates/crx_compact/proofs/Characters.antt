@@ -1,6 +1,6 @@
 -- Texts and identifiers by their characters.
 use Rattle.crx_compact.proofs.Words.{◌≡◌, suc, ◌≤◌, ◌∷◌, true, ◌++◌, Some, None, sym, refl}
-use Rattle.crx_compact.proofs.Words.{zero, List, take, Bool, Option, length, arith, at, is_kept, ℕ}
+use Rattle.crx_compact.proofs.Words.{List, take, Bool, Option, length, arith, at, is_kept, ℕ}
 use Rattle.crx_compact.proofs.Words.{without_end_blanks, is_identifier, get_or_past, common_steps}
 use Rattle.crx_compact.proofs.Words.{[], if◌then◌else◌, list_all, and_parts, by_position, bytes_eq}
 use Rattle.std.proofs.lemmas.{Slice.Eq.bytes_eq-Decides, List.length-take}
@@ -10,9 +10,8 @@ at-take_past n text p h = get_or_past (take n text) p 32 (omega (arith, h, lengt
 
 pub list_all-at : (p : ℕ → Bool)
     → p 32 ≡ true → (text : List ℕ) → list_all p text ≡ true → (k : ℕ) → p (at text k) ≡ true
-list_all-at p e [] h k = e
-list_all-at p e (c ∷ cs) h zero = (and_parts (p c) (list_all p cs) h).0
 list_all-at p e (c ∷ cs) h (suc k) = list_all-at p e cs (and_parts (p c) (list_all p cs) h).1 k
+list_all-at p e x h k = grind (arith, common_steps, and_parts, list_all)
 
 pub list_all-append : (p : ℕ → Bool) (xs ys : List ℕ)
     → list_all p xs ≡ true → list_all p ys ≡ true → list_all p (xs ++ ys) ≡ true

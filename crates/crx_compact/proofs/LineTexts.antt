@@ -1,5 +1,5 @@
 -- Lines that a text is cut into, each followed by LF.
-use Rattle.crx_compact.proofs.Words.{◌≡◌, ◌≤◌, ◌<◌, ℕ, zero, suc, ◌+◌, ◌-◌, List, [], ◌∷◌, ◌++◌, length, set}
+use Rattle.crx_compact.proofs.Words.{◌≡◌, ◌≤◌, ◌<◌, ℕ, suc, ◌+◌, ◌-◌, List, [], ◌∷◌, ◌++◌, length, set}
 use Rattle.crx_compact.proofs.Words.{take, drop, get_or, slice_get, Some, ap, arith, drop-append_seam, rules}
 use Rattle.crx_compact.proofs.Words.{take-take, length-append, length-set, length-take-le, take_more_set, cut}
 use Rattle.crx_compact.proofs.Words.{AreCut, HasFront, common_steps}
@@ -17,20 +17,17 @@ pub record Ended (count : ℕ) (counts text : List ℕ) : Type 0 where
 
 pub first-ended : (count : ℕ) (counts text : List ℕ)
     → lines_text (cut (count ∷ counts) text) ≡ text → Ended count counts text
-first-ended zero counts [] e = absurd (cc)
-first-ended zero counts (c ∷ cs) e = record { within = omega arith; rest = ap (drop 1) e }
-first-ended (suc count) counts [] e = absurd (cc)
 first-ended (suc count) counts (c ∷ cs) e = grind (arith, first-ended count counts cs (ap (drop 1) e))
+first-ended x counts y e = grind (arith, common_steps)
 
 -- a line after those that a text is cut into
 pub cut-more : (counts text line : List ℕ) → lines_text (cut counts text) ≡ text
     → cut (counts ++ length line ∷ []) (text ++ (line ++ 10 ∷ [])) ≡ cut counts text ++ line ∷ []
-cut-more [] [] line e = ap (λ l. l ∷ []) (take-append_seam line (10 ∷ []))
-cut-more [] (c ∷ cs) line e = absurd (cc)
 cut-more (count ∷ counts) text line e =
     let ended = first-ended count counts text e in
     let rest = cut-more counts (drop (suc count) text) line ended.rest in
     grind (arith, take-append-le, drop-append-le)
+cut-more x text line e = grind (arith, common_steps, take-append_seam)
 
 pub text-more : (lines : List (List ℕ)) (line : List ℕ)
     → lines_text (lines ++ line ∷ []) ≡ lines_text lines ++ (line ++ 10 ∷ [])

@@ -1,8 +1,9 @@
 -- Identifiers that are marked: one more.
+use Rattle.std.proofs.Common.{rules}
 use Rattle.std.proofs.Common.{◌≡◌, ◌<◌, ◌++◌, ◌∷◌, [], ℕ, suc, Bool, true, List, Some, length}
-use Rattle.std.proofs.{Common.{slice_get, slice_index_or, slice_set, arith, sym, ◌∙◌, false, inl, inr}}
+use Rattle.std.proofs.{Common.{slice_get, slice_index_or, slice_set, arith, false}}
 use Rattle.std.proofs.{lemmas.Grind.common_steps}
-use Rattle.std.proofs.{lemmas.Bool.{cases_Bool, false≢true}, lemmas.Option.get_or_from_slice_get}
+use Rattle.std.proofs.{lemmas.Bool.cases_Bool, lemmas.Option.get_or_from_slice_get}
 use Rattle.crx_header.specs.meaning.Satellites.{is_among}
 use Rattle.crx_compact.specs.Refusals.{AreMarked, mark_place}
 
@@ -19,12 +20,8 @@ there marks i h = grind arith
 pub unmarked : (names : List (List ℕ)) (name : List ℕ) (marks : List Bool) (place : ℕ) (mark : Bool)
     → AreMarked names marks → place ≡ mark_place name → mark ≡ slice_index_or marks place mark → mark ≡ false
     → is_among (λ (n : List ℕ). n) name names ≡ false
-unmarked names name marks place mark marked at here off = elim (cases_Bool (is_among (λ (n : List ℕ). n) name
-    names)) [
-      | inl t ↦ absurd (false≢true (sym off ∙ here ∙ get_or_from_slice_get marks place true mark (rw at
-          (marked name t))))
-      | inr f ↦ f
-    ]
+unmarked names name marks place mark marked at here off =
+    search (rules, cases_Bool, is_among, get_or_from_slice_get)
 
 pub marked-more : (names : List (List ℕ)) (name : List ℕ) (marks : List Bool) → mark_place name < length marks
     → AreMarked names marks → AreMarked (names ++ name ∷ []) (slice_set marks (mark_place name) true)

@@ -26,8 +26,7 @@ patched-kept old marks h k =
 -- ---- no marks
 
 pub none-there : (marks : List ℕ) → true ≡ (length marks == 0) → marks ≡ []
-none-there [] e = refl
-none-there (m ∷ marks) e = absurd (grind (arith, e))
+none-there x e = grind (arith, common_steps)
 
 -- the columns of indicators that no marks change
 pub columns-left : (count : ℕ) (flags : List ℕ)

@@ -56,8 +56,7 @@ print-next values flags n k count h =
     32 (2 * k + 1) all (omega (arith, long, h))) ∙ ap (λ n. at all (2 * k) ∷ at all (2 * k + 1) ∷ drop n all)
     third ∙ ap (λ a. a ∷ at all (2 * k + 1) ∷ rest) (at-columns flags (2 * n) (2 * k) (omega (arith, h)))
     ∙ ap (λ b. at flags (2 * k) ∷ b ∷ rest) (at-columns flags (2 * n) (2 * k + 1) (omega (arith, h))) in
-    ap (λ vs. printed_cells vs (drop (2 * k) all)) (from-place None k values (omega (arith, count, h)))
-    ∙ ap (printed_cells ((slice_index_or values k None) ∷ drop (k + 1) values)) pair
+    search (rules, printed_cells, all, from-place, slice_index_or, pair)
 
 -- the cells that are left complete a text, also after the next of them
 pub print-on : (arcs : List (Option ArcTail)) (flags before text whole : List ℕ)

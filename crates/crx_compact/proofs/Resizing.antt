@@ -17,9 +17,8 @@ no-cells (suc n) = ap {B = List (Option ArcTail)} (λ xs. None ∷ xs) (no-cells
 -- cells without arcs for types that are new
 pub longer-cells : (cells : List (Option ArcTail)) (n : ℕ) → length cells ≤ n
     → cells_for n cells ≡ cells ++ replicate (n - length cells) None
-longer-cells [] n h = grind (arith, common_steps, no-cells, replicate)
-longer-cells (c ∷ cs) zero h = absurd (omega (arith, h))
 longer-cells (c ∷ cs) (suc n) h = grind (arith, longer-cells cs n (omega (arith, h)))
+longer-cells x n h = grind (arith, common_steps, no-cells)
 
 -- the cells of fewer types
 pub shorter-cells : (cells : List (Option ArcTail)) (n : ℕ) → n ≤ length cells

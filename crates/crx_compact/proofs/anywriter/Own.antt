@@ -5,7 +5,7 @@ use Rattle.crx_compact.proofs.Words.{None, map, length, arith, ap, sym, ◌∙�
 use Rattle.crx_compact.proofs.Words.{list_all, AllByRecursion, option_map, rules, if◌then◌else◌, slice_index_or, get_or_past}
 use Rattle.crx_compact.proofs.Words.{Count, Row, Epoch, Marked, AreWhole, IsWholeEpoch, epoch_text, newest_text, since_full, run_of, arc_of, clock_arc, row_named, stretch, named, codes_of, indicators_before, satellite_line, epoch_line, compact_epoch}
 use Rattle.crx_compact.proofs.Words.{without_end_blanks, patched, text_difference}
-use Rattle.crx_compact.proofs.Words.{is_blank, begins_epoch}
+use Rattle.crx_compact.proofs.Words.{is_blank, begins_epoch, common_steps}
 use Rattle.crx_compact.proofs.Words.{code_at, code_text, code_of-code_text, WRITTEN_ORDER, each_place, map-each_place, index-each_place, each_place-same, length-each_place}
 use Rattle.crx_compact.proofs.Identifiers.{each-own}
 use Rattle.crx_compact.proofs.anywriter.Texts.{code-characters}
@@ -80,13 +80,11 @@ found-written name m older = named-made (λ (r : Row). r.name) (λ (t : WrittenR
 
 arc-left : (full : Bool) (name : List ℕ) (older : List Marked) (j : ℕ)
     → arc_in (found_in (base_of full older) name) j ≡ arc_written (arc_of j (rows_before full name older))
-arc-left false name (m ∷ older) j = grind (arith, found-written name m older, index-each_place, get_or_past)
-arc-left full name older j = refl
+arc-left full name older j = grind (arith, common_steps, found-written, index-each_place, get_or_past)
 
 flags-left : (full : Bool) (name : List ℕ) (older : List Marked) (r : Row)
     → flags_in (found_in (base_of full older) name) ≡ indicators_before (r ∷ rows_before full name older)
-flags-left false name (m ∷ older) r = grind (arith, found-written name m older)
-flags-left full name older r = refl
+flags-left full name older r = grind (arith, common_steps, found-written)
 
 -- ---- a satellite's line
 

@@ -3,7 +3,7 @@ use Rattle.crx_compact.proofs.Words.{◌≡◌, refl, ℤ, List, [], ◌∷◌, 
 use Rattle.crx_compact.proofs.Words.{arith, ap, sym, ◌∙◌}
 use Rattle.crx_compact.proofs.Words.{append_assoc, length-map, map-append, drop-append_seam, subst}
 use Rattle.crx_compact.proofs.Words.{IsWholeEpoch}
-use Rattle.crx_compact.proofs.Words.{Count, Row, Epoch, Marked, AreWhole, since_full, run_of, satellite_line, epoch_line, compact_epoch}
+use Rattle.crx_compact.proofs.Words.{Count, Row, Epoch, Marked, AreWhole, since_full, run_of, epoch_line, compact_epoch}
 use Rattle.crx_compact.proofs.Words.{map-each_place, map-map, WRITTEN_ORDER, epoch_text, without_end_blanks}
 use Rattle.crx_compact.proofs.Words.{ReadEpoch, Tail, tail_left, common_steps}
 use Rattle.crx_compact.proofs.wayback.Runs.{marked}
@@ -12,7 +12,7 @@ use Rattle.crx_compact.proofs.anywriter.{Epochs.{any-epoch, held-reads, tail-for
 use Rattle.crx_compact.specs.ArcTails.{arc_tail}
 use Rattle.crx_compact.specs.AnyWriter.{arc_left, row_left, epoch_left, IsLeft}
 use Rattle.crx_compact.specs.Tails.{row_tail, tail_of, tail_or_nothing}
-use Rattle.crx_compact.specs.ReadingLaws.{lines_of_epoch, EachReadsBack, text_lines}
+use Rattle.crx_compact.specs.ReadingLaws.{lines_of_epoch, EachReadsBack}
 use Rattle.crx_compact.specs.ReadingLaws.{marked_of, OneTail, ReadsBack, StepsReadBack}
 use Rattle.crx_compact.specs.meaning.AnyWriter.{WrittenEpoch, AreEpochLines, epoch_now}
 
@@ -103,9 +103,6 @@ reads-back (t ∷ older) h =
     let first = reads-back older h.1 in
     let raws = map (λ (r : ReadEpoch). r.raw) first.reads in
     let next = each-reads_back t.types m ms raws h.0 (λ later. first.tail) in
-    let text = text_lines ms in
-    let lines = compact_epoch (m ∷ ms) in
-    let rows = length-map m.epoch.rows (λ (r : Row). satellite_line (run_of r.name (m ∷ ms)) r) in
     record {
       reads = record { raw = next.raw; epoch = m.epoch } ∷ first.reads;
       all = grind (arith, common_steps, map-append, append_assoc, length-map, drop-append_seam);

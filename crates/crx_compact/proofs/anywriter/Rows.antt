@@ -34,8 +34,7 @@ tail-found name before = named-made (λ (r : WrittenRow). r.name) (λ (t : RowTa
     (λ n r. row_left r) (λ n r. refl) name before.rows
 
 pub cell-found : (found : Option WrittenRow) (j : ℕ) → cell_of_tail j (option_map row_left found) ≡ arc_left (arc_in found j)
-cell-found None j = refl
-cell-found (Some r) j = at-map arc_left refl r.arcs j
+cell-found x j = grind (arith, common_steps, at-map, arc_left)
 
 pub flags-found : (found : Option WrittenRow) → flags_of_tail (option_map row_left found) ≡ without_end_blanks (flags_in found)
 flags-found found = grind arith

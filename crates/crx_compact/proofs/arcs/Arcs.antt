@@ -46,14 +46,12 @@ value-next width (Step d) cs = (steps d (since_start cs) (has-numbers cs)).value
 
 pub number-next : (c : Code) (cs : List Code)
     → started_tail (since_start (c ∷ cs)) ≡ arc_of_code c (started_tail (since_start cs))
-number-next Missing cs = refl
-number-next (Start n v) cs = cc (first-differences n (value_at n (v ∷ [])), value-start n v)
-number-next (Step d) cs = (steps d (since_start cs) (has-numbers cs)).arc
+number-next x cs =
+    grind (arith, common_steps, first-differences, value_at, value-start, steps, since_start, has-numbers)
 
 pub code-next : (o : Option ℤ) (os : List (Option ℤ))
     → code_at WRITTEN_ORDER (stretch (o ∷ os)) ≡ code_of_value o (arc_tail WRITTEN_ORDER (stretch os))
-code-next None os = refl
-code-next (Some v) os = (codes-by_tail WRITTEN_ORDER v (stretch os)).code
+code-next x os = grind (arith, common_steps, codes-by_tail)
 
 pub arc-next : (o : Option ℤ) (os : List (Option ℤ))
     → arc_tail WRITTEN_ORDER (stretch (o ∷ os)) ≡ arc_of_value o (arc_tail WRITTEN_ORDER (stretch os))

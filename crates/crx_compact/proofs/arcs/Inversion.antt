@@ -65,9 +65,8 @@ numbers-steps n xs = refl
 -- a last number whose weight is 0 does not count
 last-without_weight : (w : ℕ → ℤ) (n : ℕ) (r : List ℤ) (x : ℤ)
     → w (length r) ≡ pos 0 → weighted w (take n (r ++ x ∷ [])) ≡ weighted w (take n r)
-last-without_weight w zero r x h = refl
-last-without_weight w (suc n) [] x h = grind (arith, common_steps)
 last-without_weight w (suc n) (y ∷ r) x h = cc (last-without_weight (λ i. w (suc i)) n r x h)
+last-without_weight w x r y h = grind (arith, common_steps)
 
 pub binomial-past : (n i : ℕ) → n < i → binomial n i ≡ 0
 binomial-past n zero h = absurd (not-suc-le-zero h)
@@ -156,13 +155,12 @@ value-first n d = search rules
 
 -- the numbers of an arc's codes give its newest value
 pub value-numbers : (n : ℕ) (xs : List ℤ) (x : ℤ) → value_at n (numbers_of n (x ∷ xs)) ≡ x
-value-numbers zero xs x = grind (arith, common_steps, difference, difference-zero)
-value-numbers (suc n) [] x = grind (arith, common_steps, value-first, difference-zero)
 value-numbers (suc n) (y ∷ ys) x =
     let step = value-step n (difference (min (length (y ∷ ys)) (suc n)) (x ∷ y ∷ ys))
     (difference (min (length ys) (suc n)) (y ∷ ys)) (numbers_of (suc n) ys) in
     let below = ap (value_at n) (numbers-steps n (x ∷ y ∷ ys)) in
     omega (arith, ints, value-numbers (suc n) ys y, value-numbers n (steps (y ∷ ys)) (x -ℤ y))
+value-numbers x xs y = grind (arith, common_steps, difference-zero, value-first)
 
 -- the codes of an arc have its start, and these numbers
 pub started-codes : (n : ℕ) (xs : List ℤ) (x : ℤ)

@@ -150,8 +150,7 @@ pub record OntoThird (number : ℤ) (ds : List ℤ) : Type 0 where
 
 pub onto-third : (number : ℤ) (ds : List ℤ)
     → 3 < length ds → IsBelow (10 ^ 18) number → AreBelow value_bound (take 3 ds) → OntoThird number ds
-onto-third number (a ∷ b ∷ c ∷ ds) h f hs = grind (arith, common_steps)
-onto-third number ds h f hs = absurd (omega (arith, h))
+onto-third number ds h f hs = grind (arith, common_steps)
 
 -- one place more of the value by a number
 pub record Summed (k : ℕ) (target value : ℤ) (ds : List ℤ) : Type 0 where
@@ -178,9 +177,8 @@ highest-last (e ∷ f ∷ fs) d = highest-last (f ∷ fs) d
 highest-last ds d = refl
 
 take-take : (n m : ℕ) (ds : List ℤ) → take n (take m ds) ≡ take (min n m) ds
-take-take (suc n) (suc m) [] = grind (arith, common_steps)
 take-take (suc n) (suc m) (d ∷ ds) = grind (arith, common_steps, take-take n m ds)
-take-take n m ds = grind arith
+take-take n m ds = grind (arith, common_steps)
 
 -- a value that fits its columns is below the bound of all
 pub within-below : (width : ℕ) (value : ℤ) → width ≤ 15 → IsWithin width value → IsBelow value_bound value
@@ -290,9 +288,8 @@ stepped width order count last number value ds e h l v f = steps-on width order 
 -- the highest difference at a next value in range is a number that a code may have
 highest-below : (k : ℕ) (ds : List ℤ) → length ds + k ≤ 10 → AreBelow (order_bound k) ds
     → IsShort (highest ds)
-highest-below k [] few h = omega arith
-highest-below k (d ∷ []) few h = grind (arith, common_steps, order-bound-within, below-short)
 highest-below k (d ∷ e ∷ es) few h = highest-below (suc k) (e ∷ es) (omega arith) h.1
+highest-below k x few h = grind (arith, common_steps, order-bound-within, below-short)
 
 pub highest-short : (width order count last : ℕ) (value : ℤ) (ds : List ℤ)
     → IsLast order count last → IsArcInRange width order count (take count ds) → IsWithin width value

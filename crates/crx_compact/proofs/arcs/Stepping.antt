@@ -33,8 +33,7 @@ pub first-differences : (n : ℕ) (x : ℤ) → differences_of n (x ∷ []) ≡ 
 first-differences n x = search rules
 
 pub codes-by_tail : (n : ℕ) (x : ℤ) (older : List ℤ) → CodesByTail n x older
-codes-by_tail n x [] = search rules
-codes-by_tail n x (y ∷ ys) = grind (arith, common_steps, highest-each, differences-step)
+codes-by_tail n x y = grind (arith, common_steps, highest-each, differences-step)
 
 -- ---- in expansion
 

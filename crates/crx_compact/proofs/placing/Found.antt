@@ -27,8 +27,7 @@ found-by_look_up name i es is =
 
 pub found-if_some : (name : List ℕ) (es : List Entry) (r : Option ℕ)
     → position (bytes_eq name) (keys_of es) ≡ r → IfSome r (IsAt name es)
-found-if_some name es None is = tt
-found-if_some name es (Some i) is = found-by_look_up name i es is
+found-if_some name es x is = grind (arith, common_steps, found-by_look_up)
 
 pub at-seam : {X : Type 0} (xs ys : List X) (x : X) → slice_get (xs ++ x ∷ ys) (length xs) ≡ Some x
 at-seam [] ys x = refl

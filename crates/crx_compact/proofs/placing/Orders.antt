@@ -12,6 +12,7 @@ use Rattle.std.specs.{Str.bytes_eq, List.IsDistinct, Map.keys_of}
 use Rattle.crx_header.specs.meaning.Satellites.{is_among}
 use Rattle.crx_header.proofs.Apart.{other_way}
 use Rattle.crx_compact.specs.Entries.{Entry, IsAt, IsOrder, entry_at, in_order, key_of}
+use Rattle.std.proofs.Common.{rules}
 
 -- the place of an index where a satellite is
 pub place-is : {order places : List ℕ} {es : List Entry} {name : List ℕ} {index place : ℕ}
@@ -28,9 +29,7 @@ module _ {order places : List ℕ} (es : List Entry) (is : IsOrder order places 
   pub there-in_order : (place : ℕ) (e : Entry) → place < length es → slice_get es (get_or order place 0) ≡ Some e
       → slice_get (in_order order es) place ≡ Some e
   there-in_order place e within there =
-      slice_get-map (entry_at es) order place
-      ∙ ap (option_map (entry_at es)) (slice_get-get_or order place 0 (omega (arith, within, is.counted)))
-      ∙ ap Some (get_or_from_slice_get es _ e _ there)
+      search (rules, slice_get-map, entry_at, option_map, slice_get-get_or, get_or_from_slice_get)
 
   -- one that isn't known isn't among them
   pub none-in_order : (name : List ℕ) → is_among key_of name es ≡ false → is_among key_of name (in_order order es) ≡ false

@@ -93,10 +93,8 @@ module _ {S : Type 0} (m : IndexMap (List ℕ) SatelliteTail S) (unique : IsUniq
     pub placed-exchanged : has ≡ true → place < live → {next : List ℕ} → next ≡ swap order place placed
         → AnswersPlacing name count now
         (placed_rows (placed + 1) live (in_order next m.entries) m.entries) (Some true)
-    placed-exchanged roomy before {next} e = placed-next roomy before
-        (subst (IsPutNext placed place _) (sym (ap (map (entry_at m.entries)) e ∙ map-swap _ order place placed))
-        (put-exchanged placed place _ behind (omega (arith, stands, is.counted, length-map order (entry_at m.entries)))
-        apart))
+    placed-exchanged roomy before {next} e =
+        search (rules, placed-next, entry_at, map-swap, put-exchanged, length-map, apart)
 
     -- any other one comes
     pub placed-anew : has ≡ true → placed ≤ live → live ≤ place → {after : SatelliteTail} → after ≡ emptied at.satellite

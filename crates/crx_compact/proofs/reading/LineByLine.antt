@@ -114,8 +114,7 @@ read_rows-held : (before : Tail) (line : List ℕ) (satellites : List Satellite)
     ≡ after_lines 2 (rows_placed before (patched before.text line) (arc_of_code cell.code before.clock) [] p)
 read_rows-held before line satellites cell tail lines (Done rows n) h clock e =
     let facts = rows-facts (past_of_tail before) satellites lines rows n e in
-    let shown = rows-shown before satellites facts.own rows facts.each in
-    search (rules, map-map, take_all, facts.counted)
+    search (rules, map-map, take_all, facts.counted, rows-shown)
 read_rows-held before line satellites cell tail lines p h clock e = grind arith
 
 clock-steps : (before : Tail) (line : List ℕ) (satellites : List Satellite)

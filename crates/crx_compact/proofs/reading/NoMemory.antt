@@ -50,8 +50,7 @@ whole-none tail count row = grind arith
 
 held-none : (begun : OpenRawEpoch) (r : Result HeldRow Fault) → NoMemory r
     → fault_in_step (raw_step_with_row begun r) ≡ OutOfMemory → ⊥
-held-none begun (Err fault) h = h
-held-none begun (Ok held) h = whole-none _ _ _
+held-none begun x h = grind (arith, common_steps, whole-none)
 
 open-none : (begun : OpenRawEpoch) (clock : OpenClock) (line : List ℕ)
     → fault_in_step (line_step begun clock line) ≡ OutOfMemory → ⊥

@@ -1,5 +1,6 @@
 -- The tail of a block of raw epochs decides what the next one stands for, and the next tail.
-use Rattle.crx_compact.proofs.Words.{◌≡◌, refl, ℕ, List, [], ◌∷◌, ◌*◌, map, length, Option, Some, None}
+use Rattle.std.proofs.lemmas.Grind.{common_steps}
+use Rattle.crx_compact.proofs.Words.{◌≡◌, refl, ℕ, List, [], ◌∷◌, ◌*◌, map, length, Option, Some}
 use Rattle.crx_compact.proofs.Words.{unwrap_or, option_map, sym, ◌∙◌, ap, get_or_past, patched, ReadLine}
 use Rattle.crx_compact.proofs.Words.{Count, stretch, RawRow, RawEpoch, block_of, overlaid, raw_row_named}
 use Rattle.crx_compact.proofs.Words.{raw_run_of, marks_of, code_in, since_start, Past, past_of_block}
@@ -18,8 +19,7 @@ use Rattle.crx_compact.specs.ReadingLaws.{RawByTail}
 cell-found : (rest : List (Option RawRow)) (found : Option RawRow) (j : ℕ)
     → cell_of_tail j (option_map (raw_row_tail (stretch (found ∷ rest))) found)
     ≡ started_tail (since_start (map (code_in j) (stretch (found ∷ rest))))
-cell-found rest None j = refl
-cell-found rest (Some r) j = grind (arith, index-each_place, get_or_past)
+cell-found rest x j = grind (arith, common_steps, index-each_place, get_or_past)
 
 cell-left : (name : List ℕ) (block : List RawEpoch) (j : ℕ) → cell_of_tail j (tail_named name
     (tail_of_block block)) ≡ started_tail (since_start (map (code_in j) (raw_run_of name block)))

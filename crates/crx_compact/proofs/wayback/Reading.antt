@@ -1,7 +1,7 @@
 -- The text of an epoch's line is read as its columns and satellites; and texts of codes.
 use Rattle.crx_compact.proofs.Words.{◌≡◌, refl, true, false, List, ◌∷◌, [], ℕ, drop, Ok, ◌+◌, ◌*◌, ◌∙◌, arith, and_parts, rules, length, Row}
 use Rattle.crx_compact.proofs.Words.{Epoch, Count, IsWholeEpoch, begins_epoch, columns, epoch_text, satellites_of_text, few_kept}
-use Rattle.crx_compact.proofs.Words.{list_all, without_end_blanks, at-without_end_blanks}
+use Rattle.crx_compact.proofs.Words.{list_all, without_end_blanks, at-without_end_blanks, common_steps}
 use Rattle.crx_compact.proofs.wayback.Facts.{head-counted, typed-rows, text-head, length-text, text-names, names-read}
 use Rattle.crx_compact.proofs.wayback.Facts.{satellites_of_rows, satellites-good}
 use Rattle.crx_compact.proofs.{SoundTexts.first-columns, anywriter.Texts.is_code_character}
@@ -29,8 +29,7 @@ text-good types e h =
 -- ---- lines of codes
 
 pub text-other : (text : List ℕ) → list_all is_code_character text ≡ true → begins_epoch text ≡ false
-text-other [] h = refl
-text-other (c ∷ cs) h = grind arith
+text-other x h = grind (arith, common_steps)
 
 pub no-end_blanks : (text : List ℕ) → list_all is_code_character text ≡ true → without_end_blanks text ≡ text
 no-end_blanks [] h = refl

@@ -1,5 +1,5 @@
 -- The compact lines of an epoch can be in a file, and none of them is too long.
-use Rattle.crx_compact.proofs.Words.{◌≡◌, [], ◌∷◌, map, Row, ◌+◌, ◌-◌, ◌*◌, ◌^◌, ◌<◌, ◌≤◌, pos, refl, ap}
+use Rattle.crx_compact.proofs.Words.{◌≡◌, [], ◌∷◌, map, Row, ◌+◌, ◌-◌, ◌*◌, ◌^◌, ◌<◌, ◌≤◌, refl, ap}
 use Rattle.crx_compact.proofs.Words.{AllByRecursion, satellite_line, list_all-from_at, SATELLITES_LIMIT, ℕ}
 use Rattle.crx_compact.proofs.Words.{is_printable, begins_epoch, IsWholeEpoch, WRITTEN_ORDER, is_event_line}
 use Rattle.crx_compact.proofs.Words.{compact_epoch, if◌then◌else◌, epoch_text, signed_decimal, each_place-all}
@@ -8,7 +8,7 @@ use Rattle.crx_compact.proofs.Words.{list_all, without_end_blanks, at-without_en
 use Rattle.crx_compact.proofs.Words.{code_text, Marked, cell_text, AreWhole, clock_arc, since_full, run_of}
 use Rattle.crx_compact.proofs.Words.{epoch_line, newest_text, DIGITS_LIMIT, CLOCK_WIDTH, character_at}
 use Rattle.crx_compact.proofs.Words.{length-each_place, OBSERVATION_WIDTH, indicators_before}
-use Rattle.crx_compact.proofs.Words.{negsuc, length, value_in, code_at, arc_of, codes_of, IsWithin, few_kept}
+use Rattle.crx_compact.proofs.Words.{length, value_in, code_at, arc_of, codes_of, IsWithin, few_kept}
 use Rattle.crx_compact.proofs.Words.{flat_map, common_steps, rules, length-append}
 use Rattle.crx_compact.proofs.wayback.Facts.{IsTypedRow, typed-rows, text-begins}
 use Rattle.crx_compact.proofs.{Lists.all-from, Words.◌&&◌}
@@ -30,8 +30,7 @@ use Rattle.std.proofs.lemmas.Fmt.{decimal_digit}
 
 signed-length : (k b : ℕ) (z : ℤ)
     → 0 < k → k ≤ DIGITS_LIMIT → b < 10 ^ k → IsNear b z → length (signed_decimal z) ≤ k + 1
-signed-length k b (pos n) some few h near = search (rules, pow-le-pow_right, length-decimal-le)
-signed-length k b (negsuc n) some few h near = search (rules, pow-le-pow_right, length-decimal-le)
+signed-length k b x some few h near = grind (arith, common_steps, pow-le-pow_right, length-decimal-le)
 
 -- a code of an arc whose values fit so many columns: a first value has two characters before it, and a
 -- difference one digit more than a value

@@ -1,7 +1,7 @@
 -- The tail of the epochs decides the next epoch's lines and the next tail: so an epoch is coded after others.
 use Rattle.crx_compact.proofs.Words.{◌≡◌, text_difference, satellite_line, index-each_place, lines_after_tail}
-use Rattle.crx_compact.proofs.Words.{refl, false, [], Option, Epoch, Marked, run_of, arc_of, tail_of, no_tail}
-use Rattle.crx_compact.proofs.Words.{ℕ, ℤ, Bool, true, List, ◌∷◌, map, Some, Row, Tail}
+use Rattle.crx_compact.proofs.Words.{refl, [], Option, Epoch, Marked, run_of, arc_of, tail_of, no_tail}
+use Rattle.crx_compact.proofs.Words.{ℕ, ℤ, Bool, true, List, ◌∷◌, map, Some, Row, Tail, common_steps}
 use Rattle.crx_compact.proofs.Words.{if◌then◌else◌, without_end_blanks, indicators_before, tail_written_after}
 use Rattle.crx_compact.proofs.Words.{option_map, get_or_past, newest_text, row_line_in, row_tail_in}
 use Rattle.crx_compact.proofs.Words.{WRITTEN_ORDER, cell_of_tail, flags_of_tail, are_different, compact_epoch}
@@ -28,13 +28,11 @@ tail-found name m older = named-made (λ (r : Row). r.name) (λ (t : RowTail). t
 
 cell-left : (full : Bool) (name : List ℕ) (older : List Marked) (j : ℕ) → cell_of_tail j
     (tail_named name (start full older)) ≡ arc_tail WRITTEN_ORDER (arc_of j (rows_before full name older))
-cell-left false name (m ∷ older) j = grind (arith, tail-found name m older, index-each_place, get_or_past)
-cell-left full name older j = refl
+cell-left full name older j = grind (arith, common_steps, tail-found, index-each_place, get_or_past)
 
 flags-left : (full : Bool) (name : List ℕ) (older : List Marked)
     → flags_of_tail (tail_named name (start full older)) ≡ head_flags (rows_before full name older)
-flags-left false name (m ∷ older) = grind (arith, tail-found name m older)
-flags-left full name older = refl
+flags-left full name older = grind (arith, common_steps, tail-found)
 
 -- ---- one row more
 
