@@ -1,17 +1,17 @@
-use Rattle.crx_compact.proofs.Words.{rules, ◌≡◌, refl, ◌<◌, ◌≤◌, get_or, List, ℕ, Option, Some, drop, take}
-use Rattle.crx_compact.proofs.Words.{length, ap, sym, ◌∙◌, arith, length-take-le, AreCut, HasFront}
+use Rattle.crx_compact.proofs.Words.{rules, ◌≡◌, refl, ◌<◌, get_or, List, ℕ, Option, Some, drop, take}
+use Rattle.crx_compact.proofs.Words.{length, ap, sym, ◌∙◌, arith, length-take-le}
+use Rattle.crx_compact.specs.Blocks.{IsBlock}
 use Rattle.crx_compact.proofs.LineTexts.{NextLine, front-kept, next-line}
 use Rattle.crx_compact.proofs.block.Block.next_line.Goals.{After-index}
 use Rattle.std.proofs.{Math.ListN.drop_of_length-le, lemmas.List.get_or-take}
 use Rattle.crx_compact.proofs.block.Block.next_line.Goals as goal
 
 -- not all lines were borrowed yet, so there is a next one
-line-there : (lengths bytes : List ℕ) (many filled past past_bytes front count : ℕ)
-    → AreCut (take many lengths) (take filled bytes) past past_bytes × (many ≤ length lengths)
-    × (filled ≤ length bytes) × HasFront front past past_bytes
+line-there : (lengths bytes : List ℕ) (many filled past past_bytes front memory count : ℕ)
+    → IsBlock lengths bytes many filled past past_bytes front memory
     → (past ≡ many → ⊥) → count ≡ get_or lengths past count
     → NextLine (take many lengths) bytes filled past past_bytes count
-line-there lengths bytes many filled past past_bytes front count h other here =
+line-there lengths bytes many filled past past_bytes front memory count h other here =
     let all : length (take many lengths) ≡ many = length-take-le many lengths h.1 in
     let within = h.0.past_within in
     let less : past < many = omega (arith, within, all, other) in
@@ -21,15 +21,7 @@ line-there lengths bytes many filled past past_bytes front count h other here =
 here : (c : After-index) → NextLine (take c.self.inside.count c.self.inside.lengths.items)
     c.self.inside.bytes.items c.self.inside.filled c.self.inside.handed_out c.self.inside.handed_out_bytes
     c.index.result.now
-here c =
-    let inside = c.self.inside in
-    line-there inside.lengths.items inside.bytes.items inside.count inside.filled inside.handed_out
-    inside.handed_out_bytes inside.front c.index.result.now (
-      c.self.invariant.0,
-      c.self.invariant.1,
-      c.self.invariant.2,
-      c.self.invariant.3,
-    ) c.if-self.false c.index.ensures
+here c = line-there _ _ _ _ _ _ _ _ _ c.self.invariant c.if-self.false c.index.ensures
 
 pub overflow_add-end : goal.overflow_add-end
 overflow_add-end c = omega (arith, (here (goal.at.overflow_add-end c).After-index).within)

@@ -118,22 +118,7 @@ loop-row-preserved c =
 
 pub end_rows-requires-clause-counted : goal.end_rows-requires-clause-counted
 end_rows-requires-clause-counted c =
-    let written : AreRowsWritten (if c.args.in_full then no_tail else tail_of_history c.args.self.now)
-    c.args.epoch.now.rows c.loop-row.self c.loop-row.lines.lines = search (
-      rules,
-      no_tail,
-      tail_of_history,
-      taken_all,
-    ) in
-    search (rules, written, length-map, row_tail_in, eqb-true, satellites_of)
+    search (rules, no_tail, tail_of_history, taken_all, length-map, row_tail_in, eqb-true, satellites_of)
 
 pub returns-clause-written : goal.returns-clause-written
-returns-clause-written c =
-    let written : AreRowsWritten (if c.args.in_full then no_tail else tail_of_history c.args.self.now)
-    c.args.epoch.now.rows c.loop-row.self c.loop-row.lines.lines = search (
-      rules,
-      no_tail,
-      tail_of_history,
-      taken_all,
-    ) in
-    search (rules, no_tail, tail_of_history, by_ok, is_ok, written)
+returns-clause-written c = search (rules, no_tail, tail_of_history, taken_all, by_ok, is_ok)
