@@ -1,8 +1,9 @@
 //! Whether a satellite line is in the form that printing gives, by its bytes alone. RINEX 3.05, table A3,
 //! OBSERVATION record, A1,I2.2,m(F14.3,I1,I1).
 
-ghost use Rattle.std.specs.Prelude.{◌≡◌, List, Ok};
+ghost use Rattle.std.specs.Prelude.{◌≡◌, List, ℤ, Option, Some, Ok, drop};
 ghost use Rattle.std.specs.Bool.{OnTrue};
+ghost use Rattle.crx_text.specs.meaning.Numbers.{observation_of, observation_text};
 ghost use Rattle.crx_header.specs.meaning.ObservationTypes.{Count};
 ghost use Rattle.crx_rinex.specs.meaning.Observations.{Row};
 ghost use Rattle.crx_rinex.specs.meaning.Printing.{printed_row};
@@ -34,17 +35,23 @@ pub fn has_printed_form(line: &[u8]) -> bool
     }
     for k in 0..(length - 1) / CELL_WIDTH {
         let start = CELL_WIDTH * k + (NAME_WIDTH - BEFORE);
-        // The field is in the last lanes.
-        let columns = u8x16::from_slice(&line[start..start + CELL_WIDTH]);
-        let before = columns.shuffle(
-            u8x16::splat(0),
-            [16, 16, 2, 2, 3, 4, 5, 6, 7, 8, 9, 10, 11, 16, 16, 16],
-        );
-        let is_after = before.simd_eq(u8x16::from_array(AFTER))
-            | before.simd_eq(u8x16::splat(b'-'));
-        if (is_after & columns.simd_eq(u8x16::from_array(ODD))).any() {
+        if !is_printed_field(u8x16::from_slice(&line[start..start + CELL_WIDTH])) {
             return false;
         }
     }
     true
+}
+
+/// Whether a field, in the last lanes, is surely what printing gives of its value.
+#[inline(always)]
+fn is_printed_field(columns: u8x16) -> bool
+    ensures form { OnTrue result ((value : Option ℤ) → observation_of (drop BEFORE columns) ≡ Some value
+        → observation_text value ≡ drop BEFORE columns) }
+{
+    let before = columns.shuffle(
+        u8x16::splat(0),
+        [16, 16, 2, 2, 3, 4, 5, 6, 7, 8, 9, 10, 11, 16, 16, 16],
+    );
+    let is_after = before.simd_eq(u8x16::from_array(AFTER)) | before.simd_eq(u8x16::splat(b'-'));
+    !(is_after & columns.simd_eq(u8x16::from_array(ODD))).any()
 }

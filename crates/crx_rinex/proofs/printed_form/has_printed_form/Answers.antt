@@ -1,6 +1,4 @@
-use Rattle.std.proofs.Common.{◌+◌, ◌-◌, ◌*◌, ◌<◌, ◌≤◌, ℕ, List, length, take, drop, arith}
-use Rattle.std.proofs.lemmas.List.{length-take, length-take-le, length-drop}
-use Rattle.crx_rinex.proofs.PrintedForms.{form_from_lanes}
+use Rattle.std.proofs.Common.{◌+◌, ◌*◌, ◌<◌, ◌≤◌, length, arith}
 use Rattle.crx_rinex.proofs.PrintedRows.{all_print, inside_prints, line_printed, next_prints}
 use Rattle.crx_rinex.proofs.printed_form.has_printed_form.Goals as goal
 
@@ -9,15 +7,7 @@ loop-k-preserved c =
     let line = c.args.line.now in
     let k = c.loop-k.k in
     let room : 16 * k + 1 + 16 ≤ length line = omega (arith, c.loop-k-test.true) in
-    let part : List ℕ = take (16 * k + 1 + 16 - (16 * k + 1)) (drop (16 * k + 1) line) in
-    let wide = length-take-le 16 part (omega (
-      arith,
-      length-take (16 * k + 1 + 16 - (16 * k + 1))
-          (drop (16 * k + 1) line),
-      length-drop (16 * k + 1) line,
-    )) in
-    next_prints line k c.loop-k.invariant
-    (inside_prints line k room (rw c.if-is_after-columns-ne0.false at (form_from_lanes (take 16 part) wide)))
+    next_prints line k c.loop-k.invariant (inside_prints line k room c.if-not-is_printed_field.ensures.form)
 
 pub returns : goal.returns
 returns c =
