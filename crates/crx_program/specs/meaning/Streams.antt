@@ -110,7 +110,7 @@ FromUnused {D = D} stream holds = (first : Logged (Std D)) × IsUnused stream fi
 
 -- the device of a file that was opened by this name, for writing where there are options: nothing went
 -- through it yet, and no failure was counted
-pub record IsOpened {F : Type 0} (name : List ℕ) (how : Option OpenOptions) (device : Logged (Std F))
+pub record IsFreshlyOpened {F : Type 0} (name : List ℕ) (how : Option OpenOptions) (device : Logged (Std F))
     : Type 0 where
   pub name_is : device.opening.name.bytes ≡ name
   pub how_is : device.opening.how ≡ how

@@ -3,7 +3,7 @@
 ghost use Rattle.std.specs.Prelude.{◌≡◌, [], None, Some, IfOk, is_some, true};
 ghost use Rattle.std.specs.Io.Buffered.{writer_buffer, writer_inner};
 ghost use Rattle.crx_program.specs.meaning.Calls.{options_to_read, with_call};
-ghost use Rattle.crx_program.specs.meaning.Streams.{IsOpened};
+ghost use Rattle.crx_program.specs.meaning.Streams.{IsFreshlyOpened};
 
 use super::{FileBuffer, Log, Logged, OUTPUT_BUFFER, Opening, SourceFile, TargetFile};
 use crate::late_writer::LateWriter;
@@ -46,7 +46,7 @@ impl<'a, H: Files> Opener<'a, H> {
     /// has a name: the one that they were given, and hand on to the machine.
     pub fn open_to_read(&mut self, name: &str) -> io::Result<SourceFile<H::File>>
         ensures calls { self.new.log.calls ≡ with_call self.old.log.calls name.now options_to_read }
-        ensures opened { IfOk result (IsOpened name.now None) }
+        ensures opened { IfOk result (IsFreshlyOpened name.now None) }
         ensures unread { IfOk result (λ device. device.inner.is_unread ≡ true) }
         ensures ends { IfOk result (λ device. device.inner.ends ≡ 0) }
     {
@@ -70,7 +70,7 @@ impl<'a, H: Files> Opener<'a, H> {
     ) -> io::Result<TargetFile<H::File>>
         requires empty { writer_buffer buffer ≡ [] }
         ensures calls { self.new.log.calls ≡ with_call self.old.log.calls name.now how }
-        ensures opened { IfOk result (IsOpened name.now (Some how)) }
+        ensures opened { IfOk result (IsFreshlyOpened name.now (Some how)) }
         ensures empty { IfOk result (λ device. writer_buffer device.inner.inner ≡ []) }
         ensures file { IfOk result (λ device. is_some (writer_inner device.inner.inner).writer ≡ true) }
     {
