@@ -16,7 +16,7 @@ use Rattle.rnxcmp_c.proofs.Words.{Expand, Check, filter_for, memory_next, with_o
 use Rattle.rnxcmp_c.proofs.Words.{HandleState}
 use Rattle.rnxcmp_c.proofs.Words.{Reader, line_reached, ended_lines_of, OUTPUT_LIMIT}
 use Rattle.rnxcmp_c.specs.{Going.{LineFails, Breaks}, Handles.{EndsAs, EndsWithin, IsOf, IsPut, EndsRunBy}}
-use Rattle.rnxcmp_c.specs.Handles.{IsOverAtEnd, IsOverByBytes, RanOut, status_at_end}
+use Rattle.rnxcmp_c.specs.Handles.{IsOverAtEnd, IsOverByBytes, RanOutOfMemory, status_at_end}
 
 pub filter-is : (task : Task) (engine : AnyEngine) → IsOf task engine → engine_filter engine ≡ filter_for task
 filter-is = grind arith
@@ -78,7 +78,7 @@ module _ (task : Task) (held mid : HandleState) (outcome : Outcome) (past : Hand
       → IsCutBy ((filter_for task).so_far lines) (with_one_more (filter_for task) lines others)
       (memory_next (filter_for task) lines others) mid past
       → IsMemoryLacking (is_some (memory_next (filter_for task) lines others)) mid
-      → EndsAs (RanOut is_line task input held) held past outcome
+      → EndsAs (RanOutOfMemory is_line task input held) held past outcome
   short-at is_line input memory there lines others first number cut lacking =
       let before : Course = (filter_for task).so_far lines in
       let full : At = record { line = at.line; fault = OutOfMemory } in

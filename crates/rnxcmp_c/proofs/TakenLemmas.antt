@@ -5,7 +5,7 @@ use Rattle.rnxcmp_c.proofs.Words.{append_assoc, FilterResult, KeepsToLimit, Outc
 use Rattle.rnxcmp_c.proofs.Words.{subst}
 use Rattle.rnxcmp_c.proofs.Words.{HandlePast, Task, taken_with}
 use Rattle.rnxcmp_c.proofs.Words.{waiting, Pending, Reader}
-use Rattle.rnxcmp_c.specs.Handles.{EndsAs, IsOver}
+use Rattle.rnxcmp_c.specs.Handles.{EndsAs, IsOverWith}
 
 module _ (task : Task) (old : Reader) (past : HandlePast) (output messages : Pending) (text told : List ℕ)
     (wrote : waiting old.held.output ≡ text ++ waiting output)
@@ -33,8 +33,8 @@ module _ (task : Task) (old : Reader) (past : HandlePast) (output messages : Pen
     ends = grind (arith, common_steps, ended.ends, same-output, same-messages);
   }
 
-  still-over : (result : FilterResult) → IsOver task past.fed old.held result
-      → IsOver task past.fed new.held result
+  still-over : (result : FilterResult) → IsOverWith task past.fed old.held result
+      → IsOverWith task past.fed new.held result
   still-over result (inl whole) = inl whole
   still-over result (inr (inl (inl limit))) = inr (inl (inl limit))
   still-over result (inr (inl (inr ran))) =
@@ -45,6 +45,6 @@ module _ (task : Task) (old : Reader) (past : HandlePast) (output messages : Pen
       → StandsBy task new then outcome
   taken-stands None runs = grind (arith, common_steps, runs.going, same-output, same-messages)
   taken-stands (Some outcome) (ended, few) = (
-    still-ended (IsOver task past.fed old.held) (IsOver task past.fed new.held) outcome ended still-over,
+    still-ended (IsOverWith task past.fed old.held) (IsOverWith task past.fed new.held) outcome ended still-over,
     subst (λ (t : List ℕ). KeepsToLimit (limit_for task) t) same-output few,
   )

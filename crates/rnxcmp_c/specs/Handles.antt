@@ -122,7 +122,7 @@ EndsWithin task is_one held past outcome = EndsAs is_one held past outcome
     × KeepsToLimit (limit_for task) (past.output ++ waiting held.output)
 
 -- memory ran out at such a line, or at the end, which takes memory, or a write to one of the texts failed
-pub record RanOut (is_line : ℕ → Type 0) (task : Task) (input : List ℕ) (held : HandleState) (result : FilterResult)
+pub record RanOutOfMemory (is_line : ℕ → Type 0) (task : Task) (input : List ℕ) (held : HandleState) (result : FilterResult)
     : Type 0 where
   pub stops : StopsForMemory is_line (run_for task) input result
   pub lacking : IsMemoryLacking (is_some (memory_next (filter_for task) stops.lines stops.others)) held
@@ -130,7 +130,7 @@ pub record RanOut (is_line : ℕ → Type 0) (task : Task) (input : List ℕ) (h
 -- the output would be longer than it may be, or memory ran out
 abbrev pub StopsEarly : (ℕ → Type 0) → Task → List ℕ → HandleState → FilterResult → Type 0
 StopsEarly is_line task input held result =
-    StopsAtLimit (run_for task) input result ⊎ RanOut is_line task input held result
+    StopsAtLimit (run_for task) input result ⊎ RanOutOfMemory is_line task input held result
 
 -- the number of the last line of the bytes that were fed
 abbrev pub IsLastLine : List ℕ → ℕ → Type 0
@@ -142,15 +142,15 @@ IsLineReached fed line = line ≤ length (lines_of fed)
 
 -- a run has the result of the bytes that were fed, unless memory ran out, or the output or the input was too
 -- long
-abbrev pub IsOver : Task → List ℕ → HandleState → FilterResult → Type 0
-IsOver task fed held result = (result ≡ result_for task fed)
+abbrev pub IsOverWith : Task → List ℕ → HandleState → FilterResult → Type 0
+IsOverWith task fed held result = (result ≡ result_for task fed)
     ⊎ (StopsEarly (IsLineReached fed) task fed held result ⊎ StopsWhenFull (run_for task) fed result)
 
 -- where it is: it goes on, or it has ended
 abbrev pub StandsBy : Task → Reader → HandlePast → Option Outcome → Type 0
 StandsBy task reader past None = ReaderRuns task reader past
 StandsBy task reader past (Some outcome) =
-    EndsWithin task (IsOver task past.fed reader.held) reader.held past outcome
+    EndsWithin task (IsOverWith task past.fed reader.held) reader.held past outcome
 
 abbrev pub ReaderStands : Task → Reader → HandlePast → Type 0
 ReaderStands task reader past = StandsBy task reader past reader.outcome
