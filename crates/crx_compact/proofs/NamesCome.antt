@@ -1,11 +1,12 @@
 -- Satellites that come by the identifiers of an epoch text, each with as many types as its system has.
-use Rattle.crx_compact.proofs.Words.{rules, ◌≡◌, ◌++◌, ◌∷◌, [], ℕ, List, Bool, true, false, not, map, sym}
-use Rattle.crx_compact.proofs.Words.{subst, Some, arith, map-append, columns, IsAllowedCount, is_among}
-use Rattle.crx_compact.proofs.Words.{IsAwaitedSatellite, Satellite, PlacedRows, padded, padded_among, RowTail}
+use Rattle.crx_compact.proofs.Words.{rules, ap, ◌∙◌, ◌≡◌, ◌++◌, ◌∷◌, [], ℕ, List, Bool, true, false, not, map, sym}
+use Rattle.crx_compact.proofs.Words.{subst, arith, map-append, columns, IsAllowedCount, is_among}
+use Rattle.crx_compact.proofs.Words.{IsAwaitedSatellite, Satellite, PlacedRows, padded_among, RowTail}
 use Rattle.crx_header.specs.meaning.Satellites.{is_identifier}
 use Rattle.crx_header.proofs.Apart.{among-map}
-use Rattle.crx_compact.specs.{EpochLinesRead.AreSatellitesRefused, Placing.HasCome}
-use Rattle.crx_compact.proofs.{ComeRows.{AreAwaited, awaited-after, come-name, come-padded}, Results.no-err}
+use Rattle.crx_compact.proofs.placing.SteppedRows.{IsLastStored, padded-is}
+use Rattle.crx_compact.specs.{EpochLinesRead.AreSatellitesRefused, Placing.{HasCome, IsLeftAt, SatelliteTail, resized}}
+use Rattle.crx_compact.proofs.{ComeRows.{AreAwaited, awaited-after, come-padded}, Results.no-err}
 use Rattle.crx_compact.proofs.Words.{Err, Fault, KeepsRooms, OutOfMemory, Result, false≢true, is_ok, ◌⊎◌}
 
 -- whether a satellite has come, by the rows that have
@@ -15,25 +16,27 @@ pub among-rows : (before rows : List RowTail) (found : List Satellite) (name : L
 among-rows before rows found name b made answer = grind (arith, among-map)
 
 -- what is known where the next satellite has come, and has as many types as its system
-pub record HasNameCome (before : List RowTail) (found : List Satellite) (new : PlacedRows) : Type 0 where
+pub record HasNameCome (before : List RowTail) (found : List Satellite) (mid new : PlacedRows) : Type 0 where
   pub rows : new.rows ≡ map (padded_among before) found
   pub awaited : AreAwaited (λ (s : Satellite). s.name) found before new.rest
+  pub rooms : new.rooms ≡ mid.rooms
 
-pub name-comes : (before : List RowTail) (found : List Satellite) (name : List ℕ) (count : ℕ)
-    (old mid new : PlacedRows)
+pub name-comes : (before : List RowTail) (found : List Satellite) (name : List ℕ) (count place : ℕ)
+    (old mid new : PlacedRows) (satellite left : SatelliteTail)
     → old.rows ≡ map (padded_among before) found
     → AreAwaited (λ (s : Satellite). s.name) found before old.rest
     → is_among (λ (s : Satellite). s.name) name found ≡ false → HasCome name old mid
-    → ((rows : List RowTail) (row : RowTail) → mid.rows ≡ rows ++ row ∷ []
-    → new.rows ≡ rows ++ padded (record { name = row.name; count = count }) (Some row) ∷ [])
-    → new.rest ≡ mid.rest → HasNameCome before (found ++ record { name = name; count = count } ∷ []) new
-name-comes before found name count old mid new made awaited fresh has sized same =
-    let satellite : Satellite = record { name = name; count = count } in
+    → IsLastStored name place old mid satellite → IsLeftAt place mid satellite left new
+    → left ≡ resized count satellite
+    → HasNameCome before (found ++ record { name = name; count = count } ∷ []) mid new
+name-comes before found name count place old mid new satellite left made awaited fresh has last at left_is =
+    let own : Satellite = record { name = name; count = count } in
+    let changed = last.left left new at (ap (λ (s : SatelliteTail). s.room) left_is) in
     record {
-      rows = search (rules, come-name, come-padded, map-append);
-      awaited = subst (λ (rs : List RowTail). AreAwaited (λ (s : Satellite). s.name)
-          (found ++ satellite ∷ []) before rs)
-          (sym same) (awaited-after (λ (s : Satellite). s.name) found satellite before old mid awaited has);
+      rows = ap (λ (p : PlacedRows). p.rows) changed ∙ search (rules, padded-is, left_is, last.is, come-padded, map-append);
+      awaited = subst (λ (p : PlacedRows). AreAwaited (λ (s : Satellite). s.name) (found ++ own ∷ []) before p.rest)
+          (sym changed) (awaited-after (λ (s : Satellite). s.name) found own before old mid awaited has);
+      rooms = ap (λ (p : PlacedRows). p.rooms) changed;
     }
 
 -- an identifier of a system with types, as it is read from a text

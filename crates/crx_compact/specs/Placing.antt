@@ -14,12 +14,13 @@ use Rattle.crx_compact.specs.HeldRows.{AreHeldFlags, HeldRow, IsAwaitedSatellite
 use Rattle.crx_base.specs.declared.fault.Fault.{Fault}
 use Rattle.crx_base.specs.declared.fault.Fault.TheVariants.{BadFlags}
 use Rattle.crx_text.specs.meaning.Texts.{text_difference}
+use Rattle.crx_compact.specs.Cells.{arcs_of_cells}
 use Rattle.crx_compact.specs.RowsSoFar.{AreAnnounced, NamesSatellites}
 use Rattle.crx_compact.specs.ShownRows.{shown_row}
-use Rattle.crx_compact.specs.Steps.{cell_of_tail, flags_of_tail, flags_held, row_line_after, row_tail_after}
+use Rattle.crx_compact.specs.Steps.{cell_of_tail, flags_of_tail, flags_held, row_line_after}
 use Rattle.crx_compact.specs.Tails.{RowTail, Tail}
 use Rattle.crx_rinex.specs.meaning.Observations.{Row}
-use Rattle.crx_rinex.specs.meaning.SatelliteLines.{IsSoundRow}
+use Rattle.crx_text.specs.meaning.Numbers.{IsValue}
 use Rattle.crx_base.specs.declared.limits.TheConstants.{HEAD_WIDTH, NAME_WIDTH, TYPES_LIMIT}
 use Rattle.crx_header.specs.meaning.Satellites.{is_among, types_of_satellite}
 use Rattle.crx_text.specs.Texts.{patched}
@@ -64,6 +65,12 @@ pub record FitsFlags (count : ℕ) (flags : List ℕ) (satellite : SatelliteTail
   pub room : count ≤ satellite.room
   pub paired : length flags ≡ 2 * count
   pub held : AreHeldFlags flags
+
+-- a row of these values and indicators can be written of the satellite
+pub record FitsRow (values : List (Option ℤ)) (flags : List ℕ) (satellite : SatelliteTail) : Type 0 where
+  pub ranged : All IsValue values
+  pub few : length values ≤ TYPES_LIMIT
+  pub fits : FitsFlags (length values) flags satellite
 
 -- cells for so many types: those that are there, and blank ones
 abbrev pub cells_for : ℕ → List (Option ArcTail) → List (Option ArcTail)
@@ -110,11 +117,6 @@ KeepsRooms before after = (name : List ℕ) (count : ℕ) → HasRoom name count
 pub record HasSameRooms (before after : List (List ℕ × ℕ)) : Type 0 where
   pub forth : KeepsRooms before after
   pub back : KeepsRooms after before
-
--- the satellites that haven't come stay, and each has as much room
-pub record KeepsRest (old new : PlacedRows) : Type 0 where
-  pub rest : new.rest ≡ old.rest
-  pub rooms : HasSameRooms old.rooms new.rooms
 
 -- room was asked for: no row has changed, and no satellite has less room
 pub record HasAskedRoom (old new : PlacedRows) : Type 0 where
@@ -234,21 +236,25 @@ HaveNamesRoom types text count rooms = (place cells : ℕ) → place < count
 abbrev pub row_of_parts : List ℕ → List (Option ℤ) → List ℕ → Row
 row_of_parts name values flags = record { name = name; values = values; flags = flags }
 
--- a row can be written of the satellite whose row is at a place: it is one of this satellite, which has room for it
-pub record MayWrite (place : ℕ) (values : List (Option ℤ)) (flags : List ℕ) (satellites : PlacedRows) : Type 0 where
-  pub row : RowTail
-  pub there : slice_get satellites.rows place ≡ Some row
-  pub sound : IsSoundRow (row_of_parts row.name values flags)
-  pub room : HasRoom row.name (length values) satellites.rooms
+-- what is stored of a satellite after a row of these values and indicators, and the row's compact line
+abbrev pub satellite_after : List (Option ℤ) → List ℕ → SatelliteTail → SatelliteTail
+satellite_after values flags old =
+    record old { flags = without_end_blanks flags; cells = arcs_of_cells old.cells values }
 
--- it was written: what is stored of the satellite is that after the row, and this is its line
-pub record IsLineWritten (place : ℕ) (values : List (Option ℤ)) (flags : List ℕ) (old new : PlacedRows) (line : List ℕ)
-    : Type 0 where
-  pub row : RowTail
-  pub there : slice_get old.rows place ≡ Some row
-  pub rows : new.rows ≡ slice_set old.rows place (row_tail_after (Some row) (row_of_parts row.name values flags))
-  pub made : line ≡ row_line_after (Some row) (row_of_parts row.name values flags)
-  pub kept : KeepsRest old new
+abbrev pub satellite_line : List (Option ℤ) → List ℕ → SatelliteTail → List ℕ
+satellite_line values flags old = row_line_after (Some (row_tail_of [] old)) (row_of_parts [] values flags)
+
+-- this is stored of the satellite whose row is at a place
+pub record IsStoredAt (place : ℕ) (satellites : PlacedRows) (satellite : SatelliteTail) : Type 0 where
+  pub name : List ℕ
+  pub there : slice_get satellites.rows place ≡ Some (row_tail_of name satellite)
+  pub room : (count : ℕ) → HasRoom name count satellites.rooms → count ≤ satellite.room
+
+-- it has changed, but not its room: the satellite's row has, and nothing else
+abbrev pub IsLeftAt : ℕ → PlacedRows → SatelliteTail → SatelliteTail → PlacedRows → Type 0
+IsLeftAt place old satellite left new = left.room ≡ satellite.room → (name : List ℕ)
+    → slice_get old.rows place ≡ Some (row_tail_of name satellite)
+    → new ≡ record old { rows = slice_set old.rows place (row_tail_of name left) }
 
 -- a row has as many cells as a system may have types
 abbrev pub HasAllowedCount : RowTail → Type 0

@@ -1,22 +1,21 @@
 //! The lines of an epoch, made one after another and borrowed in that order, one by one or as one text.
 
-ghost use Rattle.std.specs.Prelude.{◌≡◌, ◌≤◌, ◌<◌, ◌+◌, ◌-◌, ◌*◌, ◌++◌, ◌∷◌, ◌↔◌, [], ℕ, List, IfOk, IsTrue, Some, drop, length, slice_get, vec_capacity};
+ghost use Rattle.std.specs.Prelude.{◌≡◌, ◌≤◌, ◌<◌, ◌+◌, ◌-◌, ◌*◌, ◌++◌, ◌∷◌, ◌↔◌, [], IfOk, IsTrue, drop, length, slice_get, vec_capacity};
 ghost use Rattle.std.specs.Borrow.{sem};
 ghost use Rattle.std.specs.Io.BufRead.{Rests};
 ghost use Rattle.std.specs.Option.{option_copied};
 ghost use Rattle.crx_base.specs.declared.limits.TheConstants.{LINE_LIMIT, TYPES_LIMIT};
 ghost use Rattle.crx_rinex.specs.meaning.Printing.{printed_row};
 ghost use Rattle.crx_compact.specs.Blocks.{HasTakenLine, KeepsItems, lines_text, no_lines};
-ghost use Rattle.crx_compact.specs.Placing.{IsLineWritten, MayWrite};
+ghost use Rattle.crx_compact.specs.Placing.{FitsRow, row_tail_of, satellite_after, satellite_line};
 ghost use Rattle.crx_compact.specs.ShownRows.{shown_row};
-ghost use Rattle.crx_compact.specs.Tails.{RowTail};
 ghost use Rattle.crx_compact.specs.contracts.block.Block.{the_row};
 ghost use Rattle.crx_compact.specs.declared.history.TheConstants.{EPOCH_TEXT_LIMIT};
 
 use crate::cells::CELL_ROOM;
 use crate::history::EPOCH_TEXT_LIMIT;
-use crate::satellites::Satellites;
-use crx_base::limits::{SATELLITES_LIMIT, TYPES_LIMIT};
+use crate::satellite::SatelliteHistory;
+use crx_base::limits::{NAME_WIDTH, SATELLITES_LIMIT, TYPES_LIMIT};
 use crx_text::Text;
 use crx_text::block::put_line;
 use std::alloc::{AllocError, Global};
@@ -134,21 +133,21 @@ impl Block {
         self.filled += line.len() + 1;
     }
 
-    /// Puts the compact line of a row after the others; the row's satellite is at an index among those that
-    /// have come, and has room for the row. What is stored of the satellite is that after the row.
+    /// Puts the compact line of a row after the others. What is stored of the row's satellite, which has room
+    /// for the row, is that after the row.
     #[inline(always)]
     pub(crate) fn put_row(
         &mut self,
-        satellites: &mut Satellites,
-        index: usize,
+        satellite: &mut SatelliteHistory,
         values: &[Option<i64>],
         flags: &[u8],
         scratch: &mut Text,
     )
         requires left { 0 < self.old.left }
-        requires may { MayWrite index values.now flags.now satellites.old }
-        ensures written { (line : List ℕ) × IsLineWritten index values.now flags.now satellites.old satellites.new line
-            × (self.new.lines ≡ self.old.lines ++ line ∷ []) }
+        requires fits { FitsRow values.now flags.now satellite.old }
+        ensures after { satellite.new ≡ satellite_after values.now flags.now satellite.old }
+        ensures lines { self.new.lines ≡ self.old.lines
+            ++ satellite_line values.now flags.now satellite.old ∷ [] }
         ensures taken { HasTakenLine self.old self.new }
     {
         use_bytes(&mut self.bytes, self.filled);
@@ -156,30 +155,26 @@ impl Block {
         // again, by 4 instructions.
         let filled = self.filled;
         let bytes = self.bytes.as_mut_slice();
-        let length = satellites.write_line(index, values, flags, scratch, bytes, filled);
+        let length = satellite.write_line(values, flags, scratch, bytes, filled);
         bytes[filled + length] = b'\n';
         self.lengths[self.count] = length;
         self.count += 1;
         self.filled = filled + (length + 1);
     }
 
-    /// Puts the printed line of the row that a satellite shows after the others; the satellite is at an index
-    /// among those that have come.
+    /// Puts the printed line of the row that a satellite shows, of this identifier, after the others.
     #[inline(always)]
-    pub(crate) fn put_printed(&mut self, satellites: &Satellites, index: usize)
+    pub(crate) fn put_printed(&mut self, name: [u8; NAME_WIDTH], satellite: &SatelliteHistory)
         requires left { 0 < self.old.left }
-        requires within { index < length satellites.now.rows }
-        requires few { (old : RowTail) → slice_get satellites.now.rows index ≡ Some old
-            → length old.cells ≤ TYPES_LIMIT }
-        ensures lines { (row : RowTail) × (slice_get satellites.now.rows index ≡ Some row)
-            × (self.new.lines ≡ self.old.lines ++ printed_row (shown_row row) ∷ []) }
+        requires few { length satellite.now.cells ≤ TYPES_LIMIT }
+        ensures lines { self.new.lines ≡ self.old.lines
+            ++ printed_row (shown_row (row_tail_of name satellite.now)) ∷ [] }
         ensures taken { HasTakenLine self.old self.new }
     {
         use_bytes(&mut self.bytes, self.filled);
         let filled = self.filled;
         let bytes = self.bytes.as_mut_slice();
-        let (name, satellite) = satellites.entry(index);
-        let length = satellite.print_line(*name, bytes, filled);
+        let length = satellite.print_line(name, bytes, filled);
         bytes[filled + length] = b'\n';
         self.lengths[self.count] = length;
         self.count += 1;

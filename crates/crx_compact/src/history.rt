@@ -178,7 +178,8 @@ impl History {
             return Ok(false);
         }
         let last = self.satellites.placed() - 1;
-        lines.put_row(&mut self.satellites, last, values, flags, scratch);
+        let satellite = self.satellites.entry_mut(last).unwrap();
+        lines.put_row(satellite, values, flags, scratch);
         Ok(true)
     }
 
@@ -290,7 +291,10 @@ impl History {
         if begins_epoch(line.line()) {
             return Err(Fault::Truncated);
         }
-        self.satellites.read_line(index, line, scratch)
+        self.satellites
+            .entry_mut(index)
+            .unwrap()
+            .read(line, scratch)
     }
 
     /// The epoch that the history shows. `AllocError` comes only where there are satellites.
@@ -342,7 +346,8 @@ impl History {
             lines.put(scratch.bytes());
             return;
         }
-        lines.put_printed(&self.satellites, count - 1);
+        let (name, satellite) = self.satellites.entry(count - 1);
+        lines.put_printed(*name, satellite);
     }
 }
 
@@ -411,7 +416,8 @@ fn read_names(
         if !is_new {
             return Err(Fault::RepeatedSatellite);
         }
-        satellites.resize_last(cells);
+        let last = satellites.placed() - 1;
+        satellites.entry_mut(last).unwrap().resize(cells);
     }
     Ok(())
 }

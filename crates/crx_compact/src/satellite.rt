@@ -1,8 +1,7 @@
 //! What is stored of a satellite: its indicators and the arcs of its cells, changed in place by each of its
 //! lines. Hatanaka's Compact RINEX 3.0, satellite lines.
 
-ghost use Rattle.std.specs.Prelude.{All, ◌≡◌, ◌≤◌, ◌<◌, ◌+◌, ◌-◌, ◌*◌, ◌++◌, [], Ok, Err, true, false, length, take, IfOk, IsTrue, ◌↔◌, vec_capacity};
-ghost use Rattle.std.specs.List.{flat_map};
+ghost use Rattle.std.specs.Prelude.{◌≡◌, ◌≤◌, ◌<◌, ◌+◌, ◌-◌, ◌*◌, [], Ok, Err, true, false, length, take, IfOk, IsTrue, ◌↔◌, vec_capacity};
 ghost use Rattle.crx_text.specs.meaning.Columns.{without_end_blanks};
 ghost use Rattle.crx_base.specs.declared.limits.TheConstants.{CELL_WIDTH, LINE_LIMIT, NAME_WIDTH, TYPES_LIMIT};
 ghost use Rattle.crx_header.specs.meaning.EpochColumns.{begins_epoch};
@@ -11,12 +10,9 @@ ghost use Rattle.crx_header.specs.meaning.Satellites.{is_identifier};
 ghost use Rattle.crx_rinex.specs.meaning.Printing.{printed_row};
 ghost use Rattle.crx_base.specs.Padded.{line_in};
 ghost use Rattle.crx_compact.specs.declared.cells.TheConstants.{CELL_ROOM};
-ghost use Rattle.crx_compact.specs.Cells.{arcs_of_cells, codes_of_cells};
 ghost use Rattle.crx_compact.specs.HeldRows.{AreHeldFlags};
 ghost use Rattle.crx_compact.specs.Blocks.{IsLinePut};
-ghost use Rattle.crx_compact.specs.meaning.Cells.{cell_text};
-ghost use Rattle.crx_text.specs.meaning.Numbers.{IsValue};
-ghost use Rattle.crx_compact.specs.Placing.{AnswersMarks, AnswersReading, AnswersRoom, FitsFlags, IsMarked, resized, row_tail_of};
+ghost use Rattle.crx_compact.specs.Placing.{AnswersMarks, AnswersReading, AnswersRoom, FitsFlags, FitsRow, IsMarked, resized, row_tail_of, satellite_after, satellite_line};
 ghost use Rattle.crx_compact.specs.ShownRows.{shown_row};
 
 use crate::arc::ObsArc;
@@ -155,7 +151,7 @@ impl SatelliteHistory {
     /// difference of the indicators before and the row's: mostly they stay, and it is empty; else it is
     /// written into a text.
     #[inline(always)]
-    pub(crate) fn mark<'a>(&mut self, count: usize, flags: &[u8], scratch: &'a mut Text) -> &'a [u8]
+    fn mark<'a>(&mut self, count: usize, flags: &[u8], scratch: &'a mut Text) -> &'a [u8]
         requires fits { FitsFlags count flags.now self.old }
         ensures { IsMarked count flags.now self.old self.new result.now }
     {
@@ -180,24 +176,24 @@ impl SatelliteHistory {
         put_first(&mut self.indicators, flags);
     }
 
-    /// Replaces the arcs by those after a row, and writes the row's compact line from an index on; the line's
-    /// marks are given. Gives the line's length.
+    /// Writes the compact line of a row from an index on, in place of bytes. What is stored is that after the
+    /// row. Gives the line's length.
     #[inline(always)]
     pub(crate) fn write_line(
         &mut self,
         values: &[Option<i64>],
-        marks: &[u8],
+        flags: &[u8],
+        scratch: &mut Text,
         bytes: &mut [u8],
         at: usize,
     ) -> usize
-        requires values { All IsValue values.now }
-        requires counted { length self.old.cells ≡ length values.now }
-        requires room { at + (CELL_ROOM * length values.now + length marks.now) < length bytes.old }
-        ensures after { self.new ≡ record self.old { cells = arcs_of_cells self.old.cells values.now } }
-        ensures put { IsLinePut (without_end_blanks
-            (flat_map cell_text (codes_of_cells self.old.cells values.now) ++ marks.now))
-            (CELL_ROOM * length values.now + length marks.now) at bytes.old bytes.new result }
+        requires fits { FitsRow values.now flags.now self.old }
+        requires room { at + (CELL_ROOM * length values.now + 2 * TYPES_LIMIT) < length bytes.old }
+        ensures after { self.new ≡ satellite_after values.now flags.now self.old }
+        ensures put { IsLinePut (satellite_line values.now flags.now self.old)
+            (CELL_ROOM * length values.now + 2 * TYPES_LIMIT) at bytes.old bytes.new result }
     {
+        let marks = self.mark(values.len(), flags, scratch);
         let end = write_cells(&mut self.arcs, values, bytes, at);
         let end = put_text(bytes, end, marks);
         trim_end(&bytes[at..end]).len()

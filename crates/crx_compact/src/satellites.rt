@@ -1,29 +1,26 @@
 //! The satellites of a history, in the order of the file: Hatanaka's Compact RINEX 3.0.
 
-ghost use Rattle.std.specs.Prelude.{List, ℕ, All, ◌≡◌, ◌≤◌, ◌<◌, ◌+◌, ◌*◌, ◌++◌, ◌∷◌, ◌⊎◌, [], false, is_some, None, Some, length, take, map, slice_get, slice_index_or, swap, vec_capacity, vec_len, OnErr, IfOk, IfSome, IsOk};
+ghost use Rattle.std.specs.Prelude.{All, ◌≡◌, ◌≤◌, ◌<◌, ◌+◌, ◌*◌, ◌++◌, ◌⊎◌, ⊤, [], false, is_some, None, Some, length, take, map, slice_get, slice_index_or, swap, vec_capacity, vec_len, OnErr, IfOk, IfSome, IsOk, IsSome};
 ghost use Rattle.std.specs.Bool.{OnTrue};
+ghost use Rattle.std.specs.Borrow.{LendsSo, sem};
 ghost use Rattle.std.specs.List.{flat_map};
 ghost use Rattle.std.specs.Map.{lookup};
 ghost use Rattle.std.specs.Str.{bytes_eq};
-ghost use Rattle.crx_base.specs.Padded.{line_in};
-ghost use Rattle.crx_base.specs.declared.limits.TheConstants.{HEAD_WIDTH, LINE_LIMIT, NAME_WIDTH, TYPES_LIMIT};
-ghost use Rattle.crx_header.specs.meaning.EpochColumns.{begins_epoch};
+ghost use Rattle.crx_base.specs.declared.limits.TheConstants.{HEAD_WIDTH, NAME_WIDTH, TYPES_LIMIT};
 ghost use Rattle.crx_header.specs.meaning.Satellites.{is_among};
-ghost use Rattle.crx_compact.specs.declared.cells.TheConstants.{CELL_ROOM};
-ghost use Rattle.crx_compact.specs.Blocks.{IsLinePut};
 ghost use Rattle.crx_compact.specs.Entries.{IsAt, IsFound, IsOrder, key_of};
 ghost use Rattle.crx_compact.specs.EpochLinesRead.{HaveComeAgain};
 ghost use Rattle.crx_compact.specs.HeldRows.{IsAwaitedSatellite};
-ghost use Rattle.crx_compact.specs.Placing.{AnswersPlacing, AnswersRow, AsksRoom, HasAllowedCount, HasRoom, IsLineWritten, KeepsRest, MayWrite, SatelliteTail, padded, row_tail_of, satellite_of};
+ghost use Rattle.crx_compact.specs.Placing.{AnswersPlacing, AsksRoom, HasRoom, IsLeftAt, IsStoredAt, SatelliteTail, row_tail_of, satellite_of};
 ghost use Rattle.crx_compact.specs.Refusals.{mark_place};
 ghost use Rattle.crx_compact.specs.Tails.{RowTail};
+ghost use Rattle.crx_compact.specs.contracts.satellite.SatelliteHistory.{the_row as satellite_row};
+ghost use Rattle.crx_compact.specs.contracts.satellites.Satellites.{the_row};
 ghost use Rattle.indexmap.specs.IndexMap.{IsUnique, spare};
 
 use crate::satellite::SatelliteHistory;
 use crx_base::limits::{HEAD_WIDTH, NAME_WIDTH};
-use crx_base::{Fault, Padded};
 use crx_header::{Types, is_same_identifier, put_identifier};
-use crx_text::Text;
 use indexmap::IndexMap;
 use std::alloc::{AllocError, Global};
 use std::marker::Model;
@@ -231,61 +228,17 @@ impl Satellites {
         }
     }
 
-    /// Makes the satellite that came last have so many types, for which it has room: those that it has stay,
-    /// and new ones have no arcs and blank indicators.
+    /// What is stored of the satellite whose row is at an index, and may be changed: its row changes with it.
+    /// There is one; what is lent by an `Option` is what a clause can tell of by a relation.
     #[inline(always)]
-    pub(crate) fn resize_last(&mut self, count: usize)
-        requires some { 0 < length self.old.rows }
-        requires room { (before : List RowTail) (row : RowTail) → self.old.rows ≡ before ++ row ∷ []
-            → HasRoom row.name count self.old.rooms }
-        ensures rows { (before : List RowTail) (row : RowTail) → self.old.rows ≡ before ++ row ∷ []
-            → self.new.rows ≡ before ++ padded (record { name = row.name; count = count }) (Some row) ∷ [] }
-        ensures kept { KeepsRest self.old self.new }
-    {
-        let (_, satellite) = self.known.pair_mut(number_at(&self.order, self.placed - 1));
-        satellite.resize(count);
-    }
-
-    /// Writes the compact line of a row, whose satellite is at an index among those that have come, from
-    /// another index on, in place of bytes. What is stored of the satellite is that after the row. Gives the
-    /// line's length.
-    #[inline(always)]
-    pub(crate) fn write_line(
-        &mut self,
-        index: usize,
-        values: &[Option<i64>],
-        flags: &[u8],
-        scratch: &mut Text,
-        bytes: &mut [u8],
-        at: usize,
-    ) -> usize
-        requires may { MayWrite index values.now flags.now self.old }
-        requires room { at + (CELL_ROOM * length values.now + 2 * TYPES_LIMIT) < length bytes.old }
-        ensures { (line : List ℕ) × IsLineWritten index values.now flags.now self.old self.new line
-            × IsLinePut line (CELL_ROOM * length values.now + 2 * TYPES_LIMIT) at bytes.old bytes.new result }
-    {
-        let (_, satellite) = self.known.pair_mut(number_at(&self.order, index));
-        let marks = satellite.mark(values.len(), flags, scratch);
-        satellite.write_line(values, marks, bytes, at)
-    }
-
-    /// Reads the satellite line of the row at an index: what is stored of its satellite is that after the
-    /// line, which shows the row. The faults are those of [`SatelliteHistory::read`].
-    #[inline(always)]
-    pub(crate) fn read_line(
-        &mut self,
-        index: usize,
-        line: Padded<'_>,
-        scratch: &mut Text,
-    ) -> Result<(), Fault>
+    pub(crate) fn entry_mut(&mut self, index: usize) -> Option<&mut SatelliteHistory>
         requires within { index < length self.old.rows }
-        requires allowed { All HasAllowedCount self.old.rows }
-        requires short { length (line_in line) ≤ LINE_LIMIT }
-        requires other { begins_epoch (line_in line) ≡ false }
-        ensures { AnswersRow index (line_in line.entry) self.old self.new result }
+        ensures there { IfSome result (λ satellite. IsStoredAt index self.old satellite.now) }
+        ensures some { IsSome result }
+        ensures* after_borrow { sem 𝓛 (LendsSo the_row satellite_row self.entry result
+            (λ new left. IfSome result (λ satellite. IsLeftAt index self.old satellite.now left new)) (λ new. ⊤)) }
     {
-        let (_, satellite) = self.known.pair_mut(number_at(&self.order, index));
-        satellite.read(line, scratch)
+        self.known.get_index_mut(number_at(&self.order, index))
     }
 
     /// The identifier of the satellite whose row is at an index, and what is stored of it.

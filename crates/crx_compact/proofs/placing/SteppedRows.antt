@@ -1,18 +1,18 @@
 -- What is stored of one satellite among those that have come changes: its row, and no other one.
 use Rattle.crx_compact.proofs.Words.{◌≡◌, ℕ, zero, suc, ◌-◌, ◌<◌, ◌≤◌, List, [], ◌∷◌, ◌++◌, length, map, take}
 use Rattle.crx_compact.proofs.Words.{slice_get, drop, Option, Some, None, refl, ap, sym, ◌∙◌, arith, slice_set}
-use Rattle.crx_compact.proofs.Words.{slice_index_or, bytes_eq, length-map, length-take-le}
-use Rattle.crx_compact.proofs.Words.{slice_get-map, index-each_place, without_end_blanks, each_place}
-use Rattle.crx_compact.proofs.Words.{text_difference, Row, ArcTail, cell_text, padded, flags_held}
-use Rattle.crx_compact.proofs.{Words.{row_line_after, row_tail_after, RowTail}, placing.Found.at-seam}
+use Rattle.crx_compact.proofs.Words.{slice_index_or, bytes_eq, length-map, length-take-le, same_Some, subst}
+use Rattle.crx_compact.proofs.Words.{slice_get-map, index-each_place, each_place, ArcTail, padded, flags_held}
+use Rattle.crx_compact.proofs.Words.{HasRoom, PlacedRows, RowTail, row_or_blank, HasCome}
+use Rattle.crx_compact.proofs.{ComeRows.come-name, placing.Found.at-seam}
 use Rattle.crx_compact.proofs.placing.Orders.{set-in_order, there-in_order}
-use Rattle.std.proofs.Common.{set}
-use Rattle.crx_compact.proofs.placing.EntryChanges.{changed-is, rooms-same}
-use Rattle.std.specs.Prelude.{flat_map}
+use Rattle.std.proofs.Common.{set, ℤ, IfSome, option_map}
+use Rattle.std.specs.Borrow.{MutBor}
+use Rattle.crx_compact.proofs.placing.EntryChanges.{changed-is, room-there, shown-same}
 use Rattle.std.proofs.{Math.Seq.{take-set-lt, set-append_seam}, lemmas.Grind.common_steps}
 use Rattle.std.proofs.lemmas.List.{drop-set-lt, map-set, length-take, length-append}
 use Rattle.crx_compact.specs.{Cells.{arcs_of_cells, codes_of_cells}, Entries.{Entry, IsOrder, in_order, placed_rows}}
-use Rattle.crx_compact.specs.Placing.{KeepsRest, SatelliteTail, cells_for, row_tail_of, row_of_entry}
+use Rattle.crx_compact.specs.Placing.{IsLeftAt, IsStoredAt, SatelliteTail, cells_for, room_of_entry, row_tail_of, row_of_entry}
 use Rattle.indexmap.specs.{IndexMap.{IndexMap, IsUnique, set_value_at}, Layout.length-set_value_at}
 
 pub get-take : {X : Type 0} (n i : ℕ) (xs : List X) → i < n → slice_get (take n xs) i ≡ slice_get xs i
@@ -29,7 +29,7 @@ rows-counted placed es within = length-map (take placed es) row_of_entry ∙ len
 pub among-placed : (placed i : ℕ) (es : List Entry) → i < length (rows_of placed es) → i < placed
 among-placed placed i es within = grind (arith, common_steps, length-map, row_of_entry, length-take)
 
-row-below : (placed : ℕ) {i : ℕ} (order : List ℕ) (es : List Entry) → i < length (rows_of placed (in_order order es))
+pub row-below : (placed : ℕ) {i : ℕ} (order : List ℕ) (es : List Entry) → i < length (rows_of placed (in_order order es))
     → length order ≡ length es → i < length es
 row-below placed order es within counted = grind (arith, common_steps, length-map, row_of_entry, length-take)
 
@@ -56,41 +56,85 @@ pub order-kept : {placed live : ℕ} {order places : List ℕ} (i : ℕ) (es : L
     × (live ≤ length (set_value_at es i after)) × IsOrder order places (length (set_value_at es i after))
 order-kept i es after order = rw (length-set_value_at es i after) order
 
+-- a value is that of an entry
+pub value-there : (es : List Entry) (index : ℕ) (o : Option (MutBor SatelliteTail))
+    → option_map (λ (b : MutBor SatelliteTail). b.now) o ≡ slice_get (map (λ (e : Entry). e.1) es) index
+    → IfSome o (λ b. (name : List ℕ) × (slice_get es index ≡ Some (name, b.now)))
+value-there (e ∷ es) (suc index) o is = value-there es index o is
+value-there es index None is = tt
+value-there (e ∷ es) zero (Some b) is = (e.0, ap (λ o. option_map (λ s. (e.0, s)) o) (sym is))
+value-there [] index (Some b) is = absurd (grind arith)
+
 module _ {S : Type 0} (m : IndexMap (List ℕ) SatelliteTail S) {order places : List ℕ}
     (is : IsOrder order places (length m.entries)) (placed live : ℕ) {i index : ℕ} {name : List ℕ}
     {before : SatelliteTail} (within : i < length (rows_of placed (in_order order m.entries)))
-    (same : index ≡ slice_index_or order i 0) (there : slice_get m.entries index ≡ Some (name, before))
-    (after : SatelliteTail) where
-  changed : in_order order (set_value_at m.entries index after) ≡ set (in_order order m.entries) i (name, after)
-  changed = ap (in_order order) (changed-is m.entries index name before after there)
-      ∙ ap (λ k. in_order order (set m.entries k (name, after))) same ∙ set-in_order m.entries is i (name, after) (row-below placed order m.entries within is.counted)
+    (same : index ≡ slice_index_or order i 0) (there : slice_get m.entries index ≡ Some (name, before)) where
+  pub stored-at : IsUnique bytes_eq m
+      → IsStoredAt i (placed_rows placed live (in_order order m.entries) m.entries) before
+  stored-at unique = record {
+    name = name;
+    there = (row-here m.entries is placed within same there).there;
+    room = room-there m index name before before unique there;
+  }
 
-  pub rows-changed : rows_of placed (in_order order (set_value_at m.entries index after))
-      ≡ slice_set (rows_of placed (in_order order m.entries)) i (row_tail_of name after)
-  rows-changed = ap (rows_of placed) changed ∙ grind (arith, common_steps, row_of_entry, take-set-lt, among-placed, map-set)
+  module _ (after : SatelliteTail) where
+    changed : in_order order (set_value_at m.entries index after) ≡ set (in_order order m.entries) i (name, after)
+    changed = ap (in_order order) (changed-is m.entries index name before after there)
+        ∙ ap (λ k. in_order order (set m.entries k (name, after))) same ∙ set-in_order m.entries is i (name, after) (row-below placed order m.entries within is.counted)
 
-  -- and the rest stays
-  pub rest-kept : placed ≤ live → IsUnique bytes_eq m → before.room ≡ after.room → KeepsRest
-      (placed_rows placed live (in_order order m.entries) m.entries)
-      (placed_rows placed live (in_order order (set_value_at m.entries index after))
-      (set_value_at m.entries index after))
-  rest-kept few unique roomy =
-      let os = in_order order m.entries in
-      let below = among-placed placed i _ within in
-      record {
-        rest = ap (λ es. map row_of_entry (drop placed (take live es))) changed
-            ∙ ap (λ es. map row_of_entry (drop placed es)) (take-set-lt live os i (name, after) (omega (arith, few, below)))
-            ∙ ap (map row_of_entry) (drop-set-lt placed (take live os) i (name, after) below);
-        rooms = rooms-same m.entries index name before after there (sym roomy);
-      }
+    -- its row alone changes
+    pub left-at : placed ≤ live
+        → IsLeftAt i (placed_rows placed live (in_order order m.entries) m.entries) before after
+        (placed_rows placed live (in_order order (set_value_at m.entries index after)) (set_value_at m.entries index after))
+    left-at few roomy other row =
+        let os = in_order order m.entries in
+        let below = among-placed placed i _ within in
+        let own = (row-here m.entries is placed within same there).is _ row in
+        let rows : rows_of placed (in_order order (set_value_at m.entries index after))
+        ≡ slice_set (rows_of placed os) i (row_tail_of name after) =
+        ap (rows_of placed) changed ∙ grind (arith, common_steps, row_of_entry, take-set-lt, among-placed, map-set) in
+        let rest = ap (λ es. map row_of_entry (drop placed (take live es))) changed
+        ∙ ap (λ es. map row_of_entry (drop placed es)) (take-set-lt live os i (name, after) (omega (arith, few, below)))
+        ∙ ap (map row_of_entry) (drop-set-lt placed (take live os) i (name, after) below) in
+        let rooms = shown-same room_of_entry m.entries index name before after there (cc roomy) in
+        cc (rows, rest, rooms, ap (λ (r : RowTail). r.name) own)
 
--- ---- the last row
+-- ---- the satellite that has come last
 
-pub last-is : {X : Type 0} (xs ys : List X) (x y : X) (i : ℕ) → xs ≡ ys ++ y ∷ [] → i ≡ length xs - 1
+last-is : {X : Type 0} (xs ys : List X) (x y : X) (i : ℕ) → xs ≡ ys ++ y ∷ [] → i ≡ length xs - 1
     → (slice_get xs i ≡ Some y) × (slice_set xs i x ≡ ys ++ x ∷ [])
 last-is xs ys x y i e is =
     let same : i ≡ length ys = omega (arith, is, ap length e, length-append ys (y ∷ [])) in
     rw (e, same) (at-seam ys [] y, set-append_seam ys y [] x)
+
+pub last-within : (name : List ℕ) (before come : PlacedRows) (place : ℕ) → HasCome name before come
+    → place ≡ length come.rows - 1 → place < length come.rows
+last-within name before come place has last =
+    omega (arith, last, ap length has.rows, length-append before.rows (row_or_blank name before.rest ∷ []))
+
+-- what is stored of it is the row of the epoch before, or nothing; where it is left otherwise, so is the last row
+pub record IsLastStored (name : List ℕ) (place : ℕ) (before come : PlacedRows) (satellite : SatelliteTail) : Type 0 where
+  pub is : row_tail_of name satellite ≡ row_or_blank name before.rest
+  pub room : (count : ℕ) → HasRoom name count come.rooms → count ≤ satellite.room
+  pub left : (left : SatelliteTail) (new : PlacedRows) → IsLeftAt place come satellite left new
+      → left.room ≡ satellite.room → new ≡ record come { rows = before.rows ++ row_tail_of name left ∷ [] }
+
+pub come-stored : (name : List ℕ) (place : ℕ) (before come : PlacedRows) (satellite : SatelliteTail)
+    → HasCome name before come → place ≡ length come.rows - 1 → IsStoredAt place come satellite
+    → IsLastStored name place before come satellite
+come-stored name place before come satellite has last stored =
+    let kept = row_or_blank name before.rest in
+    let same : row_tail_of stored.name satellite ≡ kept = same_Some _ _
+    (sym stored.there ∙ (last-is come.rows before.rows kept kept place has.rows last).0) in
+    let named : stored.name ≡ name = ap (λ (r : RowTail). r.name) same ∙ come-name name before.rest in
+    record {
+      is = ap (λ n. row_tail_of n satellite) (sym named) ∙ same;
+      room = λ count room. stored.room count (subst (λ n. HasRoom n count come.rooms) (sym named) room);
+      left = λ left new at roomy.
+          at roomy name (subst (λ n. slice_get come.rows place ≡ Some (row_tail_of n satellite)) named stored.there)
+          ∙ ap (λ rs. record come { rows = rs })
+          (last-is come.rows before.rows (row_tail_of name left) kept place has.rows last).1;
+    }
 
 -- a satellite by another count of types
 pub padded-is : (name : List ℕ) (count : ℕ) (satellite after : SatelliteTail) → after ≡ record satellite {
@@ -99,13 +143,6 @@ pub padded-is : (name : List ℕ) (count : ℕ) (satellite after : SatelliteTail
 } → row_tail_of name after
     ≡ padded (record { name = name; count = count }) (Some (row_tail_of name satellite))
 padded-is name count satellite after is = ap (row_tail_of name) is
-
-pub has-last : {X : Type 0} (xs : List X) → 0 < length xs
-    → (before : List X) × (x : X) × (xs ≡ before ++ x ∷ [])
-has-last [] some = absurd (omega (arith, some))
-has-last (x ∷ []) some = ([], x, refl)
-has-last (x ∷ (y ∷ ys)) some =
-    let deeper = has-last (y ∷ ys) (omega arith) in (x ∷ deeper.0, deeper.1, ap (λ zs. x ∷ zs) deeper.2)
 
 -- ---- a row that is written
 
@@ -122,20 +159,11 @@ cell-there : (n k : ℕ) (cells : List (Option ArcTail)) → k < n
     → slice_index_or (cells_for n cells) k None ≡ slice_index_or cells k None
 cell-there n k cells within = index-each_place n k _ None (λ past. absurd (omega (arith, within, past)))
 
--- the satellite's row after a row of RINEX
-pub written-row : (row : Row) (satellite marked after : SatelliteTail) → marked ≡ record satellite {
-  flags = without_end_blanks row.flags;
-  cells = cells_for (length row.values) satellite.cells;
-} → after ≡ record marked { cells = arcs_of_cells marked.cells row.values }
-    → row_tail_of row.name after ≡ row_tail_after (Some (row_tail_of row.name satellite)) row
-written-row row satellite marked after marks arcs = grind (arith, each_place-below, cell-there)
+-- as many types as a row has are made first
+pub arcs-marked : (cells : List (Option ArcTail)) (values : List (Option ℤ))
+    → arcs_of_cells (cells_for (length values) cells) values ≡ arcs_of_cells cells values
+arcs-marked cells values = grind (arith, each_place-below, cell-there)
 
--- and its line
-pub written-line : (row : Row) (satellite marked : SatelliteTail) (part : List ℕ)
-    → marked ≡ record satellite {
-      flags = without_end_blanks row.flags;
-      cells = cells_for (length row.values) satellite.cells;
-    } → part ≡ text_difference satellite.flags row.flags
-    → without_end_blanks (flat_map cell_text (codes_of_cells marked.cells row.values) ++ part)
-    ≡ row_line_after (Some (row_tail_of row.name satellite)) row
-written-line row satellite marked part marks is = grind (arith, each_place-below, cell-there)
+pub codes-marked : (cells : List (Option ArcTail)) (values : List (Option ℤ))
+    → codes_of_cells (cells_for (length values) cells) values ≡ codes_of_cells cells values
+codes-marked cells values = grind (arith, each_place-below, cell-there)

@@ -1,17 +1,17 @@
-use Rattle.crx_compact.proofs.Words.{rules, ◌≡◌, refl, ◌+◌, ◌*◌, ◌++◌, ◌∷◌, [], Bool, not, true, false}
-use Rattle.crx_compact.proofs.Words.{sym, ◌∙◌, inl, arith, subst, ◌⊎◌, inr, ℕ, List, Err, map}
+use Rattle.crx_compact.proofs.Words.{rules, ◌≡◌, refl, ap, ◌+◌, ◌-◌, ◌*◌, ◌++◌, ◌∷◌, [], Bool, not, true, false}
+use Rattle.crx_compact.proofs.Words.{sym, inl, arith, subst, ◌⊎◌, inr, ℕ, List, Err, map}
 use Rattle.crx_compact.proofs.Words.{err_from_is_err_and, is_ok, columns, is_among}
 use Rattle.crx_compact.proofs.Words.{IsAwaitedSatellite, BadSatellite, RepeatedSatellite}
 use Rattle.crx_compact.proofs.Words.{Satellite, names_in, satellites_named, HasRoom, KeepsRooms}
 use Rattle.crx_compact.proofs.{Words.{padded_among, RowTail}}
-use Rattle.crx_compact.proofs.ComeRows.{come-name}
-use Rattle.std.proofs.lemmas.List.{same_from_push, Elements.All-push}
+use Rattle.crx_compact.proofs.placing.SteppedRows.{IsLastStored, come-stored, last-within}
+use Rattle.std.proofs.lemmas.List.{Elements.All-push}
 use Rattle.crx_compact.proofs.Naming.{named-bad, named-twice, named-more, named-all, next-name}
 use Rattle.crx_compact.proofs.{NamesCome.{HasNameCome, among-rows, awaited-one, name-comes, refused-by, unasked}}
 use Rattle.crx_text.proofs.EachPlace.{drop_all-each_place}
-use Rattle.crx_compact.specs.Placing.{IsPlaced}
+use Rattle.crx_compact.specs.Placing.{HasCome, IsPlaced}
 use Rattle.crx_compact.proofs.{Results.from_some, placing.Placed.placed-asked}
-use Rattle.crx_compact.proofs.history.read_names.Goals.{Joined-place, in-Some-place}
+use Rattle.crx_compact.proofs.history.read_names.Goals.{After-unwrap, Joined-place, in-Some-place}
 use Rattle.crx_compact.proofs.history.read_names.Goals.{in-None+in_ok-prepare_names-in-None}
 use Rattle.crx_compact.proofs.history.read_names.Goals as goal
 
@@ -95,15 +95,27 @@ returns-then-not-is_new c =
       rooms = λ name count has. come.2 name count (found.5 name count has);
     }
 
-pub resize_last-requires-clause-room : goal.resize_last-requires-clause-room
-resize_last-requires-clause-room c before row last_is =
-    let awaited = c.loop-index.satellites in
-    let is = (placed (goal.at.resize_last-requires-clause-room c).Joined-place).0 in
-    let come = is.come c.if-not-is_new.false in
-    let last = (same_from_push awaited.rows before _ row (sym come.rows ∙ last_is)).1 in
-    subst (λ (r : RowTail). HasRoom r.name c.in-Some.cells c.match-place.satellites.rooms) last (subst (λ
-    (n : List ℕ). HasRoom n c.in-Some.cells c.match-place.satellites.rooms) (sym (come-name
-    c.identifier-name.result awaited.rest)) (is.room c.if-not-is_new.false))
+-- what is stored of the satellite that has come
+stored : (c : After-unwrap) → HasCome c.identifier-name.result c.loop-index.satellites c.match-place.satellites
+    → IsLastStored c.identifier-name.result (c.placed-last.result - 1) c.loop-index.satellites c.match-place.satellites
+    c.unwrap.result.now
+stored c come = come-stored _ _ _ _ _ come (ap (λ n. n - 1) c.placed-last.ensures.value)
+    (rw (c.unwrap.ensures) at c.entry_mut.ensures.there)
+
+pub entry_mut-requires : goal.entry_mut-requires
+entry_mut-requires c =
+    let placed = (placed (goal.at.entry_mut-requires c).Joined-place).0 in
+    record {
+      within = last-within _ _ _ _ (placed.come c.if-not-is_new.false) (ap (λ n. n - 1) c.placed-last.ensures.value);
+    }
+
+pub resize-requires : goal.resize-requires
+resize-requires c =
+    let at = goal.at.resize-requires c in
+    let placed = (placed at.Joined-place).0 in
+    record {
+      room = (stored at.After-unwrap (placed.come c.if-not-is_new.false)).room _ (placed.room c.if-not-is_new.false);
+    }
 
 kept-back : {A : Type 0} (one two three four : List (List ℕ × ℕ)) → A ⊎ KeepsRooms two one
     → A ⊎ KeepsRooms three two
@@ -119,16 +131,19 @@ loop-index-preserved c =
     let place = c.loop-index.index in
     let name = c.identifier-name.result in
     let satellite : Satellite = record { name = name; count = c.in-Some.cells } in
-    let placed = placed (goal.at.loop-index-preserved c).Joined-place in
+    let at = goal.at.loop-index-preserved c in
+    let placed = placed at.Joined-place in
     let fresh = come-already c.args.satellites.now.rest c.loop-index.satellites.rows found.0 name
     c.match-place.is_new true found.2 placed.0.answer c.if-not-is_new.false in
-    let after = c.resize_last.new.self in
+    let after = c.entry_mut.follows.lender c.resize.new.self in
+    let come : HasNameCome c.args.satellites.now.rest (found.0 ++ satellite ∷ []) c.match-place.satellites after = name-comes
+    c.args.satellites.now.rest found.0 name c.in-Some.cells _ c.loop-index.satellites
+    c.match-place.satellites after c.unwrap.result.now c.resize.new.self found.2 found.3 fresh (placed.0.come
+    c.if-not-is_new.false) (stored at.After-unwrap (placed.0.come c.if-not-is_new.false))
+    (rw (c.unwrap.ensures) at c.entry_mut.follows.holds c.resize.new.self) c.resize.ensures.resized in
+    let same = sym come.rooms in
     let kept : KeepsRooms c.loop-index.satellites.rooms after.rooms = λ other count has.
-    c.resize_last.ensures.kept.rooms.forth other count (placed.2 other count has) in
-    let come : HasNameCome c.args.satellites.now.rest (found.0 ++ satellite ∷ []) after = name-comes
-    c.args.satellites.now.rest found.0 name c.in-Some.cells c.loop-index.satellites
-    c.match-place.satellites after found.2 found.3 fresh (placed.0.come
-    c.if-not-is_new.false) c.resize_last.ensures.rows c.resize_last.ensures.kept.rest in (
+    subst (HasRoom other count) same (placed.2 other count has) in (
       found.0 ++ satellite ∷ [],
       named-more c.args.types.now (names_in c.args.text.now c.args.count) place found.0 (found.0 ++ satellite
           ∷ []) name c.in-Some.cells found.1 (search (rules, next-name))
@@ -140,11 +155,10 @@ loop-index-preserved c =
       λ other count has. kept other count (found.5 other count has),
       All-push (λ (s : Satellite). HasRoom s.name s.count after.rooms) found.0 satellite
           (λ i d within. kept _ _ (found.6 i d within))
-          (c.resize_last.ensures.kept.rooms.forth name c.in-Some.cells
-          (placed.0.room c.if-not-is_new.false)),
+          (subst (HasRoom name c.in-Some.cells) same (placed.0.room c.if-not-is_new.false)),
       kept-back c.args.satellites.now.rooms c.loop-index.satellites.rooms c.match-place.satellites.rooms
           after.rooms
-          found.7 placed.1 c.resize_last.ensures.kept.rooms.back,
+          found.7 placed.1 (λ other count. subst (HasRoom other count) come.rooms),
     )
 
 pub returns : goal.returns

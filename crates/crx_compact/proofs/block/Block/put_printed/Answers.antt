@@ -22,25 +22,21 @@ print_line-length-requires c = record {
     arith,
     c.use_bytes.ensures.counted,
     ap length c.as_mut_slice-bytes.ensures.value,
-    c.requires.few _ c.entry.ensures.there,
+    c.requires.few,
   );
 }
 
 -- the row's line is put after the others
 pushed : (c : After-print_line-length) → BlockPushed c.self.inside.lengths.items c.self.inside.bytes.items
     (set c.print_line-length.new.bytes (c.self.inside.filled + c.print_line-length.result) 10)
-    (printed_row (shown_row (row_tail_of c.entry.result.0.now c.entry.result.1.now)))
+    (printed_row (shown_row (row_tail_of c.args.name c.args.satellite.now)))
     c.print_line-length.result c.self.inside.count
     c.self.inside.filled c.self.inside.handed_out c.self.inside.handed_out_bytes c.self.inside.front
     c.use_bytes.new.bytes.cap
 pushed c =
-    let row = row_tail_of c.entry.result.0.now c.entry.result.1.now in
-    row-pushed _ _ _ _ _ _ _ (3 + 16 * length row.cells) _ _ _ _ _ _ c.self.invariant
+    row-pushed _ _ _ _ _ _ _ (3 + 16 * length c.args.satellite.now.cells) _ _ _ _ _ _ c.self.invariant
     c.use_bytes.ensures.kept.memory
-    (omega (arith, c.requires.left, ap (λ (l : PendingLines). l.left) c.self.view_is)) (omega (
-      arith,
-      c.requires.few row c.entry.ensures.there,
-    ))
+    (omega (arith, c.requires.left, ap (λ (l : PendingLines). l.left) c.self.view_is)) (omega (arith, c.requires.few))
     (ap (take c.self.inside.filled) c.as_mut_slice-bytes.ensures.value ∙ c.use_bytes.ensures.kept.items c.self.inside.filled c.self.invariant.2)
     (omega (arith, c.use_bytes.ensures.counted, ap length c.as_mut_slice-bytes.ensures.value))
     c.print_line-length.ensures
@@ -51,4 +47,4 @@ invariant_of-self c =
     rw (stored at) (pushed at).still
 
 pub returns-clause-lines : goal.returns-clause-lines
-returns-clause-lines c = search (rules, c.entry.ensures.there, c.self.view_is, stored, pushed)
+returns-clause-lines c = search (rules, c.self.view_is, stored, pushed)

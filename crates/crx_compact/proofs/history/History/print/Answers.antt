@@ -1,12 +1,13 @@
 use Rattle.crx_compact.proofs.Words.{◌≡◌, ◌≤◌, ◌+◌, ◌-◌, sym, ap, subst, ◌∙◌, arith, ℕ, List, length, take}
 use Rattle.crx_compact.proofs.Words.{columns, HEAD_WIDTH}
 use Rattle.crx_compact.proofs.Words.{OpenHistory, few_kept, length-columns, printed_head, shown_value}
-use Rattle.crx_compact.proofs.Words.{slice_get, tail_of_history, without_end_blanks}
+use Rattle.crx_compact.proofs.Words.{Some, slice_get, tail_of_history, without_end_blanks}
 use Rattle.crx_compact.proofs.reading.Announced.{rows-allowed, rows-few}
 use Rattle.crx_compact.proofs.{PrintedBlocks.{head-printed, row-printed}, RowByRow.{all-at}, Words.rules}
-use Rattle.crx_compact.specs.{Placing.HasAllowedCount, PrintedBlocks.IsPrinted}
+use Rattle.crx_compact.specs.{Placing.{HasAllowedCount, row_tail_of}, PrintedBlocks.IsPrinted}
 use Rattle.crx_text.proofs.Blanks.{end_blanks-more}
 use Rattle.crx_text.specs.meaning.Numbers as numbers
+use Rattle.crx_compact.proofs.history.History.print.Goals.{After-entry}
 use Rattle.crx_compact.proofs.history.History.print.Goals as goal
 
 -- the columns without their end blanks are no more than the columns
@@ -47,21 +48,25 @@ pub put_printed-requires-clause-left : goal.put_printed-requires-clause-left
 put_printed-requires-clause-left c =
     omega (arith, (c.requires.before (omega arith)).left, rows-few c.args.self.now c.requires.announced, c.requires.within)
 
+-- the row that is printed
+there : (c : After-entry) → slice_get c.args.self.now.satellites.rows (c.args.count - 1)
+    ≡ Some (row_tail_of c.entry.result.0.now c.entry.result.1.now)
+there c = ap (λ (h : OpenHistory). slice_get h.satellites.rows (c.args.count - 1)) (sym c.self.view_is) ∙ c.entry.ensures.there
+
 pub put_printed-requires-clause-few : goal.put_printed-requires-clause-few
-put_printed-requires-clause-few c = λ old there.
-    let allowed = all-at HasAllowedCount c.args.self.now.satellites.rows (c.args.count - 1) old
+put_printed-requires-clause-few c =
+    let allowed = all-at HasAllowedCount c.args.self.now.satellites.rows (c.args.count - 1) _
     (rows-allowed c.args.self.now c.requires.announced)
-    (ap (λ (h : OpenHistory). slice_get h.satellites.rows (c.args.count - 1)) (sym c.self.view_is) ∙ there) in
+    (there (goal.at.put_printed-requires-clause-few c).After-entry) in
     omega (arith, allowed)
 
 pub returns : goal.returns
 returns c =
     let tail = tail_of_history c.args.self.now in
-    let printed = c.put_printed.ensures.lines in
-    let there = ap (λ (h : OpenHistory). slice_get h.satellites.rows (c.args.count - 1)) (sym c.self.view_is) ∙ printed.1 in
     let counted : c.args.count - 1 + 1 ≡ c.args.count = omega arith in
     record {
       printed = subst (λ n. IsPrinted n tail c.put_printed.new.self) counted
-          (row-printed tail (c.args.count - 1) printed.0 c.args.lines.now c.put_printed.new.self
-          (c.requires.before (omega arith)) there printed.2 c.put_printed.ensures.taken);
+          (row-printed tail (c.args.count - 1) _ c.args.lines.now c.put_printed.new.self
+          (c.requires.before (omega arith)) (there (goal.at.returns c).After-entry) c.put_printed.ensures.lines
+          c.put_printed.ensures.taken);
     }

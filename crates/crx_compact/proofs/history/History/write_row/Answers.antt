@@ -1,10 +1,11 @@
-use Rattle.crx_compact.proofs.Words.{rules, ◌≡◌, ◌-◌, List, ℕ, length, not, ap, err_from_is_err_and}
+use Rattle.crx_compact.proofs.Words.{rules, ◌≡◌, ◌-◌, List, length, not, ap, err_from_is_err_and}
 use Rattle.crx_compact.proofs.Words.{sym, ◌∙◌, refl, subst, false≢true, has_satellite, PlacedRows, Row}
-use Rattle.crx_compact.proofs.Words.{IsSoundRow, HasRoom, KeepsRooms, OpenHistory, row_of_parts, row_or_blank}
+use Rattle.crx_compact.proofs.Words.{HasRoom, KeepsRooms, OpenHistory, row_of_parts, arith}
 use Rattle.crx_compact.proofs.Words.{Tail, AreRowsWritten}
-use Rattle.crx_compact.proofs.{Results.from_some, Writing.{come-already, come-last, no-row, written-next}, placing.Placed.placed-asked}
-use Rattle.crx_compact.specs.{Placing.IsPlaced, contracts.history.History.the_view}
-use Rattle.crx_compact.proofs.history.History.write_row.Goals.{Joined-place, in-Some, in-None+in_ok-prepare-in-None}
+use Rattle.crx_compact.proofs.{Results.from_some, Writing.{come-already, no-row, written-next}, placing.Placed.placed-asked}
+use Rattle.crx_compact.proofs.placing.SteppedRows.{IsLastStored, come-stored, last-within}
+use Rattle.crx_compact.specs.{Placing.{HasCome, IsPlaced, SatelliteTail}, contracts.history.History.the_view}
+use Rattle.crx_compact.proofs.history.History.write_row.Goals.{After-unwrap-satellite, Joined-place, in-Some, in-None+in_ok-prepare-in-None}
 use Rattle.crx_compact.proofs.history.History.write_row.Goals as goal
 
 -- the satellite has come, or had come already, and nothing but the satellites has changed
@@ -67,39 +68,55 @@ returns-then-not-is_new-clause-written c = λ after rows written.
       };
     }
 
-pub put_row-requires-clause-may : goal.put_row-requires-clause-may
-put_row-requires-clause-may c =
-    let name = c.args.name.now in
-    let values = c.args.values.now in
-    let placed = (placed (goal.at.put_row-requires-clause-may c).Joined-place).0 in
-    let satellites = c.match-place.self-inside.satellites in
-    let last = come-last name c.self.inside.satellites satellites satellites.rows _ (placed.come c.if-not-is_new.false) refl
-    (ap (λ n. n - 1) c.placed-last.ensures.value) in
+-- what is stored of the satellite that has come
+stored : (c : After-unwrap-satellite) → HasCome c.args.name.now c.self.inside.satellites c.match-place.self-inside.satellites
+    → IsLastStored c.args.name.now (c.placed-last.result - 1) c.self.inside.satellites
+    c.match-place.self-inside.satellites c.unwrap-satellite.result.now
+stored c come = come-stored _ _ _ _ _ come (ap (λ n. n - 1) c.placed-last.ensures.value)
+    (rw (c.unwrap-satellite.ensures) at c.entry_mut.ensures.there)
+
+pub entry_mut-requires : goal.entry_mut-requires
+entry_mut-requires c =
+    let placed = (placed (goal.at.entry_mut-requires c).Joined-place).0 in
     record {
-      row = row_or_blank name c.self.inside.satellites.rest;
-      there = last.there;
-      sound = subst (λ (n : List ℕ). IsSoundRow (row_of_parts n values c.args.flags.now)) (sym last.named) c.requires.sound;
-      room = subst (λ (n : List ℕ). HasRoom n (length values) satellites.rooms) (sym last.named)
-          (placed.room c.if-not-is_new.false);
+      within = last-within _ _ _ _ (placed.come c.if-not-is_new.false) (ap (λ n. n - 1) c.placed-last.ensures.value);
+    }
+
+pub put_row-requires-clause-fits : goal.put_row-requires-clause-fits
+put_row-requires-clause-fits c =
+    let at = goal.at.put_row-requires-clause-fits c in
+    let placed = (placed at.Joined-place).0 in
+    let sound = c.requires.sound in
+    record {
+      ranged = sound.ranged;
+      few = omega (arith, sound.counted);
+      fits = record {
+        room = (stored at.After-unwrap-satellite (placed.come c.if-not-is_new.false)).room _
+            (placed.room c.if-not-is_new.false);
+        paired = sound.paired;
+        held = record { within = omega (arith, sound.counted, sound.paired); kept = sound.kept };
+      };
     }
 
 pub returns-clause-written : goal.returns-clause-written
 returns-clause-written c = λ after rows written.
-    let at = (goal.at.returns-clause-written c).Joined-place in
-    let come = placed at in
+    let at = goal.at.returns-clause-written c in
+    let come = placed at.Joined-place in
     let row : Row = row_of_parts c.args.name.now c.args.values.now c.args.flags.now in
     let before = c.self.inside.satellites in
     let same = ap (λ (h : OpenHistory). h.satellites) c.self.view_is in
-    let put = c.put_row.ensures.written in
     record {
       err = tt;
       ok = record {
-        answer = sym c.if-not-is_new.false ∙ answer at after rows written;
-        written = λ is. written-next after rows row c.args.self.now _ c.match-place.self-inside.satellites before
-            (c.placed-last.result - 1) c.args.lines.now.lines c.put_row.new.self.lines put.0 same written c.requires.sound
+        answer = sym c.if-not-is_new.false ∙ answer at.Joined-place after rows written;
+        written = λ is. written-next after rows row c.args.self.now _ before c.match-place.self-inside.satellites
+            (c.placed-last.result - 1) c.unwrap-satellite.result.now c.put_row.new.satellite c.args.lines.now.lines
+            c.put_row.new.self.lines same written c.requires.sound
             (no-row after rows c.args.self.now c.args.lines.now.lines before row.name c.match-place.is_new
             same come.0.answer c.if-not-is_new.false written) (come.0.come c.if-not-is_new.false)
-            (ap (λ n. n - 1) c.placed-last.ensures.value) put.1 put.2 (ap (λ (h : OpenHistory). h.text) come.2)
+            (stored at.After-unwrap-satellite (come.0.come c.if-not-is_new.false))
+            (rw (c.unwrap-satellite.ensures) at c.entry_mut.follows.holds c.put_row.new.satellite)
+            c.put_row.ensures.after c.put_row.ensures.lines (ap (λ (h : OpenHistory). h.text) come.2)
             (ap (λ (h : OpenHistory). h.clock) come.2);
         taken = λ is. c.put_row.ensures.taken;
         same = λ is. absurd (false≢true (sym is));
@@ -108,11 +125,15 @@ returns-clause-written c = λ after rows written.
 
 pub returns-clause-prepared : goal.returns-clause-prepared
 returns-clause-prepared c =
-    let come = placed (goal.at.returns-clause-prepared c).Joined-place in
-    let kept = c.put_row.ensures.written.1.kept.rooms.forth in
+    let at = goal.at.returns-clause-prepared c in
+    let come = placed at.Joined-place in
+    let left = (stored at.After-unwrap-satellite (come.0.come c.if-not-is_new.false)).left c.put_row.new.satellite _
+    (rw (c.unwrap-satellite.ensures) at c.entry_mut.follows.holds c.put_row.new.satellite)
+    (ap (λ (s : SatelliteTail). s.room) c.put_row.ensures.after) in
+    let same = sym (ap (λ (p : PlacedRows). p.rooms) left) in
     record {
       known = λ has. refl;
-      room = λ is. kept _ _ (come.0.room c.if-not-is_new.false);
-      rooms = λ name count has. kept name count (come.1 name count
+      room = λ is. subst (HasRoom _ _) same (come.0.room c.if-not-is_new.false);
+      rooms = λ name count has. subst (HasRoom name count) same (come.1 name count
           (subst (λ (h : OpenHistory). HasRoom name count h.satellites.rooms) (sym c.self.view_is) has));
     }
