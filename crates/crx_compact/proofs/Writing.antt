@@ -6,7 +6,7 @@ use Rattle.crx_compact.proofs.Words.{row_line_after, row_line_in, row_tail_after
 use Rattle.crx_compact.proofs.Words.{RowTail, Tail, AreRowsWritten, arith, among-map, apart-push, HasCome}
 use Rattle.crx_compact.proofs.{ComeRows.{awaited-after, come-row}, placing.SteppedRows.IsLastStored}
 use Rattle.std.proofs.lemmas.List.Elements.{All-push}
-use Rattle.crx_compact.specs.Placing.{IsLeftAt, SatelliteTail, row_tail_named, row_tail_of, satellite_after, satellite_line}
+use Rattle.crx_compact.specs.Placing.{IsLeftAt, SatelliteTail, row_tail_named, row_tail_of, satellite_after, line_after}
 
 -- a satellite has come where it has a row
 pub come-already : (after : Tail) (rows : List Row) (history : OpenHistory) (lines : List (List ℕ))
@@ -29,7 +29,7 @@ pub written-next : (after : Tail) (rows : List Row) (row : Row) (old new : OpenH
     → AreRowsWritten after rows old lines → IsSoundRow row → has_satellite row.name rows ≡ false
     → HasCome row.name placed come → IsLastStored row.name place placed come satellite
     → IsLeftAt place come satellite left new.satellites → left ≡ satellite_after row.values row.flags satellite
-    → more ≡ lines ++ satellite_line row.values row.flags satellite ∷ []
+    → more ≡ lines ++ line_after row.values row.flags satellite ∷ []
     → new.text ≡ old.text → new.clock ≡ old.clock → AreRowsWritten after (rows ++ row ∷ []) new more
 written-next after rows row old new placed come place satellite left lines more same written sound fresh has last
     at left_is longer text clock =

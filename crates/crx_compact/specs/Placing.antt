@@ -241,8 +241,8 @@ abbrev pub satellite_after : List (Option ℤ) → List ℕ → SatelliteTail �
 satellite_after values flags old =
     record old { flags = without_end_blanks flags; cells = arcs_of_cells old.cells values }
 
-abbrev pub satellite_line : List (Option ℤ) → List ℕ → SatelliteTail → List ℕ
-satellite_line values flags old = row_line_after (Some (row_tail_of [] old)) (row_of_parts [] values flags)
+abbrev pub line_after : List (Option ℤ) → List ℕ → SatelliteTail → List ℕ
+line_after values flags old = row_line_after (Some (row_tail_of [] old)) (row_of_parts [] values flags)
 
 -- this is stored of the satellite whose row is at a place
 pub record IsStoredAt (place : ℕ) (satellites : PlacedRows) (satellite : SatelliteTail) : Type 0 where

@@ -7,7 +7,7 @@ ghost use Rattle.std.specs.Option.{option_copied};
 ghost use Rattle.crx_base.specs.declared.limits.TheConstants.{LINE_LIMIT, TYPES_LIMIT};
 ghost use Rattle.crx_rinex.specs.meaning.Printing.{printed_row};
 ghost use Rattle.crx_compact.specs.Blocks.{HasTakenLine, KeepsItems, lines_text, no_lines};
-ghost use Rattle.crx_compact.specs.Placing.{FitsRow, row_tail_of, satellite_after, satellite_line};
+ghost use Rattle.crx_compact.specs.Placing.{FitsRow, row_tail_of, satellite_after, line_after};
 ghost use Rattle.crx_compact.specs.ShownRows.{shown_row};
 ghost use Rattle.crx_compact.specs.contracts.block.Block.{the_row};
 ghost use Rattle.crx_compact.specs.declared.history.TheConstants.{EPOCH_TEXT_LIMIT};
@@ -147,7 +147,7 @@ impl Block {
         requires fits { FitsRow values.now flags.now satellite.old }
         ensures after { satellite.new ≡ satellite_after values.now flags.now satellite.old }
         ensures lines { self.new.lines ≡ self.old.lines
-            ++ satellite_line values.now flags.now satellite.old ∷ [] }
+            ++ line_after values.now flags.now satellite.old ∷ [] }
         ensures taken { HasTakenLine self.old self.new }
     {
         use_bytes(&mut self.bytes, self.filled);

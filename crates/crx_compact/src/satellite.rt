@@ -12,7 +12,7 @@ ghost use Rattle.crx_base.specs.Padded.{line_in};
 ghost use Rattle.crx_compact.specs.declared.cells.TheConstants.{CELL_ROOM};
 ghost use Rattle.crx_compact.specs.HeldRows.{AreHeldFlags};
 ghost use Rattle.crx_compact.specs.Blocks.{IsLinePut};
-ghost use Rattle.crx_compact.specs.Placing.{AnswersMarks, AnswersReading, AnswersRoom, FitsFlags, FitsRow, IsMarked, resized, row_tail_of, satellite_after, satellite_line};
+ghost use Rattle.crx_compact.specs.Placing.{AnswersMarks, AnswersReading, AnswersRoom, FitsFlags, FitsRow, IsMarked, resized, row_tail_of, satellite_after, line_after};
 ghost use Rattle.crx_compact.specs.ShownRows.{shown_row};
 
 use crate::arc::ObsArc;
@@ -91,8 +91,8 @@ impl SatelliteHistory {
         count <= self.arcs.len()
     }
 
-    /// Asks for room for so many types.
-    #[inline(always)]
+    /// Asks for room for so many types, where there is less, and makes no more. All memory is asked for first,
+    /// so that after `AllocError` what is stored stays.
     pub(crate) fn make_room(&mut self, count: usize) -> Result<(), AllocError>
         requires allowed { count ≤ TYPES_LIMIT }
         ensures { AnswersRoom count self.old self.new result }
@@ -100,18 +100,6 @@ impl SatelliteHistory {
         if count <= self.arcs.len() {
             return Ok(());
         }
-        self.grow(count)
-    }
-
-    /// Does what [`SatelliteHistory::make_room`] does, where there is less room, and makes no more.
-    /// All memory is asked for first, so that after `AllocError` what is stored stays.
-    #[cold]
-    #[inline(never)]
-    fn grow(&mut self, count: usize) -> Result<(), AllocError>
-        requires allowed { count ≤ TYPES_LIMIT }
-        requires more { self.old.room < count }
-        ensures { AnswersRoom count self.old self.new result }
-    {
         let more = count - self.arcs.len();
         self.indicators.reserve_exact(2 * more)?;
         self.arcs.reserve_exact(more)?;
@@ -190,7 +178,7 @@ impl SatelliteHistory {
         requires fits { FitsRow values.now flags.now self.old }
         requires room { at + (CELL_ROOM * length values.now + 2 * TYPES_LIMIT) < length bytes.old }
         ensures after { self.new ≡ satellite_after values.now flags.now self.old }
-        ensures put { IsLinePut (satellite_line values.now flags.now self.old)
+        ensures put { IsLinePut (line_after values.now flags.now self.old)
             (CELL_ROOM * length values.now + 2 * TYPES_LIMIT) at bytes.old bytes.new result }
     {
         let marks = self.mark(values.len(), flags, scratch);

@@ -1,4 +1,4 @@
-use Rattle.std.proofs.Common.{rules, w64, OnSome, arith, ◌≡◌, ◌+◌, ◌≤◌, ◌∙◌, Bool, true, false, ltb}
+use Rattle.std.proofs.Common.{rules, w64, OnSome, arith, ◌≡◌, ◌+◌, ◌≤◌, ◌∙◌, Bool, true, false, cond, ltb}
 use Rattle.std.proofs.Common.{ℕ, List, [], ◌∷◌, ap, sym, refl, drop, length}
 use Rattle.std.proofs.lemmas.Int.{to_z-of_z}
 use Rattle.std.proofs.lemmas.List.{get_or_default, set-set, set-get_or}
@@ -16,18 +16,13 @@ use Rattle.crx_compact.proofs.cells.read_cell_fast.Goals as goal
 taken : (line : List ℕ) (at n len more : ℕ) → at ≤ length line → n ≡ length (first_cell (drop at line))
     → len ≡ length line → more ≡ bool_byte (ltb (at + n) len)
     → (drop (n + more) (drop at line) ≡ after_cell (drop at line)) × (n + more ≤ length (drop at line))
-taken line at n len more before counted whole is = go (ltb (at + n) len) refl
+taken line at n len more before counted whole is =
+    let in_line = ap (ltb (at + n)) (sym whole) in
+    rw (is ∙ byte (ltb (at + n) len)) (next_cell line at n counted _ in_line, next_within line at n counted _ before in_line)
   where
-    go : (b : Bool) → ltb (at + n) len ≡ b
-        → (drop (n + more) (drop at line) ≡ after_cell (drop at line)) × (n + more ≤ length (drop at line))
-    go true e =
-        let in_line = ap (ltb (at + n)) (sym whole) ∙ e in
-        let next = next_cell line at n counted true in_line in
-        rw (is ∙ ap bool_byte e) (next, next_within line at n counted true before in_line)
-    go false e =
-        let in_line = ap (ltb (at + n)) (sym whole) ∙ e in
-        let next = next_cell line at n counted false in_line in
-        rw (is ∙ ap bool_byte e) (next, next_within line at n counted false before in_line)
+    byte : (b : Bool) → bool_byte b ≡ cond b 1 0
+    byte true = refl
+    byte false = refl
 
 nothing : (xs : List ℕ) → 0 ≡ length xs → xs ≡ []
 nothing [] none = refl

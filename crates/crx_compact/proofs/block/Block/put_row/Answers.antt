@@ -1,7 +1,7 @@
 use Rattle.crx_compact.proofs.Words.{◌+◌, ◌*◌, ◌≡◌, drop, length, set, ap, arith, length-set, take_at}
 use Rattle.crx_compact.proofs.Words.{◌∙◌, take, ◌++◌, PendingLines}
 use Rattle.crx_compact.proofs.{LineTexts.{BlockPushed, row-pushed}}
-use Rattle.crx_compact.specs.Placing.{satellite_line}
+use Rattle.crx_compact.specs.Placing.{line_after}
 use Rattle.crx_compact.proofs.block.Block.put_row.Goals.{After-write_line-length}
 use Rattle.crx_compact.proofs.block.Block.put_row.Goals as goal
 
@@ -18,7 +18,7 @@ use_bytes-requires c =
 -- the row's line is put after the others
 pushed : (c : After-write_line-length) → BlockPushed c.self.inside.lengths.items c.self.inside.bytes.items
     (set c.write_line-length.new.bytes (c.self.inside.filled + c.write_line-length.result) 10)
-    (satellite_line c.args.values.now c.args.flags.now c.args.satellite.now) c.write_line-length.result c.self.inside.count c.self.inside.filled
+    (line_after c.args.values.now c.args.flags.now c.args.satellite.now) c.write_line-length.result c.self.inside.count c.self.inside.filled
     c.self.inside.handed_out c.self.inside.handed_out_bytes c.self.inside.front c.use_bytes.new.bytes.cap
 pushed c =
     row-pushed _ _ _ _ _ _ _ (24 * length c.args.values.now + 800) _ _ _ _ _ _ c.self.invariant c.use_bytes.ensures.kept.memory

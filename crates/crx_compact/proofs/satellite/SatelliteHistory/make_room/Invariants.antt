@@ -1,6 +1,6 @@
 use Rattle.std.specs.Prelude.{◌≡◌, ◌≤◌, ◌*◌, ◌-◌, ℕ, length, take, vec_capacity}
 use Rattle.crx_base.specs.declared.limits.TheConstants.{TYPES_LIMIT}
-use Rattle.crx_compact.proofs.satellite.SatelliteHistory.grow.Given as goal
+use Rattle.crx_compact.proofs.satellite.SatelliteHistory.make_room.Given as goal
 
 -- those that were there stay, each arc has two indicators, and there is room for the others
 abbrev pub invariant-loop-indicators : goal.invariant-loop-indicators
