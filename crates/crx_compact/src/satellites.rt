@@ -238,7 +238,8 @@ impl Satellites {
         ensures* after_borrow { sem 𝓛 (LendsSo the_row satellite_row self.entry result
             (λ new left. IfSome result (λ satellite. IsLeftAt index self.old satellite.now left new)) (λ new. ⊤)) }
     {
-        self.known.get_index_mut(number_at(&self.order, index))
+        let (_, satellite) = self.known.pair_mut(number_at(&self.order, index));
+        Some(satellite)
     }
 
     /// The identifier of the satellite whose row is at an index, and what is stored of it.

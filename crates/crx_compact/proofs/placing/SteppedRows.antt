@@ -6,8 +6,7 @@ use Rattle.crx_compact.proofs.Words.{slice_get-map, index-each_place, each_place
 use Rattle.crx_compact.proofs.Words.{HasRoom, PlacedRows, RowTail, row_or_blank, HasCome}
 use Rattle.crx_compact.proofs.{ComeRows.come-name, placing.Found.at-seam}
 use Rattle.crx_compact.proofs.placing.Orders.{set-in_order, there-in_order}
-use Rattle.std.proofs.Common.{set, ℤ, IfSome, option_map}
-use Rattle.std.specs.Borrow.{MutBor}
+use Rattle.std.proofs.Common.{set, ℤ}
 use Rattle.crx_compact.proofs.placing.EntryChanges.{changed-is, room-there, shown-same}
 use Rattle.std.proofs.{Math.Seq.{take-set-lt, set-append_seam}, lemmas.Grind.common_steps}
 use Rattle.std.proofs.lemmas.List.{drop-set-lt, map-set, length-take, length-append}
@@ -55,15 +54,6 @@ pub order-kept : {placed live : ℕ} {order places : List ℕ} (i : ℕ) (es : L
     → (placed ≤ live) × (live ≤ length es) × IsOrder order places (length es) → (placed ≤ live)
     × (live ≤ length (set_value_at es i after)) × IsOrder order places (length (set_value_at es i after))
 order-kept i es after order = rw (length-set_value_at es i after) order
-
--- a value is that of an entry
-pub value-there : (es : List Entry) (index : ℕ) (o : Option (MutBor SatelliteTail))
-    → option_map (λ (b : MutBor SatelliteTail). b.now) o ≡ slice_get (map (λ (e : Entry). e.1) es) index
-    → IfSome o (λ b. (name : List ℕ) × (slice_get es index ≡ Some (name, b.now)))
-value-there (e ∷ es) (suc index) o is = value-there es index o is
-value-there es index None is = tt
-value-there (e ∷ es) zero (Some b) is = (e.0, ap (λ o. option_map (λ s. (e.0, s)) o) (sym is))
-value-there [] index (Some b) is = absurd (grind arith)
 
 module _ {S : Type 0} (m : IndexMap (List ℕ) SatelliteTail S) {order places : List ℕ}
     (is : IsOrder order places (length m.entries)) (placed live : ℕ) {i index : ℕ} {name : List ℕ}
