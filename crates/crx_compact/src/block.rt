@@ -164,17 +164,17 @@ impl Block {
 
     /// Puts the printed line of the row that a satellite shows, of this identifier, after the others.
     #[inline(always)]
-    pub(crate) fn put_printed(&mut self, name: [u8; NAME_WIDTH], satellite: &SatelliteHistory)
+    pub(crate) fn put_printed(&mut self, name: &[u8; NAME_WIDTH], satellite: &SatelliteHistory)
         requires left { 0 < self.old.left }
         requires few { length satellite.now.cells ≤ TYPES_LIMIT }
         ensures lines { self.new.lines ≡ self.old.lines
-            ++ printed_row (shown_row (row_tail_of name satellite.now)) ∷ [] }
+            ++ printed_row (shown_row (row_tail_of name.now satellite.now)) ∷ [] }
         ensures taken { HasTakenLine self.old self.new }
     {
         use_bytes(&mut self.bytes, self.filled);
         let filled = self.filled;
         let bytes = self.bytes.as_mut_slice();
-        let length = satellite.print_line(name, bytes, filled);
+        let length = satellite.print_line(*name, bytes, filled);
         bytes[filled + length] = b'\n';
         self.lengths[self.count] = length;
         self.count += 1;

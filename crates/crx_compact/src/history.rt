@@ -347,7 +347,7 @@ impl History {
             return;
         }
         let (name, satellite) = self.satellites.entry(count - 1);
-        lines.put_printed(*name, satellite);
+        lines.put_printed(name, satellite);
     }
 }
 

@@ -29,7 +29,7 @@ print_line-length-requires c = record {
 -- the row's line is put after the others
 pushed : (c : After-print_line-length) → BlockPushed c.self.inside.lengths.items c.self.inside.bytes.items
     (set c.print_line-length.new.bytes (c.self.inside.filled + c.print_line-length.result) 10)
-    (printed_row (shown_row (row_tail_of c.args.name c.args.satellite.now)))
+    (printed_row (shown_row (row_tail_of c.args.name.now c.args.satellite.now)))
     c.print_line-length.result c.self.inside.count
     c.self.inside.filled c.self.inside.handed_out c.self.inside.handed_out_bytes c.self.inside.front
     c.use_bytes.new.bytes.cap

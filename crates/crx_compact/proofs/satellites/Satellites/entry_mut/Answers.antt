@@ -3,9 +3,13 @@ use Rattle.crx_compact.proofs.placing.SteppedRows.{left-at, order-kept, row-belo
 use Rattle.crx_compact.proofs.satellites.Satellites.entry_mut.Goals as goal
 
 pub pair_mut-satellite-requires : goal.pair_mut-satellite-requires
-pair_mut-satellite-requires c = omega (arith, c.number_at.ensures.value, c.self.invariant.2.index c.args.index
-    (row-below c.self.inside.placed c.self.inside.order.items c.self.inside.known.entries
-    (rw (← c.self.view_is) at c.requires.within) c.self.invariant.2.counted))
+pair_mut-satellite-requires c = omega (
+  arith,
+  c.number_at.ensures.value,
+  c.self.invariant.2.index c.args.index
+      (row-below c.self.inside.placed c.self.inside.order.items c.self.inside.known.entries
+      (rw (← c.self.view_is) at c.requires.within) c.self.invariant.2.counted),
+)
 
 pub invariant_of-self-lent : goal.invariant_of-self-lent
 invariant_of-self-lent c = λ left. order-kept c.number_at.result c.self.inside.known.entries left c.self.invariant
