@@ -2,7 +2,7 @@
 use Rattle.crx_compact.proofs.Words.{◌≡◌, ℕ, zero, suc, ◌-◌, ◌<◌, ◌≤◌, List, [], ◌∷◌, ◌++◌, length, map, take}
 use Rattle.crx_compact.proofs.Words.{slice_get, drop, Option, Some, None, refl, ap, sym, ◌∙◌, arith, slice_set}
 use Rattle.crx_compact.proofs.Words.{slice_index_or, bytes_eq, length-map, length-take-le, same_Some, subst}
-use Rattle.crx_compact.proofs.Words.{slice_get-map, index-each_place, each_place, ArcTail, padded, flags_held}
+use Rattle.crx_compact.proofs.Words.{slice_get-map, index-each_place, each_place, ArcTail}
 use Rattle.crx_compact.proofs.Words.{HasRoom, PlacedRows, RowTail, row_or_blank, HasCome}
 use Rattle.crx_compact.proofs.{ComeRows.come-name, placing.Found.at-seam}
 use Rattle.crx_compact.proofs.placing.Orders.{set-in_order, there-in_order}
@@ -12,7 +12,7 @@ use Rattle.std.proofs.{Math.Seq.{take-set-lt, set-append_seam}, lemmas.Grind.com
 use Rattle.std.proofs.lemmas.List.{drop-set-lt, map-set, length-take, length-append}
 use Rattle.crx_compact.specs.{Cells.{arcs_of_cells, codes_of_cells}, Entries.{Entry, IsOrder, in_order, placed_rows}}
 use Rattle.crx_compact.specs.Placing.{IsLeftAt, IsStoredAt, SatelliteTail, cells_for, room_of_entry, row_tail_of, row_of_entry}
-use Rattle.indexmap.specs.{IndexMap.{IndexMap, IsUnique, set_value_at}, Layout.length-set_value_at}
+use Rattle.indexmap.specs.{IndexMap.{IndexMap, IsUnique, set_value_at}}
 
 pub get-take : {X : Type 0} (n i : ℕ) (xs : List X) → i < n → slice_get (take n xs) i ≡ slice_get xs i
 get-take (suc n) (suc i) (x ∷ xs) within = get-take n i xs (omega (arith, within))
@@ -49,11 +49,6 @@ row-here {order} es is placed {i} within same there = row-at placed within (ther
     (row-below placed order es within is.counted) (ap (slice_get es) (sym same) ∙ there))
 
 -- ---- what is stored of the satellite at a place changes
-
-pub order-kept : {placed live : ℕ} {order places : List ℕ} (i : ℕ) (es : List Entry) (after : SatelliteTail)
-    → (placed ≤ live) × (live ≤ length es) × IsOrder order places (length es) → (placed ≤ live)
-    × (live ≤ length (set_value_at es i after)) × IsOrder order places (length (set_value_at es i after))
-order-kept i es after order = rw (length-set_value_at es i after) order
 
 module _ {S : Type 0} (m : IndexMap (List ℕ) SatelliteTail S) {order places : List ℕ}
     (is : IsOrder order places (length m.entries)) (placed live : ℕ) {i index : ℕ} {name : List ℕ}
@@ -125,14 +120,6 @@ come-stored name place before come satellite has last stored =
           ∙ ap (λ rs. record come { rows = rs })
           (last-is come.rows before.rows (row_tail_of name left) kept place has.rows last).1;
     }
-
--- a satellite by another count of types
-pub padded-is : (name : List ℕ) (count : ℕ) (satellite after : SatelliteTail) → after ≡ record satellite {
-  flags = flags_held count satellite.flags;
-  cells = cells_for count satellite.cells;
-} → row_tail_of name after
-    ≡ padded (record { name = name; count = count }) (Some (row_tail_of name satellite))
-padded-is name count satellite after is = ap (row_tail_of name) is
 
 -- ---- a row that is written
 

@@ -6,7 +6,7 @@ use Rattle.crx_compact.specs.{Entries.{KeepsTypes, in_order, placed_rows}, HeldR
 use Rattle.crx_compact.specs.{EpochLinesRead.HaveComeAgain}
 use Rattle.crx_compact.specs.{Placing.{padded, row_of_entry, row_tail_of, satellite_of}}
 use Rattle.crx_compact.proofs.placing.{Again.{come-again, named-before, none-placed, typed-named}}
-use Rattle.crx_compact.proofs.placing.{SteppedRows.{padded-is, rows-counted}}
+use Rattle.crx_compact.proofs.placing.{SteppedRows.rows-counted}
 use Rattle.crx_compact.proofs.placing.Orders.{length-in_order, there-in_order}
 use Rattle.crx_compact.proofs.satellites.Satellites.come_again.Goals as goal
 
@@ -56,7 +56,7 @@ loop-place-preserved c =
           ∙ counted.ensures.value);
       own = ap (λ n. padded (record { name = name; count = n }) (Some (row_tail_of name satellite)))
           (sym counted.ensures.value)
-          ∙ sym (padded-is name counted.result satellite satellite counted.ensures.whole);
+          ∙ sym (ap (row_tail_of name) counted.ensures.whole);
       room = subst (λ n. n ≤ satellite.room) counted.ensures.value counted.ensures.room;
     })
 

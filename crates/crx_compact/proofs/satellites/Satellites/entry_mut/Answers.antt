@@ -1,5 +1,6 @@
 use Rattle.std.proofs.Common.{arith, refl}
-use Rattle.crx_compact.proofs.placing.SteppedRows.{left-at, order-kept, row-below, stored-at}
+use Rattle.crx_compact.proofs.placing.SteppedRows.{left-at, row-below, stored-at}
+use Rattle.indexmap.specs.Layout.{length-set_value_at}
 use Rattle.crx_compact.proofs.satellites.Satellites.entry_mut.Goals as goal
 
 pub pair_mut-satellite-requires : goal.pair_mut-satellite-requires
@@ -12,7 +13,7 @@ pair_mut-satellite-requires c = omega (
 )
 
 pub invariant_of-self-lent : goal.invariant_of-self-lent
-invariant_of-self-lent c = λ left. order-kept c.number_at.result c.self.inside.known.entries left c.self.invariant
+invariant_of-self-lent c = λ left. rw (length-set_value_at c.self.inside.known.entries c.number_at.result left) c.self.invariant
 
 pub returns : goal.returns
 returns c =
