@@ -91,8 +91,8 @@ impl SatelliteHistory {
         count <= self.arcs.len()
     }
 
-    /// Asks for room for so many types, where there is less, and makes no more. All memory is asked for first,
-    /// so that after `AllocError` what is stored stays.
+    /// Asks for room for so many types, where there is less, and makes no more. All memory is asked for
+    /// first, so that after `AllocError` what is stored stays.
     pub(crate) fn make_room(&mut self, count: usize) -> Result<(), AllocError>
         requires allowed { count ≤ TYPES_LIMIT }
         ensures { AnswersRoom count self.old self.new result }

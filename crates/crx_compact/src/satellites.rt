@@ -228,8 +228,9 @@ impl Satellites {
         }
     }
 
-    /// What is stored of the satellite whose row is at an index, and may be changed: its row changes with it.
-    /// There is one; what is lent by an `Option` is what a clause can tell of by a relation.
+    /// What is stored of the satellite whose row is at an index, to be changed: its row changes with it.
+    /// There always is one. It is lent in an `Option`, since only then a clause can say by a relation what
+    /// it leaves.
     #[inline(always)]
     pub(crate) fn entry_mut(&mut self, index: usize) -> Option<&mut SatelliteHistory>
         requires within { index < length self.old.rows }
