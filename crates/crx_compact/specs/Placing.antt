@@ -113,11 +113,6 @@ pub record HasRoom (name : List ℕ) (count : ℕ) (rooms : List (List ℕ × �
 abbrev pub KeepsRooms : List (List ℕ × ℕ) → List (List ℕ × ℕ) → Type 0
 KeepsRooms before after = (name : List ℕ) (count : ℕ) → HasRoom name count before → HasRoom name count after
 
--- each satellite that is known stays known, with as much room as before
-pub record HasSameRooms (before after : List (List ℕ × ℕ)) : Type 0 where
-  pub forth : KeepsRooms before after
-  pub back : KeepsRooms after before
-
 -- room was asked for: no row has changed, and no satellite has less room
 pub record HasAskedRoom (old new : PlacedRows) : Type 0 where
   pub rows : new.rows ≡ old.rows
@@ -153,7 +148,7 @@ pub record IsUnplaced (name : List ℕ) (count : ℕ) (old new : PlacedRows) : T
 pub record AnswersPlacing (name : List ℕ) (count : ℕ) (old new : PlacedRows) (answer : Option Bool) : Type 0 where
   pub placed : IfSome answer (IsPlaced name count old new)
   pub unplaced : answer ≡ None → IsUnplaced name count old new
-  pub rooms : HasSameRooms old.rooms new.rooms
+  pub rooms : new.rooms ≡ old.rooms
 
 -- a row was to be written: there is no refusal where there was room for it; where it is its satellite's first one there is; and no satellite
 -- has less than before

@@ -9,7 +9,7 @@ use Rattle.std.specs.{Cmp.IsEquivalence, Str.bytes_eq}
 use Rattle.indexmap.proofs.CallerLemmas.{updates-with_value_at}
 use Rattle.indexmap.specs.IndexMap.{IndexMap, IsUnique, set_value_at}
 use Rattle.crx_compact.specs.Entries.{Entry, IsAt, rooms_of}
-use Rattle.crx_compact.specs.Placing.{HasRoom, HasSameRooms, KeepsRooms, SatelliteTail, room_of_entry}
+use Rattle.crx_compact.specs.Placing.{HasRoom, KeepsRooms, SatelliteTail}
 use Rattle.crx_compact.proofs.Characters.{bytes_eq-same}
 use Rattle.crx_compact.proofs.placing.Rooms.{known-room, room-from_look_up, rooms-kept}
 
@@ -35,15 +35,6 @@ shown-same f (e ∷ es) (suc i) name before after there same = cc (shown-same f 
 shown-same f es i name before after there same = grind (arith, same_Some)
 
 -- ---- the room of the satellites
-
-pub same-rooms : (rooms : List (List ℕ × ℕ)) → HasSameRooms rooms rooms
-same-rooms rooms = record { forth = λ name count has. has; back = λ name count has. has }
-
-pub rooms-same : (es : List Entry) (i : ℕ) (name : List ℕ) (before after : SatelliteTail)
-    → slice_get es i ≡ Some (name, before) → after.room ≡ before.room
-    → HasSameRooms (rooms_of es) (rooms_of (set_value_at es i after))
-rooms-same es i name before after there same = subst (HasSameRooms (rooms_of es))
-    (sym (shown-same room_of_entry es i name before after there (cc same))) (same-rooms _)
 
 module _ {S : Type 0} (m : IndexMap (List ℕ) SatelliteTail S) (i : ℕ) (name : List ℕ)
     (before after : SatelliteTail)

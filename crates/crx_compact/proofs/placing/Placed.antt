@@ -3,7 +3,7 @@ use Rattle.crx_compact.proofs.Words.{◌≡◌, slice_index_or, take, ℕ, ◌+�
 use Rattle.crx_compact.proofs.Words.{Some, None, ap, arith, refl, sym, true≢false, rules, bytes_eq, is_among}
 use Rattle.crx_compact.proofs.{Words.{PlacedRows, RowTail}, placing.EntryChanges.{changed-is, enough-room, little-room}}
 use Rattle.crx_compact.proofs.placing.Coming.{come-anew, emptied, come-awaited, is-new, repeated, unknown-no_row}
-use Rattle.crx_compact.proofs.placing.EntryChanges.{rooms-same, same-rooms}
+use Rattle.crx_compact.proofs.placing.EntryChanges.{shown-same}
 use Rattle.crx_compact.proofs.placing.Rooms.{unknown}
 use Rattle.std.proofs.{Common.{IsTrue, ◌↔◌, List, ◌∙◌, map, set, slice_get, subst, swap}}
 use Rattle.std.proofs.lemmas.List.{length-map}
@@ -15,13 +15,13 @@ use Rattle.crx_compact.specs.Entries.{IsAt, IsOrder, entry_at, in_order, rooms_o
 use Rattle.indexmap.proofs.CallerLemmas.{keys-with_value_at}
 use Rattle.indexmap.specs.{IndexMap.{IndexMap, IsUnique, set_value_at}, Layout.length-set_value_at}
 use Rattle.crx_compact.specs.Entries.{Entry, IsPutNext, key_of, placed_rows}
-use Rattle.crx_compact.specs.Placing.{AnswersPlacing, HasAskedRoom, HasCome, HasSameRooms, IsPlaced, SatelliteTail}
+use Rattle.crx_compact.specs.Placing.{AnswersPlacing, HasAskedRoom, HasCome, HasRoom, IsPlaced, SatelliteTail, room_of_entry}
 
 -- it isn't known
 pub placed-unknown : {name : List ℕ} {count : ℕ} (placed live : ℕ) (os es : List Entry) → is_among key_of name os
     ≡ false → is_among key_of name es ≡ false
     → AnswersPlacing name count (placed_rows placed live os es) (placed_rows placed live os es) None
-placed-unknown {name} {count} placed live os es absent none = search (rules, unknown-no_row, unknown, same-rooms)
+placed-unknown {name} {count} placed live os es absent none = search (rules, unknown-no_row, unknown)
 
 module _ {S : Type 0} (m : IndexMap (List ℕ) SatelliteTail S) (unique : IsUnique bytes_eq m)
     {order places : List ℕ} (is : IsOrder order places (length m.entries)) (placed live : ℕ) {name : List ℕ}
@@ -49,7 +49,7 @@ module _ {S : Type 0} (m : IndexMap (List ℕ) SatelliteTail S) (unique : IsUniq
       room = λ new. absurd (true≢false (sym new));
     };
     unplaced = λ none. absurd (cc none);
-    rooms = same-rooms _;
+    rooms = refl;
   }
 
   module _ (behind : placed ≤ place) {count : ℕ} {has : Bool}
@@ -61,11 +61,11 @@ module _ {S : Type 0} (m : IndexMap (List ℕ) SatelliteTail S) (unique : IsUniq
 
     -- it has too little room
     pub placed-not : has ≡ false → AnswersPlacing name count now now None
-    placed-not full = search (rules, new-here, little-room, same-rooms)
+    placed-not full = search (rules, new-here, little-room)
 
     -- it has come, and no satellite has less room
     come : has ≡ true → {rows rest : List RowTail} {rooms : List (List ℕ × ℕ)}
-        → HasSameRooms (rooms_of m.entries) rooms
+        → rooms ≡ rooms_of m.entries
         → HasCome name now
         (record { rows = rows; rest = rest; rooms = rooms })
         → AnswersPlacing name count now
@@ -75,7 +75,7 @@ module _ {S : Type 0} (m : IndexMap (List ℕ) SatelliteTail S) (unique : IsUniq
         answer = sym (ap not new-here);
         come = λ t. has-come;
         repeated = λ old. absurd (true≢false old);
-        room = λ t. rooms.forth name count (enough-room m index name at unique count has answer roomy);
+        room = λ t. subst (HasRoom name count) (sym rooms) (enough-room m index name at unique count has answer roomy);
       };
       unplaced = λ none. absurd (cc none);
       rooms = rooms;
@@ -86,7 +86,7 @@ module _ {S : Type 0} (m : IndexMap (List ℕ) SatelliteTail S) (unique : IsUniq
         → IsPutNext placed place (in_order order m.entries) new
         → AnswersPlacing name count now
         (placed_rows (placed + 1) live new m.entries) (Some true)
-    placed-next roomy before {new} put = come roomy (same-rooms _)
+    placed-next roomy before {new} put = come roomy refl
         (come-awaited name placed live place _ m.entries m.entries here apart new behind before put)
 
     -- the same, by the order's exchange
@@ -113,7 +113,7 @@ module _ {S : Type 0} (m : IndexMap (List ℕ) SatelliteTail S) (unique : IsUniq
         let long = length-set_value_at m.entries index after in
         let below : place < length (in_order order m.entries) =
         omega (arith, stands, is.counted, length-map order (entry_at m.entries)) in
-        come roomy (rooms-same m.entries index name at.satellite after at.there (cc empty)) (come-anew name
+        come roomy (shown-same room_of_entry m.entries index name at.satellite after at.there (cc empty)) (come-anew name
         placed live place (in_order order m.entries) m.entries es here apart (in_order moved es)
         (in_order next es) few beyond (ap (λ o. slice_get o live) moved-is ∙ revived-there live place _ blank beyond below
         ∙ ap (λ (s : SatelliteTail). Some (name, s)) empty)

@@ -39,14 +39,14 @@ returns-in_err-prepare_names-in-None c =
     let refused = c.in_err-prepare_names-in-None.ensures.err in
     let found = c.loop-index.invariant in
     let asked : KeepsRooms c.args.satellites.now.rooms c.place.new.self.rooms =
-    λ name count has. c.place.ensures.rooms.forth name count (found.5 name count has) in
+    λ name count has. subst (HasRoom name count) (sym c.place.ensures.rooms) (found.5 name count has) in
     rw (p.1, p.2) (record {
       ok = search rules;
       err = record {
         answer = refused.answer;
         unasked = λ other name count has. elim refused.answer.answered [
           | inl is ↦ unasked _ _ is found.7 name count
-              (c.place.ensures.rooms.back name count (refused.unasked other name count has))
+              (subst (HasRoom name count) c.place.ensures.rooms (refused.unasked other name count has))
           | inr out ↦ absurd (other out)
         ];
         wanting = λ named is has. refused.wanting named is (λ i d within. asked _ _ (has i d within));
@@ -64,18 +64,14 @@ placed : (c : Joined-place)
 placed c = elim c.match-place.branch [
   | in-Some-place w ↦ rw (w.is_new-is, w.satellites-is) (
     w.in-Some-place.ensures.placed,
-    inr c.place.ensures.rooms.back,
-    c.place.ensures.rooms.forth,
+    inr (λ name count. subst (HasRoom name count) c.place.ensures.rooms),
+    λ name count. subst (HasRoom name count) (sym c.place.ensures.rooms),
   )
   | in-None+in_ok-prepare_names-in-None w ↦ rw (w.is_new-is, w.satellites-is) (
     search (rules, placed-asked, from_some, w.prepare_names.ensures.asked.asked),
     inl w.in_ok-prepare_names-in-None.ensures.good,
-    λ name count has. search (
-      rules,
-      w.place-in-None.ensures.rooms.forth,
-      w.prepare_names.ensures.asked.asked.rooms,
-      c.place.ensures.rooms.forth,
-    ),
+    λ name count has. subst (HasRoom name count) (sym w.place-in-None.ensures.rooms)
+        (w.prepare_names.ensures.asked.asked.rooms name count (subst (HasRoom name count) (sym c.place.ensures.rooms) has)),
   )
 ]
 

@@ -16,17 +16,13 @@ placed : (c : Joined-place) → IsPlaced c.args.name.now (length c.args.values.n
 placed c = elim c.match-place.branch [
   | in-Some w ↦ rw (w.is_new-is, w.self-inside-is) (
     w.in-Some.ensures.placed,
-    c.place.ensures.rooms.forth,
+    λ name count. subst (HasRoom name count) (sym c.place.ensures.rooms),
     λ j. record (c.self.view_is j) { satellites = c.place.new.self },
   )
   | in-None+in_ok-prepare-in-None w ↦ rw (w.is_new-is, w.self-inside-is) (
     search (rules, placed-asked, from_some, w.prepare.ensures.asked.asked),
-    λ name count has. search (
-      rules,
-      w.place-in-None.ensures.rooms.forth,
-      w.prepare.ensures.asked.asked.rooms,
-      c.place.ensures.rooms.forth,
-    ),
+    λ name count has. subst (HasRoom name count) (sym w.place-in-None.ensures.rooms)
+        (w.prepare.ensures.asked.asked.rooms name count (subst (HasRoom name count) (sym c.place.ensures.rooms) has)),
     λ j. record (c.self.view_is j) { satellites = w.place-in-None.new.self },
   )
 ]
