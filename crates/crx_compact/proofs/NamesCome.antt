@@ -1,11 +1,12 @@
 -- Satellites that come by the identifiers of an epoch text, each with as many types as its system has.
-use Rattle.crx_compact.proofs.Words.{rules, ap, ◌∙◌, ◌≡◌, ◌++◌, ◌∷◌, [], ℕ, List, Bool, true, false, not, map, sym}
-use Rattle.crx_compact.proofs.Words.{subst, arith, map-append, columns, IsAllowedCount, is_among}
+use Rattle.crx_compact.proofs.Words.{rules, ap, ◌∙◌, ◌≡◌, ◌++◌, ◌∷◌, [], ℕ, List, Bool, true, false, not, map}
+use Rattle.crx_compact.proofs.Words.{sym, subst, arith, map-append, columns, IsAllowedCount, is_among}
 use Rattle.crx_compact.proofs.Words.{IsAwaitedSatellite, Satellite, PlacedRows, padded_among, RowTail}
 use Rattle.crx_header.specs.meaning.Satellites.{is_identifier}
 use Rattle.crx_header.proofs.Apart.{among-map}
 use Rattle.crx_compact.proofs.placing.SteppedRows.{IsLastStored}
-use Rattle.crx_compact.specs.{EpochLinesRead.AreSatellitesRefused, Placing.{HasCome, IsLeftAt, SatelliteTail, resized, row_tail_of}}
+use Rattle.crx_compact.specs.{EpochLinesRead.AreSatellitesRefused}
+use Rattle.crx_compact.specs.{Placing.{HasCome, IsLeftAt, SatelliteTail, resized, row_tail_of}}
 use Rattle.crx_compact.proofs.{ComeRows.{AreAwaited, awaited-after, come-padded}, Results.no-err}
 use Rattle.crx_compact.proofs.Words.{Err, Fault, KeepsRooms, OutOfMemory, Result, false≢true, is_ok, ◌⊎◌}
 
@@ -33,8 +34,10 @@ name-comes before found name count place old mid new satellite left made awaited
     let own : Satellite = record { name = name; count = count } in
     let changed = last.left left new at (ap (λ (s : SatelliteTail). s.room) left_is) in
     record {
-      rows = ap (λ (p : PlacedRows). p.rows) changed ∙ search (rules, ap (row_tail_of name) left_is, last.is, come-padded, map-append);
-      awaited = subst (λ (p : PlacedRows). AreAwaited (λ (s : Satellite). s.name) (found ++ own ∷ []) before p.rest)
+      rows = ap (λ (p : PlacedRows). p.rows) changed
+          ∙ search (rules, ap (row_tail_of name) left_is, last.is, come-padded, map-append);
+      awaited = subst (λ (p : PlacedRows). AreAwaited (λ (s : Satellite). s.name) (found ++ own ∷ [])
+          before p.rest)
           (sym changed) (awaited-after (λ (s : Satellite). s.name) found own before old mid awaited has);
       rooms = ap (λ (p : PlacedRows). p.rooms) changed;
     }

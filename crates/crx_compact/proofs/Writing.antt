@@ -6,7 +6,8 @@ use Rattle.crx_compact.proofs.Words.{row_line_after, row_line_in, row_tail_after
 use Rattle.crx_compact.proofs.Words.{RowTail, Tail, AreRowsWritten, arith, among-map, apart-push, HasCome}
 use Rattle.crx_compact.proofs.{ComeRows.{awaited-after, come-row}, placing.SteppedRows.IsLastStored}
 use Rattle.std.proofs.lemmas.List.Elements.{All-push}
-use Rattle.crx_compact.specs.Placing.{IsLeftAt, SatelliteTail, row_tail_named, row_tail_of, satellite_after, line_after}
+use Rattle.crx_compact.specs.Placing.{IsLeftAt, SatelliteTail, line_after, row_tail_named, row_tail_of}
+use Rattle.crx_compact.specs.Placing.{satellite_after}
 
 -- a satellite has come where it has a row
 pub come-already : (after : Tail) (rows : List Row) (history : OpenHistory) (lines : List (List ℕ))
@@ -24,14 +25,17 @@ no-row after rows history lines placed name is_new same answer new written =
     sym (come-already after rows history lines placed name same written)
     ∙ not-true (is_among (λ (t : RowTail). t.name) name placed.rows) (sym answer ∙ new)
 
-pub written-next : (after : Tail) (rows : List Row) (row : Row) (old new : OpenHistory) (placed come : PlacedRows)
+pub written-next : (after : Tail) (rows : List Row) (row : Row) (old new : OpenHistory) (placed come :
+    PlacedRows)
     (place : ℕ) (satellite left : SatelliteTail) (lines more : List (List ℕ)) → placed ≡ old.satellites
     → AreRowsWritten after rows old lines → IsSoundRow row → has_satellite row.name rows ≡ false
     → HasCome row.name placed come → IsLastStored row.name place placed come satellite
-    → IsLeftAt place come satellite left new.satellites → left ≡ satellite_after row.values row.flags satellite
+    → IsLeftAt place come satellite left new.satellites → left ≡ satellite_after row.values row.flags
+    satellite
     → more ≡ lines ++ line_after row.values row.flags satellite ∷ []
     → new.text ≡ old.text → new.clock ≡ old.clock → AreRowsWritten after (rows ++ row ∷ []) new more
-written-next after rows row old new placed come place satellite left lines more same written sound fresh has last
+written-next after rows row old new placed come place satellite left lines more same written sound fresh
+    has last
     at left_is longer text clock =
     let awaited = λ (name : List ℕ) (absent : has_satellite name rows ≡ false).
     ap (λ (p : PlacedRows). row_tail_named name p.rest) same ∙ written.others name absent in

@@ -11,7 +11,8 @@ use Rattle.crx_compact.proofs.placing.EntryChanges.{changed-is, room-there, show
 use Rattle.std.proofs.{Math.Seq.{take-set-lt, set-append_seam}, lemmas.Grind.common_steps}
 use Rattle.std.proofs.lemmas.List.{drop-set-lt, map-set, length-take, length-append}
 use Rattle.crx_compact.specs.{Cells.{arcs_of_cells, codes_of_cells}, Entries.{Entry, IsOrder, in_order, placed_rows}}
-use Rattle.crx_compact.specs.Placing.{IsLeftAt, IsStoredAt, SatelliteTail, cells_for, room_of_entry, row_tail_of, row_of_entry}
+use Rattle.crx_compact.specs.Placing.{IsLeftAt, IsStoredAt, SatelliteTail, cells_for, room_of_entry}
+use Rattle.crx_compact.specs.Placing.{row_tail_of, row_of_entry}
 use Rattle.indexmap.specs.{IndexMap.{IndexMap, IsUnique, set_value_at}}
 
 pub get-take : {X : Type 0} (n i : ℕ) (xs : List X) → i < n → slice_get (take n xs) i ≡ slice_get xs i
@@ -28,7 +29,8 @@ rows-counted placed es within = length-map (take placed es) row_of_entry ∙ len
 pub among-placed : (placed i : ℕ) (es : List Entry) → i < length (rows_of placed es) → i < placed
 among-placed placed i es within = grind (arith, common_steps, length-map, row_of_entry, length-take)
 
-pub row-below : (placed : ℕ) {i : ℕ} (order : List ℕ) (es : List Entry) → i < length (rows_of placed (in_order order es))
+pub row-below : (placed : ℕ) {i : ℕ} (order : List ℕ) (es : List Entry) → i < length (rows_of placed
+    (in_order order es))
     → length order ≡ length es → i < length es
 row-below placed order es within counted = grind (arith, common_steps, length-map, row_of_entry, length-take)
 
@@ -63,23 +65,28 @@ module _ {S : Type 0} (m : IndexMap (List ℕ) SatelliteTail S) {order places : 
   }
 
   module _ (after : SatelliteTail) where
-    changed : in_order order (set_value_at m.entries index after) ≡ set (in_order order m.entries) i (name, after)
+    changed : in_order order (set_value_at m.entries index after) ≡ set (in_order order m.entries) i
+        (name, after)
     changed = ap (in_order order) (changed-is m.entries index name before after there)
-        ∙ ap (λ k. in_order order (set m.entries k (name, after))) same ∙ set-in_order m.entries is i (name, after) (row-below placed order m.entries within is.counted)
+        ∙ ap (λ k. in_order order (set m.entries k (name, after))) same ∙ set-in_order m.entries is i
+        (name, after) (row-below placed order m.entries within is.counted)
 
     -- its row alone changes
     pub left-at : placed ≤ live
         → IsLeftAt i (placed_rows placed live (in_order order m.entries) m.entries) before after
-        (placed_rows placed live (in_order order (set_value_at m.entries index after)) (set_value_at m.entries index after))
+        (placed_rows placed live (in_order order (set_value_at m.entries index after)) (set_value_at
+        m.entries index after))
     left-at few roomy other row =
         let os = in_order order m.entries in
         let below = among-placed placed i _ within in
         let own = (row-here m.entries is placed within same there).is _ row in
         let rows : rows_of placed (in_order order (set_value_at m.entries index after))
         ≡ slice_set (rows_of placed os) i (row_tail_of name after) =
-        ap (rows_of placed) changed ∙ grind (arith, common_steps, row_of_entry, take-set-lt, among-placed, map-set) in
+        ap (rows_of placed) changed
+        ∙ grind (arith, common_steps, row_of_entry, take-set-lt, among-placed, map-set) in
         let rest = ap (λ es. map row_of_entry (drop placed (take live es))) changed
-        ∙ ap (λ es. map row_of_entry (drop placed es)) (take-set-lt live os i (name, after) (omega (arith, few, below)))
+        ∙ ap (λ es. map row_of_entry (drop placed es)) (take-set-lt live os i (name, after)
+        (omega (arith, few, below)))
         ∙ ap (map row_of_entry) (drop-set-lt placed (take live os) i (name, after) below) in
         let rooms = shown-same room_of_entry m.entries index name before after there (cc roomy) in
         cc (rows, rest, rooms, ap (λ (r : RowTail). r.name) own)
@@ -98,7 +105,8 @@ last-within name before come place has last =
     omega (arith, last, ap length has.rows, length-append before.rows (row_or_blank name before.rest ∷ []))
 
 -- what is stored of it is the row of the epoch before, or nothing; where it is left otherwise, so is the last row
-pub record IsLastStored (name : List ℕ) (place : ℕ) (before come : PlacedRows) (satellite : SatelliteTail) : Type 0 where
+pub record IsLastStored (name : List ℕ) (place : ℕ) (before come : PlacedRows) (satellite : SatelliteTail)
+    : Type 0 where
   pub is : row_tail_of name satellite ≡ row_or_blank name before.rest
   pub room : (count : ℕ) → HasRoom name count come.rooms → count ≤ satellite.room
   pub left : (left : SatelliteTail) (new : PlacedRows) → IsLeftAt place come satellite left new
@@ -116,7 +124,8 @@ come-stored name place before come satellite has last stored =
       is = ap (λ n. row_tail_of n satellite) (sym named) ∙ same;
       room = λ count room. stored.room count (subst (λ n. HasRoom n count come.rooms) (sym named) room);
       left = λ left new at roomy.
-          at roomy name (subst (λ n. slice_get come.rows place ≡ Some (row_tail_of n satellite)) named stored.there)
+          at roomy name (subst (λ n. slice_get come.rows place ≡ Some (row_tail_of n satellite)) named
+          stored.there)
           ∙ ap (λ rs. record come { rows = rs })
           (last-is come.rows before.rows (row_tail_of name left) kept place has.rows last).1;
     }

@@ -18,7 +18,8 @@ taken : (line : List ℕ) (at n len more : ℕ) → at ≤ length line → n ≡
     → (drop (n + more) (drop at line) ≡ after_cell (drop at line)) × (n + more ≤ length (drop at line))
 taken line at n len more before counted whole is =
     let in_line = ap (ltb (at + n)) (sym whole) in
-    rw (is ∙ byte (ltb (at + n) len)) (next_cell line at n counted _ in_line, next_within line at n counted _ before in_line)
+    rw (is ∙ byte (ltb (at + n) len))
+    (next_cell line at n counted _ in_line, next_within line at n counted _ before in_line)
   where
     byte : (b : Bool) → bool_byte b ≡ cond b 1 0
     byte true = refl

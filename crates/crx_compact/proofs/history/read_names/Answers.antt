@@ -1,5 +1,5 @@
-use Rattle.crx_compact.proofs.Words.{rules, ◌≡◌, refl, ap, ◌+◌, ◌-◌, ◌*◌, ◌++◌, ◌∷◌, [], Bool, not, true, false}
-use Rattle.crx_compact.proofs.Words.{sym, inl, arith, subst, ◌⊎◌, inr, ℕ, List, Err, map}
+use Rattle.crx_compact.proofs.Words.{rules, ◌≡◌, refl, ap, ◌+◌, ◌-◌, ◌*◌, ◌++◌, ◌∷◌, [], Bool, not, true}
+use Rattle.crx_compact.proofs.Words.{false, sym, inl, arith, subst, ◌⊎◌, inr, ℕ, List, Err, map}
 use Rattle.crx_compact.proofs.Words.{err_from_is_err_and, is_ok, columns, is_among}
 use Rattle.crx_compact.proofs.Words.{IsAwaitedSatellite, BadSatellite, RepeatedSatellite}
 use Rattle.crx_compact.proofs.Words.{Satellite, names_in, satellites_named, HasRoom, KeepsRooms}
@@ -71,7 +71,8 @@ placed c = elim c.match-place.branch [
     search (rules, placed-asked, from_some, w.prepare_names.ensures.asked.asked),
     inl w.in_ok-prepare_names-in-None.ensures.good,
     λ name count has. subst (HasRoom name count) (sym w.place-in-None.ensures.rooms)
-        (w.prepare_names.ensures.asked.asked.rooms name count (subst (HasRoom name count) (sym c.place.ensures.rooms) has)),
+        (w.prepare_names.ensures.asked.asked.rooms name count (subst (HasRoom name count) (sym
+        c.place.ensures.rooms) has)),
   )
 ]
 
@@ -92,8 +93,10 @@ returns-then-not-is_new c =
     }
 
 -- what is stored of the satellite that has come
-stored : (c : After-unwrap) → HasCome c.identifier-name.result c.loop-index.satellites c.match-place.satellites
-    → IsLastStored c.identifier-name.result (c.placed-last.result - 1) c.loop-index.satellites c.match-place.satellites
+stored : (c : After-unwrap) → HasCome c.identifier-name.result c.loop-index.satellites
+    c.match-place.satellites
+    → IsLastStored c.identifier-name.result (c.placed-last.result - 1) c.loop-index.satellites
+    c.match-place.satellites
     c.unwrap.result.now
 stored c come = come-stored _ _ _ _ _ come (ap (λ n. n - 1) c.placed-last.ensures.value)
     (rw (c.unwrap.ensures) at c.entry_mut.ensures.there)
@@ -102,7 +105,8 @@ pub entry_mut-requires : goal.entry_mut-requires
 entry_mut-requires c =
     let placed = (placed (goal.at.entry_mut-requires c).Joined-place).0 in
     record {
-      within = last-within _ _ _ _ (placed.come c.if-not-is_new.false) (ap (λ n. n - 1) c.placed-last.ensures.value);
+      within = last-within _ _ _ _ (placed.come c.if-not-is_new.false) (ap (λ n. n - 1)
+          c.placed-last.ensures.value);
     }
 
 pub resize-requires : goal.resize-requires
@@ -110,7 +114,8 @@ resize-requires c =
     let at = goal.at.resize-requires c in
     let placed = (placed at.Joined-place).0 in
     record {
-      room = (stored at.After-unwrap (placed.come c.if-not-is_new.false)).room _ (placed.room c.if-not-is_new.false);
+      room = (stored at.After-unwrap (placed.come c.if-not-is_new.false)).room _ (placed.room
+          c.if-not-is_new.false);
     }
 
 kept-back : {A : Type 0} (one two three four : List (List ℕ × ℕ)) → A ⊎ KeepsRooms two one
@@ -132,7 +137,8 @@ loop-index-preserved c =
     let fresh = come-already c.args.satellites.now.rest c.loop-index.satellites.rows found.0 name
     c.match-place.is_new true found.2 placed.0.answer c.if-not-is_new.false in
     let after = c.entry_mut.follows.lender c.resize.new.self in
-    let come : HasNameCome c.args.satellites.now.rest (found.0 ++ satellite ∷ []) c.match-place.satellites after = name-comes
+    let come : HasNameCome c.args.satellites.now.rest (found.0 ++ satellite ∷ []) c.match-place.satellites
+    after = name-comes
     c.args.satellites.now.rest found.0 name c.in-Some.cells _ c.loop-index.satellites
     c.match-place.satellites after c.unwrap.result.now c.resize.new.self found.2 found.3 fresh (placed.0.come
     c.if-not-is_new.false) (stored at.After-unwrap (placed.0.come c.if-not-is_new.false))

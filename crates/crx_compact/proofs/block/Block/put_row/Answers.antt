@@ -18,13 +18,16 @@ use_bytes-requires c =
 -- the row's line is put after the others
 pushed : (c : After-write_line-length) → BlockPushed c.self.inside.lengths.items c.self.inside.bytes.items
     (set c.write_line-length.new.bytes (c.self.inside.filled + c.write_line-length.result) 10)
-    (line_after c.args.values.now c.args.flags.now c.args.satellite.now) c.write_line-length.result c.self.inside.count c.self.inside.filled
+    (line_after c.args.values.now c.args.flags.now c.args.satellite.now) c.write_line-length.result
+    c.self.inside.count c.self.inside.filled
     c.self.inside.handed_out c.self.inside.handed_out_bytes c.self.inside.front c.use_bytes.new.bytes.cap
 pushed c =
     row-pushed _ _ _ _ _ _ _ (24 * length c.args.values.now + 800) _ _ _ _ _ _ c.self.invariant c.use_bytes.ensures.kept.memory
-    (omega (arith, c.requires.left, ap (λ (l : PendingLines). l.left) c.self.view_is)) (omega (arith, c.requires.fits.few))
+    (omega (arith, c.requires.left, ap (λ (l : PendingLines). l.left) c.self.view_is))
+    (omega (arith, c.requires.fits.few))
     (ap (take c.self.inside.filled) c.as_mut_slice-bytes.ensures.value ∙ c.use_bytes.ensures.kept.items c.self.inside.filled c.self.invariant.2)
-    (omega (arith, c.use_bytes.ensures.counted, ap length c.as_mut_slice-bytes.ensures.value)) c.write_line-length.ensures.put
+    (omega (arith, c.use_bytes.ensures.counted, ap length c.as_mut_slice-bytes.ensures.value))
+    c.write_line-length.ensures.put
 
 pub invariant_of-self : goal.invariant_of-self
 invariant_of-self c =

@@ -51,7 +51,8 @@ put_printed-requires-clause-left c =
 -- the row that is printed
 there : (c : After-entry) → slice_get c.args.self.now.satellites.rows (c.args.count - 1)
     ≡ Some (row_tail_of c.entry.result.0.now c.entry.result.1.now)
-there c = ap (λ (h : OpenHistory). slice_get h.satellites.rows (c.args.count - 1)) (sym c.self.view_is) ∙ c.entry.ensures.there
+there c = ap (λ (h : OpenHistory). slice_get h.satellites.rows (c.args.count - 1)) (sym c.self.view_is) ∙
+    c.entry.ensures.there
 
 pub put_printed-requires-clause-few : goal.put_printed-requires-clause-few
 put_printed-requires-clause-few c =
@@ -67,6 +68,7 @@ returns c =
     record {
       printed = subst (λ n. IsPrinted n tail c.put_printed.new.self) counted
           (row-printed tail (c.args.count - 1) _ c.args.lines.now c.put_printed.new.self
-          (c.requires.before (omega arith)) (there (goal.at.returns c).After-entry) c.put_printed.ensures.lines
+          (c.requires.before (omega arith)) (there (goal.at.returns c).After-entry)
+          c.put_printed.ensures.lines
           c.put_printed.ensures.taken);
     }

@@ -1,5 +1,5 @@
-use Rattle.crx_compact.proofs.Words.{refl, ap, sym, ◌∙◌, ◌≡◌, Err, Some, arith, subst, List, ℕ, Fault, HasRoom}
-use Rattle.crx_compact.proofs.Words.{PlacedRows, RowTail, row_held, same_Some, satellite_of}
+use Rattle.crx_compact.proofs.Words.{refl, ap, sym, ◌∙◌, ◌≡◌, Err, Some, arith, subst, List, ℕ, Fault}
+use Rattle.crx_compact.proofs.Words.{HasRoom, PlacedRows, RowTail, row_held, same_Some, satellite_of}
 use Rattle.crx_compact.proofs.RowByRow.{all-at}
 use Rattle.std.proofs.lemmas.Result.{on_ok_weaker, IfErr-weaker}
 use Rattle.crx_compact.specs.Placing.{HasAllowedCount, IsLeftAt, IsStoredAt, row_tail_of}

@@ -2,10 +2,12 @@ use Rattle.crx_compact.proofs.Words.{rules, ◌≡◌, ◌-◌, List, length, no
 use Rattle.crx_compact.proofs.Words.{sym, ◌∙◌, refl, subst, false≢true, has_satellite, PlacedRows, Row}
 use Rattle.crx_compact.proofs.Words.{HasRoom, KeepsRooms, OpenHistory, row_of_parts, arith}
 use Rattle.crx_compact.proofs.Words.{Tail, AreRowsWritten}
-use Rattle.crx_compact.proofs.{Results.from_some, Writing.{come-already, no-row, written-next}, placing.Placed.placed-asked}
+use Rattle.crx_compact.proofs.{Results.from_some, Writing.{come-already, no-row, written-next}}
+use Rattle.crx_compact.proofs.{placing.Placed.placed-asked}
 use Rattle.crx_compact.proofs.placing.SteppedRows.{IsLastStored, come-stored, last-within}
 use Rattle.crx_compact.specs.{Placing.{HasCome, IsPlaced, SatelliteTail}, contracts.history.History.the_view}
-use Rattle.crx_compact.proofs.history.History.write_row.Goals.{After-unwrap-satellite, Joined-place, in-Some, in-None+in_ok-prepare-in-None}
+use Rattle.crx_compact.proofs.history.History.write_row.Goals.{After-unwrap-satellite, Joined-place, in-Some}
+use Rattle.crx_compact.proofs.history.History.write_row.Goals.{in-None+in_ok-prepare-in-None}
 use Rattle.crx_compact.proofs.history.History.write_row.Goals as goal
 
 -- the satellite has come, or had come already, and nothing but the satellites has changed
@@ -22,7 +24,8 @@ placed c = elim c.match-place.branch [
   | in-None+in_ok-prepare-in-None w ↦ rw (w.is_new-is, w.self-inside-is) (
     search (rules, placed-asked, from_some, w.prepare.ensures.asked.asked),
     λ name count has. subst (HasRoom name count) (sym w.place-in-None.ensures.rooms)
-        (w.prepare.ensures.asked.asked.rooms name count (subst (HasRoom name count) (sym c.place.ensures.rooms) has)),
+        (w.prepare.ensures.asked.asked.rooms name count (subst (HasRoom name count) (sym
+        c.place.ensures.rooms) has)),
     λ j. record (c.self.view_is j) { satellites = w.place-in-None.new.self },
   )
 ]
@@ -65,7 +68,8 @@ returns-then-not-is_new-clause-written c = λ after rows written.
     }
 
 -- what is stored of the satellite that has come
-stored : (c : After-unwrap-satellite) → HasCome c.args.name.now c.self.inside.satellites c.match-place.self-inside.satellites
+stored : (c : After-unwrap-satellite) → HasCome c.args.name.now c.self.inside.satellites
+    c.match-place.self-inside.satellites
     → IsLastStored c.args.name.now (c.placed-last.result - 1) c.self.inside.satellites
     c.match-place.self-inside.satellites c.unwrap-satellite.result.now
 stored c come = come-stored _ _ _ _ _ come (ap (λ n. n - 1) c.placed-last.ensures.value)
@@ -75,7 +79,8 @@ pub entry_mut-requires : goal.entry_mut-requires
 entry_mut-requires c =
     let placed = (placed (goal.at.entry_mut-requires c).Joined-place).0 in
     record {
-      within = last-within _ _ _ _ (placed.come c.if-not-is_new.false) (ap (λ n. n - 1) c.placed-last.ensures.value);
+      within = last-within _ _ _ _ (placed.come c.if-not-is_new.false) (ap (λ n. n - 1)
+          c.placed-last.ensures.value);
     }
 
 pub put_row-requires-clause-fits : goal.put_row-requires-clause-fits
@@ -105,8 +110,10 @@ returns-clause-written c = λ after rows written.
       err = tt;
       ok = record {
         answer = sym c.if-not-is_new.false ∙ answer at.Joined-place after rows written;
-        written = λ is. written-next after rows row c.args.self.now _ before c.match-place.self-inside.satellites
-            (c.placed-last.result - 1) c.unwrap-satellite.result.now c.put_row.new.satellite c.args.lines.now.lines
+        written = λ is. written-next after rows row c.args.self.now _ before
+            c.match-place.self-inside.satellites
+            (c.placed-last.result - 1) c.unwrap-satellite.result.now c.put_row.new.satellite
+            c.args.lines.now.lines
             c.put_row.new.self.lines same written c.requires.sound
             (no-row after rows c.args.self.now c.args.lines.now.lines before row.name c.match-place.is_new
             same come.0.answer c.if-not-is_new.false written) (come.0.come c.if-not-is_new.false)
@@ -123,7 +130,8 @@ pub returns-clause-prepared : goal.returns-clause-prepared
 returns-clause-prepared c =
     let at = goal.at.returns-clause-prepared c in
     let come = placed at.Joined-place in
-    let left = (stored at.After-unwrap-satellite (come.0.come c.if-not-is_new.false)).left c.put_row.new.satellite _
+    let left = (stored at.After-unwrap-satellite (come.0.come c.if-not-is_new.false)).left
+    c.put_row.new.satellite _
     (rw (c.unwrap-satellite.ensures) at c.entry_mut.follows.holds c.put_row.new.satellite)
     (ap (λ (s : SatelliteTail). s.room) c.put_row.ensures.after) in
     let same = sym (ap (λ (p : PlacedRows). p.rooms) left) in

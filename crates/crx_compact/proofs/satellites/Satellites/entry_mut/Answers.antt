@@ -13,7 +13,8 @@ pair_mut-satellite-requires c = omega (
 )
 
 pub invariant_of-self-lent : goal.invariant_of-self-lent
-invariant_of-self-lent c = λ left. rw (length-set_value_at c.self.inside.known.entries c.number_at.result left) c.self.invariant
+invariant_of-self-lent c = λ left. rw (length-set_value_at c.self.inside.known.entries c.number_at.result
+    left) c.self.invariant
 
 pub returns : goal.returns
 returns c =
@@ -23,12 +24,14 @@ returns c =
     rw (← c.self.view_is) (
       (
         refl,
-        λ left. left-at self.known c.self.invariant.2 self.placed self.live within c.number_at.ensures.value there left
+        λ left. left-at self.known c.self.invariant.2 self.placed self.live within
+            c.number_at.ensures.value there left
             c.self.invariant.0,
         tt,
       ),
       record {
-        there = stored-at self.known c.self.invariant.2 self.placed self.live within c.number_at.ensures.value there
+        there = stored-at self.known c.self.invariant.2 self.placed self.live within
+            c.number_at.ensures.value there
             c.pair_mut-satellite.ensures.unique;
         some = refl;
         after_borrow = tt;
