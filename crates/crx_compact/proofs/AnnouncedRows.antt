@@ -18,9 +18,8 @@ pub announced-rows : (types : List Count) (before : Tail) (line : List ℕ) (sat
     → All IsAwaitedSatellite satellites → IsAnnounced history
 announced-rows types before line satellites history read text rows sound =
     let again : map satellite_of history.satellites.rows ≡ satellites = search (rules, satellites-again) in
-    let new : Tail = record before { text = patched before.text line } in
     record {
-      announced = rw (again, text) (announced types before before new line satellites read refl);
+      announced = rw (again, text) (announced types before line satellites read);
       named = rw (again, text) (named-by_line types before line satellites read);
       satellites = rw again sound;
     }

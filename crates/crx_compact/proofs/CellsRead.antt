@@ -63,59 +63,52 @@ made-count : (first : List (Option ArcTail)) (cells : List ReadCell) (k : ℕ) �
     → length (arcs_of_codes first (codes_in cells)) ≡ k
 made-count first cells k e = search (rules, length-each_place, length-map)
 
-arc-there : (first : List (Option ArcTail)) (line : List ℕ) (at k : ℕ) (arcs : List (Option ArcTail))
-    → ReadUpTo first line at k arcs → k < length first
-    → slice_index_or arcs k None ≡ slice_index_or first k None
-arc-there first line at k arcs s h = grind (arith, common_steps, from-place, made-count, get_or-append_seam)
+module _ (first : List (Option ArcTail)) (line : List ℕ) (at k : ℕ) (arcs : List (Option ArcTail))
+    (s : ReadUpTo first line at k arcs) where
+  pub read-all : k ≡ length first → CellsAreRead first (length first) line arcs at
+  read-all end = grind (arith, common_steps, onto-ok, append-nil)
 
--- the next cell, and the arcs with its own in its place
-pub read-next : (first : List (Option ArcTail)) (line : List ℕ) (at k : ℕ) (arcs arcs' made : List
-    (Option ArcTail)) (taken : ℕ) → ReadUpTo first line at k arcs → k < length first → IsCellRead arcs
-    k (drop at line) arcs made taken → arcs' ≡ made → ReadUpTo first line (at + taken) (k + 1) arcs'
-read-next first line at k arcs arcs' made taken s h read made_is =
-    let old : Option ArcTail = slice_index_or first k None in
-    let arc : Option ArcTail = arc_of_code read.code old in
-    let so_far : List (Option ArcTail) = arcs_of_codes first (codes_in s.cells) in
-    let later : List (Option ArcTail) = drop (k + 1) first in
-    let c : ReadCell = record { code = read.code; value = read.value } in
-    let next : drop k first ≡ old ∷ later = from-place None k first h in
-    let there = arc-there first line at k arcs s h in
-    let both = map-append shown_value so_far (arc ∷ []) in
-    let values = map-append (λ (q : ReadCell). q.value) s.cells (c ∷ []) in
-    let many = made-count first s.cells k s.counted in
-    let coded : length (codes_in s.cells) ≡ k = length-map s.cells (λ (q : ReadCell). q.code) ∙ s.counted in
-    let more : arcs_of_codes first (codes_in (s.cells ++ c ∷ [])) ≡ so_far ++ arc ∷ [] =
-    search (rules, arcs-more, map-append) in
-    search (rules, length-append, onto-more, drop-drop, length-drop, set-append_seam, append_assoc)
+  module _ (h : k < length first) where
+    arc-there : slice_index_or arcs k None ≡ slice_index_or first k None
+    arc-there = grind (arith, common_steps, from-place, made-count, get_or-append_seam)
 
--- a fault of the next cell is that of them all
-pub next-refused : (first : List (Option ArcTail)) (line : List ℕ) (at k : ℕ) (arcs : List (Option ArcTail))
-    (fault : Fault) → ReadUpTo first line at k arcs → k < length first
-    → cell_read BadField (value_at_place arcs k) (code_of (first_cell (drop at line))) ≡ Err fault
-    → cells_read (value_at_place first) (cells_of (length first) line) ≡ Err fault
-next-refused first line at k arcs fault s h refused =
-    let there = ap (λ (arc : Option ArcTail).
-    cell_read BadField (λ code. value_of_code OBSERVATION_WIDTH code arc)
-    (code_of (first_cell (drop at line))))
-    (arc-there first line at k arcs s h) in
-    let step = rw (from-place None k first h) at s.so_far in
-    cc (onto-err s.cells fault)
+    -- the next cell, and the arcs with its own in its place
+    pub read-next : {arcs' made : List (Option ArcTail)} {taken : ℕ} → IsCellRead arcs k (drop at line) arcs made taken
+        → arcs' ≡ made → ReadUpTo first line (at + taken) (k + 1) arcs'
+    read-next read made_is =
+        let old : Option ArcTail = slice_index_or first k None in
+        let arc : Option ArcTail = arc_of_code read.code old in
+        let so_far : List (Option ArcTail) = arcs_of_codes first (codes_in s.cells) in
+        let c : ReadCell = record { code = read.code; value = read.value } in
+        let next : drop k first ≡ old ∷ drop (k + 1) first = from-place None k first h in
+        let there = arc-there in
+        let both = map-append shown_value so_far (arc ∷ []) in
+        let values = map-append (λ (q : ReadCell). q.value) s.cells (c ∷ []) in
+        let many = made-count first s.cells k s.counted in
+        let coded : length (codes_in s.cells) ≡ k = length-map s.cells (λ (q : ReadCell). q.code) ∙ s.counted in
+        let more : arcs_of_codes first (codes_in (s.cells ++ c ∷ [])) ≡ so_far ++ arc ∷ [] =
+        search (rules, arcs-more, map-append) in
+        search (rules, length-append, onto-more, drop-drop, length-drop, set-append_seam, append_assoc)
+
+    -- a fault of the next cell is that of them all
+    pub next-refused : {fault : Fault} → cell_read BadField (value_at_place arcs k) (code_of (first_cell (drop at line))) ≡ Err fault
+        → cells_read (value_at_place first) (cells_of (length first) line) ≡ Err fault
+    next-refused {fault} refused =
+        let there = ap (λ (arc : Option ArcTail).
+        cell_read BadField (λ code. value_of_code OBSERVATION_WIDTH code arc) (code_of (first_cell (drop at line)))) arc-there in
+        let step = rw (from-place None k first h) at s.so_far in
+        cc (onto-err s.cells fault)
 
 -- what is read of the first arcs, of which the next one is
-pub first-read : (count : ℕ) (arcs made : List (Option ArcTail)) (k : ℕ) (rest : List ℕ) (taken : ℕ)
-    → k < count → IsCellRead arcs k rest arcs made taken
-    → IsCellRead (take count arcs) k rest (take count arcs) (take count made) taken
-first-read count arcs made k rest taken less read = search (rules, get_or-take, take-set-lt)
+module _ (count : ℕ) (arcs : List (Option ArcTail)) (k : ℕ) (rest : List ℕ) (less : k < count) where
+  pub first-read : {made : List (Option ArcTail)} {taken : ℕ} → IsCellRead arcs k rest arcs made taken
+      → IsCellRead (take count arcs) k rest (take count arcs) (take count made) taken
+  first-read read = search (rules, get_or-take, take-set-lt)
 
-pub first-refused : (count : ℕ) (arcs : List (Option ArcTail)) (k : ℕ) (rest : List ℕ) (fault : Fault)
-    → k < count → cell_read BadField (value_at_place arcs k) (code_of (first_cell rest)) ≡ Err fault
-    → cell_read BadField (value_at_place (take count arcs) k) (code_of (first_cell rest)) ≡ Err fault
-first-refused count arcs k rest fault less refused = search (rules, get_or-take)
+  pub first-refused : {fault : Fault} → cell_read BadField (value_at_place arcs k) (code_of (first_cell rest)) ≡ Err fault
+      → cell_read BadField (value_at_place (take count arcs) k) (code_of (first_cell rest)) ≡ Err fault
+  first-refused refused = search (rules, get_or-take)
 
 pub read-none : (first : List (Option ArcTail)) (line : List ℕ) → ReadUpTo first line 0 0 first
 read-none first line =
     search rules
-
-pub read-all : (first : List (Option ArcTail)) (line : List ℕ) (at k : ℕ) (arcs : List (Option ArcTail))
-    → ReadUpTo first line at k arcs → k ≡ length first → CellsAreRead first (length first) line arcs at
-read-all first line at k arcs s end = grind (arith, common_steps, onto-ok, append-nil)

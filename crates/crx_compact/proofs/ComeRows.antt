@@ -2,11 +2,12 @@
 -- blank one.
 use Rattle.crx_compact.proofs.Words.{rules, ◌≡◌, ◌++◌, ◌∷◌, [], ℕ, List, true, false, Some}
 use Rattle.crx_compact.proofs.Words.{length, take, slice_get, refl, ap, sym, ◌∙◌, arith}
-use Rattle.crx_compact.proofs.Words.{bytes_eq, is_among, Row, Satellite, PlacedRows, padded}
+use Rattle.crx_compact.proofs.Words.{is_among, Row, Satellite, PlacedRows, padded}
 use Rattle.crx_compact.proofs.Words.{padded_among, row_or_blank, row_line_after, row_line_in, row_tail_after}
 use Rattle.crx_compact.proofs.Words.{row_tail_in, RowTail, are_different, take_all, slice_get_within}
 use Rattle.crx_compact.proofs.Characters.{bytes_eq-is}
 use Rattle.std.proofs.{lemmas.Bool.or_parts, lemmas.Option.get_or_from_slice_get, lemmas.Grind.common_steps}
+use Rattle.std.proofs.lemmas.List.Folds.{list_any-append}
 use Rattle.crx_header.proofs.Apart.{other_way, new_at}
 use Rattle.crx_compact.specs.Placing.{HasCome, row_tail_named}
 
@@ -34,18 +35,11 @@ abbrev pub AreAwaited : {X : Type 0} → (X → List ℕ) → List X → List Ro
 AreAwaited name_of come before rest = (name : List ℕ)
     → is_among name_of name come ≡ false → row_tail_named name rest ≡ row_tail_named name before
 
-among-last : {X : Type 0} (f : X → List ℕ) (xs : List X) (x : X) (name : List ℕ)
-    → is_among f name (xs ++ x ∷ []) ≡ false → (is_among f name xs ≡ false) × (bytes_eq (f x) name ≡ false)
-among-last f [] x name h = (refl, (or_parts (bytes_eq (f x) name) false h).0)
-among-last f (y ∷ ys) x name h =
-    let rest = (or_parts (bytes_eq (f y) name) (is_among f name (ys ++ x ∷ [])) h).1 in
-    grind (arith, among-last f ys x name rest)
-
 pub awaited-after : {X : Type 0} (f : X → List ℕ) (come : List X) (x : X) (before : List RowTail)
     (old new : PlacedRows)
     → AreAwaited f come before old.rest → HasCome (f x) old new
     → AreAwaited f (come ++ x ∷ []) before new.rest
-awaited-after f come x before old new awaited has = grind (arith, common_steps, among-last, other_way)
+awaited-after f come x before old new awaited has = grind (arith, common_steps, list_any-append, or_parts, other_way)
 
 -- ---- the next row of an epoch
 

@@ -1,17 +1,17 @@
 -- An epoch line that was read: its satellites are as many as it announces, and no two of one identifier.
 use Rattle.crx_compact.proofs.Words.{◌≡◌, refl, ℕ, ◌+◌, ◌*◌, Bool, true, false, List, [], ◌∷◌, map, drop}
-use Rattle.crx_compact.proofs.Words.{Option, Some, None, Result, Ok, Err, length, list_all, AllByRecursion}
+use Rattle.crx_compact.proofs.Words.{Option, Some, Result, Ok, Err, length, list_all, AllByRecursion}
 use Rattle.crx_compact.proofs.Words.{bytes_eq, ap, sym, ◌∙◌, and_from, is_blank, columns, Count, is_among}
 use Rattle.crx_compact.proofs.Words.{are_apart, types_of_satellite, Fault, BadEpoch, epoch_count}
 use Rattle.crx_compact.proofs.Words.{◌otherwise◌next◌, is_printable, names_in, Satellite, satellites_named}
 use Rattle.crx_compact.proofs.Words.{Past, satellites_of_line, length-map, apart-map, Tail, past_of_tail}
 use Rattle.crx_compact.proofs.Words.{AreAnnounced, length-each_place, patched, HEAD_WIDTH, NAME_WIDTH, All}
-use Rattle.crx_compact.proofs.Words.{subst, arith, rules, All-head, All-tail, common_steps, list_any}
+use Rattle.crx_compact.proofs.Words.{subst, arith, All-head, All-tail, common_steps, list_any}
 use Rattle.crx_compact.proofs.Words.{NamesSatellites, ◌or_else◌with◌, satellite_before, ◌≤◌, by_position, character_of}
-use Rattle.crx_compact.proofs.Words.{at-without_end_blanks, satellites_few, unwrap_or}
+use Rattle.crx_compact.proofs.Words.{None, rules, at-without_end_blanks, satellites_few, unwrap_or, SATELLITES_LIMIT}
 use Rattle.crx_compact.proofs.EpochTexts.{blank-after, ends-within}
 use Rattle.crx_compact.specs.declared.history.TheConstants.{EPOCH_TEXT_LIMIT}
-use Rattle.crx_compact.proofs.{Identifiers.{AreNew, new-before}, Results.{no-err, if-err, if-true}}
+use Rattle.crx_compact.proofs.{Identifiers.{AreNew, new-before}, Results.{if-err, if-true}}
 
 -- whether no identifier is there twice
 abbrev pub differ : List (List ℕ) → Bool
@@ -38,18 +38,12 @@ pub record LineFacts (types : List Count) (past : Past) (line : List ℕ)
   pub read : satellites_named types [] (names_in (past.text line) count) ≡ Ok satellites
   pub named : SatellitesFacts types [] (names_in (past.text line) count) satellites
 
-record Before (types : List Count) (earlier : List (List ℕ))
-    (name : List ℕ) (others : Result (List Satellite) Fault) (given : List Satellite) : Type 0 where
-  count : ℕ
-  from : List Satellite
-  known : types_of_satellite types name ≡ Some count
-  new : list_any (bytes_eq name) earlier ≡ false
-  first : others ≡ Ok from
-  made : record { name = name; count = count } ∷ from ≡ given
-
 satellite-before : (types : List Count) (earlier : List (List ℕ)) (name : List ℕ) (found : Option ℕ)
     (others : Result (List Satellite) Fault) (given : List Satellite) → types_of_satellite types name ≡ found
-    → satellite_before earlier name found others ≡ Ok given → Before types earlier name others given
+    → satellite_before earlier name found others ≡ Ok given
+    → (count : ℕ) × (from : List Satellite) × (types_of_satellite types name ≡ Some count)
+    × (list_any (bytes_eq name) earlier ≡ false) × (others ≡ Ok from)
+    × (record { name = name; count = count } ∷ from ≡ given)
 satellite-before types earlier name found others given h e = grind arith
 
 pub satellites-facts : (types : List Count) (earlier names : List (List ℕ)) (given : List Satellite)
@@ -58,7 +52,7 @@ satellites-facts types earlier [] given e = grind arith
 satellites-facts types earlier (n ∷ ns) given e =
     let others = satellites_named types (n ∷ earlier) ns in
     let step = satellite-before types earlier n (types_of_satellite types n) others given refl e in
-    let rest = satellites-facts types (n ∷ earlier) ns step.from step.first in
+    let rest = satellites-facts types (n ∷ earlier) ns step.1 step.4 in
     grind (arith, common_steps, new-before, and_from, is_among)
 
 -- so many satellites of an epoch text, or its first fault
@@ -70,29 +64,12 @@ satellites_counted types text found =
 text-facts : (types : List Count) (past : Past) (line : List ℕ) (found : Option ℕ) (satellites : List
     Satellite) → epoch_count (columns (past.text line) 1 41) ≡ found → list_all is_printable line ≡ true
     → satellites_counted types (past.text line) found ≡ Ok satellites → LineFacts types past line satellites
-text-facts types past line None satellites h p e = absurd (no-err BadEpoch satellites e)
+text-facts types past line None satellites h p e = absurd (cc e)
 text-facts types past line (Some n) satellites h p e = search (rules, if-true, satellites-facts, if-err)
 
 pub line-facts_of : (types : List Count) (past : Past) (line : List ℕ) (satellites : List Satellite)
     → satellites_of_line types past line ≡ Ok satellites → LineFacts types past line satellites
 line-facts_of types past line satellites e = search (rules, text-facts, if-true, if-err)
-
--- its satellites are as many as it announces
-many : (types : List Count) (past : Past) (line : List ℕ) (satellites : List Satellite)
-    → (facts : LineFacts types past line satellites) → length satellites ≡ facts.count
-many types past line satellites facts =
-    let places = length-each_place facts.count
-    (λ k. columns (past.text line) (HEAD_WIDTH + 1 + NAME_WIDTH * k) NAME_WIDTH) in
-    cc (length-map satellites (λ (s : Satellite). s.name), facts.named.same)
-
--- an epoch line that was read names its satellites
-pub named-by_line : (types : List Count) (before : Tail) (line : List ℕ) (satellites : List Satellite)
-    → satellites_of_line types (past_of_tail before) line ≡ Ok satellites
-    → NamesSatellites (patched before.text line) satellites
-named-by_line types before line satellites e =
-    let past = past_of_tail before in
-    let facts = line-facts_of types past line satellites e in
-    record { earlier = types; named = cc (many types past line satellites facts, facts.read) }
 
 -- the same identifiers by other counts of types, which are those of the satellites
 pub named-again : (earlier types : List Count) (state names : List (List ℕ)) (given : List Satellite)
@@ -104,33 +81,40 @@ named-again earlier types state (n ∷ ns) given e typed =
     let others = satellites_named earlier (n ∷ state) ns in
     let P : Satellite → Type 0 = λ s. types_of_satellite types s.name ≡ Some s.count in
     let step = satellite-before earlier state n (types_of_satellite earlier n) others given refl e in
-    let whole = subst (All P) (sym step.made) typed in
-    let here : types_of_satellite types n ≡ Some step.count = All-head P _ step.from whole in
-    let rest = named-again earlier types (n ∷ state) ns step.from step.first (All-tail P _ step.from whole) in
+    let whole = subst (All P) (sym step.5) typed in
+    let here : types_of_satellite types n ≡ Some step.0 = All-head P _ step.1 whole in
+    let rest = named-again earlier types (n ∷ state) ns step.1 step.4 (All-tail P _ step.1 whole) in
     cc
 
--- an epoch line that was read announces its satellites, and names no two of them alike
-pub announced : (types : List Count) (before old new : Tail) (line : List ℕ) (satellites : List Satellite)
-    → satellites_of_line types (past_of_tail before) line ≡ Ok satellites
-    → new ≡ record old { text = patched before.text line } → AreAnnounced new.text satellites
-announced types before old new line satellites e left =
-    let facts = line-facts_of types (past_of_tail before) line satellites e in
-    let names = many types (past_of_tail before) line satellites facts in
-    let different = apart-map (λ (n : List ℕ). n) (λ (s : Satellite). s.name) satellites in
-    rw left (record {
-      counted = facts.counted ∙ ap {B = Option ℕ} Some (sym names);
-      apart = cc (different, facts.named.same, facts.named.apart);
-    })
+module _ (types : List Count) (before : Tail) (line : List ℕ) (satellites : List Satellite)
+    (e : satellites_of_line types (past_of_tail before) line ≡ Ok satellites) where
+  abbrev text : List ℕ
+  text = patched before.text line
 
--- an epoch line that was read makes a text that is no longer than an epoch's
-pub text-few : (types : List Count) (before : Tail) (line : List ℕ) (satellites : List Satellite)
-    → satellites_of_line types (past_of_tail before) line ≡ Ok satellites
-    → length (patched before.text line) ≤ EPOCH_TEXT_LIMIT
-text-few types before line satellites e =
-    let facts = line-facts_of types (past_of_tail before) line satellites e in
-    let text = patched before.text line in
-    let few = satellites_few (columns text 1 41) in
-    let count = ap (λ (n : Option ℕ). unwrap_or n 0) facts.counted in
-    let within = ends-within (41 + 3 * facts.count) (by_position character_of before.text line)
-    (λ p. sym (at-without_end_blanks _ (41 + 3 * facts.count + p)) ∙ blank-after (41 + 3 * facts.count) text facts.ended p) in
-    omega (arith, within, few, count)
+  facts : LineFacts types (past_of_tail before) line satellites
+  facts = line-facts_of types (past_of_tail before) line satellites e
+
+  -- its satellites are as many as it announces
+  many : length satellites ≡ facts.count
+  many = sym (length-map satellites (λ (s : Satellite). s.name)) ∙ ap length facts.named.same
+      ∙ length-each_place facts.count (λ k. columns text (HEAD_WIDTH + 1 + NAME_WIDTH * k) NAME_WIDTH)
+
+  -- an epoch line that was read announces its satellites, no two of one identifier, and names them
+  pub announced : AreAnnounced text satellites
+  announced = record {
+    counted = facts.counted ∙ ap {B = Option ℕ} Some (sym many);
+    apart = cc (apart-map (λ (n : List ℕ). n) (λ (s : Satellite). s.name) satellites, facts.named.same, facts.named.apart);
+  }
+
+  pub named-by_line : NamesSatellites text satellites
+  named-by_line = record { earlier = types; named = cc (many, facts.read) }
+
+  -- they are no more, and its text is no longer, than an epoch's
+  pub named-few : length satellites ≤ SATELLITES_LIMIT
+  named-few = omega (arith, many, satellites_few (columns text 1 41), ap (λ (n : Option ℕ). unwrap_or n 0) facts.counted)
+
+  pub text-few : length text ≤ EPOCH_TEXT_LIMIT
+  text-few =
+      let within = ends-within (41 + 3 * facts.count) (by_position character_of before.text line)
+      (λ p. sym (at-without_end_blanks _ (41 + 3 * facts.count + p)) ∙ blank-after (41 + 3 * facts.count) text facts.ended p) in
+      omega (arith, within, many, named-few)

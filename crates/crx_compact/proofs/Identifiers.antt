@@ -13,8 +13,7 @@ found-later : {X : Type 0} (f : X → List ℕ) (x : X) (xs ys : List X) → is_
     → AllByRecursion (λ y. named f (f y) (x ∷ xs) ≡ Some y) ys
 found-later f x xs [] new h = tt
 found-later f x xs (y ∷ ys) new h =
-    let rest = (or_parts (bytes_eq (f y) (f x)) (is_among f (f x) ys) new).1 in
-    grind (arith, common_steps, or_parts, bytes_eq, is_among, other_way, found-later f x xs ys rest h.1)
+    grind (arith, common_steps, or_parts, bytes_eq, is_among, other_way, found-later f x xs ys)
 
 -- each of some different items is the first of its identifier
 pub each-own : {X : Type 0} (f : X → List ℕ) (xs : List X)

@@ -11,12 +11,8 @@ use Rattle.crx_text.proofs.WrittenTexts.{counted-line, line-ended}
 use Rattle.crx_compact.specs.{Blocks.{IsBlock, IsLinePut, lines_text}, declared.block.TheConstants.{FIRST_LINES, LINES_LIMIT, LINE_ROOM}}
 
 -- the first of some lines ends within the text, and the others are its rest
-pub record Ended (count : ℕ) (counts text : List ℕ) : Type 0 where
-  pub within : count < length text
-  pub rest : lines_text (cut counts (drop (suc count) text)) ≡ drop (suc count) text
-
-pub first-ended : (count : ℕ) (counts text : List ℕ)
-    → lines_text (cut (count ∷ counts) text) ≡ text → Ended count counts text
+first-ended : (count : ℕ) (counts text : List ℕ) → lines_text (cut (count ∷ counts) text) ≡ text
+    → (count < length text) × (lines_text (cut counts (drop (suc count) text)) ≡ drop (suc count) text)
 first-ended (suc count) counts (c ∷ cs) e = grind (arith, first-ended count counts cs (ap (drop 1) e))
 first-ended x counts y e = grind (arith, common_steps)
 
@@ -25,7 +21,7 @@ pub cut-more : (counts text line : List ℕ) → lines_text (cut counts text) �
     → cut (counts ++ length line ∷ []) (text ++ (line ++ 10 ∷ [])) ≡ cut counts text ++ line ∷ []
 cut-more (count ∷ counts) text line e =
     let ended = first-ended count counts text e in
-    let rest = cut-more counts (drop (suc count) text) line ended.rest in
+    let rest = cut-more counts (drop (suc count) text) line ended.1 in
     grind (arith, take-append-le, drop-append-le)
 cut-more x text line e = grind (arith, common_steps, take-append_seam)
 

@@ -5,16 +5,13 @@ use Rattle.std.proofs.{Common.{slice_get, slice_index_or, slice_set, arith, fals
 use Rattle.std.proofs.{lemmas.Grind.common_steps}
 use Rattle.std.proofs.{lemmas.Bool.cases_Bool, lemmas.Option.get_or_from_slice_get}
 use Rattle.crx_header.specs.meaning.Satellites.{is_among}
+use Rattle.crx_compact.proofs.placing.EntryChanges.{set-there}
 use Rattle.crx_compact.specs.Refusals.{AreMarked, mark_place}
 
 stays : (marks : List Bool) (i k : ℕ) → slice_get marks k ≡ Some true
     → slice_get (slice_set marks i true) k ≡ Some true
 stays (m ∷ ms) (suc i) (suc k) h = stays ms i k h
 stays marks i k h = grind arith
-
-there : (marks : List Bool) (i : ℕ) → i < length marks → slice_get (slice_set marks i true) i ≡ Some true
-there (m ∷ ms) (suc i) h = there ms i (omega (arith, h))
-there marks i h = grind arith
 
 -- one that isn't marked is none of them
 pub unmarked : (names : List (List ℕ)) (name : List ℕ) (marks : List Bool) (place : ℕ) (mark : Bool)
@@ -25,4 +22,4 @@ unmarked names name marks place mark marked at here off =
 
 pub marked-more : (names : List (List ℕ)) (name : List ℕ) (marks : List Bool) → mark_place name < length marks
     → AreMarked names marks → AreMarked (names ++ name ∷ []) (slice_set marks (mark_place name) true)
-marked-more names name marks within marked = grind (arith, common_steps, there, stays)
+marked-more names name marks within marked = grind (arith, common_steps, set-there, stays)

@@ -1,16 +1,16 @@
 -- The identifiers of an epoch text, read from left to right.
-use Rattle.crx_compact.proofs.Words.{◌≡◌, ◌<◌, refl, ℕ, zero, suc, ◌+◌, ◌*◌, Bool, true, false, ◌||◌, List}
-use Rattle.crx_compact.proofs.Words.{[], ◌∷◌, ◌++◌, drop, Some, None, Ok, Err, All}
-use Rattle.crx_compact.proofs.Words.{bytes_eq, sym, ◌∙◌, ap, arith, All-head}
-use Rattle.crx_compact.proofs.Words.{All-tail, each_place, types_of_satellite, columns, BadSatellite}
-use Rattle.crx_compact.proofs.Words.{RepeatedSatellite, Count, Satellite, names_in}
+use Rattle.crx_compact.proofs.Words.{◌≡◌, ◌<◌, refl, ℕ, suc, ◌+◌, ◌*◌, Bool, true, false, ◌||◌, List}
+use Rattle.crx_compact.proofs.Words.{[], ◌∷◌, ◌++◌, drop, Some, None, Ok, Err, length, All-from_recursion}
+use Rattle.crx_compact.proofs.Words.{bytes_eq, sym, ◌∙◌, ap, arith, get_or, length-map, same_Some}
+use Rattle.crx_compact.proofs.Words.{each_place, types_of_satellite, columns, BadSatellite, length-each_place}
+use Rattle.crx_compact.proofs.Words.{RepeatedSatellite, Count, Satellite, names_in, index-each_place}
 use Rattle.crx_compact.proofs.Words.{satellites_named, HasRoom, HaveTypesRoom, KeepsRooms}
-use Rattle.crx_compact.proofs.{EpochLines.{names_of, satellites-facts}}
-use Rattle.crx_compact.proofs.{Results.{onto, onto-err, onto-more, onto-ok}, Words.AllByRecursion}
+use Rattle.crx_compact.proofs.{EpochLines.satellites-facts}
+use Rattle.crx_compact.proofs.{Results.{onto, onto-err, onto-more, onto-ok}}
 use Rattle.std.specs.List.{list_any}
 use Rattle.crx_header.proofs.Apart.{other_way}
 use borrow.Author.Count.{below_more}
-use Rattle.std.proofs.{lemmas.List.Folds.list_any-append, lemmas.Grind.common_steps}
+use Rattle.std.proofs.{lemmas.List.{Folds.list_any-append, get_or-map}, lemmas.Grind.common_steps}
 use Rattle.crx_text.proofs.EachPlace.{drop-each_place, each_place-more}
 use Rattle.crx_compact.specs.{meaning.EpochText.satellite_before, Placing.HaveNamesRoom}
 
@@ -41,43 +41,34 @@ any-after name (s ∷ ss) earlier = grind (arith, regroup, either-way, any-after
 -- ---- one identifier more
 
 -- the identifiers up to a place are read
-pub record NamedSoFar (types : List Count) (all : List (List ℕ)) (place : ℕ)
-    (found : List Satellite) : Type 0 where
+pub record NamedSoFar (types : List Count) (all : List (List ℕ)) (place : ℕ) (found : List Satellite) : Type 0 where
   pub so_far : satellites_named types [] all
       ≡ onto found (satellites_named types (names_after found []) (drop place all))
 
-at-next : (types : List Count) (all : List (List ℕ)) (place : ℕ) (found : List Satellite) (name : List ℕ)
-    → NamedSoFar types all place found → drop place all ≡ name ∷ drop (place + 1) all → satellites_named
-    types [] all ≡ onto found (satellite_before (names_after found []) name (types_of_satellite types name)
-    (satellites_named types (name ∷ names_after found []) (drop (place + 1) all)))
-at-next types all place found name n e = cc (n.so_far, e)
+module _ (types : List Count) (all : List (List ℕ)) (place : ℕ) (found : List Satellite)
+    (n : NamedSoFar types all place found) where
+  pub named-all : drop place all ≡ [] → satellites_named types [] all ≡ Ok found
+  named-all e = cc (n.so_far, e, onto-ok found)
 
-pub named-bad : (types : List Count) (all : List (List ℕ)) (place : ℕ) (found : List Satellite)
-    (name : List ℕ) → NamedSoFar types all place found → drop place all ≡ name ∷ drop (place + 1) all
-    → types_of_satellite types name ≡ None → satellites_named types [] all ≡ Err BadSatellite
-named-bad types all place found name n e none = grind (arith, common_steps, at-next, onto-err)
+  module _ (name : List ℕ) (e : drop place all ≡ name ∷ drop (place + 1) all) where
+    at-next : satellites_named types [] all ≡ onto found (satellite_before (names_after found []) name
+        (types_of_satellite types name) (satellites_named types (name ∷ names_after found []) (drop (place + 1) all)))
+    at-next = cc (n.so_far, e)
 
-stands : (name : List ℕ) (found : List Satellite) (b : Bool) → b ≡ list_any
-    (λ (s : Satellite). bytes_eq s.name name) found → list_any (bytes_eq name) (names_after found []) ≡ b
-stands name found b e = any-after name found [] ∙ sym e
+    stands : list_any (bytes_eq name) (names_after found []) ≡ list_any (λ (s : Satellite). bytes_eq s.name name) found
+    stands = any-after name found []
 
-pub named-twice : (types : List Count) (all : List (List ℕ)) (place : ℕ) (found : List Satellite)
-    (name : List ℕ) (count : ℕ) → NamedSoFar types all place found → drop place all ≡ name ∷ drop (place + 1)
-    all → types_of_satellite types name ≡ Some count → list_any (λ (s : Satellite). bytes_eq s.name name)
-    found ≡ true → satellites_named types [] all ≡ Err RepeatedSatellite
-named-twice types all place found name count n e some twice = grind (arith, at-next, stands, onto-err)
+    pub named-bad : types_of_satellite types name ≡ None → satellites_named types [] all ≡ Err BadSatellite
+    named-bad none = grind (arith, common_steps, at-next, onto-err)
 
-pub named-more : (types : List Count) (all : List (List ℕ))
-    (place : ℕ) (found more : List Satellite) (name : List ℕ) (count : ℕ) → NamedSoFar types all place found
-    → drop place all ≡ name ∷ drop (place + 1) all → types_of_satellite types name ≡ Some count
-    → list_any (λ (s : Satellite). bytes_eq s.name name) found ≡ false
-    → more ≡ found ++ record { name = name; count = count } ∷ [] → NamedSoFar types all (place + 1) more
-named-more types all place found more name count n e some once m =
-    grind (arith, stands, onto-more, names-more)
+    module _ {count : ℕ} (some : types_of_satellite types name ≡ Some count) where
+      pub named-twice : list_any (λ (s : Satellite). bytes_eq s.name name) found ≡ true
+          → satellites_named types [] all ≡ Err RepeatedSatellite
+      named-twice twice = grind (arith, at-next, stands, onto-err)
 
-pub named-all : (types : List Count) (all : List (List ℕ)) (place : ℕ) (found : List Satellite)
-    → NamedSoFar types all place found → drop place all ≡ [] → satellites_named types [] all ≡ Ok found
-named-all types all place found n e = cc (n.so_far, e, onto-ok found)
+      pub named-more : list_any (λ (s : Satellite). bytes_eq s.name name) found ≡ false
+          → NamedSoFar types all (place + 1) (found ++ record { name = name; count = count } ∷ [])
+      named-more once = grind (arith, stands, onto-more, names-more)
 
 -- ---- an identifier among those of a text
 
@@ -95,29 +86,28 @@ pub next-name : (text : List ℕ) (count place : ℕ) (name : List ℕ) → plac
     (42 + 3 * place) 3 → drop place (names_in text count) ≡ name ∷ drop (place + 1) (names_in text count)
 next-name text count place name h e = cc (drop-each_place count place (λ k. columns text (42 + 3 * k) 3) h, e)
 
--- what holds of all satellites of a text holds of the one at each place
-named-each : (P : Satellite → Type 0) (types : List Count) (ss : List Satellite) (k : ℕ) (name : List ℕ)
-    (others : List (List ℕ)) (count : ℕ)
-    → AllByRecursion (λ (s : Satellite). types_of_satellite types s.name ≡ Some s.count) ss
-    → drop k (names_of ss) ≡ name ∷ others → types_of_satellite types name ≡ Some count → All P ss
-    → P (record { name = name; count = count })
-named-each P types [] k name others count known at some all = grind (arith, common_steps)
-named-each P types (s ∷ ss) zero name others count known at some all =
-    let same : s.name ≡ name = cc in let counted : s.count ≡ count = cc (known.0) in
-    rw (← same, ← counted) (All-head P s ss all)
-named-each P types (s ∷ ss) (suc k) name others count known at some all =
-    named-each P types ss k name others count known.1 at some (All-tail P s ss all)
-
 -- where each satellite of a text has room, the one at each place has
 pub names-room : (types : List Count) (text : List ℕ) (count : ℕ) (named : List Satellite)
-    (before now : List (List ℕ × ℕ)) → satellites_named types [] (names_in text count) ≡ Ok named
-    → HaveTypesRoom named before → KeepsRooms before now → HaveNamesRoom types text count now
-names-room types text count named before now is has kept = λ place cells within some.
+    (rooms : List (List ℕ × ℕ)) → satellites_named types [] (names_in text count) ≡ Ok named
+    → HaveTypesRoom named rooms → HaveNamesRoom types text count rooms
+names-room types text count named rooms is has = λ place cells within some.
     let name = columns text (42 + 3 * place) 3 in
     let facts = satellites-facts types [] (names_in text count) named is in
-    kept name cells (named-each (λ (s : Satellite). HasRoom s.name s.count before) types named place name _
-    cells
-    facts.known (ap (drop place) facts.same ∙ next-name text count place name within refl) some has)
+    let blank : Satellite = record { name = []; count = 0 } in
+    let s = get_or named place blank in
+    let less : place < length named = omega (
+      arith,
+      within,
+      ap length facts.same,
+      length-map named (λ (s : Satellite). s.name),
+      length-each_place count (λ k. columns text (42 + 3 * k) 3),
+    ) in
+    let same : s.name ≡ name = sym (get_or-map (λ (s : Satellite). s.name) named place blank [] less)
+    ∙ ap (λ ns. get_or ns place []) facts.same ∙ index-each_place count place (λ k. columns text (42 + 3 * k) 3) []
+    (λ past. absurd (omega (arith, within, past))) in
+    let counted = All-from_recursion (λ (s : Satellite). types_of_satellite types s.name ≡ Some s.count) named
+    facts.known place blank less in
+    rw (← same, ← same_Some s.count cells (sym counted ∙ ap (types_of_satellite types) same ∙ some)) (has place blank less)
 
 -- the satellite at one place more has room
 pub names-room-more : (types : List Count) (text : List ℕ) (place : ℕ) (before now : List (List ℕ × ℕ))

@@ -1,7 +1,7 @@
 -- Cells that are written or printed place by place.
 use Rattle.crx_compact.proofs.Words.{◌≡◌, ◌≤◌, ◌<◌, ℕ, suc, ◌+◌, ℤ, List, [], ◌∷◌, ◌++◌, length}
 use Rattle.crx_compact.proofs.Words.{slice_get, slice_index_or, Option, Some, None, refl, ◌*◌, map, drop}
-use Rattle.crx_compact.proofs.Words.{replicate, take, ◌∙◌, ap, arith}
+use Rattle.crx_compact.proofs.Words.{replicate, take, ◌∙◌, arith}
 use Rattle.crx_compact.proofs.Words.{rules, length-map, Code, each_place, slice_get_within}
 use Rattle.crx_compact.proofs.Words.{ArcTail, cell_text, arc_of_value, code_of_value, shown_value, columns}
 use Rattle.crx_compact.proofs.Words.{at, length-columns}
@@ -50,13 +50,14 @@ pub print-next : (values : List (Option ℤ)) (flags : List ℕ) (n k : ℕ) →
 print-next values flags n k count h =
     let all = columns flags 1 (2 * n) in
     let long = length-columns flags 1 (2 * n) in
-    let rest = drop (2 * (k + 1)) all in
     let third : 2 * k + 1 + 1 ≡ 2 * (k + 1) = omega arith in
-    let pair = from-place 32 (2 * k) all (omega (arith, long, h)) ∙ ap (λ t. at all (2 * k) ∷ t) (from-place
-    32 (2 * k + 1) all (omega (arith, long, h))) ∙ ap (λ n. at all (2 * k) ∷ at all (2 * k + 1) ∷ drop n all)
-    third ∙ ap (λ a. a ∷ at all (2 * k + 1) ∷ rest) (at-columns flags (2 * n) (2 * k) (omega (arith, h)))
-    ∙ ap (λ b. at flags (2 * k) ∷ b ∷ rest) (at-columns flags (2 * n) (2 * k + 1) (omega (arith, h))) in
-    search (rules, printed_cells, all, from-place, slice_index_or, pair)
+    cc (
+      from-place None k values (omega (arith, count, h)),
+      from-place 32 (2 * k) all (omega (arith, long, h)),
+      from-place 32 (2 * k + 1) all (omega (arith, long, h)),
+      at-columns flags (2 * n) (2 * k) (omega (arith, h)),
+      at-columns flags (2 * n) (2 * k + 1) (omega (arith, h)),
+    )
 
 -- the cells that are left complete a text, also after the next of them
 pub print-on : (arcs : List (Option ArcTail)) (flags before text whole : List ℕ)

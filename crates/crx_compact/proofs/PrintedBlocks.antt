@@ -21,10 +21,7 @@ pub head-printed : (count : ℕ) (tail : Tail) (line : List ℕ) (none block : P
     → block.lines ≡ none.lines ++ line ∷ [] → HasTakenLine none block
     → line ≡ printed_head (columns tail.text 1 HEAD_WIDTH) (shown_value tail.clock)
     → IsPrinted count tail block
-head-printed count tail line none block zero emptied lines taken is = record {
-  lines = lines ∙ (λ j. PendingLines.lines (emptied j) ++ is j ∷ []) ∙ ap (λ n. lines_to n tail) (sym zero);
-  left = omega (arith, zero, taken.left, ap (λ (l : PendingLines). l.left) emptied);
-}
+head-printed count tail line none block zero emptied lines taken is = grind arith
 
 -- one row more
 pub row-printed : (tail : Tail) (count : ℕ) (row : RowTail) (old new : PendingLines)

@@ -1,11 +1,11 @@
 -- Rows one by one: what holds of each, and what is made of those up to an index.
-use Rattle.crx_compact.proofs.Words.{◌≡◌, ◌<◌, ◌+◌, ◌++◌, ◌∷◌, [], ℕ, zero, suc, List, Option, Some, All}
+use Rattle.crx_compact.proofs.Words.{◌≡◌, ◌<◌, ◌+◌, ◌++◌, ◌∷◌, [], ℕ, List, Option, Some, All}
 use Rattle.crx_compact.proofs.Words.{length, same_Some}
-use Rattle.crx_compact.proofs.Words.{take, map, slice_get, refl, sym, ◌∙◌, subst, arith}
+use Rattle.crx_compact.proofs.Words.{take, map, slice_get, sym, ◌∙◌, subst, arith}
 use Rattle.crx_compact.proofs.Words.{map-append, slice_get_within}
 use Rattle.crx_compact.proofs.{Words.{printed_row, shown_row, RowTail}, Making.taken_more}
 use Rattle.crx_compact.specs.Entries.{Entry}
-use Rattle.std.proofs.{Common.{Bool, IsTrue, append_assoc, ◌≤◌, ◌↔◌}, lemmas.Option.get_or_from_slice_get}
+use Rattle.std.proofs.{Common.{Bool, IsTrue, append_assoc, ◌≤◌, ◌↔◌}, lemmas.Option.{get_or_from_slice_get, slice_get_cases}}
 use Rattle.std.proofs.lemmas.List.{Elements.All-push}
 
 -- ---- what holds of each
@@ -32,9 +32,7 @@ pub record IsThere {X : Type 0} (xs : List X) (k : ℕ) : Type 0 where
   pub there : slice_get xs k ≡ Some item
 
 pub is-there : {X : Type 0} (xs : List X) (k : ℕ) → k < length xs → IsThere xs k
-is-there [] k within = absurd (omega (arith, within))
-is-there (x ∷ xs) zero within = record { item = x; there = refl }
-is-there (x ∷ xs) (suc k) within = grind (arith, is-there xs k (omega (arith, within)))
+is-there xs k within = grind (arith, slice_get_cases xs k)
 
 -- ---- printed rows
 

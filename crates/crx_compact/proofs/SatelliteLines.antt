@@ -4,56 +4,42 @@ use Rattle.crx_compact.proofs.Words.{list_all, ◌≡◌, ◌≤◌, refl, ℕ, 
 use Rattle.crx_compact.proofs.Words.{drop, Option, Result, Ok, Err, ap, arith, length-take-le, Fault}
 use Rattle.crx_compact.proofs.Words.{BadFlags, columns, is_blank, without_end_blanks, patched, at}
 use Rattle.crx_compact.proofs.Words.{begins_epoch, are_marks, cells_of, cells_read, ArcTail, value_at_place}
-use Rattle.crx_compact.proofs.Words.{HeldRow, shown_row, RowTail, CellsAreRead, row_held_from}
+use Rattle.crx_compact.proofs.Words.{RowTail, CellsAreRead, row_held_from}
 use Rattle.std.proofs.Math.Seq.{drop-nil}
 use Rattle.crx_compact.proofs.SoundTexts.{first-columns, patched-trimmed}
 use Rattle.crx_compact.proofs.Marks.{columns-left, line-held}
 
 -- how the line of a satellite of which so many types are stored is read
-abbrev pub stored_read : List ℕ → List (Option ArcTail) → ℕ → List ℕ → List ℕ → Result HeldRow Fault
+abbrev pub stored_read : List ℕ → List (Option ArcTail) → ℕ → List ℕ → List ℕ → Result RowTail Fault
 stored_read indicators arcs count line name =
     row_held_from (take count arcs) (without_end_blanks (take (2 * count) indicators))
     (record { name = name; count = length (take count arcs) }) line
 
-counted : (indicators : List ℕ) (arcs : List (Option ArcTail)) (count : ℕ) (line name : List ℕ)
-    → count ≤ length arcs → stored_read indicators arcs count line name
-    ≡ row_held_from (take count arcs) (take (2 * count) indicators)
-    (record { name = name; count = count }) line
-counted indicators arcs count line name h = grind (arith, length-take-le, fun_ext, patched-trimmed)
+module _ (indicators : List ℕ) (arcs : List (Option ArcTail)) (count : ℕ) (line : List ℕ)
+    (h : count ≤ length arcs) (other : begins_epoch line ≡ false) where
+  counted : (name : List ℕ) → stored_read indicators arcs count line name ≡ row_held_from (take count arcs)
+      (take (2 * count) indicators) (record { name = name; count = count }) line
+  counted name = grind (arith, length-take-le, fun_ext, patched-trimmed)
 
--- what is kept of the satellite afterwards
-abbrev kept_row : List ℕ → List (Option ArcTail) → ℕ → List ℕ → RowTail
-kept_row indicators arcs count name = record {
-  name = name;
-  flags = without_end_blanks (take (2 * count) indicators);
-  cells = take count arcs;
-}
+  pub cells-refused : {fault : Fault}
+      → cells_read (value_at_place (take count arcs)) (cells_of count line) ≡ Err fault
+      → (name : List ℕ) → stored_read indicators arcs count line name ≡ Err fault
+  cells-refused e name = grind (arith, counted)
 
-pub stored-read : (indicators indicators' : List ℕ) (arcs arcs' : List (Option ArcTail)) (count : ℕ)
-    (line : List ℕ) (at : ℕ) → count ≤ length arcs → begins_epoch line ≡ false
-    → CellsAreRead (take count arcs) count line (take count arcs') at → are_marks count (drop at line) ≡ true
-    → take (2 * count) indicators'
-    ≡ columns (patched (take (2 * count) indicators) (drop at line)) 1 (2 * count)
-    → (name : List ℕ) → stored_read indicators arcs count line name
-    ≡ Ok (let kept = kept_row indicators' arcs' count name in record { row = shown_row kept; tail = kept })
-stored-read indicators indicators' arcs arcs' count line at h other read good held name =
-    let read_held = line-held (take count arcs) (take (2 * count) indicators)
-    (record { name = name; count = count }) line (take count arcs') at name (take (2 * count) indicators')
-    other read good refl held in
-    cc (counted indicators arcs count line name h)
+  module _ {at : ℕ} {left : List (Option ArcTail)} (read : CellsAreRead (take count arcs) count line left at) where
+    pub flags-refused : {fault : Fault} → (are_marks count (drop at line) ≡ false) × (fault ≡ BadFlags)
+        → (name : List ℕ) → stored_read indicators arcs count line name ≡ Err fault
+    flags-refused e name = grind (arith, counted)
 
-pub cells-refused : (indicators : List ℕ) (arcs : List (Option ArcTail)) (count : ℕ) (line : List ℕ)
-    (fault : Fault) → count ≤ length arcs → begins_epoch line ≡ false
-    → cells_read (value_at_place (take count arcs)) (cells_of count line) ≡ Err fault
-    → (name : List ℕ) → stored_read indicators arcs count line name ≡ Err fault
-cells-refused indicators arcs count line fault h other e name = grind (arith, counted)
-
-pub flags-refused : (indicators : List ℕ) (arcs left : List (Option ArcTail)) (count : ℕ)
-    (line : List ℕ) (at : ℕ) (fault : Fault) → count ≤ length arcs → begins_epoch line ≡ false
-    → CellsAreRead (take count arcs) count line left at
-    → (are_marks count (drop at line) ≡ false) × (fault ≡ BadFlags)
-    → (name : List ℕ) → stored_read indicators arcs count line name ≡ Err fault
-flags-refused indicators arcs left count line at fault h other read e name = grind (arith, counted)
+    pub stored-read : {held : List ℕ} → are_marks count (drop at line) ≡ true
+        → held ≡ columns (patched (take (2 * count) indicators) (drop at line)) 1 (2 * count)
+        → (name : List ℕ) → stored_read indicators arcs count line name
+        ≡ Ok (record { name = name; flags = without_end_blanks held; cells = left })
+    stored-read good held name = cc (
+      counted name,
+      line-held (take count arcs) (take (2 * count) indicators)
+          (record { name = name; count = count }) line left at _ other read good held,
+    )
 
 -- ---- without marks
 

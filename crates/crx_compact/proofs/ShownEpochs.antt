@@ -1,8 +1,8 @@
 -- The epoch that a history shows, row by row: each row goes after those before it.
 use Rattle.crx_compact.proofs.Words.{◌≡◌, slice_get, length-map, map-append, Satellite}
-use Rattle.crx_compact.proofs.Words.{ℕ, List, take, Some, None, true, ◌==◌, Result, arith, Fault}
-use Rattle.crx_compact.proofs.Words.{◌<◌, [], Ok, ℤ, ◌+◌, ◌∷◌, Tail, Row}
-use Rattle.crx_compact.proofs.Words.{length, Option, is_ok, take_all, BadEpoch, with_row, shown_row}
+use Rattle.crx_compact.proofs.Words.{ℕ, List, take, Some, None, true, Result, arith, Fault}
+use Rattle.crx_compact.proofs.Words.{[], Ok, ℤ, ◌+◌, ◌∷◌, Tail, Row}
+use Rattle.crx_compact.proofs.Words.{◌==◌, ◌<◌, length, Option, is_ok, take_all, BadEpoch, with_row, shown_row}
 use Rattle.crx_compact.proofs.Words.{false, slice_get_within, length-take-le, tail_of_history}
 use Rattle.crx_compact.proofs.Words.{has_satellite, satellite_of}
 use Rattle.crx_compact.proofs.Words.{epoch_count, RowTail, shown_epoch, IsAnnounced, OpenHistory}
@@ -14,17 +14,14 @@ use Rattle.crx_rinex.specs.meaning.EpochLines.{ObservationHead}
 
 -- ---- the clock line
 
-pub line-made : (line : Result ObservationHead Fault) (head : List ℕ) (clock : Option ℤ)
-    → MatchResult line (λ (l : ObservationHead). (epoch_count head ≡ Some l.count)
-    × (l.head ≡ head) × (l.clock ≡ clock)) (λ fault. (epoch_count head ≡ None) × (fault ≡ BadEpoch))
-    → is_some (epoch_count head) ≡ true → is_ok line ≡ true
-line-made line head clock h e = grind arith
+module _ (line : Result ObservationHead Fault) (head : List ℕ) (clock : Option ℤ)
+    (h : MatchResult line (λ (l : ObservationHead). (epoch_count head ≡ Some l.count)
+    × (l.head ≡ head) × (l.clock ≡ clock)) (λ fault. (epoch_count head ≡ None) × (fault ≡ BadEpoch))) where
+  pub line-made : is_some (epoch_count head) ≡ true → is_ok line ≡ true
+  line-made e = grind arith
 
-pub made-line : (line : Result ObservationHead Fault) (head : List ℕ) (clock : Option ℤ) (l : ObservationHead)
-    → MatchResult line (λ (l : ObservationHead). (epoch_count head ≡ Some l.count)
-    × (l.head ≡ head) × (l.clock ≡ clock)) (λ fault. (epoch_count head ≡ None) × (fault ≡ BadEpoch))
-    → line ≡ Ok l → begun l ≡ record { head = head; clock = clock; rows = [] }
-made-line line head clock l h e = grind arith
+  pub made-line : {l : ObservationHead} → line ≡ Ok l → begun l ≡ record { head = head; clock = clock; rows = [] }
+  made-line e = grind arith
 
 -- ---- rows
 

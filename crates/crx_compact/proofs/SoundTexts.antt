@@ -2,7 +2,7 @@
 use Rattle.crx_compact.proofs.Words.{◌≡◌, patched, columns, few_kept, list_all, ◌≤◌, ℕ, ◌*◌, ◌∷◌, ap, ◌∙◌}
 use Rattle.crx_compact.proofs.Words.{◌<◌, ◌+◌, ◌-◌, at, refl, true, List, length, take, arith, is_kept, Bool}
 use Rattle.crx_compact.proofs.Words.{drop, [], replicate, IsAllowedCount, length-columns, flags_held}
-use Rattle.crx_compact.proofs.Words.{common_steps, by_position, ◌++◌, list_all-from_at, at-drop}
+use Rattle.crx_compact.proofs.Words.{common_steps, by_position, mark_of, get_or_past, ◌++◌, list_all-from_at, at-drop}
 use Rattle.crx_compact.proofs.Words.{at-without_end_blanks, columns-are, without_end_blanks, text_difference}
 use Rattle.crx_compact.proofs.Characters.{all-take, list_all-at, at-take_past, at-by_position}
 use Rattle.crx_compact.proofs.{Words.{cases_lt, rules, AreHeldFlags}, PlaceByPlace.{at-padded, at-take}}
@@ -82,13 +82,13 @@ before-trimmed old new = search (rules, same_characters, at-by_position, at-with
 
 -- ---- lengths
 
-by_position-length : (f : ℕ → ℕ → ℕ) (xs ys : List ℕ)
-    → length (by_position f xs ys) ≡ length xs + (length ys - length xs)
-by_position-length f [] [] = omega arith
-by_position-length f (x ∷ xs) [] = omega (arith, by_position-length f xs [])
-by_position-length f [] (y ∷ ys) = omega (arith, by_position-length f [] ys)
-by_position-length f (x ∷ xs) (y ∷ ys) = omega (arith, by_position-length f xs ys)
-
 pub difference-length : (n : ℕ) (old new : List ℕ)
     → length old ≤ n → length new ≤ n → length (text_difference old new) ≤ n
-difference-length n old new h k = search (rules, few_kept, by_position-length)
+difference-length n old new h k =
+    let cut = cut-all n (by_position mark_of old new) (λ p. grind (
+      arith,
+      at-by_position mark_of refl old new (n + p),
+      get_or_past old (n + p) 32,
+      get_or_past new (n + p) 32,
+    )) in
+    omega (arith, ap length cut, few_kept (take n (by_position mark_of old new)), length-take n (by_position mark_of old new))

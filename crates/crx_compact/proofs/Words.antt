@@ -13,7 +13,7 @@ pub use Rattle.crx_compact.specs.ArcSteps.{shown_value, arc_of_value, code_of_va
 pub use Rattle.crx_compact.specs.ArcSteps.{value_of_code, differences_after, differences_by, onto_sum}
 pub use Rattle.crx_compact.specs.ArcTails.{ArcTail, arc_tail, started_tail, differences_of, values_of}
 pub use Rattle.crx_compact.specs.Cells.{value_at_place, CellsAreRead}
-pub use Rattle.crx_compact.specs.HeldRows.{past_of_tail, IsAwaitedSatellite, held_row, HeldRow, arcs_of_tail}
+pub use Rattle.crx_compact.specs.HeldRows.{past_of_tail, IsAwaitedSatellite, held_row, arcs_of_tail}
 pub use Rattle.crx_compact.specs.HeldRows.{held_from, past_of_row, row_held, row_held_from, AreHeldFlags}
 pub use Rattle.crx_compact.specs.Laws.{AreWhole, patched_in_turn, CodesFit, has_no_epochs, LinesCanStand}
 pub use Rattle.crx_compact.specs.Blocks.{cut, AreCut, HasFront, PendingLines, lines_text}

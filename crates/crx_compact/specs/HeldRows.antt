@@ -16,7 +16,6 @@ use Rattle.crx_compact.specs.ArcTails.{ArcTail}
 use Rattle.crx_compact.specs.Tails.{RowTail, Tail}
 use Rattle.crx_compact.specs.Steps.{flags_of_tail, flags_held, tail_named, cell_of_tail, raw_row_tail_after}
 use Rattle.crx_compact.specs.Cells.{arcs_of_codes, value_at_place}
-use Rattle.crx_rinex.specs.meaning.Observations.{Row}
 use Rattle.crx_compact.specs.ArcSteps.{value_of_code}
 
 -- indicators that a history may have: no more than a line has, of the characters that may be there
@@ -45,30 +44,22 @@ past_of_row arcs flags =
       flags = λ name marks. patched flags marks;
     }
 
--- a satellite's row, and the satellite's tail after it
-pub record HeldRow : Type 0 where
-  pub row : Row
-  pub tail : RowTail
-
--- a row that was read, and what it leaves of its satellite
-abbrev pub held_from : List (Option ArcTail) → List ℕ → ReadRow → HeldRow
+-- what a row that was read leaves of its satellite
+abbrev pub held_from : List (Option ArcTail) → List ℕ → ReadRow → RowTail
 held_from arcs flags read =
     record {
-      row = read.row;
-      tail = record {
-        name = read.raw.name;
-        flags = flags_held (length read.raw.codes) (patched flags read.raw.marks);
-        cells = arcs_of_codes arcs read.raw.codes;
-      };
+      name = read.raw.name;
+      flags = flags_held (length read.raw.codes) (patched flags read.raw.marks);
+      cells = arcs_of_codes arcs read.raw.codes;
     }
 
--- what a satellite's line makes after its arcs and indicators, or its first fault
-abbrev pub row_held_from : List (Option ArcTail) → List ℕ → Satellite → List ℕ → Result HeldRow Fault
+-- what a satellite's line leaves after its arcs and indicators, or its first fault
+abbrev pub row_held_from : List (Option ArcTail) → List ℕ → Satellite → List ℕ → Result RowTail Fault
 row_held_from arcs flags satellite line =
     and_then (satellite_line_read (past_of_row arcs flags) satellite line) (λ read. Ok (held_from arcs flags read))
 
 -- a satellite's line read after the satellite's history, or after none
-abbrev pub row_held : Option RowTail → Satellite → List ℕ → Result HeldRow Fault
+abbrev pub row_held : Option RowTail → Satellite → List ℕ → Result RowTail Fault
 row_held kept satellite line = row_held_from (arcs_of_tail kept) (flags_of_tail kept) satellite line
 
 abbrev pub past_of_tail : Tail → Past
@@ -80,10 +71,10 @@ past_of_tail tail =
       flags = λ name marks. patched (flags_of_tail (tail_named name tail)) marks;
     }
 
-abbrev pub held_row : Tail → ReadRow → HeldRow
-held_row before read = record { row = read.row; tail = raw_row_tail_after (tail_named read.raw.name before) read.raw }
+abbrev pub held_row : Tail → ReadRow → RowTail
+held_row before read = raw_row_tail_after (tail_named read.raw.name before) read.raw
 
 -- a satellite's line read after the history of all satellites
-abbrev pub row_after : Tail → Satellite → List ℕ → Result HeldRow Fault
+abbrev pub row_after : Tail → Satellite → List ℕ → Result RowTail Fault
 row_after tail satellite line =
     and_then (satellite_line_read (past_of_tail tail) satellite line) (λ read. Ok (held_row tail read))

@@ -24,7 +24,7 @@ use Rattle.crx_compact.specs.ArcTails.{ArcTail, IsBoundedArc}
 use Rattle.crx_compact.specs.Tails.{RowTail, Tail, IsBoundedRowTail, IsBoundedTail}
 use Rattle.crx_compact.specs.Steps.{no_tail, raw_tail_after, tail_named}
 use Rattle.crx_compact.specs.ArcSteps.{arc_of_code, value_of_code}
-use Rattle.crx_compact.specs.HeldRows.{past_of_tail, HeldRow, row_held}
+use Rattle.crx_compact.specs.HeldRows.{past_of_tail, row_held}
 use Rattle.crx_compact.specs.Placing.{padded, satellite_of}
 use Rattle.crx_compact.specs.ShownRows.{shown_epoch}
 
@@ -158,10 +158,10 @@ raw_step_with_clock begun (Err fault) = Faulty fault
 raw_step_with_clock begun (Ok cell) =
     step_with_rows (record (tail_so_far begun) { clock = arc_of_code cell.code (arc_in begun.clock) }) begun.count
 
-abbrev pub raw_step_with_row : OpenRawEpoch → Result HeldRow Fault → RawStep
+abbrev pub raw_step_with_row : OpenRawEpoch → Result RowTail Fault → RawStep
 raw_step_with_row begun (Err fault) = Faulty fault
-raw_step_with_row begun (Ok held) =
-    step_with_rows (record (tail_so_far begun) { rows = slice_set begun.rows begun.count held.tail }) (suc begun.count)
+raw_step_with_row begun (Ok left) =
+    step_with_rows (record (tail_so_far begun) { rows = slice_set begun.rows begun.count left }) (suc begun.count)
 
 abbrev pub row_step : OpenRawEpoch → Option RowTail → List ℕ → RawStep
 row_step begun None line = Whole (whole_epoch (tail_so_far begun))

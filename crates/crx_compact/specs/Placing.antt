@@ -10,14 +10,14 @@ use Rattle.crx_compact.specs.meaning.EpochText.{Satellite}
 use Rattle.crx_compact.specs.meaning.Sequences.{named}
 use Rattle.std.specs.Prelude.{Err, IfErr, IfOk, IsOk, Ok, OnOk, Result, ◌⊎◌, slice_get, slice_set, take}
 use Rattle.crx_header.specs.meaning.ObservationTypes.{Count, IsAllowedCount}
-use Rattle.crx_compact.specs.HeldRows.{AreHeldFlags, HeldRow, IsAwaitedSatellite, row_held}
+use Rattle.crx_compact.specs.HeldRows.{AreHeldFlags, IsAwaitedSatellite, row_held}
 use Rattle.crx_base.specs.declared.fault.Fault.{Fault}
 use Rattle.crx_base.specs.declared.fault.Fault.TheVariants.{BadFlags}
 use Rattle.crx_text.specs.meaning.Texts.{text_difference}
 use Rattle.crx_compact.specs.Cells.{arcs_of_cells}
 use Rattle.crx_compact.specs.RowsSoFar.{AreAnnounced, NamesSatellites}
 use Rattle.crx_compact.specs.ShownRows.{shown_row}
-use Rattle.crx_compact.specs.Steps.{cell_of_tail, flags_of_tail, flags_held, row_line_after}
+use Rattle.crx_compact.specs.Steps.{cell_of_tail, flags_of_tail, flags_held, row_line_after, row_tail_after}
 use Rattle.crx_compact.specs.Tails.{RowTail, Tail}
 use Rattle.crx_rinex.specs.meaning.Observations.{Row}
 use Rattle.crx_text.specs.meaning.Numbers.{IsValue}
@@ -175,8 +175,8 @@ padded_among rows satellite = padded satellite (row_tail_named satellite.name ro
 abbrev pub satellite_of : RowTail → Satellite
 satellite_of row = record { name = row.name; count = length row.cells }
 
--- what a satellite's line makes of what is stored of the satellite: its row, and what is stored after it; or its fault
-abbrev pub row_read : RowTail → List ℕ → Result HeldRow Fault
+-- what a satellite's line makes of what is stored of the satellite: what is stored after it, or its fault
+abbrev pub row_read : RowTail → List ℕ → Result RowTail Fault
 row_read row line = row_held (Some row) (satellite_of row) line
 
 -- marks were read over the indicators of so many types, which are then as the marks change them; or they are no
@@ -187,11 +187,10 @@ pub record AnswersMarks (count : ℕ) (marks old new : List ℕ) (answer : Resul
   pub kept : AreHeldFlags (take (2 * count) new)
   pub err : IfErr answer (λ fault. (are_marks count marks ≡ false) × (fault ≡ BadFlags))
 
--- a satellite's line was read, whatever its identifier is: what is stored after it shows the row; or its fault is answered. The satellite has
--- as many types as before, and as much room
+-- a satellite's line was read, whatever its identifier is: what it leaves is stored; or its fault is answered. The satellite has as many types
+-- as before, and as much room
 pub record AnswersReading (line : List ℕ) (old new : SatelliteTail) (answer : Result (Unit {0}) Fault) : Type 0 where
-  pub ok : OnOk answer ((name : List ℕ) → row_read (row_tail_of name old) line
-      ≡ Ok (record { row = shown_row (row_tail_of name new); tail = row_tail_of name new }))
+  pub ok : OnOk answer ((name : List ℕ) → row_read (row_tail_of name old) line ≡ Ok (row_tail_of name new))
   pub err : IfErr answer (λ fault. (name : List ℕ) → row_read (row_tail_of name old) line ≡ Err fault)
   pub sized : length new.cells ≡ length old.cells
   pub room : new.room ≡ old.room
@@ -261,12 +260,12 @@ pub record IsAnnounced (history : OpenHistory) : Type 0 where
   pub named : NamesSatellites history.text (map satellite_of history.satellites.rows)
   pub satellites : All IsAwaitedSatellite (map satellite_of history.satellites.rows)
 
--- the satellite line of the row at a place was read: what it leaves of the satellite, which shows the row, is in its place
+-- the satellite line of the row at a place was read: what it leaves of the satellite is in its place
 pub record IsRowRead (place : ℕ) (line : List ℕ) (old new : PlacedRows) : Type 0 where
   pub row : RowTail
   pub there : slice_get old.rows place ≡ Some row
   pub left : RowTail
-  pub read : row_held (Some row) (satellite_of row) line ≡ Ok (record { row = shown_row left; tail = left })
+  pub read : row_held (Some row) (satellite_of row) line ≡ Ok left
   pub name : left.name ≡ row.name
   pub sized : length left.cells ≡ length row.cells
   pub rows : new.rows ≡ slice_set old.rows place left

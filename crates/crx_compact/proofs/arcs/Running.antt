@@ -72,11 +72,8 @@ take-after (suc n) value (d ∷ ds) = ap (λ r. value ∷ r) (take-after n (valu
 
 -- ---- the same place by place, as a loop goes
 
-record NextBelow (k : ℕ) (ds : List ℤ) : Type 0 where
-  first : IsBelow (order_bound k) (slice_index_or ds k (pos 0))
-  rest : AreBelow (order_bound (k + 1)) (drop (k + 1) ds)
-
-next-below : (k : ℕ) (ds : List ℤ) → k < length ds → AreBelow (order_bound k) (drop k ds) → NextBelow k ds
+next-below : (k : ℕ) (ds : List ℤ) → k < length ds → AreBelow (order_bound k) (drop k ds)
+    → IsBelow (order_bound k) (slice_index_or ds k (pos 0)) × AreBelow (order_bound (k + 1)) (drop (k + 1) ds)
 next-below k ds h hs = search (rules, from-place (pos 0) k ds h)
 
 -- a number that fits is what its bits stand for
@@ -192,25 +189,22 @@ length-after : (value : ℤ) (ds : List ℤ) → length (differences_after value
 length-after value [] = refl
 length-after value (d ∷ ds) = ap suc (length-after (value -ℤ d) ds)
 
--- the order that the differences at a next value reach
-pub record IsLast (order count last : ℕ) : Type 0 where
-  pub least : last ≡ min order count
-
-lower-taken : (order count last : ℕ) (ds : List ℤ) → IsLast order count last
+-- the differences up to the order that those at a next value reach
+lower-taken : (order count last : ℕ) (ds : List ℤ) → last ≡ min order count
     → take order (take count ds) ≡ take last ds
-lower-taken order count last ds e = cc (take-take order count ds, e.least)
+lower-taken order count last ds e = cc (take-take order count ds, e)
 
 -- the differences that a next one needs are as small
 pub lower-below : (order count last : ℕ) (ds : List ℤ)
-    → IsLast order count last → AreBelow value_bound (take count ds) → AreBelow value_bound (take last ds)
+    → last ≡ min order count → AreBelow value_bound (take count ds) → AreBelow value_bound (take last ds)
 lower-below order count last ds e h =
     rw (← lower-taken order count last ds e) (take-below value_bound order (take count ds) h)
 
 -- the same of an arc of order 3 that has all of its differences
 module _ (width order count : ℕ) (ds : List ℤ) (third : (order ≡ 3) × (count ≡ 4))
     (kept : IsArcInRange width order count (take count ds)) (long : length ds ≡ 10) where
-  pub third-last : IsLast order count 3
-  third-last = record { least = omega (arith, third.0, third.1) }
+  pub third-last : 3 ≡ min order count
+  third-last = omega (arith, third.0, third.1)
 
   pub to-third-kept : (value : ℤ) → IsWithin width value → ToThird value ds
   to-third-kept value h = search (rules, to-third, within-below, lower-below, third-last)
@@ -236,7 +230,7 @@ pub record GoesOn (order count last : ℕ) (value : ℤ) (ds : List ℤ) : Type 
       ≡ arc_of_value (Some value) (kept_tail order (take count ds))
 
 pub goes-on : (order count last : ℕ) (value : ℤ) (ds : List ℤ)
-    → IsLast order count last → 0 < count → 0 < length ds → GoesOn order count last value ds
+    → last ≡ min order count → 0 < count → 0 < length ds → GoesOn order count last value ds
 goes-on order (suc count) last value (d ∷ ds) e h l =
     let after = take-after order value (take (suc count) (d ∷ ds)) in
     let lower = lower-taken order (suc count) last (d ∷ ds) e in
@@ -249,7 +243,7 @@ newest-after : (width : ℕ) (value : ℤ) (ds : List ℤ)
 newest-after width value [] h = h
 newest-after width value (d ∷ ds) h = h
 
-pub goes-on-kept : (width order count last : ℕ) (ds ds' : List ℤ) (value : ℤ) → IsLast order count last
+pub goes-on-kept : (width order count last : ℕ) (ds ds' : List ℤ) (value : ℤ) → last ≡ min order count
     → IsArcInRange width order count (take count ds) → IsWithin width value → take (last + 1) ds'
     ≡ differences_after value (take last ds) → IsArcInRange width order (last + 1) (take (last + 1) ds')
 goes-on-kept width order count last ds ds' value e k h after =
@@ -270,20 +264,14 @@ pub record StepsOn (width order count last : ℕ) (number value : ℤ) (ds : Lis
   pub tail : kept_tail order (differences_after value (take last ds))
       ≡ arc_of_code (Step number) (kept_tail order (take count ds))
 
-pub steps-on : (width order count last : ℕ) (number value : ℤ) (ds : List ℤ)
-    → IsLast order count last → 0 < count → 0 < length ds
-    → value ≡ newest (differences_by number (take last ds)) → StepsOn width order count last number value ds
-steps-on width order (suc count) last number value (d ∷ ds) e h l v =
-    let lower = lower-taken order (suc count) last (d ∷ ds) e in
-    search (rules, some-kept, by-after)
-steps-on width order count last number value ds e h l v = absurd (omega arith)
-
--- what the number of a next code leads to
 pub stepped : (width order count last : ℕ) (number value : ℤ) (ds : List ℤ) → last ≡ min order count
     → 0 < count → length ds ≡ 10 → value ≡ newest (differences_by (to_z w64 (of_z w64 number)) (take last ds))
     → FitsSigned w64 number → StepsOn width order count last number value ds
-stepped width order count last number value ds e h l v f = steps-on width order count last number value ds
-    (record { least = e }) h (omega arith) (cc (v, same-bits number f))
+stepped width order (suc count) last number value (d ∷ ds) e h l v f =
+    let lower = lower-taken order (suc count) last (d ∷ ds) e in
+    let same = same-bits number f in
+    search (rules, some-kept, by-after)
+stepped width order count last number value ds e h l v f = absurd (omega arith)
 
 -- the highest difference at a next value in range is a number that a code may have
 highest-below : (k : ℕ) (ds : List ℤ) → length ds + k ≤ 10 → AreBelow (order_bound k) ds
@@ -292,7 +280,7 @@ highest-below k (d ∷ e ∷ es) few h = highest-below (suc k) (e ∷ es) (omega
 highest-below k x few h = grind (arith, common_steps, order-bound-within, below-short)
 
 pub highest-short : (width order count last : ℕ) (value : ℤ) (ds : List ℤ)
-    → IsLast order count last → IsArcInRange width order count (take count ds) → IsWithin width value
+    → last ≡ min order count → IsArcInRange width order count (take count ds) → IsWithin width value
     → IsShort (highest (differences_after value (take last ds)))
 highest-short width order count last value ds e k h = highest-below 0 (differences_after value (take last ds))
     (omega (arith, length-after value (take last ds), length-take last ds, k.order_within))

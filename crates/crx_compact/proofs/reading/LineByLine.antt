@@ -1,7 +1,7 @@
 -- The steps of a reader, line by line, agree with what is at all lines so far.
-use Rattle.crx_compact.proofs.Words.{◌≡◌, slice_get, Satellite, rows_read, tail_named, opened_raw, held_after}
+use Rattle.crx_compact.proofs.Words.{◌≡◌, Satellite, rows_read, tail_named, opened_raw, held_after}
 use Rattle.crx_compact.proofs.Words.{refl, List, [], arith, Fault, Count, Place, Fails, padded}
-use Rattle.crx_compact.proofs.Words.{rules, ℕ, Result, Content, ReadRow, ArcTail, RowTail, HeldRow, RawStep}
+use Rattle.crx_compact.proofs.Words.{rules, ℕ, Result, Content, ReadRow, ArcTail, RowTail, RawStep}
 use Rattle.crx_compact.proofs.Words.{opening, suc, patched, ReadLine, one_line, and_then, ReadCell, held_row}
 use Rattle.crx_compact.proofs.Words.{row_step, ◌+◌, ◌∷◌, ◌++◌, map, Some, None, Ok, Err, sym, ◌∙◌, ap, Done}
 use Rattle.crx_compact.proofs.Words.{Tail, length, clock_line_read, epoch_after_line, tail_for_line}
@@ -24,7 +24,7 @@ use Rattle.std.proofs.lemmas.Option.{slice_get_past}
 
 -- what the lines of some rows leave of their satellites
 abbrev rows_left : Tail → List ReadRow → List RowTail
-rows_left before rows = map (λ (r : ReadRow). (held_row before r).tail) rows
+rows_left before rows = map (held_row before) rows
 
 -- a tail with these rows
 abbrev tail_with : List ℕ → Option ArcTail → List RowTail → Tail
@@ -41,7 +41,7 @@ row_onto read lines p = then_place p lines (λ more rest. Done (read ∷ more) 0
 
 one-more : (before : Tail) (text : List ℕ) (arc : Option ArcTail)
     (rows : List RowTail) (read : ReadRow) (lines : List ReadLine) (count : ℕ) (p : Place (List ReadRow))
-    → after_lines (suc (suc count)) (rows_placed before text arc (rows ++ (held_row before read).tail ∷ []) p)
+    → after_lines (suc (suc count)) (rows_placed before text arc (rows ++ held_row before read ∷ []) p)
     ≡ after_lines (suc count) (rows_placed before text arc rows (after_lines 1 (row_onto read lines p)))
 one-more before text arc rows read lines count p = grind (arith, common_steps, append_assoc)
 
@@ -52,16 +52,13 @@ rows-steps : (before : Tail) (text : List ℕ) (arc : Option ArcTail) (rows : Li
     after_lines (suc count) (rows_placed before text arc rows (rows_read (past_of_tail before) awaited lines))
 rows-steps before text arc rows [] count lines = grind (arith, common_steps, tail_with, slice_get_past)
 rows-steps before text arc rows (s ∷ ss) count (Content line ∷ lines) =
-    let row : RowTail = padded s (tail_named s.name before) in
     let tail : Tail = tail_with text arc (rows ++ rows_before before (s ∷ ss)) in
-    let there : slice_get tail.rows (length rows) ≡ Some row = at-seam rows (rows_before before ss) row in
-    ap {B = Place HeldEpoch} (λ (o : Option RowTail). place_of_steps count
-    (whole_or_awaiting tail (length rows) o) (Content line ∷ lines)) there ∙ ap {B = Place HeldEpoch}
-    (λ (o : Option RowTail). place_of_steps (suc count) (row_step (with_rows tail (length rows)) o line)
-    lines) there ∙ ap {B = Place HeldEpoch} (λ (r : Result HeldRow Fault). place_of_steps
-    (suc count) (raw_step_with_row (with_rows tail (length rows)) r) lines) (row-opened before s line)
+    let there = at-seam rows (rows_before before ss) (padded s (tail_named s.name before)) in
+    (λ j. place_of_steps count (whole_or_awaiting tail (length rows) (there j)) (Content line ∷ lines))
+    ∙ (λ j. place_of_steps (suc count) (row_step (with_rows tail (length rows)) (there j) line) lines)
+    ∙ (λ j. place_of_steps (suc count) (raw_step_with_row (with_rows tail (length rows)) (row-opened before s line j)) lines)
     ∙ step (satellite_line_read (past_of_tail before) s line)
-    (λ read. rows-steps before text arc (rows ++ (held_row before read).tail ∷ []) ss (suc count) lines)
+    (λ read. rows-steps before text arc (rows ++ held_row before read ∷ []) ss (suc count) lines)
   where
     opened : List RowTail
     opened = rows_before before ss
@@ -70,16 +67,16 @@ rows-steps before text arc rows (s ∷ ss) count (Content line ∷ lines) =
     so_far = with_rows (tail_with text arc (rows ++ rows_before before (s ∷ ss))) (length rows)
 
     step : (r : Result ReadRow Fault) → ((read : ReadRow) → place_of_steps (suc count)
-        (step_with_rows (tail_with text arc ((rows ++ (held_row before read).tail ∷ []) ++ opened)) (length
-        (rows ++ (held_row before read).tail ∷ []))) lines ≡ after_lines (suc (suc count)) (rows_placed before
-        text arc (rows ++ (held_row before read).tail ∷ []) (rows_read (past_of_tail before) ss lines)))
+        (step_with_rows (tail_with text arc ((rows ++ held_row before read ∷ []) ++ opened)) (length
+        (rows ++ held_row before read ∷ []))) lines ≡ after_lines (suc (suc count)) (rows_placed before
+        text arc (rows ++ held_row before read ∷ []) (rows_read (past_of_tail before) ss lines)))
         → place_of_steps (suc count)
         (raw_step_with_row so_far (and_then r (λ (read : ReadRow). Ok (held_row before read)))) lines
         ≡ after_lines (suc count) (rows_placed before text arc rows (then_place (one_line r)
         (Content line ∷ lines) (λ row more. row_onto row more (rows_read (past_of_tail before) ss more))))
     step (Err q) next = ap {B = Place HeldEpoch} (λ k. Fails k q) (omega arith)
     step (Ok read) next =
-        let left : RowTail = (held_row before read).tail in
+        let left : RowTail = held_row before read in
         let many : suc (length rows) ≡ length (rows ++ left ∷ []) = search (rules, length-append) in
         let set = set-next rows opened (padded s (tail_named s.name before)) left in
         let more = rows_read (past_of_tail before) ss lines in
@@ -114,7 +111,7 @@ read_rows-held : (before : Tail) (line : List ℕ) (satellites : List Satellite)
     ≡ after_lines 2 (rows_placed before (patched before.text line) (arc_of_code cell.code before.clock) [] p)
 read_rows-held before line satellites cell tail lines (Done rows n) h clock e =
     let facts = rows-facts (past_of_tail before) satellites lines rows n e in
-    search (rules, map-map, take_all, facts.counted, rows-shown)
+    search (rules, map-map, take_all, facts.2, facts.3, rows-shown)
 read_rows-held before line satellites cell tail lines p h clock e = grind arith
 
 clock-steps : (before : Tail) (line : List ℕ) (satellites : List Satellite)
@@ -171,21 +168,17 @@ wanted-where_open types tail (line ∷ lines) =
 
 -- a step more, where the lines so far make an open epoch
 step-more : (count : ℕ) (s : RawStep) (lines : List ReadLine) (line : ReadLine) (begun : OpenRawEpoch)
-    → open_raw_after s lines ≡ Some begun → place_of_steps count s (lines ++ line ∷ [])
-    ≡ place_of_step (suc (count + length lines)) (next_step begun line)
+    → open_raw_after s lines ≡ Some begun → (place_of_steps count s (lines ++ line ∷ [])
+    ≡ place_of_step (suc (count + length lines)) (next_step begun line))
+    × (open_raw_after s (lines ++ line ∷ []) ≡ open_raw_after (next_step begun line) [])
 step-more count (Going so_far) (l ∷ ls) line begun h =
-    search (rules, step-more (suc count) (next_step so_far l) ls line begun h)
+    let rest = step-more (suc count) (next_step so_far l) ls line begun h in (search (rules, rest.0), rest.1)
 step-more count s lines line begun h = grind arith
-
-open-more : (s : RawStep) (lines : List ReadLine) (line : ReadLine) (begun : OpenRawEpoch) → open_raw_after
-    s lines ≡ Some begun → open_raw_after s (lines ++ line ∷ []) ≡ open_raw_after (next_step begun line) []
-open-more (Going so_far) (l ∷ ls) line begun h = open-more (next_step so_far l) ls line begun h
-open-more s lines line begun h = grind arith
 
 pub steps-from_open : StepsFromOpen
 steps-from_open types tail [] line begun h = absurd (true≢false (sym (ap is_some h)))
 steps-from_open types tail (l ∷ ls) line begun h = record {
   place = steps-agree types tail (l ∷ (ls ++ line ∷ []))
-      ∙ step-more 0 _ ls line begun h ∙ ap (λ n. place_of_step n (next_step begun line)) (omega arith);
-  open_epoch = open-more _ ls line begun h;
+      ∙ (step-more 0 _ ls line begun h).0 ∙ ap (λ n. place_of_step n (next_step begun line)) (omega arith);
+  open_epoch = (step-more 0 _ ls line begun h).1;
 }

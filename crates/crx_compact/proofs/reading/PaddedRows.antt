@@ -1,14 +1,14 @@
 -- The rows of an open epoch: a satellite's line is read after the row that the epoch line leaves of it as
 -- after what is kept of the satellite, and what it leaves shows its row.
-use Rattle.crx_compact.proofs.Words.{◌≡◌, None, Some, suc, ◌<◌, ◌*◌, ◌∷◌, map, Err, ◌∙◌, Tail}
-use Rattle.crx_compact.proofs.Words.{Satellite, are_marks, flags_held, tail_named, ap, length-map, each_place}
-use Rattle.crx_compact.proofs.Words.{cells_read, columns, shown_value, past_of_row, after_cells, common_steps}
-use Rattle.crx_compact.proofs.Words.{held_from, BadFlags, and_then, ReadCell, cells_of, shown_row, Truncated}
-use Rattle.crx_compact.proofs.Words.{slice_index_or, index-each_place, ◌otherwise◌next◌, value_at_place}
-use Rattle.crx_compact.proofs.Words.{ℕ, Bool, List, Option, Result, arith, Fault, padded, length, rules}
-use Rattle.crx_compact.proofs.Words.{held_row, row_held, patched, Missing, ReadRow, ArcTail, RowTail, HeldRow}
-use Rattle.crx_compact.proofs.Words.{Ok, arcs_of_tail, past_of_tail, satellite_of, begins_epoch}
-use Rattle.crx_compact.proofs.Words.{row_of_cells, cell_of_tail, if◌then◌else◌, value_of_code, flags_of_tail}
+use Rattle.crx_compact.proofs.Words.{◌≡◌, None, Some, suc, ◌<◌, ◌*◌, ◌∷◌, map, Tail}
+use Rattle.crx_compact.proofs.Words.{Satellite, flags_held, tail_named, ap, length-map, each_place}
+use Rattle.crx_compact.proofs.Words.{columns, shown_value, past_of_row, after_cells, common_steps}
+use Rattle.crx_compact.proofs.Words.{held_from, ReadCell, cells_of, shown_row}
+use Rattle.crx_compact.proofs.Words.{slice_index_or, index-each_place, value_at_place}
+use Rattle.crx_compact.proofs.Words.{ℕ, List, Option, arith, padded, length, rules}
+use Rattle.crx_compact.proofs.Words.{held_row, row_held, patched, Missing, ReadRow, ArcTail, RowTail}
+use Rattle.crx_compact.proofs.Words.{arcs_of_tail, past_of_tail, satellite_of}
+use Rattle.crx_compact.proofs.Words.{row_of_cells, cell_of_tail, value_of_code, flags_of_tail}
 use Rattle.crx_compact.proofs.Words.{arc_of_code, at-without_end_blanks, length-each_place, OBSERVATION_WIDTH}
 use Rattle.crx_compact.proofs.SoundTexts.{same-cut}
 use Rattle.crx_compact.proofs.{CellsRead.{cells-within, shown-code}, PlaceByPlace.at-take}
@@ -45,26 +45,12 @@ cells-padded s kept marks cells many =
 pub row-padded : (s : Satellite) (kept : Option RowTail) (line : List ℕ)
     → row_held (Some (padded s kept)) s line ≡ row_held kept s line
 row-padded s kept line =
-    let marks = after_cells s.count line in
     let texts = cells_of s.count line in
-    let row = padded s kept in
-    let first = cells-within (value_at_place row.cells)
+    let same = cells-within (value_at_place (padded s kept).cells)
     (value_at_place (arcs_of_tail kept)) texts (λ place code less. ap (value_of_code OBSERVATION_WIDTH code)
     (padded-cell s kept place (omega (arith, less, texts-count s.count line)))) in
-    let second = decided marks
-    (begins_epoch line) (are_marks s.count marks) (cells_read (value_at_place (arcs_of_tail kept)) texts)
-    (λ cells e. cells-count (value_at_place (arcs_of_tail kept)) texts cells e ∙ texts-count s.count line) in
-    cc
-  where
-    decided : (marks : List ℕ) (begins good : Bool) (r : Result (List ReadCell) Fault)
-        → ((cells : List ReadCell) → r ≡ Ok cells → length cells ≡ s.count) → ◌≡◌ {A = Result HeldRow Fault}
-        (and_then (if begins then Err Truncated else and_then r (λ cells. good otherwise Err BadFlags next Ok
-        (row_of_cells (past_of_row (padded s kept).cells (padded s kept).flags) s.name marks cells)))
-        (λ read. Ok (held_from (padded s kept).cells (padded s kept).flags read)))
-        (and_then (if begins then Err Truncated else and_then r (λ cells. good otherwise Err BadFlags next Ok
-        (row_of_cells (past_of_row (arcs_of_tail kept) (flags_of_tail kept)) s.name marks cells)))
-        (λ read. Ok (held_from (arcs_of_tail kept) (flags_of_tail kept) read)))
-    decided marks begins good r many = grind (arith, cells-padded s kept marks)
+    let many = cells-count (value_at_place (arcs_of_tail kept)) texts in
+    grind (arith, common_steps, same, many, cells-padded, texts-count)
 
 -- a satellite's line after the row that the epoch line leaves is one after all of the history
 pub row-opened : (before : Tail) (s : Satellite) (line : List ℕ)
@@ -85,7 +71,7 @@ cells-show arcs texts cells h = grind arith
 
 -- what a line leaves of its satellite shows the line's row
 pub row-shows : (before : Tail) (s : Satellite) (line : List ℕ) (read : ReadRow)
-    → RowFacts (past_of_tail before) s line read → read.row ≡ shown_row (held_row before read).tail
+    → RowFacts (past_of_tail before) s line read → read.row ≡ shown_row (held_row before read)
 row-shows before s line read h =
     let marks = after_cells s.count line in
     let kept = tail_named s.name before in

@@ -1,12 +1,12 @@
 -- What a line makes of an open epoch, by what was read of it into a history.
-use Rattle.crx_compact.proofs.Words.{◌≡◌, ◌≤◌, ◌<◌, ℕ, ◌+◌, Some, None, Err, ◌∙◌, Tail, refl, satellite_of}
-use Rattle.crx_compact.proofs.Words.{common_steps, true, List, length, arith, Fault, Epoch, Reading, RowTail}
+use Rattle.crx_compact.proofs.Words.{◌≡◌, ◌≤◌, ◌<◌, ℕ, ◌+◌, Some, None, Err, ◌∙◌, Tail, refl, satellite_of, ap}
+use Rattle.crx_compact.proofs.Words.{◌==◌, false, true, List, length, arith, Fault, Epoch, Reading, RowTail}
 use Rattle.crx_compact.proofs.Words.{rules, Content, row_held, HasMade, RawStep, with_rows, IsRowRead}
 use Rattle.crx_compact.proofs.Words.{slice_get, next_step, whole_epoch, OpenHistory, shown_epoch}
 use Rattle.crx_compact.proofs.Words.{printed_epoch, HasPrintedLines, step_with_rows, tail_of_history}
 use Rattle.crx_compact.proofs.{RowByRow.is-there}
 use Rattle.std.proofs.lemmas.Option.{slice_get_past}
-use Rattle.crx_compact.specs.{OpenEpochs.{Idle, Whole, Faulty}}
+use Rattle.crx_compact.specs.{OpenEpochs.{Idle, Whole, Faulty, makes_epoch}}
 
 -- ---- satellite lines
 
@@ -25,22 +25,24 @@ row-faulty tail count line fault h e =
 
 -- ---- more rows, or a whole epoch
 
-pub rows-whole : (tail : Tail) (count : ℕ)
-    → length tail.rows ≤ count → step_with_rows tail count ≡ Whole (whole_epoch tail)
-rows-whole tail count h = cc (slice_get_past tail.rows count h)
+module _ (step : RawStep) (tail : Tail) (count : ℕ) (e : step ≡ step_with_rows tail count) where
+  pub made-more : (count == length tail.rows) ≡ false → count ≤ length tail.rows
+      → HasMade step (Reading (with_rows tail count)) None
+  made-more other within =
+      let h : count < length tail.rows = grind (arith, other, within) in
+      (with_rows tail count, e ∙ (cc ((is-there tail.rows count h).there)), refl)
 
-pub made-more : (step : RawStep) (tail : Tail) (count : ℕ) → step ≡ step_with_rows tail count
-    → count < length tail.rows → HasMade step (Reading (with_rows tail count)) None
-made-more step tail count e h = (with_rows tail count, e ∙ (cc ((is-there tail.rows count h).there)), refl)
+  module _ (h : length tail.rows ≤ count) where
+    whole : step ≡ Whole (whole_epoch tail)
+    whole = cc (e, slice_get_past tail.rows count h)
 
-pub made-whole : (step : RawStep) (tail : Tail) (count : ℕ) (epoch : Epoch) → step ≡ step_with_rows tail count
-    → length tail.rows ≤ count → epoch ≡ shown_epoch tail (length tail.rows)
-    → HasMade step (Idle (Some tail)) (Some epoch)
-made-whole step tail count epoch e h shown = (whole_epoch tail, e ∙ rows-whole tail count h, shown, refl)
+    pub step-whole : makes_epoch step ≡ true
+    step-whole = ap makes_epoch whole
 
--- ---- printed lines
+    pub made-whole : {epoch : Epoch} → epoch ≡ shown_epoch tail (length tail.rows)
+        → HasMade step (Idle (Some tail)) (Some epoch)
+    made-whole shown = (whole_epoch tail, whole, shown, refl)
 
-pub printed-whole : (step : RawStep) (tail : Tail) (count : ℕ) (lines : List (List ℕ))
-    → step ≡ step_with_rows tail count → length tail.rows ≤ count → lines
-    ≡ printed_epoch (shown_epoch tail (length tail.rows)) → HasPrintedLines step (Idle (Some tail)) true lines
-printed-whole step tail count lines e h printed = grind (arith, common_steps, whole_epoch, rows-whole)
+    pub printed-whole : {lines : List (List ℕ)} → lines ≡ printed_epoch (shown_epoch tail (length tail.rows))
+        → HasPrintedLines step (Idle (Some tail)) true lines
+    printed-whole printed = (whole_epoch tail, whole, printed, refl)

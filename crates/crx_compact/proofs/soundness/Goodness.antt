@@ -1,16 +1,16 @@
 -- An epoch that was read is whole, and its marks can be before others.
-use Rattle.crx_compact.proofs.Words.{◌≡◌, IsAllowedCount, satellites_few, length-each_place, list_all-from_at}
+use Rattle.crx_compact.proofs.Words.{◌≡◌, IsAllowedCount, satellites_few, length-each_place}
 use Rattle.crx_compact.proofs.Words.{refl, unwrap_or, is_system, IsSoundRow, apart-map, Satellite, raw_run_of}
 use Rattle.crx_compact.proofs.Words.{ℕ, ◌+◌, ◌*◌, ℤ, ◌∷◌, map, sym, ◌∙◌, ap, Row, Code, suc, true, None}
 use Rattle.crx_compact.proofs.Words.{List, take, Some, Result, IfSome, arith, Count, Fault, RawRow, [], rules}
 use Rattle.crx_compact.proofs.Words.{list_all, RawEpoch, block_of, overlaid, marks_of, value_of, ReadCell}
 use Rattle.crx_compact.proofs.Words.{length, Option, Ok, columns, IsValue, is_kept, ReadRow, stretch}
 use Rattle.crx_compact.proofs.Words.{AllByRecursion, IsMissingOrWithin, types_of_satellite}
-use Rattle.crx_compact.proofs.Words.{subst, character_at, HasItsTypes, CLOCK_WIDTH, is_printable, latest_mark}
+use Rattle.crx_compact.proofs.Words.{subst, character_at, HasItsTypes, CLOCK_WIDTH, is_printable}
 use Rattle.crx_compact.proofs.Words.{length-map, raw_row_named, past_of_block, each_place-all, length-columns}
-use Rattle.crx_compact.proofs.{Words.{All-from_recursion, count_of}, Characters.{all-take, list_all-at}}
+use Rattle.crx_compact.proofs.{Words.{All-from_recursion, count_of}, Characters.all-take, Marks.patched-kept}
 use Rattle.crx_compact.proofs.Lists.{all-from}
-use Rattle.crx_compact.proofs.{SoundTexts.all-columns, wayback.Overlays.at-overlaid, EpochLines.{differ, names_of}}
+use Rattle.crx_compact.proofs.{SoundTexts.all-columns, wayback.Overlays.overlaid-patched, EpochLines.{differ, names_of}}
 use Rattle.crx_compact.proofs.soundness.Soundness.{AreReadCells, RowFacts, Paired, block_for, epoch-facts}
 use Rattle.crx_compact.proofs.{Words.{after_cells}}
 use Rattle.std.specs.Prelude.{OnSome}
@@ -24,13 +24,9 @@ use Rattle.crx_compact.proofs.soundness.Soundness.{row-names}
 abbrev ArePrintable : List (List ℕ) → Type 0
 ArePrintable marks = AllByRecursion (λ (w : List ℕ). list_all is_printable w ≡ true) marks
 
-latest-printable : (marks : List (List ℕ)) (p : ℕ) → ArePrintable marks
-    → is_printable (latest_mark marks p) ≡ true
-latest-printable [] p h = refl
-latest-printable (w ∷ ws) p h = grind (arith, list_all-at _ refl w h.0 p, latest-printable ws p h.1)
-
 overlaid-kept : (marks : List (List ℕ)) → ArePrintable marks → list_all is_kept (overlaid marks) ≡ true
-overlaid-kept marks h = grind (arith, list_all-from_at, at-overlaid, latest-printable)
+overlaid-kept [] h = refl
+overlaid-kept (w ∷ ws) h = grind (arith, overlaid-patched, patched-kept, overlaid-kept ws h.1)
 
 -- ---- the marks of a run
 
@@ -78,11 +74,6 @@ cells-fit value h texts cells k = grind arith
 
 -- ---- rows
 
--- what is known of a satellite of an epoch line
-pub record IsKnown (types : List Count) (satellite : Satellite) : Type 0 where
-  pub typed : types_of_satellite types satellite.name ≡ Some satellite.count
-  pub short : length satellite.name ≡ 3
-
 pub record IsTyped (types : List Count) (name : List ℕ) (count : ℕ) : Type 0 where
   pub number : has_number name ≡ true
   pub found : count_of types (character_at name 1) ≡ Some count
@@ -91,51 +82,47 @@ pub typed-parts : (types : List Count) (name : List ℕ) (count : ℕ)
     → types_of_satellite types name ≡ Some count → IsTyped types name count
 typed-parts types name count h = grind arith
 
-pub row-sound : (types : List Count) (block : List RawEpoch) (satellite : Satellite) (line : List ℕ)
-    (read : ReadRow)
-    → AreCounts types → AllByRecursion HasPrintableMarks block → IsKnown types satellite
-    → RowFacts (past_of_block block) satellite line read
-    → (IsSoundRow read.row × HasItsTypes types read.row) × (list_all is_printable read.raw.marks ≡ true)
-row-sound types block satellite line read counts printable known h =
-    let name = satellite.name in
-    let new = after_cells satellite.count line in
-    let long = length-columns ((past_of_block block).flags name new) 1 (2 * length h.cells) in
-    let many = length-map h.cells (λ (c : ReadCell). c.value) in
-    let count = many ∙ h.counted in
-    let typed = typed-parts types name satellite.count known.typed in
-    let P : Option ℕ → Type 0 = λ o. IfSome o IsAllowedCount in
-    let Q : Option ℕ → Type 0 = λ o. OnSome o (is_system (character_at name 1) ≡ true) in
-    let system = subst Q typed.found (system_of types (character_at name 1) counts) in
-    let marks : list_all is_printable new ≡ true = grind (arith, h.marks_ok) in
-    rw (← h.is_read) (
-      (
-        record {
-          named = cc (known.short, typed.number, system);
-          counted = rw count (subst P typed.found (allowed_of types (character_at name 1) counts));
-          ranged = grind (arith, All-from_recursion, cells-fit, value_of-fits);
-          paired = cc (long, many);
-          kept = search (rules, all-columns, overlaid-kept, raw_run-printable);
-        },
-        known.typed ∙ ap (λ n. Some n) (sym count),
-      ),
-      marks,
-    )
+module _ (types : List Count) (block : List RawEpoch) (counts : AreCounts types)
+    (printable : AllByRecursion HasPrintableMarks block) where
+  row-sound : (satellite : Satellite) (line : List ℕ) (read : ReadRow)
+      → types_of_satellite types satellite.name ≡ Some satellite.count → length satellite.name ≡ 3
+      → RowFacts (past_of_block block) satellite line read
+      → (IsSoundRow read.row × HasItsTypes types read.row) × (list_all is_printable read.raw.marks ≡ true)
+  row-sound satellite line read known short h =
+      let name = satellite.name in
+      let new = after_cells satellite.count line in
+      let long = length-columns ((past_of_block block).flags name new) 1 (2 * length h.cells) in
+      let many = length-map h.cells (λ (c : ReadCell). c.value) in
+      let count = many ∙ h.counted in
+      let typed = typed-parts types name satellite.count known in
+      let P : Option ℕ → Type 0 = λ o. IfSome o IsAllowedCount in
+      let Q : Option ℕ → Type 0 = λ o. OnSome o (is_system (character_at name 1) ≡ true) in
+      let system = subst Q typed.found (system_of types (character_at name 1) counts) in
+      let marks : list_all is_printable new ≡ true = grind (arith, h.marks_ok) in
+      rw (← h.is_read) (
+        (
+          record {
+            named = cc (short, typed.number, system);
+            counted = rw count (subst P typed.found (allowed_of types (character_at name 1) counts));
+            ranged = grind (arith, All-from_recursion, cells-fit, value_of-fits);
+            paired = cc (long, many);
+            kept = search (rules, all-columns, overlaid-kept, raw_run-printable);
+          },
+          known ∙ ap (λ n. Some n) (sym count),
+        ),
+        marks,
+      )
 
-rows-sound : (types : List Count) (block : List RawEpoch) (satellites : List Satellite)
-    (lines : List (List ℕ))
-    (rows : List ReadRow) → AreCounts types → AllByRecursion HasPrintableMarks block
-    → AllByRecursion (λ (s : Satellite). types_of_satellite types s.name ≡ Some s.count) satellites
-    → AllByRecursion (λ (n : List ℕ). length n ≡ 3) (names_of satellites)
-    → Paired (RowFacts (past_of_block block)) satellites lines rows
-    → AllByRecursion (λ (r : Row). IsSoundRow r × HasItsTypes types r) (map (λ (r : ReadRow). r.row) rows)
-    × AllByRecursion (λ (r : RawRow). list_all is_printable r.marks ≡ true) (map
-    (λ (r : ReadRow). r.raw) rows)
-rows-sound types block (s ∷ ss) (l ∷ ls) (r ∷ rs) counts printable typed short h =
-    let rest = rows-sound types block ss ls rs counts printable typed.1 short.1 h.1 in
-    let row = row-sound types block s l r counts printable (record { typed = typed.0; short = short.0 }) h.0
-    in
-    ((row.0, rest.0), (row.1, rest.1))
-rows-sound types block satellites lines rows counts printable typed short h = grind arith
+  rows-sound : (satellites : List Satellite) (lines : List (List ℕ)) (rows : List ReadRow)
+      → AllByRecursion (λ (s : Satellite). types_of_satellite types s.name ≡ Some s.count) satellites
+      → AllByRecursion (λ (n : List ℕ). length n ≡ 3) (names_of satellites)
+      → Paired (RowFacts (past_of_block block)) satellites lines rows
+      → AllByRecursion (λ (r : Row). IsSoundRow r × HasItsTypes types r) (map (λ (r : ReadRow). r.row) rows)
+      × AllByRecursion (λ (r : RawRow). list_all is_printable r.marks ≡ true) (map (λ (r : ReadRow). r.raw) rows)
+  rows-sound (s ∷ ss) (l ∷ ls) (r ∷ rs) typed short h =
+      let rest = rows-sound ss ls rs typed.1 short.1 h.1 in
+      let row = row-sound s l r typed.0 short.0 h.0 in ((row.0, rest.0), (row.1, rest.1))
+  rows-sound satellites lines rows typed short h = grind arith
 
 -- ---- the epoch
 
@@ -150,7 +137,7 @@ reads-whole types older lines read count counts printable e =
     let sound_block : AllByRecursion HasPrintableMarks block = grind (arith, block-printable) in
     let three = each_place-all (λ (m : List ℕ). length m ≡ 3) n (λ k. columns text (42 + 3 * k) 3)
     (λ k. length-columns text (42 + 3 * k) 3) in
-    let all = rows-sound types block facts.satellites facts.own facts.rows counts sound_block
+    let all = rows-sound types block counts sound_block facts.satellites facts.own facts.rows
     facts.line_ok.named.known (rw facts.line_ok.named.same three) facts.rows_ok in
     let names = (row-names (past_of_block block) facts.satellites facts.own facts.rows facts.rows_ok).1
     ∙ facts.line_ok.named.same in

@@ -1,7 +1,7 @@
 -- What follows of an epoch from its having been read.
-use Rattle.crx_compact.proofs.Words.{◌≡◌, suc, List, drop, Some, None, Done, Code, Past, ◌+◌, ◌*◌}
-use Rattle.crx_compact.proofs.Words.{true, length, Option, Result, Count, Place, NeedsMore, RawRow, subst}
-use Rattle.crx_compact.proofs.Words.{rules, Fails, BegunEpoch, begins_epoch, past_of_line, row_of_cells, Row}
+use Rattle.crx_compact.proofs.Words.{◌≡◌, suc, List, Some, None, Done, Code, Past, ◌+◌, ◌*◌}
+use Rattle.crx_compact.proofs.Words.{true, length, Option, Result, Count, Place, RawRow, subst}
+use Rattle.crx_compact.proofs.Words.{rules, BegunEpoch, begins_epoch, past_of_line, row_of_cells, Row}
 use Rattle.crx_compact.proofs.Words.{epoch_begun, Fault, apart-map, Truncated, Satellite, are_marks}
 use Rattle.crx_compact.proofs.Words.{rows_read, raw_run_of, cells_read, length-map, then_place, first_line}
 use Rattle.crx_compact.proofs.Words.{NotAnEpoch, each_place, ℕ, ℤ, ◌∷◌, map, Ok, sym, ◌∙◌, ap, []}
@@ -18,25 +18,6 @@ use Rattle.crx_compact.specs.Expansion.{all_ok, text_of, row_from, rows_from, ep
 use Rattle.crx_compact.specs.ReadingLaws.{ReadsSoundly}
 
 -- ---- good answers come from good answers
-
-abbrev pub thing_here : {X : Type 0} → X → Place X → X
-thing_here d (Done x n) = x
-thing_here d (Fails n f) = d
-thing_here d NeedsMore = d
-
--- what is after something else
-pub record Comes {X Y : Type 0} (p : Place X) (lines : List ReadLine) (next : X
-    → List ReadLine → Place Y) (y : Y) (n : ℕ) : Type 0 where
-  pub from : X
-  pub count : ℕ
-  pub more : ℕ
-  pub first : p ≡ Done from count
-  pub later : next from (drop count lines) ≡ Done y more
-  pub counted : n ≡ count + more
-
-pub then-comes : {X Y : Type 0} (p : Place X) (lines : List ReadLine) (next : X → List ReadLine → Place Y)
-    (y : Y) (n : ℕ) → then_place p lines next ≡ Done y n → Comes p lines next y n
-then-comes p lines next y n e = grind arith
 
 -- what is after a first line
 pub record Begins {X Y : Type 0} (lines : List ReadLine) (read : List ℕ → Result X Fault) (next : X
@@ -63,7 +44,7 @@ cut-at : (lines rest : List ReadLine) (line : List ℕ) (n more : ℕ) (own : Li
 cut-at lines rest line n more own e k h = cc (h)
 
 -- what is made of the last thing
-ends : {X Y : Type 0} (p : Place X) (lines : List ReadLine) (make : X → Y) (y : Y) (n : ℕ)
+pub ends : {X Y : Type 0} (p : Place X) (lines : List ReadLine) (make : X → Y) (y : Y) (n : ℕ)
     → then_place p lines (λ x rest. Done (make x) 0) ≡ Done y n
     → (from : X) × (p ≡ Done from n) × (make from ≡ y)
 ends p lines make y n e = grind arith
@@ -153,30 +134,23 @@ Paired P [] [] [] = ⊤
 Paired P (s ∷ ss) (l ∷ ls) (r ∷ rs) = P s l r × Paired P ss ls rs
 Paired P ss ls rs = ⊥
 
-pub record RowsFacts (past : Past) (satellites : List Satellite) (lines : List ReadLine) (rows : List ReadRow)
-    (count : ℕ) : Type 0 where
-  pub own : List (List ℕ)
-  pub cut : take count lines ≡ map Content own
-  pub each : Paired (RowFacts past) satellites own rows
-  pub counted : count ≡ length rows
-
 pub rows-facts : (past : Past) (satellites : List Satellite) (lines : List ReadLine) (rows : List ReadRow)
     (count : ℕ) → rows_read past satellites lines ≡ Done rows count
-    → RowsFacts past satellites lines rows count
-rows-facts past [] lines rows count e = record
-    { own = []; cut = grind arith; each = grind arith; counted = grind arith }
+    → (own : List (List ℕ)) × (take count lines ≡ map Content own) × Paired (RowFacts past) satellites own rows
+    × (count ≡ length rows)
+rows-facts past [] lines rows count e = ([], grind arith, grind arith, grind arith)
 rows-facts past (s ∷ ss) lines rows count e =
     let one = begins lines (satellite_line_read past s)
     (λ row others. then_place (rows_read past ss others) others
     (λ more rest. Done (row ∷ more) 0)) rows count e in
     let two = ends (rows_read past ss one.rest) one.rest (λ more. one.from ∷ more) rows one.more one.later in
     let rest = rows-facts past ss one.rest two.0 one.more two.1 in
-    rw (← two.2) (record {
-      own = one.line ∷ rest.own;
-      cut = cut-at lines one.rest one.line count one.more rest.own one.is one.counted rest.cut;
-      each = (line-facts past s one.line one.from one.ok, rest.each);
-      counted = cc (one.counted, rest.counted);
-    })
+    rw (← two.2) (
+      one.line ∷ rest.0,
+      cut-at lines one.rest one.line count one.more rest.0 one.is one.counted rest.1,
+      (line-facts past s one.line one.from one.ok, rest.2),
+      cc (one.counted, rest.3),
+    )
 
 -- ---- identifiers
 
@@ -237,8 +211,8 @@ facts-against types given past_of lines read count same e =
     record {
       line = one.line;
       clock_line = two.line;
-      own = rows.own;
-      cut = grind (arith, cut-at);
+      own = rows.0;
+      cut = grind (arith, rows.1, cut-at);
       given_is = begun.1 ∙ ap {B = Option Past} Some past;
       satellites = one.from.satellites;
       line_ok = grind (arith, line-facts_of);
@@ -247,8 +221,8 @@ facts-against types given past_of lines read count same e =
           (read-cell BadClock one.from.past.clock (without_end_blanks two.line) two.from
           (if-err (begins_epoch two.line) Truncated _ two.from two.ok));
       rows = three.0;
-      rows_ok = subst (λ p. Paired (RowFacts p) one.from.satellites rows.own three.0) past rows.each;
-      counted = omega (arith, one.counted, two.counted, rows.counted);
+      rows_ok = subst (λ p. Paired (RowFacts p) one.from.satellites rows.0 three.0) past rows.2;
+      counted = omega (arith, one.counted, two.counted, rows.3);
       is_read = cc (past, begun.0, three.2);
     }
 

@@ -4,7 +4,7 @@ use Rattle.crx_filter.proofs.Words.{subst, ℕ, List, [], ◌∷◌, length, map
 use Rattle.crx_filter.proofs.Words.{length-map, Fault, Content, Satellite, Tail, All, All-nil, All-cons}
 use Rattle.crx_filter.proofs.Words.{All-head, All-tail, OpenRawEpoch, next_step, RawStep, satellite_line_read}
 use Rattle.crx_compact.proofs.{Results.{and_then-ok}, reading.Announced.satellites-set}
-use Rattle.crx_compact.{proofs.soundness.Soundness.line-facts, specs.HeldRows.{HeldRow, held_from}}
+use Rattle.crx_compact.{proofs.soundness.Soundness.line-facts, specs.HeldRows.held_from}
 use Rattle.crx_compact.specs.HeldRows.{past_of_row, row_held}
 use Rattle.crx_compact.specs.OpenEpochs.{ColumnsState, Idle, Reading, Going, Whole, Faulty}
 use Rattle.crx_compact.specs.OpenEpochs.{rows_before, Before, After, HasPrintedLines}
@@ -54,9 +54,9 @@ abbrev StepHas : List Satellite → RawStep → Type 0
 StepHas satellites step = IfStep step (λ left. left ≡ satellites)
 
 -- what a satellite's line leaves has its name, and as many types
-left-row : (row : RowTail) (line : List ℕ) (held : HeldRow)
+left-row : (row : RowTail) (line : List ℕ) (held : RowTail)
     → row_held (Some row) (satellite_of_tail row) line ≡ Ok held
-    → (held.tail.name ≡ row.name) × (length held.tail.cells ≡ length row.cells)
+    → (held.name ≡ row.name) × (length held.cells ≡ length row.cells)
 left-row row line held e =
     let past = past_of_row row.cells row.flags in
     let step = and_then-ok (satellite_line_read past (satellite_of_tail row) line)
@@ -78,7 +78,7 @@ step-satellites begun line = by_clock begun.clock
         (raw_step_with_clock begun r)
     with_clock r = grind (arith, common_steps, awaiting)
 
-    with_row : (row : RowTail) → slice_get begun.rows begun.count ≡ Some row → (r : Result HeldRow Fault)
+    with_row : (row : RowTail) → slice_get begun.rows begun.count ≡ Some row → (r : Result RowTail Fault)
         → row_held (Some row) (satellite_of_tail row) line ≡ r
         → StepHas (map satellite_of_tail begun.rows) (raw_step_with_row begun r)
     with_row row there r e = grind (arith, common_steps, left-row, awaiting, satellites-set)

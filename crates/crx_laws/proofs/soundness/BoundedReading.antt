@@ -7,21 +7,19 @@ use Rattle.crx_filter.proofs.Words.{Overlong, Fault, BadClock, Truncated, NAME_W
 use Rattle.crx_filter.proofs.Words.{Done, types_of_satellite, Count, and_then, begins_epoch, Satellite}
 use Rattle.crx_filter.proofs.Words.{cell_read, clock_line_read, satellite_line_read, satellites_of_line, Tail}
 use Rattle.crx_filter.proofs.Words.{OpenRawEpoch, RawStep, first_step, next_step, open_raw_after}
-use Rattle.std.specs.Prelude.{slice_get, IfSome, slice_index_or, slice_set, unwrap_or}
+use Rattle.std.specs.Prelude.{slice_get, IfSome, slice_index_or, slice_set}
 use Rattle.std.specs.Option.{option_map}
 use Rattle.std.proofs.lemmas.List.{length-set, length-take}
 use Rattle.std.proofs.lemmas.Option.{same_Some, slice_get_within}
-use Rattle.crx_text.proofs.Characters.{length-columns, at-without_end_blanks}
+use Rattle.crx_text.proofs.Characters.{length-columns}
 use Rattle.crx_text.specs.meaning.Codes.{coded_number}
-use Rattle.crx_text.specs.Texts.{patched, character_of}
-use Rattle.crx_text.specs.meaning.Texts.{by_position}
+use Rattle.crx_text.specs.Texts.{patched}
 use Rattle.crx_text.specs.declared.code.Code.{Code}
 use Rattle.crx_text.specs.declared.code.Code.TheVariants.{Missing, Start, Step}
 use Rattle.crx_base.specs.declared.limits.TheConstants.{ORDER_LIMIT, SATELLITES_LIMIT}
 use Rattle.crx_header.specs.meaning.ObservationTypes.{IsAllowedCount}
 use Rattle.crx_header.specs.ObservationTypes.{AreCounts}
 use Rattle.crx_header.proofs.Counts.{allowed_of}
-use Rattle.crx_rinex.proofs.Rows.{satellites_few}
 use Rattle.crx_compact.specs.meaning.Sequences.{named}
 use Rattle.crx_compact.specs.meaning.Cells.{ReadCell}
 use Rattle.crx_compact.specs.meaning.CompactPlaces.{ReadRow}
@@ -43,7 +41,7 @@ use Rattle.crx_compact.proofs.Words.{after_cells, cells_of}
 use Rattle.crx_compact.proofs.soundness.Goodness.{typed-parts}
 use Rattle.crx_compact.proofs.soundness.Soundness.{AreReadCells, IsReadCell, RowFacts, line-facts, read-cell}
 use Rattle.crx_compact.proofs.Results.{if-err}
-use Rattle.crx_compact.proofs.{EpochLines.{line-facts_of, names_of}, EpochTexts.{blank-after, ends-within}}
+use Rattle.crx_compact.proofs.{EpochLines.{line-facts_of, named-few, names_of, text-few}}
 
 -- ---- orders of codes that are read
 
@@ -121,7 +119,7 @@ named-bounded name (row ∷ rows) h = grind (arith, named-bounded name rows h.1)
 -- what a line leaves of a satellite
 row-read : (row : RowTail) (line : List ℕ) (read : ReadRow) → IsBoundedRowTail ORDER_LIMIT row
     → RowFacts (past_of_row row.cells row.flags) (satellite_of row) line read
-    → IsBoundedRowTail ORDER_LIMIT (held_from row.cells row.flags read).tail
+    → IsBoundedRowTail ORDER_LIMIT (held_from row.cells row.flags read)
 row-read row line read h facts =
     let marks = after_cells (length row.cells) line in
     let texts = cells_of (length row.cells) line in
@@ -131,7 +129,7 @@ row-read row line read h facts =
     let most : length row.cells ≤ TYPES_LIMIT = h.few in
     let cell : ℕ → Option ArcTail = λ place. arc_of_code (slice_index_or codes place Missing)
     (slice_index_or row.cells place None) in
-    subst (λ r. IsBoundedRowTail ORDER_LIMIT (held_from row.cells row.flags r).tail) facts.is_read (record {
+    subst (λ r. IsBoundedRowTail ORDER_LIMIT (held_from row.cells row.flags r)) facts.is_read (record {
       name = h.name;
       flags = omega (arith, most, many, length-held (length codes) (patched row.flags marks));
       few = omega (arith, length-each_place (length codes) cell, many, most);
@@ -186,7 +184,7 @@ row-came : (begun : OpenRawEpoch) (row : RowTail) (line : List ℕ) (r : Result 
     (and_then r (λ (read : ReadRow). Ok (held_from row.cells row.flags read))))
 row-came begun row line (Err fault) e h there = tt
 row-came begun row line (Ok read) e h there =
-    let left : RowTail = (held_from row.cells row.flags read).tail in
+    let left : RowTail = held_from row.cells row.flags read in
     let rows : List RowTail = slice_set begun.rows begun.count left in
     let same : length rows ≡ length begun.rows = length-set begun.rows begun.count left in
     let few : length begun.rows ≤ SATELLITES_LIMIT = h.few in
@@ -254,19 +252,11 @@ opened-bounded types before line (Err fault) counts h e = tt
 opened-bounded types before line (Ok satellites) counts h e =
     let facts = line-facts_of types (past_of_tail before) line satellites e in
     let text = patched before.text line in
-    let same = length-map satellites (λ (s : Satellite). s.name) in
     let opened = length-map satellites (λ (s : Satellite). padded s (tail_named s.name before)) in
-    let many = ap (λ (ns : List (List ℕ)). length ns) facts.named.same
-    ∙ length-each_place facts.count (λ k. columns text (42 + 3 * k) 3) in
-    let within : facts.count ≤ SATELLITES_LIMIT = subst (λ (o : Option ℕ). unwrap_or o 0 ≤ SATELLITES_LIMIT)
-    facts.counted (satellites_few (columns text 1 41)) in
-    let long = ends-within (41 + 3 * facts.count) (by_position character_of before.text line)
-    (λ p. sym (at-without_end_blanks (by_position character_of before.text line) (41 + 3 * facts.count + p))
-    ∙ blank-after (41 + 3 * facts.count) text facts.ended p) in
     record {
-      text = omega (arith, long, within);
+      text = text-few types before line satellites e;
       clock = h.clock;
-      few = omega (arith, opened, same, many, within);
+      few = omega (arith, opened, named-few types before line satellites e);
       rows = rows-opened types before satellites counts h.rows facts.named.known
           (subst (λ (ns : List (List ℕ)). AllByRecursion (λ (name : List ℕ). length name ≡ NAME_WIDTH) ns)
           (sym facts.named.same) (each_place-all (λ (name : List ℕ). length name ≡ NAME_WIDTH) facts.count

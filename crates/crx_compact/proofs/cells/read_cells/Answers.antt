@@ -15,9 +15,9 @@ returns-in_err-length-in-None-clause-err c =
     let p = err_from_is_err_and c.from_residual.result c.from_residual.ensures.1 in
     let many = length-take-le c.args.count c.args.arcs.now c.requires.fitting in
     rw (p.1, p.2) (subst (λ n. cells_read (value_at_place (take c.args.count c.args.arcs.now)) (cells_of n
-    (line_in c.args.line)) ≡ Err c.in_err-length-in-None.field-0.0) many (next-refused _ _ _ _ _ _
+    (line_in c.args.line)) ≡ Err c.in_err-length-in-None.field-0.0) many (next-refused _ _ _ _ _
     c.loop-index.invariant (omega (arith, many, c.loop-index-test.true)) (first-refused c.args.count
-    c.loop-index.arcs c.loop-index.index (drop c.loop-index.at (line_in c.args.line)) _
+    c.loop-index.arcs c.loop-index.index (drop c.loop-index.at (line_in c.args.line))
     c.loop-index-test.true (rw (c.in-None.ensures.none, take_rest c.line.result.now c.loop-index.at, c.line.ensures.value)
     at c.in_err-length-in-None.ensures.err))))
 
@@ -27,12 +27,12 @@ loop-index-preserved c =
     omega (arith, length-take-le c.args.count c.args.arcs.now c.requires.fitting, c.loop-index-test.true) in
     elim c.match-read_cell_fast.branch [
       | in-Some w ↦
-          rw w.at-is (read-next _ _ _ _ _ _ _ w.in-Some.length c.loop-index.invariant within
-          (first-read c.args.count _ _ _ _ _ c.loop-index-test.true w.in-Some.ensures.some)
+          rw w.at-is (read-next _ _ _ _ _ c.loop-index.invariant within
+          (first-read c.args.count _ _ _ c.loop-index-test.true w.in-Some.ensures.some)
           (ap (take c.args.count) w.arcs-is))
       | in-None+in_ok-length-in-None w ↦
-          rw w.at-is (read-next _ _ _ _ _ _ _ w.in_ok-length-in-None.length c.loop-index.invariant within
-          (first-read c.args.count _ _ _ _ _ c.loop-index-test.true
+          rw w.at-is (read-next _ _ _ _ _ c.loop-index.invariant within
+          (first-read c.args.count _ _ _ c.loop-index-test.true
           (rw (w.in-None.ensures.none, take_rest w.line.result.now c.loop-index.at, w.line.ensures.value)
           at w.in_ok-length-in-None.ensures.ok)) (ap (take c.args.count) w.arcs-is))
     ]

@@ -1,5 +1,5 @@
-use Rattle.crx_compact.proofs.Words.{rules, ◌≡◌, refl, ap, ◌+◌, ◌-◌, ◌*◌, ◌++◌, ◌∷◌, [], Bool, not, true}
-use Rattle.crx_compact.proofs.Words.{false, sym, inl, arith, subst, ◌⊎◌, inr, ℕ, List, Err, map}
+use Rattle.crx_compact.proofs.Words.{rules, ◌≡◌, ap, ◌+◌, ◌-◌, ◌*◌, ◌++◌, ◌∷◌, [], Bool, not, true, false}
+use Rattle.crx_compact.proofs.Words.{sym, inl, arith, subst, ◌⊎◌, inr, ℕ, List, Err, map}
 use Rattle.crx_compact.proofs.Words.{err_from_is_err_and, is_ok, columns, is_among}
 use Rattle.crx_compact.proofs.Words.{IsAwaitedSatellite, BadSatellite, RepeatedSatellite}
 use Rattle.crx_compact.proofs.Words.{Satellite, names_in, satellites_named, HasRoom, KeepsRooms}
@@ -26,7 +26,7 @@ bad : (c : goal.In_default)
     → satellites_named c.args.types.now [] (names_in c.args.text.now c.args.count) ≡ Err BadSatellite
 bad c =
     named-bad c.args.types.now (names_in c.args.text.now c.args.count) c.loop-index.index
-    c.loop-index.invariant.0 c.identifier-name.result c.loop-index.invariant.1 (search (rules, next-name))
+    c.loop-index.invariant.0 c.loop-index.invariant.1 c.identifier-name.result (search (rules, next-name))
     (sym c.in_default.ensures.value)
 
 pub returns-in_default : goal.returns-in_default
@@ -81,8 +81,7 @@ returns-then-not-is_new c =
     let found = c.loop-index.invariant in
     let come = placed (goal.at.returns-then-not-is_new c).Joined-place in
     let twice = named-twice c.args.types.now (names_in c.args.text.now c.args.count) c.loop-index.index
-    found.0 c.identifier-name.result c.in-Some.cells found.1
-    (search (rules, next-name))
+    found.0 found.1 c.identifier-name.result (search (rules, next-name))
     (sym c.in-Some.ensures.value) (come-already c.args.satellites.now.rest c.loop-index.satellites.rows
     found.0 c.identifier-name.result c.match-place.is_new false found.2 come.0.answer c.if-not-is_new.true) in
     record {
@@ -147,9 +146,8 @@ loop-index-preserved c =
     let kept : KeepsRooms c.loop-index.satellites.rooms after.rooms = λ other count has.
     subst (HasRoom other count) same (placed.2 other count has) in (
       found.0 ++ satellite ∷ [],
-      named-more c.args.types.now (names_in c.args.text.now c.args.count) place found.0 (found.0 ++ satellite
-          ∷ []) name c.in-Some.cells found.1 (search (rules, next-name))
-          (sym c.in-Some.ensures.value) fresh refl,
+      named-more c.args.types.now (names_in c.args.text.now c.args.count) place found.0 found.1
+          name (search (rules, next-name)) (sym c.in-Some.ensures.value) fresh,
       come.rows,
       come.awaited,
       All-push IsAwaitedSatellite found.0 satellite found.4 (awaited-one name c.args.text.now (42 + 3 * place)

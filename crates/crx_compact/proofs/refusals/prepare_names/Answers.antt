@@ -33,7 +33,7 @@ returns-in_default-clause-err c =
     let found = c.loop-index.invariant in
     refused-by BadSatellite _ _ _ (λ out. cc) (named-bad c.args.types.now (names_in c.args.text.now
     c.args.count)
-    c.loop-index.index found.0 c.identifier-name.result found.1 (search (rules, next-name))
+    c.loop-index.index found.0 found.1 c.identifier-name.result (search (rules, next-name))
     (sym c.in_default.ensures.value)) (λ name count has. has)
 
 pub returns-then-eq-clause-err : goal.returns-then-eq-clause-err
@@ -47,7 +47,7 @@ returns-then-eq-clause-err c =
     c.loop-before-test.true (search (rules, c.identifier.ensures.value, c.eq.ensures, c.if-eq.true)) in
     refused-by RepeatedSatellite _ _ _ (λ out. cc) (named-twice c.args.types.now (names_in text c.args.count)
     index
-    found.0 name c.in-Some.field-0 found.1 (search (rules, next-name)) (sym c.in-Some.ensures.value)
+    found.0 found.1 name (search (rules, next-name)) (sym c.in-Some.ensures.value)
     (stands text index name found.0 true found.2 among)) (λ name count has. has)
 
 pub loop-before-preserved : goal.loop-before-preserved
@@ -70,9 +70,8 @@ loop-index-preserved c =
       | else-marks-mark w ↦ search (rules, unmarked)
     ] in (
       found.0 ++ satellite ∷ [],
-      named-more c.args.types.now (names_in text c.args.count) index found.0 (found.0 ++ satellite ∷ []) name
-          c.in-Some.field-0 found.1 (search (rules, next-name)) (sym c.in-Some.ensures.value)
-          (stands text index name found.0 false found.2 fresh) refl,
+      named-more c.args.types.now (names_in text c.args.count) index found.0 found.1 name
+          (search (rules, next-name)) (sym c.in-Some.ensures.value) (stands text index name found.0 false found.2 fresh),
       search (rules, each_place-more, columns, c.identifier-name.ensures.value, map-append),
       rw (c.place_of_mark-mark.ensures.value)
           (subst (λ (names : List (List ℕ)).
@@ -111,7 +110,7 @@ returns-then-is_err-clause-err c = record {
   unasked = λ other name count has. absurd (other refl);
   wanting = λ named is has.
       let rooms = c.args.satellites.now.rooms in
-      let have = names-room c.args.types.now c.args.text.now c.args.count named rooms rooms is has (λ n k h. h) in
+      let have = names-room c.args.types.now c.args.text.now c.args.count named rooms is has in
       search (rules, false≢true, have);
 }
 

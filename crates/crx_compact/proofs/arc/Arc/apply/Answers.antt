@@ -53,7 +53,7 @@ invariant_of-self-in-Step g c =
     let after : take (c.min-last.result + 1) c.go_on.new.differences
     ≡ differences_after c.value_after-value.result (take c.min-last.result c.self.inside.differences) =
     rw (same-bits _ fits') at c.go_on.ensures.after in
-    goes-on-kept _ _ _ _ _ _ _ (record { least = c.min-last.ensures })
+    goes-on-kept _ _ _ _ _ _ _ c.min-last.ensures
     c.self.invariant ((within-is _ _).0 is) after
 
 pub returns-else-not-is_within-2-clause-value : goal.returns-else-not-is_within-2-clause-value

@@ -1,7 +1,7 @@
-use Rattle.std.proofs.{lemmas.Grind.common_steps, Common.{rules, take, sym, ap, subst, ◌∙◌, arith, refl, ℕ}}
+use Rattle.std.proofs.{lemmas.Grind.common_steps, Common.{rules, ◌≡◌, min, take, sym, ap, subst, ◌∙◌, arith, refl, ℕ}}
 use Rattle.crx_compact.specs.{meaning.Differences.newest, Arcs.{IsArcInRange}}
 use Rattle.crx_compact.specs.ArcSteps.{differences_after}
-use Rattle.crx_compact.proofs.arcs.Running.{IsLast, OntoThird, by-after, goes-on-kept}
+use Rattle.crx_compact.proofs.arcs.Running.{OntoThird, by-after, goes-on-kept}
 use Rattle.crx_compact.proofs.arcs.Bounds.{within-is}
 use Rattle.crx_compact.proofs.arcs.Running.{onto-third-kept, same-bits, third-last}
 use Rattle.crx_compact.proofs.{arc.Arc.apply_third.Given.Over, arc.Arc.apply_third.Goals.Else-not-is_third}
@@ -10,7 +10,7 @@ use Rattle.crx_compact.proofs.arc.Arc.apply_third.Goals as goal
 onto : (g : Over) (c : Else-not-is_third g) → OntoThird c.args.number c.self.inside.differences
 onto g c = onto-third-kept _ _ _ _ (search rules) c.self.invariant (search rules) c.args.number c.requires
 
-last : (g : Over) (c : Else-not-is_third g) → IsLast c.self.inside.order c.self.inside.count 3
+last : (g : Over) (c : Else-not-is_third g) → 3 ≡ min c.self.inside.order c.self.inside.count
 last g c = third-last _ _ _ _ (search rules) c.self.invariant (search rules)
 
 pub overflow_add-second : goal.overflow_add-second

@@ -45,7 +45,7 @@ invariant_of-self-2 g c =
     let after : take (c.min-last.result + 1) c.go_on-highest.new.differences
     ≡ differences_after c.in-Some.value (take c.min-last.result c.self.inside.differences) =
     search (rules, same-bits, c.go_on-highest.ensures.after) in
-    goes-on-kept _ _ _ _ _ _ _ (record { least = search rules })
+    goes-on-kept _ _ _ _ _ _ _ (search rules)
     c.self.invariant within after
 
 pub returns : goal.returns
@@ -55,7 +55,7 @@ returns g c =
     let count = c.self.inside.count in
     let last = c.min-last.result in
     let on : GoesOn order count last value c.self.inside.differences =
-    goes-on _ _ _ _ _ (record { least = search rules }) (search rules) (search rules) in
+    goes-on _ _ _ _ _ (search rules) (search rules) (search rules) in
     let code : Step (to_z w64 (of_z w64 c.go_on-highest.result)) ≡ code_of_value c.args.value
     c.args.self.now = search (rules, same-bits) in
     let arc : kept_tail order (take (last + 1) c.go_on-highest.new.differences) ≡ arc_of_value c.args.value

@@ -1,5 +1,5 @@
-use Rattle.crx_compact.proofs.arcs.Running.{IsLast, ToThird, after-three, goes-on, goes-on-kept}
-use Rattle.crx_compact.proofs.Words.{rules, take, sym, ap, subst, ◌∙◌, arith, ℕ, Step}
+use Rattle.crx_compact.proofs.arcs.Running.{ToThird, after-three, goes-on, goes-on-kept}
+use Rattle.crx_compact.proofs.Words.{rules, ◌≡◌, min, take, sym, ap, subst, ◌∙◌, arith, ℕ, Step}
 use Rattle.crx_compact.proofs.arcs.Running.{highest-short, same-bits, third-last, to-third-kept}
 use Rattle.crx_compact.proofs.{arc.Arc.push_third.Given.Over, arc.Arc.push_third.Goals.Else-not-is_third}
 use Rattle.crx_compact.specs.{ArcSteps.highest, Arcs.{IsArcInRange}}
@@ -8,7 +8,7 @@ use Rattle.crx_compact.proofs.arc.Arc.push_third.Goals as goal
 to : (g : Over) (c : Else-not-is_third g) → ToThird c.args.value c.self.inside.differences
 to g c = to-third-kept _ _ _ _ (search rules) c.self.invariant (search rules) c.args.value c.requires
 
-last : (g : Over) (c : Else-not-is_third g) → IsLast c.self.inside.order c.self.inside.count 3
+last : (g : Over) (c : Else-not-is_third g) → 3 ≡ min c.self.inside.order c.self.inside.count
 last g c = third-last _ _ _ _ (search rules) c.self.invariant (search rules)
 
 pub overflow_sub-first : goal.overflow_sub-first

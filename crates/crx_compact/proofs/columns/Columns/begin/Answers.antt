@@ -1,4 +1,4 @@
-use Rattle.crx_compact.proofs.Words.{rules, ◌≡◌, Content, Err, Ok, Some}
+use Rattle.crx_compact.proofs.Words.{rules, ◌≡◌, Content, Some}
 use Rattle.crx_compact.proofs.Words.{first_step, tail_for_line, tail_held}
 use Rattle.crx_compact.proofs.{Words.tail_of_history, columns.Columns.begin.Goals.After-read_epoch_line}
 use Rattle.crx_compact.proofs.columns.Columns.begin.Goals.{then-is_full, else-is_full+else-not-self}
@@ -37,9 +37,7 @@ returns-in-Err-clause-rooms c = rw c.in-Err.is at (rooms (goal.at.returns-in-Err
 
 pub returns-in-Ok-clause-block : goal.returns-in-Ok-clause-block
 returns-in-Ok-clause-block c = λ older e.
-    begun-block (Ok c.in-Ok.field-0) c.args.types.now older (tail_held c.args.self.now.state) c.args.line.now _ e
-    (returns-in-Ok-clause-made c)
+    begun-block c.args.types.now older c.args.line.now e (returns-in-Ok-clause-made c)
 
 pub returns-in-Err-clause-block_fault : goal.returns-in-Err-clause-block_fault
-returns-in-Err-clause-block_fault c = λ older e. begun-refused (Err c.in-Err.fault) c.args.types.now older
-    (tail_held c.args.self.now.state) c.args.line.now e (search rules)
+returns-in-Err-clause-block_fault c = λ older e. begun-refused c.args.types.now older c.args.line.now e (search rules)

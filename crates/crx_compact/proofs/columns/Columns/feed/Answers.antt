@@ -1,10 +1,9 @@
-use Rattle.crx_compact.proofs.Words.{rules, ◌≡◌, ◌∙◌, ◌<◌, ◌⊎◌, sym, ap, subst, arith, length, Ok, Err, Some}
-use Rattle.crx_compact.proofs.Words.{None, eqb-true, OutOfMemory, Content, HasMade, begins_epoch, step_in}
-use Rattle.crx_compact.proofs.reading.Stages.{row-was_awaited, rows-left, state-rows, step-by-stage}
+use Rattle.crx_compact.proofs.Words.{rules, ◌≡◌, ◌∙◌, ◌<◌, sym, ap, subst, arith, length, Some}
+use Rattle.crx_compact.proofs.Words.{None, eqb-true, Content, HasMade, begins_epoch, step_in}
+use Rattle.crx_compact.proofs.reading.Stages.{row-was_awaited, state-rows, step-by-stage}
 use Rattle.crx_compact.proofs.Words.{step_with_rows, tail_of_history, Tail, HeldColumns}
 use Rattle.crx_compact.proofs.reading.{Blocks.{more-block, more-refused}, NoMemory.no-memory-in-epoch}
-use Rattle.crx_compact.proofs.{reading.Stages.step-whole, reading.StepsByCode.{made-more, made-whole}}
-use Rattle.crx_compact.specs.OpenEpochs.{Faulty}
+use Rattle.crx_compact.proofs.{reading.StepsByCode.{made-more, made-whole, step-whole}}
 use Rattle.crx_compact.proofs.columns.Columns.feed.Goals as goal
 
 pub returns-in-Ok-clause-made : goal.returns-in-Ok-clause-made
@@ -16,7 +15,7 @@ returns-in-Ok-clause-made c =
     eqb-true new.count (length new.history.satellites.rows) (sym rows.whole ∙ c.in-Ok-true.field-0-test) in
     let step : step_in c.args.self.now.state (Content c.args.line.now) ≡ step_with_rows tail new.count =
     search (rules, step-by-stage, c.self.view_is, c.in-Ok-true.ensures.ok) in
-    made-whole _ tail new.count c.in-Ok.epoch step (omega (arith, come)) c.in-Ok.ensures.ok
+    made-whole _ tail new.count step (omega (arith, come)) c.in-Ok.ensures.ok
 
 pub returns-in-Err-epoch-clause-memory : goal.returns-in-Err-epoch-clause-memory
 returns-in-Err-epoch-clause-memory c = λ out.
@@ -42,33 +41,23 @@ pub returns-in-Ok-false-clause-made : goal.returns-in-Ok-false-clause-made
 returns-in-Ok-false-clause-made c =
     let new = c.take_line.new in
     let rows = c.in-Ok-false.ensures.ok in
-    let left : new.count < length new.history.satellites.rows =
-    rows-left new.count (length new.history.satellites.rows) (sym rows.whole ∙ c.in-Ok-false.field-0-test)
-    rows.within in
     subst (λ s. HasMade (step_in c.args.self.now.state (Content c.args.line.now)) s None) (sym (state-rows
     c.self.inside.is_kept new.expected new.count new.history rows.rows)) (made-more _ (tail_of_history
-    new.history) new.count (search (rules, step-by-stage, c.self.view_is, c.in-Ok-false.ensures.ok)) left)
+    new.history) new.count (search (rules, step-by-stage, c.self.view_is, c.in-Ok-false.ensures.ok))
+    (sym rows.whole ∙ c.in-Ok-false.field-0-test) rows.within)
 
 pub returns-in-Ok-false-clause-block : goal.returns-in-Ok-false-clause-block
 returns-in-Ok-false-clause-block c = λ types older lines r. record {
-  made = more-block (Ok None) types older lines c.args.line.now c.args.self.now.state _ r
-      (returns-in-Ok-false-clause-made c);
+  made = more-block types older lines c.args.line.now r None _ (returns-in-Ok-false-clause-made c);
   refused = search rules;
 }
 
 pub returns-in-Ok-clause-block : goal.returns-in-Ok-clause-block
 returns-in-Ok-clause-block c = λ types older lines r. record {
-  made = more-block (Ok (Some c.in-Ok.epoch)) types older lines c.args.line.now c.args.self.now.state _ r
-      (returns-in-Ok-clause-made c);
+  made = more-block types older lines c.args.line.now r (Some c.in-Ok.epoch) _ (returns-in-Ok-clause-made c);
   refused = search rules;
 }
 
 pub returns-in-Err-clause-block : goal.returns-in-Err-clause-block
 returns-in-Err-clause-block c = λ types older lines r.
-    let refused : (step_in c.args.self.now.state (Content c.args.line.now) ≡ Faulty c.in-Err.fault)
-    ⊎ (c.in-Err.fault ≡ OutOfMemory) = search rules in
-    record {
-      made = search rules;
-      refused = more-refused (Err c.in-Err.fault) types older lines c.args.line.now c.args.self.now.state r
-          refused;
-    }
+    record { made = search rules; refused = more-refused types older lines c.args.line.now r (search rules) }

@@ -2,7 +2,7 @@ use Rattle.crx_compact.proofs.Words.{rules, refl, ◌≡◌, ◌∙◌, ◌<◌,
 use Rattle.crx_compact.proofs.Words.{ap, subst, length, None, eqb-true, Content}
 use Rattle.crx_compact.proofs.Words.{HasMade, HeldColumns, step_in}
 use Rattle.crx_compact.proofs.{Words.{tail_of_history}, PrintedBlocks.{block-whole, idle-unprinted, printed-before, rows-printed}}
-use Rattle.crx_compact.proofs.reading.Stages.{rows-left, state-rows, step-by-stage}
+use Rattle.crx_compact.proofs.reading.Stages.{state-rows, step-by-stage}
 use Rattle.crx_compact.proofs.reading.StepsByCode.{made-more, printed-whole}
 use Rattle.crx_base.specs.Padded.{line_in}
 use Rattle.crx_compact.proofs.columns.Columns.feed_into.Goals as goal
@@ -11,19 +11,17 @@ pub returns-then-not-is_whole-clause-made : goal.returns-then-not-is_whole-claus
 returns-then-not-is_whole-clause-made c =
     let new = c.take_line.new in
     let rows = c.in-Ok.ensures.ok in
-    let left : new.count < length new.history.satellites.rows =
-    rows-left new.count (length new.history.satellites.rows) (sym rows.whole ∙ (search c.if-not-is_whole))
-    rows.within in
     subst (λ s. HasMade (step_in c.args.self.now.state (Content (line_in c.args.line))) s None)
     (sym (state-rows c.self.inside.is_kept new.expected new.count new.history rows.rows)) (made-more _ (tail_of_history
-    new.history) new.count (search (rules, step-by-stage, c.self.view_is, c.in-Ok.ensures.ok)) left)
+    new.history) new.count (search (rules, step-by-stage, c.self.view_is, c.in-Ok.ensures.ok))
+    (sym rows.whole ∙ (search c.if-not-is_whole)) rows.within)
 
 pub returns-else-not-is_whole-clause-made : goal.returns-else-not-is_whole-clause-made
 returns-else-not-is_whole-clause-made c =
     let new = c.take_line.new in
     let come : new.count ≡ length new.history.satellites.rows = eqb-true new.count (length
     new.history.satellites.rows) (sym c.in-Ok.ensures.ok.whole ∙ (search c.if-not-is_whole)) in
-    printed-whole _ (tail_of_history new.history) new.count c.print.new.lines.lines (search (
+    printed-whole _ (tail_of_history new.history) new.count (search (
       rules,
       step-by-stage,
       c.self.view_is,

@@ -13,13 +13,13 @@ unwrap-requires c =
 
 pub returns-clause-head : goal.returns-clause-head
 returns-clause-head c =
-    ap (λ (e : Epoch). e.head) (made-line c.new.result c.padded.result c.value.result c.unwrap.result
+    ap (λ (e : Epoch). e.head) (made-line c.new.result c.padded.result c.value.result
     c.new.ensures.value c.unwrap.ensures)
     ∙ c.padded.ensures.value ∙ ap (λ t. columns t 1 HEAD_WIDTH) (ap (λ (t : OpenHistory). t.text)
     c.self.view_is)
 
 pub returns-clause-clock : goal.returns-clause-clock
 returns-clause-clock c =
-    ap (λ (e : Epoch). e.clock) (made-line c.new.result c.padded.result c.value.result c.unwrap.result
+    ap (λ (e : Epoch). e.clock) (made-line c.new.result c.padded.result c.value.result
     c.new.ensures.value c.unwrap.ensures)
     ∙ c.value.ensures.value ∙ ap (λ (t : OpenHistory). shown_value t.clock) c.self.view_is

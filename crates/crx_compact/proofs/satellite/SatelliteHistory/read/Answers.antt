@@ -11,7 +11,7 @@ returns-in_err-at c =
     rw (p.1, p.2, ← c.self.view_is) (record {
       ok = tt;
       err = cells-refused c.self.inside.indicators.items c.self.inside.arcs.items
-          c.self.inside.count (line_in c.args.line) _ c.self.invariant.1 c.requires.other
+          c.self.inside.count (line_in c.args.line) c.self.invariant.1 c.requires.other
           (rw (c.deref_mut.ensures.value) at c.in_err-at.ensures.err);
       sized = search (rules, length-take-le, take_at);
       room = grind (arith, common_steps);
@@ -30,7 +30,7 @@ returns c =
       ok = search (rules, take_rest, take_at, on-both, stored-read);
       err = rw (← c.self.view_is) (
           IfErr-weaker c.patch_indicators.result _ _ (λ fault. flags-refused c.self.inside.indicators.items
-          c.self.inside.arcs.items _ c.self.inside.count (line_in c.args.line) at fault c.self.invariant.1
+          c.self.inside.arcs.items c.self.inside.count (line_in c.args.line) c.self.invariant.1
           c.requires.other (rw (c.deref_mut.ensures.value) at c.in_ok-at.ensures.ok)) refused);
       sized = search (rules, length-take-le, take_at);
       room = grind (arith, common_steps);
