@@ -1,7 +1,7 @@
 -- After an epoch line: the rows are of the satellites that the text announces.
-use Rattle.crx_compact.proofs.Words.{◌≡◌, [], ◌∷◌, ℕ, List, true, All, Result, Ok, map, refl}
-use Rattle.crx_compact.proofs.Words.{list_all, is_printable, patched, length-each_place, Fault, Count}
-use Rattle.crx_compact.proofs.Words.{IsAwaitedSatellite, past_of_tail, satellites_of_line, satellites_of_text}
+use Rattle.crx_compact.proofs.Words.{◌≡◌, [], ◌∷◌, ℕ, List, All, Ok, map, refl}
+use Rattle.crx_compact.proofs.Words.{patched, length-each_place, Count}
+use Rattle.crx_compact.proofs.Words.{IsAwaitedSatellite, past_of_tail, satellites_of_line}
 use Rattle.crx_compact.proofs.Words.{Satellite, IsAnnounced, OpenHistory, padded_among, satellite_of, rules}
 use Rattle.crx_compact.proofs.Words.{RowTail, Tail, arith}
 use Rattle.crx_compact.proofs.EpochLines.{announced, named-by_line}
@@ -23,10 +23,3 @@ announced-rows types before line satellites history read text rows sound =
       named = rw (again, text) (named-by_line types before line satellites read);
       satellites = rw again sound;
     }
-
--- a line of printable characters has the satellites of the text that it makes
-pub line-of_text : (types : List Count) (before : Tail) (line text : List ℕ)
-    (r : Result (List Satellite) Fault)
-    → list_all is_printable line ≡ true → text ≡ patched before.text line → satellites_of_text types text ≡ r
-    → satellites_of_line types (past_of_tail before) line ≡ r
-line-of_text types before line text r printable made read = grind arith

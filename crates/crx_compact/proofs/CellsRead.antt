@@ -1,10 +1,10 @@
 -- The cells of a line, read from left to right.
 use Rattle.crx_compact.proofs.Words.{◌≡◌, ◌≤◌, ◌<◌, refl, ℕ, suc, ◌+◌, ℤ, List, [], ◌∷◌, ◌++◌, length}
-use Rattle.crx_compact.proofs.Words.{map, take, drop, slice_index_or, Option, None, Result, Ok, Err, ◌∙◌, ap}
+use Rattle.crx_compact.proofs.Words.{map, take, drop, slice_index_or, Option, None, Result, Ok, Err, ◌∙◌}
 use Rattle.crx_compact.proofs.Words.{arith, rules, append-nil, length-map, map-append, length-each_place}
 use Rattle.crx_compact.proofs.Words.{code_of, Code, Fault, BadField, ReadCell}
 use Rattle.crx_compact.proofs.Words.{cell_read, cells_read, cells_of, after_cells, ArcTail, arc_of_code}
-use Rattle.crx_compact.proofs.Words.{value_of_code, shown_value, OBSERVATION_WIDTH, value_at_place}
+use Rattle.crx_compact.proofs.Words.{value_of_code, shown_value, value_at_place}
 use Rattle.crx_compact.proofs.{PlaceByPlace.from-place, Results.{onto, onto-err, onto-more, onto-ok}}
 use Rattle.std.proofs.{lemmas.Grind.common_steps, Math.Seq.{get_or-append_seam, set-append_seam, take-set-lt}}
 use Rattle.std.proofs.Common.{length-append, append_assoc}
@@ -73,7 +73,8 @@ module _ (first : List (Option ArcTail)) (line : List ℕ) (at k : ℕ) (arcs : 
     arc-there = grind (arith, common_steps, from-place, made-count, get_or-append_seam)
 
     -- the next cell, and the arcs with its own in its place
-    pub read-next : {arcs' made : List (Option ArcTail)} {taken : ℕ} → IsCellRead arcs k (drop at line) arcs made taken
+    pub read-next : {arcs' made : List (Option ArcTail)} {taken : ℕ}
+        → IsCellRead arcs k (drop at line) arcs made taken
         → arcs' ≡ made → ReadUpTo first line (at + taken) (k + 1) arcs'
     read-next read made_is =
         let old : Option ArcTail = slice_index_or first k None in
@@ -85,19 +86,17 @@ module _ (first : List (Option ArcTail)) (line : List ℕ) (at k : ℕ) (arcs : 
         let both = map-append shown_value so_far (arc ∷ []) in
         let values = map-append (λ (q : ReadCell). q.value) s.cells (c ∷ []) in
         let many = made-count first s.cells k s.counted in
-        let coded : length (codes_in s.cells) ≡ k = length-map s.cells (λ (q : ReadCell). q.code) ∙ s.counted in
+        let coded : length (codes_in s.cells) ≡ k =
+        length-map s.cells (λ (q : ReadCell). q.code) ∙ s.counted in
         let more : arcs_of_codes first (codes_in (s.cells ++ c ∷ [])) ≡ so_far ++ arc ∷ [] =
         search (rules, arcs-more, map-append) in
         search (rules, length-append, onto-more, drop-drop, length-drop, set-append_seam, append_assoc)
 
     -- a fault of the next cell is that of them all
-    pub next-refused : {fault : Fault} → cell_read BadField (value_at_place arcs k) (code_of (first_cell (drop at line))) ≡ Err fault
+    pub next-refused : {fault : Fault}
+        → cell_read BadField (value_at_place arcs k) (code_of (first_cell (drop at line))) ≡ Err fault
         → cells_read (value_at_place first) (cells_of (length first) line) ≡ Err fault
-    next-refused {fault} refused =
-        let there = ap (λ (arc : Option ArcTail).
-        cell_read BadField (λ code. value_of_code OBSERVATION_WIDTH code arc) (code_of (first_cell (drop at line)))) arc-there in
-        let step = rw (from-place None k first h) at s.so_far in
-        cc (onto-err s.cells fault)
+    next-refused refused = grind (arith, arc-there, from-place None k first h, onto-err)
 
 -- what is read of the first arcs, of which the next one is
 module _ (count : ℕ) (arcs : List (Option ArcTail)) (k : ℕ) (rest : List ℕ) (less : k < count) where
@@ -105,7 +104,8 @@ module _ (count : ℕ) (arcs : List (Option ArcTail)) (k : ℕ) (rest : List ℕ
       → IsCellRead (take count arcs) k rest (take count arcs) (take count made) taken
   first-read read = search (rules, get_or-take, take-set-lt)
 
-  pub first-refused : {fault : Fault} → cell_read BadField (value_at_place arcs k) (code_of (first_cell rest)) ≡ Err fault
+  pub first-refused : {fault : Fault}
+      → cell_read BadField (value_at_place arcs k) (code_of (first_cell rest)) ≡ Err fault
       → cell_read BadField (value_at_place (take count arcs) k) (code_of (first_cell rest)) ≡ Err fault
   first-refused refused = search (rules, get_or-take)
 

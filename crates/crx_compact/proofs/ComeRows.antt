@@ -39,7 +39,8 @@ pub awaited-after : {X : Type 0} (f : X → List ℕ) (come : List X) (x : X) (b
     (old new : PlacedRows)
     → AreAwaited f come before old.rest → HasCome (f x) old new
     → AreAwaited f (come ++ x ∷ []) before new.rest
-awaited-after f come x before old new awaited has = grind (arith, common_steps, list_any-append, or_parts, other_way)
+awaited-after f come x before old new awaited has =
+    grind (arith, common_steps, list_any-append, or_parts, other_way)
 
 -- ---- the next row of an epoch
 

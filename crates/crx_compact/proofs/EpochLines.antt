@@ -8,8 +8,9 @@ use Rattle.crx_compact.proofs.Words.{Past, satellites_of_line, length-map, apart
 use Rattle.crx_compact.proofs.Words.{AreAnnounced, length-each_place, patched, HEAD_WIDTH, NAME_WIDTH, All}
 use Rattle.crx_compact.proofs.Words.{subst, arith, All-head, All-tail, common_steps, list_any}
 use Rattle.crx_compact.proofs.Words.{NamesSatellites, ◌or_else◌with◌, satellite_before, ◌≤◌, by_position, character_of}
-use Rattle.crx_compact.proofs.Words.{None, rules, at-without_end_blanks, satellites_few, unwrap_or, SATELLITES_LIMIT}
-use Rattle.crx_compact.proofs.EpochTexts.{blank-after, ends-within}
+use Rattle.crx_compact.proofs.Words.{None, rules, at-without_end_blanks, satellites_few, unwrap_or}
+use Rattle.crx_compact.proofs.Words.{SATELLITES_LIMIT}
+use Rattle.crx_compact.proofs.{EpochTexts.blank-after, SoundTexts.ends-within}
 use Rattle.crx_compact.specs.declared.history.TheConstants.{EPOCH_TEXT_LIMIT}
 use Rattle.crx_compact.proofs.{Identifiers.{AreNew, new-before}, Results.{if-err, if-true}}
 
@@ -101,20 +102,25 @@ module _ (types : List Count) (before : Tail) (line : List ℕ) (satellites : Li
 
   -- an epoch line that was read announces its satellites, no two of one identifier, and names them
   pub announced : AreAnnounced text satellites
-  announced = record {
-    counted = facts.counted ∙ ap {B = Option ℕ} Some (sym many);
-    apart = cc (apart-map (λ (n : List ℕ). n) (λ (s : Satellite). s.name) satellites, facts.named.same, facts.named.apart);
-  }
+  announced =
+      let names = apart-map (λ (n : List ℕ). n) (λ (s : Satellite). s.name) satellites in
+      record {
+        counted = facts.counted ∙ ap {B = Option ℕ} Some (sym many);
+        apart = cc (names, facts.named.same, facts.named.apart);
+      }
 
   pub named-by_line : NamesSatellites text satellites
   named-by_line = record { earlier = types; named = cc (many, facts.read) }
 
   -- they are no more, and its text is no longer, than an epoch's
   pub named-few : length satellites ≤ SATELLITES_LIMIT
-  named-few = omega (arith, many, satellites_few (columns text 1 41), ap (λ (n : Option ℕ). unwrap_or n 0) facts.counted)
+  named-few =
+      let count = ap (λ (n : Option ℕ). unwrap_or n 0) facts.counted in
+      omega (arith, many, satellites_few (columns text 1 41), count)
 
   pub text-few : length text ≤ EPOCH_TEXT_LIMIT
   text-few =
       let within = ends-within (41 + 3 * facts.count) (by_position character_of before.text line)
-      (λ p. sym (at-without_end_blanks _ (41 + 3 * facts.count + p)) ∙ blank-after (41 + 3 * facts.count) text facts.ended p) in
+      (λ p. sym (at-without_end_blanks _ (41 + 3 * facts.count + p))
+      ∙ blank-after (41 + 3 * facts.count) text facts.ended p) in
       omega (arith, within, many, named-few)

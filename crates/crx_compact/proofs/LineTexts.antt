@@ -2,7 +2,7 @@
 use Rattle.crx_compact.proofs.Words.{◌≡◌, ◌≤◌, ◌<◌, ℕ, suc, ◌+◌, ◌-◌, List, [], ◌∷◌, ◌++◌, length, set}
 use Rattle.crx_compact.proofs.Words.{take, drop, get_or, slice_get, Some, ap, arith, drop-append_seam, rules}
 use Rattle.crx_compact.proofs.Words.{take-take, length-append, length-set, length-take-le, take_more_set, cut}
-use Rattle.crx_compact.proofs.Words.{AreCut, HasFront, common_steps}
+use Rattle.crx_compact.proofs.Words.{AreCut, common_steps}
 use Rattle.std.proofs.lemmas.List.{drop-append-le, drop-drop, drop-set, drop-take, drop_more}
 use Rattle.std.proofs.{Common.append_assoc, lemmas.List.{take-append-drop, take-append-le, length-drop}}
 use Rattle.std.proofs.Math.Seq.{take-append_seam, drop-append-add, take-append-add, take-set-lt}
@@ -121,11 +121,6 @@ row-pushed lengths bytes used new line many filled room count past past_bytes fr
     (omega (arith, put.short, short)) (cc (more, ended, same)) (omega (arith, long, put.within))
 
 -- ---- lines in front
-
--- there is room in front of more lines too
-pub front-kept : (front lines bytes lines' bytes' : ℕ)
-    → HasFront front lines bytes → lines ≤ lines' → bytes ≤ bytes' → HasFront front lines' bytes'
-front-kept front lines bytes lines' bytes' h more more' = (omega (arith, h, more), omega (arith, h, more'))
 
 -- the first of some lines, and the others
 cut-first : (counts line rest : List ℕ)

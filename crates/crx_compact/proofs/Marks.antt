@@ -1,15 +1,15 @@
 -- The marks of a satellite line, and the row that its cells and marks make.
 use Rattle.crx_compact.proofs.Words.{◌≡◌, refl, ℕ, suc, ◌*◌, true, false, List, [], ◌∷◌, ℤ, length}
-use Rattle.crx_compact.proofs.Words.{drop, slice_index_or, Option, None, Result, Ok, Err, ◌==◌, BadFlags}
+use Rattle.crx_compact.proofs.Words.{drop, slice_index_or, Option, None, Result, Ok, ◌==◌}
 use Rattle.crx_compact.proofs.Words.{zero, list_all, ap, arith, rules, length-map, columns}
 use Rattle.crx_compact.proofs.Words.{without_end_blanks, is_kept, is_printable, patched, Code, Fault}
-use Rattle.crx_compact.proofs.Words.{BadField, before_all, begins_epoch, Tail, cell_of_tail}
-use Rattle.crx_compact.proofs.Words.{◌otherwise◌next◌, Satellite, ReadCell, cells_of, cells_read}
-use Rattle.crx_compact.proofs.Words.{cell_read, ReadRow, are_marks, row_of_cells, Past, ArcTail, RowTail}
+use Rattle.crx_compact.proofs.Words.{begins_epoch, Tail, cell_of_tail}
+use Rattle.crx_compact.proofs.Words.{Satellite, ReadCell, cells_of, cells_read}
+use Rattle.crx_compact.proofs.Words.{are_marks, ArcTail, RowTail}
 use Rattle.crx_compact.proofs.Words.{flags_held, tail_named, arcs_of_tail}
-use Rattle.crx_compact.proofs.Words.{list_all-from_at, code_of, common_steps}
+use Rattle.crx_compact.proofs.Words.{list_all-from_at, common_steps}
 use Rattle.crx_compact.proofs.Words.{row_held, at, at-without_end_blanks}
-use Rattle.crx_compact.proofs.{CellsRead.cells-within, Results.{and_then-ok, before-ok}}
+use Rattle.crx_compact.proofs.{CellsRead.cells-within}
 use Rattle.crx_compact.proofs.{SoundTexts.{held-columns, same-columns}, PlaceByPlace.{at-take}}
 use Rattle.crx_compact.proofs.Characters.{list_all-at, at-by_position}
 use Rattle.std.specs.Prelude.{OnOk}
@@ -41,21 +41,12 @@ columns-held count flags = search (rules, same-columns, at-without_end_blanks, a
 
 -- ---- a satellite's line
 
-abbrev pub row_with_marks : Past → Satellite → List ℕ → List ReadCell → Result ReadRow Fault
-row_with_marks past satellite marks cells = are_marks satellite.count marks otherwise Err BadFlags next Ok
-    (row_of_cells past satellite.name marks cells)
-
 -- ---- cells
 
 pub cells-count : (value : ℕ → Code → Result (Option ℤ) Fault) (texts : List (List ℕ)) (cells : List ReadCell)
     → cells_read value texts ≡ Ok cells → length cells ≡ length texts
 cells-count value [] cells e = grind (arith, e)
-cells-count value (text ∷ texts) cells e =
-    let rest = cells_read (λ j. value (suc j)) texts in
-    let one = and_then-ok (cell_read BadField (value 0) (code_of text)) (λ c. before_all c rest) cells e in
-    let two = before-ok one.from rest cells one.next in
-    let same : one.from ∷ two.from ≡ cells = cc two.next in
-    rw (← same) (ap suc (cells-count (λ j. value (suc j)) texts two.from two.first))
+cells-count value (text ∷ texts) cells e = grind (arith, cells-count (λ j. value (suc j)) texts)
 
 pub texts-count : (count : ℕ) (line : List ℕ) → length (cells_of count line) ≡ count
 texts-count zero line = refl
@@ -67,7 +58,8 @@ texts-count (suc count) line = ap suc (texts-count count (after_cell line))
 pub line-held : (arcs : List (Option ArcTail)) (flags : List ℕ) (satellite : Satellite) (line : List ℕ)
     (left : List (Option ArcTail)) (at : ℕ) (held : List ℕ) → begins_epoch line ≡ false
     → CellsAreRead arcs satellite.count line left at → are_marks satellite.count (drop at line) ≡ true
-    → held ≡ columns (patched flags (drop at line)) 1 (2 * satellite.count) → row_held_from arcs flags satellite line
+    → held ≡ columns (patched flags (drop at line)) 1 (2 * satellite.count)
+    → row_held_from arcs flags satellite line
     ≡ Ok (record { name = satellite.name; flags = without_end_blanks held; cells = left })
 line-held arcs flags satellite line left at held h read e columned =
     let count : length read.cells ≡ satellite.count = search (rules, cells-count, texts-count) in

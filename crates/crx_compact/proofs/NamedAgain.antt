@@ -1,8 +1,8 @@
 -- An epoch line after which the satellites of the epoch before come again: no mark is in the columns of their
 -- identifiers.
 use Rattle.crx_compact.proofs.Words.{rules, ◌≡◌, ◌≤◌, ◌+◌, ◌*◌, ◌∙◌, ℕ, List, [], ◌∷◌, Some, All, length, map}
-use Rattle.crx_compact.proofs.Words.{ap, sym, refl, replicate, subst, length-map, HEAD_WIDTH, NAME_WIDTH}
-use Rattle.crx_compact.proofs.Words.{columns, by_position, character_of, patched, at, at-without_end_blanks}
+use Rattle.crx_compact.proofs.Words.{sym, refl, replicate, subst, length-map, HEAD_WIDTH, NAME_WIDTH}
+use Rattle.crx_compact.proofs.Words.{at, columns, patched, at-without_end_blanks}
 use Rattle.crx_compact.proofs.Words.{columns-are, length-columns, Count, types_of_satellite}
 use Rattle.crx_compact.proofs.Words.{IsAwaitedSatellite, Satellite, names_in, satellites_named, HasRoom}
 use Rattle.crx_compact.proofs.Words.{PlacedRows, padded_among, satellite_of, RowTail, All-head, All-tail}
@@ -15,8 +15,7 @@ use Rattle.crx_compact.specs.RowsSoFar.{NamesSatellites}
 
 -- behind the marks the text stays
 at-unmarked : (text line : List ℕ) (p : ℕ) → length line ≤ p → at (patched text line) p ≡ at text p
-at-unmarked text line p behind = at-without_end_blanks (by_position character_of text line) p
-    ∙ at-by_position character_of refl text line p ∙ ap (character_of (at text p)) (at_past line p behind)
+at-unmarked text line p behind = search (rules, at-without_end_blanks, at-by_position, at_past)
 
 name-kept : (text line : List ℕ) (k : ℕ) → length line ≤ HEAD_WIDTH
     → columns (patched text line) (HEAD_WIDTH + 1 + NAME_WIDTH * k) NAME_WIDTH
@@ -34,8 +33,8 @@ own-rows : (types : List Count) (before : PlacedRows) (rows : List RowTail) → 
     → map (padded_among before.rest) (map satellite_of rows) ≡ rows
 own-rows types before [] again = refl
 own-rows types before (row ∷ rows) again =
-    let own = IsAgain.own (All-head (IsAgain types before) row rows again) in
-    cc (own-rows types before rows (All-tail (IsAgain types before) row rows again))
+    let first = All-head (IsAgain types before) row rows again in
+    cc (first.own, own-rows types before rows (All-tail (IsAgain types before) row rows again))
 
 pub read-again : (types : List Count) (text : List ℕ) (count : ℕ) (old new : PlacedRows)
     → HaveComeAgain types old new → count ≡ length old.rest → NamesSatellites text (map satellite_of old.rest)

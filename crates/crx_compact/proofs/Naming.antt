@@ -26,22 +26,17 @@ names-more (q ∷ qs) s earlier = names-more qs s (q.name ∷ earlier)
 
 -- ---- whether an identifier is there already
 
-either-way : (xs ys : List ℕ) → bytes_eq xs ys ≡ bytes_eq ys xs
-either-way xs ys = grind (arith, common_steps, other_way)
-
-regroup : (a b c : Bool) → ((a || b) || c) ≡ (b || (a || c))
-regroup a b c = grind arith
-
 any-after : (name : List ℕ) (ss : List Satellite) (earlier : List (List ℕ))
     → list_any (bytes_eq name) (names_after ss earlier)
     ≡ (list_any (bytes_eq name) earlier || list_any (λ (s : Satellite). bytes_eq s.name name) ss)
 any-after name [] earlier = grind arith
-any-after name (s ∷ ss) earlier = grind (arith, regroup, either-way, any-after name ss (s.name ∷ earlier))
+any-after name (s ∷ ss) earlier = grind (arith, common_steps, other_way, any-after name ss (s.name ∷ earlier))
 
 -- ---- one identifier more
 
 -- the identifiers up to a place are read
-pub record NamedSoFar (types : List Count) (all : List (List ℕ)) (place : ℕ) (found : List Satellite) : Type 0 where
+pub record NamedSoFar (types : List Count) (all : List (List ℕ)) (place : ℕ)
+    (found : List Satellite) : Type 0 where
   pub so_far : satellites_named types [] all
       ≡ onto found (satellites_named types (names_after found []) (drop place all))
 
@@ -51,11 +46,13 @@ module _ (types : List Count) (all : List (List ℕ)) (place : ℕ) (found : Lis
   named-all e = cc (n.so_far, e, onto-ok found)
 
   module _ (name : List ℕ) (e : drop place all ≡ name ∷ drop (place + 1) all) where
-    at-next : satellites_named types [] all ≡ onto found (satellite_before (names_after found []) name
-        (types_of_satellite types name) (satellites_named types (name ∷ names_after found []) (drop (place + 1) all)))
+    at-next : satellites_named types [] all ≡ onto found
+        (satellite_before (names_after found []) name (types_of_satellite types name)
+        (satellites_named types (name ∷ names_after found []) (drop (place + 1) all)))
     at-next = cc (n.so_far, e)
 
-    stands : list_any (bytes_eq name) (names_after found []) ≡ list_any (λ (s : Satellite). bytes_eq s.name name) found
+    stands : list_any (bytes_eq name) (names_after found [])
+        ≡ list_any (λ (s : Satellite). bytes_eq s.name name) found
     stands = any-after name found []
 
     pub named-bad : types_of_satellite types name ≡ None → satellites_named types [] all ≡ Err BadSatellite
@@ -95,19 +92,17 @@ names-room types text count named rooms is has = λ place cells within some.
     let facts = satellites-facts types [] (names_in text count) named is in
     let blank : Satellite = record { name = []; count = 0 } in
     let s = get_or named place blank in
-    let less : place < length named = omega (
-      arith,
-      within,
-      ap length facts.same,
-      length-map named (λ (s : Satellite). s.name),
-      length-each_place count (λ k. columns text (42 + 3 * k) 3),
-    ) in
+    let names = length-map named (λ (s : Satellite). s.name) in
+    let many = length-each_place count (λ k. columns text (42 + 3 * k) 3) in
+    let less : place < length named = omega (arith, within, ap length facts.same, names, many) in
     let same : s.name ≡ name = sym (get_or-map (λ (s : Satellite). s.name) named place blank [] less)
-    ∙ ap (λ ns. get_or ns place []) facts.same ∙ index-each_place count place (λ k. columns text (42 + 3 * k) 3) []
+    ∙ ap (λ ns. get_or ns place []) facts.same
+    ∙ index-each_place count place (λ k. columns text (42 + 3 * k) 3) []
     (λ past. absurd (omega (arith, within, past))) in
     let counted = All-from_recursion (λ (s : Satellite). types_of_satellite types s.name ≡ Some s.count) named
     facts.known place blank less in
-    rw (← same, ← same_Some s.count cells (sym counted ∙ ap (types_of_satellite types) same ∙ some)) (has place blank less)
+    let cells_are = same_Some s.count cells (sym counted ∙ ap (types_of_satellite types) same ∙ some) in
+    rw (← same, ← cells_are) (has place blank less)
 
 -- the satellite at one place more has room
 pub names-room-more : (types : List Count) (text : List ℕ) (place : ℕ) (before now : List (List ℕ × ℕ))

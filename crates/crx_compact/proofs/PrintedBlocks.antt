@@ -1,6 +1,6 @@
 -- The printed lines of an epoch, as its rows come.
-use Rattle.crx_compact.proofs.Words.{◌≡◌, ◌++◌, ◌∷◌, ◌+◌, [], List, ℕ, length, Some, slice_get, arith, take_all, printed_epoch}
-use Rattle.crx_compact.proofs.Words.{OpenHistory, tail_of_history, lines_to, shown_epoch, rules, Tail, RowTail}
+use Rattle.crx_compact.proofs.Words.{◌≡◌, ◌++◌, ◌∷◌, ◌+◌, [], List, ℕ, Some, slice_get, arith}
+use Rattle.crx_compact.proofs.Words.{OpenHistory, tail_of_history, lines_to, rules, Tail, RowTail}
 use Rattle.crx_compact.proofs.Words.{columns, HEAD_WIDTH, printed_head, printed_row, shown_row, shown_value, IsRowRead, PendingLines}
 use Rattle.crx_compact.proofs.Words.{◌<◌, ◌-◌, ◌∙◌, ap, sym, refl, Bool, Expected, ColumnsState, columns_state}
 use Rattle.crx_compact.proofs.Words.{Option, Idle, Reading, with_rows}
@@ -9,11 +9,6 @@ use Rattle.crx_compact.specs.{OpenLines.IsLineTaken, PrintedBlocks.ArePrinted}
 use Rattle.crx_compact.proofs.{RowByRow.printed-next}
 use Rattle.crx_compact.specs.{Blocks.{HasTakenLine, no_lines}, PrintedBlocks.IsPrinted}
 use Rattle.std.proofs.lemmas.List.{take-set-le}
-
--- all lines are those of the epoch
-pub block-whole : (tail : Tail) (lines : List (List ℕ)) → lines ≡ lines_to (length tail.rows) tail
-    → lines ≡ printed_epoch (shown_epoch tail (length tail.rows))
-block-whole tail lines is = grind (arith, take_all)
 
 -- the first line, in place of all lines
 pub head-printed : (count : ℕ) (tail : Tail) (line : List ℕ) (none block : PendingLines) → count ≡ 0

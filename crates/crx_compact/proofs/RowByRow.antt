@@ -5,7 +5,8 @@ use Rattle.crx_compact.proofs.Words.{take, map, slice_get, sym, ◌∙◌, subst
 use Rattle.crx_compact.proofs.Words.{map-append, slice_get_within}
 use Rattle.crx_compact.proofs.{Words.{printed_row, shown_row, RowTail}, Making.taken_more}
 use Rattle.crx_compact.specs.Entries.{Entry}
-use Rattle.std.proofs.{Common.{Bool, IsTrue, append_assoc, ◌≤◌, ◌↔◌}, lemmas.Option.{get_or_from_slice_get, slice_get_cases}}
+use Rattle.std.proofs.Common.{Bool, IsTrue, append_assoc, ◌≤◌, ◌↔◌}
+use Rattle.std.proofs.lemmas.Option.{get_or_from_slice_get, slice_get_cases}
 use Rattle.std.proofs.lemmas.List.{Elements.All-push}
 
 -- ---- what holds of each
@@ -40,10 +41,9 @@ pub printed-next : (before lines more : List (List ℕ)) (rows : List RowTail) (
     → lines ≡ before ++ map printed_row (map shown_row (take k rows)) → slice_get rows k ≡ Some row
     → more ≡ lines ++ printed_row (shown_row row) ∷ []
     → more ≡ before ++ map printed_row (map shown_row (take (k + 1) rows))
-printed-next before lines more rows k row so_far here last =
+printed-next before lines more rows k row made here last =
     let taken = taken_more rows k row here in
     let shown = map-append shown_row (take k rows) (row ∷ []) in
-    cc (
-      map-append printed_row (map shown_row (take k rows)) (shown_row row ∷ []),
-      append_assoc before (map printed_row (map shown_row (take k rows))) (printed_row (shown_row row) ∷ []),
-    )
+    let so_far = map shown_row (take k rows) in
+    let printed = map-append printed_row so_far (shown_row row ∷ []) in
+    cc (append_assoc before (map printed_row so_far) (printed_row (shown_row row) ∷ []))

@@ -26,7 +26,8 @@ module _ (indicators : List ℕ) (arcs : List (Option ArcTail)) (count : ℕ) (l
       → (name : List ℕ) → stored_read indicators arcs count line name ≡ Err fault
   cells-refused e name = grind (arith, counted)
 
-  module _ {at : ℕ} {left : List (Option ArcTail)} (read : CellsAreRead (take count arcs) count line left at) where
+  module _ {at : ℕ} {left : List (Option ArcTail)}
+      (read : CellsAreRead (take count arcs) count line left at) where
     pub flags-refused : {fault : Fault} → (are_marks count (drop at line) ≡ false) × (fault ≡ BadFlags)
         → (name : List ℕ) → stored_read indicators arcs count line name ≡ Err fault
     flags-refused e name = grind (arith, counted)
@@ -35,11 +36,10 @@ module _ (indicators : List ℕ) (arcs : List (Option ArcTail)) (count : ℕ) (l
         → held ≡ columns (patched (take (2 * count) indicators) (drop at line)) 1 (2 * count)
         → (name : List ℕ) → stored_read indicators arcs count line name
         ≡ Ok (record { name = name; flags = without_end_blanks held; cells = left })
-    stored-read good held name = cc (
-      counted name,
-      line-held (take count arcs) (take (2 * count) indicators)
-          (record { name = name; count = count }) line left at _ other read good held,
-    )
+    stored-read good held name =
+        let kept = line-held (take count arcs) (take (2 * count) indicators)
+        (record { name = name; count = count }) line left at _ other read good held in
+        cc (counted name, kept)
 
 -- ---- without marks
 

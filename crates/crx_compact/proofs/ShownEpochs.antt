@@ -1,8 +1,8 @@
 -- The epoch that a history shows, row by row: each row goes after those before it.
 use Rattle.crx_compact.proofs.Words.{◌≡◌, slice_get, length-map, map-append, Satellite}
 use Rattle.crx_compact.proofs.Words.{ℕ, List, take, Some, None, true, Result, arith, Fault}
-use Rattle.crx_compact.proofs.Words.{[], Ok, ℤ, ◌+◌, ◌∷◌, Tail, Row}
-use Rattle.crx_compact.proofs.Words.{◌==◌, ◌<◌, length, Option, is_ok, take_all, BadEpoch, with_row, shown_row}
+use Rattle.crx_compact.proofs.Words.{◌==◌, [], Ok, ℤ, ◌+◌, ◌∷◌, Tail, Row}
+use Rattle.crx_compact.proofs.Words.{◌<◌, length, Option, is_ok, take_all, BadEpoch, with_row, shown_row}
 use Rattle.crx_compact.proofs.Words.{false, slice_get_within, length-take-le, tail_of_history}
 use Rattle.crx_compact.proofs.Words.{has_satellite, satellite_of}
 use Rattle.crx_compact.proofs.Words.{epoch_count, RowTail, shown_epoch, IsAnnounced, OpenHistory}
@@ -20,7 +20,8 @@ module _ (line : Result ObservationHead Fault) (head : List ℕ) (clock : Option
   pub line-made : is_some (epoch_count head) ≡ true → is_ok line ≡ true
   line-made e = grind arith
 
-  pub made-line : {l : ObservationHead} → line ≡ Ok l → begun l ≡ record { head = head; clock = clock; rows = [] }
+  pub made-line : {l : ObservationHead} → line ≡ Ok l
+      → begun l ≡ record { head = head; clock = clock; rows = [] }
   made-line e = grind arith
 
 -- ---- rows
@@ -43,11 +44,9 @@ row-shown history index row h there =
     let all = take_all (length rows) rows (omega arith) in
     let new = new_at (λ (r : RowTail). r.name) (length rows) rows index row (cc h.announced.apart) inside
     inside in
+    let there_is = get_or_from_slice_get rows index row row there in
     record {
-      new = cc (
-        among-map (λ (r : Row). r.name) shown_row row.name (take index rows),
-        get_or_from_slice_get rows index row row there,
-      );
+      new = cc (among-map (λ (r : Row). r.name) shown_row row.name (take index rows), there_is);
       wanted = grind (arith, differ, length-map, length-take-le);
       with = cc (taken_more rows index row there, map-append shown_row (take index rows) (row ∷ []));
     }

@@ -1,8 +1,8 @@
 -- Blanks at the end of texts, and what is held of indicators.
 use Rattle.crx_compact.proofs.Words.{◌≡◌, patched, columns, few_kept, list_all, ◌≤◌, ℕ, ◌*◌, ◌∷◌, ap, ◌∙◌}
 use Rattle.crx_compact.proofs.Words.{◌<◌, ◌+◌, ◌-◌, at, refl, true, List, length, take, arith, is_kept, Bool}
-use Rattle.crx_compact.proofs.Words.{drop, [], replicate, IsAllowedCount, length-columns, flags_held}
-use Rattle.crx_compact.proofs.Words.{common_steps, by_position, mark_of, get_or_past, ◌++◌, list_all-from_at, at-drop}
+use Rattle.crx_compact.proofs.Words.{get_or_past, drop, [], replicate, IsAllowedCount, length-columns, flags_held}
+use Rattle.crx_compact.proofs.Words.{common_steps, by_position, mark_of, ◌++◌, list_all-from_at, at-drop}
 use Rattle.crx_compact.proofs.Words.{at-without_end_blanks, columns-are, without_end_blanks, text_difference}
 use Rattle.crx_compact.proofs.Characters.{all-take, list_all-at, at-take_past, at-by_position}
 use Rattle.crx_compact.proofs.{Words.{cases_lt, rules, AreHeldFlags}, PlaceByPlace.{at-padded, at-take}}
@@ -30,6 +30,11 @@ same-cut n xs ys h = grind (arith, common_steps, same_characters, cases_lt, at-t
 pub cut-all : (n : ℕ) (text : List ℕ) → ((p : ℕ) → at text (n + p) ≡ 32)
     → without_end_blanks (take n text) ≡ without_end_blanks text
 cut-all n text h = same_characters (take n text) text (λ p. grind (arith, at-take, at-take_past, h (p - n)))
+
+-- and no longer than that without them
+pub ends-within : (n : ℕ) (text : List ℕ) → ((p : ℕ) → at text (n + p) ≡ 32)
+    → length (without_end_blanks text) ≤ n
+ends-within n text h = omega (arith, ap length (cut-all n text h), few_kept (take n text), length-take n text)
 
 -- the first columns by their characters
 pub first-columns : (n : ℕ) (text given : List ℕ) → length given ≡ n
@@ -84,11 +89,6 @@ before-trimmed old new = search (rules, same_characters, at-by_position, at-with
 
 pub difference-length : (n : ℕ) (old new : List ℕ)
     → length old ≤ n → length new ≤ n → length (text_difference old new) ≤ n
-difference-length n old new h k =
-    let cut = cut-all n (by_position mark_of old new) (λ p. grind (
-      arith,
-      at-by_position mark_of refl old new (n + p),
-      get_or_past old (n + p) 32,
-      get_or_past new (n + p) 32,
-    )) in
-    omega (arith, ap length cut, few_kept (take n (by_position mark_of old new)), length-take n (by_position mark_of old new))
+difference-length n old new h k = ends-within n (by_position mark_of old new) (λ p.
+    let mark = at-by_position mark_of refl old new (n + p) in
+    grind (arith, mark, get_or_past old (n + p) 32, get_or_past new (n + p) 32))

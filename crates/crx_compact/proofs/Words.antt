@@ -3,12 +3,12 @@
 pub use Rattle.crx_base.specs.declared.fault.Fault.{Fault}
 pub use Rattle.crx_base.specs.declared.fault.Fault.TheVariants.{BadEpoch, BadSatellite, RepeatedSatellite}
 pub use Rattle.crx_base.specs.declared.fault.Fault.TheVariants.{NotAnEpoch, OutOfMemory, BadClock, Truncated}
-pub use Rattle.crx_base.specs.declared.fault.Fault.TheVariants.{BadField, BadFlags, OutOfRange}
+pub use Rattle.crx_base.specs.declared.fault.Fault.TheVariants.{BadField, BadFlags}
 pub use Rattle.crx_base.specs.declared.limits.TheConstants.{HEAD_WIDTH, NAME_WIDTH, LINE_LIMIT, CLOCK_WIDTH}
 pub use Rattle.crx_base.specs.declared.limits.TheConstants.{SATELLITES_LIMIT, OBSERVATION_WIDTH, DIGITS_LIMIT}
-pub use Rattle.crx_base.specs.declared.limits.TheConstants.{WRITTEN_ORDER, ORDER_LIMIT, TYPES_LIMIT}
+pub use Rattle.crx_base.specs.declared.limits.TheConstants.{WRITTEN_ORDER, TYPES_LIMIT}
 pub use Rattle.crx_base.specs.meaning.Lines.{is_printable}
-pub use Rattle.crx_base.specs.meaning.AsRead.{Content, ReadLine, Overlong}
+pub use Rattle.crx_base.specs.meaning.AsRead.{Content, ReadLine}
 pub use Rattle.crx_compact.specs.ArcSteps.{shown_value, arc_of_value, code_of_value, arc_of_code, highest}
 pub use Rattle.crx_compact.specs.ArcSteps.{value_of_code, differences_after, differences_by, onto_sum}
 pub use Rattle.crx_compact.specs.ArcTails.{ArcTail, arc_tail, started_tail, differences_of, values_of}
@@ -16,7 +16,7 @@ pub use Rattle.crx_compact.specs.Cells.{value_at_place, CellsAreRead}
 pub use Rattle.crx_compact.specs.HeldRows.{past_of_tail, IsAwaitedSatellite, held_row, arcs_of_tail}
 pub use Rattle.crx_compact.specs.HeldRows.{held_from, past_of_row, row_held, row_held_from, AreHeldFlags}
 pub use Rattle.crx_compact.specs.Laws.{AreWhole, patched_in_turn, CodesFit, has_no_epochs, LinesCanStand}
-pub use Rattle.crx_compact.specs.Blocks.{cut, AreCut, HasFront, PendingLines, lines_text}
+pub use Rattle.crx_compact.specs.Blocks.{cut, AreCut, HasFront, PendingLines}
 pub use Rattle.crx_compact.specs.OpenEpochs.{HasMade, HeldEpoch, held_after, next_step, placed_as, opened_raw}
 pub use Rattle.crx_compact.specs.OpenEpochs.{Reading, is_idle, step_in, RawStep, with_rows, opening, row_step}
 pub use Rattle.crx_compact.specs.OpenEpochs.{before_clock, tail_for_line, step_with_rows, place_of_step, Idle}
@@ -25,9 +25,9 @@ pub use Rattle.crx_compact.specs.OpenEpochs.{tail_held, HasPrintedLines, whole_o
 pub use Rattle.crx_compact.specs.OpenLines.{columns_state, step_at}
 pub use Rattle.crx_compact.specs.Placing.{IsRowRead, OpenHistory, tail_of_history, IsAnnounced, satellite_of}
 pub use Rattle.crx_compact.specs.Placing.{PlacedRows, row_or_blank, HasRoom, HaveTypesRoom, HaveRoom, HasCome}
-pub use Rattle.crx_compact.specs.Placing.{row_of_parts, padded_among, KeepsRooms, padded, empty_row}
+pub use Rattle.crx_compact.specs.Placing.{row_of_parts, padded_among, KeepsRooms, padded}
 pub use Rattle.crx_compact.specs.PrintedBlocks.{lines_to}
-pub use Rattle.crx_compact.specs.ReadingLaws.{HasSingleLines, Forgets, is_wanted}
+pub use Rattle.crx_compact.specs.ReadingLaws.{HasSingleLines, Forgets}
 pub use Rattle.crx_compact.specs.ReadingRooms.{HeldColumns}
 pub use Rattle.crx_compact.specs.RowsSoFar.{AreAnnounced, NamesSatellites}
 pub use Rattle.crx_compact.specs.ShownRows.{shown_epoch, shown_row}
@@ -38,7 +38,7 @@ pub use Rattle.crx_compact.specs.Steps.{cell_of_tail}
 pub use Rattle.crx_compact.specs.Tails.{Tail, RowTail, tail_left, tail_of, raw_row_tail, tail_of_block}
 pub use Rattle.crx_compact.specs.Written.{AreRowsWritten, epoch_by_rows}
 pub use Rattle.crx_compact.specs.declared.columns.Expected.{Expected}
-pub use Rattle.crx_compact.specs.declared.columns.Expected.TheVariants.{EpochLine, SatelliteLine}
+pub use Rattle.crx_compact.specs.declared.columns.Expected.TheVariants.{SatelliteLine}
 pub use Rattle.crx_compact.specs.meaning.ArcValues.{since_start, value_of, value_since, in_range, is_within}
 pub use Rattle.crx_compact.specs.meaning.Cells.{ReadCell, cell_read, cells_read, cells_of, after_cells}
 pub use Rattle.crx_compact.specs.meaning.Cells.{cell_text}
@@ -55,9 +55,9 @@ pub use Rattle.crx_compact.specs.meaning.Expansion.{RawEpoch, raw_row_named, raw
 pub use Rattle.crx_compact.specs.meaning.Expansion.{block_of, RawRow, overlaid, marks_of, shown, longest}
 pub use Rattle.crx_compact.specs.meaning.Past.{Past, past_of_block, past_of_epochs, past_of_line}
 pub use Rattle.crx_compact.specs.meaning.Sequences.{before_all, and_then, stretch, back_to, named}
-pub use Rattle.crx_header.proofs.Apart.{apart-map, among-names, new_at, among-map, apart-push}
+pub use Rattle.crx_header.proofs.Apart.{apart-map, new_at, among-map, apart-push}
 pub use Rattle.crx_header.specs.meaning.CompactHeader.{left_justified}
-pub use Rattle.crx_header.specs.meaning.EpochColumns.{epoch_count, satellites_of, begins_epoch, satellites_in}
+pub use Rattle.crx_header.specs.meaning.EpochColumns.{epoch_count, satellites_of, begins_epoch}
 pub use Rattle.crx_header.specs.meaning.EpochColumns.{is_observation_flag, is_event_flag, is_event_line}
 pub use Rattle.crx_header.specs.meaning.InOrder.{◌otherwise◌next◌, ◌or_else◌with◌}
 pub use Rattle.crx_header.specs.meaning.ObservationTypes.{is_system, Count, IsAllowedCount, count_of}
@@ -67,7 +67,7 @@ pub use Rattle.crx_rinex.proofs.Rows.{satellites_few}
 pub use Rattle.crx_rinex.specs.Epochs.{with_row, begun, is_full_epoch}
 pub use Rattle.crx_rinex.specs.meaning.Epochs.{has_satellite, are_different, IsWholeEpoch, IsSoundEpoch}
 pub use Rattle.crx_rinex.specs.meaning.Observations.{Row, Epoch, value_in}
-pub use Rattle.crx_rinex.specs.meaning.Places.{Place, Done, Fails, NeedsMore, then_place, one_line}
+pub use Rattle.crx_rinex.specs.meaning.Places.{Place, Done, Fails, then_place, one_line}
 pub use Rattle.crx_rinex.specs.meaning.Places.{first_line, after_lines}
 pub use Rattle.crx_rinex.specs.meaning.Printing.{printed_epoch, printed_head, printed_row}
 pub use Rattle.crx_rinex.specs.meaning.SatelliteLines.{IsSoundRow, HasItsTypes}
@@ -91,23 +91,22 @@ pub use Rattle.std.proofs.Common.{◌≡◌, refl, ℕ, zero, suc, ◌<◌, ◌�
 pub use Rattle.std.proofs.Common.{false, ◌++◌, Option, Some, None, if◌then◌else◌, nat_eq, length, arith, inl}
 pub use Rattle.std.proofs.Common.{inr, not-suc-le-zero, le_of_suc-le-suc, sym, ◌∙◌, ap, ◌+◌, ◌*◌, not, map}
 pub use Rattle.std.proofs.Common.{drop, Result, Ok, Err, subst, ◌-◌, replicate, set, get_or, slice_get, ◌%◌}
-pub use Rattle.std.proofs.Common.{add-one, sum, slice_set, true≢false, All, ℤ, rules, min, ◌^◌, eqb, w64}
-pub use Rattle.std.proofs.Math.Seq.{drop-append_seam, take-append-add, take-append_seam, drop-append-add}
+pub use Rattle.std.proofs.Common.{slice_set, true≢false, All, ℤ, rules, min, ◌^◌, eqb, w64}
+pub use Rattle.std.proofs.Math.Seq.{drop-append_seam, take-append-add}
 pub use Rattle.std.proofs.lemmas.Bool.{and_parts, and_from, not-true, false≢true, eqb-true, cases_lt}
 pub use Rattle.std.proofs.lemmas.Grind.{common_steps}
 pub use Rattle.std.proofs.lemmas.Int.{ints, to_z-of_z}
 pub use Rattle.std.proofs.lemmas.List.{length-map, length-set, take-take, length-take-le, take_more_set}
-pub use Rattle.std.proofs.lemmas.List.{take_all, map-append, take-map, append-nil, take_at, get_or_past}
+pub use Rattle.std.proofs.lemmas.List.{take_all, map-append, append-nil, take_at, get_or_past}
 pub use Rattle.std.proofs.lemmas.List.{length-append, append_assoc, length-drop, drop-drop, drop-set-lt}
-pub use Rattle.std.proofs.lemmas.List.Elements.{All-append, All-head, All-tail, All-cons, All-from_recursion}
-pub use Rattle.std.proofs.lemmas.Option.{same_Some, slice_get_within, slice_get-map, slice_get_read}
+pub use Rattle.std.proofs.lemmas.List.Elements.{All-head, All-tail, All-from_recursion}
+pub use Rattle.std.proofs.lemmas.Option.{same_Some, slice_get_within, slice_get-map}
 pub use Rattle.std.proofs.lemmas.Result.{err_from_is_err_and}
 pub use Rattle.std.proofs.lemmas.Simd.{map-map, length-chunk, length-zip2, mask_l-mod, tops_compared}
-pub use Rattle.std.specs.Char.{is_ascii_digit}
 pub use Rattle.std.specs.Fmt.{signed_decimal}
 pub use Rattle.std.specs.List.{list_all, AllByRecursion, list_any}
 pub use Rattle.std.specs.Option.{option_map}
-pub use Rattle.std.specs.Prelude.{◌&&◌, ◌||◌, ◌==◌, IfOk, IfSome, unwrap_or, slice_index_or, pos, negsuc, ⊤}
-pub use Rattle.std.specs.Prelude.{decimal, ◌≢◌, cond, flat_map, neg_ℤ, ◌-ℤ◌, ◌+ℤ◌, ◌*ℤ◌, MatchBool, is_some}
+pub use Rattle.std.specs.Prelude.{◌&&◌, ◌||◌, ◌==◌, IfSome, unwrap_or, slice_index_or, pos, ⊤}
+pub use Rattle.std.specs.Prelude.{◌≢◌, cond, flat_map, neg_ℤ, ◌-ℤ◌, ◌+ℤ◌, ◌*ℤ◌, MatchBool, is_some}
 pub use Rattle.std.specs.Result.{is_ok}
 pub use Rattle.std.specs.Str.{bytes_eq, all_ascii_digits}

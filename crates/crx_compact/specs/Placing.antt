@@ -187,8 +187,8 @@ pub record AnswersMarks (count : ℕ) (marks old new : List ℕ) (answer : Resul
   pub kept : AreHeldFlags (take (2 * count) new)
   pub err : IfErr answer (λ fault. (are_marks count marks ≡ false) × (fault ≡ BadFlags))
 
--- a satellite's line was read, whatever its identifier is: what it leaves is stored; or its fault is answered. The satellite has as many types
--- as before, and as much room
+-- a satellite's line was read, whatever its identifier is: what it leaves is stored; or its fault is answered. The
+-- satellite has as many types as before, and as much room
 pub record AnswersReading (line : List ℕ) (old new : SatelliteTail) (answer : Result (Unit {0}) Fault) : Type 0 where
   pub ok : OnOk answer ((name : List ℕ) → row_read (row_tail_of name old) line ≡ Ok (row_tail_of name new))
   pub err : IfErr answer (λ fault. (name : List ℕ) → row_read (row_tail_of name old) line ≡ Err fault)

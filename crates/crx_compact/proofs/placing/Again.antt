@@ -19,8 +19,7 @@ pub none-placed : (placed live : ℕ) {order places : List ℕ} (es : List Entry
     → (placed ≤ live) × (live ≤ length es) × IsOrder order places (length es)
     → rows_of placed (in_order order es) ≡ [] → placed ≡ 0
 none-placed placed live {order} es is none =
-    let counted = rows-counted placed (in_order order es) (omega (arith, is.0, is.1, length-in_order es is.2)) in
-    omega (arith, ap length none, counted)
+    grind (arith, rows-counted placed (in_order order es), length-in_order es is.2)
 
 -- an identifier's system is known by its letter
 pub typed-named : (types : List Count) (name : List ℕ) → is_identifier name ≡ true
@@ -33,9 +32,8 @@ pub named-before : (live : ℕ) (es : List Entry) → All IsAwaitedSatellite (ma
     → is_identifier e.0 ≡ true
 named-before live es awaited index e less all there =
     let row = row-at live (subst (λ n. index < n) (sym (rows-counted live es all)) less) there in
-    IsAwaitedSatellite.named (all-at IsAwaitedSatellite (map satellite_of (rows_of live es)) index
-    (satellite_of (row_of_entry e)) awaited
-    (slice_get-map satellite_of (rows_of live es) index ∙ ap (option_map satellite_of) row.there))
+    (all-at IsAwaitedSatellite (map satellite_of (rows_of live es)) index (satellite_of (row_of_entry e))
+    awaited (cc (slice_get-map satellite_of (rows_of live es) index, row.there))).named
 
 module _ {S : Type 0} (m : IndexMap (List ℕ) SatelliteTail S) (unique : IsUnique bytes_eq m)
     {order places : List ℕ} (is : IsOrder order places (length m.entries)) (types : List Count) (live : ℕ)

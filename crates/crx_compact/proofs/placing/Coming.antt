@@ -1,8 +1,8 @@
 -- A satellite comes: what its map's entries show of the rows that have come, and of those that haven't.
-use Rattle.crx_compact.proofs.Words.{◌≡◌, ℕ, suc, ◌+◌, ◌<◌, ◌≤◌, Bool, true, false, List, [], ◌∷◌, ◌++◌}
-use Rattle.crx_compact.proofs.Words.{map, take, drop, slice_get, Some, None, option_map, ap}
+use Rattle.crx_compact.proofs.Words.{◌≡◌, ℕ, ◌+◌, ◌<◌, ◌≤◌, Bool, true, false, List, [], ◌∷◌, ◌++◌}
+use Rattle.crx_compact.proofs.Words.{map, take, drop, slice_get, Some, option_map}
 use Rattle.crx_compact.proofs.placing.Ranges.{among-up_to, found-in_range, named-map, none-named, not-before}
-use Rattle.crx_compact.proofs.Words.{sym, ◌∙◌, arith, bytes_eq, map-append, take-take, is_among, RowTail}
+use Rattle.crx_compact.proofs.Words.{◌∙◌, arith, bytes_eq, map-append, take-take, is_among, RowTail}
 use Rattle.crx_compact.proofs.placing.Ranges.{rest-one_more}
 use Rattle.std.specs.{List.IsDistinct, Map.keys_of}
 use Rattle.std.proofs.{lemmas.Bool.or_parts, lemmas.Grind.common_steps}
@@ -10,7 +10,7 @@ use Rattle.std.proofs.{lemmas.List.{take-append-drop, Folds.list_any-append}}
 use Rattle.crx_header.proofs.Apart.{among-map, other_way}
 use Rattle.crx_compact.specs.meaning.Sequences.{named}
 use Rattle.crx_compact.specs.Entries.{Entry, IsAt, IsPutNext, key_of, placed_rows}
-use Rattle.crx_compact.specs.Placing.{HasCome, SatelliteTail, row_tail_named, row_tail_of, row_of_entry}
+use Rattle.crx_compact.specs.Placing.{HasCome, SatelliteTail, row_tail_named, row_of_entry}
 
 -- nothing is stored of it any more
 abbrev pub emptied : SatelliteTail → SatelliteTail
@@ -26,9 +26,8 @@ among-rows name es = among-map (λ (row : RowTail). row.name) row_of_entry name 
 pub unknown-no_row : (name : List ℕ) (count : ℕ) (es : List Entry) → is_among key_of name es ≡ false
     → has_row name (map row_of_entry (take count es)) ≡ false
 unknown-no_row name count es h =
-    let parts = list_any-append (λ (e : Entry). bytes_eq (key_of e) name) (take count es) (drop count es) in
     let all = take-append-drop count es in
-    among-rows name (take count es) ∙ (or_parts _ _ (sym parts ∙ ap (is_among key_of name) all ∙ h)).0
+    grind (arith, common_steps, list_any-append, all, or_parts, among-rows name (take count es))
 
 module _ (name : List ℕ) (placed live found : ℕ) (os es fs : List Entry) (at : IsAt name os found) where
   -- it has come already
@@ -55,11 +54,10 @@ module _ (name : List ℕ) (placed live found : ℕ) (os es fs : List Entry) (at
         → HasCome name (placed_rows placed live os es) (placed_rows (placed + 1) live new fs)
     come-awaited new behind before put =
         let in_range = found-in_range placed live os found (name, at.satellite) apart at.there behind before in
-        let there : row_tail_named name (map row_of_entry (drop placed (take live os)))
-        ≡ Some (row_tail_of name at.satellite) =
-        cc (named-map (λ (row : RowTail). row.name) row_of_entry name (drop placed (take live os))) in
+        let named = named-map (λ (row : RowTail). row.name) row_of_entry name (drop placed (take live os)) in
+        let more = rows-more (name, at.satellite) new (put.come (name, at.satellite) at.there) in
         record {
-          rows = cc (rows-more (name, at.satellite) new (put.come (name, at.satellite) at.there));
+          rows = grind (arith, in_range, named, more);
           others = λ other differs. by-entries other _ _ (put.others live (name, at.satellite) other before
               at.there (other_way other name differs));
         }
@@ -70,18 +68,16 @@ module _ (name : List ℕ) (placed live found : ℕ) (os es fs : List Entry) (at
         → HasCome name (placed_rows placed live os es) (placed_rows (placed + 1) (live + 1) new fs)
     come-anew revived new few behind there front put =
         let blank : Entry = (name, emptied at.satellite) in
-        let none : row_tail_named name (map row_of_entry (drop placed (take live os)))
-        ≡ None = named-map (λ (row : RowTail). row.name) row_of_entry name (drop placed (take live os))
-        ∙ ap (option_map row_of_entry) (none-named key_of name placed (take live os)
-        (not-before live os found (name, at.satellite) apart at.there behind)) in
-        let first : take placed revived ≡ take placed os = sym (take-take placed live _ few)
-        ∙ ap (take placed) front ∙ take-take placed live os few in
-        let next : live + 1 ≡ suc live = omega arith in
+        let none = none-named key_of name placed (take live os)
+        (not-before live os found (name, at.satellite) apart at.there behind) in
+        let named = named-map (λ (row : RowTail). row.name) row_of_entry name (drop placed (take live os)) in
+        let first = take-take placed live revived few in
+        let second = take-take placed live os few in
         record {
-          rows = cc (rows-more blank new (put.come blank there ∙ ap (λ es. es ++ blank ∷ []) first));
+          rows = grind (arith, named, none, first, second, rows-more blank new, put.come blank there);
           others = λ other differs.
               let apart-from : bytes_eq name other ≡ false = other_way other name differs in
-              by-entries other _ _ (put.others (live + 1) blank other (omega arith) there apart-from ∙ ap (λ n.
-              named key_of other (drop placed (take n revived))) next ∙ rest-one_more placed live revived blank
-              other few there apart-from ∙ ap (λ es. named key_of other (drop placed es)) front);
+              let next = put.others (live + 1) blank other (omega arith) there apart-from in
+              let more = rest-one_more placed live revived blank other few there apart-from in
+              by-entries other _ _ (grind (arith, next, more, front));
         }

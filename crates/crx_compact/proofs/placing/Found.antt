@@ -1,6 +1,6 @@
 -- A satellite is found by its identifier, or added behind the others.
-use Rattle.std.proofs.Common.{◌≡◌, ℕ, List, [], ◌∷◌, ◌++◌, length, take, slice_get, get_or, position}
-use Rattle.std.proofs.Common.{Option, Some, None, IfSome, is_some, refl, ap, sym, ◌∙◌, arith}
+use Rattle.std.proofs.Common.{◌≡◌, ℕ, List, [], ◌∷◌, ◌++◌, length, slice_get, get_or, position}
+use Rattle.std.proofs.Common.{Option, Some, None, IfSome, is_some, refl, sym, ◌∙◌, arith}
 use Rattle.std.proofs.{Common.{Bool, false}, lemmas.Slice.Eq.bytes_eq-Decides}
 use Rattle.std.proofs.lemmas.Grind.{common_steps}
 use Rattle.std.proofs.{lemmas.List.length-map, Math.Seq.take-append_seam, lemmas.List.Quantifiers.position-Some}
@@ -13,7 +13,7 @@ use Rattle.crx_compact.proofs.{RowByRow.is-there, placing.Rooms.{look_up-among, 
 -- where another identifier is there, which is the same
 pub found-same : (name other : List ℕ) (i : ℕ) (es : List Entry) → (satellite : SatelliteTail)
     × (slice_get es i ≡ Some (other, satellite)) → other ≡ name → IsAt name es i
-found-same name other i es there same = record { satellite = there.0; there = cc (there.1, same) }
+found-same name other i es there same = grind arith
 
 found-by_look_up : (name : List ℕ) (i : ℕ) (es : List Entry)
     → position (bytes_eq name) (keys_of es) ≡ Some i → IsAt name es i
@@ -40,16 +40,13 @@ look_up-more test (e ∷ es) more satellite h = grind (arith, common_steps, look
 
 pub found-added : (name : List ℕ) (satellite : SatelliteTail) (es new : List Entry)
     → new ≡ es ++ (name, satellite) ∷ [] → satellite.room ≡ 0 → IsFound name (length es) es new
-found-added name satellite es new is none = record {
-  at = record { satellite = satellite; there = ap (λ xs. slice_get xs (length es)) is ∙ at-seam es [] _ };
-  known = ap (take (length es)) is ∙ take-append_seam es ((name, satellite) ∷ []);
-  rooms = rooms-kept es new (λ other found known. (
-    found,
-    ap (lookup (bytes_eq other)) is
-        ∙ look_up-more (bytes_eq other) es ((name, satellite) ∷ []) found known,
-    omega arith,
-  ));
-}
+found-added name satellite es new is none = rw is (record {
+  at = record { satellite = satellite; there = at-seam es [] _ };
+  known = take-append_seam es ((name, satellite) ∷ []);
+  rooms = rooms-kept es _ (λ other found known.
+      let kept = look_up-more (bytes_eq other) es ((name, satellite) ∷ []) found known in
+      (found, kept, omega arith));
+})
 
 pub none-there : {X : Type 0} (r : Option X) → is_some r ≡ false → r ≡ None
 none-there r h = grind arith

@@ -1,7 +1,7 @@
 -- The entries of a map in an order of their indices.
 use Rattle.std.proofs.Common.{◌≡◌, ℕ, ◌+◌, ◌<◌, false, List, [], ◌∷◌, ◌++◌, length, set}
 use Rattle.std.proofs.Common.{slice_get, get_or, Some, option_map, ap, sym, ◌∙◌, inl, inr, arith, length-set}
-use Rattle.std.proofs.lemmas.Bool.{cases_Bool, cases_lt, cases_eq, false≢true}
+use Rattle.std.proofs.lemmas.Bool.{cases_eq}
 use Rattle.std.proofs.lemmas.List.{ext_get_or, get_or-map, get_or-set_other, get_or-set_same}
 use Rattle.std.proofs.lemmas.List.{get_or_append_left, length-append, length-map}
 use Rattle.std.proofs.lemmas.List.Folds.{list_any_at, list_any_none}
@@ -36,12 +36,10 @@ module _ {order places : List ℕ} (es : List Entry) (is : IsOrder order places 
   none-in_order name none =
       list_any_none (λ (e : Entry). bytes_eq (key_of e) name) (in_order order es) (λ i d less.
       let below = is.index i (omega (arith, less, length-in_order)) in
+      let test = λ (e : Entry). bytes_eq (key_of e) name in
+      let at = list_any_at test es (get_or order i 0) (entry_at [] 0) below in
       rw (get_or-map (entry_at es) order i 0 d (omega (arith, less, length-map order (entry_at es))))
-      (elim (cases_Bool (bytes_eq (key_of (entry_at es (get_or order i 0))) name)) [
-        | inl t ↦ absurd (false≢true (sym none ∙ list_any_at (λ (e : Entry). bytes_eq (key_of e) name) es
-            (get_or order i 0) _ below t))
-        | inr f ↦ f
-      ]))
+      (grind (arith, none, at)))
 
   -- no two of them have one identifier
   pub apart-in_order : IsDistinct bytes_eq (keys_of es) → IsDistinct bytes_eq (keys_of (in_order order es))
@@ -59,13 +57,11 @@ module _ {order places : List ℕ} (es : List Entry) (is : IsOrder order places 
       let keys : length (keys_of es) ≡ length es = length-map es key_of in
       let low = is.index i (omega (arith, less, within, counted)) in
       let high = is.index j (omega (arith, within, counted)) in
+      let forth = apart_from_distinct bytes_eq (keys_of es) one other d apart in
+      let back = apart_from_distinct bytes_eq (keys_of es) other one d apart in
+      let turned = other_way (get_or (keys_of es) other d) (get_or (keys_of es) one d) in
       rw (key i (omega (arith, less, within, counted)), key j (omega (arith, within, counted)))
-      (elim (cases_lt one other) [
-        | inl before ↦ apart_from_distinct bytes_eq (keys_of es) one other d apart before (omega (arith, high, keys))
-        | inr after ↦ other_way (get_or (keys_of es) other d) (get_or (keys_of es) one d) (apart_from_distinct bytes_eq (keys_of es) other one d apart
-            (elim (cases_eq one other) [ inl e ↦ absurd (far e) | inr differs ↦ omega (arith, after, differs) ])
-            (omega (arith, low, keys)))
-      ]))
+      (grind (arith, far, forth, back, turned)))
 
   -- another entry at an index is in the index's place
   pub set-in_order : (place : ℕ) (e : Entry) → place < length es → in_order order (set es (get_or order place 0) e)

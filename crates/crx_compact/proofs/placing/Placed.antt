@@ -1,6 +1,7 @@
 -- What is answered of a satellite that comes.
-use Rattle.crx_compact.proofs.Words.{◌≡◌, slice_index_or, take, ℕ, ◌+◌, ◌<◌, ◌≤◌, Bool, true, false, not, List, length, slice_get}
-use Rattle.crx_compact.proofs.Words.{Some, None, ap, arith, refl, sym, true≢false, rules, bytes_eq, is_among}
+use Rattle.crx_compact.proofs.Words.{◌≡◌, slice_index_or, take, ℕ, ◌+◌, ◌<◌, ◌≤◌, Bool, true, false, List}
+use Rattle.crx_compact.proofs.Words.{length, slice_get}
+use Rattle.crx_compact.proofs.Words.{Some, None, ap, arith, refl, sym, rules, bytes_eq, is_among}
 use Rattle.crx_compact.proofs.{Words.{PlacedRows, RowTail}, placing.EntryChanges.{changed-is, enough-room, little-room}}
 use Rattle.crx_compact.proofs.placing.Coming.{come-anew, emptied, come-awaited, is-new, repeated, unknown-no_row}
 use Rattle.crx_compact.proofs.placing.EntryChanges.{shown-same}
@@ -42,16 +43,10 @@ module _ {S : Type 0} (m : IndexMap (List ℕ) SatelliteTail S) (unique : IsUniq
 
   -- it has come already
   pub placed-again : {count : ℕ} → place < placed → AnswersPlacing name count now now (Some false)
-  placed-again before = record {
-    placed = record {
-      answer = cc (repeated name placed live place (in_order order m.entries) m.entries m.entries here before);
-      come = λ new. absurd (true≢false (sym new));
-      repeated = λ old. refl;
-      room = λ new. absurd (true≢false (sym new));
-    };
-    unplaced = λ none. absurd (cc none);
-    rooms = refl;
-  }
+  placed-again before =
+      let os = in_order order m.entries in
+      let again = repeated name placed live place os m.entries m.entries here before in
+      grind (arith, again)
 
   module _ (behind : placed ≤ place) {count : ℕ} {has : Bool}
       (answer : (entry : Entry) → slice_get m.entries index ≡ Some entry
@@ -65,29 +60,17 @@ module _ {S : Type 0} (m : IndexMap (List ℕ) SatelliteTail S) (unique : IsUniq
     placed-not full = search (rules, new-here, little-room)
 
     -- it has come, and no satellite has less room
-    come : has ≡ true → {rows rest : List RowTail} {rooms : List (List ℕ × ℕ)}
-        → rooms ≡ rooms_of m.entries
-        → HasCome name now
-        (record { rows = rows; rest = rest; rooms = rooms })
-        → AnswersPlacing name count now
-        (record { rows = rows; rest = rest; rooms = rooms }) (Some true)
-    come roomy rooms has-come = record {
-      placed = record {
-        answer = sym (ap not new-here);
-        come = λ t. has-come;
-        repeated = λ old. absurd (true≢false old);
-        room = λ t. subst (HasRoom name count) (sym rooms) (enough-room m index name at unique count has
-            answer roomy);
-      };
-      unplaced = λ none. absurd (cc none);
-      rooms = rooms;
-    }
+    come : has ≡ true → {new : PlacedRows} → new.rooms ≡ rooms_of m.entries
+        → HasCome name now new → AnswersPlacing name count now new (Some true)
+    come roomy rooms has-come =
+        let room : HasRoom name count (rooms_of m.entries) =
+        enough-room m index name at unique count has answer roomy in
+        grind (arith, new-here, rooms, room)
 
     -- one of the epoch before comes
     pub placed-next : has ≡ true → place < live → {new : List Entry}
         → IsPutNext placed place (in_order order m.entries) new
-        → AnswersPlacing name count now
-        (placed_rows (placed + 1) live new m.entries) (Some true)
+        → AnswersPlacing name count now (placed_rows (placed + 1) live new m.entries) (Some true)
     placed-next roomy before {new} put = come roomy refl
         (come-awaited name placed live place _ m.entries m.entries here apart new behind before put)
 

@@ -19,8 +19,7 @@ rows-same es i name before after there flags cells =
 -- the first ones of the entries show what those before showed
 pub rows-before : (es known new : List Entry) → take (length es) known ≡ es
     → map row_of_entry new ≡ map row_of_entry known → take (length es) (map row_of_entry new) ≡ map row_of_entry es
-rows-before es known new front same = ap (take (length es)) same ∙ take-map row_of_entry (length es) known
-    ∙ ap (map row_of_entry) front
+rows-before es known new front same = cc (front, same, take-map row_of_entry (length es) known)
 
 -- all that were there are still there
 pub none-lost : (old new : List Entry) → take (length old) new ≡ old → length old ≤ length new
@@ -44,13 +43,8 @@ module _ (order places longer : List ℕ) (es new : List Entry) (is : IsOrder or
   pub front-same : (count : ℕ) → count ≤ length es
       → map row_of_entry (take count (in_order longer new)) ≡ map row_of_entry (take count (in_order order es))
   front-same count within =
-      let fits : count ≤ length order = omega (arith, within, is.counted) in
-      let ks : take count longer ≡ take count order = grind (arith, take-take) in
-      ap (map row_of_entry) (take-map (entry_at new) count longer ∙ ap (map (entry_at new)) ks)
-      ∙ rows-front es new front (take count order) (λ q less.
-      let below : q < count = omega (arith, less, length-take-le count order fits) in
-      rw (get_or-take count order q 0 below) (is.index q (omega (arith, below, within))))
-      ∙ ap (map row_of_entry) (sym (take-map (entry_at es) count order))
+      let front_is = rows-front es new front (take count order) in
+      grind (arith, common_steps, take-take, row_of_entry, take-map, entry_at, front_is, length-take-le, get_or-take)
 
   pub range-same : (placed live : ℕ) → live ≤ length es
       → map row_of_entry (drop placed (take live (in_order longer new)))

@@ -2,7 +2,7 @@
 use Rattle.crx_compact.proofs.placing.EntryChanges.{set-there}
 use Rattle.indexmap.proofs.IndexTableLemmas.Indexes.{swap_self}
 use Rattle.std.proofs.{Common.{◌≤◌, inl, inr, slice_get, Some, subst}, lemmas.Bool.cases_eq}
-use Rattle.std.proofs.Common.{◌≡◌, ℕ, suc, ◌+◌, ◌<◌, List, [], ◌∷◌, ◌++◌, length, take, set, sym, swap, ap}
+use Rattle.std.proofs.Common.{◌≡◌, ℕ, ◌<◌, List, [], length, take, set, sym, swap, ap}
 use Rattle.std.proofs.{Common.{◌∙◌, arith, length-set}, lemmas.List.{drop-set-lt, take-set-le, take_more_set}}
 use Rattle.std.proofs.{Math.Seq.take-set-lt, lemmas.Grind.common_steps}
 use Rattle.std.specs.{Str.bytes_eq, List.IsDistinct, Map.keys_of}
@@ -20,25 +20,18 @@ pub put-exchanged : (placed found : ℕ) (old : List Entry) → placed ≤ found
 put-exchanged placed found old order is apart =
     elim (cases_eq placed found) [
       | inl e ↦ rw (← e) (subst (IsPutNext placed placed old) (sym (swap_self old placed)) (put-same placed old))
-      | inr differs ↦ put-brought placed found old (omega (arith, order, differs)) is apart
+      | inr differs ↦
+          let first = is-there old placed (omega (arith, order, is)) in
+          let moved = λ (entry : Entry) (there : slice_get old found ≡ Some entry).
+          swap-is old found placed entry first.item there first.there in
+          record {
+            come = λ entry there. grind (arith, common_steps, moved entry there, take_more_set, take-set-le);
+            others = λ live entry other near there apart_from.
+                let rest = rest-brought placed live found old first.item entry other
+                (omega (arith, order, differs)) near first.there there apart apart_from in
+                grind (arith, common_steps, moved entry there, take-set-lt, drop-set-lt, rest);
+          }
     ]
-  where
-    put-brought : (placed found : ℕ) (old : List Entry) → placed < found → found < length old
-        → IsDistinct bytes_eq (keys_of old) → IsPutNext placed found old (swap old found placed)
-    put-brought placed found old before is apart =
-        let first = is-there old placed (omega arith) in
-        let a = first.item in
-        let next : placed + 1 ≡ suc placed = omega arith in
-        record {
-          come = λ entry there. ap (take (placed + 1)) (swap-is old found placed entry a there first.there)
-              ∙ take_more_set (set old found a) placed entry (omega (arith, length-set old found a))
-              ∙ ap (λ es. es ++ entry ∷ []) (take-set-le placed old found a (omega arith));
-          others = λ live entry other near there differs.
-              let moved = swap-is old found placed entry a there first.there in
-              let taken = take-set-lt live (set old found a) placed entry (omega arith) in
-              let dropped = drop-set-lt (placed + 1) (take live (set old found a)) placed entry (omega arith) in
-              cc (rest-brought placed live found old a entry other before near first.there there apart differs);
-        }
 
 -- one that means nothing is brought to the first place behind those that do
 module _ (live place : ℕ) (old : List Entry) (blank : Entry) (behind : live ≤ place) (within : place < length old)

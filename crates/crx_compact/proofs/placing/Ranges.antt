@@ -1,7 +1,9 @@
 -- Entries of a map in ranges, one after the other: where an identifier is, and what a swap leaves of them.
 use Rattle.std.proofs.Common.{◌≡◌, ℕ, zero, suc, ◌<◌, ◌≤◌, true, false, List, [], ◌∷◌, take, drop, set, map}
 use Rattle.std.proofs.Common.{swap, slice_get, Some, None, option_map, refl, ap, sym, ◌∙◌, arith, rules}
-use Rattle.std.proofs.{lemmas.Bool.or_parts, lemmas.Option.{get_or_from_slice_get, none-some, same_Some}}
+use Rattle.std.proofs.lemmas.Bool.{or_parts}
+use Rattle.std.proofs.lemmas.Option.{get_or_from_slice_get, same_Some, slice_get_within}
+use Rattle.std.proofs.lemmas.List.Edits.{swap_is}
 use Rattle.std.proofs.lemmas.Map.Keys.{IsDistinct-head, IsDistinct-tail}
 use Rattle.std.specs.{Str.bytes_eq, List.{AllByRecursion, IsDistinct}, Map.keys_of}
 use Rattle.crx_header.specs.meaning.Satellites.{is_among}
@@ -11,9 +13,7 @@ use Rattle.crx_compact.proofs.Characters.{bytes_eq-same}
 -- a swap by the two things themselves
 pub swap-is : {X : Type 0} (xs : List X) (i j : ℕ) (a b : X)
     → slice_get xs i ≡ Some a → slice_get xs j ≡ Some b → swap xs i j ≡ set (set xs i b) j a
-swap-is [] i j a b here there = absurd (none-some a here)
-swap-is (x ∷ xs) i j a b here there =
-    rw (get_or_from_slice_get _ i a x here, get_or_from_slice_get _ j b x there) refl
+swap-is xs i j a b here there = grind (arith, swap_is xs i j a, get_or_from_slice_get, slice_get_within)
 
 -- in a list of what is made of things, the first of an identifier is made of the first of it
 pub named-map : {X Y : Type 0} (f : Y → List ℕ) (g : X → Y) (name : List ℕ) (xs : List X)

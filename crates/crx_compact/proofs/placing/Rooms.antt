@@ -8,12 +8,9 @@ use Rattle.crx_header.proofs.Apart.{other_way}
 use Rattle.crx_compact.specs.{Entries.{Entry, key_of, rooms_of}, meaning.Sequences.named}
 use Rattle.crx_compact.specs.Placing.{SatelliteTail}
 
-abbrev pub room_as : List ℕ → SatelliteTail → List ℕ × ℕ
-room_as name satellite = (name, satellite.room)
-
 -- the room of a satellite is that of the one that a look-up finds
 pub room-by_look_up : (name : List ℕ) (es : List Entry) → named (λ (r : List ℕ × ℕ). r.0) name (rooms_of es)
-    ≡ option_map (room_as name) (lookup (bytes_eq name) es)
+    ≡ option_map (λ (s : SatelliteTail). (name, s.room)) (lookup (bytes_eq name) es)
 room-by_look_up name [] = refl
 room-by_look_up name (e ∷ es) = search (rules, cases_Bool, bytes_eq, other_way, room-by_look_up name es)
 

@@ -15,7 +15,8 @@ placed-here f place thing count e = grind arith
 
 module _ (types : List Count) (older : List RawEpoch) where
   refused : (lines : List ReadLine) (offset : ℕ) (fault : Fault) → placed_as (held_after (tail_left older))
-      (epoch_after types (tail_left older) lines) ≡ Fails offset fault → epoch_at types older lines ≡ Fails offset fault
+      (epoch_after types (tail_left older) lines) ≡ Fails offset fault
+      → epoch_at types older lines ≡ Fails offset fault
   refused lines offset fault e = grind (arith, place-by_tail)
 
   -- ---- the epoch line
@@ -25,14 +26,17 @@ module _ (types : List Count) (older : List RawEpoch) where
         → IsReading types older (Content line ∷ []) after
     begun-block h = grind arith
 
-    pub begun-refused : {fault : Fault} → (first_step types tail (Content line) ≡ Faulty fault) ⊎ (fault ≡ OutOfMemory)
+    pub begun-refused : {fault : Fault}
+        → (first_step types tail (Content line) ≡ Faulty fault) ⊎ (fault ≡ OutOfMemory)
         → (epoch_at types older (Content line ∷ []) ≡ Fails 0 fault) ⊎ (fault ≡ OutOfMemory)
-    begun-refused {fault} (inl h) = inl (refused (Content line ∷ []) 0 fault (cc (steps-agree types tail (Content line ∷ []))))
+    begun-refused {fault} (inl h) =
+        inl (refused (Content line ∷ []) 0 fault (cc (steps-agree types tail (Content line ∷ []))))
     begun-refused (inr h) = inr h
 
   -- ---- the lines after it
 
-  module _ (lines : List ReadLine) (line : List ℕ) {state : ColumnsState} (r : IsReading types older lines state) where
+  module _ (lines : List ReadLine) (line : List ℕ) {state : ColumnsState}
+      (r : IsReading types older lines state) where
     abbrev all : List ReadLine
     all = lines ++ Content line ∷ []
 

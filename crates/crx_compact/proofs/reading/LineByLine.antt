@@ -22,10 +22,6 @@ use Rattle.std.proofs.lemmas.Option.{slice_get_past}
 
 -- ---- the satellite lines
 
--- what the lines of some rows leave of their satellites
-abbrev rows_left : Tail → List ReadRow → List RowTail
-rows_left before rows = map (held_row before) rows
-
 -- a tail with these rows
 abbrev tail_with : List ℕ → Option ArcTail → List RowTail → Tail
 tail_with text arc rows = record { text = text; clock = arc; rows = rows }
@@ -33,7 +29,7 @@ tail_with text arc rows = record { text = text; clock = arc; rows = rows }
 -- the epoch that the rows so far make with those of a place after them
 abbrev rows_placed : Tail → List ℕ → Option ArcTail → List RowTail → Place (List ReadRow) → Place HeldEpoch
 rows_placed before text arc rows p =
-    placed_as (λ (more : List ReadRow). whole_epoch (tail_with text arc (rows ++ rows_left before more))) p
+    placed_as (λ more. whole_epoch (tail_with text arc (rows ++ map (held_row before) more))) p
 
 -- a row before the others
 abbrev row_onto : ReadRow → List ReadLine → Place (List ReadRow) → Place (List ReadRow)
@@ -46,39 +42,40 @@ one-more : (before : Tail) (text : List ℕ) (arc : Option ArcTail)
 one-more before text arc rows read lines count p = grind (arith, common_steps, append_assoc)
 
 -- the awaited satellites' lines, one step each
+abbrev StepsRead : Tail → List ℕ → Option ArcTail → List RowTail → List Satellite → ℕ → List ReadLine → Type 0
+StepsRead before text arc rows awaited count lines =
+    place_of_steps count
+    (step_with_rows (tail_with text arc (rows ++ rows_before before awaited)) (length rows)) lines
+    ≡ after_lines (suc count) (rows_placed before text arc rows
+    (rows_read (past_of_tail before) awaited lines))
+
 rows-steps : (before : Tail) (text : List ℕ) (arc : Option ArcTail) (rows : List RowTail)
-    (awaited : List Satellite) (count : ℕ) (lines : List ReadLine) → place_of_steps count
-    (step_with_rows (tail_with text arc (rows ++ rows_before before awaited)) (length rows)) lines ≡
-    after_lines (suc count) (rows_placed before text arc rows (rows_read (past_of_tail before) awaited lines))
+    (awaited : List Satellite) (count : ℕ) (lines : List ReadLine)
+    → StepsRead before text arc rows awaited count lines
 rows-steps before text arc rows [] count lines = grind (arith, common_steps, tail_with, slice_get_past)
 rows-steps before text arc rows (s ∷ ss) count (Content line ∷ lines) =
     let tail : Tail = tail_with text arc (rows ++ rows_before before (s ∷ ss)) in
     let there = at-seam rows (rows_before before ss) (padded s (tail_named s.name before)) in
     (λ j. place_of_steps count (whole_or_awaiting tail (length rows) (there j)) (Content line ∷ lines))
     ∙ (λ j. place_of_steps (suc count) (row_step (with_rows tail (length rows)) (there j) line) lines)
-    ∙ (λ j. place_of_steps (suc count) (raw_step_with_row (with_rows tail (length rows)) (row-opened before s line j)) lines)
+    ∙ (λ j. place_of_steps (suc count)
+    (raw_step_with_row (with_rows tail (length rows)) (row-opened before s line j)) lines)
     ∙ step (satellite_line_read (past_of_tail before) s line)
     (λ read. rows-steps before text arc (rows ++ held_row before read ∷ []) ss (suc count) lines)
   where
-    opened : List RowTail
-    opened = rows_before before ss
-
-    so_far : OpenRawEpoch
-    so_far = with_rows (tail_with text arc (rows ++ rows_before before (s ∷ ss))) (length rows)
-
-    step : (r : Result ReadRow Fault) → ((read : ReadRow) → place_of_steps (suc count)
-        (step_with_rows (tail_with text arc ((rows ++ held_row before read ∷ []) ++ opened)) (length
-        (rows ++ held_row before read ∷ []))) lines ≡ after_lines (suc (suc count)) (rows_placed before
-        text arc (rows ++ held_row before read ∷ []) (rows_read (past_of_tail before) ss lines)))
-        → place_of_steps (suc count)
-        (raw_step_with_row so_far (and_then r (λ (read : ReadRow). Ok (held_row before read)))) lines
+    step : (r : Result ReadRow Fault)
+        → ((read : ReadRow)
+        → StepsRead before text arc (rows ++ held_row before read ∷ []) ss (suc count) lines)
+        → place_of_steps (suc count) (raw_step_with_row
+        (with_rows (tail_with text arc (rows ++ rows_before before (s ∷ ss))) (length rows))
+        (and_then r (λ (read : ReadRow). Ok (held_row before read)))) lines
         ≡ after_lines (suc count) (rows_placed before text arc rows (then_place (one_line r)
         (Content line ∷ lines) (λ row more. row_onto row more (rows_read (past_of_tail before) ss more))))
     step (Err q) next = ap {B = Place HeldEpoch} (λ k. Fails k q) (omega arith)
     step (Ok read) next =
         let left : RowTail = held_row before read in
         let many : suc (length rows) ≡ length (rows ++ left ∷ []) = search (rules, length-append) in
-        let set = set-next rows opened (padded s (tail_named s.name before)) left in
+        let set = set-next rows (rows_before before ss) (padded s (tail_named s.name before)) left in
         let more = rows_read (past_of_tail before) ss lines in
         cc (next read, one-more before text arc rows read lines count more)
 rows-steps before text arc rows (s ∷ ss) count lines = grind (arith, at-seam)
@@ -93,7 +90,7 @@ read_begun before line satellites =
 -- rows are shown by what they leave
 rows-shown : (before : Tail) (satellites : List Satellite) (lines : List (List ℕ)) (rows : List ReadRow)
     → Paired (RowFacts (past_of_tail before)) satellites lines rows
-    → map (λ (r : ReadRow). r.row) rows ≡ map shown_row (rows_left before rows)
+    → map (λ (r : ReadRow). r.row) rows ≡ map shown_row (map (held_row before) rows)
 rows-shown before (s ∷ ss) (l ∷ ls) (r ∷ rs) h = cc
     (row-shows before s l r h.0, rows-shown before ss ls rs h.1)
 rows-shown before satellites lines rows h = grind arith

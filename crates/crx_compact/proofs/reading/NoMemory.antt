@@ -2,7 +2,8 @@
 use Rattle.crx_compact.proofs.Words.{◌≡◌, ℕ, suc, ℤ, [], ◌∷◌, Err, Code, common_steps}
 use Rattle.crx_compact.proofs.Words.{cells_read, OutOfMemory, Content, List, Option, Result, Fault, arith}
 use Rattle.crx_compact.proofs.Words.{step_in, next_step, RowTail, Tail}
-use Rattle.crx_compact.specs.OpenEpochs.{OpenRawEpoch, OpenClock, Faulty, ColumnsState, line_step, whole_or_awaiting}
+use Rattle.crx_compact.specs.OpenEpochs.{OpenRawEpoch, OpenClock, Faulty, ColumnsState, line_step}
+use Rattle.crx_compact.specs.OpenEpochs.{whole_or_awaiting}
 
 cells-none : (value : ℕ → Code → Result (Option ℤ) Fault) → ((place : ℕ) (code : Code)
     → value place code ≡ Err OutOfMemory → ⊥) → (texts : List (List ℕ))

@@ -33,11 +33,13 @@ module _ (is_kept : Bool) (expected : Expected) (count : ℕ) (history : OpenHis
   pub stage-idle : is_idle state ≡ true → expected ≡ EpochLine
   stage-idle idle = grind arith
 
-  pub tail-idle : is_idle state ≡ true → tail_held state ≡ (if is_kept then Some (tail_of_history history) else None)
+  pub tail-idle : is_idle state ≡ true
+      → tail_held state ≡ (if is_kept then Some (tail_of_history history) else None)
   tail-idle idle = search rules
 
   -- what a line makes in a state, by how far the lines have come
-  pub step-by-stage : (line : List ℕ) → step_in state (Content line) ≡ step_at expected count history (Content line)
+  pub step-by-stage : (line : List ℕ)
+      → step_in state (Content line) ≡ step_at expected count history (Content line)
   step-by-stage line = grind arith
 
   -- a satellite's line was awaited

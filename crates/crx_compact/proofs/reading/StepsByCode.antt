@@ -1,9 +1,9 @@
 -- What a line makes of an open epoch, by what was read of it into a history.
-use Rattle.crx_compact.proofs.Words.{◌≡◌, ◌≤◌, ◌<◌, ℕ, ◌+◌, Some, None, Err, ◌∙◌, Tail, refl, satellite_of, ap}
+use Rattle.crx_compact.proofs.Words.{◌≡◌, ◌≤◌, ◌<◌, ℕ, ◌+◌, Some, None, Err, ◌∙◌, Tail, refl, ap}
 use Rattle.crx_compact.proofs.Words.{◌==◌, false, true, List, length, arith, Fault, Epoch, Reading, RowTail}
 use Rattle.crx_compact.proofs.Words.{rules, Content, row_held, HasMade, RawStep, with_rows, IsRowRead}
-use Rattle.crx_compact.proofs.Words.{slice_get, next_step, whole_epoch, OpenHistory, shown_epoch}
-use Rattle.crx_compact.proofs.Words.{printed_epoch, HasPrintedLines, step_with_rows, tail_of_history}
+use Rattle.crx_compact.proofs.Words.{satellite_of, slice_get, next_step, whole_epoch, OpenHistory, shown_epoch}
+use Rattle.crx_compact.proofs.Words.{lines_to, take_all, HasPrintedLines, step_with_rows, tail_of_history}
 use Rattle.crx_compact.proofs.{RowByRow.is-there}
 use Rattle.std.proofs.lemmas.Option.{slice_get_past}
 use Rattle.crx_compact.specs.{OpenEpochs.{Idle, Whole, Faulty, makes_epoch}}
@@ -43,6 +43,6 @@ module _ (step : RawStep) (tail : Tail) (count : ℕ) (e : step ≡ step_with_ro
         → HasMade step (Idle (Some tail)) (Some epoch)
     made-whole shown = (whole_epoch tail, whole, shown, refl)
 
-    pub printed-whole : {lines : List (List ℕ)} → lines ≡ printed_epoch (shown_epoch tail (length tail.rows))
+    pub printed-whole : {lines : List (List ℕ)} → lines ≡ lines_to (length tail.rows) tail
         → HasPrintedLines step (Idle (Some tail)) true lines
-    printed-whole printed = (whole_epoch tail, whole, printed, refl)
+    printed-whole printed = (whole_epoch tail, whole, grind (arith, take_all), refl)

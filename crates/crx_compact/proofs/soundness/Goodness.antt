@@ -10,7 +10,8 @@ use Rattle.crx_compact.proofs.Words.{subst, character_at, HasItsTypes, CLOCK_WID
 use Rattle.crx_compact.proofs.Words.{length-map, raw_row_named, past_of_block, each_place-all, length-columns}
 use Rattle.crx_compact.proofs.{Words.{All-from_recursion, count_of}, Characters.all-take, Marks.patched-kept}
 use Rattle.crx_compact.proofs.Lists.{all-from}
-use Rattle.crx_compact.proofs.{SoundTexts.all-columns, wayback.Overlays.overlaid-patched, EpochLines.{differ, names_of}}
+use Rattle.crx_compact.proofs.{SoundTexts.all-columns, wayback.Overlays.overlaid-patched}
+use Rattle.crx_compact.proofs.EpochLines.{differ, names_of}
 use Rattle.crx_compact.proofs.soundness.Soundness.{AreReadCells, RowFacts, Paired, block_for, epoch-facts}
 use Rattle.crx_compact.proofs.{Words.{after_cells}}
 use Rattle.std.specs.Prelude.{OnSome}
@@ -118,7 +119,8 @@ module _ (types : List Count) (block : List RawEpoch) (counts : AreCounts types)
       → AllByRecursion (λ (n : List ℕ). length n ≡ 3) (names_of satellites)
       → Paired (RowFacts (past_of_block block)) satellites lines rows
       → AllByRecursion (λ (r : Row). IsSoundRow r × HasItsTypes types r) (map (λ (r : ReadRow). r.row) rows)
-      × AllByRecursion (λ (r : RawRow). list_all is_printable r.marks ≡ true) (map (λ (r : ReadRow). r.raw) rows)
+      × AllByRecursion (λ (r : RawRow). list_all is_printable r.marks ≡ true)
+      (map (λ (r : ReadRow). r.raw) rows)
   rows-sound (s ∷ ss) (l ∷ ls) (r ∷ rs) typed short h =
       let rest = rows-sound ss ls rs typed.1 short.1 h.1 in
       let row = row-sound s l r typed.0 short.0 h.0 in ((row.0, rest.0), (row.1, rest.1))

@@ -2,17 +2,17 @@
 use Rattle.crx_compact.proofs.Words.{◌≡◌, suc, List, Some, None, Done, Code, Past, ◌+◌, ◌*◌}
 use Rattle.crx_compact.proofs.Words.{true, length, Option, Result, Count, Place, RawRow, subst}
 use Rattle.crx_compact.proofs.Words.{rules, BegunEpoch, begins_epoch, past_of_line, row_of_cells, Row}
-use Rattle.crx_compact.proofs.Words.{epoch_begun, Fault, apart-map, Truncated, Satellite, are_marks}
+use Rattle.crx_compact.proofs.Words.{Err, not, epoch_begun, Fault, apart-map, Truncated, Satellite, are_marks}
 use Rattle.crx_compact.proofs.Words.{rows_read, raw_run_of, cells_read, length-map, then_place, first_line}
 use Rattle.crx_compact.proofs.Words.{NotAnEpoch, each_place, ℕ, ℤ, ◌∷◌, map, Ok, sym, ◌∙◌, ap, []}
 use Rattle.crx_compact.proofs.Words.{code_of, Content, BadClock, without_end_blanks, take, epoch_against}
 use Rattle.crx_compact.proofs.Words.{epoch_at, slice_index_or, AllByRecursion, clock_line_read, common_steps}
-use Rattle.crx_compact.proofs.Words.{Missing, arith, ReadRow, columns, ReadLine, BadField, BadFlags, RawEpoch}
+use Rattle.crx_compact.proofs.Words.{Missing, arith, ReadRow, columns, ReadLine, BadFlags, RawEpoch}
 use Rattle.crx_compact.proofs.Words.{block_of, marks_of, ReadCell, cells_of, ReadEpoch, cell_read}
 use Rattle.crx_compact.proofs.Words.{if◌then◌else◌, satellites_of_line, satellite_line_read, epoch_after_line}
 use Rattle.crx_compact.proofs.Words.{after_cells, raw_row_named, past_of_block, epoch_of_rows}
-use Rattle.crx_compact.proofs.{Words.⊤, Results.{no-err, and_then-ok, if-err, if-true, before-ok}}
-use Rattle.crx_compact.proofs.{wayback.Overlays.columns-cut, Marks.{row_with_marks, cells-count, texts-count}}
+use Rattle.crx_compact.proofs.{Words.⊤, Results.{no-err, and_then-ok, if-err, if-true}}
+use Rattle.crx_compact.proofs.{wayback.Overlays.columns-cut, Marks.{cells-count, texts-count}}
 use Rattle.crx_compact.proofs.{Identifiers.each-own, EpochLines.{differ, names_of, LineFacts, line-facts_of}}
 use Rattle.crx_compact.specs.Expansion.{all_ok, text_of, row_from, rows_from, epoch_of_block}
 use Rattle.crx_compact.specs.ReadingLaws.{ReadsSoundly}
@@ -68,14 +68,8 @@ AreReadCells value texts cells = ⊥
 
 read-cells : (value : ℕ → Code → Result (Option ℤ) Fault) (texts : List (List ℕ)) (cells : List ReadCell)
     → cells_read value texts ≡ Ok cells → AreReadCells value texts cells
-read-cells value [] cells e = let none : [] ≡ cells = cc in rw (← none) tt
-read-cells value (text ∷ texts) cells e =
-    let one = and_then-ok _ _ cells e in
-    let two = before-ok one.from _ cells one.next in
-    let same : one.from ∷ two.from ≡ cells = cc two.next in rw (← same) (
-      read-cell BadField (value 0) text one.from one.first,
-      read-cells (λ j. value (suc j)) texts two.from two.first,
-    )
+read-cells value [] cells e = grind arith
+read-cells value (text ∷ texts) cells e = grind (arith, read-cell, read-cells (λ j. value (suc j)) texts)
 
 -- the values that the codes of some cells stand for
 cells-meant : (value : ℕ → Code → Result (Option ℤ) Fault) (texts : List (List ℕ)) (cells : List ReadCell)
@@ -101,7 +95,8 @@ line-facts past satellite line read e =
     let texts = cells_of satellite.count line in
     let marks = after_cells satellite.count line in
     let step = and_then-ok (cells_read (past.value satellite.name) texts)
-    (λ cs. row_with_marks past satellite marks cs) read (if-err (begins_epoch line) Truncated _ read e) in
+    (λ cs. if not (are_marks satellite.count marks) then Err BadFlags
+    else Ok (row_of_cells past satellite.name marks cs)) read (if-err (begins_epoch line) Truncated _ read e) in
     let row = row_of_cells past satellite.name marks step.from in
     record {
       cells = step.from;
@@ -117,13 +112,11 @@ row-meant : (block : List RawEpoch) (satellite : Satellite) (line : List ℕ) (r
     → row_from (read.raw ∷ raw_run_of satellite.name block) read.raw ≡ Ok read.row
 row-meant block satellite line read h =
     let P : ReadRow → Type 0 = λ r. row_from (r.raw ∷ raw_run_of satellite.name block) r.raw ≡ Ok r.row in
-    subst P h.is_read (rw (
-      cells-meant ((past_of_block block).value satellite.name) (cells_of satellite.count line) h.cells
-          h.are_read,
-      columns-cut (2 * length (map (λ (c : ReadCell). c.code) h.cells))
-          (after_cells satellite.count line ∷ marks_of (raw_run_of satellite.name block)),
-      length-map h.cells (λ (c : ReadCell). c.code),
-    ))
+    let texts = cells_of satellite.count line in
+    let meant = cells-meant ((past_of_block block).value satellite.name) texts h.cells h.are_read in
+    let cut = columns-cut (2 * length (map (λ (c : ReadCell). c.code) h.cells))
+    (after_cells satellite.count line ∷ marks_of (raw_run_of satellite.name block)) in
+    subst P h.is_read (rw (meant, cut, length-map h.cells (λ (c : ReadCell). c.code)))
 
 -- ---- all satellites
 
@@ -136,8 +129,8 @@ Paired P ss ls rs = ⊥
 
 pub rows-facts : (past : Past) (satellites : List Satellite) (lines : List ReadLine) (rows : List ReadRow)
     (count : ℕ) → rows_read past satellites lines ≡ Done rows count
-    → (own : List (List ℕ)) × (take count lines ≡ map Content own) × Paired (RowFacts past) satellites own rows
-    × (count ≡ length rows)
+    → (own : List (List ℕ)) × (take count lines ≡ map Content own)
+    × Paired (RowFacts past) satellites own rows × (count ≡ length rows)
 rows-facts past [] lines rows count e = ([], grind arith, grind arith, grind arith)
 rows-facts past (s ∷ ss) lines rows count e =
     let one = begins lines (satellite_line_read past s)

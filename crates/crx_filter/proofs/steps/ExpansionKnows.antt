@@ -11,9 +11,10 @@ use proofs.Words.{ReadEpoch, Made, is_again, Count, epoch_begun, satellites_of_l
 use proofs.{Words.{LINE_LIMIT, Reading, ◌≤◌}, following.{Collecting.{add_made, given-epochs, given-past}, ExpandedOn.phase_by}}
 use proofs.following.ExpandedOn.{satellites_expanded, expansion-collects, of_held}
 use proofs.steps.{EngineAnswers.{as-read-short, as-read-within}, EngineFaults.after-error, Enough.{epochs-kept, known-room}, Given.counts-there}
-use proofs.steps.{Given.{given-either, types-there}, HeldRows.{all-made, rows-of_types, satellites-before}}
+use proofs.steps.{Given.{given-either, types-there}, HeldRows.{all-made, rows-of_types}}
 use proofs.steps.HeldRows.{types-of_rows}
-use Rattle.crx_compact.{proofs.reading.RawTailing.line-left, specs.HeldRows.past_of_tail}
+use Rattle.crx_compact.proofs.{AnnouncedRows.satellites-again, reading.RawTailing.line-left}
+use Rattle.crx_compact.specs.HeldRows.{past_of_tail}
 use Rattle.crx_compact.specs.OpenEpochs.{ColumnsState, HeldEpoch, Idle, Reading as ReadingOn, opened_raw, rows_before}
 use Rattle.crx_compact.specs.OpenEpochs.{tail_for_line, tail_held}
 use Rattle.crx_compact.specs.{Placing.{HaveTypesRoom, KeepsRooms}, ReadingRooms.{HaveCellsRoom, HeldColumns}}
@@ -106,7 +107,7 @@ begins-within types past tail line epochs rooms same each known = by_tail (tail_
         → are_known (satellites_by types line (Some (past_of_tail before))) epochs ≡ true
         → IfOk (opened_raw types line (Some before)) (λ begun. HaveCellsRoom begun.rows rooms)
     by_satellites before (Ok satellites) is e = rw is (rows-of_types (rows_before before satellites) rooms
-        (subst (λ ss. HaveTypesRoom ss rooms) (sym (satellites-before before satellites))
+        (subst (λ ss. HaveTypesRoom ss rooms) (sym (satellites-again before.rows satellites))
         (known-room rooms epochs each satellites (rw is at e))))
     by_satellites before (Err fault) is e = rw is tt
 

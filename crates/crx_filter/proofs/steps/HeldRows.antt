@@ -7,7 +7,7 @@ use Rattle.crx_compact.proofs.{Results.{and_then-ok}, reading.Announced.satellit
 use Rattle.crx_compact.{proofs.soundness.Soundness.line-facts, specs.HeldRows.held_from}
 use Rattle.crx_compact.specs.HeldRows.{past_of_row, row_held}
 use Rattle.crx_compact.specs.OpenEpochs.{ColumnsState, Idle, Reading, Going, Whole, Faulty}
-use Rattle.crx_compact.specs.OpenEpochs.{rows_before, Before, After, HasPrintedLines}
+use Rattle.crx_compact.specs.OpenEpochs.{Before, After, HasPrintedLines}
 use Rattle.crx_compact.specs.OpenEpochs.{OpenClock, awaited_row, line_step, row_step, past_of_clock}
 use Rattle.crx_compact.specs.OpenEpochs.{raw_step_with_clock, raw_step_with_row, step_in, whole_or_awaiting}
 use Rattle.crx_compact.specs.OpenEpochs.{state_after}
@@ -35,13 +35,6 @@ pub types-of_rows : (rows : List RowTail) (rooms : List (List ℕ × ℕ))
     → HaveCellsRoom rows rooms → HaveTypesRoom (map satellite_of_tail rows) rooms
 types-of_rows rows rooms has =
     All-map (λ (s : Satellite). HasRoom s.name s.count rooms) satellite_of_tail rows has
-
--- the rows of an epoch's satellites before their lines
-pub satellites-before : (before : Tail) (satellites : List Satellite)
-    → map satellite_of_tail (rows_before before satellites) ≡ satellites
-satellites-before before [] = refl
-satellites-before before (s ∷ ss) =
-    grind (arith, common_steps, satellites-before before ss, length-each_place)
 
 -- ---- a line of an open epoch leaves its satellites as they are
 

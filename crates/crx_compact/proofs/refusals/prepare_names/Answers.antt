@@ -71,7 +71,8 @@ loop-index-preserved c =
     ] in (
       found.0 ++ satellite ∷ [],
       named-more c.args.types.now (names_in text c.args.count) index found.0 found.1 name
-          (search (rules, next-name)) (sym c.in-Some.ensures.value) (stands text index name found.0 false found.2 fresh),
+          (search (rules, next-name)) (sym c.in-Some.ensures.value)
+          (stands text index name found.0 false found.2 fresh),
       search (rules, each_place-more, columns, c.identifier-name.ensures.value, map-append),
       rw (c.place_of_mark-mark.ensures.value)
           (subst (λ (names : List (List ℕ)).

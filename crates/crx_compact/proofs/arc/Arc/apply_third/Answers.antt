@@ -1,4 +1,5 @@
-use Rattle.std.proofs.{lemmas.Grind.common_steps, Common.{rules, ◌≡◌, min, take, sym, ap, subst, ◌∙◌, arith, refl, ℕ}}
+use Rattle.std.proofs.lemmas.Grind.{common_steps}
+use Rattle.std.proofs.Common.{rules, ◌≡◌, min, take, sym, ap, subst, ◌∙◌, arith, refl, ℕ}
 use Rattle.crx_compact.specs.{meaning.Differences.newest, Arcs.{IsArcInRange}}
 use Rattle.crx_compact.specs.ArcSteps.{differences_after}
 use Rattle.crx_compact.proofs.arcs.Running.{OntoThird, by-after, goes-on-kept}

@@ -1,7 +1,7 @@
 use Rattle.crx_compact.proofs.Words.{rules, ◌≡◌, refl, ◌<◌, get_or, List, ℕ, Option, Some, drop, take}
 use Rattle.crx_compact.proofs.Words.{length, ap, sym, ◌∙◌, arith, length-take-le}
 use Rattle.crx_compact.specs.Blocks.{IsBlock}
-use Rattle.crx_compact.proofs.LineTexts.{NextLine, front-kept, next-line}
+use Rattle.crx_compact.proofs.LineTexts.{NextLine, next-line}
 use Rattle.crx_compact.proofs.block.Block.next_line.Goals.{After-index}
 use Rattle.std.proofs.{Math.ListN.drop_of_length-le, lemmas.List.get_or-take}
 use Rattle.crx_compact.proofs.block.Block.next_line.Goals as goal
@@ -34,7 +34,7 @@ invariant_of-self-2 c = (
   (here (goal.at.invariant_of-self-2 c).After-index).still,
   c.self.invariant.1,
   c.self.invariant.2,
-  front-kept _ _ _ _ _ c.self.invariant.3 (omega arith) (omega arith),
+  (omega (arith, c.self.invariant.3), omega (arith, c.self.invariant.3)),
   c.self.invariant.4,
 )
 

@@ -40,4 +40,5 @@ returns-in-Ok-clause-block c = λ older e.
     begun-block c.args.types.now older c.args.line.now e (returns-in-Ok-clause-made c)
 
 pub returns-in-Err-clause-block_fault : goal.returns-in-Err-clause-block_fault
-returns-in-Err-clause-block_fault c = λ older e. begun-refused c.args.types.now older c.args.line.now e (search rules)
+returns-in-Err-clause-block_fault c = λ older e.
+    begun-refused c.args.types.now older c.args.line.now e (search rules)

@@ -1,7 +1,8 @@
-use Rattle.crx_compact.proofs.Words.{rules, refl, ◌≡◌, ◌∙◌, ◌<◌, sym, arith}
+use Rattle.crx_compact.proofs.Words.{rules, refl, ◌≡◌, ◌∙◌, sym, arith}
 use Rattle.crx_compact.proofs.Words.{ap, subst, length, None, eqb-true, Content}
 use Rattle.crx_compact.proofs.Words.{HasMade, HeldColumns, step_in}
-use Rattle.crx_compact.proofs.{Words.{tail_of_history}, PrintedBlocks.{block-whole, idle-unprinted, printed-before, rows-printed}}
+use Rattle.crx_compact.proofs.Words.{tail_of_history}
+use Rattle.crx_compact.proofs.PrintedBlocks.{idle-unprinted, printed-before, rows-printed}
 use Rattle.crx_compact.proofs.reading.Stages.{state-rows, step-by-stage}
 use Rattle.crx_compact.proofs.reading.StepsByCode.{made-more, printed-whole}
 use Rattle.crx_base.specs.Padded.{line_in}
@@ -26,8 +27,7 @@ returns-else-not-is_whole-clause-made c =
       step-by-stage,
       c.self.view_is,
       c.in-Ok.ensures.ok,
-    )) (omega (arith, come)) (block-whole (tail_of_history new.history) c.print.new.lines.lines
-    (rw come at c.print.ensures.printed.lines))
+    )) (omega (arith, come)) (rw come at c.print.ensures.printed.lines)
 
 pub print-requires-clause-before : goal.print-requires-clause-before
 print-requires-clause-before c = λ some.

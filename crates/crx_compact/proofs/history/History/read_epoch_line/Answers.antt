@@ -1,11 +1,11 @@
 use Rattle.crx_compact.proofs.Words.{◌≡◌, List, ℕ, Result}
-use Rattle.crx_compact.proofs.Words.{map, ap, refl, subst, sym, arith, length, ◌≤◌}
+use Rattle.crx_compact.proofs.Words.{map, ap, subst, sym, arith, length, ◌≤◌}
 use Rattle.crx_compact.proofs.Words.{◌∙◌, rules, err_from_is_err_and}
 use Rattle.crx_compact.proofs.Words.{Fault, patched, past_of_tail}
 use Rattle.crx_compact.proofs.Words.{satellites_of_line, satellites_of_text, Satellite, HasRoom}
 use Rattle.crx_compact.proofs.Words.{HaveTypesRoom, OpenHistory, PlacedRows, padded_among, tail_of_history}
 use Rattle.crx_compact.proofs.{Words.{RowTail, and_parts, satellite_of}, Results.{by_ok}}
-use Rattle.crx_compact.proofs.{NamedAgain.named-kept, AnnouncedRows.{announced-rows, line-of_text}, EpochLines.text-few}
+use Rattle.crx_compact.proofs.{NamedAgain.named-kept, AnnouncedRows.announced-rows, EpochLines.text-few}
 use Rattle.crx_compact.proofs.history.History.read_epoch_line.Goals.{After-bytes-text}
 use Rattle.crx_compact.specs.{Refusals.AnswersRefusal}
 use Rattle.crx_compact.proofs.history.History.read_epoch_line.Goals as goal
@@ -20,8 +20,9 @@ text c = c.bytes-text.ensures.value
 same : (c : After-bytes-text)
     → satellites_of_line c.args.types.now (past_of_tail (tail_of_history c.args.self.now)) c.args.line.now
     ≡ satellites_of_text c.args.types.now c.bytes-text.result.now
-same c = line-of_text c.args.types.now (tail_of_history c.args.self.now) c.args.line.now _ _
-    (sym c.patch_bytes.ensures.printable ∙ c.if-is_err.ensures.negation) (text c) refl
+same c =
+    let printable = sym c.patch_bytes.ensures.printable ∙ c.if-is_err.ensures.negation in
+    grind (arith, printable, text c)
 
 -- the text is no longer than an epoch's
 pub put_first-requires : goal.put_first-requires
