@@ -2,7 +2,7 @@
 use Rattle.crx_compact.proofs.Words.{◌≡◌, [], ◌∷◌, ℕ, List, All, Ok, map, refl}
 use Rattle.crx_compact.proofs.Words.{patched, length-each_place, Count}
 use Rattle.crx_compact.proofs.Words.{IsAwaitedSatellite, past_of_tail, satellites_of_line}
-use Rattle.crx_compact.proofs.Words.{Satellite, IsAnnounced, OpenHistory, padded_among, satellite_of, rules}
+use Rattle.crx_compact.proofs.Words.{Satellite, IsAnnounced, OpenHistory, padded_among, satellite_of}
 use Rattle.crx_compact.proofs.Words.{RowTail, Tail, arith}
 use Rattle.crx_compact.proofs.EpochLines.{announced, named-by_line}
 
@@ -17,9 +17,6 @@ pub announced-rows : (types : List Count) (before : Tail) (line : List ℕ) (sat
     → history.satellites.rows ≡ map (padded_among before.rows) satellites
     → All IsAwaitedSatellite satellites → IsAnnounced history
 announced-rows types before line satellites history read text rows sound =
-    let again : map satellite_of history.satellites.rows ≡ satellites = search (rules, satellites-again) in
-    record {
-      announced = rw (again, text) (announced types before line satellites read);
-      named = rw (again, text) (named-by_line types before line satellites read);
-      satellites = rw again sound;
-    }
+    let one = announced types before line satellites read in
+    let two = named-by_line types before line satellites read in
+    grind (arith, satellites-again before.rows satellites, one, two)

@@ -1,6 +1,6 @@
 -- An epoch line after which the satellites of the epoch before come again: no mark is in the columns of their
 -- identifiers.
-use Rattle.crx_compact.proofs.Words.{rules, ◌≡◌, ◌≤◌, ◌+◌, ◌*◌, ◌∙◌, ℕ, List, [], ◌∷◌, Some, All, length, map}
+use Rattle.crx_compact.proofs.Words.{rules, ◌≡◌, ◌≤◌, ◌+◌, ◌*◌, ℕ, List, [], ◌∷◌, Some, All, length, map}
 use Rattle.crx_compact.proofs.Words.{sym, refl, replicate, subst, length-map, HEAD_WIDTH, NAME_WIDTH}
 use Rattle.crx_compact.proofs.Words.{at, columns, patched, at-without_end_blanks}
 use Rattle.crx_compact.proofs.Words.{columns-are, length-columns, Count, types_of_satellite}
@@ -44,11 +44,6 @@ read-again types text count old new come counted named awaited =
     let typed =
     All-map (λ (s : Satellite). types_of_satellite types s.name ≡ Some s.count) satellite_of old.rest
     (λ i d within. (come.again i d within).typed) in
-    record {
-      satellites = map satellite_of old.rest;
-      read = search (rules, length-map, named-again);
-      rows = come.rows ∙ sym (own-rows types old old.rest come.again);
-      awaited = awaited;
-      room = All-map (λ (s : Satellite). HasRoom s.name s.count new.rooms) satellite_of old.rest
-          (λ i d within. subst (HasRoom _ _) (sym come.rooms) (come.again i d within).room);
-    }
+    let room = All-map (λ (s : Satellite). HasRoom s.name s.count new.rooms) satellite_of old.rest
+    (λ i d within. subst (HasRoom _ _) (sym come.rooms) (come.again i d within).room) in
+    search (rules, length-map, named-again, own-rows types old old.rest come.again, room)

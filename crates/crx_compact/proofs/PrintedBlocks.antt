@@ -2,7 +2,7 @@
 use Rattle.crx_compact.proofs.Words.{◌≡◌, ◌++◌, ◌∷◌, ◌+◌, [], List, ℕ, Some, slice_get, arith}
 use Rattle.crx_compact.proofs.Words.{OpenHistory, tail_of_history, lines_to, rules, Tail, RowTail}
 use Rattle.crx_compact.proofs.Words.{columns, HEAD_WIDTH, printed_head, printed_row, shown_row, shown_value, IsRowRead, PendingLines}
-use Rattle.crx_compact.proofs.Words.{◌<◌, ◌-◌, ◌∙◌, ap, sym, refl, Bool, Expected, ColumnsState, columns_state}
+use Rattle.crx_compact.proofs.Words.{◌<◌, ◌-◌, ◌∙◌, sym, refl, Bool, Expected, ColumnsState, columns_state}
 use Rattle.crx_compact.proofs.Words.{Option, Idle, Reading, with_rows}
 use Rattle.crx_compact.proofs.{reading.Stages.state-rows}
 use Rattle.crx_compact.specs.{OpenLines.IsLineTaken, PrintedBlocks.ArePrinted}
@@ -22,11 +22,10 @@ head-printed count tail line none block zero emptied lines taken is = grind arit
 pub row-printed : (tail : Tail) (count : ℕ) (row : RowTail) (old new : PendingLines)
     → IsPrinted count tail old → slice_get tail.rows count ≡ Some row
     → new.lines ≡ old.lines ++ printed_row (shown_row row) ∷ [] → HasTakenLine old new → IsPrinted (count + 1) tail new
-row-printed tail count row old new so_far here lines taken = record {
-  lines = printed-next (printed_head (columns tail.text 1 HEAD_WIDTH) (shown_value tail.clock) ∷ [])
-      old.lines new.lines tail.rows count row so_far.lines here lines;
-  left = omega (arith, so_far.left, taken.left);
-}
+row-printed tail count row old new so_far here lines taken =
+    let first = printed_head (columns tail.text 1 HEAD_WIDTH) (shown_value tail.clock) ∷ [] in
+    let more = printed-next first old.lines new.lines tail.rows count row so_far.lines here lines in
+    grind (arith, more)
 
 -- the rows before the one that is read stay
 pub rows-kept : (old new : OpenHistory) (place : ℕ) (line : List ℕ)
@@ -45,10 +44,7 @@ printed-before is_kept expected after count come history new line is_whole state
     let so_far : IsPrinted count (tail_of_history history) block =
     printed (with_rows (tail_of_history history) count) (sym e ∙ open_state) refl in
     let same : count ≡ come - 1 = omega (arith, last.0) in
-    record {
-      lines = so_far.lines ∙ sym last.1 ∙ ap (λ n. lines_to n (tail_of_history new)) same;
-      left = omega (arith, so_far.left, last.0);
-    }
+    search (rules, so_far, last, same)
 
 -- ---- which epoch is open
 

@@ -1,6 +1,6 @@
 -- A satellite's indicators and cells by another count of types.
 use Rattle.crx_compact.proofs.Words.{◌≡◌, ◌≤◌, refl, ℕ, zero, suc, ◌-◌, List, [], ◌∷◌, ◌++◌}
-use Rattle.crx_compact.proofs.Words.{length, take, replicate, Option, None, ◌*◌, list_all, sym, ◌∙◌, ap}
+use Rattle.crx_compact.proofs.Words.{length, take, replicate, Option, None, ◌*◌, list_all, ◌∙◌, ap}
 use Rattle.crx_compact.proofs.Words.{arith, length-take-le, take-take, take_all, LINE_LIMIT}
 use Rattle.crx_compact.proofs.Words.{without_end_blanks, is_kept, at-without_end_blanks, list_all-from_at}
 use Rattle.crx_compact.proofs.{Characters.{all-take, list_all-at, same_characters}, SoundTexts.same-cut}
@@ -40,13 +40,8 @@ stored indicators arcs count =
 pub fewer-held : (flags : List ℕ) (m n : ℕ) → n ≤ m
     → AreHeldFlags (take m flags) → AreHeldFlags (take n flags)
 fewer-held flags m n h held =
-    let few : length (take n flags) ≤ length (take m flags) = grind (arith, common_steps, length-take) in
-    let most = held.within in
-    record {
-      within = omega (arith, few, most);
-      kept = ap (list_all is_kept) (sym (take-take n m flags h))
-          ∙ all-take is_kept n (take m flags) held.kept;
-    }
+    let kept = all-take is_kept n (take m flags) held.kept in
+    grind (arith, common_steps, length-take, take-take n m flags h, kept)
 
 pub fewer-types : (indicators : List ℕ) (arcs : List (Option ArcTail)) (count n : ℕ)
     → n ≤ count → count ≤ length arcs → stored indicators arcs n ≡ resized n (stored indicators arcs count)

@@ -1,6 +1,6 @@
 -- The satellites of the epoch before come again.
-use Rattle.crx_compact.proofs.Words.{◌≡◌, ℕ, ◌<◌, ◌≤◌, List, [], Some, length, take, option_map, ap, sym}
-use Rattle.crx_compact.proofs.Words.{◌∙◌, arith, refl, subst, bytes_eq, Count, padded, satellite_of, RowTail}
+use Rattle.crx_compact.proofs.Words.{◌≡◌, ℕ, ◌<◌, ◌≤◌, List, [], Some, length, take, sym}
+use Rattle.crx_compact.proofs.Words.{arith, refl, subst, bytes_eq, Count, satellite_of, RowTail}
 use Rattle.crx_compact.proofs.{Characters.length-is, RowByRow.all-at}
 use Rattle.crx_compact.proofs.placing.Orders.{apart-in_order, length-in_order, there-in_order}
 use Rattle.crx_compact.proofs.{placing.EntryChanges.room-here, placing.Ranges.{found-in_range, named-map}}
@@ -10,7 +10,7 @@ use Rattle.std.proofs.Common.{All, get_or, map, slice_get, true}
 use Rattle.indexmap.specs.IndexMap.{IndexMap, IsUnique}
 use Rattle.crx_compact.specs.{Entries.{Entry, IsOrder, KeepsTypes, in_order, placed_rows}, HeldRows.IsAwaitedSatellite}
 use Rattle.crx_compact.specs.EpochLinesRead.{HaveComeAgain, IsAgain}
-use Rattle.crx_compact.specs.Placing.{SatelliteTail, row_of_entry, row_tail_named}
+use Rattle.crx_compact.specs.Placing.{SatelliteTail, row_of_entry}
 use Rattle.crx_header.specs.meaning.ObservationTypes.{count_of}
 use Rattle.crx_header.specs.meaning.Satellites.{is_identifier, types_of_satellite}
 
@@ -44,15 +44,11 @@ module _ {S : Type 0} (m : IndexMap (List ℕ) SatelliteTail S) (unique : IsUniq
   one-again i less k =
       let e = k.entry in
       let os = in_order order m.entries in
-      let there : row_tail_named e.0 (rows_of live os) ≡ Some (row_of_entry e) =
-      named-map (λ (row : RowTail). row.name) row_of_entry e.0 (take live os)
-      ∙ ap (option_map row_of_entry) (found-in_range 0 live os i e (apart-in_order m.entries is unique)
-      (there-in_order m.entries is i e (omega (arith, less, within)) k.there) (omega arith) less) in
-      record {
-        typed = k.typed;
-        own = ap (padded (satellite_of (row_of_entry e))) there ∙ k.own;
-        room = room-here m (get_or order i 0) e.0 e.1 e.1 unique k.there (length e.1.cells) k.room;
-      }
+      let found = found-in_range 0 live os i e (apart-in_order m.entries is unique)
+      (there-in_order m.entries is i e (omega (arith, less, within)) k.there) (omega arith) less in
+      let named = named-map (λ (row : RowTail). row.name) row_of_entry e.0 (take live os) in
+      let room = room-here m (get_or order i 0) e.0 e.1 e.1 unique k.there (length e.1.cells) k.room in
+      grind (arith, k.typed, k.own, found, named, room)
 
   pub come-again : HaveComeAgain types (placed_rows 0 live (in_order order m.entries) m.entries)
       (placed_rows live live (in_order order m.entries) m.entries)

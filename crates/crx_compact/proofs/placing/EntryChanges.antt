@@ -42,9 +42,8 @@ module _ {S : Type 0} (m : IndexMap (List ℕ) SatelliteTail S) (i : ℕ) (name 
   -- the one at an index is found by its identifier
   pub room-there : (count : ℕ) → HasRoom name count (rooms_of m.entries) → count ≤ before.room
   room-there count has =
-      let known = known-room name count _ has in
-      subst (λ (s : SatelliteTail). count ≤ s.room) (same_Some known.0 before
-      (sym known.1 ∙ hash_map_get_place bytes_eq-equiv m i name before unique there)) known.2
+      let own = hash_map_get_place bytes_eq-equiv m i name before unique there in
+      grind (arith, known-room name count _ has, own)
 
   pub room-here : (count : ℕ) → count ≤ before.room → HasRoom name count (rooms_of m.entries)
   room-here count within = room-from_look_up name count _ before

@@ -1,7 +1,6 @@
 -- The entries of a map in an order of their indices.
 use Rattle.std.proofs.Common.{◌≡◌, ℕ, ◌+◌, ◌<◌, false, List, [], ◌∷◌, ◌++◌, length, set}
-use Rattle.std.proofs.Common.{slice_get, get_or, Some, option_map, ap, sym, ◌∙◌, inl, inr, arith, length-set}
-use Rattle.std.proofs.lemmas.Bool.{cases_eq}
+use Rattle.std.proofs.Common.{slice_get, get_or, Some, option_map, ap, sym, ◌∙◌, arith, length-set}
 use Rattle.std.proofs.lemmas.List.{ext_get_or, get_or-map, get_or-set_other, get_or-set_same}
 use Rattle.std.proofs.lemmas.List.{get_or_append_left, length-append, length-map}
 use Rattle.std.proofs.lemmas.List.Folds.{list_any_at, list_any_none}
@@ -76,10 +75,7 @@ module _ {order places : List ℕ} (es : List Entry) (is : IsOrder order places 
       let two = get_or-map (entry_at es) order q 0 e below in
       let forth = is.forth q (omega (arith, below, is.counted)) in
       let back = is.forth place within in
-      elim (cases_eq q place) [
-        | inl same ↦ grind (arith, get_or-set_same, is.index place within, is.counted)
-        | inr other ↦ grind (arith, get_or-set_other)
-      ])
+      grind (arith, get_or-set_same, get_or-set_other, is.index place within, is.counted))
 
 -- one more index is behind the others
 pub more-ordered : (order places : List ℕ) (count : ℕ) → IsOrder order places count

@@ -1,8 +1,7 @@
 -- A satellite gets more room, and no row changes.
 use Rattle.crx_compact.proofs.Words.{take-take, length-take-le, slice_index_or}
 use Rattle.std.proofs.Common.{◌≡◌, ℕ, suc, ◌<◌, ◌≤◌, List, [], ◌∷◌, length, map, take, drop, slice_get, Some}
-use Rattle.std.proofs.Common.{ap}
-use Rattle.std.proofs.{Common.{◌∙◌, arith, refl, sym, get_or}, Math.ListN.get_or-map}
+use Rattle.std.proofs.{Common.{arith, refl}, Math.ListN.get_or-map}
 use Rattle.std.proofs.{lemmas.List.{drop-map, get_or-take, length-take, take-map}}
 use Rattle.std.proofs.lemmas.Grind.{common_steps}
 use Rattle.indexmap.specs.IndexMap.{set_value_at}
@@ -30,11 +29,11 @@ rows-front : (es new : List Entry) → take (length es) (map row_of_entry new) �
     → map row_of_entry (in_order ks new) ≡ map row_of_entry (in_order ks es)
 rows-front es new front [] below = refl
 rows-front es new front (k ∷ ks) below =
-    let row : row_of_entry (entry_at new k) ≡ row_of_entry (entry_at es k) =
-    sym (get_or-map row_of_entry new k (entry_at [] 0))
-    ∙ sym (get_or-take (length es) (map row_of_entry new) k _ (below 0 (omega arith)))
-    ∙ ap (λ rows. get_or rows k (row_of_entry (entry_at [] 0))) front ∙ get_or-map row_of_entry es k (entry_at [] 0) in
-    cc (row, rows-front es new front ks (λ q less. below (suc q) (omega (arith, less))))
+    let d = row_of_entry (entry_at [] 0) in
+    let taken = get_or-take (length es) (map row_of_entry new) k d (below 0 (omega arith)) in
+    let one = get_or-map row_of_entry new k (entry_at [] 0) in
+    let rest = rows-front es new front ks (λ q less. below (suc q) (omega (arith, less))) in
+    cc (one, get_or-map row_of_entry es k (entry_at [] 0), taken, front, rest)
 
 -- the rows of an order are those of the longer one that begins with it
 module _ (order places longer : List ℕ) (es new : List Entry) (is : IsOrder order places (length es))

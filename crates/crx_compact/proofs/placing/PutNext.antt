@@ -2,8 +2,8 @@
 use Rattle.crx_compact.proofs.placing.EntryChanges.{set-there}
 use Rattle.indexmap.proofs.IndexTableLemmas.Indexes.{swap_self}
 use Rattle.std.proofs.{Common.{◌≤◌, inl, inr, slice_get, Some, subst}, lemmas.Bool.cases_eq}
-use Rattle.std.proofs.Common.{◌≡◌, ℕ, ◌<◌, List, [], length, take, set, sym, swap, ap}
-use Rattle.std.proofs.{Common.{◌∙◌, arith, length-set}, lemmas.List.{drop-set-lt, take-set-le, take_more_set}}
+use Rattle.std.proofs.Common.{◌≡◌, ℕ, ◌<◌, List, [], length, take, set, sym, swap}
+use Rattle.std.proofs.{Common.{arith, length-set}, lemmas.List.{drop-set-lt, take-set-le, take_more_set}}
 use Rattle.std.proofs.{Math.Seq.take-set-lt, lemmas.Grind.common_steps}
 use Rattle.std.specs.{Str.bytes_eq, List.IsDistinct, Map.keys_of}
 use Rattle.crx_compact.specs.Entries.{Entry, IsPutNext, key_of}
@@ -46,8 +46,7 @@ module _ (live place : ℕ) (old : List Entry) (blank : Entry) (behind : live �
     revived = swap-is (set old place blank) place live blank first.item (set-there old place blank within) first.there
 
     pub revived-there : slice_get (swap (set old place blank) place live) live ≡ Some blank
-    revived-there = ap (λ es. slice_get es live) revived ∙ set-there (set (set old place blank) place first.item) live
-        blank (omega (arith, behind, within, counted, length-set (set old place blank) place first.item))
+    revived-there = grind (arith, revived, set-there, length-set)
 
     pub revived-front : take live (swap (set old place blank) place live) ≡ take live old
     revived-front = grind (arith, common_steps, revived, take-set-le)

@@ -21,20 +21,14 @@ known-room name count es h = grind (arith, common_steps, lookup, bytes_eq, room-
 
 pub room-from_look_up : (name : List ℕ) (count : ℕ) (es : List Entry) (satellite : SatelliteTail)
     → lookup (bytes_eq name) es ≡ Some satellite → count ≤ satellite.room → HasRoom name count (rooms_of es)
-room-from_look_up name count es satellite is within = record {
-  room = satellite.room;
-  there = cc (room-by_look_up name es, is);
-  within = within;
-}
+room-from_look_up name count es satellite is within = grind (arith, room-by_look_up name es)
 
 -- each satellite that is known stays known, and has no less room
 pub rooms-kept : (old new : List Entry) → ((name : List ℕ) (satellite : SatelliteTail) → lookup
     (bytes_eq name) old ≡ Some satellite → (after : SatelliteTail) × (lookup (bytes_eq name) new ≡ Some after)
     × (satellite.room ≤ after.room)) → KeepsRooms (rooms_of old) (rooms_of new)
 rooms-kept old new h name count has =
-    let known = known-room name count old has in
-    let after = h name known.0 known.1 in
-    room-from_look_up name count new after.0 after.1 (omega (arith, known.2, after.2))
+    grind (arith, known-room name count old has, h name, room-from_look_up name count new)
 
 -- a look-up finds those that are among them
 pub look_up-among : (name : List ℕ) (es : List Entry) → is_some (lookup (bytes_eq name) es) ≡ is_among key_of
