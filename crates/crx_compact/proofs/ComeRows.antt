@@ -1,7 +1,7 @@
 -- Rows that come one by one, each after what is stored of its satellite: the row of the epoch before, or a
 -- blank one.
 use Rattle.crx_compact.proofs.Words.{rules, ◌≡◌, ◌++◌, ◌∷◌, [], ℕ, List, true, false, Some}
-use Rattle.crx_compact.proofs.Words.{length, take, slice_get, refl, ap, sym, ◌∙◌, arith}
+use Rattle.crx_compact.proofs.Words.{length, take, slice_get, refl, arith}
 use Rattle.crx_compact.proofs.Words.{is_among, Row, Satellite, PlacedRows, padded}
 use Rattle.crx_compact.proofs.Words.{padded_among, row_or_blank, row_line_after, row_line_in, row_tail_after}
 use Rattle.crx_compact.proofs.Words.{row_tail_in, RowTail, are_different, take_all, slice_get_within}
@@ -49,7 +49,6 @@ pub row-new : (rows : List Row) (index : ℕ) (row : Row) → are_different rows
     → slice_get rows index ≡ Some row → is_among (λ (r : Row). r.name) row.name (take index rows) ≡ false
 row-new rows index row apart here =
     let within = slice_get_within rows index row here in
-    ap (λ (r : Row). is_among (λ (q : Row). q.name) r.name (take index rows))
-    (sym (get_or_from_slice_get rows index row row here))
-    ∙ new_at (λ (r : Row). r.name) (length rows) rows index row
-    (search (rules, take_all)) within within
+    let own = new_at (λ (r : Row). r.name) (length rows) rows index row
+    (search (rules, take_all)) within within in
+    rw (get_or_from_slice_get rows index row row here) at own

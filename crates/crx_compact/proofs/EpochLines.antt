@@ -83,9 +83,8 @@ named-again earlier types state (n ∷ ns) given e typed =
     let P : Satellite → Type 0 = λ s. types_of_satellite types s.name ≡ Some s.count in
     let step = satellite-before earlier state n (types_of_satellite earlier n) others given refl e in
     let whole = subst (All P) (sym step.5) typed in
-    let here : types_of_satellite types n ≡ Some step.0 = All-head P _ step.1 whole in
     let rest = named-again earlier types (n ∷ state) ns step.1 step.4 (All-tail P _ step.1 whole) in
-    cc
+    cc (All-head P _ step.1 whole, rest)
 
 module _ (types : List Count) (before : Tail) (line : List ℕ) (satellites : List Satellite)
     (e : satellites_of_line types (past_of_tail before) line ≡ Ok satellites) where

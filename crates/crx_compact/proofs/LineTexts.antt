@@ -173,7 +173,4 @@ put-front lengths bytes new line many filled past next past_bytes start c some r
     let is : cut (drop next lengths') (drop start (take filled new)) ≡ line ∷ cut counts rest =
     cc (longer, text, cut-first counts line rest) in
     let before = length-drop start (take filled new) in
-    record {
-      is = is;
-      still = search (rules, length-take-le, length-append);
-    }
+    search (rules, is, length-take-le, length-append)

@@ -1,7 +1,7 @@
 -- The identifiers of an epoch text, read from left to right.
 use Rattle.crx_compact.proofs.Words.{◌≡◌, ◌<◌, refl, ℕ, suc, ◌+◌, ◌*◌, Bool, true, false, ◌||◌, List}
 use Rattle.crx_compact.proofs.Words.{[], ◌∷◌, ◌++◌, drop, Some, None, Ok, Err, length, All-from_recursion}
-use Rattle.crx_compact.proofs.Words.{bytes_eq, sym, ◌∙◌, ap, arith, get_or, length-map, same_Some}
+use Rattle.crx_compact.proofs.Words.{bytes_eq, sym, ◌∙◌, ap, arith, get_or, length-map}
 use Rattle.crx_compact.proofs.Words.{each_place, types_of_satellite, columns, BadSatellite, length-each_place}
 use Rattle.crx_compact.proofs.Words.{RepeatedSatellite, Count, Satellite, names_in, index-each_place}
 use Rattle.crx_compact.proofs.Words.{satellites_named, HasRoom, HaveTypesRoom, KeepsRooms}
@@ -101,8 +101,7 @@ names-room types text count named rooms is has = λ place cells within some.
     (λ past. absurd (omega (arith, within, past))) in
     let counted = All-from_recursion (λ (s : Satellite). types_of_satellite types s.name ≡ Some s.count) named
     facts.known place blank less in
-    let cells_are = same_Some s.count cells (sym counted ∙ ap (types_of_satellite types) same ∙ some) in
-    rw (← same, ← cells_are) (has place blank less)
+    grind (arith, same, counted, some, has place blank less)
 
 -- the satellite at one place more has room
 pub names-room-more : (types : List Count) (text : List ℕ) (place : ℕ) (before now : List (List ℕ × ℕ))

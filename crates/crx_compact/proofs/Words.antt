@@ -16,7 +16,7 @@ pub use Rattle.crx_compact.specs.Cells.{value_at_place, CellsAreRead}
 pub use Rattle.crx_compact.specs.HeldRows.{past_of_tail, IsAwaitedSatellite, held_row, arcs_of_tail}
 pub use Rattle.crx_compact.specs.HeldRows.{held_from, past_of_row, row_held, row_held_from, AreHeldFlags}
 pub use Rattle.crx_compact.specs.Laws.{AreWhole, patched_in_turn, CodesFit, has_no_epochs, LinesCanStand}
-pub use Rattle.crx_compact.specs.Blocks.{cut, AreCut, HasFront, PendingLines}
+pub use Rattle.crx_compact.specs.Blocks.{cut, AreCut, PendingLines}
 pub use Rattle.crx_compact.specs.OpenEpochs.{HasMade, HeldEpoch, held_after, next_step, placed_as, opened_raw}
 pub use Rattle.crx_compact.specs.OpenEpochs.{Reading, is_idle, step_in, RawStep, with_rows, opening, row_step}
 pub use Rattle.crx_compact.specs.OpenEpochs.{before_clock, tail_for_line, step_with_rows, place_of_step, Idle}
@@ -69,7 +69,7 @@ pub use Rattle.crx_rinex.specs.meaning.Epochs.{has_satellite, are_different, IsW
 pub use Rattle.crx_rinex.specs.meaning.Observations.{Row, Epoch, value_in}
 pub use Rattle.crx_rinex.specs.meaning.Places.{Place, Done, Fails, then_place, one_line}
 pub use Rattle.crx_rinex.specs.meaning.Places.{first_line, after_lines}
-pub use Rattle.crx_rinex.specs.meaning.Printing.{printed_epoch, printed_head, printed_row}
+pub use Rattle.crx_rinex.specs.meaning.Printing.{printed_head, printed_row}
 pub use Rattle.crx_rinex.specs.meaning.SatelliteLines.{IsSoundRow, HasItsTypes}
 pub use Rattle.crx_text.proofs.Characters.{at, length-columns, at-without_end_blanks, columns-are, at-append}
 pub use Rattle.crx_text.proofs.Characters.{list_all-from_at, at-append_past, at-drop}

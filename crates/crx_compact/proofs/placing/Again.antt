@@ -56,9 +56,7 @@ module _ {S : Type 0} (m : IndexMap (List ℕ) SatelliteTail S) (unique : IsUniq
     rows = refl;
     rooms = refl;
     again = λ i d less.
-        let os = in_order order m.entries in
-        let below = among-placed live i os less in
+        let below = among-placed live i (in_order order m.entries) less in
         let at = row-here m.entries is live less refl (kept i below).there in
-        subst (IsAgain types (placed_rows 0 live os m.entries)) (sym (get_or_from_slice_get (rows_of live
-        os) i (row_of_entry (kept i below).entry) d at.there)) (one-again i below (kept i below));
+        grind (arith, get_or_from_slice_get _ i _ d at.there, one-again i below (kept i below));
   }

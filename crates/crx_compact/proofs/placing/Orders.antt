@@ -37,8 +37,7 @@ module _ {order places : List ℕ} (es : List Entry) (is : IsOrder order places 
       let below = is.index i (omega (arith, less, length-in_order)) in
       let test = λ (e : Entry). bytes_eq (key_of e) name in
       let at = list_any_at test es (get_or order i 0) (entry_at [] 0) below in
-      rw (get_or-map (entry_at es) order i 0 d (omega (arith, less, length-map order (entry_at es))))
-      (grind (arith, none, at)))
+      grind (arith, none, at, get_or-map (entry_at es) order i 0 d, length-map order (entry_at es)))
 
   -- no two of them have one identifier
   pub apart-in_order : IsDistinct bytes_eq (keys_of es) → IsDistinct bytes_eq (keys_of (in_order order es))
@@ -49,9 +48,10 @@ module _ {order places : List ℕ} (es : List Entry) (is : IsOrder order places 
       let other = get_or order j 0 in
       let key : (k : ℕ) → k < length es → get_or (keys_of (in_order order es)) k d
       ≡ get_or (keys_of es) (get_or order k 0) d = λ k below.
-      get_or-map key_of (in_order order es) k (entry_at es 0) d (omega (arith, below, length-in_order))
-      ∙ ap key_of (get_or-map (entry_at es) order k 0 _ (omega (arith, below, is.counted)))
-      ∙ sym (get_or-map key_of es (get_or order k 0) _ d (is.index k below)) in
+      let one = get_or-map key_of (in_order order es) k (entry_at es 0) d in
+      let two = get_or-map (entry_at es) order k 0 (entry_at es 0) in
+      let three = get_or-map key_of es (get_or order k 0) in
+      grind (arith, one, two, three, is.index k below, is.counted, length-in_order) in
       let far : one ≡ other → ⊥ = grind arith in
       let keys : length (keys_of es) ≡ length es = length-map es key_of in
       let low = is.index i (omega (arith, less, within, counted)) in
@@ -59,8 +59,7 @@ module _ {order places : List ℕ} (es : List Entry) (is : IsOrder order places 
       let forth = apart_from_distinct bytes_eq (keys_of es) one other d apart in
       let back = apart_from_distinct bytes_eq (keys_of es) other one d apart in
       let turned = other_way (get_or (keys_of es) other d) (get_or (keys_of es) one d) in
-      rw (key i (omega (arith, less, within, counted)), key j (omega (arith, within, counted)))
-      (grind (arith, far, forth, back, turned)))
+      grind (arith, counted, far, forth, back, turned, key i, key j))
 
   -- another entry at an index is in the index's place
   pub set-in_order : (place : ℕ) (e : Entry) → place < length es → in_order order (set es (get_or order place 0) e)

@@ -1,6 +1,6 @@
 -- Entries of a map in ranges, one after the other: where an identifier is, and what a swap leaves of them.
 use Rattle.std.proofs.Common.{◌≡◌, ℕ, zero, suc, ◌<◌, ◌≤◌, true, false, List, [], ◌∷◌, take, drop, set, map}
-use Rattle.std.proofs.Common.{swap, slice_get, Some, None, option_map, refl, ap, sym, ◌∙◌, arith, rules}
+use Rattle.std.proofs.Common.{swap, slice_get, Some, None, option_map, refl, arith, rules}
 use Rattle.std.proofs.lemmas.Bool.{or_parts}
 use Rattle.std.proofs.lemmas.Option.{get_or_from_slice_get, same_Some, slice_get_within}
 use Rattle.std.proofs.lemmas.List.Edits.{swap_is}
@@ -99,9 +99,8 @@ module _ {V : Type 0} where
       → IsDistinct bytes_eq (keys_of es) → bytes_eq b.0 other ≡ false → named name_of other
       (drop (suc start) (take end (set es i a))) ≡ named name_of other (drop start (take end es))
   rest-brought zero (suc end) (suc i) (x ∷ es) a b other after before here there h differs =
-      let same = same_Some x a here in
-      in_place end i es a b other (omega (arith, before)) there (rw (← same) (IsDistinct-head bytes_eq x.0
-      (keys_of es) h)) differs ∙ ap (λ (y : List ℕ × V). named name_of other (y ∷ take end es)) (sym same)
+      let head = IsDistinct-head bytes_eq x.0 (keys_of es) h in
+      grind (arith, same_Some x a here, in_place end i es x b other (omega arith) there head differs)
   rest-brought (suc start) (suc end) (suc i) (x ∷ es) a b other after before here there h differs =
       rest-brought start end i es a b other (omega (arith, after)) (omega (arith, before)) here there
       (IsDistinct-tail bytes_eq x.0 (keys_of es) h) differs

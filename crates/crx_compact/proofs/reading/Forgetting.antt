@@ -1,7 +1,7 @@
 -- A line that begins with > forgets what was read before it.
-use Rattle.crx_compact.proofs.Words.{◌≡◌, ◌+◌, ◌∙◌, length, refl, ap, sym, ℕ, true, List, ◌∷◌, take, map}
+use Rattle.crx_compact.proofs.Words.{◌≡◌, ◌+◌, length, ℕ, true, List, ◌∷◌, take, map}
 use Rattle.crx_compact.proofs.Words.{rules, arith}
-use Rattle.crx_compact.proofs.Words.{ReadLine, Content, Count, ReadEpoch, RawEpoch, begins_epoch, Forgets}
+use Rattle.crx_compact.proofs.Words.{ReadLine, Content, Count, RawEpoch, begins_epoch, Forgets}
 use Rattle.crx_compact.proofs.soundness.Soundness.{epoch-facts}
 
 first-line : (count more : ℕ) (line other : List ℕ) (lines : List ReadLine) (own : List (List ℕ))
@@ -16,6 +16,5 @@ forgets types older line lines h = record {
       let facts = epoch-facts types older (Content line ∷ lines) read count e in
       let same = first-line count (length facts.rows) line facts.line lines (facts.clock_line ∷ facts.own)
       facts.counted facts.cut in
-      let line_is = ap (λ (r : ReadEpoch). r.raw.line) (sym facts.is_read) ∙ same in
-      rw (line_is, h) refl;
+      grind (arith, facts.is_read, same);
 }

@@ -16,7 +16,7 @@ use Rattle.crx_compact.proofs.{soundness.Soundness.{Paired, RowFacts, rows-facts
 use Rattle.crx_compact.proofs.reading.PaddedRows.{row-opened, row-shows}
 use Rattle.std.specs.Option.{is_some}
 use Rattle.crx_compact.specs.OpenEpochs.{OpenRawEpoch, rows_before, raw_step_with_clock, place_of_steps}
-use Rattle.crx_compact.specs.{OpenEpochs.open_raw_after, OpenEpochs.RawStep.Going}
+use Rattle.crx_compact.specs.OpenEpochs.{first_step, open_raw_after, RawStep.Going}
 use Rattle.crx_compact.specs.ReadingLaws.{is_wanted, StepsAgree, WantedWhereOpen, StepsFromOpen}
 use Rattle.std.proofs.lemmas.Option.{slice_get_past}
 
@@ -174,8 +174,6 @@ step-more count s lines line begun h = grind arith
 
 pub steps-from_open : StepsFromOpen
 steps-from_open types tail [] line begun h = absurd (true≢false (sym (ap is_some h)))
-steps-from_open types tail (l ∷ ls) line begun h = record {
-  place = steps-agree types tail (l ∷ (ls ++ line ∷ []))
-      ∙ (step-more 0 _ ls line begun h).0 ∙ ap (λ n. place_of_step n (next_step begun line)) (omega arith);
-  open_epoch = (step-more 0 _ ls line begun h).1;
-}
+steps-from_open types tail (l ∷ ls) line begun h =
+    let more = step-more 0 (first_step types tail l) ls line begun h in
+    grind (arith, steps-agree types tail (l ∷ (ls ++ line ∷ [])), more)

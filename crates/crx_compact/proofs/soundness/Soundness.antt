@@ -138,12 +138,9 @@ rows-facts past (s ∷ ss) lines rows count e =
     (λ more rest. Done (row ∷ more) 0)) rows count e in
     let two = ends (rows_read past ss one.rest) one.rest (λ more. one.from ∷ more) rows one.more one.later in
     let rest = rows-facts past ss one.rest two.0 one.more two.1 in
-    rw (← two.2) (
-      one.line ∷ rest.0,
-      cut-at lines one.rest one.line count one.more rest.0 one.is one.counted rest.1,
-      (line-facts past s one.line one.from one.ok, rest.2),
-      cc (one.counted, rest.3),
-    )
+    let cut = cut-at lines one.rest one.line count one.more rest.0 one.is one.counted rest.1 in
+    let row = line-facts past s one.line one.from one.ok in
+    rw (← two.2) (one.line ∷ rest.0, cut, (row, rest.2), cc (one.counted, rest.3))
 
 -- ---- identifiers
 
@@ -253,8 +250,4 @@ reads-soundly types older lines read count e =
       clock = h.clock.value;
       rows = map (λ (r : ReadRow). r.row) h.rows;
     }) = rw (h.clock_ok.meant, rows-meant block raw h.satellites h.own h.rows h.rows_ok own) in
-    rw (← h.is_read) (record {
-      single = own;
-      meant = search rules;
-      counted = search (rules, length-map);
-    })
+    rw (← h.is_read) (search (rules, own, meant, length-map))
