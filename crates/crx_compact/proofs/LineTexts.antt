@@ -56,7 +56,6 @@ next-line lengths bytes filled past past_bytes count c kept past_within here =
     let counts : List ℕ = drop (past + 1) lengths in
     let there : drop past lengths ≡ count ∷ counts = cc (drop_more lengths past count past_within) in
     let first = first-ended count counts rest (rw there at c.whole) in
-    let long = length-take-le filled bytes kept in
     let within : past_bytes + count < filled = grind (arith, common_steps, length-drop) in
     let next : past_bytes + count + 1 ≡ past_bytes + suc count = omega arith in
     let after : drop (past_bytes + count + 1) text ≡ drop (suc count) rest =

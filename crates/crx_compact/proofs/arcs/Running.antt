@@ -269,7 +269,6 @@ pub stepped : (width order count last : ℕ) (number value : ℤ) (ds : List ℤ
     → FitsSigned w64 number → StepsOn width order count last number value ds
 stepped width order (suc count) last number value (d ∷ ds) e h l v f =
     let lower = lower-taken order (suc count) last (d ∷ ds) e in
-    let same = same-bits number f in
     search (rules, some-kept, by-after)
 stepped width order count last number value ds e h l v f = absurd (omega arith)
 

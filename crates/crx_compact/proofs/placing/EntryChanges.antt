@@ -56,7 +56,6 @@ module _ {S : Type 0} (m : IndexMap (List ℕ) SatelliteTail S) (i : ℕ) (name 
       let own = hash_map_get_place bytes_eq-equiv m i name before unique there in
       rooms-kept _ _ (λ other satellite known.
       let same = (bytes_eq-Decides name other).0 in
-      let found = updates.0 other in
       let now = cond (bytes_eq name other) after satellite in
       (now, grind (arith, common_steps), grind (arith, common_steps, same, same_Some)))
 

@@ -54,8 +54,6 @@ module _ {order places : List ℕ} (es : List Entry) (is : IsOrder order places 
       grind (arith, one, two, three, is.index k below, is.counted, length-in_order) in
       let far : one ≡ other → ⊥ = grind arith in
       let keys : length (keys_of es) ≡ length es = length-map es key_of in
-      let low = is.index i (omega (arith, less, within, counted)) in
-      let high = is.index j (omega (arith, within, counted)) in
       let forth = apart_from_distinct bytes_eq (keys_of es) one other d apart in
       let back = apart_from_distinct bytes_eq (keys_of es) other one d apart in
       let turned = other_way (get_or (keys_of es) other d) (get_or (keys_of es) one d) in
@@ -73,7 +71,6 @@ module _ {order places : List ℕ} (es : List Entry) (is : IsOrder order places 
       let one = get_or-map (entry_at new) order q 0 e below in
       let two = get_or-map (entry_at es) order q 0 e below in
       let forth = is.forth q (omega (arith, below, is.counted)) in
-      let back = is.forth place within in
       grind (arith, get_or-set_same, get_or-set_other, is.index place within, is.counted))
 
 -- one more index is behind the others
