@@ -1,11 +1,10 @@
 //! The row of the satellite line that was read last, in memory that is used again. RINEX 3.05, table A3.
 
-ghost use Rattle.std.specs.Prelude.{ℕ, List, None, Some, ◌≡◌, ◌≤◌, ◌<◌, ◌*◌, ◌+◌, ◌-◌, ◌/◌, codes, length, max, take, Ok, Err, OnOk, IfErr, IfSome, MatchBool};
-ghost use Rattle.std.specs.Bool.{OnTrue};
+ghost use Rattle.std.specs.Prelude.{ℕ, List, None, ◌≡◌, ◌≤◌, ◌<◌, ◌*◌, ◌+◌, ◌-◌, ◌/◌, codes, length, max, take, Ok, Err, OnOk, IfErr, IfSome, MatchBool};
 ghost use Rattle.crx_base.specs.Padded.{line_in};
-ghost use Rattle.crx_base.specs.declared.limits.TheConstants.{CELL_WIDTH, NAME_WIDTH, OBSERVATION_WIDTH, TYPES_LIMIT};
+ghost use Rattle.crx_base.specs.declared.limits.TheConstants.{CELL_WIDTH, NAME_WIDTH, TYPES_LIMIT};
 ghost use Rattle.crx_text.specs.meaning.Columns.{columns};
-ghost use Rattle.crx_text.specs.meaning.Numbers.{observation_of, IsValue};
+ghost use Rattle.crx_text.specs.meaning.Numbers.{observation_of};
 ghost use Rattle.crx_rinex.specs.meaning.Observations.{observations_of};
 ghost use Rattle.crx_rinex.specs.meaning.Printing.{printed_row};
 ghost use Rattle.crx_rinex.specs.SatelliteLines.{blank_row, row_by_cells, AreCellsRead, AreEmptyFrom, AreFirstRead, ArePaired, IsRowOf, KeepsEmptyFrom};
@@ -15,7 +14,7 @@ use crate::satellite_row::{present, print_row};
 use crx_base::limits::{CELL_WIDTH, NAME_WIDTH, OBSERVATION_WIDTH, TYPES_LIMIT};
 use crx_base::{Fault, Padded};
 use crx_header::{Types, after_columns, all_blank, identifier, types_of_satellite};
-use crx_text::{Text, all_kept, obs_read, obs_read_into};
+use crx_text::{Text, all_kept, obs_read_cell};
 use std::marker::Model;
 use std::simd::prelude::*;
 
@@ -217,38 +216,11 @@ fn read_cell(cell: u8x16, k: usize, values: &mut [Option<i64>], flags: &mut [u8]
         → MatchBool result (AreCellsRead (k + 1) line values.new flags.new) (observation_of (field line k) ≡ None) }
     ensures others { KeepsEmptyFrom (k + 1) values.old flags.old values.new flags.new }
 {
-    if !read_value(cell, &mut values[k]) {
+    if !obs_read_cell(cell, &mut values[k]) {
         return false;
     }
     cell.extract::<OBSERVATION_WIDTH, 2>()
         .copy_to_slice(&mut flags[2 * k..]);
-    true
-}
-
-/// Reads the value in a cell's columns into a place. `false` comes where the field is neither blank nor a
-/// number.
-#[inline(always)]
-fn read_value(cell: u8x16, value: &mut Option<i64>) -> bool
-    ensures read { MatchBool result (observation_of (take OBSERVATION_WIDTH cell) ≡ Some value.new)
-        (observation_of (take OBSERVATION_WIDTH cell) ≡ None) }
-    ensures ranged { OnTrue result (IsValue value.new) }
-{
-    obs_read_into(&cell.to_array(), value) || read_other_value(cell, value)
-}
-
-/// Reads a value that isn't spelt as files mostly have it. `false` comes where the field is neither blank nor
-/// a number.
-#[inline(never)]
-fn read_other_value(cell: u8x16, value: &mut Option<i64>) -> bool
-    ensures read { MatchBool result (observation_of (take OBSERVATION_WIDTH cell) ≡ Some value.new)
-        (observation_of (take OBSERVATION_WIDTH cell) ≡ None) }
-    ensures ranged { OnTrue result (IsValue value.new) }
-{
-    let text = cell.to_array();
-    let Ok(other) = obs_read(&text[..OBSERVATION_WIDTH]) else {
-        return false;
-    };
-    *value = other;
     true
 }
 

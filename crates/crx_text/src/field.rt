@@ -1,7 +1,7 @@
 //! An observation's 14 columns in one row of lanes: blanks, perhaps a minus, digits, and the point
 //! in column 11. That is how nearly every field is written.
 
-ghost use Rattle.std.specs.Prelude.{take, ◌≡◌, ◌==◌, ◌+◌, ◌*◌, ◌^◌, ◌<◌, [], length, slice_index, IsTrue};
+ghost use Rattle.std.specs.Prelude.{take, ◌≡◌, ◌==◌, ◌+◌, ◌*◌, ◌^◌, ◌<◌, slice_index, IsTrue};
 ghost use Rattle.std.specs.List.{list_any};
 ghost use Rattle.std.specs.Simd.Lanes.{Each1};
 ghost use Rattle.crx_base.specs.declared.limits.TheConstants.{OBSERVATION_WIDTH};
@@ -11,20 +11,6 @@ ghost use Rattle.crx_text.specs.meaning.Numbers.{signed_number};
 
 use crate::digits::signed;
 use std::simd::prelude::*;
-
-/// The columns of a field; the last one is in the last three lanes.
-#[inline(always)]
-pub(crate) fn columns(field: &[u8]) -> u8x16
-    requires { length field.now ≡ OBSERVATION_WIDTH }
-    ensures { take OBSERVATION_WIDTH result ≡ field.now }
-{
-    let first = u8x8::from_slice(field);
-    let last = u8x8::from_slice(&field[6..]);
-    first.shuffle(
-        last,
-        [0, 1, 2, 3, 4, 5, 6, 7, 10, 11, 12, 13, 14, 15, 15, 15],
-    )
-}
 
 /// The lanes of a field's columns among 16; what is in the others doesn't count.
 pub(crate) const FIELD: u64 = 0x3fff;

@@ -32,6 +32,6 @@ pub use difference::{
     BadCharacter, all_kept, append_difference, diff_text, patch_bytes, patch_text,
 };
 pub use number::{
-    BadField, clock_print, clock_read, obs_print, obs_print_cell, obs_read, obs_read_into,
+    BadField, clock_print, clock_read, obs_print, obs_print_cell, obs_read, obs_read_cell,
 };
 pub use text::{Text, TextFull, trim_end};

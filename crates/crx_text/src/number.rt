@@ -1,7 +1,7 @@
 //! Numbers in columns: observations in format F14.3 and receiver clock offsets in format F15.12
 //! (RINEX 3.05, table A3). They are read leniently and printed in one spelling.
 
-ghost use Rattle.std.specs.Prelude.{slice_index, ◌≡◌, ◌+◌, ◌-◌, ◌*◌, ◌<◌, ◌≤◌, ◌^◌, ◌%◌, ◌++◌, ◌∷◌, [], Option, length, take, drop, decimal, IfOk, IfSome, Some};
+ghost use Rattle.std.specs.Prelude.{slice_index, ◌≡◌, ◌+◌, ◌-◌, ◌*◌, ◌<◌, ◌≤◌, ◌^◌, ◌%◌, ◌++◌, ◌∷◌, [], Option, length, take, drop, decimal, IfOk, IfSome, MatchBool, None, Some};
 ghost use Rattle.std.specs.Bool.{OnFalse, OnTrue};
 ghost use Rattle.std.specs.Option.{ForSome};
 ghost use Rattle.std.specs.Result.{result_ok};
@@ -30,44 +30,51 @@ pub struct BadField;
 /// Reads an observation of 14 columns, in thousandths; a blank field is `None`, a missing
 /// observation. Blanks may be before the number, zeros at its beginning and a minus before 0,
 /// and there may be no digit before the point. `BadField` comes for every other text.
-#[inline(always)]
 pub fn obs_read(field: &[u8]) -> Result<Option<i64>, BadField>
     ensures value { result_ok result ≡ observation_of field.now }
     ensures in_range { IfOk result (λ value. IfSome value IsObservation) }
 {
-    let mut value = None;
-    if field.len() == OBSERVATION_WIDTH && obs_read_into(field, &mut value) {
-        return Ok(value);
-    }
     number_read(field, OBSERVATION_WIDTH, OBSERVATION_DECIMALS)
 }
 
-/// Reads an observation in the spellings that files have, as [`obs_read`] does, out of its field or out of a
-/// whole cell, the field with two indicators after it, into a place. `false` comes for every other text, also
-/// for one that `obs_read` takes, and then the place stays as it was. A result that holds a value beside a
-/// mark of its own is set to zero before each call, and copied after it. Few fields are blank, so that is
-/// tested last.
+/// Reads the observation of a cell, whose field has two indicators after it, into a place, as [`obs_read`]
+/// reads the field. `false` comes where that is `BadField`, and then the place stays as it was. The
+/// spellings that files have are read by lanes; few fields are blank, so that is tested after them. A result
+/// that holds a value beside a mark of its own is set to zero before each call, and copied after it.
 #[inline(always)]
 #[tactic(auto, using(crate::proofs::LaneBits::each_of_field))]
-pub fn obs_read_into(text: &[u8], value: &mut Option<i64>) -> bool
-    ensures value { OnTrue result (observation_of (take OBSERVATION_WIDTH text.now) ≡ Some value.new) }
+pub fn obs_read_cell(cell: u8x16, value: &mut Option<i64>) -> bool
+    ensures value { MatchBool result (observation_of (take OBSERVATION_WIDTH cell) ≡ Some value.new)
+        (observation_of (take OBSERVATION_WIDTH cell) ≡ None) }
     ensures in_range { OnTrue result (IfSome value.new IsObservation) }
     ensures same { OnFalse result (value.new ≡ value.old) }
 {
-    let columns = match text.len() {
-        OBSERVATION_WIDTH => field::columns(text),
-        CELL_WIDTH => u8x16::from_slice(text),
-        _ => return false,
-    };
-    if field::is_plain(columns) {
-        *value = Some(field::value(columns));
+    if field::is_plain(cell) {
+        *value = Some(field::value(cell));
         return true;
     }
-    if columns.simd_eq(u8x16::splat(b' ')).to_bitmask() & FIELD == FIELD {
+    if cell.simd_eq(u8x16::splat(b' ')).to_bitmask() & FIELD == FIELD {
         *value = None;
         return true;
     }
-    false
+    read_by_column(cell, value)
+}
+
+// Reads the observation of a cell that isn't spelt as files mostly have it. No part of its caller, whose
+// registers it would take.
+#[inline(never)]
+fn read_by_column(cell: u8x16, value: &mut Option<i64>) -> bool
+    ensures value { MatchBool result (observation_of (take OBSERVATION_WIDTH cell) ≡ Some value.new)
+        (observation_of (take OBSERVATION_WIDTH cell) ≡ None) }
+    ensures in_range { OnTrue result (IfSome value.new IsObservation) }
+    ensures same { OnFalse result (value.new ≡ value.old) }
+{
+    let text = cell.to_array();
+    let Ok(other) = obs_read(&text[..OBSERVATION_WIDTH]) else {
+        return false;
+    };
+    *value = other;
+    true
 }
 
 /// Prints an observation, in thousandths, right justified into 14 columns; `None` is printed as
