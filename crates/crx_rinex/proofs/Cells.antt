@@ -129,11 +129,6 @@ more_empty values flags k empty =
     drop_pair (x ∷ fs) (suc i) h = drop_pair fs i (omega (arith, h))
     drop_pair fs i h = absurd (omega (arith, h))
 
--- no cell is behind the last
-pub all_paired : (values : List (Option ℤ)) (flags : List ℕ) → ArePaired values flags
-    → AreEmptyFrom (length values) values flags
-all_paired = grind (arith, common_steps, drop_all)
-
 -- later cells are empty too
 pub less_empty : (values : List (Option ℤ)) (flags : List ℕ) (first later : ℕ)
     → AreEmptyFrom first values flags
@@ -333,24 +328,6 @@ sound-written = grind (arith, common_steps, take_at)
 pub sound-blank : (name : List ℕ) (m : ℕ) → is_identifier name ≡ true → IsAllowedCount m
     → IsSoundRow (blank_row name m)
 sound-blank name m named small = grind (arith, common_steps, length-replicate, all_kept_blanks)
-
--- cells that are all empty
-pub empty-cleared : (n : ℕ) → n ≤ 400 → AreEmptyFrom 0 (replicate {A = Option ℤ} n None) (replicate {A = ℕ}
-    (2 * n) 32)
-empty-cleared n small = grind (arith, common_steps, length-replicate)
-
--- and so is one that takes its blanks out of longer lists of them
-pub sound-cleared : (name : List ℕ) (m n : ℕ) → is_identifier name ≡ true → IsAllowedCount m → m ≤ n
-    → IsSoundRow (record {
-      name = name;
-      values = take m (replicate {A = Option ℤ} n None);
-      flags = take (2 * m) (replicate {A = ℕ} (2 * n) 32);
-    })
-sound-cleared name m n named small within =
-    rw (
-      take-replicate {X = Option ℤ} m n None within,
-      take-replicate {X = ℕ} (2 * m) (2 * n) 32 (omega (arith, within)),
-    ) (sound-blank name m named small)
 
 pub sound-with_flags : (row : Row) (flags : List ℕ) → IsSoundRow row
     → length flags ≤ 2 * length row.values → list_all is_kept flags ≡ true → IsSoundRow (with_flags row flags)

@@ -1,5 +1,4 @@
 pub mod Cells
-pub mod CutLines
 pub mod Lines
 pub mod Steady
 pub mod OpenEpochs

@@ -82,6 +82,9 @@ impl RowBuffer {
             &mut self.values,
             &mut self.flags,
         ) {
+            // As before the first line, since cells of another count may have been read.
+            self.name = *b"G01";
+            self.count = 1;
             self.filled = 0;
             self.values = [None; TYPES_LIMIT];
             self.flags = [b' '; 2 * TYPES_LIMIT];
@@ -144,7 +147,7 @@ impl RowBuffer {
 /// before and after, how many of the first cells may have something: those behind them are empty. Part of its
 /// caller, as a call takes some 8 instructions.
 #[inline(always)]
-pub(crate) fn read_cells(
+fn read_cells(
     line: Padded<'_>,
     count: usize,
     filled: &mut usize,
@@ -157,7 +160,6 @@ pub(crate) fn read_cells(
     ensures empty { OnOk result (AreEmptyFrom filled.new values.new flags.new) }
     ensures within { OnOk result (filled.new ≤ count) }
     ensures err { IfErr result (λ fault. row_by_cells count (line_in line.entry) ≡ Err fault) }
-    ensures lengths { (length values.new ≡ length values.old) × (length flags.new ≡ length flags.old) }
 {
     let Some(reached) = read_first_cells(line, count, values, flags) else {
         return Err(Fault::BadField);
@@ -208,7 +210,7 @@ fn read_first_cells(
 /// Puts the value and the indicators of a cell's columns at the cell's place. `false` comes where its field
 /// is neither blank nor a number. The two indicators are one store.
 #[inline(always)]
-fn read_cell(cell: u8x16, k: usize, values: &mut [Option<i64>], flags: &mut [u8]) -> bool
+pub(crate) fn read_cell(cell: u8x16, k: usize, values: &mut [Option<i64>], flags: &mut [u8]) -> bool
     requires within { k < length values.old }
     requires paired { ArePaired values.old flags.old }
     ensures read { (line : List ℕ) → AreCellsRead k line values.old flags.old

@@ -15,14 +15,17 @@ ghost use Rattle.crx_rinex.specs.SatelliteLines.{blank_row, row_by_cells, with_f
 ghost use Rattle.crx_rinex.specs.meaning.SatelliteLines.{row_of, IsSoundRow};
 ghost use Rattle.crx_header.specs.meaning.Satellites.{is_identifier, types_of_satellite};
 
-use crate::row_buffer::read_cells;
-use crx_base::limits::{CELL_WIDTH, LINE_LIMIT, NAME_WIDTH, TYPES_LIMIT};
-use crx_base::{Fault, PaddedCopy};
-use crx_header::{Types, after_columns, all_blank, identifier, put_flags, types_of_satellite};
+use crate::row_buffer::read_cell;
+use crx_base::Fault;
+use crx_base::limits::{CELL_WIDTH, NAME_WIDTH, TYPES_LIMIT};
+use crx_header::{
+    Types, after_columns, all_blank, identifier, padded, put_flags, types_of_satellite,
+};
 use crx_text::appending::append;
-use crx_text::{Text, obs_print_cell};
+use crx_text::{Text, all_kept, obs_print_cell};
 use std::alloc::Global;
 use std::marker::Model;
+use std::simd::prelude::*;
 
 /// A satellite in an epoch: its identifier, a value for each observation type of its system, and two
 /// indicators for each value.
@@ -191,19 +194,26 @@ pub(crate) fn print_row(
     text.trim_end_blanks();
 }
 
-/// Reads the cells of a line of any length, as [`read_cells`] does: all of them are within its first bytes.
+/// Reads the cells of a line of any length one by one, as many as there are values.
 fn read_any_line(line: &[u8], values: &mut [Option<i64>], flags: &mut [u8]) -> Result<(), Fault>
     requires { ArePaired values.old flags.old }
     ensures ok { OnOk result (IsRowOf (length values.old) line.now values.new flags.new) }
     ensures err { IfErr result (λ fault. row_by_cells (length values.old) line.now ≡ Err fault) }
 {
-    if !all_blank(after_columns(line, LINE_LIMIT)) {
+    let count = values.len();
+    for k in 0..count {
+        let cell = u8x16::from_array(padded(line, CELL_WIDTH * k + NAME_WIDTH + 1));
+        if !read_cell(cell, k, values, flags) {
+            return Err(Fault::BadField);
+        }
+    }
+    if !all_blank(after_columns(line, CELL_WIDTH * count + NAME_WIDTH)) {
         return Err(Fault::BadField);
     }
-    let mut copy = PaddedCopy::new();
-    let first = copy.of(&line[..LINE_LIMIT.min(line.len())]);
-    let mut filled = values.len();
-    read_cells(first, values.len(), &mut filled, values, flags)
+    if !all_kept(flags) {
+        return Err(Fault::BadFlags);
+    }
+    Ok(())
 }
 
 /// Prints cells in place of the bytes from an index on, each value in its columns, and its two indicators,
