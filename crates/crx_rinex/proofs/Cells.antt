@@ -14,8 +14,8 @@ use Rattle.std.proofs.lemmas.{List.{Elements.{All-append, All-replicate, filter-
 use Rattle.std.proofs.lemmas.{Simd.length-put_chunk}
 use Rattle.std.specs.{List.{concat, list_all, range_with_len}, Prelude.{filter, is_some, slice_set}}
 use Rattle.std.specs.{Simd.Lanes.put_chunk}
-use lib.Lanes.{sel_l, top}
-use Rattle.crx_text.proofs.Blanks.{columns_are}
+use lib.Lanes.{pick_l, sel_l, top}
+use Rattle.crx_text.proofs.{Blanks.columns_are, LaneBits.sixteen}
 use Rattle.crx_text.proofs.EachPlace.{each_place-more, index-each_place, length-each_place}
 use Rattle.crx_text.specs.{meaning.Columns.{character_at, columns}}
 use Rattle.crx_text.specs.meaning.{EachPlace.each_place, Numbers.{observation_of, number_of, IsValue}}
@@ -239,6 +239,12 @@ cut_columns line bytes start left is room cut rest =
     ≡ take (left - 0) xs ++ replicate (n - (left - 0)) 32) long (first_lanes left 0 xs)
     ∙ ap (λ k. take k xs ++ replicate (16 - k) 32) whole ∙ sym (columns_are line (start + 1) 16 ∙ rw
     (place, part, wide) refl)
+
+-- where the line ends after a field, these are the field and two blanks
+pub field_columns : (xs : List ℕ) → length xs ≡ 16
+    → pick_l 0 (xs ++ replicate 16 32) (0 ∷ 1 ∷ 2 ∷ 3 ∷ 4 ∷ 5 ∷ 6 ∷ 7 ∷ 8 ∷ 9 ∷ 10 ∷ 11 ∷ 12 ∷ 13 ∷ 16 ∷ 16 ∷ [])
+    ≡ sel_l (map (λ j. top 7 (cond (nat_lt j 14) 255 0)) (range_with_len 0 16)) xs (replicate 16 32)
+field_columns xs long = let whole = sixteen xs long in rw whole refl
 
 flags_past : (line : List ℕ) (k : ℕ) → length line ≤ 16 * k + 3 → flags_at line k ≡ 32 ∷ 32 ∷ []
 flags_past line k h = grind (arith, common_steps, character_at, get_or_past)
