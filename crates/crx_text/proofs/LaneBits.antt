@@ -1,9 +1,9 @@
 -- Rows of lanes: from a list of known length to its elements, and from a mask to each lane.
 use Rattle.std.proofs.Common.{take, ◌≡◌, ℕ, ◌-◌, ◌%◌, ◌^◌, Bool}
 use Rattle.std.proofs.Common.{not, cond, nat_eq, eqb, bit_and, List, [], ◌∷◌, map, length}
-use Rattle.std.proofs.{Common.{replicate, w8, refl, sym, ap, ◌∙◌, arith}, Math.Nat.{pow-suc, one-le-pow}}
+use Rattle.std.proofs.{Common.{replicate, refl, sym, arith}, Math.Nat.{pow-suc, one-le-pow}}
 use Rattle.std.proofs.{lemmas.{Grind.common_steps}}
-use Rattle.std.proofs.lemmas.{List.length-take-le, Simd.{pick_l_whole, bitmask_splat}}
+use Rattle.std.proofs.lemmas.{List.length-take-le, Simd.pick_l_whole}
 use Rattle.std.specs.List.{range_with_len, list_all, list_any}
 use lib.Lanes.{pick_l, mask_l, top, zip2}
 
@@ -24,16 +24,6 @@ pub all_bits : {X : Type 0} (p : X → Bool) (xs : List X)
     → nat_eq (mask_l (map p xs)) (2 ^ length xs - 1) ≡ list_all p xs
 all_bits p [] = refl
 all_bits p (x ∷ xs) = grind (arith, common_steps, pow-suc, one-le-pow, all_bits p xs)
-
--- a comparison of 16 lanes with one byte: each lane
-pub each_is_byte : (byte : ℕ) (xs : List ℕ) → length xs ≡ 16
-    → nat_eq (mask_l (map (top 7) (zip2 (λ a b. cond (eqb a b) 255 0) xs (replicate 16 byte))) % 2 ^ 64) 65535
-    ≡ list_all (λ c. eqb c byte) xs
-each_is_byte byte xs long =
-    let mask = bitmask_splat w8 eqb xs 16 byte long (omega arith) in
-    let power = ap (λ n. 2 ^ n - 1) (sym long) in
-    ap (λ m. nat_eq m 65535) mask ∙ ap (nat_eq (mask_l (map (λ c. eqb c byte) xs))) power
-    ∙ all_bits (λ c. eqb c byte) xs
 
 -- ---- the first lanes of a mask alone
 

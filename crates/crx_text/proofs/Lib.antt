@@ -11,8 +11,6 @@ pub mod TextEnds
 pub mod WrittenTexts
 pub mod EachPlace
 pub mod CellNumbers
-pub mod ClockColumns
-pub mod ClockTexts
 pub mod CodeReads
 pub mod CodeTexts
 pub mod DigitPairs

@@ -38,14 +38,14 @@ pub(crate) fn is_plain(columns: u8x16) -> bool
     refused.reduce_or() == 0
 }
 
-/// What three digits weigh.
-pub(crate) const WEIGHTS: [u8; 16] = [100, 10, 1, 0, 100, 10, 1, 0, 100, 10, 1, 0, 100, 10, 1, 0];
+// What three digits weigh.
+const WEIGHTS: [u8; 16] = [100, 10, 1, 0, 100, 10, 1, 0, 100, 10, 1, 0, 100, 10, 1, 0];
 
-/// The number whose digits are in four groups of three, the first ones first. The groups are joined two at a
-/// time, in lanes of 64 bits, whose products are the fastest ones.
+// The number whose digits are in four groups of three, the first ones first. The groups are joined two at a
+// time, in lanes of 64 bits, whose products are the fastest ones.
 #[inline(always)]
 #[tactic(auto, using(crate::proofs::PlainSizes::pairs_are))]
-pub(crate) fn of_groups(groups: u32x4) -> u64
+fn of_groups(groups: u32x4) -> u64
     requires { Each1 (λ group. group < 2 ^ 16) groups }
     ensures { result ≡ ((slice_index groups 0 * 1000 + slice_index groups 1) * 1000 + slice_index groups 2)
         * 1000 + slice_index groups 3 }

@@ -5,8 +5,6 @@
 
 pub mod appending;
 pub mod block;
-mod clock_field;
-mod clock_text;
 pub mod code;
 mod code_digits;
 pub mod columns;

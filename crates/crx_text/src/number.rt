@@ -14,7 +14,7 @@ use crate::columns::trim_start;
 use crate::digits::{WIDEST, digits_read, signed, split_minus};
 use crate::field::FIELD;
 use crate::text::Text;
-use crate::{clock_field, clock_text, field, field_text};
+use crate::{field, field_text};
 use crx_base::limits::{
     CELL_WIDTH, CLOCK_DECIMALS, CLOCK_WIDTH, OBSERVATION_DECIMALS, OBSERVATION_WIDTH,
 };
@@ -146,46 +146,17 @@ pub fn clock_read(field: &[u8]) -> Result<Option<i64>, BadField>
     ensures value { result_ok result ≡ clock_of field.now }
     ensures in_range { IfOk result (λ value. IfSome value IsClock) }
 {
-    if field.len() == CLOCK_WIDTH {
-        // The last column is in the last two lanes.
-        let columns = u8x8::from_slice(field).shuffle(
-            u8x8::from_slice(&field[7..]),
-            [0, 1, 2, 3, 4, 5, 6, 7, 9, 10, 11, 12, 13, 14, 15, 15],
-        );
-        if columns.simd_eq(u8x16::splat(b' ')).to_bitmask() == 0xffff {
-            return Ok(None);
-        }
-        if let Some(number) = clock_field::value(field) {
-            return Ok(Some(number));
-        }
-    }
     number_read(field, CLOCK_WIDTH, CLOCK_DECIMALS)
 }
 
 /// Prints a receiver clock offset, in units of 10^-12 seconds, right justified into 15 columns;
 /// `None` is printed as blanks.
-#[tactic(auto, using(crate::proofs::Spellings::printed_texts))]
 pub fn clock_print(value: Option<i64>, field: &mut [u8; CLOCK_WIDTH])
     requires { ForSome value IsClock }
     ensures written { field.new ≡ clock_text value }
 {
-    let Some(number) = value else {
-        field.copy_from_slice(&[b' '; CLOCK_WIDTH]);
-        return;
-    };
-    let size = number.unsigned_abs();
-    if size >= SHORT_CLOCK {
-        number_print(value, CLOCK_DECIMALS, field);
-        return;
-    }
-    clock_text::size_print(size, field);
-    if number < 0 {
-        field[0] = b'-';
-    }
+    number_print(value, CLOCK_DECIMALS, field);
 }
-
-// A size below it has one digit before the point of a clock offset.
-const SHORT_CLOCK: u64 = 10_000_000_000_000;
 
 // Reads a number of so many columns, column by column.
 #[inline(never)]
