@@ -21,7 +21,7 @@ use Rattle.crx_text.specs.{meaning.Columns.{character_at, columns}}
 use Rattle.crx_text.specs.meaning.{EachPlace.each_place, Numbers.{observation_of, number_of, IsValue}}
 use Rattle.crx_text.specs.meaning.Texts.{is_kept}
 use Rattle.crx_rinex.specs.SatelliteLines.{blank_row, row_by_cells, with_flags, AreCellsRead, AreEmptyFrom}
-use Rattle.crx_rinex.specs.{SatelliteLines.{AreFirstRead, ArePaired, IsRowOf}}
+use Rattle.crx_rinex.specs.{SatelliteLines.{AreFirstRead, IsRowOf}}
 use Rattle.crx_rinex.specs.{meaning.{Observations.Row, SatelliteLines.all_some}}
 use Rattle.crx_rinex.specs.meaning.SatelliteLines.{values_in, flags_at, flags_in, field, row_with, IsSoundRow}
 use Rattle.crx_header.specs.meaning.{ObservationTypes.IsAllowedCount, Satellites.is_identifier}

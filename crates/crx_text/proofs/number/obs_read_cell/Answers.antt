@@ -1,4 +1,4 @@
-use Rattle.std.proofs.Common.{◌≡◌, ◌++◌, ◌∙◌, ℕ, List, [], take, drop, w64, rules, ap, sym, subst, arith}
+use Rattle.std.proofs.Common.{◌≡◌, ◌++◌, ◌∙◌, [], take, drop, w64, rules, ap, sym, subst, arith}
 use Rattle.std.proofs.{Common.append-nil, lemmas.{Bool.eq-eqb, Int.to_z-of_z}}
 use Rattle.std.{proofs.lemmas.List.{length-take-le, take-append-drop}, specs.List.list_all}
 use lib.Dec.{eqb}
