@@ -8,16 +8,17 @@ use Rattle.std.proofs.lemmas.List.{take-set-le}
 use borrow.Rule.Slice.PartMut.{put_mid, post_of}
 
 -- n of the bytes that were read past the end are held too
-pub grown : (xs ys : List ℕ) (start end k n : ℕ) → start ≤ end → end ≤ length xs → n ≤ length ys
-    → slice_range (put_mid end k xs ys) start (end + n) ≡ slice_range xs start end ++ take n ys
-grown xs ys start end k n ordered within fits =
+pub grown : (xs ys : List ℕ) (start end now k n : ℕ)
+    → start ≤ end → end ≤ length xs → n ≤ length ys → now ≡ end + n
+    → slice_range (put_mid end k xs ys) start now ≡ slice_range xs start end ++ take n ys
+grown xs ys start end now k n ordered within fits is =
     let front = length-take-le end xs within in
     let held = drop start (take end xs) in
     let len : length held ≡ end - start = omega (arith, length-drop start (take end xs)) in
-    let sum : end + n - start ≡ (end - start) + n = omega arith in
+    let sum : now - start ≡ (end - start) + n = omega arith in
     let parts : end ≡ start + (end - start) = omega arith in
     let after = ys ++ post_of end k xs in
-    ap (take (end + n - start)) (drop-append-le start (take end xs) after (omega arith)) ∙ ap
+    ap (take (now - start)) (drop-append-le start (take end xs) after (omega arith)) ∙ ap
     (λ j. take j (held ++ after)) sum ∙ take-add (end - start) n (held ++ after) ∙ (rw (
       take_at held after _ len,
       drop_at held after _ len,

@@ -1,6 +1,8 @@
 -- Beside meaning/Devices: what code and proofs see of it.
-use Rattle.std.specs.Prelude.{ℕ, Bool, if◌then◌else◌}
-use Rattle.crx_lines.specs.meaning.Devices.{one_more, Tally, SinkTally}
+use Rattle.std.specs.Prelude.{◌≡◌, ℕ, Bool, List, [], ◌∷◌, if◌then◌else◌}
+use Rattle.crx_lines.specs.meaning.Devices.{one_more, Tally, SinkTally, with_failure}
+use Rattle.crx_base.specs.declared.fault.Fault.{Fault}
+use Rattle.crx_base.specs.declared.fault.Fault.TheVariants.{InputTooLong, ReadFailed}
 
 -- a tally after one more report of the end
 abbrev pub with_end : Tally → Tally
@@ -12,3 +14,9 @@ sink_tally_of failures flushes = record { failures = failures; flushes = flushes
 -- a tally after a line: one that no LF ends was ended by a report of the end
 abbrev pub tally_after_line : Bool → Tally → Tally
 tally_after_line is_ended t = if is_ended then t else with_end t
+
+-- a read that is a fault: it gave a byte where none may come, or it failed; and what was counted of the source
+abbrev pub EndsFill : Fault → (List ℕ → Type 0) → ℕ → Tally → Tally → Type 0
+EndsFill InputTooLong gave most tally counted = (b : ℕ) × gave (b ∷ []) × (most ≡ 0) × (counted ≡ tally)
+EndsFill ReadFailed gave most tally counted = gave [] × (counted ≡ with_failure tally)
+EndsFill _ gave most tally counted = ⊥

@@ -11,7 +11,7 @@ use crate::feed::feed_from;
 use crate::phase::Phase;
 use crate::seek::seek;
 use crate::window::{Cut, Window};
-use crx_base::limits::{INPUT_LIMIT, LINE_LIMIT};
+use crx_base::limits::LINE_LIMIT;
 use crx_base::{At, Fault, Padded};
 use std::alloc::{AllocError, Global};
 
@@ -147,8 +147,7 @@ impl LineReader {
         ensures place { IfOk result (λ next. IfSome next (CanBeLent self.new.window.value.bytes.items)) }
         ensures unasked { Contains (kept self.old.window.value) 10 → reader.new ≡ reader.old }
     {
-        let room = INPUT_LIMIT - self.passed - self.window.as_slice().len() as u64;
-        let found = match seek(&mut self.window, room, reader) {
+        let found = match seek(&mut self.window, self.passed, reader) {
             Ok(found) => found,
             Err(fault) => {
                 let at = At {

@@ -1,15 +1,16 @@
 //! The buffer of a reader of lines: bytes that were given and are pending, and room after them.
-ghost use Rattle.std.specs.Prelude.{◌≡◌, ℕ, ◌+◌, ◌-◌, ◌<◌, ◌≤◌, ◌⊎◌, List, [], ◌++◌, length, take, drop, slice_range, IfOk, OnOk, OnErr, MatchBool, if◌then◌else◌};
-ghost use Rattle.crx_lines.specs.meaning.Devices.{ends_after, one_more};
+ghost use Rattle.std.specs.Prelude.{◌≡◌, ℕ, ◌+◌, ◌-◌, ◌<◌, ◌≤◌, ◌⊎◌, List, [], ◌++◌, length, take, drop, slice_range, IfOk, IfErr, OnErr, MatchBool, if◌then◌else◌};
+ghost use Rattle.crx_lines.specs.meaning.Devices.{ends_after, tally_of};
+ghost use Rattle.crx_lines.specs.Devices.{EndsFill};
 ghost use Rattle.crx_base.specs.declared.limits.TheConstants.{LINE_LIMIT};
 ghost use Rattle.crx_base.specs.declared.padded.TheConstants.{PADDING};
 ghost use Rattle.crx_base.specs.meaning.Lines.{line_of};
 ghost use Rattle.crx_lines.specs.declared.window.TheConstants.{LEAST_ROOM, SIZE};
 
-use crate::device::{ReadFailed, Source};
-use crx_base::Padded;
+use crate::device::Source;
 use crx_base::limits::LINE_LIMIT;
 use crx_base::padded::PADDING;
+use crx_base::{Fault, Padded};
 use std::alloc::{AllocError, Global};
 
 /// How many bytes are held at once: some hundreds of lines of common files.
@@ -133,30 +134,37 @@ impl Window {
         }
     }
 
-    /// Asks the reader once, for at most so many bytes, and holds them after the others.
-    pub(crate) fn fill<R: Source>(
-        &mut self,
-        reader: &mut R,
-        most: usize,
-    ) -> Result<usize, ReadFailed>
-        requires some { 0 < most }
-        requires room { length (kept self.old) ≤ LINE_LIMIT + 1 }
-        ensures ok { IfOk result (λ n. (more : List ℕ) × (length more ≡ n)
+    /// Asks the reader once, for at most so many bytes, and holds them after the others. Where none may come, a
+    /// byte is a fault.
+    pub(crate) fn fill<R: Source>(&mut self, reader: &mut R, most: u64) -> Result<usize, Fault>
+        requires { length (kept self.old) ≤ LINE_LIMIT + 1 }
+        ensures ok { IfOk result (λ n. (more : List ℕ) × (length more ≡ n) × (n ≤ most)
             × (kept self.new ≡ kept self.old ++ more) × R.gave reader.old more reader.new) }
-        ensures bound { IfOk result (λ n. n ≤ most) }
         ensures end { IfOk result (λ n. n ≡ 0 → R.at_end reader.new) }
-        ensures ends { IfOk result (λ n. R.ends reader.new ≡ ends_after n (R.ends reader.old)) }
-        ensures good { OnOk result (R.failures reader.new ≡ R.failures reader.old) }
+        ensures counted { IfOk result (λ n. (R.failures reader.new ≡ R.failures reader.old)
+            × (R.ends reader.new ≡ ends_after n (R.ends reader.old))) }
         ensures kept { OnErr result (kept self.new ≡ kept self.old) }
-        ensures none_lost { OnErr result (R.gave reader.old [] reader.new) }
-        ensures no_end { OnErr result (R.ends reader.new ≡ R.ends reader.old) }
-        ensures counted { OnErr result (R.failures reader.new ≡ one_more (R.failures reader.old)) }
+        ensures fault { IfErr result (λ fault. EndsFill fault (λ given. R.gave reader.old given reader.new) most
+            (tally_of (R.failures reader.old) (R.ends reader.old))
+            (tally_of (R.failures reader.new) (R.ends reader.new))) }
     {
+        if most == 0 {
+            let mut byte = [0];
+            return match reader.read(&mut byte) {
+                Ok(0) => Ok(0),
+                Ok(_) => Err(Fault::InputTooLong),
+                Err(_) => Err(Fault::ReadFailed),
+            };
+        }
         self.make_room();
         let end = self.end;
-        let room = most.min(SIZE - end);
-        let count = reader.read(&mut self.bytes[end..end + room])?;
-        self.end = end + count;
-        Ok(count)
+        let room = most.min((SIZE - end) as u64) as usize;
+        match reader.read(&mut self.bytes[end..end + room]) {
+            Ok(count) => {
+                self.end = end + count;
+                Ok(count)
+            }
+            Err(_) => Err(Fault::ReadFailed),
+        }
     }
 }

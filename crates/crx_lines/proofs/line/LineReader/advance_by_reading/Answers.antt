@@ -1,61 +1,25 @@
-use Rattle.std.proofs.Common.{◌≡◌, ℕ, ◌+◌, ◌-◌, ◌≤◌, ⊎_elim, inl, inr, cond, List, [], ◌∷◌, ◌++◌, Err, length}
+use Rattle.std.proofs.Common.{◌≡◌, ℕ, ◌+◌, ◌-◌, ◌≤◌, ⊎_elim, inl, inr, cond, List, length}
 use Rattle.std.proofs.{Common.{true, ◌<◌, ◌⊎◌, take, drop, sym, ap, ◌∙◌, refl, arith, rules}}
 use Rattle.std.proofs.{lemmas.List.length-drop}
 use Rattle.crx_lines.proofs.AdvanceLemmas.{piece_at, passed-within, takes, some-byte, whole-piece, held-is}
-use Rattle.crx_lines.proofs.AdvanceLemmas.{some-read, too-long, none-passed, content-long, over-fault}
-use Rattle.crx_lines.proofs.{AdvanceLemmas.{read-fault}, DeviceLemmas.{tally-same, tally-line}}
-use Rattle.crx_lines.{proofs.SeekLemmas.Seeking-sum, specs.{Readers.reading, Window.{cut_shown, kept}}}
+use Rattle.crx_lines.proofs.AdvanceLemmas.{some-read, too-long, none-passed, content-long, fault-answers}
+use Rattle.crx_lines.specs.{Readers.reading, Window.{cut_shown, kept}}
 use Rattle.crx_lines.specs.Reading.{ReaderState, TakesPiece}
 use Rattle.crx_lines.specs.declared.phase.Phase.TheVariants.{Open, Ended}
-use Rattle.crx_base.specs.declared.fault.Fault.TheVariants.{InputTooLong, ReadFailed}
 use Rattle.crx_base.specs.{declared.limits.TheConstants.INPUT_LIMIT, meaning.Lines.{InputLine, line_of}}
 use Rattle.crx_lines.proofs.line.LineReader.advance_by_reading.Given.{Over}
 use Rattle.crx_lines.proofs.line.LineReader.advance_by_reading.Goals.{After-take_line-cut}
 use Rattle.crx_lines.proofs.line.LineReader.advance_by_reading.Goals.{then-found-2, else-found-2}
 use Rattle.crx_lines.proofs.line.LineReader.advance_by_reading.Goals as goal
 
-pub invariant_of-self : goal.invariant_of-self
-invariant_of-self g c =
-    let old = c.args.self.now in
-    let same = ap kept c.deref_mut.ensures.value in
-    let shown = c.as_slice.ensures.value ∙ ap kept c.deref.ensures in
-    let held = kept c.seek.new.window in
-    let over = λ (e : c.in-Err.fault ≡ InputTooLong).
-    let found = c.in-Err.ensures.over (ap Err e) in
-    let sum = Seeking-sum _ _ held _ _ found.1 (length held) found.2 in
-    let bound : old.passed + length held ≤ INPUT_LIMIT =
-    omega (arith, sum, ap length same, ap length shown, old.limit) in
-    bound in
-    let failed = λ (e : c.in-Err.fault ≡ ReadFailed).
-    let found = c.in-Err.ensures.failed (ap Err e) in
-    let sum = Seeking-sum _ (kept c.deref_mut.result.now) held _ found.0 found.1 (length held) found.2 in
-    let bound : old.passed + length held ≤ INPUT_LIMIT =
-    omega (arith, sum, ap length same, ap length shown, old.limit, found.2.within) in
-    bound in
-    record { counted = old.counted; limit = ⊎_elim over failed c.in-Err.ensures.faults }
-
 pub returns-in-Err-clause-answers : goal.returns-in-Err-clause-answers
 returns-in-Err-clause-answers g c =
-    let old = c.args.self.now in
-    let same = ap kept c.deref_mut.ensures.value in
-    let shown = c.as_slice.ensures.value ∙ ap kept c.deref.ensures in
-    let limit : old.passed + (length _ + (INPUT_LIMIT - old.passed - length c.as_slice.result.now))
-    ≡ INPUT_LIMIT = omega (arith, ap length same, ap length shown, old.limit) in
-    ⊎_elim (λ e.
-    let found = c.in-Err.ensures.over (ap Err e) in (
-      found.2.given ++ found.0 ∷ [],
-      found.2.lead,
-      over-fault _ _ _ _ found.1 found.0 _ _ _ found.2 (reading old) _ _ _ e (sym same) limit
-          (record { line = refl; number = refl; phase = refl })
-          (tally-same _ _ _ _ (c.in-Err.ensures.good (inr (ap Err e))) c.in-Err.ensures.no_end),
-    )) (λ e.
-    let found = c.in-Err.ensures.failed (ap Err e) in (
-      found.2.given,
-      found.2.lead,
-      read-fault _ _ _ _ found.0 found.1 _ _ _ found.2 (reading old) _ _ _ e (sym same) limit
-          (record { line = refl; number = refl; phase = refl })
-          (tally-same _ _ _ _ (c.in-Err.ensures.counted (ap Err e)) c.in-Err.ensures.no_end),
-    )) c.in-Err.ensures.faults
+    let found = rw (ap kept c.deref_mut.ensures.value) at c.in-Err.ensures.fault in (
+      found.0,
+      found.1,
+      fault-answers found.0 _ _ _ (reading c.args.self.now) _ _ c.in-Err.fault found.2
+          (record { line = refl; number = refl; phase = refl }),
+    )
 
 -- the line that was taken, with what is left behind it
 module _ (g : Over) (c : After-take_line-cut g) where
@@ -68,19 +32,12 @@ module _ (g : Over) (c : After-take_line-cut g) where
   start-is : kept c.deref_mut.result.now ≡ kept c.args.self.now.window.value
   start-is = ap kept c.deref_mut.ensures.value
 
-  limit : c.args.self.now.passed + (length (kept c.deref_mut.result.now)
-      + (INPUT_LIMIT - c.args.self.now.passed - length c.as_slice.result.now)) ≡ INPUT_LIMIT
-  limit =
-      let shown = c.as_slice.ensures.value ∙ ap kept c.deref.ensures in
-      omega (arith, ap length start-is, ap length shown, c.args.self.now.limit)
-
   count : n ≡ c.in-Ok.found.len + cond c.in-Ok.found.is_ended 1 0
   count = held-is c.in-Ok.found.len _ _ c.from.ensures
 
   within : c.args.self.now.passed + (c.in-Ok.found.passed + n) + (length held - n) ≤ INPUT_LIMIT
   within =
-      passed-within _ _ _ _ c.in-Ok.ensures.ok.0 _ _ _ c.in-Ok.ensures.ok.1 _ _ c.in-Ok.ensures.end count
-      c.args.self.now.passed (omega (arith, limit))
+      passed-within _ _ _ _ c.in-Ok.ensures.ok.0 _ _ _ _ _ c.in-Ok.ensures.ok.1 c.in-Ok.ensures.end count
 
   some : (0 < c.in-Ok.found.passed + c.in-Ok.found.len) ⊎ (c.in-Ok.found.is_ended ≡ true)
   some = some-read c.in-Ok.found.passed c.in-Ok.found.len _ c.if-found.false
@@ -105,9 +62,8 @@ module _ (g : Over) (c : After-take_line-cut g) where
       → TakesPiece (reading c.args.self.now) c.in-Ok.ensures.ok.1.given (g.R.Source.at_end c.seek.new.reader)
       (piece_at c.in-Ok.ensures.ok.1.front held c.in-Ok.found.len c.in-Ok.found.is_ended) after
   taken after rest passes number phase =
-      takes _ _ held _ _ c.in-Ok.found.passed c.in-Ok.found.len _ c.in-Ok.ensures.ok.1 c.in-Ok.found.is_ended
-      c.in-Ok.ensures.end some (reading c.args.self.now) after n (sym start-is) count (rest ∙ left) passes
-      (omega (arith, limit)) number phase
+      takes _ _ _ _ _ _ _ _ _ _ c.in-Ok.ensures.ok.1 c.in-Ok.ensures.end count some (reading c.args.self.now) after
+      (sym start-is) refl (rest ∙ left) passes number phase
 
 pub overflow_add-self : goal.overflow_add-self
 overflow_add-self g c = omega (arith, within g (goal.at.overflow_add-self g c).After-take_line-cut)
@@ -118,8 +74,7 @@ overflow_add-self-2 g c = omega (arith, within g (goal.at.overflow_add-self-2 g 
 pub invariant_of-self-2 : goal.invariant_of-self-2
 invariant_of-self-2 g c =
     let at = (goal.at.invariant_of-self-2 g c).After-take_line-cut in
-    let byte = some-byte _ _ (held g at) _ _ c.in-Ok.found.passed c.in-Ok.found.len
-    (g.R.Source.at_end c.seek.new.reader) c.in-Ok.ensures.ok.1 _ _ (some g at) (count g at) in
+    let byte = some-byte _ _ _ _ _ _ _ _ _ _ c.in-Ok.ensures.ok.1 c.in-Ok.ensures.end (count g at) (some g at) in
     record {
       counted = omega (arith, byte, c.args.self.now.counted);
       limit = omega (arith, within g at, ap length (left g at), length-drop (n g at) (held g at));
@@ -139,10 +94,10 @@ returns-then-found-cut-clause-answers g c =
         piece_at s.front (held g at) found.len found.is_ended,
         taken g at _ refl refl refl
             (elim c.if-found-2.branch [ then-found-2 w ↦ search rules | else-found-2 w ↦ search rules ]),
-        content-long _ _ (held g at) _ _ found.passed found.len (g.R.Source.at_end c.seek.new.reader) s
-            found.is_ended _ (ap (λ (l : InputLine). l.content) (line g at)) over,
+        content-long _ _ _ _ _ _ _ _ _ _ s c.in-Ok.ensures.end (count g at) _
+            (ap (λ (l : InputLine). l.content) (line g at)) over,
         refl,
-        tally-line found.is_ended _ _ _ _ (c.in-Ok.ensures.good (inl (search rules))) c.in-Ok.ensures.ends,
+        c.in-Ok.ensures.counted,
       ),
     )
 
@@ -151,7 +106,7 @@ returns-clause-answers g c =
     let at = (goal.at.returns-clause-answers g c).After-take_line-cut in
     let s = c.in-Ok.ensures.ok.1 in
     let found = c.in-Ok.found in
-    let whole = whole-piece _ _ (held g at) _ _ found.passed found.len (g.R.Source.at_end c.seek.new.reader) s
+    let whole = whole-piece _ _ _ _ _ _ _ _ _ _ s c.in-Ok.ensures.end (count g at)
     (none-passed found.passed _ c.if-found-cut.false) in (
       s.given,
       s.lead,
@@ -161,6 +116,6 @@ returns-clause-answers g c =
             (elim c.if-found-2.branch [ then-found-2 w ↦ search rules | else-found-2 w ↦ search rules ]),
         line g at ∙ ap (λ bytes. line_of (record { bytes = bytes; is_ended = found.is_ended })) (sym whole),
         refl,
-        tally-line found.is_ended _ _ _ _ (c.in-Ok.ensures.good (inl (search rules))) c.in-Ok.ensures.ends,
+        c.in-Ok.ensures.counted,
       ),
     )

@@ -1,7 +1,7 @@
-use Rattle.std.proofs.Common.{◌≡◌, ℕ, true, ◌+◌, List, [], inr, take, drop, IsTrue, sym, ap, ◌∙◌, refl}
+use Rattle.std.proofs.Common.{◌≡◌, ℕ, true, ◌+◌, ◌-◌, List, length, [], inr, take, drop, IsTrue, sym, ap, ◌∙◌, refl}
 use Rattle.std.proofs.{Common.{arith, subst}, lemmas.Bool.lt-ltb}
-use Rattle.crx_base.specs.{declared.limits.TheConstants.LINE_LIMIT, meaning.Lines.{Piece, line_of, is_long}}
-use Rattle.crx_lines.proofs.AdvanceLemmas.{piece_at, takes, whole-piece}
+use Rattle.crx_base.specs.{declared.limits.TheConstants.{INPUT_LIMIT, LINE_LIMIT}, meaning.Lines.{Piece, line_of, is_long}}
+use Rattle.crx_lines.proofs.AdvanceLemmas.{EndIs, piece_at, takes, whole-piece}
 use Rattle.crx_lines.proofs.SeekLemmas.{Seeking-start, Seeking-searched}
 use Rattle.crx_lines.specs.{Readers.reading, Reading.{ReaderState, TakesPiece}, Window.{cut_shown, kept}}
 use Rattle.crx_lines.proofs.line.LineReader.advance_held.Goals.{After-take_line-cut}
@@ -28,19 +28,19 @@ taken c =
     let shown = c.as_slice.ensures.value ∙ ap kept c.deref.ensures in
     let gave = λ (given : List ℕ). given ≡ [] in
     let feed = rw shown at c.in-Some.ensures in
-    let s = Seeking-searched gave held held 0 0 0 0 len
-    (Seeking-start gave held 0 refl) (omega (arith, feed.within))
+    let s = Seeking-searched gave held held old.passed _ 0 0 len (Seeking-start gave held old.passed
+    (INPUT_LIMIT - old.passed - length held) refl (omega (arith, old.limit))) (omega (arith, feed.within))
     feed.first in
     let cut = c.take_line-cut.ensures in
     let now = cut.kept ∙ ap (λ w. drop (len + 1) (kept w)) c.deref_mut.ensures.value in
-    let whole = whole-piece gave held held 0 0 0 len ⊥ s refl in
+    let end : EndIs held len true ⊥ = (feed.within.1, feed.found) in
+    let whole = whole-piece gave held held old.passed _ 0 len (len + 1) ⊥ true s end refl refl in
     let piece = piece_at s.front held len true in (
       piece,
       refl,
       subst (λ given. TakesPiece (reading old) given ⊥ piece (after c)) s.lead
-          (takes gave held held 0 0 0 len ⊥ s true (feed.within.1, feed.found) (inr refl) (reading old)
-          (after c) (len + 1) refl refl now (omega arith)
-          (let limit = old.limit in omega (arith, limit)) refl c.requires),
+          (takes gave held held old.passed _ 0 len (len + 1) ⊥ true s end refl (inr refl) (reading old) (after c)
+          refl refl now (omega arith) refl c.requires),
       cut.shown ∙ ap (λ w. line_of (record { bytes = take len (kept w); is_ended = true }))
           c.deref_mut.ensures.value ∙ ap (λ bytes. line_of (record { bytes = bytes; is_ended = true })) (sym whole),
     )
