@@ -42,7 +42,7 @@ point_lane c small = grind arith
 fraction_lane : (c : ℕ) → c < 256 → lane 48 9 0 c ≡ is_ascii_digit c
 fraction_lane c small = grind arith
 
-pub all_at : (bits : List Bool) (i : ℕ) → list_all (λ b. b) bits ≡ true → get_or bits i true ≡ true
+all_at : (bits : List Bool) (i : ℕ) → list_all (λ b. b) bits ≡ true → get_or bits i true ≡ true
 all_at (true ∷ bits) (suc i) all = all_at bits i all
 all_at bits i all = grind (arith, common_steps)
 

@@ -1,17 +1,15 @@
 -- The number that a row of lanes weighs, three digits at a time.
-use Rattle.std.proofs.Common.{◌≡◌, ℕ, suc, ◌+◌, ◌-◌, ◌*◌, ◌%◌, ◌^◌, ◌<◌, ◌≤◌, Bool, true, cond, ◌&&◌, ltb}
+use Rattle.std.proofs.Common.{◌≡◌, ℕ, suc, ◌+◌, ◌-◌, ◌*◌, ◌%◌, ◌^◌, ◌<◌, ◌≤◌, true, cond, ◌&&◌, ltb}
 use Rattle.std.proofs.Common.{bit_and, ◌/◌, leb, List, [], ◌∷◌, ◌++◌, map, length, replicate, get_or, subst}
 use Rattle.std.proofs.{Common.{Fits, w8, refl, sym, ◌∙◌, ltb-true, ltb-false, arith}, Math.Nat.pow-suc}
 use Rattle.std.proofs.{Math.Nat.mul-le-mul_right, lemmas.Bool.{and_parts, leb-true}}
-use Rattle.std.proofs.lemmas.{Grind.common_steps, List.Folds.list_all-append, Nat.and_mask}
+use Rattle.std.proofs.lemmas.{Grind.common_steps, List.Folds.list_all-append}
 use Rattle.std.specs.{List.{range_with_len, list_all}, Str.all_ascii_digits}
 use lib.Lanes.{Each1, pick_l, top, zip2, sel_l, dots}
 use Rattle.crx_text.proofs.GroupHalves.{wide_of}
 use Rattle.crx_text.proofs.LaneBits.{sixteen}
 use Rattle.crx_text.proofs.PlainLanes.{lane_fits}
-use Rattle.crx_text.proofs.{Sizes.{pos_is_within, neg_is_within}}
-use Rattle.crx_text.specs.{Fields.{IsPlain, is_plain_after, weighed, plain_digits}, meaning.Numbers.IsWithin}
-use Rattle.crx_text.specs.meaning.Numbers.{signed_number}
+use Rattle.crx_text.specs.Fields.{IsPlain, is_plain_after, weighed, plain_digits}
 
 -- a lane's byte less 48, and 0 where it is below
 abbrev pub digit_lane : ℕ → ℕ
@@ -100,7 +98,3 @@ pub plain_size_is_small : (v : List ℕ) → length v ≡ 16 → IsPlain v → w
 plain_size_is_small v long =
     subst (λ (w : List ℕ). IsPlain w → weighed 0 (plain_digits w) < 10 ^ 12)
     (sym (sixteen v long)) (small_explicit (λ (i : ℕ). get_or v i 0))
-
-pub signed_in_range : (is_below : Bool) (size : ℕ) → size < 10 ^ 12
-    → IsWithin 14 (signed_number is_below size)
-signed_in_range = grind (arith, common_steps, neg_is_within, pos_is_within)

@@ -4,14 +4,15 @@ use Rattle.std.proofs.Common.{◌≤◌, ◌^◌, List, [], ◌∷◌, ◌++◌,
 use Rattle.std.proofs.{Common.{None, arith, refl, ap, ◌∙◌}, Math.Nat.{pow-suc, div-le_self}}
 use Rattle.std.proofs.lemmas.Fmt.{decimal_is_IsNumeral, digits_decimal, first_decimal, decimal_nonempty}
 use Rattle.std.proofs.lemmas.{Fmt.decimal_digit, Grind.common_steps, Int.ints, List.get_or_at}
-use Rattle.std.proofs.lemmas.{Str.Parse.{IsNumeralModel, numerals_by_value}}
+use Rattle.std.proofs.lemmas.Str.Parse.{IsNumeralModel, numerals_by_value}
 use Rattle.std.{proofs.lemmas.Str.Parse.tells_all_ascii_digits, specs.{Char.digit_value, Option.option_map}}
 use Rattle.std.specs.{Option.ForSome, Str.{all_ascii_digits, Parse.{digits_value, digits_value_after}}}
 use Rattle.crx_text.proofs.Sizes.{size_of_parts, decimal_number_plain, decimal_number_minus, number_of_width}
-use Rattle.crx_text.proofs.Spellings.{fraction_short, length-size_text, size_text_fits}
+use Rattle.crx_text.proofs.Spellings.{fraction_short, size_text_fits}
+use lib.IntN.{nat_abs}
 use Rattle.crx_text.proofs.Spellings.{ten_pow_small, abs_within, abs_within_below}
 use Rattle.crx_text.specs.meaning.{Columns.without_first_blanks, Numbers.{IsWithin, number_of, number_text}}
-use Rattle.crx_text.specs.meaning.Numbers.{size_of, size_text, right_justified, decimal_number}
+use Rattle.crx_text.specs.meaning.Numbers.{size_of, size_text, spelling, right_justified, decimal_number}
 
 -- the digits that are after a number
 pub digits_behind : (n : ℕ) (ds : List ℕ) → digits_value_after 10 n ds
@@ -77,59 +78,50 @@ without_first_blanks-blanks (suc k) text other = without_first_blanks-blanks k t
 pub decimal_first : (n : ℕ) → n < 2 ^ 64 → 48 ≤ get_or (decimal n) 0 0
 decimal_first = grind (arith, common_steps, decimal_digit, first_decimal)
 
-pub size_text_first : (decimals size : ℕ) → size < 2 ^ 64 → 48 ≤ get_or (size_text decimals size) 0 0
+size_text_first : (decimals size : ℕ) → size < 2 ^ 64 → 48 ≤ get_or (size_text decimals size) 0 0
 size_text_first = grind (arith, common_steps, div-le_self, decimal_nonempty, decimal_first)
 
+spelling_first : (decimals : ℕ) (number : ℤ)
+    → nat_abs number < 2 ^ 64 → 45 ≤ get_or (spelling decimals number) 0 0
+spelling_first = grind (arith, common_steps, size_text_first)
+
 -- a text after its blanks, in a field that it fills
-pub number_of-right_justified : (width decimals : ℕ) (text : List ℕ) (number : ℤ)
-    → length text ≤ width → 0 < length text → get_or text 0 0 ≢ 32 → decimal_number decimals text ≡ Some
-    number → number_of width decimals (right_justified width text) ≡ Some (Some number)
+number_of-right_justified : (width decimals : ℕ) (text : List ℕ) (number : ℤ)
+    → length text ≤ width → 45 ≤ get_or text 0 0 → decimal_number decimals text ≡ Some number
+    → number_of width decimals (right_justified width text) ≡ Some (Some number)
 number_of-right_justified = grind (arith, common_steps, number_of_width, without_first_blanks-blanks)
 
-pub number_of-number_text_plain : (width decimals size : ℕ)
-    → 0 < decimals → decimals + 3 ≤ width → width ≤ 19 → size < 10 ^ (width - 1)
-    → number_of width decimals (number_text width decimals (Some (pos size))) ≡ Some (Some (pos size))
-unfolding number_text
-number_of-number_text_plain width decimals size some room few small =
-    let tiny : size < 2 ^ 64 = omega (arith, small, ten_pow_small (width - 1) (omega arith)) in
-    let first = size_text_first decimals size tiny in
-    let fits = size_text_fits decimals size width some (omega (arith, room)) few small in
-    let long = length-size_text decimals size some (omega arith) in
-    let reads : decimal_number decimals (size_text decimals size) ≡ Some (pos size) = decimal_number_plain
-    decimals (size_text decimals size) (omega (arith, first))
-    ∙ ap (option_map pos) (size_of-size_text decimals size some (omega arith) tiny) in
-    number_of-right_justified width decimals
-    (size_text decimals size) (pos size) fits (omega (arith, long)) (omega (arith, first)) reads
+spelling_fits : (width decimals : ℕ) (number : ℤ) → 0 < decimals → decimals + 3 ≤ width → width ≤ 19
+    → IsWithin width number → length (spelling decimals number) ≤ width
+spelling_fits width decimals (pos size) some room few within =
+    size_text_fits decimals size width some (omega (arith, room)) few (abs_within width (pos size) within)
+spelling_fits width decimals (negsuc less) some room few within =
+    let short = size_text_fits decimals (less + 1) (width - 1) some (omega (arith, room)) (omega (arith, few))
+    (omega (arith, abs_within_below width (negsuc less) refl within)) in
+    omega (arith, short, room)
 
-pub number_of-number_text_minus : (width decimals less : ℕ)
-    → 0 < decimals → decimals + 3 ≤ width → width ≤ 19 → less + 1 < 10 ^ (width - 1 - 1)
-    → number_of width decimals (number_text width decimals (Some (negsuc less))) ≡ Some (Some (negsuc less))
-unfolding number_text
-number_of-number_text_minus width decimals less some room few small =
-    let tiny : less + 1 < 2 ^ 64 = omega (arith, small, ten_pow_small (width - 1 - 1) (omega arith)) in
-    let fits = size_text_fits decimals (less + 1) (width - 1) some (omega (arith, room))
-    (omega (arith, few)) small in
-    let text = 45 ∷ size_text decimals _ in
-    let negated : neg_ℤ (pos _) ≡ negsuc less = omega (arith, ints) in
-    let reads = decimal_number_minus _ text refl ∙ (ap (option_map (λ n. neg_ℤ (pos n)))
-    (size_of-size_text _ _ some (omega arith) tiny) ∙ ap Some negated) in
-    number_of-right_justified width decimals text
-    (negsuc less) (omega (arith, fits, room)) (omega arith) (omega arith) reads
-
-pub number_of-number_text_blank : (width decimals : ℕ)
-    → number_of width decimals (number_text width decimals None) ≡ Some None
-unfolding number_text
-number_of-number_text_blank width decimals =
-    grind (arith, common_steps, without_first_blanks-blanks width [] (omega arith), number_of_width)
+spelling_reads : (decimals : ℕ) (number : ℤ) → 0 < decimals → decimals < 19
+    → nat_abs number < 2 ^ 64 → decimal_number decimals (spelling decimals number) ≡ Some number
+spelling_reads decimals (pos size) some few small =
+    decimal_number_plain decimals _ (omega (arith, size_text_first decimals size small))
+    ∙ ap (option_map pos) (size_of-size_text decimals size some few small)
+spelling_reads decimals (negsuc less) some few small =
+    let negated : neg_ℤ (pos (less + 1)) ≡ negsuc less = omega (arith, ints) in
+    decimal_number_minus _ (45 ∷ size_text decimals _) refl ∙ (ap (option_map (λ n. neg_ℤ (pos n)))
+    (size_of-size_text _ (less + 1) some few (omega (arith, small))) ∙ ap Some negated)
 
 -- what is printed is read back, at any width
 pub number_of-number_text : (width decimals : ℕ) (value : Option ℤ) → 0 < decimals → decimals + 3 ≤ width
     → width ≤ 19
     → ForSome value (IsWithin width) → number_of width decimals (number_text width decimals value)
     ≡ Some value
-number_of-number_text width decimals None some room few within = number_of-number_text_blank width decimals
-number_of-number_text width decimals (Some (pos n)) some room few within =
-    grind (arith, common_steps, number_of-number_text_plain, abs_within width (pos n) (within (pos n) refl))
-number_of-number_text width decimals (Some (negsuc n)) some room few within =
-    number_of-number_text_minus width decimals n some room few
-    (let small = abs_within_below width (negsuc n) refl (within (negsuc n) refl) in omega (arith, small))
+unfolding number_text
+number_of-number_text width decimals None some room few within =
+    grind (arith, common_steps, without_first_blanks-blanks width [] (omega arith), number_of_width)
+number_of-number_text width decimals (Some number) some room few within =
+    let fits = within number refl in
+    let tiny : nat_abs number < 2 ^ 64 =
+    omega (arith, abs_within width number fits, ten_pow_small (width - 1) (omega arith)) in
+    number_of-right_justified width decimals (spelling decimals number) number
+    (spelling_fits width decimals number some room few fits) (spelling_first decimals number tiny)
+    (spelling_reads decimals number some (omega arith) tiny)

@@ -59,6 +59,11 @@ pos_is_within size columns small = grind (arith, common_steps, ten_pow_pos)
 pub neg_is_within : (size columns : ℕ) → size < 10 ^ (columns - 1 - 1) → IsWithin columns (neg_ℤ (pos size))
 neg_is_within size columns small = grind (arith, common_steps, ten_pow_pos)
 
+-- either way
+pub signed_in_range : (width size : ℕ) (is_below : Bool)
+    → size < 10 ^ (width - 1 - 1) → IsWithin width (signed_number is_below size)
+signed_in_range width size is_below small = grind (arith, common_steps, pow-le-pow_right, neg_is_within)
+
 -- a minus takes a column
 pub signed_is_within : (is_below : Bool) (size columns all : ℕ) → columns + (if is_below then 1 else 0) ≡ all
     → size < 10 ^ (columns - 1) → IsWithin all (signed_number is_below size)

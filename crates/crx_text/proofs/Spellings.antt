@@ -1,10 +1,10 @@
 -- The one printed spelling: its parts and how long they are.
-use Rattle.std.proofs.Common.{rules, true, false, ℤ, pos, negsuc, Some, None, set, ◌≡◌, ℕ, suc, ◌+◌, ◌-◌, ◌*◌}
-use Rattle.std.proofs.Common.{◌/◌, ◌%◌, ◌<◌, ◌≤◌, ◌^◌, List, [], ◌∷◌, ◌++◌, length, drop, take, replicate}
+use Rattle.std.proofs.Common.{rules, true, false, ℤ, pos, Some, None, set, ◌≡◌, ℕ, zero, suc, ◌+◌, ◌-◌, ◌*◌}
+use Rattle.std.proofs.Common.{◌/◌, ◌%◌, ◌<◌, ◌≤◌, ◌^◌, List, ◌∷◌, ◌++◌, length, drop, take, replicate}
 use Rattle.std.proofs.{Common.{decimal, arith, refl, ap, sym, ◌∙◌}, Math.Nat.div-lt_iff_lt-mul}
 use Rattle.std.proofs.{Math.Nat.pow-le-pow_right, lemmas.{Fmt.length-decimal-le, Grind.common_steps}}
-use Rattle.std.proofs.lemmas.{Grind.replicate_next, List.{length-append, length-replicate, take-append-drop}}
-use Rattle.std.proofs.lemmas.{List.{take-replicate, append_assoc, set_at}, Nat.pow-add}
+use Rattle.std.proofs.lemmas.List.{length-append, length-replicate}
+use Rattle.std.proofs.lemmas.{List.{take-replicate}, Nat.pow-add}
 use lib.{IntN.nat_abs, Signed.lt_z}
 use Rattle.crx_text.{proofs.PowersOfTen.ten_pow_pos, specs.meaning.Numbers.{zero_padded, size_text}}
 use Rattle.crx_text.specs.meaning.Numbers.{number_text, IsWithin}
@@ -42,30 +42,12 @@ size_text_fits decimals size columns some room few small =
 
 -- ---- what the writes leave of a field of blanks
 
-pub printed_plain : (width decimals size start : ℕ) (field : List ℕ)
-    → start + length (size_text decimals size) ≡ width → drop start field ≡ size_text decimals size
-    → take start field ≡ take start (replicate width 32)
-    → field ≡ number_text width decimals (Some (pos size))
-unfolding number_text
-printed_plain width decimals size start field end written before = grind (arith, common_steps, take-replicate)
-
-pub printed_minus : (width decimals less start : ℕ) (field : List ℕ)
-    → 1 ≤ start → start + length (size_text decimals (less + 1)) ≡ width
-    → drop start field ≡ size_text decimals (less + 1) → take start field ≡ take start (replicate width 32)
-    → set field (start - 1) 45 ≡ number_text width decimals (Some (negsuc less))
-unfolding number_text
-printed_minus width decimals less start field some end written before =
-    let last = let sum : start ≡ start - 1 + 1 = omega arith in
-    ap (λ n. replicate {A = ℕ} n 32) sum ∙ replicate_next {X = ℕ} (start - 1) 32 in
-    let parts : field ≡ replicate (start - 1) 32 ++ 32 ∷ size_text decimals (less + 1) =
-    sym (take-append-drop start field) ∙ (rw (
-      (before ∙ take-replicate start width 32 (omega arith)),
-      written,
-      last,
-    ) (append_assoc (replicate (start - 1) 32) (32 ∷ []) (size_text _ _))) in
-    let count : start - 1 ≡ width - suc (length _) = omega arith in
-    ap (λ f. set f (start - 1) 45) parts ∙ (set_at _ 32 _ 45 _ (length-replicate _ 32) ∙ ap
-    (λ n. replicate n 32 ++ 45 ∷ size_text decimals (less + 1)) count)
+-- a minus in place of the last blank before a text
+minus_put : (n : ℕ) (text field : List ℕ) → 1 ≤ n → drop n field ≡ text → take n field ≡ replicate n 32
+    → set field (n - 1) 45 ≡ replicate (n - 1) 32 ++ 45 ∷ text
+minus_put (suc zero) text (c ∷ cs) some written before = grind (arith, common_steps)
+minus_put (suc (suc n)) text (c ∷ cs) some written before = grind (arith, common_steps, minus_put (suc n) text cs)
+minus_put n text field some written before = grind (arith, common_steps)
 
 -- ---- a number of either sign
 
@@ -81,14 +63,16 @@ pub printed_number : (width decimals start size : ℕ) (held number : ℤ) (fiel
     → lt_z held (pos 0) ≡ false → size ≡ nat_abs held → start + length (size_text decimals size) ≡ width
     → drop start field ≡ size_text decimals size → take start field ≡ take start (replicate width 32)
     → field ≡ number_text width decimals (Some number)
-printed_number = grind (arith, common_steps, nat_abs, printed_plain)
+unfolding number_text
+printed_number = grind (arith, common_steps, nat_abs, take-replicate)
 
 pub printed_number_below : (width decimals start size : ℕ) (held number : ℤ) (field : List ℕ) → held ≡ number
     → lt_z held (pos 0) ≡ true → size ≡ nat_abs held → 1 ≤ start
     → start + length (size_text decimals size) ≡ width
     → drop start field ≡ size_text decimals size → take start field ≡ take start (replicate width 32)
     → set field (start - 1) 45 ≡ number_text width decimals (Some number)
-printed_number_below = grind (arith, common_steps, nat_abs, printed_minus)
+unfolding number_text
+printed_number_below = grind (arith, common_steps, nat_abs, take-replicate, minus_put)
 
 pub printed_blank : (width decimals : ℕ) → replicate width 32 ≡ number_text width decimals None
 unfolding number_text

@@ -1,7 +1,7 @@
 use Rattle.std.proofs.{Common.{◌^◌, ◌<◌, w64, rules, ◌∙◌}, lemmas.Int.to_z-of_z}
 use mir.Val.{SFits}
-use Rattle.crx_text.proofs.{LaneBits.some_of_field, PlainSizes.{plain_size_is_small, signed_in_range}}
-use Rattle.crx_text.proofs.PlainSizes.{size_from_parts}
+use Rattle.crx_text.proofs.{LaneBits.some_of_field, PlainSizes.{plain_size_is_small, size_from_parts}}
+use Rattle.crx_text.proofs.Sizes.{signed_in_range}
 use Rattle.crx_text.proofs.field.value.Goals as goal
 
 pub returns-clause-value : goal.returns-clause-value
@@ -15,4 +15,4 @@ returns-clause-in_range c =
     rw size (plain_size_is_small c.args.columns c.fits-columns.0 c.requires) in
     let fits : SFits w64 c.signed.result = search rules in
     rw (to_z-of_z w64 c.signed.result fits, c.signed.ensures)
-    (signed_in_range _ c.of_groups-size.result small)
+    (signed_in_range 14 c.of_groups-size.result _ small)

@@ -48,8 +48,8 @@ returns c =
     let cell = put_chunk_whole c.args.cell.now (plus columns base) (c.requires.width ∙ sym long)
     ∙ (λ k. plus (columns_are size c.digits.result c.digits.ensures k) (base_row start few k)) in
     record {
-      start = text_length size start _ c.requires.short at cell;
+      start = text_length size c.requires.short start _ at cell;
       room = omega (arith, at);
-      written = text_written size start _ c.requires.short at cell;
-      before = text_before size start _ c.requires.short at cell;
+      written = text_written size c.requires.short start _ at cell;
+      before = text_before size c.requires.short start _ at cell;
     }
