@@ -1,10 +1,10 @@
 -- From one answer of a reader of lines to the next: the lines so far, and the bytes that were given.
 use Rattle.std.proofs.{lemmas.{Grind.common_steps, List.{length_push, map-append}}, Math.Seq.take-append-add}
-use Rattle.std.proofs.{lemmas.List.take_all, Common.{rules, ◌≡◌, ◌⊎◌, inr, ℕ, ◌+◌, ◌-◌, ◌<◌, ◌≤◌, Bool, true}}
+use Rattle.std.proofs.{lemmas.List.take_all, Common.{◌≡◌, ◌⊎◌, inr, ℕ, ◌+◌, ◌-◌, ◌<◌, ◌≤◌, Bool, true}}
 use Rattle.std.proofs.Common.{false, Option, Some, None, Result, Ok, Err, List, [], ◌∷◌, ◌++◌, length, take}
-use Rattle.std.proofs.Common.{map, refl, sym, ap, ◌∙◌, subst, arith, append-nil, append_assoc, length-append}
+use Rattle.std.proofs.Common.{map, refl, sym, ap, ◌∙◌, subst, arith, append-nil, length-append}
 use Rattle.crx_lines.specs.{Devices.{with_end, tally_after_line}, Reading.{HasNoFeed, ReaderState}}
-use Rattle.crx_lines.specs.Reading.{TakesPiece, ReaderAnswers, AnswersFault}
+use Rattle.crx_lines.specs.Reading.{TakesPiece, ReaderAnswers, AnswersFault, Stops}
 use Rattle.crx_lines.specs.Progress.{IsOpen, IsOver, IsStopped, StandsAt, HasRead, IsOneMore, AtFault}
 use Rattle.crx_lines.{specs.Progress.AtAnswer, proofs.PieceLemmas.{pieces-first, pieces-last, pieces-split}}
 use Rattle.crx_lines.{proofs.PieceLemmas.ended-none, specs.meaning.Devices.{one_more, Tally, with_failure}}
@@ -113,16 +113,13 @@ module _ (gave gives step : List ℕ → Type 0)
       → HasRead gives at_end' start counted' new (lines ++ line_of p ∷ [])
   read-line e more lead p t same = grind (arith, common_steps, length_push, line_of, line-stands, is-open)
 
-  read-stop : (more : List ℕ) → step more
-      → (at : At) → at.line ≡ old.number + 1 → new.number ≡ old.number → new.phase ≡ Stopped at
-      → IsStopped at.fault start counted' (h.given ++ more) lines
-      → HasRead gives at_end' start counted' new lines
-  read-stop more lead at line number phase stopped = record {
+  read-stop : (f : Fault) (more : List ℕ) → step more → (at : At) → at.fault ≡ f → Stops old at new
+      → IsStopped f start counted' (h.given ++ more) lines → HasRead gives at_end' start counted' new lines
+  read-stop f more lead at is stops stopped = record {
     given = h.given ++ more;
     lead = goes h.given more h.lead lead;
-    number = number ∙ h.number;
-    stands = subst (λ f. StandsAt f at_end' start counted' (h.given ++ more) new lines)
-        (sym phase) (stopped, omega (arith, line, h.number));
+    number = stops.number ∙ h.number;
+    stands = rw (stops.phase, is) (stopped, omega (arith, stops.line, h.number));
   }
 
   at-fault : (f : Fault) (at : At) → at.fault ≡ f → old.phase ≡ Open → (more : List ℕ) → step more
@@ -130,22 +127,18 @@ module _ (gave gives step : List ℕ → Type 0)
       → (then : List InputLine) × AtFault f at old new lines then × HasRead gives at_end' start counted' new
       then
   at-fault LineTooLong at is e more lead a = grind (arith, common_steps, one-more, read-line)
-  at-fault InputTooLong at is e more lead a =
-      let stopped = over-stops at_end' start counted counted' h.given more old new lines
-      (is-open e) a.0 a.1 a.3 in (
-        lines,
-        (refl, a.2.phase),
-        read-stop more lead at a.2.line a.2.number a.2.phase
-            (subst (λ g. IsStopped g start counted' (h.given ++ more) lines) (sym is) stopped),
-      )
-  at-fault ReadFailed at is e more lead a =
-      let stopped = failed-stops at_end' start counted counted' h.given more old new lines
-      (is-open e) a.0 a.1 a.3 in (
-        lines,
-        (refl, a.2.phase),
-        read-stop more lead at a.2.line a.2.number a.2.phase
-            (subst (λ g. IsStopped g start counted' (h.given ++ more) lines) (sym is) stopped),
-      )
+  at-fault InputTooLong at is e more lead a = (
+    lines,
+    (refl, a.2.phase),
+    read-stop InputTooLong more lead at is a.2 (over-stops at_end' start counted counted' h.given more old new
+        lines (is-open e) a.0 a.1 a.3),
+  )
+  at-fault ReadFailed at is e more lead a = (
+    lines,
+    (refl, a.2.phase),
+    read-stop ReadFailed more lead at is a.2 (failed-stops at_end' start counted counted' h.given more old new
+        lines (is-open e) a.0 a.1 a.3),
+  )
   at-fault _ at is e more lead a = absurd a
 
   -- an answer where lines may come
@@ -162,7 +155,7 @@ module _ (gave gives step : List ℕ → Type 0)
           given = h.given ++ more;
           lead = goes h.given more h.lead lead;
           number = ap (λ (r : ReaderState). r.number) a.2 ∙ h.number;
-          stands = subst (λ f. StandsAt f at_end' start counted' (h.given ++ more) new lines) (sym phase)
+          stands = rw phase
               (none-over at_end' start counted counted' h.given more old new lines (is-open e) a.0 a.1 a.3);
         },
       )

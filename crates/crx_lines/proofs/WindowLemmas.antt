@@ -1,30 +1,20 @@
 -- The bytes of a window, after a read past its end or a step of its start.
-use Rattle.std.proofs.Common.{◌≡◌, ℕ, ◌+◌, ◌-◌, ◌≤◌, ◌<◌, ◌⊎◌, inl, inr, List, ◌++◌, length, take, drop}
-use Rattle.std.proofs.Common.{slice_range, slice_set, refl, sym, ap, ◌∙◌, arith}
-use Rattle.std.proofs.Math.Seq.{take-add}
-use Rattle.std.proofs.lemmas.List.{take_at, drop_at, take-append-le, drop-append-le, drop-take, drop-drop}
-use Rattle.std.proofs.lemmas.List.{length-take-le, length-take, length-drop, drop-set-lt, drop-set-add}
-use Rattle.std.proofs.lemmas.List.{take-set-le}
-use borrow.Rule.Slice.PartMut.{put_mid, post_of}
+use Rattle.std.proofs.Common.{◌≡◌, ℕ, ◌+◌, ◌-◌, ◌≤◌, ◌<◌, ◌⊎◌, List, ◌++◌, length, take, drop}
+use Rattle.std.proofs.Common.{slice_range, slice_set, sym, ap, ◌∙◌, arith}
+use Rattle.std.proofs.{Common.{zero, suc, ◌∷◌}, lemmas.Grind.common_steps}
+use Rattle.std.proofs.lemmas.List.{take-append-le, drop-take, drop-drop}
+use Rattle.std.proofs.lemmas.List.{length-take}
+use borrow.Rule.Slice.PartMut.{put_mid}
 
 -- n of the bytes that were read past the end are held too
 pub grown : (xs ys : List ℕ) (start end now k n : ℕ)
     → start ≤ end → end ≤ length xs → n ≤ length ys → now ≡ end + n
     → slice_range (put_mid end k xs ys) start now ≡ slice_range xs start end ++ take n ys
-grown xs ys start end now k n ordered within fits is =
-    let front = length-take-le end xs within in
-    let held = drop start (take end xs) in
-    let len : length held ≡ end - start = omega (arith, length-drop start (take end xs)) in
-    let sum : now - start ≡ (end - start) + n = omega arith in
-    let parts : end ≡ start + (end - start) = omega arith in
-    let after = ys ++ post_of end k xs in
-    ap (take (now - start)) (drop-append-le start (take end xs) after (omega arith)) ∙ ap
-    (λ j. take j (held ++ after)) sum ∙ take-add (end - start) n (held ++ after) ∙ (rw (
-      take_at held after _ len,
-      drop_at held after _ len,
-      take-append-le n ys _ fits,
-      (ap (λ j. drop start (take j xs)) parts ∙ drop-take start (end - start) xs),
-    ) refl)
+grown (x ∷ xs) ys (suc start) (suc end) (suc now) k n ordered within fits is =
+    grind (arith, common_steps, grown xs ys start end now k n)
+grown (x ∷ xs) ys zero (suc end) (suc now) k n ordered within fits is =
+    grind (arith, common_steps, grown xs ys zero end now k n)
+grown xs ys start end now k n ordered within fits is = grind (arith, common_steps, take-append-le)
 
 -- the first bytes are discarded
 pub passed : (xs : List ℕ) (start end count : ℕ) → start + count ≤ end
@@ -41,10 +31,8 @@ length-kept xs start end = omega (arith, length-take (end - start) (drop start x
 -- a byte that is put in front of a part, or behind it, isn't of that part
 pub untouched : (xs : List ℕ) (start end place b : ℕ) → start ≤ end → (place < start) ⊎ (end ≤ place)
     → slice_range (slice_set xs place b) start end ≡ slice_range xs start end
-untouched xs start end place b ordered (inl before) =
-    ap (take (end - start)) (drop-set-lt start xs place b before)
-untouched xs start end place b ordered (inr behind) =
-    let parts : place ≡ start + (place - start) = omega (arith, ordered, behind) in
-    ap (take (end - start)) (ap (λ k. drop start (slice_set xs k b)) parts
-    ∙ drop-set-add start xs (place - start) b)
-    ∙ take-set-le (end - start) (drop start xs) (place - start) b (omega (arith, ordered, behind))
+untouched (x ∷ xs) (suc start) (suc end) (suc place) b ordered apart =
+    grind (arith, common_steps, untouched xs start end place b)
+untouched (x ∷ xs) zero (suc end) (suc place) b ordered apart =
+    grind (arith, common_steps, untouched xs zero end place b)
+untouched xs start end place b ordered apart = grind (arith, common_steps)
