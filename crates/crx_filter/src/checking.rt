@@ -148,7 +148,7 @@ fn clear_if_begun(names: &mut Identifiers, step: RinexStep)
     ensures empty { step ≡ RinexStep.Begun → (name : List ℕ) → has_identifier names.new name ≡ false }
 {
     if let RinexStep::Begun = step {
-        names.clear();
+        *names = Identifiers::new();
     }
 }
 

@@ -2,12 +2,12 @@
 use Rattle.std.proofs.Common.{rules}
 use Rattle.std.proofs.lemmas.Grind.{common_steps}
 use Rattle.std.proofs.Common.{◌≡◌, ℕ, ◌<◌, ◌≤◌, suc, length, true, false, cond, eqb, List, [], ◌∷◌, ◌++◌}
-use Rattle.std.proofs.Common.{Option, Some, None, is_none, IfSome, OnSome, refl, ap, sym, subst, map, get_or}
-use Rattle.std.proofs.{Common.{set, unwrap_or, ◌≢◌, ◌∙◌, arith}}
+use Rattle.std.proofs.Common.{Some, None, is_none, IfSome, OnSome, refl, ap, sym, map, get_or}
+use Rattle.std.proofs.Common.{set, unwrap_or, ◌≢◌, ◌∙◌, arith}
 use Rattle.std.proofs.lemmas.{Bool.{false≢true}, Cmp.nat_eq_equiv}
 use Rattle.std.proofs.lemmas.List.{length-map, append-nil}
-use Rattle.std.proofs.lemmas.List.Elements.{filter_map-append, All-cons, All-head, All-tail, All-weaker}
-use Rattle.std.proofs.lemmas.Map.{Entries.All-lookup, Made.length-le_from_is_member}
+use Rattle.std.proofs.lemmas.List.Elements.{filter_map-append, All-cons, All-head, All-tail}
+use Rattle.std.proofs.lemmas.Map.Made.{length-le_from_is_member}
 use Rattle.std.{proofs.lemmas.Option.option_and_then_some, specs.List.{All, AllByRecursion, IsDistinct}}
 use Rattle.std.specs.{List.{cons_option, list_any}, Map.{lookup, set_value}}
 use Rattle.crx_header.specs.ObservationTypes.{AreCounts, AreByLetter, IsCount, letters_differ, with_count}
@@ -15,7 +15,7 @@ use Rattle.crx_header.specs.{ObservationTypes.{after_count, with_line}, declared
 use Rattle.crx_header.specs.meaning.{Label.number_in, ObservationTypes.{Count, IsAllowedCount}}
 use Rattle.crx_header.specs.meaning.ObservationTypes.{system_letters, is_system, count_of, without}
 use Rattle.crx_header.specs.meaning.ObservationTypes.{last_count, last_counts, counts_in, count_of_types_line}
-use Rattle.crx_header.specs.meaning.ObservationTypes.{types_of, is_types_line, count_in, count_if_allowed}
+use Rattle.crx_header.specs.meaning.ObservationTypes.{types_of, count_in, count_if_allowed}
 use Rattle.crx_text.specs.meaning.Columns.{character_at, columns}
 
 same_test : (a b : ℕ) → eqb a b ≡ eqb b a
@@ -92,11 +92,18 @@ pub AreCounts-with_count : (es : List Count) (letter count : ℕ)
     → AreCounts es → is_system letter ≡ true → IsAllowedCount count → AreCounts (with_count es letter count)
 AreCounts-with_count es letter count h s a = search (rules, allowed-with_count, apart-with_count)
 
+-- a letter that has a count is that of a system, and the count is allowed
+sound_at : (es : List Count) (letter : ℕ) → All IsCount es
+    → IfSome (count_of es letter) (λ n. (is_system letter ≡ true) × IsAllowedCount n)
+sound_at [] letter h = grind arith
+sound_at (e ∷ es) letter h = grind (arith, common_steps, All-head, sound_at es letter (All-tail IsCount e es h))
+
 pub allowed_of : (es : List Count) (letter : ℕ) → AreCounts es → IfSome (count_of es letter) IsAllowedCount
-allowed_of es letter h =
-    let Q : Count → Type 0 = λ c. IsAllowedCount c.1 in
-    subst (λ (o : Option ℕ). IfSome o IsAllowedCount) (lookup_is_count es letter)
-    (All-lookup IsAllowedCount (eqb letter) es (All-weaker IsCount Q (λ c p. p.1) es h.allowed))
+allowed_of es letter h = grind (arith, common_steps, sound_at es letter h.allowed)
+
+pub system_of : (es : List Count) (letter : ℕ) → AreCounts es
+    → OnSome (count_of es letter) (is_system letter ≡ true)
+system_of es letter h = grind (arith, common_steps, sound_at es letter h.allowed)
 
 allowed_if : (l n letter count : ℕ)
     → count_if_allowed l n ≡ Some (letter, count) → (is_system letter ≡ true) × IsAllowedCount count
@@ -109,17 +116,6 @@ count_in_allowed line letter count h =
     option_and_then_some {P = (is_system letter ≡ true) × IsAllowedCount count}
     (count_if_allowed (character_at line 1)) (number_in (columns line 4 3)) (letter, count) h
     (λ n e g. allowed_if (character_at line 1) n letter count g)
-
--- a letter that has a count is that of a system
-system_in : (es : List Count) (letter : ℕ) → All IsCount es
-    → OnSome (count_of es letter) (is_system letter ≡ true)
-system_in [] letter h = tt
-system_in (e ∷ es) letter h =
-    grind (arith, common_steps, All-head, system_in es letter (All-tail IsCount e es h))
-
-pub system_of : (es : List Count) (letter : ℕ) → AreCounts es
-    → OnSome (count_of es letter) (is_system letter ≡ true)
-system_of es letter h = system_in es letter h.allowed
 
 -- ---- counts by letter
 
@@ -134,17 +130,14 @@ pub AreByLetter-with_count : (table : List ℕ) (es : List Count) (letter count 
 AreByLetter-with_count table es letter count h within = grind (arith, common_steps, count_with)
 
 -- a letter without a count at its place has none, and one with a count has that
-none_by_zero : (o : Option ℕ) → IfSome o IsAllowedCount → unwrap_or o 0 ≡ 0 → o ≡ None
-none_by_zero = grind arith
-
 pub absent_by_letter : (table : List ℕ) (es : List Count) (letter : ℕ) → AreCounts es → AreByLetter table es
     → letter < LETTERS → get_or table letter 0 ≡ 0 → count_of es letter ≡ None
-absent_by_letter table es letter sound h few none =
-    none_by_zero (count_of es letter) (allowed_of es letter sound) (sym (h letter few) ∙ none)
+absent_by_letter table es letter sound h few none = grind (arith, common_steps, sound_at es letter sound.allowed)
 
-pub present_by_letter : (table : List ℕ) (es : List Count) (letter : ℕ) → AreByLetter table es
-    → letter < LETTERS → get_or table letter 0 ≢ 0 → count_of es letter ≡ Some (get_or table letter 0)
-present_by_letter table es letter h few some = grind arith
+pub present_by_letter : (table : List ℕ) (es : List Count) (letter : ℕ) → AreCounts es → AreByLetter table es
+    → letter < LETTERS → get_or table letter 0 ≢ 0 → (count_of es letter ≡ Some (get_or table letter 0))
+    × (is_system letter ≡ true) × IsAllowedCount (get_or table letter 0)
+present_by_letter table es letter sound h few some = grind (arith, common_steps, sound_at es letter sound.allowed)
 
 -- ---- few systems
 

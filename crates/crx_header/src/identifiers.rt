@@ -46,13 +46,6 @@ impl Identifiers {
         }
     }
 
-    /// Takes all identifiers out.
-    pub fn clear(&mut self)
-        ensures empty { (name : List ℕ) → has_identifier self.new name ≡ false }
-    {
-        self.there = [false; LETTERS * TENS * UNITS];
-    }
-
     /// Puts an identifier in: `false` says that it was there.
     #[inline(always)]
     pub fn put(&mut self, name: [u8; NAME_WIDTH]) -> bool

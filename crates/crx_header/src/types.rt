@@ -93,7 +93,7 @@ impl Types {
 
     /// How many types a system has, by its letter.
     #[inline(always)]
-    #[tactic(auto, using(crate::proofs::Counts::absent_by_letter))]
+    #[tactic(auto, using(crate::proofs::Counts::absent_by_letter, crate::proofs::Counts::present_by_letter))]
     pub fn count(&self, letter: u8) -> Option<usize>
         ensures value { result ≡ count_of self.now letter }
         ensures allowed { IfSome result IsAllowedCount }
