@@ -96,7 +96,8 @@ AreCounts-with_count es letter count h s a = search (rules, allowed-with_count, 
 sound_at : (es : List Count) (letter : ℕ) → All IsCount es
     → IfSome (count_of es letter) (λ n. (is_system letter ≡ true) × IsAllowedCount n)
 sound_at [] letter h = grind arith
-sound_at (e ∷ es) letter h = grind (arith, common_steps, All-head, sound_at es letter (All-tail IsCount e es h))
+sound_at (e ∷ es) letter h =
+    grind (arith, common_steps, All-head, sound_at es letter (All-tail IsCount e es h))
 
 pub allowed_of : (es : List Count) (letter : ℕ) → AreCounts es → IfSome (count_of es letter) IsAllowedCount
 allowed_of es letter h = grind (arith, common_steps, sound_at es letter h.allowed)
@@ -132,12 +133,14 @@ AreByLetter-with_count table es letter count h within = grind (arith, common_ste
 -- a letter without a count at its place has none, and one with a count has that
 pub absent_by_letter : (table : List ℕ) (es : List Count) (letter : ℕ) → AreCounts es → AreByLetter table es
     → letter < LETTERS → get_or table letter 0 ≡ 0 → count_of es letter ≡ None
-absent_by_letter table es letter sound h few none = grind (arith, common_steps, sound_at es letter sound.allowed)
+absent_by_letter table es letter sound h few none =
+    grind (arith, common_steps, sound_at es letter sound.allowed)
 
 pub present_by_letter : (table : List ℕ) (es : List Count) (letter : ℕ) → AreCounts es → AreByLetter table es
     → letter < LETTERS → get_or table letter 0 ≢ 0 → (count_of es letter ≡ Some (get_or table letter 0))
     × (is_system letter ≡ true) × IsAllowedCount (get_or table letter 0)
-present_by_letter table es letter sound h few some = grind (arith, common_steps, sound_at es letter sound.allowed)
+present_by_letter table es letter sound h few some =
+    grind (arith, common_steps, sound_at es letter sound.allowed)
 
 -- ---- few systems
 

@@ -34,8 +34,8 @@ EndIs held len is_ended at_end =
     MatchBool is_ended ((len < length held) × (slice_index held len ≡ 10)) ((len ≡ length held) × at_end)
 
 module _ (gave : List ℕ → Type 0) (old held : List ℕ) (before room passed len n : ℕ) (at_end : Type 0)
-    (is_ended : Bool) (s : Seeking gave old held before room passed len) (end : EndIs held len is_ended at_end)
-    (count : n ≡ len + cond is_ended 1 0) where
+    (is_ended : Bool) (s : Seeking gave old held before room passed len)
+    (end : EndIs held len is_ended at_end) (count : n ≡ len + cond is_ended 1 0) where
   -- how many of the bytes that are held are the line's, with its LF
   held-within : n ≤ length held
   held-within = grind arith
@@ -74,8 +74,8 @@ module _ (gave : List ℕ → Type 0) (old held : List ℕ) (before room passed 
   content-long = search (rules, length-append, lt-ltb, ⊎_elim, length-without_return, whole-piece)
 
 -- what ended the search is answered
-pub fault-answers : (given : List ℕ) (at_end : Type 0) (tally counted : Tally) (was after : ReaderState) (at : At)
-    (fault : Fault) → EndsSearch fault was.passed was.rest given tally counted → Stops was at after
+pub fault-answers : (given : List ℕ) (at_end : Type 0) (tally counted : Tally) (was after : ReaderState)
+    (at : At) (fault : Fault) → EndsSearch fault was.passed was.rest given tally counted → Stops was at after
     → AnswersFault was given at_end tally counted at fault after
 fault-answers given at_end tally counted was after at InputTooLong end stops = (end.0, end.1, stops, end.2)
 fault-answers given at_end tally counted was after at ReadFailed end stops = (end.0, end.1, stops, end.2)

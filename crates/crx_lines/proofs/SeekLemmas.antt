@@ -1,5 +1,6 @@
 -- The search for the end of a line, step by step.
-use Rattle.std.proofs.Common.{rules, ◌≡◌, ◌≢◌, ℕ, ◌+◌, ◌-◌, ◌<◌, ◌≤◌, List, [], ◌∷◌, ◌++◌, ◌⊎◌, length, slice_index}
+use Rattle.std.proofs.Common.{rules, ◌≡◌, ◌≢◌, ℕ, ◌+◌, ◌-◌, ◌<◌, ◌≤◌, List, [], ◌∷◌, ◌++◌, ◌⊎◌, length}
+use Rattle.std.proofs.Common.{slice_index}
 use Rattle.std.proofs.Common.{refl, sym, ap, subst, ◌∙◌, arith, inr, ⊎_elim, append-nil, append_assoc, take}
 use Rattle.std.proofs.{Common.length-append, lemmas.{Grind.common_steps, List.{get_or_append_left, take_at}}}
 use Rattle.std.proofs.lemmas.List.Elements.{All-append, All-from_get_or, All-contains, Contains-append_left}
@@ -16,8 +17,9 @@ Seeking-start gave old before room lead sum = grind (arith, common_steps, append
 
 module _ (gave : List ℕ → Type 0) (old held : List ℕ) (before room passed : ℕ) where
   -- the bytes from the searched ones up to n were searched too
-  pub Seeking-searched : (searched n : ℕ) → Seeking gave old held before room passed searched → n ≤ length held
-      → ((k : ℕ) → searched ≤ k → k < n → slice_index held k ≢ 10) → Seeking gave old held before room passed n
+  pub Seeking-searched : (searched n : ℕ) → Seeking gave old held before room passed searched
+      → n ≤ length held → ((k : ℕ) → searched ≤ k → k < n → slice_index held k ≢ 10)
+      → Seeking gave old held before room passed n
   Seeking-searched searched n s within none = grind (arith, common_steps)
 
   -- every byte was discarded or is held
@@ -88,8 +90,8 @@ module _ (gave : List ℕ → Type 0) (old held : List ℕ) (before room passed 
     Seeking-ends step then goes tally counted _ end = absurd end
 
 -- what is held was searched without finding an LF; it is discarded where it is too long for a line
-pub Seeking-step : (gave : List ℕ → Type 0) (old held shown after : List ℕ) (before room passed searched n : ℕ)
-    → Seeking gave old held before room passed searched → shown ≡ held
+pub Seeking-step : (gave : List ℕ → Type 0) (old held shown after : List ℕ)
+    (before room passed searched n : ℕ) → Seeking gave old held before room passed searched → shown ≡ held
     → ((k : ℕ) → searched ≤ k → k < length shown → slice_index shown k ≢ 10)
     → ((n ≡ 0) × (after ≡ held)) ⊎ ((n ≡ length held) × (LINE_LIMIT + 1 < n) × (after ≡ []))
     → Seeking gave old after before room (passed + n) (length after)

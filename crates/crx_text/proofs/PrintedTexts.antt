@@ -24,7 +24,8 @@ spaced : (ds rest : List ℕ) (n m : ℕ) → are_digits ds ≡ true → leading
     → plus (ds ++ rest) (replicate (leading_zeros ds) 32 ++ replicate m 48)
     ≡ replicate (leading_zeros ds) 32 ++ (glyphs (drop (leading_zeros ds) ds) ++ plus rest (replicate n 48))
 spaced (zero ∷ e ∷ ds) rest n m digits sum = grind (arith, common_steps, spaced (e ∷ ds) rest n m)
-spaced (suc d ∷ e ∷ ds) rest n m digits sum = grind (arith, common_steps, ne_eqb, plus_digits (suc d ∷ e ∷ ds) rest n m)
+spaced (suc d ∷ e ∷ ds) rest n m digits sum =
+    grind (arith, common_steps, ne_eqb, plus_digits (suc d ∷ e ∷ ds) rest n m)
 spaced (d ∷ []) rest n m digits sum = plus_digits (d ∷ []) rest n m digits (omega (arith, sum))
 spaced [] rest n m digits sum = plus_digits [] rest n m digits (omega (arith, sum))
 
@@ -117,7 +118,7 @@ module _ (size : ℕ) (small : size < 10 ^ 12) where
         let at : start ≡ suc zeros = omega (arith, start_is) in
         let count : 16 - suc zeros ≡ 15 - zeros = omega arith in
         rw (cell_is, at, count) (ap (λ t. 32 ∷ t) (row ∙ ap (λ t. replicate zeros 32 ++ t)
-        (ap (λ t. left ++ (46 ∷ t)) tail ∙ sym (append_assoc left (46 ∷ glyphs (three_in size)) (48 ∷ 48 ∷ []))
+        (ap (λ t. left ++ (46 ∷ t)) tail ∙ sym (append_assoc left (46 ∷ glyphs (three_in size)) _)
         ∙ ap (λ t. t ++ (48 ∷ 48 ∷ [])) printed_is)))
 
     field_text : take 14 cell ≡ replicate start 32 ++ size_text 3 size
@@ -127,4 +128,5 @@ module _ (size : ℕ) (small : size < 10 ^ 12) where
     text_before = ap (take start) field_text ∙ take_at _ (size_text 3 size) start (length-replicate start 32)
 
     pub text_written : drop start (take 14 cell) ≡ size_text 3 size
-    text_written = ap (drop start) field_text ∙ drop_at (replicate start 32) _ start (length-replicate start 32)
+    text_written =
+        ap (drop start) field_text ∙ drop_at (replicate start 32) _ start (length-replicate start 32)

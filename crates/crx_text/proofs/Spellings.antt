@@ -46,7 +46,8 @@ size_text_fits decimals size columns some room few small =
 minus_put : (n : ℕ) (text field : List ℕ) → 1 ≤ n → drop n field ≡ text → take n field ≡ replicate n 32
     → set field (n - 1) 45 ≡ replicate (n - 1) 32 ++ 45 ∷ text
 minus_put (suc zero) text (c ∷ cs) some written before = grind (arith, common_steps)
-minus_put (suc (suc n)) text (c ∷ cs) some written before = grind (arith, common_steps, minus_put (suc n) text cs)
+minus_put (suc (suc n)) text (c ∷ cs) some written before =
+    grind (arith, common_steps, minus_put (suc n) text cs)
 minus_put n text field some written before = grind (arith, common_steps)
 
 -- ---- a number of either sign

@@ -13,9 +13,9 @@ seeking-init g c = search (rules, Seeking-start)
 
 -- all that is held has been searched
 module _ (g : Over) (c : After-fill g) where
-  searched : Seeking (λ given. g.R.Source.gave c.args.reader.now given c.seeking.reader) (kept c.args.window.now)
-      (kept c.let_go_of_long.new.self) c.args.before c.seeking.room (c.seeking.passed + c.let_go_of_long.result)
-      (length (kept c.let_go_of_long.new.self))
+  searched : Seeking (λ given. g.R.Source.gave c.args.reader.now given c.seeking.reader)
+      (kept c.args.window.now) (kept c.let_go_of_long.new.self) c.args.before c.seeking.room
+      (c.seeking.passed + c.let_go_of_long.result) (length (kept c.let_go_of_long.new.self))
   searched =
       Seeking-step _ _ _ _ _ _ _ _ _ _ c.seeking.invariant.0 c.as_slice-in-seeking.ensures.value
       c.in_default.ensures.none c.let_go_of_long.ensures.count
@@ -41,8 +41,8 @@ returns-then-count-eq0-clause-ok g c =
     let more = c.in_ok-count.ensures.ok in (
       _,
       Seeking-filled _ _ _ _ _ _ (searched g at) (λ given. g.R.Source.gave _ given _) _ more.0 _ _
-          (λ given lead. g.met.R.Source.gave_both _ c.seeking.reader _ given more.0 lead more.4) more.1 more.2 more.3
-          (ap length c.as_slice-searched.ensures.value),
+          (λ given lead. g.met.R.Source.gave_both _ c.seeking.reader _ given more.0 lead more.4) more.1 more.2
+          more.3 (ap length c.as_slice-searched.ensures.value),
     )
 
 pub returns-then-count-eq0-clause-unasked : goal.returns-then-count-eq0-clause-unasked
@@ -54,8 +54,8 @@ seeking-preserved g c =
     let at = (goal.at.seeking-preserved g c).After-fill in
     let more = c.in_ok-count.ensures.ok in (
       Seeking-filled _ _ _ _ _ _ (searched g at) (λ given. g.R.Source.gave _ given _) _ more.0 _ _
-          (λ given lead. g.met.R.Source.gave_both _ c.seeking.reader _ given more.0 lead more.4) more.1 more.2 more.3
-          (ap length c.as_slice-searched.ensures.value),
+          (λ given lead. g.met.R.Source.gave_both _ c.seeking.reader _ given more.0 lead more.4) more.1 more.2
+          more.3 (ap length c.as_slice-searched.ensures.value),
       c.in_ok-count.ensures.counted.0 ∙ c.seeking.invariant.1,
       ends-some _ _ _ c.if-count-eq0.false c.in_ok-count.ensures.counted.1 ∙ c.seeking.invariant.2,
       λ has. absurd (not_old g at has),

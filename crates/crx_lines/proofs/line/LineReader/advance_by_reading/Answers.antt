@@ -62,8 +62,8 @@ module _ (g : Over) (c : After-take_line-cut g) where
       → TakesPiece (reading c.args.self.now) c.in-Ok.ensures.ok.1.given (g.R.Source.at_end c.seek.new.reader)
       (piece_at c.in-Ok.ensures.ok.1.front held c.in-Ok.found.len c.in-Ok.found.is_ended) after
   taken after rest passes number phase =
-      takes _ _ _ _ _ _ _ _ _ _ c.in-Ok.ensures.ok.1 c.in-Ok.ensures.end count some (reading c.args.self.now) after
-      (sym start-is) refl (rest ∙ left) passes number phase
+      takes _ _ _ _ _ _ _ _ _ _ c.in-Ok.ensures.ok.1 c.in-Ok.ensures.end count some (reading c.args.self.now)
+      after (sym start-is) refl (rest ∙ left) passes number phase
 
 pub overflow_add-self : goal.overflow_add-self
 overflow_add-self g c = omega (arith, within g (goal.at.overflow_add-self g c).After-take_line-cut)
@@ -74,7 +74,8 @@ overflow_add-self-2 g c = omega (arith, within g (goal.at.overflow_add-self-2 g 
 pub invariant_of-self-2 : goal.invariant_of-self-2
 invariant_of-self-2 g c =
     let at = (goal.at.invariant_of-self-2 g c).After-take_line-cut in
-    let byte = some-byte _ _ _ _ _ _ _ _ _ _ c.in-Ok.ensures.ok.1 c.in-Ok.ensures.end (count g at) (some g at) in
+    let byte = some-byte _ _ _ _ _ _ _ _ _ _ c.in-Ok.ensures.ok.1 c.in-Ok.ensures.end (count g at)
+    (some g at) in
     record {
       counted = omega (arith, byte, c.args.self.now.counted);
       limit = omega (arith, within g at, ap length (left g at), length-drop (n g at) (held g at));

@@ -1,6 +1,8 @@
-use Rattle.std.proofs.Common.{◌≡◌, ℕ, true, ◌+◌, ◌-◌, List, length, [], inr, take, drop, IsTrue, sym, ap, ◌∙◌, refl}
+use Rattle.std.proofs.Common.{◌≡◌, ℕ, true, ◌+◌, ◌-◌, List, length, [], inr, take, drop, IsTrue, sym, ap, ◌∙◌}
+use Rattle.std.proofs.Common.{refl}
 use Rattle.std.proofs.{Common.{arith, subst}, lemmas.Bool.lt-ltb}
-use Rattle.crx_base.specs.{declared.limits.TheConstants.{INPUT_LIMIT, LINE_LIMIT}, meaning.Lines.{Piece, line_of, is_long}}
+use Rattle.crx_base.specs.declared.limits.TheConstants.{INPUT_LIMIT, LINE_LIMIT}
+use Rattle.crx_base.specs.meaning.Lines.{Piece, line_of, is_long}
 use Rattle.crx_lines.proofs.AdvanceLemmas.{EndIs, piece_at, takes, whole-piece}
 use Rattle.crx_lines.proofs.SeekLemmas.{Seeking-start, Seeking-searched}
 use Rattle.crx_lines.specs.{Readers.reading, Reading.{ReaderState, TakesPiece}, Window.{cut_shown, kept}}
@@ -39,8 +41,8 @@ taken c =
       piece,
       refl,
       subst (λ given. TakesPiece (reading old) given ⊥ piece (after c)) s.lead
-          (takes gave held held old.passed _ 0 len (len + 1) ⊥ true s end refl (inr refl) (reading old) (after c)
-          refl refl now (omega arith) refl c.requires),
+          (takes gave held held old.passed _ 0 len (len + 1) ⊥ true s end refl (inr refl) (reading old)
+          (after c) refl refl now (omega arith) refl c.requires),
       cut.shown ∙ ap (λ w. line_of (record { bytes = take len (kept w); is_ended = true }))
           c.deref_mut.ensures.value ∙ ap (λ bytes. line_of (record { bytes = bytes; is_ended = true })) (sym whole),
     )

@@ -1,4 +1,5 @@
-use Rattle.std.proofs.Common.{◌≤◌, ◌+◌, ◌-◌, ◌++◌, ℕ, length, take, ap, ◌∙◌, arith, length-take-le, append-nil, refl}
+use Rattle.std.proofs.Common.{◌≤◌, ◌+◌, ◌-◌, ◌++◌, ℕ, length, take, ap, ◌∙◌, arith, length-take-le}
+use Rattle.std.proofs.Common.{append-nil, refl}
 use Rattle.std.proofs.lemmas.{List.take_at}
 use borrow.Rule.Slice.PartMut.{same_len_mid}
 use Rattle.crx_lines.proofs.WindowLemmas.{grown}
@@ -12,7 +13,8 @@ returns-in-Ok-read-clause-ok g c =
     let within : w.end ≤ length w.bytes.items = omega (arith, w.within, w.whole) in
     let more = take c.in-Ok-read.count _ in
     rw (
-      take_at _ _ w.bytes.len (same_len_mid w.end room bytes _ c.read-2.auto.buffer ∙ c.deref_mut.ensures.len),
+      take_at _ _ w.bytes.len
+          (same_len_mid w.end room bytes _ c.read-2.auto.buffer ∙ c.deref_mut.ensures.len),
       c.deref_mut.ensures.value,
     ) (
       more,
@@ -28,8 +30,8 @@ returns-in-Err-read-clause-kept g c =
     let w = c.make_room.new.self in
     let within : w.end ≤ length w.bytes.items = omega (arith, w.within, w.whole) in
     rw (
-      take_at _ _ w.bytes.len (same_len_mid w.end _ c.deref_mut.result.now _ c.read-2.auto.buffer ∙ c.deref_mut.ensures.len),
+      take_at _ _ w.bytes.len
+          (same_len_mid w.end _ c.deref_mut.result.now _ c.read-2.auto.buffer ∙ c.deref_mut.ensures.len),
       c.deref_mut.ensures.value,
-    ) (grown w.bytes.items c.read-2.new.buffer w.start w.end _ _ 0 w.ordered within (omega arith) (omega arith)
-    ∙ append-nil _
-    ∙ c.make_room.ensures.kept)
+    ) (grown w.bytes.items c.read-2.new.buffer w.start w.end _ _ 0 w.ordered within (omega arith)
+    (omega arith) ∙ append-nil _ ∙ c.make_room.ensures.kept)
