@@ -1,5 +1,4 @@
 pub mod AdvanceLemmas
-pub mod DeviceLemmas
 pub mod FeedLemmas
 pub mod PieceLemmas
 pub mod ProgressLemmas

@@ -41,27 +41,23 @@ abbrev pub Splits : (List ℕ → List Piece) → List Piece → Type 0
 Splits pieces before = (rest : List ℕ)
     × HasNoFeed rest × ((more : List ℕ) → pieces more ≡ before ++ pieces_of (rest ++ more))
 
+splits-none : (b : ℕ) → b ≢ 10
+    → (F : List ℕ → List Piece) → Splits F [] → Splits (λ more. onto_first b (F more)) []
+splits-none b other F s =
+    let test = ne_eqb b 10 other in
+    (b ∷ s.0, All-cons NoFeed b s.0 other s.1, λ more. rw test (ap (onto_first b) (s.2 more)))
+
 splits-onto : (b : ℕ) → b ≢ 10
     → (F : List ℕ → List Piece) (bytes : List ℕ) (is_ended : Bool) (ps : List Piece)
     → Splits F (ended_pieces (record { bytes = bytes; is_ended = is_ended } ∷ ps))
     → Splits (λ more. onto_first b (F more))
     (ended_pieces (onto_first b (record { bytes = bytes; is_ended = is_ended } ∷ ps)))
 splits-onto b other F bytes true ps s = (s.0, s.1, λ more. ap (onto_first b) (s.2 more))
-splits-onto b other F bytes false ps s =
-    let test = ne_eqb b 10 other in (
-      b ∷ s.0,
-      All-cons NoFeed b s.0 other s.1,
-      λ more. rw test (ap (onto_first b) (s.2 more)),
-    )
+splits-onto b other F bytes false ps s = splits-none b other F s
 
 splits-other : (b : ℕ) → b ≢ 10 → (F : List ℕ → List Piece) (ps : List Piece) → Splits F (ended_pieces ps)
     → Splits (λ more. onto_first b (F more)) (ended_pieces (onto_first b ps))
-splits-other b other F [] s =
-    let test = ne_eqb b 10 other in (
-      b ∷ s.0,
-      All-cons NoFeed b s.0 other s.1,
-      λ more. rw test (ap (onto_first b) (s.2 more)),
-    )
+splits-other b other F [] s = splits-none b other F s
 splits-other b other F (p ∷ ps) s = splits-onto b other F p.bytes _ ps s
 
 by-byte : (b : ℕ) (bs : List ℕ) → Splits (λ more. pieces_of (bs ++ more)) (ended_pieces (pieces_of bs))

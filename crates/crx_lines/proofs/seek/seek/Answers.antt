@@ -1,7 +1,7 @@
-use Rattle.std.proofs.Common.{◌+◌, length, ap, ◌∙◌, rules}
+use Rattle.std.proofs.Common.{arith, ◌+◌, length, ap, ◌∙◌, rules}
 use Rattle.std.proofs.lemmas.Result.{err_from_is_err_and}
 use Rattle.std.specs.List.{Contains}
-use Rattle.crx_lines.proofs.{DeviceLemmas.ends-some, SeekLemmas.{Seeking-start, Seeking-step}}
+use Rattle.crx_lines.proofs.SeekLemmas.{Seeking-start, Seeking-step}
 use Rattle.crx_lines.proofs.SeekLemmas.{Seeking-ends, Seeking-filled, Seeking-not_old}
 use Rattle.crx_lines.specs.{Seeking.Seeking, Window.kept}
 use Rattle.crx_lines.proofs.seek.seek.Given.{Over}
@@ -57,6 +57,6 @@ seeking-preserved g c =
           (λ given lead. g.met.R.Source.gave_both _ c.seeking.reader _ given more.0 lead more.4) more.1 more.2
           more.3 (ap length c.as_slice-searched.ensures.value),
       c.in_ok-count.ensures.counted.0 ∙ c.seeking.invariant.1,
-      ends-some _ _ _ c.if-count-eq0.false c.in_ok-count.ensures.counted.1 ∙ c.seeking.invariant.2,
+      grind (arith, c.in_ok-count.ensures.counted.1, c.seeking.invariant.2),
       λ has. absurd (not_old g at has),
     )
