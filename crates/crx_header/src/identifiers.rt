@@ -2,7 +2,7 @@
 
 ghost use Rattle.std.specs.Prelude.{List, ℕ, ◌≡◌, ◌||◌, not, true, false};
 ghost use Rattle.std.specs.Str.{bytes_eq};
-ghost use Rattle.crx_header.specs.Identifiers.{has_identifier, index_of};
+ghost use Rattle.crx_header.specs.Identifiers.{has_identifier};
 ghost use Rattle.crx_header.specs.meaning.Satellites.{is_identifier};
 
 use crx_base::limits::NAME_WIDTH;
@@ -54,23 +54,15 @@ impl Identifiers {
         ensures put { (other : List ℕ) → is_identifier other ≡ true
             → has_identifier self.new other ≡ (bytes_eq name other || has_identifier self.old other) }
     {
-        let index = index_of(&name);
+        let tens = match character(&name, 2) {
+            b' ' => TENS - 1,
+            digit => digit.saturating_sub(b'0') as usize,
+        };
+        let letter = character(&name, 1).saturating_sub(FIRST_LETTER) as usize;
+        let units = character(&name, 3).saturating_sub(b'0') as usize;
+        let index = (letter * TENS + tens) * UNITS + units;
         let is_new = !self.there[index];
         self.there[index] = true;
         is_new
     }
-}
-
-/// The place of an identifier.
-#[inline(always)]
-fn index_of(name: &[u8; NAME_WIDTH]) -> usize
-    ensures value { result ≡ index_of name.now }
-{
-    let tens = match character(name, 2) {
-        b' ' => TENS - 1,
-        digit => digit.saturating_sub(b'0') as usize,
-    };
-    let letter = character(name, 1).saturating_sub(FIRST_LETTER) as usize;
-    let units = character(name, 3).saturating_sub(b'0') as usize;
-    (letter * TENS + tens) * UNITS + units
 }
