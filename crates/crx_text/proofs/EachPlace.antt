@@ -1,5 +1,5 @@
 -- Lists of what a function gives at one place after another.
-use Rattle.std.proofs.{Common.{sym, ◌∙◌, ap, arith, add-one}, lemmas.Grind.common_steps}
+use Rattle.std.proofs.{Common.{sym, ◌∙◌, ap, arith}, lemmas.Grind.common_steps}
 use Rattle.std.specs.{List.AllByRecursion, Prelude.{◌≡◌, refl, ℕ, zero, suc, ◌+◌, ◌<◌, ◌≤◌, min, [], ◌∷◌}}
 use Rattle.std.specs.Prelude.{◌++◌, length, map, take, drop, slice_index_or}
 use Rattle.crx_text.specs.meaning.EachPlace.{each_place}
@@ -42,13 +42,9 @@ take-each_place k m f = grind (arith, common_steps)
 -- what is from a place on
 pub drop-each_place : {X : Type 0} (n k : ℕ) (f : ℕ → X)
     → k < n → drop k (each_place n f) ≡ f k ∷ drop (k + 1) (each_place n f)
-drop-each_place n k f h = next n k f h ∙ ap (λ m. f k ∷ drop m (each_place n f)) (sym (add-one k))
-  where
-    next : {X : Type 0} (n k : ℕ) (f : ℕ → X) → k < n → drop k (each_place n f)
-        ≡ f k ∷ drop (suc k) (each_place n f)
-    next zero k f h = absurd (omega arith)
-    next (suc n) zero f h = refl
-    next (suc n) (suc k) f h = next n k (λ i. f (suc i)) (omega arith)
+drop-each_place (suc n) zero f h = refl
+drop-each_place (suc n) (suc k) f h = grind (arith, common_steps, drop-each_place n k (λ i. f (suc i)))
+drop-each_place zero k f h = absurd (omega arith)
 
 pub drop_all-each_place : {X : Type 0} (n : ℕ) (f : ℕ → X) → drop n (each_place n f) ≡ []
 drop_all-each_place zero f = refl
