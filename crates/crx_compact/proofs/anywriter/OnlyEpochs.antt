@@ -93,9 +93,7 @@ names-joined text k (suc count) =
     (λ i. ap (λ n. columns text n 3) (omega arith)) in
     let first : k + 1 + 3 * 0 ≡ k + 1 = omega arith in
     let many : 3 + 3 * count ≡ 3 * suc count = omega arith in
-    ap (λ t. columns text (k + 1 + 3 * 0) 3 ++ t) (ap joined later ∙ names-joined text (k + 3) count)
-    ∙ ap (λ n. columns text n 3 ++ columns text (k + 3 + 1) (3 * count)) first
-    ∙ columns-append text k 3 (3 * count) ∙ ap (columns text (k + 1)) many
+    cc (later, names-joined text (k + 3) count, columns-append text k 3 (3 * count))
 
 -- ---- the epoch
 

@@ -80,14 +80,9 @@ cells-back width found held (t ∷ ts) (c ∷ cs) same h =
       arcs = first.now ∷ others.arcs;
       spelled = cc (h.0.coded, first.coded, others.spelled);
       values = cc (first.valued, others.values);
-      follows = λ j. by_place first others j;
+      follows = λ j. elim j as (λ k. MayFollow (found k) (arc_at (first.now ∷ others.arcs) k))
+          [ zero ↦ first.follows | suc k ↦ others.follows k ];
     }
-  where
-    by_place : (first : ArcBack (found 0) c.code c.value) (others : CellsBack (λ j. found (suc j)) ts cs)
-        (j : ℕ)
-        → MayFollow (found j) (arc_at (first.now ∷ others.arcs) j)
-    by_place first others zero = first.follows
-    by_place first others (suc j) = others.follows j
 cells-back width found held texts cells same h = absurd h
 
 -- ---- a line by its cells

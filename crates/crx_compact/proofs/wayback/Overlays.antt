@@ -1,10 +1,10 @@
 -- Texts by their characters: what a difference marks comes back, marks laid over one another are patches in
 -- turn, and texts and marks can be cut at a width.
 use Rattle.crx_compact.proofs.Words.{◌≡◌, is_blank, character_of, each_place, latest_mark, overlaid}
-use Rattle.crx_compact.proofs.Words.{refl, ◌≢◌, zero, List, length, mark_of, patched, shown, longest, columns}
-use Rattle.crx_compact.proofs.Words.{ℕ, suc, ◌≤◌, [], ◌∷◌, All, ◌∙◌, ap, at, ◌<◌, map, take}
+use Rattle.crx_compact.proofs.Words.{refl, ◌≢◌, List, length, mark_of, patched, shown, longest, columns}
+use Rattle.crx_compact.proofs.Words.{ℕ, ◌≤◌, [], ◌∷◌, All, ◌∙◌, ap, at, ◌<◌, map, take}
 use Rattle.crx_compact.proofs.Words.{if◌then◌else◌, arith, text_difference, index-each_place, get_or_past}
-use Rattle.crx_compact.proofs.Words.{without_end_blanks, at-without_end_blanks}
+use Rattle.crx_compact.proofs.Words.{without_end_blanks, at-without_end_blanks, cases_lt}
 use Rattle.crx_compact.proofs.{Words.{rules, patched_in_turn}, SoundTexts.{same-columns}}
 use Rattle.crx_compact.proofs.Characters.{same_characters, at-by_position, at-take_past}
 use Rattle.crx_compact.proofs.{PlaceByPlace.at-take, wayback.Runs.IsUnmarked}
@@ -24,20 +24,14 @@ patched-again old new h = search (
   character-mark,
 )
 
--- a character that All speaks of, or the blank after the text
-pub at-All : (P : ℕ → Type 0) → P 32 → (text : List ℕ) → All P text → (p : ℕ) → P (at text p)
-at-All P e [] h p = e
-at-All P e (c ∷ cs) h zero = h 0 32 (omega arith)
-at-All P e (c ∷ cs) h (suc p) = at-All P e cs (λ k d less. h (suc k) d (omega (arith, less))) p
+pub at_past : (text : List ℕ) (p : ℕ) → length text ≤ p → at text p ≡ 32
+at_past text p h = get_or_past text p 32 h
 
 pub patched-difference : (old new : List ℕ)
     → All (λ c. c ≢ 38) new → patched old (text_difference old new) ≡ without_end_blanks new
-patched-difference old new h = patched-again old new (at-All (λ c. c ≢ 38) (omega arith) new h)
+patched-difference old new h = patched-again old new (λ p. grind (arith, cases_lt, at_past, h p 32))
 
 -- ---- marks over one another
-
-pub at_past : (text : List ℕ) (p : ℕ) → length text ≤ p → at text p ≡ 32
-at_past text p h = get_or_past text p 32 h
 
 past_longest : (marks : List (List ℕ)) (p : ℕ) → longest marks ≤ p → latest_mark marks p ≡ 32
 past_longest [] p h = refl
