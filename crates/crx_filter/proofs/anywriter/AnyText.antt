@@ -1,21 +1,23 @@
 -- Compact text of a file's units, whoever wrote it, expands to their RINEX text.
 use Rattle.crx_filter.proofs
-use proofs.Words.{common_steps, ℕ, suc, ◌≡◌, ◌+◌, ◌<◌, Bool, true, false, cond, List, [], ◌∷◌, ◌++◌, map}
+use proofs.Words.{common_steps, drop, ℕ, suc, ◌≡◌, ◌+◌, ◌<◌, Bool, true, false, cond, List, [], ◌∷◌, ◌++◌}
+use proofs.Words.{map}
 use proofs.Words.{length, Option, Some, None, Ok}
-use proofs.Words.{by_bool, refl, ap, sym, ◌∙◌, subst, arith, append-nil, is_some, lines_of, as_read, ReadLine}
+use proofs.Words.{by_bool, refl, ap, sym, ◌∙◌, subst, arith, append-nil, is_some}
 use proofs.Words.{Content, Epoch, Done}
 use proofs.Words.{FileUnit, HeaderLine, EventLine, EventRecord, Observation, Item, Accepted, Count}
 use proofs.Words.{RawEpoch, ReadEpoch}
 use proofs.Words.{header_has_ended, records_left, records_count_types, types_in_force, types_fault}
 use proofs.Words.{header_line_fault}
 use proofs.Words.{Reading, AtLines, reading_from, ended_reading, compact_place, compact_epoch_place}
-use proofs.Words.{event_line, is_event_line, records_in, raws_kept, whole_compact, first_lines}
+use proofs.Words.{event_line, is_event_line, records_in, raws_kept}
 use proofs.Words.{IsWholeEpoch, expanded_unit, expanded, printed_items, warnings_in, lines_text, result_of}
 use proofs.Words.{written_well}
 use Rattle.crx_filter.proofs.{Words.{IsInPlace, AreInPlace}, following.Following.body-place}
 use Rattle.crx_filter.proofs.reading.{ForwardCompact.{compact-forward, compact_beginning}, Ending.closes-well}
+pub use Rattle.crx_filter.proofs.wayback.First.{two-read, whole-read}
 use Rattle.crx_filter.proofs.wayback.{Carried.{IsLike, header-here, record-here, unit-more}}
-use Rattle.crx_filter.specs.meaning.{Expanded.{rinex_unit, crinex_version, crinex_program, empties_state}, WrittenStandard.rinex_items}
+use Rattle.crx_filter.specs.meaning.{Expanded.{rinex_unit, empties_state}, WrittenStandard.rinex_items}
 use Rattle.crx_filter.specs.meaning.UnitsAndText.{as_items, rinex_text}
 use Rattle.crx_compact.proofs.Words.{epoch_at, at}
 use Rattle.crx_compact.proofs.Words.{tail_left}
@@ -27,15 +29,13 @@ use Rattle.crx_compact.specs.AnyWriter.{epoch_left, IsLeft}
 use Rattle.crx_compact.proofs.Words.{Tail}
 use Rattle.crx_header.{proofs.Counts.types_of-push}
 use Rattle.crx_filter.specs.meaning.Stretches.{AreLinesOn}
-use Rattle.crx_filter.specs.meaning.CompactText.{AreLinesOfUnit, AreLinesOf, IsCompactTextOf, AreUnitsInPlace}
-use Rattle.crx_filter.specs.meaning.CompactText.{AreWholeFile}
+use Rattle.crx_filter.specs.meaning.CompactText.{AreLinesOfUnit, AreLinesOf, AreUnitsInPlace}
 use Rattle.crx_filter.specs.CompactText.{ExpandsAnyText, IsOfOneFile, WritesFirstUnits}
 use Rattle.crx_filter.proofs.reading.CompactPrefixes.{expanded-first, reading-at}
 use proofs.Words.{compact_reading, expanded_lines}
 use Rattle.crx_filter.proofs.Words.{Begins, FilterResult}
 use Rattle.crx_filter.proofs.wayback.ExpandedStandard.{printed-read}
 use Rattle.crx_filter.proofs.wayback.Units.{none-warned, units-again}
-use Rattle.crx_filter.specs.meaning.Reading.{WholeReading}
 use Rattle.crx_compact.proofs.anywriter.Epochs.{any-epoch, no-event}
 
 warned-read : (items : List (Item ReadEpoch)) → warnings_in (rinex_items items) ≡ warnings_in items
@@ -192,16 +192,6 @@ all-read skip number units lines last h k =
 
 -- ---- the text
 
-two-read : (version program : List ℕ) (rest : List ReadLine) → crinex_version version ≡ Ok version
-    → crinex_program program ≡ Ok program
-    → first_lines (Content version ∷ Content program ∷ rest) ≡ Done (version ∷ program ∷ []) 2
-two-read version program rest e f = rw (e, f) refl
-
-pub whole-read : (skip : Bool) (version program : List ℕ) (rest : List ReadLine) → crinex_version version ≡ Ok version
-    → crinex_program program ≡ Ok program → whole_compact skip (Content version ∷ Content program ∷ rest)
-    ≡ ended_reading skip (reading_from compact_place skip [] 3 rest)
-whole-read skip version program rest e f = rw (two-read version program rest e f, whole_compact) refl
-
 -- where units are read, there is no warning
 pub units-silent : (items : List (Item ReadEpoch)) (units : List (FileUnit Epoch)) → rinex_items items ≡ as_items units
     → warnings_in items ≡ []
@@ -215,34 +205,27 @@ pub units-well : (skip : Bool) (items : List (Item ReadEpoch)) (number : ℕ) (u
 units-well skip items number units header left known =
     grind (arith, common_steps, closes-well, printed-read, units-silent)
 
--- how compact text of some units is read
-record TextRead (skip : Bool) (units : List (FileUnit Epoch)) (text : List ℕ) : Type 0 where
-  items : List (Item ReadEpoch)
-  reads : whole_compact skip (map as_read (lines_of text)) ≡ record { items = items; fault = None }
-  known : rinex_items items ≡ as_items units
-
 pub in-place : (units : List (FileUnit Epoch)) → AreUnitsInPlace units → AreInPlace (as_items units)
 in-place [] h = tt
 in-place (unit ∷ before) h = (h.0, in-place before h.1)
 
-text-read : (skip : Bool) (units : List (FileUnit Epoch)) (text : List ℕ) → AreWholeFile units → IsCompactTextOf units text
-    → TextRead skip units text
-text-read skip units text file h =
-    let r = all-read skip 3 units h.lines h.last (in-place units file.in_place) h.written in
-    let none : records_left r.items ≡ 0 = r.like.left ∙ file.complete in
-    grind (arith, common_steps, whole-read, closes-well)
-
 pub any-text : ExpandsAnyText
 any-text text choices units file h =
-    let r = text-read choices.skip units text file h in
-    grind (arith, common_steps, printed-read, units-silent)
+    let skip = choices.skip in
+    let r = all-read skip 3 units h.lines h.last (in-place units file.in_place) h.written in
+    rw (h.cut, whole-read skip h.version h.program (map Content h.lines) h.first h.second, r.reads)
+    (units-well skip r.items (3 + length h.lines) units (r.like.header ∙ file.header) (r.like.left
+    ∙ file.complete) r.known)
 
 pub one-file : IsOfOneFile
 one-file text one two h k first second =
-    let a = text-read false one text h first in
-    let b = text-read false two text k second in
-    let same : a.items ≡ b.items = ap WholeReading.items (sym a.reads ∙ b.reads) in
-    cc (units-again one, units-again two, a.known, b.known, same)
+    let a = all-read false 3 one first.lines first.last (in-place one h.in_place) first.written in
+    let b = all-read false 3 two second.lines second.last (in-place two k.in_place) second.written in
+    let same : map Content first.lines ≡ map Content second.lines = ap (drop 2) (sym first.cut
+    ∙ second.cut) in
+    let items : a.items ≡ b.items = ap (λ (r : Reading ReadEpoch). r.items)
+    (sym a.reads ∙ ap (reading_from compact_place false [] 3) same ∙ b.reads) in
+    cc (units-again one, units-again two, a.known, b.known, items)
 
 -- ---- text that is cut off, or bad from some place on
 

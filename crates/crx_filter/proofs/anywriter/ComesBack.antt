@@ -8,7 +8,8 @@ use proofs.Words.{HaveNoReturns, written_well}
 use proofs.anywriter.{AnyText.any-text, OwnText.{own-items, units-printed, whole-items}}
 use proofs.wayback.{Canonical.same-compaction, NormalForm.standard-as_normal}
 use proofs.wayback.{Units.{compacts, settled, no-returns, units_in}}
-use proofs.wayback.{Standard.{NoReturn, plain-no_return, plain-text, same-reading, whole-copied}, WayBack.{IsSettled, whole-settled}}
+use proofs.wayback.{Standard.{NoReturn, plain-no_return, plain-text, same-reading}, Reading.whole-copied}
+use proofs.wayback.WayBack.{IsSettled, whole-settled}
 use Rattle.crx_filter.specs.meaning.{Canonical.IsCanonical, UnitsAndText.TextsOfUnits}
 use Rattle.crx_filter.specs.WayBack.{ComesBack, NormalFormComesBack, StandardComesBack}
 
@@ -33,8 +34,8 @@ normal-comes_back input compacting expanding dated good none =
 pub standard-comes_back : (input : List ℕ) (compacting expanding : Choices)
     → StandardComesBack input compacting expanding
 standard-comes_back input compacting expanding dated standard =
-    let none = whole-copied NoReturn false (map as_read (lines_of input)) (plain-no_return (pieces_of input)
-    standard.plain) in
+    let none = whole-copied NoReturn false (map as_read (lines_of input)) standard.good
+    (plain-no_return (pieces_of input) standard.plain) in
     grind (arith, common_steps, normal-comes_back, plain-text)
 
 -- a file without copied lines that end in CR

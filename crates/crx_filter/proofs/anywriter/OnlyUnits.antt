@@ -2,13 +2,13 @@
 use Rattle.crx_filter.proofs
 use proofs.Words.{ℕ, ◌≡◌, ◌+◌, false, List, [], ◌∷◌, ◌++◌, map, length, drop, take, Option, Some, arith}
 use proofs.Words.{None, refl, ap, sym, ◌∙◌, subst, common_steps}
-use proofs.Words.{ReadLine, Content, Epoch, Place, Done, FileUnit, EventRecord}
+use proofs.Words.{ReadLine, Content, Epoch, Done, FileUnit, HeaderLine, EventLine, EventRecord}
 use proofs.Words.{Observation, Item, Accepted, ReadEpoch}
 use proofs.Words.{records_count_types, declaring_lines, types_in_force, raws_kept}
 use proofs.Words.{by_bool, compact_place, IsWholeEpoch}
-use Rattle.crx_filter.proofs.wayback.{ExpandedStandard.{count-read}, ExpandedWhole.{AreGoodEpochs, marks-printable}}
-use Rattle.crx_filter.proofs.reading.{ForwardCompact.compact_beginning, Types.counts-in_force, WhatStands.{of-unit, of-compact}}
-use proofs.Words.{⊤}
+use proofs.wayback.ExpandedStandard.{count-read}
+use proofs.wayback.ExpandedWhole.{AreGoodEpochs, IsReadAt, compact-stands, marks-printable}
+use Rattle.crx_filter.proofs.reading.{Types.counts-in_force, WhatStands.StandsAt}
 use Rattle.crx_filter.specs.meaning.{Expanded.{rinex_unit, empties_state}, WrittenStandard.rinex_items}
 use Rattle.crx_filter.specs.meaning.UnitsAndText.{as_items}
 use Rattle.crx_filter.specs.{meaning.CompactText.{AreLinesOfUnit}}
@@ -97,18 +97,13 @@ module _ (items : List (Item ReadEpoch)) (units : List (FileUnit Epoch)) (before
       }
 
   -- whatever unit is at some lines, they are its lines
-  abbrev Back : List ReadLine → Place (FileUnit ReadEpoch) → Type 0
-  Back lines (Done unit count) = UnitBack items units before unit (take count lines)
-  Back lines p = ⊤
-
-  place-back : (lines : List ReadLine) → Back lines (compact_place items lines)
-  place-back lines = of-unit (Back lines) tt (λ offset fault. tt) compact_beginning items lines
-      (λ line rest is open_header good. rw is (grind (arith, common_steps)))
-      (λ line rest is ended some good. rw is (record-back line))
-      (λ ended none. of-compact (Back lines) tt (λ offset fault. tt) (types_in_force items) (raws_kept items) lines
-      (λ line rest is event counted. rw is (grind (arith, common_steps))) (λ read count e. epoch-back read
-      lines count e))
-
   pub unit-back : (lines : List ReadLine) (unit : FileUnit ReadEpoch) (count : ℕ)
       → compact_place items lines ≡ Done unit count → UnitBack items units before unit (take count lines)
-  unit-back lines unit count e = subst (Back lines) e (place-back lines)
+  unit-back lines unit count e = by_unit unit (compact-stands items lines unit count e)
+    where
+      by_unit : (unit : FileUnit ReadEpoch) → StandsAt (IsReadAt items) items lines unit count
+          → UnitBack items units before unit (take count lines)
+      by_unit (HeaderLine line) k = rw k.0 (grind (arith, common_steps))
+      by_unit (EventLine line) k = rw k.0 (grind (arith, common_steps))
+      by_unit (EventRecord line) k = rw k.0 (record-back line)
+      by_unit (Observation read) k = epoch-back read lines count k.2

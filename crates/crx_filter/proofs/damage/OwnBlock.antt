@@ -11,7 +11,7 @@ use proofs.Words.{is_date, expanded, Item, Accepted, records_left, types_in_forc
 use proofs.Words.{compact_lines}
 use proofs.Words.{printed_items, AreInPlace, BeginsAnew, is_in_full, is_event_line, with_epochs}
 use proofs.Words.{lines_of_epochs}
-use proofs.Words.{line_of, whole_of}
+use proofs.Words.{line_of, whole_of, WholeReading}
 use Rattle.crx_filter.specs.Damage.{may_replace, IsOwnDamaged, IsOwnSalvaged, IsOfCompaction}
 use Rattle.crx_filter.specs.OwnStretches.{OwnStretch, may_come_instead, HasOwnStretches, IsReadWhole}
 use Rattle.crx_filter.specs.OwnStretches.{read_of_file}
@@ -29,7 +29,7 @@ use proofs.stretches.{OwnStretches.{file-good, file-settled, own-damage, text_of
 use proofs.stretches.StretchesCut.{AreGood, good-before, kept-clean, as_stretch}
 use proofs.wayback.{Carried.{units_in, units-like, units-placed}, Cut.{IsClean, return-kept}}
 use proofs.wayback.{Items.{marked_now, epoch-stands}, Standard.{NoReturn, same-reading}}
-use proofs.wayback.{Standard.{whole-copied, plain-no_return}}
+use proofs.wayback.{Standard.plain-no_return, Reading.whole-copied}
 
 -- ---- the epochs of a block
 
@@ -114,10 +114,10 @@ module _ (input : List ℕ) (choices : Choices) (damaged : List ℕ) (d : IsOwnD
   read-whole : IsReadWhole input choices
   read-whole =
       let lines = map as_read (lines_of input) in
-      record {
-        good = cc (same-reading choices.skip lines (d.standard).good, (d.standard).good);
-        no_returns = whole-copied NoReturn choices.skip lines (plain-no_return (pieces_of input) (d.standard).plain);
-      }
+      let good = ap WholeReading.fault (same-reading choices.skip lines (d.standard).good)
+      ∙ (d.standard).good in
+      let plain = plain-no_return (pieces_of input) (d.standard).plain in
+      record { good = good; no_returns = whole-copied NoReturn choices.skip lines good plain }
 
   parts : (read_of_file input choices).items ≡ d.after ++ block
   parts = cc (same-reading choices.skip (map as_read (lines_of input)) (d.standard).good, d.parts, epochs-items d.before epochs)

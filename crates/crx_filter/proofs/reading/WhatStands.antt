@@ -1,6 +1,6 @@
 -- What holds of each thing that can be at some lines holds of the one that is there.
 use Rattle.crx_filter.proofs.Words
-use Words.{common_steps, [], ℕ, zero, suc, ◌≡◌, nat_lt, rules, ◌<◌, Bool, true, false, cond, List, ◌∷◌}
+use Words.{common_steps, [], take, ℕ, zero, suc, ◌≡◌, nat_lt, rules, ◌<◌, Bool, true, false, cond, List, ◌∷◌}
 use Words.{Option, Some, None, Result, Ok, Err, refl, ap, arith, ⊤, is_some, character_at, ReadLine, Content}
 use Words.{Overlong, Fault, BadEpoch, LineTooLong, is_event_line, records_in, event_head, epoch_head, Count}
 use Words.{Beginning, EventBegins, EpochBegins, opened, begun_by, beginning_of, rest_at, unit_begun}
@@ -109,3 +109,25 @@ module _ (P : Place (FileUnit ReadEpoch) → Type 0) (wanted : P NeedsMore)
           → P (one_line (event_line line))
       by_count on None e = rw (e, event_line) (wrong 0 BadEpoch)
       by_count on (Some count) e = rw (e, event_line) (event line lines refl on (ap is_some e))
+
+-- ---- what stands at a place
+
+-- a line that is copied is the first of some lines, where it may be; and an epoch is read of them, between
+-- units
+abbrev pub StandsAt : {E : Type 0} → (List ReadLine → E → ℕ → Type 0) → List (Item E) → List ReadLine
+    → FileUnit E → ℕ → Type 0
+StandsAt IsRead items lines (HeaderLine line) count = (take count lines ≡ Content line ∷ [])
+    × (header_has_ended items ≡ false) × (header_line_fault (is_at_start items) line ≡ None)
+StandsAt IsRead items lines (EventLine line) count = (take count lines ≡ Content line ∷ [])
+    × (header_has_ended items ≡ true) × (records_left items ≡ 0) × (is_event_line line ≡ true)
+    × (is_some (records_in line) ≡ true)
+StandsAt IsRead items lines (EventRecord line) count = (take count lines ≡ Content line ∷ [])
+    × (header_has_ended items ≡ true) × (0 < records_left items)
+    × (cond (records_count_types items) (types_fault line) None ≡ None)
+StandsAt IsRead items lines (Observation epoch) count =
+    (header_has_ended items ≡ true) × (records_left items ≡ 0) × IsRead lines epoch count
+
+abbrev pub Stands : {E : Type 0} → (List ReadLine → E → ℕ → Type 0) → List (Item E) → List ReadLine
+    → Place (FileUnit E) → Type 0
+Stands IsRead items lines (Done unit count) = StandsAt IsRead items lines unit count
+Stands IsRead items lines p = ⊤

@@ -2,7 +2,8 @@
 use Rattle.crx_filter.proofs.Words.{common_steps, arith, ℕ, ◌≡◌, ◌+◌, Bool, true, List, [], length, ◌∷◌}
 use Rattle.crx_filter.proofs.Words.{ReadLine, Fault, Place, FileUnit, Item, header_has_ended, records_left}
 use Rattle.crx_filter.proofs.Words.{is_skipped, reading_from, is_skippable, compact_place, compact_reading}
-use Rattle.crx_filter.proofs.Words.{ItemsAreRead, At, Warned, WholeReading, Stop}
+use Rattle.crx_filter.proofs.Words.{ItemsAreRead, At, Warned, WholeReading, Stop, whole_reading}
+use Rattle.crx_filter.proofs.Words.{whole_compact}
 use Rattle.crx_filter.proofs.{Words.{ended_reading, by_bool}, reading.KeptThroughout.within-kept}
 
 pub allowed : {E : Type 0} (skip : Bool) (items : List (Item E)) (fault : Fault) → is_skipped skip items fault
@@ -25,3 +26,15 @@ items-read place skip number lines = (within-kept place skip (λ items ls. Items
 pub compact-items-read : (skip : Bool) (lines : List ReadLine)
     → ItemsAreRead compact_place (compact_reading skip lines).items
 compact-items-read skip lines = grind (arith, common_steps, items-read)
+
+-- and so it is of whole readings
+pub whole-read : {E : Type 0} (place : List (Item E) → List ReadLine → Place (FileUnit E)) (skip : Bool)
+    (number : ℕ) (lines : List ReadLine) → ItemsAreRead place (whole_reading place skip number lines).items
+whole-read place skip number lines =
+    let r = reading_from place skip [] number lines in
+    let read = items-read place skip number lines in
+    of-ended (ItemsAreRead place) skip r.items r.stop read (λ at on. (allowed skip r.items at.fault on, read))
+
+pub compact-whole_read : (skip : Bool) (lines : List ReadLine)
+    → ItemsAreRead compact_place (whole_compact skip lines).items
+compact-whole_read skip lines = grind (arith, common_steps, whole-read)

@@ -1,19 +1,20 @@
 -- A file comes back only where it is standard: the lines that are written are plain, and printed as they are.
 use Rattle.std.proofs.Common.{rules}
 use Rattle.crx_filter.proofs
-use proofs.Words.{ℕ, ℤ, zero, suc, ◌≡◌, ◌+◌, ◌-◌, ◌<◌, ◌≤◌, true, List, [], ◌∷◌, ◌++◌, map, length}
-use proofs.Words.{take, drop, replicate, Option, Some, None, refl, ap, arith, All, AllByRecursion}
+use proofs.Words.{ℕ, ℤ, zero, suc, ◌≡◌, ◌+◌, ◌-◌, ◌<◌, ◌≤◌, true, List, [], ◌∷◌, ◌++◌, map}
+use proofs.Words.{drop, replicate, Option, Some, None, refl, ap, arith, All, AllByRecursion}
 use proofs.Words.{list_all, All-head, All-tail, and_from, clock_text, IsSoundRow, IsWholeEpoch}
 use proofs.Words.{Count, OBSERVATION_WIDTH, CLOCK_WIDTH, InputLine, lines_of}
 use proofs.Words.{is_printable, is_kept, Row, Epoch, printed_row, printed_epoch, printed_cells, lines_text}
 use Rattle.crx_base.specs.declared.limits.TheConstants.{OBSERVATION_DECIMALS, CLOCK_DECIMALS}
 use Rattle.crx_compact.proofs.wayback.{Facts.{head-kept, sound-name_kept}, Standing.trimmed-printable}
 use Rattle.crx_text.proofs.{ReadBack.decimal_is_digits, Spellings.abs_within}
-use Rattle.crx_text.specs.meaning.Numbers.{IsMissingOrWithin, number_text, size_text, observation_text}
+use Rattle.crx_text.specs.meaning.Numbers.{IsMissingOrWithin, number_text, size_text}
 use Rattle.{crx_text.specs.meaning.Numbers.IsValue, std.proofs.Common.{pos, negsuc, ◌^◌, decimal}}
 use Rattle.std.{proofs.Math.Nat.pow-le-pow_right, specs.{Char.is_ascii_digit, Str.all_ascii_digits}}
 use proofs.{reading.Each.{contents}, wayback.Cut.{IsClean, return-kept, first-cut}}
-use proofs.wayback.First.{all-drop, all-weaker, append-printable, take-printable}
+use proofs.wayback.First.{all-drop, all-weaker}
+use Rattle.crx_compact.proofs.Characters.{list_all-append, all-take}
 
 abbrev pub plain : List ℕ → InputLine
 plain line = record { content = line; is_plain = true }
@@ -41,51 +42,53 @@ small-size width size h k = search (rules, pow-le-pow_right)
 
 size-printable : (decimals size : ℕ) → size < 2 ^ 64 → list_all is_printable (size_text decimals size) ≡ true
 size-printable decimals size h =
-    grind (arith, append-printable, decimal, digits-text, decimal_is_digits, replicate-text)
+    grind (arith, list_all-append, decimal, digits-text, decimal_is_digits, replicate-text)
 
 number-printable : (width decimals : ℕ) (value : Option ℤ) → width ≤ 19
     → IsMissingOrWithin width value → list_all is_printable (number_text width decimals value) ≡ true
 unfolding number_text
 number-printable width decimals None h within = replicate-text width 32 refl
-number-printable width decimals (Some (pos n)) h within = append-printable (replicate (width - length
-    (size_text decimals n)) 32) (size_text decimals n) (replicate-text (width - length (size_text decimals n))
-    32 refl) (size-printable decimals n (small-size width n h (abs_within width (pos n) within)))
+number-printable width decimals (Some (pos n)) h within =
+    let small = small-size width n h (abs_within width (pos n) within) in
+    search (rules, list_all-append, replicate-text, size-printable)
 number-printable width decimals (Some (negsuc n)) h within =
     let size : n + 1 < 10 ^ (width - 1) = omega (arith, abs_within width _ within) in
-    append-printable (replicate (width - length (45 ∷ size_text decimals (n + 1))) 32)
-    (45 ∷ size_text decimals (n + 1)) (replicate-text (width - length (45 ∷ size_text decimals (n + 1))) 32
-    refl) (size-printable decimals (n + 1) (small-size width (n + 1) h size))
+    let small = small-size width (n + 1) h size in
+    search (rules, list_all-append, replicate-text, size-printable)
 
 cells-printable : (values : List (Option ℤ)) (flags : List ℕ) → All IsValue values
     → list_all is_printable flags ≡ true → list_all is_printable (printed_cells values flags) ≡ true
 cells-printable [] flags h k = refl
 cells-printable (value ∷ values) flags h k =
-    append-printable (observation_text value ++ take 2 flags) (printed_cells values (drop 2 flags))
-    (append-printable (observation_text value) (take 2 flags) (number-printable OBSERVATION_WIDTH
-    OBSERVATION_DECIMALS value (omega arith) (All-head IsValue value values h)) (take-printable 2 flags k))
-    (cells-printable values (drop 2 flags) (All-tail IsValue value values h)
-    (all-drop is_printable 2 flags k))
+    let first = number-printable OBSERVATION_WIDTH OBSERVATION_DECIMALS value (omega arith)
+    (All-head IsValue value values h) in
+    let others = cells-printable values (drop 2 flags) (All-tail IsValue value values h)
+    (all-drop is_printable 2 flags k) in
+    search (rules, list_all-append, all-take)
 
 rows-printable : (rows : List Row) → All IsSoundRow rows
     → AllByRecursion (λ (line : List ℕ). list_all is_printable line ≡ true) (map printed_row rows)
 rows-printable [] k = tt
-rows-printable (row ∷ rows) k = (
-  trimmed-printable (row.name ++ printed_cells row.values row.flags) (append-printable row.name (printed_cells
-      row.values row.flags) (kept-text row.name (sound-name_kept row (All-head IsSoundRow row rows k)))
-      (cells-printable row.values row.flags (IsSoundRow.ranged (All-head IsSoundRow row rows k))
-      (kept-text row.flags (IsSoundRow.kept (All-head IsSoundRow row rows k))))),
-  rows-printable rows (All-tail IsSoundRow row rows k),
-)
+rows-printable (row ∷ rows) k =
+    let sound = All-head IsSoundRow row rows k in
+    let cells = cells-printable row.values row.flags sound.ranged (kept-text row.flags sound.kept) in
+    let name = kept-text row.name (sound-name_kept row sound) in (
+      trimmed-printable (row.name ++ printed_cells row.values row.flags)
+          (list_all-append is_printable row.name (printed_cells row.values row.flags) name cells),
+      rows-printable rows (All-tail IsSoundRow row rows k),
+    )
 
 -- the lines of a whole epoch are printable
 pub epoch-printable : (types : List Count) (epoch : Epoch) → IsWholeEpoch types epoch
     → AllByRecursion (λ (line : List ℕ). list_all is_printable line ≡ true) (printed_epoch epoch)
-epoch-printable types epoch h = (
-  trimmed-printable (epoch.head ++ clock_text epoch.clock)
-      (append-printable epoch.head (clock_text epoch.clock) (kept-text epoch.head (head-kept types epoch h))
-      (number-printable CLOCK_WIDTH CLOCK_DECIMALS epoch.clock (omega arith) h.sound.head_sound.ranged)),
-  rows-printable _ h.sound.rows_sound,
-)
+epoch-printable types epoch h =
+    let clock = number-printable CLOCK_WIDTH CLOCK_DECIMALS epoch.clock
+    (omega arith) h.sound.head_sound.ranged in
+    let head = kept-text epoch.head (head-kept types epoch h) in (
+      trimmed-printable (epoch.head ++ clock_text epoch.clock)
+          (list_all-append is_printable epoch.head (clock_text epoch.clock) head clock),
+      rows-printable _ h.sound.rows_sound,
+    )
 
 pub all-plain : (lines : List (List ℕ)) → list_all (λ (line : InputLine). line.is_plain)
     (map plain lines) ≡ true

@@ -1,25 +1,26 @@
 -- What an expansion writes is standard: what was read of compact text is in place, as units of RINEX, and
 -- what is copied is a line.
 use Rattle.crx_filter.proofs
-use proofs.Words.{common_steps, [], ℕ, ◌≡◌, ◌+◌, Bool, true, List, ◌∷◌, ◌++◌, length, drop, None}
-use proofs.Words.{refl, ap, ◌∙◌, arith, ⊤, AllByRecursion, and_parts, not-true, HasNoFeed}
-use proofs.Words.{lines_text, ReadLine, Count, IsWholeEpoch, Epoch}
+use proofs.Words.{common_steps, [], ℕ, ◌≡◌, ◌+◌, Bool, true, List, ◌∷◌, ◌++◌, drop, None}
+use proofs.Words.{refl, ap, ◌∙◌, arith, AllByRecursion, and_parts, not-true, HasNoFeed}
+use proofs.Words.{lines_text, ReadLine, Epoch}
 use proofs.Words.{FileUnit, Observation, printed_unit, ReadEpoch, Choices}
-use proofs.Words.{compact_place, raws_kept, first_lines, whole_compact, expanded_unit, Item}
+use proofs.Words.{compact_place, first_lines, whole_compact, expanded_unit, Item}
 use proofs.Words.{Accepted, Warned, is_at_start, header_has_ended, records_left, records_count_types}
-use proofs.Words.{declaring_lines, types_in_force, WholeReading, reading_from, ended_reading, printed_items}
+use proofs.Words.{declaring_lines, WholeReading, reading_from, printed_items}
 use proofs.Words.{OfCopiedLine, OfCopiedLines, HaveNoReturns, written_lines, ItemsAreRead}
-use proofs.{Words.{IsInPlace, AreInPlace, compact_reading}, reading.Each.{all-parts, all-drop}}
-use proofs.reading.{ForwardCompact.{compact-forward, compact_beginning}}
-use proofs.reading.{Resuming.by_place, Stopping.reading-stopped, WhatStands.{OfHere, of-unit, of-compact}}
-use proofs.{reading.WhatWasRead.{items-read, allowed, of-ended}, wayback.Converse.epoch-printable}
+use proofs.{Words.{AreInPlace, compact_reading}, reading.Each.{all-parts, all-drop}}
+use proofs.reading.{ForwardCompact.compact-forward, Resuming.by_place}
+use proofs.accounts.OfText.{owns-unit, text-accounted}
+use proofs.{reading.WhatWasRead.compact-whole_read, wayback.Converse.epoch-printable}
 use proofs.wayback.{Converse.{lines-plain, all-plain}, Cut.{CanStand, OfContent, input-stands}}
-use proofs.wayback.{Cut.first-cut, ExpandedWhole.{AreGoodEpochs, epochs-good}, NormalForm.{printed-clean, settled-standard}}
-use proofs.{reading.Each.all-from, wayback.First.printable-no_feed}
-use proofs.wayback.Reading.{IsFirst, all-copied, copied, of-copied}
-use proofs.wayback.{Standard.{NoReturn, not-ended}, WayBack.{IsSettled, closes, written-all}}
+use proofs.wayback.{Cut.first-cut, ExpandedWhole.{AreGoodEpochs, compact-stands, epochs-good}}
+use proofs.wayback.NormalForm.{printed-clean, settled-standard}
+use proofs.{reading.Each.all-from, wayback.First.{printable-no_feed, two-back, two-whole}}
+use proofs.wayback.Reading.{all-copied, copied, of-copied, of-own}
+use proofs.wayback.{Standard.NoReturn, WayBack.{IsSettled, whole-closes, written-all}}
 use Rattle.crx_filter.specs.meaning.{Expanded.rinex_unit, WrittenStandard.{has_plain_lines, rinex_items}}
-use Rattle.crx_filter.specs.meaning.WrittenStandard.{WhatIsExpandedIsStandard}
+use Rattle.crx_filter.specs.meaning.{Accounts.AreCleanLines, WrittenStandard.WhatIsExpandedIsStandard}
 
 -- ---- the units of compact text, as units of RINEX, have the same header, events and types in force
 
@@ -40,51 +41,16 @@ count-read items = (read-as items).counts
 
 -- ---- they are in place
 
-abbrev IsGoodUnit : List Count → FileUnit ReadEpoch → Type 0
-IsGoodUnit types (Observation read) = IsWholeEpoch types read.epoch
-IsGoodUnit types unit = ⊤
-
--- a unit is in place, if it is good
-abbrev Fits : List (Item ReadEpoch) → FileUnit ReadEpoch → Type 0
-Fits before unit = IsGoodUnit (types_in_force before) unit → IsInPlace (rinex_items before) (rinex_unit unit)
-
-place-fits : (before : List (Item ReadEpoch)) (lines : List ReadLine)
-    → OfHere (Fits before) (compact_place before lines)
-place-fits before lines =
-    let same = read-as before in
-    of-unit (OfHere (Fits before)) tt (λ offset fault. tt) compact_beginning before lines
-    (λ line rest is off right good. (same.header ∙ off, cc (same.start, right)))
-    (λ line rest is ended some right good. (
-      same.header ∙ ended,
-      omega (arith, some, same.left),
-      cc (same.counts, right),
-    ))
-    (λ ended none. of-compact (OfHere (Fits before)) tt (λ offset fault. tt) (types_in_force before)
-    (raws_kept before) lines
-    (λ line rest is event counted good. (same.header ∙ ended, same.left ∙ none, event, counted))
-    (λ read count e good. (same.header ∙ ended, same.left ∙ none, rw same.lines good)))
-
 items-placed : (items : List (Item ReadEpoch)) → ItemsAreRead compact_place items → AreGoodEpochs items
     → AreInPlace (rinex_items items)
 items-placed [] h good = tt
-items-placed (Accepted (Observation read) ∷ before) h good = grind (
-  arith,
-  items-placed before h.1 good.1,
-  place-fits,
-)
-items-placed (Accepted unit ∷ before) h good = grind (arith, items-placed before h.1 good, place-fits)
+items-placed (Accepted unit ∷ before) h good =
+    let stands = compact-stands before (h.0).0 unit (h.0).1 (h.0).2 in
+    let same = read-as before in
+    grind (arith, common_steps, items-placed before h.1)
 items-placed (Warned at ∷ before) h good = grind (arith, items-placed before h.1 good, read-as before)
 
 -- ---- what is copied is a line
-
-pub compact-first : (items : List (Item ReadEpoch)) (lines : List ReadLine) → OfHere (IsFirst lines)
-    (compact_place items lines)
-compact-first items lines =
-    let First = OfHere (IsFirst {E = ReadEpoch} lines) in
-    of-unit First tt (λ offset fault. tt) compact_beginning items lines
-    (λ line rest is open_header good. (rest, is)) (λ line rest is ended some good. (rest, is))
-    (λ ended none. of-compact First tt (λ offset fault. tt) (types_in_force items) (raws_kept items) lines
-    (λ line rest is event counted. (rest, is)) (λ read count e. tt))
 
 copied-read : (items : List (Item ReadEpoch)) → copied (rinex_items items) ≡ copied items
 copied-read [] = refl
@@ -95,7 +61,7 @@ items-copied : (P : List ℕ → Type 0) (skip : Bool) (number : ℕ) (lines : L
     → OfCopiedLines P (rinex_items (reading_from compact_place skip [] number lines).items)
 items-copied P skip number lines all =
     let items = (reading_from compact_place skip [] number lines).items in
-    of-copied P (rinex_items items) (rw copied-read (all-copied compact_place compact-forward compact-first
+    of-copied P (rinex_items items) (rw copied-read (all-copied AreCleanLines compact_place owns-unit
     skip number lines P all))
 
 pub compact-copied : (P : List ℕ → Type 0) (skip : Bool) (lines : List ReadLine)
@@ -106,37 +72,23 @@ compact-copied P skip lines all = by_place (first_lines lines) (λ two count e. 
 
 -- ---- the end
 
-from-settled : (skip : Bool) (number : ℕ) (lines : List ReadLine) → AllByRecursion (OfContent CanStand) lines
-    → WholeReading.fault (ended_reading skip (reading_from compact_place skip [] number lines)) ≡ None
-    → IsSettled (rinex_items (WholeReading.items (ended_reading skip
-    (reading_from compact_place skip [] number lines))))
-from-settled skip number lines h f =
-    let r = reading_from _ skip [] number lines in
-    let read = items-read _ skip number lines in
-    let placed = items-placed r.items read (epochs-good r.items read) in
-    let copied = items-copied CanStand skip number lines h in
-    let closed = closes compact_place skip r.items r.stop (number + length lines)
-    (reading-stopped compact_place compact-forward skip [] number (number + length lines) lines refl) f in
-    let whole = WholeReading.items (ended_reading skip r) in
-    record {
-      in_place = of-ended (λ items. AreInPlace (rinex_items items)) skip r.items r.stop placed (λ at on.
-          let facts = allowed skip r.items at.fault on in
-          (((read-as r.items).header ∙ facts.0, (read-as r.items).left ∙ facts.1, facts.2), placed));
-      copied = of-ended (λ items. OfCopiedLines CanStand (rinex_items items)) skip r.items r.stop copied
-          (λ at on. copied);
-      header = (read-as whole).header ∙ closed.0;
-      none = (read-as whole).left ∙ closed.1;
-    }
-
 pub read-settled : (skip : Bool) (lines : List ReadLine) → AllByRecursion (OfContent CanStand) lines
     → WholeReading.fault (whole_compact skip lines) ≡ None
     → IsSettled (rinex_items (WholeReading.items (whole_compact skip lines)))
 read-settled skip lines h f =
-    by_place (first_lines lines) (λ two count e. rw (e, whole_compact) (from-settled skip (count + 1)
-    (drop count lines) (all-drop (OfContent CanStand) count lines h) (rw (e, whole_compact) at f))) (λ offset
-    fault e. not-ended (record { line = offset + 1; fault = fault }) (rw (e, whole_compact) at f)) (λ e.
-    let never = rw (e, whole_compact) at f in
-    absurd (cc))
+    let items = (whole_compact skip lines).items in
+    let read = compact-whole_read skip lines in
+    let (first, second, rest, is, own) = text-accounted skip lines f in
+    let two = two-back skip lines f in
+    let whole = two-whole skip lines two in
+    let closed = whole-closes compact_place compact-forward skip 3 two.rest (rw whole at f) in
+    record {
+      in_place = items-placed items read (epochs-good items read);
+      copied = of-copied CanStand (rinex_items items)
+          (rw copied-read (of-own AreCleanLines CanStand items rest own (rw is at h).1.1));
+      header = (read-as items).header ∙ rw whole closed.0;
+      none = (read-as items).left ∙ rw whole closed.1;
+    }
 
 -- ---- what is written
 

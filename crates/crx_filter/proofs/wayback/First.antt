@@ -1,14 +1,22 @@
 -- The two lines that compact text begins with are read, and can be cut off again.
 use Rattle.crx_filter.proofs.Words.{common_steps, ℕ, zero, suc, ◌≡◌, ◌≢◌, true, false, List, [], ◌∷◌, ◌++◌}
-use Rattle.crx_filter.proofs.Words.{Bool, drop, take, replicate, length, refl, arith, length-append, Ok}
+use Rattle.crx_filter.proofs.Words.{Bool, drop, replicate, length, refl, arith, length-append, Ok}
 use Rattle.crx_filter.proofs.Words.{list_all}
 use Rattle.crx_filter.proofs.Words.{drop-append_seam, All-nil, ne_eqb, and_parts, HasNoFeed, ends_with_return}
 use Rattle.crx_filter.proofs.Words.{is_printable, CRINEX_PROGRAM_LABEL, is_date}
-use Rattle.crx_filter.proofs.Words.{version_line, program_line, crinex_program}
+use Rattle.crx_filter.proofs.Words.{version_line, program_line, crinex_version, crinex_program}
+use Rattle.crx_filter.proofs.Words.{ap, ◌∙◌, None, Done, by_bool, bytes_eq, columns, ◌&&◌, ReadLine, Content}
+use Rattle.crx_filter.proofs.Words.{Overlong}
+use Rattle.crx_filter.proofs.Words.{WholeReading, whole_compact, whole_reading, ended_reading, reading_from}
+use Rattle.crx_filter.proofs.Words.{compact_place, first_lines}
+use Rattle.crx_text.specs.meaning.Columns.{without_blanks}
+use Rattle.crx_header.specs.meaning.Label.{has_label}
+use Rattle.crx_header.specs.declared.crinex.TheConstants.{CRINEX_VERSION, CRINEX_VERSION_LABEL}
+use Rattle.crx_compact.proofs.Characters.{list_all-append, all-take}
 use Rattle.{crx_base.specs.declared.limits.TheConstants.DATE_LIMIT, crx_filter.proofs.wayback.Cut.IsClean}
 use Rattle.crx_header.specs.declared.crinex.TheConstants.{CRINEX_PROGRAM}
 use Rattle.{crx_header.specs.meaning.CompactHeader.left_justified, crx_lines.proofs.PieceLemmas.NoFeed}
-use Rattle.std.{proofs.lemmas.List.{length-take-le, Folds.list_all-append}, specs.Prelude.nat_le}
+use Rattle.std.{proofs.{Common.rules, lemmas.List.length-take-le}, specs.Prelude.nat_le}
 
 -- ---- the date's columns
 
@@ -34,16 +42,6 @@ printable-no_return (c ∷ []) h = ne_eqb c 13 (printable-other c 13 refl (and_p
 printable-no_return (c ∷ d ∷ ds) h =
     printable-no_return (d ∷ ds) (and_parts (is_printable c) (list_all is_printable (d ∷ ds)) h).1
 
-pub append-printable : (a b : List ℕ)
-    → list_all is_printable a ≡ true → list_all is_printable b ≡ true → list_all is_printable (a ++ b) ≡ true
-append-printable a b h k = rw (list_all-append is_printable a b, h) k
-
-pub take-printable : (n : ℕ) (a : List ℕ) → list_all is_printable a ≡ true
-    → list_all is_printable (take n a) ≡ true
-take-printable zero a h = refl
-take-printable (suc n) [] h = refl
-take-printable (suc n) (c ∷ cs) h = grind (arith, take-printable n cs (and_parts (is_printable c) _ h).1)
-
 pub all-drop : {X : Type 0} (p : X → Bool) (n : ℕ) (xs : List X) → list_all p xs ≡ true
     → list_all p (drop n xs) ≡ true
 all-drop p zero xs h = h
@@ -58,10 +56,9 @@ all-weaker p q f (x ∷ xs) h =
 
 pub program-printable : (date : List ℕ) → is_date date ≡ true
     → list_all is_printable (program_line date) ≡ true
-program-printable date h = append-printable CRINEX_PROGRAM
-    (left_justified 20 date ++ CRINEX_PROGRAM_LABEL) refl (append-printable (left_justified 20 date)
-    CRINEX_PROGRAM_LABEL (take-printable 20 (date ++ replicate 20 32) (append-printable date (replicate 20 32)
-    ((and_parts (nat_le (length date) DATE_LIMIT) (list_all is_printable date) h).1) refl)) refl)
+program-printable date h =
+    let plain = (and_parts (nat_le (length date) DATE_LIMIT) (list_all is_printable date) h).1 in
+    search (rules, list_all-append, all-take)
 
 pub program-clean : (date : List ℕ) → is_date date ≡ true → IsClean (program_line date)
 program-clean date h =
@@ -77,3 +74,40 @@ program-clean date h =
 pub version-clean : IsClean version_line
 version-clean = record
     { one_line = printable-no_feed version_line refl; no_return = refl; short = omega arith }
+
+-- ---- compact text that is read to a good end
+
+pub record FirstBack (lines : List ReadLine) : Type 0 where
+  pub version : List ℕ
+  pub program : List ℕ
+  pub rest : List ReadLine
+  pub is : lines ≡ Content version ∷ Content program ∷ rest
+  pub first : crinex_version version ≡ Ok version
+  pub second : crinex_program program ≡ Ok program
+
+abbrev is_version : List ℕ → Bool
+is_version line = bytes_eq (without_blanks (columns line 1 20)) CRINEX_VERSION && has_label
+    CRINEX_VERSION_LABEL line
+
+pub two-back : (skip : Bool) (lines : List ReadLine) → WholeReading.fault (whole_compact skip lines) ≡ None
+    → FirstBack lines
+two-back skip [] f = absurd (cc f)
+two-back skip (Overlong ∷ rest) f = absurd (cc f)
+two-back skip (Content version ∷ rest) f = by_bool (is_version version) (λ on. grind (arith, common_steps))
+    (λ off. let never = rw (off, whole_compact) at f in absurd (cc never))
+
+pub two-read : (version program : List ℕ) (rest : List ReadLine) → crinex_version version ≡ Ok version
+    → crinex_program program ≡ Ok program
+    → first_lines (Content version ∷ Content program ∷ rest) ≡ Done (version ∷ program ∷ []) 2
+two-read version program rest e f = rw (e, f) refl
+
+pub whole-read : (skip : Bool) (version program : List ℕ) (rest : List ReadLine)
+    → crinex_version version ≡ Ok version
+    → crinex_program program ≡ Ok program → whole_compact skip (Content version ∷ Content program ∷ rest)
+    ≡ ended_reading skip (reading_from compact_place skip [] 3 rest)
+whole-read skip version program rest e f = rw (two-read version program rest e f, whole_compact) refl
+
+pub two-whole : (skip : Bool) (lines : List ReadLine) → (two : FirstBack lines)
+    → whole_compact skip lines ≡ whole_reading compact_place skip 3 two.rest
+two-whole skip lines two =
+    ap (whole_compact skip) two.is ∙ whole-read skip two.version two.program two.rest two.first two.second

@@ -62,9 +62,13 @@ returns_line (Content line) = returns line
 abbrev pub returns_read : List ReadLine → ℕ
 returns_read = total returns_line
 
+pub read-append : (front rest : List ReadLine) → returns_read
+    (front ++ rest) ≡ returns_read front + returns_read rest
+read-append = total-append returns_line
+
 pub read-cut : (n : ℕ) (lines : List ReadLine)
     → returns_read lines ≡ returns_read (take n lines) + returns_read (drop n lines)
-read-cut n lines = cc (take-append-drop n lines, total-append returns_line (take n lines) (drop n lines))
+read-cut n lines = cc (take-append-drop n lines, read-append (take n lines) (drop n lines))
 
 -- the bytes of pieces
 abbrev returns_of : List Piece → ℕ

@@ -1,25 +1,28 @@
 -- A file comes back byte for byte only where no copied line ends in CR: else it comes back with fewer bytes
 -- 13. So it is standard.
 use Rattle.crx_filter.proofs
-use proofs.Words.{ℕ, ◌≡◌, ◌+◌, ◌<◌, ◌≤◌, Bool, true, List, [], ◌∷◌, map, drop, Option, refl}
-use proofs.Words.{arith, ◌⊎◌, inl, AllByRecursion, list_all, HasNoFeed}
-use proofs.Words.{lines_of, ReadLine, as_read, is_printable, Epoch, printed_epoch, lines_text}
-use proofs.Words.{Observation, ReadEpoch, compact_epoch, LinesCanStand, IsGood}
-use proofs.Words.{Choices, is_date, Item, Accepted, Warned, types_in_force, WholeReading, reading_from}
-use proofs.Words.{marked_epochs, compact_lines, version_line, program_line, compact_place}
+use proofs.Words.{ℕ, ◌≡◌, ◌+◌, ◌<◌, ◌≤◌, Bool, true, List, [], ◌∷◌, map, drop, refl}
+use proofs.Words.{arith, ◌⊎◌, inl, AllByRecursion, HasNoFeed}
+use proofs.Words.{lines_of, ReadLine, as_read, Epoch, printed_epoch, lines_text}
+use proofs.Words.{Observation, ReadEpoch, LinesCanStand, IsGood}
+use proofs.Words.{Choices, is_date, Item, Accepted, Warned, types_in_force, WholeReading}
+use proofs.Words.{compact_lines, version_line, program_line, compact_place}
 use proofs.Words.{first_lines, whole_compact, expanded_lines, AreInPlace}
-use proofs.Words.{HaveNoReturns, OfCopiedLine, FileUnit}
-use proofs.reading.{Each.{all-from}, Resuming.by_place, WhatWasRead.{items-read, of-ended}}
-use proofs.{anywriter.ComesBack.standard-where_kept, wayback.{Converse.epoch-printable, Items.{marked_now, body_unit, epoch-stands}}}
-use proofs.wayback.{Standard.same-reading, Reading.lines_back, ExpandedWhole.{AreGoodEpochs, epochs-good}}
-use proofs.wayback.{WayBack.{IsSettled, whole-settled, lines-same, written-all}, Cut.{IsClean, CanStand}, Carried.started}
+use proofs.Words.{HaveNoReturns, OfCopiedLine, FileUnit, HeaderLine, compact_unit, is_at_start, by_bool}
+use proofs.Words.{false}
+use proofs.reading.{Each.{all-from}, Resuming.by_place, WhatWasRead.compact-whole_read}
+use proofs.{anywriter.ComesBack.standard-where_kept, wayback.{Converse.epoch-printable, Items.epoch-stands}}
+use proofs.wayback.{Standard.same-reading, ExpandedWhole.{AreGoodEpochs, epochs-good}}
+use proofs.wayback.{WayBack.{IsSettled, whole-settled, written-all}, Cut.{IsClean, CanStand}}
 use proofs.wayback.Returns.{returns, returns-kept, returns-fewer, returns_in, total-append, in-text}
 use proofs.wayback.Returns.{in-printable, returns_read, returns_left, left-kept, read-written}
-use proofs.wayback.{Returns.{read-input, read-cut}, Reading.{copied, rinex-first, whole-counted}}
-use proofs.wayback.{ExpandedStandard.compact-first}
-use proofs.{Words.{rinex_place, whole_rinex}, reading.{Forward.rinex-forward, ForwardCompact.compact-forward}}
+use proofs.wayback.{Returns.{read-input, read-cut}, Reading.{copied, whole-counted}}
+use proofs.Words.{rinex_place, whole_rinex}
+use proofs.accounts.{OfFile.owns-unit as rinex-owns, OfText.owns-unit as compact-owns}
+use Rattle.crx_filter.specs.meaning.Accounts.{AreRinexLines, AreCleanLines}
 use proofs.wayback.First.{program-printable, program-clean, version-clean, printable-no_feed}
-use Rattle.crx_filter.specs.WayBack.{IsStandardWhereSame}
+use Rattle.{crx_filter.specs.WayBack.IsStandardWhereSame}
+use Rattle.{crx_header.specs.meaning.CompactHeader.lines_before_header}
 
 -- ---- what an expansion writes
 
@@ -34,14 +37,6 @@ written-returns (Accepted (Observation read) ∷ before) h =
 written-returns (Accepted unit ∷ before) h = grind (arith, written-returns before h, total-append)
 written-returns (Warned at ∷ before) h = written-returns before h
 
-pub whole-good : (skip : Bool) (lines : List ReadLine) → AreGoodEpochs
-    (WholeReading.items (whole_compact skip lines))
-whole-good skip lines = by_place (first_lines lines) (λ two count e.
-    let r = reading_from compact_place skip [] (count + 1) (drop count lines) in
-    let good = epochs-good r.items (items-read compact_place skip (count + 1) (drop count lines)) in
-    rw (e, whole_compact) (of-ended AreGoodEpochs skip r.items r.stop good (λ at on. good)))
-    (λ offset fault e. rw (e, whole_compact) tt) (λ e. rw (e, whole_compact) tt)
-
 -- ---- compact text
 
 -- no copied line ends in CR, or some are lost
@@ -54,59 +49,67 @@ keeps-or_loses (Accepted unit ∷ before) = grind
     (arith, returns-fewer, left-kept, returns-kept, keeps-or_loses before)
 keeps-or_loses (Warned at ∷ before) = keeps-or_loses before
 
--- the lines of compact text after its first two
-unit-no_feed : (every : Option ℕ) (before : List (Item Epoch)) (unit : FileUnit Epoch)
+-- the lines of compact text are lines
+unit-no_feed : (choices : Choices) → is_date choices.date ≡ true
+    → (before : List (Item Epoch)) (unit : FileUnit Epoch)
     → AreInPlace (Accepted unit ∷ before) → OfCopiedLine CanStand unit
-    → AllByRecursion HasNoFeed (body_unit every before unit)
-unit-no_feed every before (Observation epoch) h k =
-    all-from _ _ printable-no_feed (compact_epoch (marked_now every before epoch ∷ marked_epochs every before))
-    (LinesCanStand.printable (epoch-stands every before epoch h))
-unit-no_feed every before other h k = (k.0, tt)
+    → AllByRecursion HasNoFeed (compact_unit choices before unit)
+unit-no_feed choices dated before (HeaderLine line) h k = by_bool (is_at_start before)
+    (λ on. rw on (
+      IsClean.one_line version-clean,
+      (
+        IsClean.one_line (program-clean choices.date dated),
+        (k.0, tt),
+      ),
+    ))
+    (λ off. rw off (k.0, tt))
+unit-no_feed choices dated before (Observation epoch) h k = all-from _ _ printable-no_feed
+    (compact_unit choices before (Observation epoch)) (LinesCanStand.printable
+    (epoch-stands choices.every before epoch h))
+unit-no_feed choices dated before other h k = (k.0, tt)
 
-lines-left : (every : Option ℕ) (items : List (Item Epoch)) → AreInPlace items
-    → returns_left (lines_back every items) ≤ returns_left (copied items)
-lines-left every [] h = omega arith
-lines-left every (Accepted (Observation epoch) ∷ before) h =
-    let lines = compact_epoch (marked_now every before epoch ∷ marked_epochs every before) in
-    let none = in-printable lines (LinesCanStand.printable (epoch-stands every before epoch h)) in
-    grind (arith, lines-left every before h.1, total-append, left-kept lines, none)
-lines-left every (Accepted unit ∷ before) h = grind (arith, lines-left every before h.1, total-append)
-lines-left every (Warned at ∷ before) h = lines-left every before h.1
+-- and have no more of them at their ends than the lines that are copied
+first-none : (date : List ℕ) → is_date date ≡ true → (b : Bool)
+    → returns_left (lines_before_header date b) ≡ 0
+first-none date dated true = omega (
+  arith,
+  left-kept (version_line ∷ program_line date ∷ []),
+  in-printable (version_line ∷ program_line date ∷ []) (refl, (program-printable date dated, tt)),
+)
+first-none date dated false = refl
 
-first-none : (line : List ℕ) → list_all is_printable line ≡ true → returns_left (line ∷ []) ≡ 0
-first-none line h = omega (arith, left-kept (line ∷ []), in-printable (line ∷ []) (h, tt))
+lines-left : (choices : Choices) → is_date choices.date ≡ true → (items : List (Item Epoch))
+    → AreInPlace items
+    → returns_left (compact_lines choices items) ≤ returns_left (copied items)
+lines-left choices dated [] h = omega arith
+lines-left choices dated (Accepted (Observation epoch) ∷ before) h =
+    let lines = compact_unit choices before (Observation epoch) in
+    let none = in-printable lines (LinesCanStand.printable (epoch-stands choices.every before epoch h)) in
+    grind (arith, lines-left choices dated before h.1, total-append, left-kept lines, none)
+lines-left choices dated (Accepted unit ∷ before) h =
+    grind (arith, lines-left choices dated before h.1, total-append, first-none)
+lines-left choices dated (Warned at ∷ before) h = lines-left choices dated before h.1
 
 -- compact text is read with no more of them than are left
 compacted-returns : (choices : Choices) (items : List (Item Epoch)) → is_date choices.date ≡ true → IsSettled
     items → returns_read (map as_read (lines_of (lines_text (compact_lines choices items)))) ≤ returns_left
     (copied items)
 compacted-returns choices items dated h =
-    let lines = version_line ∷ program_line choices.date ∷ lines_back choices.every items in
-    rw (lines-same choices items h.in_place (started items h.header)) (omega (
-      arith,
-      first-none version_line refl,
-      first-none (program_line choices.date) (program-printable choices.date dated),
-      read-written lines (
-        IsClean.one_line version-clean,
-        (
-          IsClean.one_line (program-clean choices.date dated),
-          written-all HasNoFeed CanStand (body_unit choices.every) (unit-no_feed choices.every) items h.in_place h.copied,
-        ),
-      ),
-      lines-left choices.every items h.in_place,
-    ))
+    let one = written-all HasNoFeed CanStand (compact_unit choices)
+    (unit-no_feed choices dated) items h.in_place h.copied in
+    omega (arith, read-written (compact_lines choices items) one, lines-left choices dated items h.in_place)
 
 -- ---- a file that comes back
 
 rinex-within : (skip : Bool) (lines : List ReadLine)
     → returns_in (copied (WholeReading.items (whole_rinex skip lines))) ≤ returns_read lines
-rinex-within skip lines = whole-counted rinex_place rinex-forward rinex-first skip 1 lines
+rinex-within skip lines = whole-counted AreRinexLines rinex_place rinex-owns skip 1 lines
 
 compact-within : (skip : Bool) (lines : List ReadLine)
     → returns_in (copied (WholeReading.items (whole_compact skip lines))) ≤ returns_read lines
 compact-within skip lines = by_place (first_lines lines) (λ two count e. rw (e, whole_compact) (omega (
   arith,
-  whole-counted compact_place compact-forward compact-first skip (count + 1) (drop count lines),
+  whole-counted AreCleanLines compact_place compact-owns skip (count + 1) (drop count lines),
   read-cut count lines,
 ))) (λ offset fault e. rw (e, whole_compact) (omega arith)) (λ e. rw (e, whole_compact) (omega arith))
 
@@ -118,7 +121,8 @@ standard-where_same input compacting expanding dated good same = grind (
   keeps-or_loses,
   standard-where_kept,
   written-returns,
-  whole-good,
+  epochs-good,
+  compact-whole_read,
   in-text,
   compact-within,
   compacted-returns,

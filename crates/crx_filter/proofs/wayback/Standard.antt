@@ -6,9 +6,8 @@ use Words.{◌∷◌, map, length, drop, Option, Some, None, refl, ap, ◌∙◌
 use Words.{eqb_tells, and_parts, Piece, InputLine, pieces_of, ends_with_return, line_of, lines_of}
 use Words.{ReadLine, as_read, Fault, At, Place, FileUnit, Item, Accepted, WholeReading}
 use Words.{after_fault, reading_within, fault_at_end, ended_with, ended_reading, lines_text, rinex_place}
-use Words.{whole_rinex, rinex_reading, OfCopiedLines, not-true, by_bool}
-use Rattle.crx_filter.proofs.{reading.Resuming.by_place, reading.WhatWasRead.of-ended, wayback.Cut.OfContent}
-use Rattle.crx_filter.proofs.wayback.{Cut.return-kept, Reading.items-copied}
+use Words.{whole_rinex, not-true, by_bool}
+use Rattle.crx_filter.proofs.{reading.Resuming.by_place, wayback.Cut.{OfContent, return-kept}}
 use Rattle.crx_lines.proofs.PieceLemmas.{EachEnded}
 
 -- ---- where nothing is wrong, nothing is skipped
@@ -38,13 +37,6 @@ pub same-reading : (skip : Bool) (lines : List ReadLine)
 same-reading skip lines f = within-same rinex_place skip (length lines + 1) [] 1 lines f
 
 -- ---- no line ends in CR
-
-pub whole-copied : (P : List ℕ → Type 0) (skip : Bool) (lines : List ReadLine)
-    → AllByRecursion (OfContent P) lines → OfCopiedLines P (WholeReading.items (whole_rinex skip lines))
-whole-copied P skip lines h =
-    let r = rinex_reading skip lines in
-    let copied = items-copied P skip lines h in
-    of-ended (OfCopiedLines P) skip r.items r.stop copied (λ at on. copied)
 
 abbrev pub NoReturn : List ℕ → Type 0
 NoReturn line = ends_with_return line ≡ false

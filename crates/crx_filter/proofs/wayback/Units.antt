@@ -6,7 +6,8 @@ use Words.{WholeReading, whole_of, IsStandard, OfCopiedLines, HaveNoReturns}
 use Words.{written_well, warnings_in, AreInPlace}
 use Rattle.crx_filter.proofs.wayback.NormalForm.{printed-again, accepted-all, whole-none, settled-standard}
 pub use Rattle.crx_filter.proofs.wayback.Carried.{units_in}
-use Rattle.crx_filter.proofs.wayback.Standard.{whole-copied, plain-no_return, plain-text, NoReturn}
+use Rattle.crx_filter.proofs.wayback.Reading.{whole-copied}
+use Rattle.crx_filter.proofs.wayback.Standard.{plain-no_return, plain-text, NoReturn}
 use Rattle.crx_filter.proofs.wayback.{Canonical.compacted-by, WayBack.{IsSettled, whole-settled}}
 use Rattle.crx_filter.{proofs.wayback.Cut.CanStand, specs.meaning.UnitsAndText.{CanBeCopied, as_items}}
 use Rattle.crx_filter.specs.meaning.UnitsAndText.{AreInOrder, MakeAFile, rinex_text, compact_text}

@@ -7,17 +7,18 @@ use proofs.Words.{FileUnit, HeaderLine, Observation, compact_epoch, Choices}
 use proofs.Words.{Item, Accepted, Warned, is_at_start, header_has_ended, records_left, types_in_force}
 use proofs.Words.{WholeReading, Stop, AtFault, AtLines, Looking, is_skipped, fault_at_end}
 use proofs.Words.{ended_with, ended_reading, written_lines, rinex_place}
-use proofs.Words.{marked_epochs, whole_rinex, version_line, program_line, compact_lines, rinex_reading}
+use proofs.Words.{marked_epochs, whole_rinex, version_line, program_line, compact_lines}
+use proofs.Words.{whole_reading, reading_from, IsReadForward}
 use proofs.Words.{AreInPlace}
 use proofs.Words.{OfCopiedLine, OfCopiedLines, HaveNoReturns, Place, by_bool}
 use Rattle.crx_compact.proofs.wayback.Standing.{lines-short}
 use proofs.{following.Lines.IsStopped, reading.{Each.all-append, Forward.rinex-forward}}
 use proofs.reading.{InPlace.items-in_place, Stopping.reading-stopped}
-use proofs.{reading.WhatWasRead.{items-read, allowed, of-ended}, wayback.Carried.started}
+use proofs.{reading.WhatWasRead.{allowed, whole-read}, wayback.Carried.started}
 use proofs.wayback.Cut.{IsClean, CanStand, input-stands}
 use proofs.wayback.First.{printable-no_feed, printable-no_return}
 use proofs.wayback.Items.{marked_now, body_unit, whole-next, epoch-stands}
-use proofs.wayback.Reading.{lines_back, items-copied}
+use proofs.wayback.Reading.{lines_back, whole-copied}
 
 -- ---- the end of the compaction
 
@@ -35,11 +36,11 @@ pub end-body : (b c : Bool) (one two : Fault)
     → cond (not b) (Some one) (cond c (Some two) None) ≡ None → (b ≡ true) × (c ≡ false)
 end-body b c one two e = grind (arith, common_steps)
 
-abbrev IsClosed : {E : Type 0} → List (Item E) → Type 0
+abbrev pub IsClosed : {E : Type 0} → List (Item E) → Type 0
 IsClosed items = (header_has_ended items ≡ true) × (records_left items ≡ 0)
 
 -- where the end of the input is no fault, it comes after whole units
-pub closes : {E : Type 0} (place : List (Item E) → List ReadLine → Place (FileUnit E)) (skip : Bool)
+closes : {E : Type 0} (place : List (Item E) → List ReadLine → Place (FileUnit E)) (skip : Bool)
     (items : List (Item E)) (stop : Stop) (next : ℕ) → IsStopped place items stop next
     → WholeReading.fault (ended_reading skip (record { items = items; stop = stop })) ≡ None
     → IsClosed (WholeReading.items (ended_reading skip (record { items = items; stop = stop })))
@@ -56,20 +57,26 @@ closes place skip items (AtLines number rest) next s f = at_end (fault_at_end it
         let never = rw off at f in
         absurd (cc))
 
-pub whole-settled : (skip : Bool) (input : List ℕ) → WholeReading.fault (whole_rinex skip (map as_read
-    (lines_of input))) ≡ None → IsSettled (WholeReading.items (whole_rinex skip (map as_read (lines_of
-    input))))
+-- so it is for whole readings
+pub whole-closes : {E : Type 0} (place : List (Item E) → List ReadLine → Place (FileUnit E))
+    → IsReadForward place
+    → (skip : Bool) (number : ℕ) (lines : List ReadLine)
+    → (whole_reading place skip number lines).fault ≡ None
+    → IsClosed (whole_reading place skip number lines).items
+whole-closes place forward skip number lines f =
+    let r = reading_from place skip [] number lines in
+    closes place skip r.items r.stop (number + length lines)
+    (reading-stopped place forward skip [] number (number + length lines) lines refl) f
+
+pub whole-settled : (skip : Bool) (input : List ℕ)
+    → (whole_rinex skip (map as_read (lines_of input))).fault ≡ None
+    → IsSettled (whole_rinex skip (map as_read (lines_of input))).items
 whole-settled skip input f =
     let lines = map as_read (lines_of input) in
-    let r = rinex_reading skip lines in
-    let placed = items-in_place r.items (items-read rinex_place skip 1 lines) in
-    let copied = items-copied CanStand skip lines (input-stands input) in
-    let closed = closes rinex_place skip r.items r.stop (1 + length lines) (reading-stopped rinex_place
-    rinex-forward skip [] 1 (1 + length lines) lines refl) f in
+    let closed = whole-closes rinex_place rinex-forward skip 1 lines f in
     record {
-      in_place = of-ended AreInPlace skip r.items r.stop placed (λ at on.
-          (allowed skip r.items at.fault on, placed));
-      copied = of-ended (OfCopiedLines CanStand) skip r.items r.stop copied (λ at on. copied);
+      in_place = items-in_place _ (whole-read rinex_place skip 1 lines);
+      copied = whole-copied CanStand skip lines f (input-stands input);
       header = closed.0;
       none = closed.1;
     }

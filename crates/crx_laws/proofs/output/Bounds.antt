@@ -29,7 +29,7 @@ use Rattle.crx_filter.specs.ExpansionByLine.{phase_from_first_lines}
 use Rattle.crx_laws.specs.Bounds.{IsBoundedRow, IsBoundedEpoch, OfOpen, IsBoundedCompaction}
 use Rattle.crx_laws.specs.Bounds.{IsBoundedExpansion}
 use Rattle.crx_filter.proofs.Choosing.{by_bool}
-use Rattle.crx_filter.proofs.wayback.ExpandedWhole.{epoch-read}
+use Rattle.crx_filter.proofs.wayback.ExpandedWhole.{compact-stands}
 use Rattle.crx_filter.proofs.reading.Types.{counts-in_force}
 use Rattle.crx_filter.proofs.wayback.Items.{marked_now, whole-next}
 use Rattle.crx_filter.proofs.reading.WhatWasRead.{items-read, compact-items-read}
@@ -130,10 +130,10 @@ left-bounded (Accepted (EventRecord line) ∷ before) h =
 left-bounded (Accepted (Observation read) ∷ before) h =
     let types : List Count = types_in_force before in
     let raws : List RawEpoch = raws_kept before in
-    let stood = epoch-read before read (h.0).0 (h.0).1 (h.0).2 in
-    let lines : List ReadLine = stood.0 in
-    let count : ℕ = stood.1 in
-    let here : epoch_at types raws lines ≡ Done read count = stood.2 in
+    let lines : List ReadLine = (h.0).0 in
+    let count : ℕ = (h.0).1 in
+    let here : epoch_at types raws lines ≡ Done read count =
+    (compact-stands before lines (Observation read) count (h.0).2).2 in
     let after : epoch_after types (tail_left raws) lines ≡ Done read count =
     sym (place-by_tail types raws lines) ∙ here in
     let placed : place_by_steps types (tail_left raws) lines ≡ Done (held_after (tail_left raws) read) count =
