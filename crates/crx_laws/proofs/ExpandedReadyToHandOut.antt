@@ -9,7 +9,12 @@ use Rattle.crx_laws.specs.Bounds.{AreReadyToHandOut, OfUnits, longest_printed, E
 use Rattle.crx_filter.proofs.reading.WhatWasRead.{compact-items-read}
 use Rattle.crx_filter.proofs.wayback.ExpandedWhole.{AreGoodEpochs, epochs-good}
 use Rattle.crx_laws.proofs.output.ReadyToHandOut.{IsShort, contents-short, one-ready_to_hand_out}
-use Rattle.crx_filter.proofs.wayback.ExpandedStandard.{compact-copied}
+use Rattle.crx_filter.proofs.Words.{AllByRecursion, drop, reading_from, first_lines, compact_place, Bool}
+use Rattle.crx_filter.proofs.wayback.{Cut.OfContent, ExpandedStandard.copied-read}
+use Rattle.crx_filter.proofs.wayback.Reading.{of-copied, of-own}
+use Rattle.crx_filter.proofs.accounts.{Reached.first-accounted, OfText.owns-unit}
+use Rattle.crx_filter.proofs.reading.{Each.{all-parts, all-drop}, Resuming.by_place}
+use Rattle.crx_filter.specs.meaning.Accounts.{AreCleanLines}
 use Rattle.crx_filter.specs.meaning.WrittenStandard.{rinex_items}
 use Rattle.crx_filter.proofs.wayback.NormalForm.{epoch-within}
 
@@ -45,9 +50,22 @@ units-ready_to_hand_out (Accepted (Observation read) ∷ before) h k = (
 )
 units-ready_to_hand_out (Warned at ∷ before) h k = units-ready_to_hand_out before h k
 
+compact-copied : (skip : Bool) (lines : List ReadLine) → AllByRecursion (OfContent IsShort) lines
+    → OfCopiedLines IsShort (rinex_items (compact_reading skip lines).items)
+compact-copied skip lines all = by_place (first_lines lines) (λ two count e. rw (e, compact_reading) (
+    let left = drop count lines in
+    let items = (reading_from compact_place skip [] (count + 1) left).items in
+    let (rest, (front, is, own)) = first-accounted AreCleanLines compact_place owns-unit skip
+    (count + 1) left in
+    let short = (all-parts (OfContent IsShort) front rest (rw is at (all-drop
+    (OfContent IsShort) count lines all))).0 in
+    of-copied IsShort (rinex_items items) (rw copied-read
+    (of-own AreCleanLines IsShort items front own short))))
+    (λ offset fault e. rw (e, compact_reading) tt) (λ e. rw (e, compact_reading) tt)
+
 pub expanded-ready_to_hand_out : (choices : Choices) (lines : List ReadLine)
     → ExpandedIsReadyToHandOut choices lines
 expanded-ready_to_hand_out choices lines short =
     units-ready_to_hand_out (compact_reading choices.skip lines).items
-    (compact-copied IsShort choices.skip lines (contents-short lines short))
+    (compact-copied choices.skip lines (contents-short lines short))
     (epochs-good (compact_reading choices.skip lines).items (compact-items-read choices.skip lines))

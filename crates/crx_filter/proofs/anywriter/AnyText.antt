@@ -70,13 +70,11 @@ record UnitRead (items : List (Item ReadEpoch)) (unit : FileUnit Epoch) (lines :
   same : rinex_unit read ≡ unit
   left : IsLeft now (tail_left (raws_kept (Accepted read ∷ items)))
 
-event-here : (line : List ℕ) (o : Option ℕ)
-    → records_in line ≡ o → is_some o ≡ true → event_line {E = ReadEpoch} line ≡ Ok (EventLine line)
-event-here line v1 e h = grind (arith)
-
-event-begins : (types : List Count) (raws : List RawEpoch) (line : List ℕ) → is_event_line line ≡ true
-    → is_some (records_in line) ≡ true → compact_epoch_place types raws (Content line ∷ []) ≡ Done (EventLine line) 1
-event-begins types raws line e h = let here = event-here line (records_in line) refl h in rw (e, here) refl
+event-begins : (types : List Count) (raws : List RawEpoch) (line : List ℕ) (o : Option ℕ)
+    → records_in line ≡ o
+    → is_some o ≡ true → is_event_line line ≡ true
+    → compact_epoch_place types raws (Content line ∷ []) ≡ Done (EventLine line) 1
+event-begins types raws line v1 e h event = grind (arith)
 
 module _ (items : List (Item ReadEpoch)) (units : List (FileUnit Epoch)) (before : Option WrittenEpoch)
     (k : IsLike items units) (left : IsLeft before (tail_left (raws_kept items))) where
@@ -119,7 +117,7 @@ unit-read items units before now (HeaderLine line) lines known left h k = rw (k.
 unit-read items units before now (EventLine line) lines known left h k = rw (k.0, k.1) (record {
   read = EventLine line;
   place = body-place compact_beginning items (Content line ∷ []) (known.header ∙ h.0) (known.left ∙ h.1)
-      ∙ event-begins (types_in_force items) (raws_kept items) line h.2 h.3;
+      ∙ event-begins (types_in_force items) (raws_kept items) line _ refl h.3 h.2;
   same = refl;
   left = left;
 })

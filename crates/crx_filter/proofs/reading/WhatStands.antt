@@ -9,11 +9,6 @@ use Words.{FileUnit, HeaderLine, EventLine, EventRecord, Observation, ReadEpoch,
 use Words.{is_at_start, header_has_ended, records_left, records_count_types, unless_wrong, types_fault}
 use Words.{header_line_fault, unit_place, event_line, as_observation, compact_epoch_place, by_bool}
 
--- what holds of a thing that is somewhere
-abbrev pub OfHere : {X : Type 0} → (X → Type 0) → Place X → Type 0
-OfHere P (Done x count) = P x
-OfHere P p = ⊤
-
 -- one of two things is chosen, and what holds of both holds of it
 pub chosen : {A : Type 0} (P : A → Type 0) (b : Bool) (x y : A) → P x → P y → P (cond b x y)
 chosen P other x y h k = grind (arith, common_steps)

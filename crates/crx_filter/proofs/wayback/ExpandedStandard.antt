@@ -1,24 +1,24 @@
 -- What an expansion writes is standard: what was read of compact text is in place, as units of RINEX, and
 -- what is copied is a line.
 use Rattle.crx_filter.proofs
-use proofs.Words.{common_steps, [], ℕ, ◌≡◌, ◌+◌, Bool, true, List, ◌∷◌, ◌++◌, drop, None}
-use proofs.Words.{refl, ap, ◌∙◌, arith, AllByRecursion, and_parts, not-true, HasNoFeed}
+use proofs.Words.{common_steps, [], ℕ, ◌≡◌, Bool, true, List, ◌∷◌, ◌++◌, None}
+use proofs.Words.{refl, ap, ◌∙◌, arith, AllByRecursion, and_parts, not-true}
 use proofs.Words.{lines_text, ReadLine, Epoch}
-use proofs.Words.{FileUnit, Observation, printed_unit, ReadEpoch, Choices}
-use proofs.Words.{compact_place, first_lines, whole_compact, expanded_unit, Item}
+use proofs.Words.{Observation, printed_unit, ReadEpoch, Choices}
+use proofs.Words.{compact_place, whole_compact, expanded_unit, Item}
 use proofs.Words.{Accepted, Warned, is_at_start, header_has_ended, records_left, records_count_types}
-use proofs.Words.{declaring_lines, WholeReading, reading_from, printed_items}
-use proofs.Words.{OfCopiedLine, OfCopiedLines, HaveNoReturns, written_lines, ItemsAreRead}
-use proofs.{Words.{AreInPlace, compact_reading}, reading.Each.{all-parts, all-drop}}
-use proofs.reading.{ForwardCompact.compact-forward, Resuming.by_place}
-use proofs.accounts.OfText.{owns-unit, text-accounted}
-use proofs.{reading.WhatWasRead.compact-whole_read, wayback.Converse.epoch-printable}
+use proofs.Words.{declaring_lines, WholeReading, printed_items}
+use proofs.Words.{HaveNoReturns, written_lines, ItemsAreRead}
+use proofs.{Words.{AreInPlace}, reading.Each.{all-parts}}
+use proofs.reading.{ForwardCompact.compact-forward}
+use proofs.accounts.OfText.{text-accounted}
+use proofs.{reading.WhatWasRead.compact-whole_read}
 use proofs.wayback.{Converse.{lines-plain, all-plain}, Cut.{CanStand, OfContent, input-stands}}
 use proofs.wayback.{Cut.first-cut, ExpandedWhole.{AreGoodEpochs, compact-stands, epochs-good}}
-use proofs.wayback.NormalForm.{printed-clean, settled-standard}
-use proofs.{reading.Each.all-from, wayback.First.{printable-no_feed, two-back, two-whole}}
-use proofs.wayback.Reading.{all-copied, copied, of-copied, of-own}
-use proofs.wayback.{Standard.NoReturn, WayBack.{IsSettled, whole-closes, written-all}}
+use proofs.wayback.NormalForm.{printed-clean, printed-stand, settled-standard}
+use proofs.{wayback.First.{two-back, two-whole}}
+use proofs.wayback.Reading.{copied, of-copied, of-own}
+use proofs.wayback.{Standard.NoReturn, WayBack.{IsSettled, whole-closes}}
 use Rattle.crx_filter.specs.meaning.{Expanded.rinex_unit, WrittenStandard.{has_plain_lines, rinex_items}}
 use Rattle.crx_filter.specs.meaning.{Accounts.AreCleanLines, WrittenStandard.WhatIsExpandedIsStandard}
 
@@ -52,23 +52,9 @@ items-placed (Warned at ∷ before) h good = grind (arith, items-placed before h
 
 -- ---- what is copied is a line
 
-copied-read : (items : List (Item ReadEpoch)) → copied (rinex_items items) ≡ copied items
+pub copied-read : (items : List (Item ReadEpoch)) → copied (rinex_items items) ≡ copied items
 copied-read [] = refl
 copied-read (item ∷ items) = grind (arith, common_steps, copied-read items)
-
-items-copied : (P : List ℕ → Type 0) (skip : Bool) (number : ℕ) (lines : List ReadLine)
-    → AllByRecursion (OfContent P) lines
-    → OfCopiedLines P (rinex_items (reading_from compact_place skip [] number lines).items)
-items-copied P skip number lines all =
-    let items = (reading_from compact_place skip [] number lines).items in
-    of-copied P (rinex_items items) (rw copied-read (all-copied AreCleanLines compact_place owns-unit
-    skip number lines P all))
-
-pub compact-copied : (P : List ℕ → Type 0) (skip : Bool) (lines : List ReadLine)
-    → AllByRecursion (OfContent P) lines → OfCopiedLines P (rinex_items (compact_reading skip lines).items)
-compact-copied P skip lines all = by_place (first_lines lines) (λ two count e. rw (e, compact_reading)
-    (items-copied P skip (count + 1) (drop count lines) (all-drop (OfContent P) count lines all)))
-    (λ offset fault e. rw (e, compact_reading) tt) (λ e. rw (e, compact_reading) tt)
 
 -- ---- the end
 
@@ -98,29 +84,19 @@ printed-read [] = refl
 printed-read (Accepted unit ∷ before) = ap (λ ls. ls ++ printed_unit (rinex_unit unit)) (printed-read before)
 printed-read (Warned at ∷ before) = printed-read before
 
-printed-no_feed : (items : List (Item Epoch))
-    → AreInPlace items → OfCopiedLines CanStand items → AllByRecursion HasNoFeed (printed_items items)
-printed-no_feed = written-all HasNoFeed CanStand (λ before. printed_unit) unit-no_feed
-  where
-    unit-no_feed : (before : List (Item Epoch)) (unit : FileUnit Epoch) → AreInPlace (Accepted unit ∷ before)
-        → OfCopiedLine CanStand unit → AllByRecursion HasNoFeed (printed_unit unit)
-    unit-no_feed before (Observation epoch) h k = search (all-from _ _ printable-no_feed, epoch-printable)
-    unit-no_feed before other h k = (k.0, tt)
-
 -- lines of which each is plain once they are written and cut again have no CR at their ends
-cut-plain : (lines : List (List ℕ)) → AllByRecursion HasNoFeed lines
+cut-plain : (lines : List (List ℕ)) → AllByRecursion CanStand lines
     → has_plain_lines (lines_text lines) ≡ true → AllByRecursion NoReturn lines
 cut-plain [] h e = tt
 cut-plain (line ∷ lines) h e =
-    let both = and_parts _ _ (cc (first-cut line lines h.0, e)) in
+    let both = and_parts _ _ (cc (first-cut line lines h.0.0, e)) in
     (not-true _ both.0, cut-plain lines h.1 both.1)
 
 copied-plain : (items : List (Item Epoch))
     → AllByRecursion NoReturn (printed_items items) → HaveNoReturns items
 copied-plain [] h = tt
 copied-plain (Accepted (Observation epoch) ∷ before) h = (tt, copied-plain before (all-parts _ _ _ h).0)
-copied-plain (Accepted unit ∷ before) h =
-    let both = all-parts _ _ _ h in
+copied-plain (Accepted unit ∷ before) h = let both = all-parts _ _ _ h in
     ((both.1).0, copied-plain before both.0)
 copied-plain (Warned at ∷ before) h = copied-plain before h
 
@@ -136,7 +112,7 @@ expanded-standard text choices good = grind (
   printed-read,
   copied-plain,
   cut-plain,
-  printed-no_feed,
+  printed-stand,
   settled-standard,
   plain-copied,
 )

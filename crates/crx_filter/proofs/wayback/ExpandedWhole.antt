@@ -36,11 +36,8 @@ AreGoodEpochs (Accepted unit ∷ before) = AreGoodEpochs before
 pub marks-printable : (items : List (Item ReadEpoch))
     → AreGoodEpochs items → AllByRecursion HasPrintableMarks (raws_kept items)
 marks-printable [] h = tt
-marks-printable (Accepted (HeaderLine line) ∷ before) h = tt
-marks-printable (Accepted (EventLine line) ∷ before) h = marks-printable before h
-marks-printable (Accepted (EventRecord line) ∷ before) h =
-    grind (arith, common_steps, marks-printable before h, chosen)
 marks-printable (Accepted (Observation read) ∷ before) h = ((h.0).marks, marks-printable before h.1)
+marks-printable (Accepted unit ∷ before) h = grind (arith, common_steps, marks-printable before h, chosen)
 marks-printable (Warned at ∷ before) h = tt
 
 pub epochs-good : (items : List (Item ReadEpoch)) → ItemsAreRead compact_place items → AreGoodEpochs items

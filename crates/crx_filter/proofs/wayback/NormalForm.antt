@@ -13,7 +13,7 @@ use Rattle.{crx_rinex.proofs.ReadingBack.{length-row, length-head}, crx_text.pro
 use proofs.{following.Following.body-place, reading.{Forward.rinex-forward}}
 use proofs.reading.{Forward.rinex_beginning, KeptThroughout.within-kept, WhatWasRead.of-ended}
 use proofs.wayback.Carried.{units_in, units-like, units-placed, header-here, record-here, AllRead, unit-more}
-use proofs.reading.{Ending.closes-well}
+use proofs.reading.{Each.all-from, Ending.closes-well}
 use proofs.Words.{Bool, IsInPlace, ended_reading, common_steps}
 use Rattle.crx_filter.specs.meaning.UnitsAndText.{as_items}
 use proofs.wayback.Converse.{lines-plain, epoch-printable, all-plain, contents-plain}
@@ -103,18 +103,28 @@ epoch-within n most types epoch h =
       rows-within n most _ h.sound.rows_sound,
     )
 
-printed-unit : (before : List (Item Epoch)) (unit : FileUnit Epoch) → AreInPlace (Accepted unit ∷ before)
-    → OfCopiedLine IsClean unit → AllByRecursion IsClean (printed_unit unit)
-printed-unit before (Observation epoch) h k =
-    let whole = (h.0).2 in
-    epoch-clean (printed_epoch epoch) (epoch-printable (types_in_force before) epoch whole)
-    (epoch-within (18 * TYPES_LIMIT) (omega arith) (types_in_force before) epoch whole)
-printed-unit before other h k = (k, tt)
+-- what holds of clean lines, and of each line that is copied, holds of all
+printed-lines : (P : List ℕ → Type 0) → ((line : List ℕ) → IsClean line → P line)
+    → (items : List (Item Epoch))
+    → AreInPlace items → OfCopiedLines P items → AllByRecursion P (printed_items items)
+printed-lines P f = written-all P P (λ before. printed_unit) printed-unit
+  where
+    printed-unit : (before : List (Item Epoch)) (unit : FileUnit Epoch) → AreInPlace (Accepted unit ∷ before)
+        → OfCopiedLine P unit → AllByRecursion P (printed_unit unit)
+    printed-unit before (Observation epoch) h k =
+        let types = types_in_force before in
+        let whole = (h.0).2 in
+        all-from IsClean P f (printed_epoch epoch) (epoch-clean (printed_epoch epoch)
+        (epoch-printable types epoch whole) (epoch-within (18 * TYPES_LIMIT) (omega arith) types epoch whole))
+    printed-unit before other h k = (k, tt)
 
 pub printed-clean : (items : List (Item Epoch)) → AreInPlace items
     → OfCopiedLines CanStand items → HaveNoReturns items → AllByRecursion IsClean (printed_items items)
-printed-clean items h k e =
-    written-all IsClean IsClean (λ before. printed_unit) printed-unit items h (copied-clean items k e)
+printed-clean items h k e = printed-lines IsClean (λ line c. c) items h (copied-clean items k e)
+
+pub printed-stand : (items : List (Item Epoch)) → AreInPlace items
+    → OfCopiedLines CanStand items → AllByRecursion CanStand (printed_items items)
+printed-stand = printed-lines CanStand (λ line c. (c.one_line, c.short))
 
 -- what was accepted, printed and read again
 pub printed-again : (items : List (Item Epoch)) → IsSettled items → HaveNoReturns items → whole_of (lines_text

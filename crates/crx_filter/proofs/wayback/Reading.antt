@@ -2,16 +2,15 @@
 -- that are copied.
 use Rattle.crx_filter.proofs.Words
 use Words.{[], ◌∷◌, ℕ, ◌≡◌, ◌≤◌, Bool, List, Option, AllByRecursion, ReadLine}
-use Words.{Epoch, Item, FileUnit, HeaderLine}
-use Words.{EventLine, EventRecord, Observation, Accepted, Warned, Place, Done, WholeReading}
-use Words.{whole_reading, ap, ◌∙◌, arith, common_steps, take}
-use Words.{None, reading_from, whole_rinex, written_lines, rinex_place}
-use Rattle.crx_filter.proofs.{Words.OfCopiedLines, reading.{Each.all-parts, WhatWasRead.of-ended}}
-use Rattle.crx_filter.proofs.accounts.Reached.{first-accounted}
-use Rattle.crx_filter.proofs.accounts.OfFile.{file-accounted, owns-unit as rinex-owns}
+use Words.{Epoch, Item, HeaderLine}
+use Words.{EventLine, EventRecord, Observation, Accepted, Warned}
+use Words.{arith, common_steps}
+use Words.{None, whole_rinex, written_lines}
+use Rattle.crx_filter.proofs.{Words.OfCopiedLines, reading.{Each.all-parts}}
+use Rattle.crx_filter.proofs.accounts.OfFile.{file-accounted}
 use Rattle.crx_filter.proofs.wayback.{Cut.OfContent, Items.body_unit}
 use Rattle.crx_filter.proofs.wayback.{Returns.{returns_in, returns_read, read-append}}
-use Rattle.crx_filter.specs.meaning.Accounts.{OwnLines, AreLinesOfItems, AreRinexLines}
+use Rattle.crx_filter.specs.meaning.Accounts.{AreLinesOfItems, AreRinexLines}
 
 -- ---- the lines written for the units, read again
 
@@ -40,8 +39,8 @@ of-own OfEpoch P (item ∷ before) lines (front, own, is, mine, others) all =
     grind (arith, common_steps)
 
 -- and the lines that are copied have no more bytes 13
-own-counted : {E : Type 0} (OfEpoch : E → List ReadLine
-    → Type 0) (items : List (Item E)) (lines : List ReadLine)
+pub own-counted : {E : Type 0} (OfEpoch : E → List ReadLine → Type 0) (items : List (Item E))
+    (lines : List ReadLine)
     → AreLinesOfItems OfEpoch items lines → returns_in (copied items) ≤ returns_read lines
 own-counted OfEpoch [] lines h = omega arith
 own-counted OfEpoch (item ∷ before) lines (front, own, is, mine, others) =
@@ -49,39 +48,12 @@ own-counted OfEpoch (item ∷ before) lines (front, own, is, mine, others) =
     let both = read-append front own in
     grind (arith, common_steps)
 
-module _ {E : Type 0} (OfEpoch : E → List ReadLine → Type 0)
-    (place : List (Item E) → List ReadLine → Place (FileUnit E))
-    (owned : (items : List (Item E)) (lines : List ReadLine) (unit : FileUnit E) (count : ℕ)
-    → place items lines ≡ Done unit count → OwnLines OfEpoch (Accepted unit) (take count lines))
-    (skip : Bool) (number : ℕ) (lines : List ReadLine) where
-  pub all-copied : (P : List ℕ → Type 0) → AllByRecursion (OfContent P) lines
-      → AllByRecursion P (copied (reading_from place skip [] number lines).items)
-  all-copied P all =
-      let (rest, (front, is, own)) = first-accounted OfEpoch place owned skip number lines in
-      of-own OfEpoch P _ front own (all-parts (OfContent P) front rest (rw is at all)).0
-
-  pub whole-counted : returns_in (copied (WholeReading.items (whole_reading place skip number lines))) ≤
-      returns_read lines
-  whole-counted =
-      let (rest, (front, is, own)) = first-accounted OfEpoch place owned skip number lines in
-      let r = reading_from place skip [] number lines in
-      let few = own-counted OfEpoch r.items front own in
-      let both = ap returns_read is ∙ read-append front rest in
-      let all : returns_in (copied r.items) ≤ returns_read lines = omega arith in
-      of-ended (λ items. returns_in (copied items) ≤ returns_read lines) skip r.items r.stop all
-      (λ at on. all)
-
 -- ---- of RINEX
 
 pub of-copied : (P : List ℕ → Type 0) (items : List (Item Epoch)) → AllByRecursion P (copied items)
     → OfCopiedLines P items
 of-copied P [] h = tt
 of-copied P (item ∷ items) h = grind (arith, common_steps, of-copied P items)
-
-pub items-copied : (P : List ℕ → Type 0) (skip : Bool) (lines : List ReadLine)
-    → AllByRecursion (OfContent P) lines → OfCopiedLines P (reading_from rinex_place skip [] 1 lines).items
-items-copied P skip lines all = of-copied P (reading_from rinex_place skip [] 1 lines).items
-    (all-copied AreRinexLines rinex_place rinex-owns skip 1 lines P all)
 
 pub whole-copied : (P : List ℕ → Type 0) (skip : Bool) (lines : List ReadLine)
     → (whole_rinex skip lines).fault ≡ None

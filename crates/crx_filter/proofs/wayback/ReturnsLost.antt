@@ -8,19 +8,17 @@ use proofs.Words.{Observation, ReadEpoch, LinesCanStand, IsGood}
 use proofs.Words.{Choices, is_date, Item, Accepted, Warned, types_in_force, WholeReading}
 use proofs.Words.{compact_lines, version_line, program_line, compact_place}
 use proofs.Words.{first_lines, whole_compact, expanded_lines, AreInPlace}
-use proofs.Words.{HaveNoReturns, OfCopiedLine, FileUnit, HeaderLine, compact_unit, is_at_start, by_bool}
-use proofs.Words.{false}
-use proofs.reading.{Each.{all-from}, Resuming.by_place, WhatWasRead.compact-whole_read}
+use proofs.Words.{HaveNoReturns, compact_unit, false, reading_from, whole_of, ap}
+use proofs.reading.{Each.{all-from}, Resuming.by_place, WhatWasRead.{compact-whole_read, of-ended}}
 use proofs.{anywriter.ComesBack.standard-where_kept, wayback.{Converse.epoch-printable, Items.epoch-stands}}
 use proofs.wayback.{Standard.same-reading, ExpandedWhole.{AreGoodEpochs, epochs-good}}
-use proofs.wayback.{WayBack.{IsSettled, whole-settled, written-all}, Cut.{IsClean, CanStand}}
-use proofs.wayback.Returns.{returns, returns-kept, returns-fewer, returns_in, total-append, in-text}
-use proofs.wayback.Returns.{in-printable, returns_read, returns_left, left-kept, read-written}
-use proofs.wayback.{Returns.{read-input, read-cut}, Reading.{copied, whole-counted}}
-use proofs.Words.{rinex_place, whole_rinex}
-use proofs.accounts.{OfFile.owns-unit as rinex-owns, OfText.owns-unit as compact-owns}
+use proofs.wayback.{WayBack.{IsSettled, whole-settled, lines-same, lines-hold}, Cut.{IsClean, CanStand}}
+use proofs.wayback.Returns.{returns, returns-kept, returns-fewer, returns_in, read-append, total-append}
+use proofs.wayback.Returns.{in-printable, returns_read, returns_left, left-kept, read-written, in-text}
+use proofs.wayback.{Carried.started, Returns.{read-input, read-cut}, Reading.{copied, own-counted}}
+use proofs.accounts.{Reached.first-accounted, OfFile.file-accounted, OfText.owns-unit}
 use Rattle.crx_filter.specs.meaning.Accounts.{AreRinexLines, AreCleanLines}
-use proofs.wayback.First.{program-printable, program-clean, version-clean, printable-no_feed}
+use proofs.wayback.First.{program-printable, program-clean, version-clean}
 use Rattle.{crx_filter.specs.WayBack.IsStandardWhereSame}
 use Rattle.{crx_header.specs.meaning.CompactHeader.lines_before_header}
 
@@ -49,26 +47,7 @@ keeps-or_loses (Accepted unit ∷ before) = grind
     (arith, returns-fewer, left-kept, returns-kept, keeps-or_loses before)
 keeps-or_loses (Warned at ∷ before) = keeps-or_loses before
 
--- the lines of compact text are lines
-unit-no_feed : (choices : Choices) → is_date choices.date ≡ true
-    → (before : List (Item Epoch)) (unit : FileUnit Epoch)
-    → AreInPlace (Accepted unit ∷ before) → OfCopiedLine CanStand unit
-    → AllByRecursion HasNoFeed (compact_unit choices before unit)
-unit-no_feed choices dated before (HeaderLine line) h k = by_bool (is_at_start before)
-    (λ on. rw on (
-      IsClean.one_line version-clean,
-      (
-        IsClean.one_line (program-clean choices.date dated),
-        (k.0, tt),
-      ),
-    ))
-    (λ off. rw off (k.0, tt))
-unit-no_feed choices dated before (Observation epoch) h k = all-from _ _ printable-no_feed
-    (compact_unit choices before (Observation epoch)) (LinesCanStand.printable
-    (epoch-stands choices.every before epoch h))
-unit-no_feed choices dated before other h k = (k.0, tt)
-
--- and have no more of them at their ends than the lines that are copied
+-- the lines of compact text have no more of them at their ends than the lines that are copied
 first-none : (date : List ℕ) → is_date date ≡ true → (b : Bool)
     → returns_left (lines_before_header date b) ≡ 0
 first-none date dated true = omega (
@@ -95,38 +74,54 @@ compacted-returns : (choices : Choices) (items : List (Item Epoch)) → is_date 
     items → returns_read (map as_read (lines_of (lines_text (compact_lines choices items)))) ≤ returns_left
     (copied items)
 compacted-returns choices items dated h =
-    let one = written-all HasNoFeed CanStand (compact_unit choices)
-    (unit-no_feed choices dated) items h.in_place h.copied in
+    let stand = lines-hold CanStand (λ line c. (c.one_line, c.short)) choices.every items h.in_place h.copied
+    in
+    let one : AllByRecursion HasNoFeed (compact_lines choices items) =
+    rw (lines-same choices items h.in_place (started items h.header)) (
+      IsClean.one_line version-clean,
+      (
+        IsClean.one_line (program-clean choices.date dated),
+        all-from CanStand HasNoFeed
+            (λ line c. c.0) _ stand,
+      ),
+    ) in
     omega (arith, read-written (compact_lines choices items) one, lines-left choices dated items h.in_place)
 
 -- ---- a file that comes back
 
-rinex-within : (skip : Bool) (lines : List ReadLine)
-    → returns_in (copied (WholeReading.items (whole_rinex skip lines))) ≤ returns_read lines
-rinex-within skip lines = whole-counted AreRinexLines rinex_place rinex-owns skip 1 lines
-
 compact-within : (skip : Bool) (lines : List ReadLine)
     → returns_in (copied (WholeReading.items (whole_compact skip lines))) ≤ returns_read lines
-compact-within skip lines = by_place (first_lines lines) (λ two count e. rw (e, whole_compact) (omega (
-  arith,
-  whole-counted AreCleanLines compact_place compact-owns skip (count + 1) (drop count lines),
-  read-cut count lines,
-))) (λ offset fault e. rw (e, whole_compact) (omega arith)) (λ e. rw (e, whole_compact) (omega arith))
+compact-within skip lines = by_place (first_lines lines) (λ two count e. rw (e, whole_compact) (
+    let r = reading_from compact_place skip [] (count + 1) (drop count lines) in
+    let (left, (front, is, own)) =
+    first-accounted AreCleanLines compact_place owns-unit skip (count + 1) (drop count lines) in
+    let few : returns_in (copied r.items) ≤ returns_read lines = omega (
+      arith,
+      own-counted AreCleanLines r.items front own,
+      ap returns_read is,
+      read-append front left,
+      read-cut count lines,
+    ) in
+    of-ended (λ items. returns_in (copied items) ≤ returns_read lines) skip r.items r.stop few
+    (λ at on. few)))
+    (λ offset fault e. rw (e, whole_compact) (omega arith)) (λ e. rw (e, whole_compact) (omega arith))
 
 pub standard-where_same : (input : List ℕ) (compacting expanding : Choices)
     → IsStandardWhereSame input compacting expanding
-standard-where_same input compacting expanding dated good same = grind (
-  arith,
-  same-reading,
-  keeps-or_loses,
-  standard-where_kept,
-  written-returns,
-  epochs-good,
-  compact-whole_read,
-  in-text,
-  compact-within,
-  compacted-returns,
-  whole-settled,
-  rinex-within,
-  read-input,
-)
+standard-where_same input compacting expanding dated good same =
+    let lines = map as_read (lines_of input) in
+    let within = own-counted AreRinexLines (whole_of input).items lines (file-accounted false lines good) in
+    grind (
+      arith,
+      same-reading,
+      keeps-or_loses,
+      standard-where_kept,
+      written-returns,
+      epochs-good,
+      compact-whole_read,
+      in-text,
+      compact-within,
+      compacted-returns,
+      whole-settled,
+      read-input,
+    )

@@ -12,7 +12,7 @@ use proofs.Words.{whole_reading, reading_from, IsReadForward}
 use proofs.Words.{AreInPlace}
 use proofs.Words.{OfCopiedLine, OfCopiedLines, HaveNoReturns, Place, by_bool}
 use Rattle.crx_compact.proofs.wayback.Standing.{lines-short}
-use proofs.{following.Lines.IsStopped, reading.{Each.all-append, Forward.rinex-forward}}
+use proofs.{following.Lines.IsStopped, reading.{Each.{all-append, all-from}, Forward.rinex-forward}}
 use proofs.reading.{InPlace.items-in_place, Stopping.reading-stopped}
 use proofs.{reading.WhatWasRead.{allowed, whole-read}, wayback.Carried.started}
 use proofs.wayback.Cut.{IsClean, CanStand, input-stands}
@@ -118,19 +118,22 @@ epoch-clean [] h k = tt
 epoch-clean (line ∷ lines) h k =
     grind (arith, epoch-clean lines h.1 k.1, printable-no_feed, printable-no_return)
 
-unit-clean : (every : Option ℕ) (before : List (Item Epoch)) (unit : FileUnit Epoch)
-    → AreInPlace (Accepted unit ∷ before) → OfCopiedLine IsClean unit
-    → AllByRecursion IsClean (body_unit every before unit)
-unit-clean every before (Observation epoch) h k =
-    let m = marked_now every before epoch in
-    let older = marked_epochs every before in
-    epoch-clean (compact_epoch (m ∷ older)) (epoch-stands every before epoch h).printable
-    (lines-short (types_in_force before) m.in_full m.epoch older (whole-next every before epoch h))
-unit-clean every before other h k = (k, tt)
+-- what holds of clean lines, and of each line that is copied, holds of all
+pub lines-hold : (P : List ℕ → Type 0) → ((line : List ℕ) → IsClean line → P line) → (every : Option ℕ)
+    (items : List (Item Epoch)) → AreInPlace items → OfCopiedLines P items
+    → AllByRecursion P (lines_back every items)
+lines-hold P f every = written-all P P (body_unit every) unit-lines
+  where
+    unit-lines : (before : List (Item Epoch)) (unit : FileUnit Epoch) → AreInPlace (Accepted unit ∷ before)
+        → OfCopiedLine P unit → AllByRecursion P (body_unit every before unit)
+    unit-lines before (Observation epoch) h k =
+        let m = marked_now every before epoch in
+        let older = marked_epochs every before in
+        all-from IsClean P f (compact_epoch (m ∷ older)) (epoch-clean (compact_epoch (m ∷ older))
+        (epoch-stands every before epoch h).printable
+        (lines-short (types_in_force before) m.in_full m.epoch older (whole-next every before epoch h)))
+    unit-lines before other h k = (k, tt)
 
 pub lines-clean : (every : Option ℕ) (items : List (Item Epoch)) → AreInPlace items
     → OfCopiedLines CanStand items → HaveNoReturns items → AllByRecursion IsClean (lines_back every items)
-lines-clean every items h k e =
-    written-all IsClean IsClean (body_unit every) (unit-clean every) items h (copied-clean items k e)
-
--- ---- what is written in the end
+lines-clean every items h k e = lines-hold IsClean (λ line c. c) every items h (copied-clean items k e)
