@@ -120,9 +120,7 @@ module _ (types : List Count) (full : Bool) (e : Epoch) (older : List Marked)
     (h : AreWhole types (since_full (marked full e ∷ older))) where
   row-here : (r : Row) → row_named r.name e.rows ≡ Some r → IsRowLine (found_in (base_of full older) r.name)
       (row_written (run_of r.name (marked full e ∷ older)) r) (satellite_line (run_of r.name (marked full e ∷ older)) r)
-  row-here r own =
-      subst (λ run. IsRowLine (found_in (base_of full older) r.name) (row_written run r) (satellite_line run r))
-      (sym (run-begins full e older r own))
+  row-here r own = rw (run-begins full e older r own)
       (row-line types (found_in (base_of full older) r.name) r (rows_before full r.name older)
       (rows-of_run types full e older h r own) (arc-left full r.name older) (flags-left full r.name older r))
 

@@ -11,6 +11,7 @@ use Rattle.crx_compact.proofs.Characters.{list_all-append}
 use Rattle.crx_compact.proofs.Words.{IsWholeEpoch, length-append}
 use Rattle.crx_compact.proofs.{Identifiers.{AreNew, new-after}, Characters.{if_some, name-kept}}
 use Rattle.crx_compact.proofs.wayback.Runs.{IsUnmarked}
+use Rattle.std.proofs.lemmas.List.Elements.{recursion_from_All}
 
 -- ---- rows
 
@@ -21,18 +22,12 @@ IsTypedRow types row = IsSoundRow row × HasItsTypes types row
 pub sound-name_kept : (row : Row) → IsSoundRow row → list_all is_kept row.name ≡ true
 sound-name_kept row h = name-kept row.name (name-length row h) h.named
 
-rows-typed : (types : List Count) (rows : List Row)
-    → All IsSoundRow rows → All (HasItsTypes types) rows → AllByRecursion (IsTypedRow types) rows
-rows-typed types [] h k = tt
-rows-typed types (r ∷ rs) h k =
-    let rest = rows-typed types rs (All-tail IsSoundRow r rs h) (All-tail (HasItsTypes types) r rs k) in
-    search (rules, All-head)
-
 -- ---- epochs
 
 pub typed-rows : (types : List Count) (epoch : Epoch)
     → IsWholeEpoch types epoch → AllByRecursion (IsTypedRow types) epoch.rows
-typed-rows types epoch h = rows-typed types epoch.rows h.sound.rows_sound h.typed
+typed-rows types epoch h = recursion_from_All (IsTypedRow types) epoch.rows
+    (λ k row less. (h.sound.rows_sound k row less, h.typed k row less))
 
 pub head-counted : (types : List Count) (epoch : Epoch)
     → IsWholeEpoch types epoch → epoch_count epoch.head ≡ Some (length epoch.rows)

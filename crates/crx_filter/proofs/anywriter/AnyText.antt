@@ -2,7 +2,7 @@
 use Rattle.crx_filter.proofs
 use proofs.Words.{common_steps, drop, ℕ, suc, ◌≡◌, ◌+◌, ◌<◌, Bool, true, false, cond, List, [], ◌∷◌, ◌++◌}
 use proofs.Words.{map}
-use proofs.Words.{length, Option, Some, None, Ok}
+use proofs.Words.{length, Option, Some, None}
 use proofs.Words.{by_bool, refl, ap, sym, ◌∙◌, subst, arith, append-nil, is_some}
 use proofs.Words.{Content, Epoch, Done}
 use proofs.Words.{FileUnit, HeaderLine, EventLine, EventRecord, Observation, Item, Accepted, Count}
@@ -10,7 +10,7 @@ use proofs.Words.{RawEpoch, ReadEpoch}
 use proofs.Words.{header_has_ended, records_left, records_count_types, types_in_force, types_fault}
 use proofs.Words.{header_line_fault}
 use proofs.Words.{Reading, AtLines, reading_from, ended_reading, compact_place, compact_epoch_place}
-use proofs.Words.{event_line, is_event_line, records_in, raws_kept}
+use proofs.Words.{is_event_line, records_in, raws_kept}
 use proofs.Words.{IsWholeEpoch, expanded_unit, expanded, printed_items, warnings_in, lines_text, result_of}
 use proofs.Words.{written_well}
 use Rattle.crx_filter.proofs.{Words.{IsInPlace, AreInPlace}, following.Following.body-place}

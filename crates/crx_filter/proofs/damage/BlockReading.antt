@@ -8,9 +8,9 @@ use proofs.Words.{is_event_line, Place, Done, Fails, NeedsMore, FileUnit, Observ
 use proofs.Words.{Item}
 use proofs.Words.{types_in_force, is_skipped, is_skippable, raws_kept, as_observation, compact_epoch_place}
 use proofs.Words.{compact_place}
-use proofs.Words.{IsBetweenUnits, BadEpoch, Option, None, is_some, by_bool}
+use proofs.Words.{IsBetweenUnits, BadEpoch, Option, None, is_some, by_bool, ⊤}
 use proofs.{damage.CutOff.epoch-cut, following.Expansion.observation-wanted}
-use proofs.reading.{EpochFaults.{IsSkippableAt, epoch-skippable, place-observation}}
+use proofs.reading.{EpochFaults.{IsSkippableAt, epoch-skippable}}
 use proofs.reading.{ForwardCompact.compact-forward, Resuming.wrong-stays}
 use Rattle.crx_filter.specs.meaning.Stretches.{begins_no_event}
 
@@ -23,10 +23,6 @@ pub place-inside : (items : List (Item ReadEpoch)) (line : List ℕ) (lines : Li
     ≡ as_observation (epoch_at (types_in_force items) (raws_kept items) (Content line ∷ lines))
 place-inside items line lines h e = cc (place-between items (Content line ∷ lines) h, e)
 
-pub observation-here : (p : Place ReadEpoch) (unit : FileUnit ReadEpoch) (count : ℕ)
-    → as_observation p ≡ Done unit count → (read : ReadEpoch) × (unit ≡ Observation read)
-observation-here v1 unit count e = grind (arith)
-
 no-records : (count : Option ℕ) → is_some count ≡ false → count ≡ None
 no-records v1 e = grind (arith)
 
@@ -36,28 +32,24 @@ pub bad-event : (items : List (Item ReadEpoch)) (line : List ℕ) (lines : List 
     → compact_place items (Content line ∷ lines) ≡ Fails 0 BadEpoch
 bad-event items line lines h text event = grind (arith, place-between, no-records, not-true)
 
--- where no line announces an event's records, an epoch is read, or a fault that can be skipped
-pub epoch-here : (items : List (Item ReadEpoch)) (lines : List ReadLine)
-    (unit : FileUnit ReadEpoch) (count : ℕ) → IsBetweenUnits items → list_all begins_no_event lines ≡ true
-    → compact_place items lines ≡ Done unit count → (read : ReadEpoch) × (unit ≡ Observation read)
-epoch-here items [] unit count h text e = let never = sym (place-between items [] h) ∙ e in absurd (cc)
-epoch-here items (Overlong ∷ lines) unit count h text e = grind arith
-epoch-here items (Content line ∷ lines) unit count h text e = by_bool (is_event_line line)
-    (λ event. let never = sym (bad-event items line lines h (and_parts _ _ text).0 event) ∙ e in absurd (cc))
-    (λ other. observation-here (epoch_at (types_in_force items) (raws_kept items) (Content line ∷ lines))
-    unit count (sym (place-inside items line lines h other) ∙ e))
+-- an epoch, or a fault that can be skipped
+abbrev pub IsEpochOrSkipped : Place (FileUnit ReadEpoch) → Type 0
+IsEpochOrSkipped (Done unit count) = (read : ReadEpoch) × (unit ≡ Observation read)
+IsEpochOrSkipped (Fails offset fault) = is_skippable fault ≡ true
+IsEpochOrSkipped NeedsMore = ⊤
 
-pub fault-here : (items : List (Item ReadEpoch)) (lines : List ReadLine) (offset : ℕ) (fault : Fault)
-    → IsBetweenUnits items → list_all begins_no_event lines ≡ true → compact_place items lines
-    ≡ Fails offset fault
-    → is_skippable fault ≡ true
-fault-here items [] offset fault h text e = let never = sym (place-between items [] h) ∙ e in absurd (cc)
-fault-here items (Overlong ∷ lines) offset fault h text e = grind arith
-fault-here items (Content line ∷ lines) offset fault h text e = by_bool (is_event_line line)
-    (λ event. subst (λ p. IsSkippableAt p) (sym (bad-event items line lines h
-    (and_parts _ _ text).0 event) ∙ e) refl)
-    (λ other. subst (λ p. IsSkippableAt p) (sym (place-inside items line lines h other) ∙ e)
-    (place-observation is_skippable (epoch_at (types_in_force items) (raws_kept items) (Content line ∷ lines))
+observed : (p : Place ReadEpoch) → IsSkippableAt p → IsEpochOrSkipped (as_observation p)
+observed p h = grind (arith)
+
+-- that is what is read where no line announces an event's records
+pub block-here : (items : List (Item ReadEpoch)) (lines : List ReadLine) → IsBetweenUnits items
+    → list_all begins_no_event lines ≡ true → IsEpochOrSkipped (compact_place items lines)
+block-here items [] h text = subst IsEpochOrSkipped (sym (place-between items [] h)) tt
+block-here items (Overlong ∷ lines) h text = grind arith
+block-here items (Content line ∷ lines) h text = by_bool (is_event_line line)
+    (λ event. subst IsEpochOrSkipped (sym (bad-event items line lines h (and_parts _ _ text).0 event)) refl)
+    (λ other. subst IsEpochOrSkipped (sym (place-inside items line lines h other)) (observed
+    (epoch_at (types_in_force items) (raws_kept items) (Content line ∷ lines))
     (epoch-skippable (types_in_force items) (raws_kept items) (Content line ∷ lines))))
 
 pub skipped-here : (items : List (Item ReadEpoch)) (fault : Fault)

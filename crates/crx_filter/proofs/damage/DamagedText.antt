@@ -2,12 +2,13 @@
 -- the lines in place of the block's.
 use Rattle.crx_filter.proofs.Words
 use Words.{common_steps, arith, ℕ, ◌≡◌, true, cond, List, [], ◌∷◌, ◌++◌, map}
-use Words.{refl, append_assoc, AllByRecursion, list_all, eqb_tells}
+use Words.{refl, list_all, eqb_tells}
 use Words.{map-append, flat_map-append, and_parts, Piece, InputLine, pieces_of, onto_first, lines_of}
 use Words.{Content, as_read, lines_text, not-true}
-use Rattle.crx_filter.proofs.{reading.Each.contents, wayback.Cut.IsClean}
-use Rattle.crx_filter.{proofs.wayback.Cut.as-read-clean, specs.Damage.may_replace}
-use Rattle.crx_lines.proofs.PieceLemmas.{EachEnded, pieces-first}
+use Rattle.crx_filter.proofs.{reading.Each.contents}
+pub use Rattle.crx_filter.proofs.wayback.Cut.{front-cut}
+use Rattle.crx_filter.specs.Damage.{may_replace}
+use Rattle.crx_lines.proofs.PieceLemmas.{EachEnded}
 
 -- ---- pieces of two texts, one after the other
 
@@ -24,13 +25,6 @@ pieces-append (b ∷ one) two e =
 pub lines-append : (one two : List ℕ) → EachEnded (pieces_of one) → map as_read (lines_of (one ++ two))
     ≡ map as_read (lines_of one) ++ map as_read (lines_of two)
 lines-append one two e = search (pieces-append, map-append)
-
--- ---- written lines before a text
-
-pub front-cut : (lines : List (List ℕ)) (text : List ℕ) → AllByRecursion IsClean lines
-    → map as_read (lines_of (lines_text lines ++ text)) ≡ map Content lines ++ map as_read (lines_of text)
-front-cut [] text h = refl
-front-cut (line ∷ lines) text h = search (front-cut lines text h.1, append_assoc, pieces-first, as-read-clean)
 
 -- ---- the lines in place of the block's
 

@@ -11,7 +11,7 @@ use Words.{after_fault}
 use Words.{reading_within, reading_from, compact_place, IsBetweenUnits, continued_reading, by_bool}
 use Words.{is_skipped, ap, AtFault}
 use Rattle.crx_filter.specs.meaning.{Damage.is_inside, Stretches.begins_no_event}
-use Rattle.crx_filter.proofs.damage.BlockReading.{bad-event, epoch-here, fault-here, skipped-here}
+use Rattle.crx_filter.proofs.damage.BlockReading.{bad-event, block-here, skipped-here}
 use Rattle.crx_filter.proofs.damage.GoingOn.{GoesOnAt, open-goes_on, EndsAfter, ends-inside}
 use Rattle.crx_filter.proofs.{following.Lines.IsStopped}
 use Rattle.crx_filter.proofs.{reading.{ForwardCompact.compact-forward, Stopping.reading-stopped}}
@@ -65,7 +65,7 @@ ReadsEpochs items all lines = (news : List (Item ReadEpoch)) × AreEpochs news �
 epochs-kept : (items : List (Item ReadEpoch)) → IsKept compact_place true (ReadsEpochs items)
 epochs-kept items = record {
   here = λ all lines unit count e h.
-      let read = epoch-here all lines unit count h.3 h.4 e in
+      let read = rw e at (block-here all lines h.3 h.4) in
       rw read.1 (
         Accepted (Observation read.0) ∷ h.0,
         h.1,
@@ -86,7 +86,7 @@ is-open : (items all : List (Item ReadEpoch)) (stop : Stop) (next : ℕ)
     → KeptAt compact_place true (ReadsEpochs items) (record { items = all; stop = stop })
     → IsStopped compact_place all stop next → IsStretchRead items (record { items = all; stop = stop })
 is-open items all (AtFault at) next (lines, h, left) stopped =
-    absurd (cc (left.2, skipped-here all at.fault h.3 (fault-here all lines left.0 at.fault h.3 h.4 left.1)))
+    absurd (cc (left.2, skipped-here all at.fault h.3 (rw left.1 at (block-here all lines h.3 h.4))))
 is-open items all (AtLines number rest) next (lines, h, left) stopped = grind (arith, common_steps)
 is-open items all (Looking number) next (lines, h, left) stopped = grind (arith, common_steps)
 

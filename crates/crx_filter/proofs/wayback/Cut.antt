@@ -1,7 +1,7 @@
 -- Lines that are written and cut again are these lines; and what is read of an input holds no LF and isn't
 -- too long.
 use Rattle.crx_filter.proofs.Words
-use Words.{common_steps, arith, ℕ, ◌≡◌, ◌≤◌, true, false, List, [], ◌∷◌, map, length, refl}
+use Words.{◌++◌, common_steps, arith, ℕ, ◌≡◌, ◌≤◌, true, false, List, [], ◌∷◌, map, length, refl}
 use Words.{ap, append_assoc, ⊤, AllByRecursion, All-head, All-tail, All-cons, All-nil, ltb-false}
 use Words.{eqb_tells, Piece, pieces_of, ends_with_return, without_return, line_of}
 use Words.{lines_of, HasNoFeed, ReadLine, Content, Overlong, as_read, LINE_LIMIT, lines_text}
@@ -18,7 +18,7 @@ return-kept [] e = refl
 return-kept (b ∷ []) e = rw e refl
 return-kept (b ∷ c ∷ bs) e = ap (λ l. b ∷ l) (return-kept (c ∷ bs) e)
 
-pub as-read-clean : (line : List ℕ)
+as-read-clean : (line : List ℕ)
     → IsClean line → as_read (line_of (record { bytes = line; is_ended = true })) ≡ Content line
 as-read-clean line h = grind (arith, common_steps, return-kept, le-ltb, line_of)
 
@@ -27,10 +27,11 @@ pub first-cut : (line : List ℕ) (lines : List (List ℕ)) → HasNoFeed line �
     (lines_text (line ∷ lines)) ≡ record { bytes = line; is_ended = true } ∷ pieces_of (lines_text lines)
 first-cut line lines one = search (append_assoc, pieces-first)
 
-pub lines-cut : (lines : List (List ℕ))
-    → AllByRecursion IsClean lines → map as_read (lines_of (lines_text lines)) ≡ map Content lines
-lines-cut [] h = refl
-lines-cut (line ∷ lines) h = search (lines-cut lines h.1, first-cut, as-read-clean)
+-- and so are some lines before a text
+pub front-cut : (lines : List (List ℕ)) (text : List ℕ) → AllByRecursion IsClean lines
+    → map as_read (lines_of (lines_text lines ++ text)) ≡ map Content lines ++ map as_read (lines_of text)
+front-cut [] text h = refl
+front-cut (line ∷ lines) text h = search (front-cut lines text h.1, append_assoc, pieces-first, as-read-clean)
 
 -- ---- what is read of an input
 

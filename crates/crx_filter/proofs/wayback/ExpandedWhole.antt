@@ -1,8 +1,7 @@
 -- What was accepted of compact text: each epoch is whole, by the types in force where it was read.
 use Rattle.crx_filter.proofs.Words
-use Words.{refl, subst, [], ℕ, ◌≡◌, List, ◌∷◌, ⊤, AllByRecursion, ReadLine, Done, FileUnit, HeaderLine}
-use Words.{EventLine}
-use Words.{EventRecord, Observation, ReadEpoch, epoch_at, IsGood, Item, Accepted, Warned, arith}
+use Words.{refl, subst, [], ℕ, ◌≡◌, List, ◌∷◌, ⊤, AllByRecursion, ReadLine, Done, FileUnit}
+use Words.{Observation, ReadEpoch, epoch_at, IsGood, Item, Accepted, Warned, arith}
 use Words.{types_in_force, raws_kept, compact_place, ItemsAreRead, common_steps}
 use Rattle.crx_filter.proofs.reading.{ForwardCompact.compact_beginning, Types.counts-in_force}
 use Rattle.crx_filter.proofs.reading.WhatStands.{StandsAt, Stands, chosen, of-unit, of-compact}

@@ -17,7 +17,8 @@ use proofs.reading.{Each.all-from, Ending.closes-well}
 use proofs.Words.{Bool, IsInPlace, ended_reading, common_steps}
 use Rattle.crx_filter.specs.meaning.UnitsAndText.{as_items}
 use proofs.wayback.Converse.{lines-plain, epoch-printable, all-plain, contents-plain}
-use proofs.wayback.{Cut.{IsClean, CanStand, lines-cut}, WayBack.{IsSettled, whole-settled, written-all, copied-clean, epoch-clean}}
+use proofs.wayback.{Cut.{IsClean, CanStand, front-cut}, WayBack.{IsSettled, whole-settled, written-all}}
+use proofs.wayback.WayBack.{copied-clean, epoch-clean}
 use proofs.Words.{OfCopiedLine}
 
 -- ---- the printed lines of some units, read again
@@ -131,7 +132,8 @@ pub printed-again : (items : List (Item Epoch)) → IsSettled items → HaveNoRe
     (printed_items items)) ≡ record { items = as_items (units_in items); fault = None }
 printed-again items h none =
     let like = units-like items h.in_place in
-    ap (whole_rinex false) (lines-cut (printed_items items) (printed-clean items h.in_place h.copied none)
+    ap (whole_rinex false) (simp append-nil at (front-cut (printed_items items) []
+    (printed-clean items h.in_place h.copied none))
     ∙ ap (map Content) (sym (units-printed items)))
     ∙ ap (ended_reading false) (printed-read false (units_in items) (units-placed items h.in_place))
     ∙ rw (closes-well (as_items (units_in items)) (sym like.header ∙ h.header) (sym like.left ∙ h.none)) refl

@@ -49,19 +49,19 @@ plain-parts : (p : Piece) (ps : List Piece) → are_plain (p ∷ ps) ≡ true
     → (p.is_ended ≡ true) × NoReturn p.bytes × (are_plain ps ≡ true)
 plain-parts p ps e = grind (arith, common_steps, and_parts, not-true)
 
+-- so they end with LF, their contents are their bytes, and none ends in CR
+plain-pieces : (ps : List Piece) → are_plain ps ≡ true → EachEnded ps
+    × (map (λ (line : InputLine). line.content) (map line_of ps) ≡ map (λ (p : Piece). p.bytes) ps)
+    × AllByRecursion (OfContent NoReturn) (map as_read (map line_of ps))
+plain-pieces [] e = (tt, refl, tt)
+plain-pieces (p ∷ ps) e =
+    let others = plain-pieces ps (plain-parts p ps e).2 in
+    grind (arith, common_steps, plain-parts p ps e, return-kept, by_bool)
+
 pub plain-no_return : (ps : List Piece) → list_all (λ (line : InputLine). line.is_plain)
-    (map line_of ps) ≡ true → AllByRecursion (OfContent NoReturn) (map as_read (map line_of ps))
-plain-no_return [] e = tt
-plain-no_return (p ∷ ps) e =
-    grind (
-      arith,
-      common_steps,
-      plain-parts p ps e,
-      return-kept,
-      by_bool,
-      plain-no_return ps (plain-parts p
-          ps e).2,
-    )
+    (map line_of ps) ≡ true
+    → AllByRecursion (OfContent NoReturn) (map as_read (map line_of ps))
+plain-no_return ps e = (plain-pieces ps e).2
 
 -- ---- the text of an input's plain lines is the input
 
@@ -70,15 +70,7 @@ pieces-text : (input : List ℕ)
 pieces-text [] e = refl
 pieces-text (b ∷ bs) e = grind (arith, common_steps, pieces_of, eqb_tells, pieces-text bs)
 
-plain-ended : (ps : List Piece) → are_plain ps ≡ true → EachEnded ps
-plain-ended [] e = tt
-plain-ended (p ∷ ps) e = grind (arith, plain-parts p ps e, plain-ended ps)
-
-plain-contents : (ps : List Piece) → list_all (λ (line : InputLine). line.is_plain) (map line_of ps) ≡ true
-    → map (λ (line : InputLine). line.content) (map line_of ps) ≡ map (λ (p : Piece). p.bytes) ps
-plain-contents [] e = refl
-plain-contents (p ∷ ps) e = grind (arith, plain-parts p ps e, return-kept, plain-contents ps)
-
 pub plain-text : (input : List ℕ) → list_all (λ (line : InputLine). line.is_plain) (lines_of input) ≡ true
     → lines_text (map (λ (line : InputLine). line.content) (lines_of input)) ≡ input
-plain-text input e = ap lines_text (plain-contents _ e) ∙ pieces-text input (plain-ended _ e)
+plain-text input e = let plain = plain-pieces (pieces_of input) e in ap lines_text plain.1
+    ∙ pieces-text input plain.0

@@ -1,7 +1,7 @@
 -- What was compacted comes back.
 use Rattle.crx_filter.proofs
-use proofs.Words.{common_steps, ℕ, ◌≡◌, ◌+◌, ◌*◌, ◌≤◌, Bool, true, false, cond, List, [], ◌∷◌, map, length}
-use proofs.Words.{Option, Some, None, refl, arith, nat_lt, not, AllByRecursion, list_all, ltb-false, lines_of}
+use proofs.Words.{common_steps, ℕ, ◌≡◌, ◌+◌, ◌*◌, ◌≤◌, Bool, true, false, List, [], ◌∷◌, map, length}
+use proofs.Words.{Option, Some, None, refl, arith, AllByRecursion, list_all, lines_of}
 use proofs.Words.{ReadLine, as_read, is_printable, Fault, TYPES_LIMIT, Epoch}
 use proofs.Words.{FileUnit, HeaderLine, Observation, compact_epoch, Choices}
 use proofs.Words.{Item, Accepted, Warned, is_at_start, header_has_ended, records_left, types_in_force}
@@ -29,13 +29,6 @@ pub record IsSettled (items : List (Item Epoch)) : Type 0 where
   pub header : header_has_ended items ≡ true
   pub none : records_left items ≡ 0
 
-pub lt-none : (n : ℕ) → nat_lt 0 n ≡ false → n ≡ 0
-lt-none n e = let h = ltb-false 0 n e in omega (arith, h)
-
-pub end-body : (b c : Bool) (one two : Fault)
-    → cond (not b) (Some one) (cond c (Some two) None) ≡ None → (b ≡ true) × (c ≡ false)
-end-body b c one two e = grind (arith, common_steps)
-
 abbrev pub IsClosed : {E : Type 0} → List (Item E) → Type 0
 IsClosed items = (header_has_ended items ≡ true) × (records_left items ≡ 0)
 
@@ -53,9 +46,7 @@ closes place skip items (AtLines number rest) next s f = at_end (fault_at_end it
         → IsClosed (WholeReading.items (ended_with skip items (number + length rest) o))
     at_end None e f = grind (arith, common_steps)
     at_end (Some fault) e f = by_bool (is_skipped skip items fault)
-        (λ on. rw on ((allowed skip items fault on).0, refl)) (λ off.
-        let never = rw off at f in
-        absurd (cc))
+        (λ on. rw on ((allowed skip items fault on).0, refl)) (λ off. absurd (cc (rw off at f)))
 
 -- so it is for whole readings
 pub whole-closes : {E : Type 0} (place : List (Item E) → List ReadLine → Place (FileUnit E))

@@ -27,7 +27,6 @@ use Rattle.crx_filter.proofs.damage.GoingOn.{with_warnings, warned-between, warn
 use Rattle.crx_filter.proofs.damage.GoingOn.{open-goes_on}
 use Rattle.crx_filter.proofs.damage.SavedText.{lines-warned}
 use Rattle.crx_laws.specs.Blocks.{read_of_text, CanGoOn, HaveSameTypes, kind_of, GoOnWith, StandAlone}
-use Rattle.crx_filter.proofs.wayback.WayBack.{end-body, lt-none}
 
 -- ---- where a reading whose end is good has stopped
 
@@ -47,9 +46,7 @@ end-good : (items : List (Item ReadEpoch)) (rest : List ReadLine)
     → fault_at_end items rest ≡ None → IsBetweenUnits items × (rest ≡ [])
 end-good [] rest e = absurd (cc)
 end-good (item ∷ before) (line ∷ rest) e = absurd (cc)
-end-good (item ∷ before) [] e =
-    let both = end-body (header_has_ended (item ∷ before)) (nat_lt 0 (records_left (item ∷ before))) _ _ e in
-    (record { header = both.0; none = lt-none (records_left (item ∷ before)) both.1 }, refl)
+end-good (item ∷ before) [] e = grind (arith, common_steps)
 
 -- it is between two units, or an epoch is open and faults are skipped
 lines-passed : (skip : Bool) (items : List (Item ReadEpoch)) (number : ℕ) (rest : List ReadLine)

@@ -1,5 +1,6 @@
 -- The lines of some units, read after other units that leave the same types.
-use Rattle.crx_filter.proofs.Words.{ℕ, ◌≡◌, ◌+◌, true, List, [], ◌∷◌, ◌++◌, map, length, None, refl, ap}
+use Rattle.crx_filter.proofs.Words.{append-nil, ℕ, ◌≡◌, ◌+◌, true, List, [], ◌∷◌, ◌++◌, map, length, None}
+use Rattle.crx_filter.proofs.Words.{refl, ap}
 use Rattle.crx_filter.proofs.Words.{sym, ◌∙◌, subst, map-append, lines_of, lines_text, ReadLine}
 use Rattle.crx_filter.proofs.Words.{Content, as_read, Epoch, FileUnit, ReadEpoch, Choices, is_date, Item, Accepted, Warned}
 use Rattle.crx_filter.proofs.Words.{AtLines, reading_from, ended_reading, compact_lines, compact_place}
@@ -16,7 +17,7 @@ use Rattle.crx_filter.proofs.stretches.OwnStretches.{begins-own, file-good, file
 use Rattle.crx_filter.proofs.stretches.OwnStretches.{units-before}
 use Rattle.crx_filter.proofs.stretches.{StretchesRead.header-on}
 use Rattle.crx_filter.specs.meaning.CompactText.{AreUnitsInPlace}
-use Rattle.crx_filter.proofs.wayback.{Carried.{started, units-like}, Cut.lines-cut, Units.units_in}
+use Rattle.crx_filter.proofs.wayback.{Carried.{started, units-like}, Cut.front-cut, Units.units_in}
 use Rattle.crx_filter.proofs.wayback.{WayBack.IsSettled}
 use Rattle.crx_compact.proofs.Words.{tail_left}
 use Rattle.crx_laws.specs.Blocks.{IsPieceAfter, IsOwnPieceAfter}
@@ -88,5 +89,5 @@ own-piece file front choices expanding text dated h =
       lines = lines;
       last = state_on None choices.every h.before h.piece;
       written = own-on None choices h.before h.piece good.in_place (λ e. h.anew);
-      rest = lines-cut lines (kept-clean choices h.piece h.before good);
+      rest = simp append-nil at (front-cut lines [] (kept-clean choices h.piece h.before good));
     }) ∙ ap (λ ls. written_well (lines_text ls)) same
