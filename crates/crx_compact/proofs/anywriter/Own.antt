@@ -1,7 +1,7 @@
 -- Our own writer's epochs are ones that any writer may write.
 use Rattle.std.proofs.lemmas.List.Folds.{flat_map-map}
 use Rattle.crx_compact.proofs.Words.{◌≡◌, refl, ℕ, ℤ, suc, List, [], ◌∷◌, Bool, true, false, Option, Some}
-use Rattle.crx_compact.proofs.Words.{None, map, length, arith, ap, sym, ◌∙◌, ◌≤◌, drop, subst}
+use Rattle.crx_compact.proofs.Words.{None, map, length, arith, ap, sym, ◌∙◌, ◌≤◌, drop}
 use Rattle.crx_compact.proofs.Words.{list_all, AllByRecursion, option_map, rules, if◌then◌else◌, slice_index_or, get_or_past}
 use Rattle.crx_compact.proofs.Words.{Count, Row, Epoch, Marked, AreWhole, IsWholeEpoch, epoch_text, newest_text, since_full, run_of, arc_of, clock_arc, row_named, stretch, named, codes_of, indicators_before, satellite_line, epoch_line, compact_epoch}
 use Rattle.crx_compact.proofs.Words.{without_end_blanks, patched, text_difference}

@@ -12,7 +12,8 @@ use Rattle.crx_compact.proofs.{wayback.Runs.named-made, wayback.Rows.value-fits,
 use Rattle.crx_compact.specs.meaning.AnyWriter.{Arc, WrittenRow, WrittenEpoch, code_now, row_now, arc_in, flags_in, IsRowLine}
 use Rattle.crx_compact.specs.AnyWriter.{value_now, arc_left, row_left, epoch_left, ReadsAnyRow}
 use Rattle.crx_compact.proofs.anywriter.Arcs.{Goes, goes}
-use Rattle.crx_compact.proofs.anywriter.Texts.{AreTexts, spelled-characters, cells-again, marks-again, line-other, with_blanks, texts-printable}
+use Rattle.crx_compact.proofs.anywriter.Texts.{AreTexts, spelled-characters, cells-again, line-other}
+use Rattle.crx_compact.proofs.anywriter.Texts.{with_blanks, texts-printable}
 use Rattle.crx_compact.proofs.Words.{Bool}
 
 abbrev codes_wanted : List (Option Arc) → List (Option Code)
@@ -113,10 +114,10 @@ module _ (before : WrittenEpoch) (now : WrittenRow) (line : List ℕ) (sound : I
   texts = are-texts h.texts now.arcs h.spelled
 
   marks-same : without_end_blanks marks ≡ without_end_blanks h.marks
-  marks-same = grind (arith, count, marks-again, texts)
+  marks-same = grind (arith, count, cells-again h.texts h.marks line texts h.written)
 
   cells : cells_of (length now.arcs) line ≡ h.texts
-  cells = ap (λ k. cells_of k line) (sym count) ∙ cells-again h.texts h.marks line texts h.written
+  cells = ap (λ k. cells_of k line) (sym count) ∙ (cells-again h.texts h.marks line texts h.written).0
 
   other : begins_epoch line ≡ false
   other = search (rules, line-other, count, length-map, texts)

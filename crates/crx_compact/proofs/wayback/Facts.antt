@@ -1,8 +1,8 @@
 -- What follows of an epoch and its rows from their being ones that can be written.
 use Rattle.crx_compact.proofs.Words.{◌≡◌, refl, suc, true, List, Some, at, nat_eq, length, arith, rules}
-use Rattle.crx_compact.proofs.Words.{◌+◌, ◌-◌, ◌*◌, ◌<◌, ℕ, not, ◌∷◌, map, ◌∙◌, Row, All, sym, [], Epoch}
+use Rattle.crx_compact.proofs.Words.{◌+◌, ◌-◌, ◌*◌, ◌<◌, ℕ, not, ◌∷◌, map, ◌∙◌, Row, sym, [], Epoch}
 use Rattle.crx_compact.proofs.Words.{epoch_count, columns-are, name-length, common_steps, Count}
-use Rattle.crx_compact.proofs.Words.{columns, is_kept, All-head, All-tail, list_all, flat_map}
+use Rattle.crx_compact.proofs.Words.{columns, is_kept, list_all, flat_map}
 use Rattle.crx_compact.proofs.Words.{and_parts, Satellite, epoch_text, IsSoundRow, ap, HasItsTypes, at-append}
 use Rattle.crx_compact.proofs.Words.{each_place, AllByRecursion, has_satellite, are_different, at-append_past}
 use Rattle.crx_compact.proofs.Words.{Ok, satellites_named, each_place-same}
