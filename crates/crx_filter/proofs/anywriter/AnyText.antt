@@ -103,35 +103,28 @@ module _ (items : List (Item ReadEpoch)) (units : List (FileUnit Epoch)) (before
         left = λ b e. reads.leaves ∙ ap {B = Option Tail} (λ w. Some (epoch_left w)) (same_Some now b e);
       }
 
-unit-read : (items : List (Item ReadEpoch)) (units : List (FileUnit Epoch)) (before now : Option WrittenEpoch)
-    (unit : FileUnit Epoch) (lines : List (List ℕ)) → IsLike items units
-    → IsLeft before (tail_left (raws_kept items)) → IsInPlace (as_items units) unit
-    → AreLinesOfUnit (as_items units) before unit lines now → UnitRead items unit lines now
-unit-read items units before now (HeaderLine line) lines known left h k = rw (k.0, k.1) (record {
-  read = HeaderLine line;
-  place = header-here compact_beginning items line (known.header ∙ h.0)
-      (ap (λ b. header_line_fault b line) known.start ∙ h.1);
-  same = refl;
-  left = none-left None;
-})
-unit-read items units before now (EventLine line) lines known left h k = rw (k.0, k.1) (record {
-  read = EventLine line;
-  place = body-place compact_beginning items (Content line ∷ []) (known.header ∙ h.0) (known.left ∙ h.1)
-      ∙ event-begins (types_in_force items) (raws_kept items) line _ refl h.3 h.2;
-  same = refl;
-  left = left;
-})
-unit-read items units before now (EventRecord line) lines known left h k =
-    let counts = known.counts (subst (λ n. 0 < n) (sym known.left) h.1) in
-    rw (k.0, k.1) (record {
-      read = EventRecord line;
-      place = record-here compact_beginning items line (records_left (as_items units)) (known.header ∙ h.0) known.left h.1
-          (ap (λ b. cond b (types_fault line) None) counts ∙ h.2);
-      same = refl;
-      left = record-left items units before known left line (records_count_types (as_items units)) counts;
-    })
-unit-read items units before now (Observation epoch) lines known left h k = rw (k.2, ← k.1)
-    (epoch-unit items units before known left k.0 lines (rw k.1 h) k.3)
+  one-line : (read : FileUnit ReadEpoch) (line : List ℕ) (now : Option WrittenEpoch)
+      → compact_place items (Content line ∷ []) ≡ Done read 1
+      → IsLeft now (tail_left (raws_kept (Accepted read ∷ items)))
+      → UnitRead items (rinex_unit read) (line ∷ []) now
+  one-line read line now here after = record { read = read; place = here; same = refl; left = after }
+
+  unit-read : (now : Option WrittenEpoch) (unit : FileUnit Epoch) (lines : List (List ℕ))
+      → IsInPlace (as_items units) unit → AreLinesOfUnit (as_items units) before unit lines now
+      → UnitRead items unit lines now
+  unit-read now (HeaderLine line) lines h w = rw (w.0, w.1) (one-line (HeaderLine line) line None
+      (header-here compact_beginning items line (k.header ∙ h.0)
+      (ap (λ b. header_line_fault b line) k.start ∙ h.1)) (none-left None))
+  unit-read now (EventLine line) lines h w = rw (w.0, w.1) (one-line (EventLine line) line before
+      (body-place compact_beginning items (Content line ∷ []) (k.header ∙ h.0) (k.left ∙ h.1)
+      ∙ event-begins (types_in_force items) (raws_kept items) line _ refl h.3 h.2) left)
+  unit-read now (EventRecord line) lines h w =
+      let counts = k.counts (subst (λ n. 0 < n) (sym k.left) h.1) in
+      rw (w.0, w.1) (one-line (EventRecord line) line _ (record-here compact_beginning items line
+      (records_left (as_items units)) (k.header ∙ h.0) k.left h.1
+      (ap (λ b. cond b (types_fault line) None) counts ∙ h.2))
+      (record-left line (records_count_types (as_items units)) counts))
+  unit-read now (Observation epoch) lines h w = rw (w.2, ← w.1) (epoch-unit w.0 lines (rw w.1 h) w.3)
 
 -- ---- some units after others
 
@@ -152,7 +145,7 @@ read-on skip items number block [] lines start last like left h k = rw (k.0, k.1
     (record { more = []; reads = grind arith; known = refl; like = like; left = left })
 read-on skip items number block (unit ∷ units) lines start last like left h k =
     let r = read-on skip items number block units k.1 start k.0 like left h.1 k.3 in
-    let u = unit-read (r.more ++ items) (units ++ block) k.0 last unit k.2 r.like r.left h.0 k.5 in
+    let u = unit-read (r.more ++ items) (units ++ block) k.0 r.like r.left last unit k.2 h.0 k.5 in
     rw k.4 (record {
       more = Accepted u.read ∷ r.more;
       reads = unit-more compact_place compact-forward skip items (r.more ++ items) number k.1 k.2 u.read r.reads u.place;

@@ -66,17 +66,19 @@ cells-printable (value ∷ values) flags h k =
     (all-drop is_printable 2 flags k) in
     search (rules, list_all-append, all-take)
 
-rows-printable : (rows : List Row) → All IsSoundRow rows
-    → AllByRecursion (λ (line : List ℕ). list_all is_printable line ≡ true) (map printed_row rows)
-rows-printable [] k = tt
-rows-printable (row ∷ rows) k =
-    let sound = All-head IsSoundRow row rows k in
+row-printable : (row : Row) → IsSoundRow row → list_all is_printable (printed_row row) ≡ true
+row-printable row sound =
     let cells = cells-printable row.values row.flags sound.ranged (kept-text row.flags sound.kept) in
-    let name = kept-text row.name (sound-name_kept row sound) in (
-      trimmed-printable (row.name ++ printed_cells row.values row.flags)
-          (list_all-append is_printable row.name (printed_cells row.values row.flags) name cells),
-      rows-printable rows (All-tail IsSoundRow row rows k),
-    )
+    let name = kept-text row.name (sound-name_kept row sound) in
+    trimmed-printable (row.name ++ printed_cells row.values row.flags)
+    (list_all-append is_printable row.name (printed_cells row.values row.flags) name cells)
+
+-- what holds of each printed row holds of all
+pub rows-all : (P : List ℕ → Type 0) → ((row : Row) → IsSoundRow row → P (printed_row row)) → (rows : List Row)
+    → All IsSoundRow rows → AllByRecursion P (map printed_row rows)
+rows-all P f [] h = tt
+rows-all P f (row ∷ rows) h =
+    (f row (All-head IsSoundRow row rows h), rows-all P f rows (All-tail IsSoundRow row rows h))
 
 -- the lines of a whole epoch are printable
 pub epoch-printable : (types : List Count) (epoch : Epoch) → IsWholeEpoch types epoch
@@ -87,7 +89,7 @@ epoch-printable types epoch h =
     let head = kept-text epoch.head (head-kept types epoch h) in (
       trimmed-printable (epoch.head ++ clock_text epoch.clock)
           (list_all-append is_printable epoch.head (clock_text epoch.clock) head clock),
-      rows-printable _ h.sound.rows_sound,
+      rows-all (λ line. list_all is_printable line ≡ true) row-printable epoch.rows h.sound.rows_sound,
     )
 
 pub all-plain : (lines : List (List ℕ)) → list_all (λ (line : InputLine). line.is_plain)

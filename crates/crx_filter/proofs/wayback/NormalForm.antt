@@ -1,9 +1,9 @@
 -- What was accepted, printed and read again; the normal form of a file, and a file that is in order.
 use Rattle.crx_filter.proofs
 use proofs.Words.{ℕ, ◌≡◌, ◌+◌, ◌*◌, ◌≤◌, true, false, List, [], ◌∷◌, ◌++◌, map, length, Option, None, refl}
-use proofs.Words.{ap, ◌∙◌, arith, append-nil, All, AllByRecursion, is_some, length-map, All-head, All-tail}
-use proofs.Words.{and_parts, ReadLine, Content, clock_text, without_end_blanks, TYPES_LIMIT, Row}
-use proofs.Words.{Epoch, Count, is_event_line, records_in, IsSoundRow, IsWholeEpoch, epoch_place, Done}
+use proofs.Words.{ap, ◌∙◌, arith, append-nil, AllByRecursion, is_some, length-map}
+use proofs.Words.{and_parts, ReadLine, Content, clock_text, without_end_blanks, TYPES_LIMIT}
+use proofs.Words.{Epoch, Count, is_event_line, records_in, IsWholeEpoch, epoch_place, Done}
 use proofs.Words.{printed_row, printed_epoch, printed_cells, lines_text, FileUnit, HeaderLine, EventLine}
 use proofs.Words.{EventRecord, Observation, printed_unit, Item, Accepted, Warned, types_in_force}
 use proofs.Words.{WholeReading, warnings_in, rinex_place, whole_rinex, rinex_reading, printed_items, whole_of}
@@ -16,7 +16,7 @@ use proofs.wayback.Carried.{units_in, units-like, units-placed, header-here, rec
 use proofs.reading.{Each.all-from, Ending.closes-well}
 use proofs.Words.{Bool, IsInPlace, ended_reading, common_steps}
 use Rattle.crx_filter.specs.meaning.UnitsAndText.{as_items}
-use proofs.wayback.Converse.{lines-plain, epoch-printable, all-plain, contents-plain}
+use proofs.wayback.Converse.{rows-all, lines-plain, epoch-printable, all-plain, contents-plain}
 use proofs.wayback.{Cut.{IsClean, CanStand, front-cut}, WayBack.{IsSettled, whole-settled, written-all}}
 use proofs.wayback.WayBack.{copied-clean, epoch-clean}
 use proofs.Words.{OfCopiedLine}
@@ -78,17 +78,6 @@ units-printed (item ∷ before) = grind (arith, units-printed before)
 
 -- ---- printed lines are read as they are written
 
-rows-within : (n : ℕ) → 16 * TYPES_LIMIT + 3 ≤ n → (rows : List Row) → All IsSoundRow rows
-    → AllByRecursion (λ (line : List ℕ). length line ≤ n) (map printed_row rows)
-rows-within n most [] h = tt
-rows-within n most (row ∷ rows) h =
-    let sound = All-head IsSoundRow row rows h in
-    let fewer : length (printed_row row) ≤ length (row.name ++ printed_cells row.values row.flags) =
-    few_kept _ in (
-      omega (arith, length-row row sound, fewer, sound.counted.1, most),
-      rows-within n most rows (All-tail IsSoundRow row rows h),
-    )
-
 pub epoch-within : (n : ℕ) → 16 * TYPES_LIMIT + 3 ≤ n → (types : List Count) (epoch : Epoch)
     → IsWholeEpoch types epoch → AllByRecursion (λ (line : List ℕ). length line ≤ n) (printed_epoch epoch)
 epoch-within n most types epoch h =
@@ -101,7 +90,13 @@ epoch-within n most types epoch h =
         fewer,
         most,
       ),
-      rows-within n most _ h.sound.rows_sound,
+      rows-all (λ line. length line ≤ n) (λ row sound. omega (
+        arith,
+        length-row row sound,
+        few_kept (row.name ++ printed_cells row.values row.flags),
+        sound.counted.1,
+        most,
+      )) epoch.rows h.sound.rows_sound,
     )
 
 -- what holds of clean lines, and of each line that is copied, holds of all
