@@ -1,7 +1,7 @@
 -- The lines that are read as an epoch are ones that some writer may write for it.
 use Rattle.crx_compact.proofs.Words.{◌≡◌, refl, ℕ, zero, suc, List, [], ◌∷◌, ◌++◌, Bool, true, false, Option}
 use Rattle.crx_compact.proofs.Words.{Some, None, map, length, arith, ap, sym, ◌∙◌, ◌*◌, ◌+◌, ◌-◌, ◌≤◌, inl}
-use Rattle.crx_compact.proofs.Words.{inr, subst}
+use Rattle.crx_compact.proofs.Words.{inr}
 use Rattle.crx_compact.proofs.Words.{AllByRecursion, option_map, flat_map, if◌then◌else◌, cases_lt, length-append, same_Some, each_place, named}
 use Rattle.crx_compact.proofs.Words.{Done, rules, by_position}
 use Rattle.crx_compact.proofs.Words.{Count, Row, ReadRow, Satellite, IsWholeEpoch, types_of_satellite}
@@ -107,14 +107,12 @@ given-base : (before : Option WrittenEpoch) (tail : Option Tail) (line : List �
     × (goes_on_from before line ≡ Some (base_for before line))
 given-base before tail line past left e = grind (arith)
 
-base-typed : (types : List Count) (before : Option WrittenEpoch) (line : List ℕ) (base : WrittenEpoch)
-    → ((b : WrittenEpoch) → before ≡ Some b → IsWholeEpoch types (epoch_now b)) → goes_on_from before line ≡ Some base
+base-typed : (types : List Count) (before : Option WrittenEpoch) (full : Bool) (base : WrittenEpoch)
+    → ((b : WrittenEpoch) → before ≡ Some b → IsWholeEpoch types (epoch_now b))
+    → (if full then Some nothing_written else before) ≡ Some base
     → AllByRecursion (IsTypedRow types) (map row_now base.rows)
-base-typed types before line base whole found = pick (begins_epoch line) found
-  where
-    pick : (b : Bool) → (if b then Some nothing_written else before) ≡ Some base → AllByRecursion (IsTypedRow types) (map row_now base.rows)
-    pick true e = subst (λ (q : WrittenEpoch). AllByRecursion (IsTypedRow types) (map row_now q.rows)) (same_Some nothing_written base e) tt
-    pick false e = typed-rows types (epoch_now base) (whole base e)
+base-typed types before true base whole found = rw (← same_Some nothing_written base found) tt
+base-typed types before false base whole found = typed-rows types (epoch_now base) (whole base found)
 
 pub only-epoch : ReadsSomebodysEpoch
 only-epoch types before raws lines read count left whole e =
@@ -125,7 +123,7 @@ only-epoch types before raws lines read count left whole e =
     let base = base_for before h.line in
     let found = (given-base before tail h.line (past_of_tail (epoch_left base)) left h.given_is).1 in
     let few = all-from (IsFew base) (λ s k. few-here types base.rows s (row_before base s)
-    (base-typed types before h.line base whole found) refl k) h.satellites h.line_ok.named.known in
+    (base-typed types before (begins_epoch h.line) base whole found) refl k) h.satellites h.line_ok.named.known in
     let rows = rows-back base h.satellites h.own h.rows few h.rows_ok in
     let arc = arc-back CLOCK_WIDTH base.clock h.clock.code h.clock.value h.clock_ok.meant in
     let text = patched (without_end_blanks (epoch_text (epoch_now base))) h.line in
