@@ -4,7 +4,7 @@ use Rattle.std.proofs.lemmas.Grind.{common_steps}
 use Rattle.std.proofs.Common.{arith}
 use Rattle.crx_filter.proofs.Words.{ℕ, ◌≡◌, ◌+◌, ◌⊎◌, inl, inr, Bool, true, false, cond, List, [], ◌∷◌, ◌++◌}
 use Rattle.crx_filter.proofs.Words.{map, length, drop, Option, Some, None, refl, ap, sym, ◌∙◌, subst}
-use Rattle.crx_filter.proofs.Words.{append-nil, ◌&&◌, ◌==◌, nat_lt, and_parts, drop-append-le, lines_of}
+use Rattle.crx_filter.proofs.Words.{append-nil, ◌&&◌, ◌==◌, and_parts, drop-append-le, lines_of}
 use Rattle.crx_filter.proofs.Words.{pieces_of, lines_text, ReadLine, Content, Overlong, as_read, At, Fault}
 use Rattle.crx_filter.proofs.Words.{begins_epoch, is_event_line, Place, Done, Fails, NeedsMore, one_line}
 use Rattle.crx_filter.proofs.Words.{Remains, ReadEpoch, Choices, Item, header_has_ended}
