@@ -8,7 +8,6 @@ pub mod ForwardCompact
 pub mod Stopping
 pub mod Prefixes
 pub mod CompactPrefixes
-pub mod RinexPrefixes
 pub mod WhatWasRead
 pub mod InPlace
 pub mod LineFaults

@@ -10,9 +10,9 @@ use Rattle.crx_filter.proofs.anywriter.ComesBack.{canonical, comes-back, normal-
 use Rattle.crx_filter.proofs.anywriter.ComesBack.{standard-comes_back}
 use Rattle.crx_filter.proofs.following.CheckLawful.{check-lawful}
 use Rattle.crx_filter.proofs.output.Readiness.{compaction-ready, expansion-ready}
-use Rattle.crx_filter.proofs.reading.{Anew.on-types, CompactPrefixes.expanded-first}
+use Rattle.crx_filter.proofs.reading.{Anew.on-types, Prefixes.{compacted-first, expanded-first}}
 use Rattle.crx_filter.proofs.reading.{Forward.rinex-forward, ForwardCompact.compact-forward}
-use Rattle.crx_filter.proofs.reading.{Resuming.resumed, RinexPrefixes.compacted-first}
+use Rattle.crx_filter.proofs.reading.{Resuming.resumed}
 use Rattle.crx_filter.proofs.reading.InPlace.{items-in_place}
 use Rattle.crx_filter.proofs.reading.WhatWasRead.{items-read, compact-items-read}
 use Rattle.crx_filter.proofs.standard.{CheckEnded.check-ended, CheckStandard.named-where_not}

@@ -1,9 +1,9 @@
 -- What the state of a reader says of its run, in the words of the promise.
-use Rattle.std.proofs.Common.{rules, reverse}
-use Rattle.std.proofs.{lemmas.Grind.common_steps, lemmas.List.{map-append, reverse-append}}
+use Rattle.std.proofs.Common.{rules}
+use Rattle.std.proofs.{lemmas.Grind.common_steps}
 use Rattle.rnxcmp_c.proofs.Words.{◌≡◌, ◌⊎◌, inl, inr, ⊎_elim, ℕ, ◌<◌, List, [], ◌∷◌, ◌++◌, length}
 use Rattle.rnxcmp_c.proofs.Words.{take, drop, append_assoc, Option, Some, None, is_some, true, false, arith}
-use Rattle.rnxcmp_c.proofs.Words.{refl, sym, ap, ◌∙◌, subst, append-nil, InputLine, lines_of, At}
+use Rattle.rnxcmp_c.proofs.Words.{refl, sym, ◌∙◌, subst, append-nil, InputLine, lines_of, At}
 use Rattle.rnxcmp_c.proofs.Words.{with_next, notices_text, Begins, FilterResult}
 use Rattle.rnxcmp_c.proofs.Words.{AreNext, Outcome, IsLastLine}
 use Rattle.rnxcmp_c.proofs.Words.{ReaderStands}
@@ -20,28 +20,23 @@ use Rattle.rnxcmp_c.proofs.Words.{with_one_more, bare_answer, MISUSED}
 use Rattle.rnxcmp_c.specs.Opened.{EndsHandle, FeedsHandle, HandleStands, IsSoundHandle, has_ended, run_state}
 use Rattle.rnxcmp_c.specs.{Handles.{fault_now, status_now}, Opened.texts_kept}
 use Rattle.rnxcmp_c.specs.meaning.Handles.{HandlePromise, RunWasEnded, TakesBytes, joined_texts}
-use Rattle.crx_filter.proofs.{reading.CompactPrefixes.whole-more, reading.Prefixes.{AreMore, whole-items}}
-use Rattle.crx_filter.proofs.reading.Forward.{rinex-forward}
-use Rattle.crx_filter.specs.{meaning.Items.{Item, Accepted, Warned}, meaning.Written.warnings_in}
+use Rattle.crx_filter.proofs.{following.DirectionSteps.{compaction-goes, expansion-goes}, reading.Prefixes.warnings-go_on}
 
 -- ---- warnings
 
-warnings-both : {E : Type 0} (news items : List (Item E))
-    → warnings_in (news ++ items) ≡ warnings_in news ++ warnings_in items
-warnings-both [] items = refl
-warnings-both (Accepted unit ∷ news) items = warnings-both news items
-warnings-both (Warned at ∷ news) items = ap (λ w. at ∷ w) (warnings-both news items)
-
--- where there are more items, there are more warnings at the end
-items-warned : {E : Type 0} (items all : List (Item E)) → AreMore items all
-    → Begins (notices_text (reverse (warnings_in all))) (notices_text (reverse (warnings_in items)))
-items-warned items all more = grind (arith, common_steps, warnings-both, reverse-append, notices-both)
+-- where more are warned of, their messages come after the others
+begins-more : {all some_of : List At} → (later : List At) × (all ≡ some_of ++ later)
+    → Begins (notices_text all) (notices_text some_of)
+begins-more {some_of = some_of} (later, e) = record { rest = notices_text later; same = rw e (notices-both some_of later) }
 
 -- the warnings of the first lines are first in those of all
 pub warned-first : (task : Task) (lines more : List InputLine)
     → Begins (notices_text ((filter_for task).whole (lines ++ more)).warnings)
     (notices_text ((filter_for task).so_far lines).warnings)
-warned-first = search (rules, reverse, map-append, items-warned, whole-items, rinex-forward, whole-more)
+warned-first (Compact choices limit) lines more =
+    begins-more (warnings-go_on (compaction-goes choices refl) lines more)
+warned-first (Expand choices limit) lines more = begins-more (warnings-go_on (expansion-goes choices refl) lines more)
+warned-first Check lines more = record { rest = []; same = refl }
 
 -- the messages of a result begin with the warnings
 pub messages-for : (task : Task) (input : List ℕ) → Begins (result_for task input).messages

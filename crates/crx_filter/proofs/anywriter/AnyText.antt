@@ -31,7 +31,7 @@ use Rattle.crx_header.{proofs.Counts.types_of-push}
 use Rattle.crx_filter.specs.meaning.Stretches.{AreLinesOn}
 use Rattle.crx_filter.specs.meaning.CompactText.{AreLinesOfUnit, AreLinesOf, AreUnitsInPlace}
 use Rattle.crx_filter.specs.CompactText.{ExpandsAnyText, IsOfOneFile, WritesFirstUnits}
-use Rattle.crx_filter.proofs.reading.CompactPrefixes.{expanded-first, reading-at}
+use Rattle.crx_filter.proofs.reading.{CompactPrefixes.reading-at, Prefixes.expanded-first}
 use proofs.Words.{compact_reading, expanded_lines}
 use Rattle.crx_filter.proofs.Words.{Begins, FilterResult}
 use Rattle.crx_filter.proofs.wayback.ExpandedStandard.{printed-read}

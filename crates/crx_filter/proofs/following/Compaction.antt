@@ -1,11 +1,11 @@
 -- Compaction line by line reads, keeps and writes as the compaction of all lines does.
 use Rattle.crx_filter.proofs.Words.{common_steps, arith, ◌≡◌, ◌+◌, List, Some, ap, sym, ◌∙◌, Epoch}
-use Rattle.crx_filter.proofs.Words.{epoch_place, Marked, Tail, lines_after_tail, Choices, Item}
+use Rattle.crx_filter.proofs.Words.{Marked, OpenEpoch, Written, refl, Tail, lines_after_tail, Choices, Item}
 use Rattle.crx_filter.proofs.Words.{types_in_force, epochs_accepted, is_at_every, is_in_full, marked_epochs}
-use Rattle.crx_filter.proofs.Words.{compact_unit, compaction, written_of, rinex_open}
+use Rattle.crx_filter.proofs.Words.{compact_unit, compaction, written_of}
 use Rattle.crx_compact.{proofs.wayback.Tailing.epoch-by_tail, specs.Laws.tail_before}
-use Rattle.{crx_compact.specs.Steps.tail_written_after, crx_filter.proofs.following.Following.IsCarriedOut}
-use Rattle.crx_filter.proofs.following.Rinex.{AreSame, either-same, agree-begins, agree-continues, no-lines}
+use Rattle.{crx_compact.specs.Steps.tail_written_after, crx_filter.proofs.following.Following.{IsCarriedOut, Meaning}}
+use Rattle.crx_filter.proofs.following.Rinex.{AreSame, rinex_meaning, either-same, agree-begins, agree-continues, no-lines}
 use Rattle.crx_filter.proofs.reading.{Forward.rinex-forward, Types.counts-in_force}
 use Rattle.crx_rinex.proofs.SoundEpochs.{sound-epoch_place}
 
@@ -34,8 +34,11 @@ same-epochs choices items lines epoch count here =
           )));
       lines = λ number phase types kept either. rw (either-same either) (ap (λ t. lines_after_tail t epoch)
           (sym (same-tail choices items epoch)) ∙ sym by_tail.lines);
+      alike = refl;
     }
 
-pub compaction-carried_out : (choices : Choices) → IsCarriedOut (λ (before : List (Item Epoch)). epoch_place
-    (types_in_force before)) compaction rinex_open (written_of choices.every) (compact_unit choices) choices
+abbrev pub compaction_meaning : Choices → Meaning Epoch Epoch OpenEpoch Written Epoch
+compaction_meaning choices = rinex_meaning compaction (written_of choices.every) (compact_unit choices) choices
+
+pub compaction-carried_out : (choices : Choices) → IsCarriedOut (compaction_meaning choices)
 compaction-carried_out choices = search (rinex-forward, no-lines, agree-begins, same-epochs, agree-continues)

@@ -1,11 +1,10 @@
 -- Both directions are lawful filters.
-use Rattle.crx_filter.proofs.Words.{arith, List, map, refl, map-append, InputLine, as_read, Choices}
-use Rattle.crx_filter.proofs.Words.{rinex_place, compact_unit, expanded_unit, compaction_filter}
-use Rattle.crx_filter.proofs.{Words.{expansion_filter, IsLawful}, reading.CompactPrefixes.whole-more}
-use Rattle.crx_filter.proofs.reading.{CompactPrefixes.expanded-first, FineReadings.rinex-found}
-use Rattle.crx_filter.proofs.reading.FineReadings.{rinex-found-at-end, compact-found, compact-found-at-end}
-use Rattle.crx_filter.proofs.reading.{Forward.rinex-forward, Prefixes.{text-more, whole-items}}
-use Rattle.crx_filter.proofs.reading.{RinexPrefixes.compacted-first, StaysEnded.{rinex-stays, compact-stays}}
+use Rattle.crx_filter.proofs.Words.{arith, refl, map, map-append, as_read, Choices, compaction_filter}
+use Rattle.crx_filter.proofs.{Words.{expansion_filter, IsLawful}}
+use Rattle.crx_filter.proofs.following.DirectionSteps.{compaction-goes, expansion-goes}
+use Rattle.crx_filter.proofs.reading.FineReadings.{rinex-found, rinex-found-at-end}
+use Rattle.crx_filter.proofs.reading.FineReadings.{compact-found, compact-found-at-end}
+use Rattle.crx_filter.proofs.reading.{Prefixes.{output-grows, output-goes_on}, StaysEnded.{rinex-stays, compact-stays}}
 
 pub compaction-lawful : (choices : Choices) → IsLawful (compaction_filter choices)
 compaction-lawful choices = record {
@@ -15,12 +14,8 @@ compaction-lawful choices = record {
     map-append as_read lines more,
     rinex-stays choices.skip (map as_read lines) (map as_read more) at e,
   );
-  grows = λ (lines more : List InputLine).
-      rw (map-append as_read lines more) ((compacted-first choices (map as_read lines)).longer (map as_read
-      more));
-  goes_on = λ (lines more : List InputLine). rw (map-append as_read lines more)
-      (text-more (compact_unit choices) _ _
-      (whole-items rinex_place rinex-forward choices.skip 1 (map as_read lines) (map as_read more)));
+  grows = output-grows (compaction-goes choices refl);
+  goes_on = output-goes_on (compaction-goes choices refl);
   found = λ lines at e. rinex-found choices.skip (map as_read lines) at e;
   found_at_end = λ lines at e. rinex-found-at-end choices.skip (map as_read lines) at e;
 }
@@ -33,11 +28,8 @@ expansion-lawful choices = record {
     map-append as_read lines more,
     compact-stays choices.skip (map as_read lines) (map as_read more) at e,
   );
-  grows = λ (lines more : List InputLine).
-      rw (map-append as_read lines more) ((expanded-first choices (map as_read lines)).longer (map as_read
-      more));
-  goes_on = λ (lines more : List InputLine). rw (map-append as_read lines more)
-      (text-more expanded_unit _ _ (whole-more choices.skip (map as_read lines) (map as_read more) _ refl));
+  grows = output-grows (expansion-goes choices refl);
+  goes_on = output-goes_on (expansion-goes choices refl);
   found = λ lines at e. compact-found choices.skip (map as_read lines) at e;
   found_at_end = λ lines at e. compact-found-at-end choices.skip (map as_read lines) at e;
 }

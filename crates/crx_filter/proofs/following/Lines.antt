@@ -1,24 +1,26 @@
 -- One line more, wherever a reading has stopped.
 use Rattle.crx_filter.proofs
 use proofs.Words.{common_steps, ℕ, zero, suc, ◌≡◌, inl, inr, ◌+◌, ◌<◌, Bool, true, false, cond, List, [], ◌∷◌}
-use proofs.Words.{◌++◌, length, Option, Some, None, Result, refl, ap, sym, subst, ◌∙◌, arith, length-append}
-use proofs.Words.{append-nil, append_assoc, ◌&&◌, ⊤, nat_lt, ReadLine, Content, Overlong, Fault, LineTooLong}
-use proofs.Words.{At, is_end_of_header, Count, types_of, with_line, none-some, Place, NeedsMore, one_line}
-use proofs.Words.{first_line, FileUnit, HeaderLine, EventRecord, Choices, Item, Accepted, Warned, is_at_start}
-use proofs.Words.{header_has_ended, records_left, records_count_types, declaring_lines, types_in_force}
-use proofs.Words.{unless_wrong, types_fault, header_line_fault, header_line, event_record, unit_place}
-use proofs.Words.{Reading, Stop, AtFault, AtLines, Looking, is_skipped, can_go_on, reading_within}
-use proofs.Words.{reading_from, is_skippable, continued_reading, IsReadForward, fed, fed_once, fed_twice}
+use proofs.Words.{◌++◌, length, Option, Some, None, Result, refl, ap, sym, subst, ◌∙◌, arith, append-nil}
+use proofs.Words.{append_assoc, ◌&&◌, ⊤, nat_lt, ReadLine, Content, Overlong, Fault}
+use proofs.Words.{At, none-some, Place, NeedsMore, one_line, first_line}
+use proofs.Words.{FileUnit, HeaderLine, EventLine, EventRecord, Observation, Item, Accepted, Warned}
+use proofs.Words.{is_at_start, header_has_ended, records_left, records_count_types, declaring_lines}
+use proofs.Words.{types_in_force, unless_wrong, types_fault, header_line_fault, header_line, event_record}
+use proofs.Words.{unit_place, Reading, Stop, AtFault, AtLines, Looking, can_go_on, reading_from}
+use proofs.Words.{fault_at_end, continued_reading, Fed, fed, fed_once, fed_twice}
 use proofs.Words.{is_again, written_lines, warnings_in, Phase, InHeader, BetweenUnits, InEvent, InEpoch}
-use proofs.Words.{LookingOn, RunState, Made, Rejects, Direction, Notice, Step, made_of_unit, made_in}
-use proofs.Words.{phase_after, types_after, may_skip, is_in_epoch, is_skipped_in, kept_in, failed_step}
+use proofs.Words.{LookingOn, RunState, Made, Completes, Moves, Rejects, Direction, Notice, Step, made_of_unit}
+use proofs.Words.{made_in, with_records_left, is_in_epoch, is_skipped_in, kept_in, failed_step}
 use proofs.Words.{step_of_made, state_next, phase_in_body, phase_after_items, state_of, and_parts, by_bool}
-use proofs.Words.{false-true, Completes}
-use proofs.{Pending.again-lines, following.Following.{IsCarriedOut, AreKept, IsInside, Follows, Agrees}}
-use proofs.following.Following.{place, reads, state_at, emptied-same, skipped-same, body-place}
-use proofs.following.Following.{fed-once, fed-twice, failed-ends, failed-skipped, followed-unit, followed-end}
-use proofs.following.Following.{last-here, last-ends, last-skipped, skipped-again, records-phase, body-once}
-use proofs.reading.Resuming.{enough-units, looked-here, looked-on}
+use proofs.{Pending.{again-lines, noticed-lines, failed-lines}, reading.Resuming.{from-wanted, looked-here}}
+use proofs.following.Following.{Meaning, IsCarriedOut, IsSameUnit, Agrees, AgreeOn, AreKept, StandsAt, place}
+use proofs.following.Following.{collected, state_at, Follows, body-place, fed-once, fed-twice, failed-ends}
+use proofs.following.Following.{failed-skipped}
+use proofs.reading.{Resuming.{from-here, from-wrong, looked-on, wrong-within}, WhatWasRead.allowed}
+use proofs.Words.{false-true, length-append, state_end, max, ◌≤◌, drop, drop-append_seam, Done, Fails, looked_for}
+use proofs.Words.{after_fault}
+use Rattle.crx_filter.specs.LineByLine.{made_of_line}
 use Rattle.crx_header.proofs.Counts.{types_of-push}
 
 -- only in an epoch does a line come again
@@ -29,18 +31,9 @@ quiet-elsewhere direction state line made e = grind (arith, common_steps)
 
 -- ---- lines of the header, and an event's records
 
-pub never-before : (skip b : Bool) → (skip && (false && b)) ≡ false
-never-before skip b = grind (arith, common_steps)
-
-header-phase : {E O : Type 0} (items : List (Item E)) (is_first : Bool) (line : List ℕ)
-    → header_has_ended items ≡ false → phase_after_items {O = O} (Accepted (HeaderLine line) ∷ items) None
-    ≡ phase_after {U = E} (InHeader is_first) (HeaderLine line)
-header-phase {E = E} {O = O} items is_first line e = grind (arith, common_steps, cond, is_end_of_header)
-
-record-types : (counted : Bool) (lines : List (List ℕ)) (line : List ℕ) → types_of (cond counted
-    (lines ++ line ∷ []) lines) ≡ cond counted (with_line (types_of lines) line) (types_of lines)
-record-types true lines line = types_of-push lines line
-record-types false lines line = refl
+records-phase : {O : Type 0} (left : ℕ) (counted : Bool)
+    → phase_in_body {O = O} left counted None ≡ with_records_left left counted
+records-phase left counted = grind (arith, common_steps)
 
 pub header-place : {E : Type 0} (beginning : List (Item E) → List ReadLine → Place (FileUnit E))
     (items : List (Item E)) (lines : List ReadLine) → header_has_ended items ≡ false
@@ -60,7 +53,7 @@ pub one_line-decided : {X : Type 0} (r : Result X Fault) → one_line r ≡ Need
 one_line-decided r e = grind (arith, common_steps)
 
 -- where the first line is wanted, none has come
-pub only_none : {X : Type 0} (read : List ℕ → Result X Fault) (ls : List ReadLine)
+only_none : {X : Type 0} (read : List ℕ → Result X Fault) (ls : List ReadLine)
     → first_line ls read ≡ NeedsMore → ls ≡ []
 only_none read ls e = grind (arith, common_steps, one_line-decided)
 
@@ -73,251 +66,391 @@ IsStopped place items (AtLines number rest) next = (place items rest ≡ NeedsMo
 IsStopped place items (Looking number) next = (number ≡ next)
     × (header_has_ended items ≡ true) × (records_left items ≡ 0)
 
-pub more-units : {E : Type 0} (place : List (Item E) → List ReadLine → Place (FileUnit E))
-    → IsReadForward place → (skip : Bool) (items : List (Item E)) (number : ℕ) (rest : List ReadLine)
-    (line : ReadLine) → reading_from place skip items number (rest ++ line ∷ [])
-    ≡ reading_within place skip (suc (suc (length rest))) items number (rest ++ line ∷ [])
-more-units place h skip items number rest line = enough-units place h skip (length (rest ++ line ∷ []) + 1)
-    (suc (suc (length rest))) items number (rest ++ line ∷ []) (omega arith)
-    (omega (arith, length-append rest (line ∷ [])))
+-- the end after whole units is good
+pub closes-well : {E : Type 0} (items : List (Item E))
+    → header_has_ended items ≡ true → records_left items ≡ 0 → fault_at_end items [] ≡ None
+closes-well items e f = grind (arith, common_steps)
 
--- what a line makes that is looked at as the first of an epoch or an event, or passed over
-pub made-looking : {U O K : Type 0} (direction : Direction U O K) (types : List Count) (kept : K)
-    (line : ReadLine)
-    → can_go_on line ≡ true → made_in direction LookingOn types kept line ≡ direction.begins types kept line
-made-looking direction types kept line e = rw e refl
+-- a line is looked at again where some came before it and it begins with >, and else none is found
+module _ {E : Type 0} (read : ℕ → List ReadLine → Reading E) (items : List (Item E)) (number : ℕ)
+    (rest : List ReadLine) (line : ReadLine) where
+  abbrev looked : Reading E
+  looked = looked_for read items (number + max (length rest) 1) (drop (max (length rest) 1) (rest ++ line ∷ []))
+
+  looked-again : (nat_lt 0 (length rest) && can_go_on line) ≡ true → looked ≡ read (number + length rest) (line ∷ [])
+  looked-again goes = grind (arith, common_steps, max, drop-append_seam, looked-here)
+
+  looked-off : (nat_lt 0 (length rest) && can_go_on line) ≡ false
+      → (n : ℕ) × (looked ≡ record { items = items; stop = Looking n })
+  looked-off stays = (number + length rest + 1, grind (arith, common_steps, max, drop-append_seam, looked-on))
+
+-- ---- what a line makes that is given twice
+
+-- what it makes, where it comes again the second time
+abbrev pub last_made : {U O K : Type 0} → Direction U O K → RunState O K → ReadLine → Made U O
+last_made direction state line =
+    let one : Step _ _ = state_next direction state line in
+    elim (is_again one.answer) [
+      | true ↦ made_in direction one.next.phase one.next.types one.next.kept line
+      | false ↦ made_in direction state.phase state.types state.kept line
+    ]
+
+pub last-once : {U O K : Type 0} (direction : Direction U O K) (state : RunState O K) (line : ReadLine)
+    → is_again (state_next direction state line).answer ≡ false
+    → last_made direction state line ≡ made_in direction state.phase state.types state.kept line
+last-once direction state line e = rw (e, last_made) refl
+
+pub last-twice : {U O K : Type 0} (direction : Direction U O K) (state : RunState O K) (line : ReadLine)
+    → is_again (state_next direction state line).answer ≡ true
+    → last_made direction state line ≡ made_in direction (state_next direction state line).next.phase
+    (state_next direction state line).next.types (state_next direction state line).next.kept line
+last-twice direction state line e = rw (e, last_made) refl
+
+kept-with_records : {U O K : Type 0} (direction : Direction U O K) (left : ℕ) (counted : Bool) (kept : K)
+    → kept_in direction (with_records_left left counted) kept ≡ kept
+kept-with_records direction left counted kept = grind (arith, common_steps)
 
 -- ---- one line more
 
-module _ {E U O K : Type 0} {beginning : List (Item E) → List ReadLine → Place (FileUnit E)}
-    {direction : Direction U O K} {open_with : List (Item E) → List ReadLine → Option O}
-    {kept_of : List (Item E) → K} {unit_lines : List (Item E) → FileUnit E → List (List ℕ)}
-    {choices : Choices} (h : IsCarriedOut beginning direction open_with kept_of unit_lines choices) where
-  -- what is kept of a line that comes twice, in the order of its two steps
-  followed-twice : (count : ℕ) (items : List (Item E)) (at : At) (r : Reading E) (next : RunState O K)
-      (two : Step O K) → Follows h count (Warned at ∷ items) r (fed_once two) → Follows h count items r
-      (fed_twice (record { answer = Notice at true; handed_out = []; next = next }) two)
-  followed-twice count items at r next two f = grind (arith, common_steps, append_assoc, warnings_in)
-
-  -- the next line where an epoch or an event may begin or in an epoch, given a second time where it is to
-  -- come again
-  body-line : (units : ℕ) (items : List (Item E)) (number count : ℕ) (rest : List ReadLine)
-      (line : ReadLine) (phase : Phase O) (kept : K) (made : Made U O) → header_has_ended items ≡ true
-      → records_left items ≡ 0 → beginning items rest ≡ NeedsMore → Agrees h items (rest ++ line ∷ []) made
-      → may_skip phase ≡ true → AreKept h items kept → IsInside h items phase kept rest
-      → (is_in_epoch phase ≡ true → 0 < length rest) → number + length rest ≡ count + 1 → length rest < units
-      → made_in direction phase (types_in_force items) kept line ≡ made → Follows h (count + 1) items (reads h
-      (suc units) items number (rest ++ line ∷ [])) (fed direction (state_at h count phase items kept) line)
-  body-line units items number count rest line phase kept made ended none wanted agree may keeps inside
-      within counted enough e = by_bool (is_again (step made).answer)
-      (λ on. rw (fed-twice direction state line (rw e on), e) (again made agree on))
-      (λ off. rw (fed-once direction state line (rw e off), e) (body-once h units items number count rest line
-      phase kept made ended none wanted agree may keeps inside counted off))
-    where
-      state : RunState O K
-      state = state_at h count phase items kept
-
-      after : Reading E
-      after = reads h (suc units) items number (rest ++ line ∷ [])
-
-      step : Made U O → Step O K
-      step = step_of_made direction state line
-
-      again : (m : Made U O) → Agrees h items (rest ++ line ∷ []) m → is_again (step m).answer ≡ true
-          → Follows h (count + 1) items after (fed_twice (step m) (state_next direction (step m).next line))
-      again (Rejects fault) a on =
-          let at : At = record { line = count + 1; fault = fault } in
-          by_bool (is_skipped_in state fault) (λ skipped.
-          let both : (is_in_epoch phase && can_go_on line) ≡ true = sym (ap
-          (λ (s : Step _ _). is_again s.answer) (failed-skipped direction state line fault skipped)) ∙ on in
-          let each = and_parts (is_in_epoch phase) (can_go_on line) both in
-          let looking : RunState O K = state_at h count LookingOn items (direction.emptied kept) in
-          let is_one : failed_step direction state line fault
-          ≡ record { answer = Notice at true; handed_out = []; next = looking } = rw (skipped, both) refl in
-          let kept_then : direction.emptied kept ≡ kept_of (Warned at ∷ items) =
-          emptied-same h items kept keeps ∙ h.warned items at in
-          let made_then : Made U O = direction.begins (types_in_force items) (kept_of (Warned at ∷ items))
-          line in
-          let is_made : made_in direction LookingOn (types_in_force items) (direction.emptied kept) line
-          ≡ made_then = made-looking direction (types_in_force items) (direction.emptied kept) line each.1
-          ∙ ap (λ k. direction.begins (types_in_force items) k line) kept_then in
-          let some : 0 < length rest = within each.0 in
-          let anew : Reading E = reads h 2 (Warned at ∷ items) (count + 1) (line ∷ []) in
-          let same_reading : after ≡ anew = last-skipped h.forward choices.skip
-          units items number count rest line a.0 fault (body-place beginning items rest ended none ∙ wanted)
-          (body-place beginning items (rest ++ line ∷ []) ended none ∙ a.1) (skipped-same choices count phase
-          (types_in_force items) kept items fault ended none may ∙ skipped) counted ∙ skipped-again h units
-          items number count rest line at some counted each.1 ∙ enough-units (place h) h.forward choices.skip
-          units 2 (Warned at ∷ items) (count + 1) (line ∷ []) (omega (arith, enough, some)) (omega arith) in
-          rw (same_reading, is_one, is_made) (followed-twice (count + 1) items
-          at anew looking (step_of_made direction looking line made_then) (body-once h 1 (Warned at ∷ items)
-          (count + 1) count [] line LookingOn (direction.emptied kept) made_then ended refl
-          (h.wants (Warned at ∷ items)) (h.begins (Warned at ∷ items) line) refl (inl kept_then) kept_then
-          (omega arith) (quiet-elsewhere direction looking line made_then refl)))) (λ off. false-true
-          (sym (ap (λ (s : Step _ _). is_again s.answer) (failed-ends direction state line fault off)) ∙ on))
-      again (Completes unit) a on = false-true (sym (again-lines
-          (direction.written (state_at h count phase items kept) unit)) ∙ on)
-      again m a on = false-true on
-
-  -- a line that is a unit of its own, or has a fault that is never skipped
-  simple-line : (units : ℕ) (items : List (Item E)) (count : ℕ) (line : ReadLine) (phase : Phase O)
-      (fault : Option Fault) (unit : FileUnit E) (same : FileUnit U) → place h items (line ∷ [])
-      ≡ one_line (unless_wrong unit fault) → ((f : Fault) → is_skipped choices.skip items f ≡ false)
-      → ((f : Fault) → is_skipped_in (state_at h count phase items (kept_of items)) f ≡ false)
-      → phase_after_items {O = O} (Accepted unit ∷ items) None ≡ phase_after phase same → types_in_force
-      (Accepted unit ∷ items) ≡ types_after phase (types_in_force items) same → direction.kept_after
-      (state_at h count phase items (kept_of items)) same ≡ kept_of (Accepted unit ∷ items)
-      → direction.written (state_at h count phase items (kept_of items)) same ≡ unit_lines items unit →
-      Follows h (count + 1) items (reads h (suc units) items (count + 1) (line ∷ [])) (fed_once (step_of_made
-      direction (state_at h count phase items (kept_of items)) line (made_of_unit (unless_wrong same fault))))
-  simple-line units items count line phase None unit same here never never_in phases types keeps lines = rw
-      (last-here h.forward choices.skip units items (count + 1) [] line unit 1 (h.forward.wants items) here)
-      (followed-unit h count (count + 1 + 1) items phase (kept_of items) line unit same phases types keeps
-      lines)
-  simple-line units items count line phase (Some fault) unit same here never never_in phases types keeps
-      lines = grind (arith, common_steps, last-ends, h.forward, followed-end)
-
-  -- a line outside an epoch is fed once
-  line-once : (count : ℕ) (items : List (Item E)) (line : ReadLine) (phase : Phase O) (r : Reading E)
-      → is_in_epoch phase ≡ false → Follows h (count + 1) items r
-      (fed_once (state_next direction (state_at h count phase items (kept_of items)) line))
-      → Follows h (count + 1) items r (fed direction (state_at h count phase items (kept_of items)) line)
-  line-once count items line phase r outside follows =
-      grind (arith, common_steps, fed-once, quiet-elsewhere, made_in, phase, state_at)
-
-  -- the next line in the header
-  header-line : (units : ℕ) (items : List (Item E)) (count : ℕ) (line : ReadLine) → header_has_ended items
-      ≡ false → Follows h (count + 1) items (reads h (suc units) items (count + 1) (line ∷ []))
-      (fed direction (state_at h count (InHeader (is_at_start items)) items (kept_of items)) line)
-  header-line units items count line e = line-once count items line (InHeader (is_at_start items))
-      (reads h (suc units) items (count + 1) (line ∷ [])) refl (by_line line)
-    where
-      simple : (content : List ℕ) (l : ReadLine) (fault : Option Fault) → place h items (l ∷ []) ≡ one_line
-          (unless_wrong (HeaderLine content) fault) → Follows h (count + 1) items (reads h (suc units) items
-          (count + 1) (l ∷ [])) (fed_once (step_of_made direction (state_at h count (InHeader (is_at_start
-          items)) items (kept_of items)) l (made_of_unit (unless_wrong (HeaderLine content) fault))))
-      simple content l fault here = simple-line units items count l
-          (InHeader (is_at_start items)) fault (HeaderLine content) (HeaderLine content) here
-          (λ f. grind (arith, common_steps, never-before)) (λ f. never-before choices.skip (is_skippable f))
-          (header-phase items (is_at_start items) content e)
-          (types_of-push (declaring_lines items) content) (h.header_kept items count
-          (types_in_force items) content) (h.header_lines items count (types_in_force items) content)
-
-      by_line : (l : ReadLine) → Follows h (count + 1) items (reads h (suc units) items (count + 1) (l ∷ []))
-          (fed_once (state_next direction (state_at h count (InHeader (is_at_start items)) items
-          (kept_of items)) l))
-      by_line Overlong = simple [] Overlong (Some LineTooLong) (rw e refl)
-      by_line (Content content) =
-          simple content (Content content) (header_line_fault (is_at_start items) content) (rw e refl)
-
-  -- the next record of an event
-  record-line : (units : ℕ) (items : List (Item E)) (count left : ℕ) (line : ReadLine)
-      → header_has_ended items ≡ true → records_left items ≡ suc left
-      → Follows h (count + 1) items (reads h (suc units) items (count + 1) (line ∷ [])) (fed direction
-      (state_at h count (InEvent (suc left) (records_count_types items)) items (kept_of items)) line)
-  record-line units items count left line ended some =
-      line-once count items line phase (reads h (suc units) items (count + 1) (line ∷ [])) refl (by_line line)
-    where
-      phase : Phase O
-      phase = InEvent (suc left) (records_count_types items)
-
-      simple : (content : List ℕ) (l : ReadLine) (fault : Option Fault) → place h items (l ∷ [])
-          ≡ one_line (unless_wrong (EventRecord content) fault) → Follows h (count + 1) items
-          (reads h (suc units) items (count + 1) (l ∷ [])) (fed_once (step_of_made direction (state_at
-          h count phase items (kept_of items)) l (made_of_unit (unless_wrong (EventRecord content) fault))))
-      simple content l fault here = simple-line units items count l phase fault (EventRecord content)
-          (EventRecord content) here (λ f. grind (arith, common_steps, never-before)) (λ f. never-before
-          choices.skip (is_skippable f)) (rw (ended, some)
-          (records-phase _ _)) (record-types (records_count_types items) (declaring_lines items) content)
-          (h.record_kept items count (suc left) (types_in_force items) content)
-          (h.record_lines items count phase (types_in_force items) (kept_of items) content)
-
-      by_line : (l : ReadLine) → Follows h (count + 1) items (reads h (suc units) items (count + 1) (l ∷ []))
-          (fed_once (state_next direction (state_at h count phase items (kept_of items)) l))
-      by_line Overlong = simple [] Overlong
-          (Some LineTooLong) (record-place beginning items left (Overlong ∷ []) ended some)
-      by_line (Content content) = simple content (Content content) (cond (records_count_types items)
-          (types_fault content) None) (record-place beginning items left (Content content ∷ []) ended some)
-
-  -- where an epoch or an event may begin, no line of it having come
-  fresh-line : (items : List (Item E)) (number count : ℕ) (line : ReadLine) (phase : Phase O)
-      → header_has_ended items ≡ true → records_left items ≡ 0 → may_skip phase ≡ true
-      → is_in_epoch phase ≡ false → number ≡ count + 1 → made_in direction phase (types_in_force items)
-      (kept_of items) line ≡ direction.begins (types_in_force items) (kept_of items) line
-      → Follows h (count + 1) items (reading_from (place h) choices.skip items number (line ∷ []))
-      (fed direction (state_at h count phase items (kept_of items)) line)
-  fresh-line items number count line phase ended none may outside counted made = body-line 1 items number
-      count [] line phase (kept_of items) (direction.begins (types_in_force items) (kept_of items) line) ended
-      none (h.wants items) (h.begins items line) may (inl refl) refl (λ e. false-true (cc))
-      (omega (arith, counted)) (omega arith) made
-
+module _ {E U O K V : Type 0} {m : Meaning E U O K V} (h : IsCarriedOut m) where
   -- what is so in each phase that a reading can be in where more lines are wanted, is so there
   pub by_phase : (P : List ReadLine → Phase O → Type 0) (items : List (Item E)) (rest : List ReadLine)
-      → place h items rest ≡ NeedsMore → (header_has_ended items ≡ false → P [] (InHeader (is_at_start
+      → place m items rest ≡ NeedsMore → (header_has_ended items ≡ false → P [] (InHeader (is_at_start
       items))) → ((left : ℕ) → header_has_ended items ≡ true → records_left items ≡ suc left → P [] (InEvent
       (suc left) (records_count_types items))) → (header_has_ended items ≡ true → records_left items ≡ 0 → P
-      [] BetweenUnits) → ((so_far : O) → header_has_ended items ≡ true → records_left items ≡ 0 → open_with
-      items rest ≡ Some so_far → P rest (InEpoch so_far)) → P rest (phase_after_items items (open_with items
+      [] BetweenUnits) → ((so_far : O) → header_has_ended items ≡ true → records_left items ≡ 0 → m.open_with
+      items rest ≡ Some so_far → P rest (InEpoch so_far)) → P rest (phase_after_items items (m.open_with items
       rest))
   by_phase P items rest wanted header event between epoch =
-      cases (header_has_ended items) refl (records_left items) refl (open_with items rest) refl
+      cases (header_has_ended items) refl (records_left items) refl (m.open_with items rest) refl
     where
       both : {ls : List ReadLine} {p : Phase O} → P ls p → rest ≡ ls → phase_after_items items
-          (open_with items rest) ≡ p → P rest (phase_after_items items (open_with items rest))
-      both {ls = ls} here lines phase = subst (λ l. P l (phase_after_items items (open_with items rest)))
+          (m.open_with items rest) ≡ p → P rest (phase_after_items items (m.open_with items rest))
+      both {ls = ls} here lines phase = subst (λ l. P l (phase_after_items items (m.open_with items rest)))
           (sym lines) (subst (P ls) (sym phase) here)
 
       cases : (ended : Bool) → header_has_ended items ≡ ended → (left : ℕ) → records_left items ≡ left
-          → (so_far : Option O) → open_with items rest ≡ so_far
-          → P rest (phase_after_items items (open_with items rest))
+          → (so_far : Option O) → m.open_with items rest ≡ so_far
+          → P rest (phase_after_items items (m.open_with items rest))
       cases false e left some so_far opens = both (header e) (only_none (header_line {E = E} (is_at_start
-          items)) rest (sym (header-place beginning items rest e) ∙ wanted)) (rw e refl)
+          items)) rest (sym (header-place m.beginning items rest e) ∙ wanted)) (rw e refl)
       cases true e (suc left) some so_far opens = both (event left e some) (only_none (event_record
-          (records_count_types items)) rest (sym (record-place beginning items left rest e some) ∙ wanted))
+          (records_count_types items)) rest (sym (record-place m.beginning items left rest e some) ∙ wanted))
           (rw (e, some) refl)
       cases true e zero none None opens =
           grind (arith, common_steps, both, body-place, phase_in_body, records_count_types)
       cases true e zero none (Some so_far) opens =
           grind (arith, common_steps, both, phase_in_body, records_count_types)
 
-  -- an epoch that is open has some lines
-  pub some_lines : (items : List (Item E)) (so_far : O) (ls : List ReadLine)
-      → open_with items ls ≡ Some so_far → 0 < length ls
-  some_lines items so_far ls e = grind (arith, common_steps, none-some)
+  -- ---- what a line makes in a phase is what is there
 
-  -- one line more, where more lines are wanted
-  lines-line : (items : List (Item E)) (number count : ℕ) (rest : List ReadLine) (line : ReadLine)
-      → place h items rest ≡ NeedsMore → number + length rest ≡ count + 1
-      → Follows h (count + 1) items (reading_from (place h) choices.skip items number (rest ++ line ∷ []))
-      (fed direction (state_at h count (phase_after_items items (open_with items rest)) items
-      (kept_in direction (phase_after_items items (open_with items rest)) (kept_of items))) line)
-  lines-line items number count rest line wanted = by_phase (λ ls p. number + length ls ≡ count + 1 → Follows
-      h (count + 1) items (reading_from (place h) choices.skip items number (ls ++ line ∷ [])) (fed direction
-      (state_at h count p items (kept_in direction p (kept_of items))) line)) items rest wanted (λ e counted.
-      let same : number ≡ count + 1 = omega (arith, counted) in
-      rw same (header-line 1 items count line e)) (λ left e some counted.
-      let same : number ≡ count + 1 = omega (arith, counted) in
-      rw same (record-line 1 items count left line e some)) (λ e none
-      counted. fresh-line items number count line BetweenUnits e none refl refl (omega (arith, counted)) refl)
-      (λ so_far e none opens counted. rw (more-units (place h) h.forward choices.skip items number rest line)
-      (body-line (suc (length rest)) items number count rest line (InEpoch so_far) (direction.kept_open
-      (kept_of items)) (direction.continues so_far line) e none (sym (body-place beginning items rest e none)
-      ∙ wanted) (h.continues items rest line so_far opens) refl (inr refl)
-      (grind (arith, none-some, h.none_open)) (λ in_epoch. some_lines items so_far rest opens) counted
-      (omega arith) refl))
+  -- a line that is a unit of its own, or has a fault
+  copied-agrees : (items : List (Item E)) (phase : Phase O) (kept : K) (unit : List ℕ → FileUnit E)
+      (same : List ℕ → FileUnit U) (fault_in : List ℕ → Option Fault) (line : ReadLine) → place m items (line ∷ [])
+      ≡ first_line (line ∷ []) (λ l. unless_wrong (unit l) (fault_in l))
+      → ((l : List ℕ) → IsSameUnit m items phase kept (unit l) (same l)) → Agrees m items phase kept (line ∷ [])
+      (made_of_line (λ l. made_of_unit (unless_wrong (same l) (fault_in l))) line)
+  copied-agrees items phase kept unit same fault_in Overlong e s = (0, e)
+  copied-agrees items phase kept unit same fault_in (Content l) e s = by_fault (fault_in l) e
+    where
+      by_fault : (o : Option Fault) → place m items (Content l ∷ []) ≡ one_line (unless_wrong (unit l) o)
+          → Agrees m items phase kept (Content l ∷ []) (made_of_unit (unless_wrong (same l) o))
+      by_fault None e = (1, unit l, e, s l)
+      by_fault (Some fault) e = (0, e)
+
+  -- where an epoch or an event may begin, and in an epoch
+  body-agrees : (items : List (Item E)) (phase : Phase O) (kept : K) (lines : List ReadLine) (made : Made U O)
+      → header_has_ended items ≡ true → records_left items ≡ 0 → AreKept m items kept
+      → (length lines ≡ 1 → kept ≡ m.kept_of items) → AgreeOn m items lines made
+      → Agrees m items phase kept lines made
+  body-agrees items phase kept lines (Completes (EventLine l)) ended none keeps first (count, here, one) = (
+    count,
+    EventLine l,
+    body-place m.beginning items lines ended none ∙ here,
+    record {
+      phases = rw ended (records-phase _ _);
+      types = refl;
+      keeps = λ n. rw (first one) (h.event_kept items n phase (types_in_force items) l);
+      lines = λ n. h.event_lines items n phase (types_in_force items) kept l;
+      epochs = refl;
+    },
+  )
+  body-agrees items phase kept lines (Completes (Observation held)) ended none keeps first (
+    count,
+    epoch,
+    here,
+    same,
+  ) = (
+    count,
+    Observation epoch,
+    body-place m.beginning items lines ended none ∙ here,
+    record {
+      phases = rw ended refl;
+      types = refl;
+      keeps = λ n. same.kept n phase (types_in_force items) kept keeps;
+      lines = λ n. same.lines n phase (types_in_force items) kept keeps;
+      epochs = ap (λ v. v ∷ collected m items) (sym same.alike);
+    },
+  )
+  body-agrees items phase kept lines (Moves next) ended none keeps first agree =
+      grind (arith, common_steps, body-place, h.open_open)
+  body-agrees items phase kept lines (Rejects fault) ended none keeps first (offset, here) =
+      (offset, body-place m.beginning items lines ended none ∙ here)
+  body-agrees items phase kept lines made ended none keeps first agree = absurd agree
+
+  -- an epoch that is open has some lines
+  some_lines : (items : List (Item E)) (so_far : O) (ls : List ReadLine)
+      → m.open_with items ls ≡ Some so_far → 0 < length ls
+  some_lines items so_far ls e = grind (arith, common_steps, none-some, h.none_open)
+
+  -- what is so where more lines are wanted
+  abbrev Stands : List (Item E) → List ReadLine → Phase O → Type 0
+  Stands items rest phase = let kept : K = kept_in m.direction phase (m.kept_of items) in
+      StandsAt m items rest phase kept × ((line : ReadLine) → Agrees m items phase kept (rest ++ line ∷ [])
+      (made_in m.direction phase (types_in_force items) kept line))
+
+  pub stands : (items : List (Item E)) (rest : List ReadLine) → place m items rest ≡ NeedsMore
+      → Stands items rest (phase_after_items items (m.open_with items rest))
+  stands items rest wanted = by_phase (Stands items) items rest wanted
+      (λ e. (
+        record {
+          wanted = h.forward.wants items;
+          skips = λ fault. rw e refl;
+          inside = refl;
+          emptied = refl;
+          ends = λ n. grind (arith, common_steps, e, state_end);
+        },
+        λ line. copied-agrees items _ _ HeaderLine HeaderLine (header_line_fault (is_at_start items)) line
+            (header-place m.beginning items (line ∷ []) e) (λ l. record {
+              phases = rw e (grind (arith, common_steps));
+              types = types_of-push (declaring_lines items) l;
+              keeps = λ n. h.header_kept items n (types_in_force items) l;
+              lines = λ n. h.header_lines items n (types_in_force items) l;
+              epochs = refl;
+            }),
+      ))
+      (λ left e some. (
+        record {
+          wanted = h.forward.wants items;
+          skips = λ fault. grind (arith, common_steps, e, some);
+          inside = refl;
+          emptied = refl;
+          ends = λ n. grind (arith, common_steps, e, some, nat_lt, state_end);
+        },
+        λ line. copied-agrees items _ _ EventRecord EventRecord
+            (λ l. cond (records_count_types items) (types_fault l) None) line
+            (record-place m.beginning items left (line ∷ []) e some) (λ l. record {
+              phases = rw (e, some) (records-phase _ _);
+              types = grind (arith, common_steps, types_of-push);
+              keeps = λ n. h.record_kept items n (suc left) (types_in_force items) l;
+              lines = λ n. h.record_lines items n _ (types_in_force items) (m.kept_of items) l;
+              epochs = refl;
+            }),
+      ))
+      (λ e none. (
+        record {
+          wanted = h.forward.wants items;
+          skips = λ fault. rw (e, none) refl;
+          inside = refl;
+          emptied = refl;
+          ends = λ n. rw (closes-well items e none) refl;
+        },
+        λ line. body-agrees items BetweenUnits (m.kept_of items) (line ∷ []) _ e none (inl refl) (λ one. refl)
+            (h.begins items line),
+      ))
+      (λ so_far e none opens. (
+        record {
+          wanted = wanted;
+          skips = λ fault. rw (e, none) refl;
+          inside = grind (arith, common_steps, some_lines, opens);
+          emptied = h.emptied_open (m.kept_of items);
+          ends = λ n. grind (arith, common_steps, e, some_lines, opens, state_end);
+        },
+        λ line. body-agrees items (InEpoch so_far) (m.direction.kept_open (m.kept_of items)) (rest ++ line ∷ [])
+            _ e none (inr refl) (λ one. absurd (omega (
+              arith,
+              one,
+              some_lines items so_far rest opens,
+              length-append rest (line ∷ []),
+            ))) (h.continues items rest line so_far opens),
+      ))
+
+  -- where a line is looked for, the one that reading goes on at is looked at as where an epoch may begin
+  looking-stands : (items : List (Item E)) (line : ReadLine) → header_has_ended items ≡ true
+      → records_left items ≡ 0 → can_go_on line ≡ true → StandsAt m items [] LookingOn (m.kept_of items)
+      × Agrees m items LookingOn (m.kept_of items) (line ∷ [])
+      (made_in m.direction LookingOn (types_in_force items) (m.kept_of items) line)
+  looking-stands items line e none goes = (
+    record {
+      wanted = h.forward.wants items;
+      skips = λ fault. rw (e, none) refl;
+      inside = refl;
+      emptied = refl;
+      ends = λ n. rw (closes-well items e none) refl;
+    },
+    rw goes (body-agrees items LookingOn (m.kept_of items) (line ∷ []) _ e none (inl refl) (λ one. refl)
+        (h.begins items line)),
+  )
+
+  -- ---- what a step comes to
+
+  abbrev reads : List (Item E) → ℕ → List ReadLine → Reading E
+  reads = reading_from (place m) m.choices.skip
+
+  -- what is seen after so many lines and their reading
+  abbrev pub seen_after : ℕ → Reading E → RunState O K
+  seen_after count r = state_of m.direction m.open_with m.kept_of m.choices count r
+
+  abbrev pub FollowsAs : ℕ → List (Item E) → Reading E → Fed O K → Made U O → Type 0
+  FollowsAs count items r = Follows m (seen_after count r) items r
+
+  module _ (items : List (Item E)) (number count : ℕ) (rest : List ReadLine) (line : ReadLine) (phase : Phase O)
+      (kept : K) (s : StandsAt m items rest phase kept) (counted : number + length rest ≡ count + 1) where
+    abbrev state : RunState O K
+    state = state_at m count phase items kept
+
+    abbrev step : Made U O → Step O K
+    step made = step_of_made m.direction state line made
+
+    abbrev after : Reading E
+    after = reads items number (rest ++ line ∷ [])
+
+    abbrev AgreeHere : Made U O → Type 0
+    AgreeHere = Agrees m items phase kept (rest ++ line ∷ [])
+
+    -- what is read of it: a unit that it completes; a fault that it decides, which ends with it
+    last-here : (unit : FileUnit E) (lines : ℕ) → place m items (rest ++ line ∷ []) ≡ Done unit lines
+        → after ≡ record { items = Accepted unit ∷ items; stop = AtLines (number + lines) [] }
+    last-here unit lines e = from-here (place m) h.forward m.choices.skip items number (rest ++ line ∷ []) unit
+        lines e ∙ grind (arith, common_steps, from-wanted, h.forward, s.wanted)
+
+    pub wrong-last : (offset : ℕ) (fault : Fault)
+        → place m items (rest ++ line ∷ []) ≡ Fails offset fault → offset ≡ length rest
+    wrong-last offset fault e =
+        let past : length rest ≤ offset = rw (s.wanted, e) at (h.forward.steady items rest (line ∷ [])) in
+        let within = wrong-within (place m) h.forward items (rest ++ line ∷ []) offset fault e in
+        omega (arith, past, within, length-append rest (line ∷ []))
+
+    module _ (fault : Fault) (offset : ℕ) (e : place m items (rest ++ line ∷ []) ≡ Fails offset fault) where
+      abbrev at : At
+      at = record { line = count + 1; fault = fault }
+
+      at-last : after ≡ after_fault m.choices.skip reads items number (rest ++ line ∷ []) (length rest) fault
+      at-last = from-wrong (place m) h.forward m.choices.skip items number (rest ++ line ∷ []) (length rest) fault
+          (e ∙ ap (λ n. Fails n fault) (wrong-last offset fault e))
+
+      last-skips : is_skipped_in state fault ≡ true → after ≡ looked_for (reads (Warned at ∷ items))
+          (Warned at ∷ items) (number + max (length rest) 1) (drop (max (length rest) 1) (rest ++ line ∷ []))
+      last-skips on = at-last ∙ rw (s.skips fault ∙ on, counted, after_fault) refl
+
+      -- it ends the run; it is skipped, and reading goes on at this line, or no line is at hand to go on at
+      last-ends : is_skipped_in state fault ≡ false → FollowsAs (count + 1) items after
+          (fed_once (step (Rejects fault))) (Rejects fault)
+      last-ends off =
+          let is : after ≡ record { items = items; stop = AtFault at } =
+          at-last ∙ rw (s.skips fault ∙ off, counted, after_fault) refl in
+          rw is (grind (arith, common_steps, failed-ends, append-nil, written_lines, s.emptied))
+
+      last-on : is_skipped_in state fault ≡ true → (is_in_epoch phase && can_go_on line) ≡ true
+          → after ≡ reads (Warned at ∷ items) (count + 1) (line ∷ [])
+      last-on on goes = last-skips on ∙ looked-again (reads (Warned at ∷ items)) (Warned at ∷ items) number rest line
+          (rw (← s.inside) goes) ∙ ap (λ n. reads (Warned at ∷ items) n (line ∷ [])) counted
+
+      last-off : is_skipped_in state fault ≡ true → (is_in_epoch phase && can_go_on line) ≡ false
+          → FollowsAs (count + 1) items after (fed_once (step (Rejects fault))) (Rejects fault)
+      last-off on stays = rw (
+        last-skips on,
+        (looked-off (reads (Warned at ∷ items)) (Warned at ∷ items) number rest
+            line (rw (← s.inside) stays)).1,
+      )
+          (grind (arith, common_steps, failed-skipped, append-nil, written_lines, s.emptied, h.warned))
+
+    followed-unit : (n : ℕ) (unit : FileUnit E) (held : FileUnit U) → IsSameUnit m items phase kept unit held
+        → FollowsAs (count + 1) items (record { items = Accepted unit ∷ items; stop = AtLines n [] })
+        (fed_once (step (Completes held))) (Completes held)
+    followed-unit n unit held same = grind (
+      arith,
+      common_steps,
+      phase_after_items,
+      kept-with_records,
+      noticed-lines,
+      failed-lines,
+      h.none_open,
+    )
+
+    -- where it is given once
+    made-once : (made : Made U O) → Agrees m items phase kept (rest ++ line ∷ []) made
+        → is_again (step made).answer ≡ false → FollowsAs (count + 1) items after (fed_once (step made)) made
+    made-once (Completes held) (lines, unit, there, same) quiet = rw (last-here unit lines there) (followed-unit _ unit held same)
+    made-once (Moves next) agree quiet = rw (from-wanted (place m) h.forward m.choices.skip items number
+        (rest ++ line ∷ []) agree.0) (grind (arith, common_steps, append-nil))
+    made-once (Rejects fault) (offset, there) quiet = by_bool (is_skipped_in state fault)
+        (λ on. last-off fault offset there on (sym (ap (λ (t : Step _ _). is_again t.answer)
+        (failed-skipped m.direction state line fault on)) ∙ quiet)) (last-ends fault offset there)
+    made-once made agree quiet = absurd agree
+
+  -- its warning, and then what it makes the second time
+  followed-twice : (count : ℕ) (items : List (Item E)) (at : At) (r : Reading E) (next : RunState O K)
+      (two : Step O K) (made : Made U O) → FollowsAs count (Warned at ∷ items) r (fed_once two) made
+      → FollowsAs count items r (fed_twice (record { answer = Notice at true; handed_out = []; next = next }) two)
+      made
+  followed-twice count items at r next two made f = grind (arith, common_steps, append_assoc, warnings_in)
+
+  module _ (items : List (Item E)) (number count : ℕ) (rest : List ReadLine) (line : ReadLine) (phase : Phase O)
+      (kept : K) (s : StandsAt m items rest phase kept) (counted : number + length rest ≡ count + 1) where
+    abbrev here : RunState O K
+    here = state_at m count phase items kept
+
+    abbrev one : Made U O → Step O K
+    one made = step_of_made m.direction here line made
+
+    made-again : (made : Made U O) → Agrees m items phase kept (rest ++ line ∷ []) made
+        → is_again (one made).answer ≡ true → FollowsAs (count + 1) items (reads items number (rest ++ line ∷ []))
+        (fed_twice (one made) (state_next m.direction (one made).next line))
+        (made_in m.direction (one made).next.phase (one made).next.types (one made).next.kept line)
+    made-again (Rejects fault) (offset, there) on = by_bool (is_skipped_in here fault) (λ skipped.
+        let both : (is_in_epoch phase && can_go_on line) ≡ true = sym (ap (λ (t : Step _ _). is_again t.answer)
+        (failed-skipped m.direction here line fault skipped)) ∙ on in
+        let at : At = record { line = count + 1; fault = fault } in
+        let then : List (Item E) = Warned at ∷ items in
+        let looking : RunState O K = state_at m count LookingOn then (m.kept_of then) in
+        let is_one : failed_step m.direction here line fault
+        ≡ record { answer = Notice at true; handed_out = []; next = looking } =
+        rw (skipped, both, s.emptied, h.warned items at) refl in
+        let stands = looking-stands then line (allowed m.choices.skip items fault (s.skips fault ∙ skipped)).0 refl
+        (and_parts (is_in_epoch phase) (can_go_on line) both).1 in
+        rw (last-on items number count rest line phase kept s counted fault offset there skipped both, is_one)
+        (followed-twice (count + 1) items at _ looking _ _ (made-once then (count + 1) count [] line LookingOn
+        (m.kept_of then) stands.0 (omega arith) _ stands.1 (quiet-elsewhere m.direction looking line _ refl))))
+        (λ off. false-true (sym (ap (λ (t : Step _ _). is_again t.answer)
+        (failed-ends m.direction here line fault off)) ∙ on))
+    made-again (Completes held) agree on = false-true (sym (again-lines (m.direction.written here held)) ∙ on)
+    made-again made agree on = false-true on
+
+    here-line : Agrees m items phase kept (rest ++ line ∷ [])
+        (made_in m.direction phase (types_in_force items) kept line) → FollowsAs (count + 1) items
+        (reads items number (rest ++ line ∷ [])) (fed m.direction here line) (last_made m.direction here line)
+    here-line agree =
+        let made = made_in m.direction phase (types_in_force items) kept line in
+        by_bool (is_again (one made).answer)
+        (λ on. rw (fed-twice m.direction here line on, last-twice m.direction here line on) (made-again made agree on))
+        (λ off. rw (fed-once m.direction here line off, last-once m.direction here line off)
+        (made-once items number count rest line phase kept s counted made agree off))
 
   -- one line more, wherever a reading has stopped
   pub next-line : (items : List (Item E)) (stop : Stop) (count : ℕ) (line : ReadLine)
-      → IsStopped (place h) items stop (count + 1) → Follows h (count + 1) items (continued_reading
-      (place h) choices.skip (record { items = items; stop = stop }) (line ∷ [])) (fed direction
-      (state_of direction open_with kept_of choices count (record { items = items; stop = stop })) line)
+      → IsStopped (place m) items stop (count + 1) →
+      let state : RunState O K = seen_after count (record { items = items; stop = stop }) in
+      FollowsAs (count + 1) items (continued_reading
+      (place m) m.choices.skip (record { items = items; stop = stop }) (line ∷ []))
+      (fed m.direction state line) (last_made m.direction state line)
   next-line items (AtFault at) count line stopped = grind (arith, common_steps, append-nil, written_lines)
   next-line items (AtLines number rest) count line stopped =
-      lines-line items number count rest line stopped.0 stopped.1
-  next-line items (Looking number) count line stopped = by_bool (can_go_on line)
-      (λ on. rw (looked-here (reading_from (place h) choices.skip items) items number line [] on)
-      (fresh-line items number count line LookingOn stopped.1 stopped.2 refl refl stopped.0
-      (made-looking direction (types_in_force items) (kept_of items) line on)))
-      (λ off. rw (looked-on (reading_from (place h) choices.skip items) items number line [] off) (line-once
-      count items line LookingOn (record { items = items; stop = Looking (number + 1) }) refl
-      (grind (arith, common_steps, append-nil, written_lines))))
+      let all = stands items rest stopped.0 in
+      here-line items number count rest line _ _ all.0 stopped.1 (all.1 line)
+  next-line items (Looking number) count line stopped = by_bool (can_go_on line) (λ on.
+      let all = looking-stands items line stopped.1 stopped.2 on in
+      rw (looked-here (reads items) items number line [] on) (here-line items number count [] line LookingOn
+      (m.kept_of items) all.0 (omega (arith, stopped.0)) all.1))
+      (λ off. rw (looked-on (reads items) items number line [] off)
+      (grind (arith, common_steps, fed-once, last-once, append-nil, written_lines, off)))

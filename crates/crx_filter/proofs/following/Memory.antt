@@ -1,19 +1,20 @@
 -- Where memory may run out at a line by what is seen before it, it may by what is there.
 use Rattle.crx_filter.proofs.Words
 use Words.{common_steps, ℕ, ◌≡◌, ◌+◌, Bool, true, false, not, List, [], ◌∷◌, ◌++◌, length, Option, Some, None}
-use Words.{refl, ap, sym, subst, ◌∙◌, arith, ◌&&◌, nat_lt, is_some, ReadLine, Content, Overlong, At}
-use Words.{begins_epoch, is_event_line, is_types_line, Place, NeedsMore, first_line, FileUnit, Choices, Item}
+use Words.{refl, ap, sym, ◌∙◌, arith, ◌&&◌, is_some, ReadLine, Content, Overlong, At}
+use Words.{begins_epoch, is_event_line, is_types_line, NeedsMore, first_line, Item, Reading}
 use Words.{Warned, is_at_start, header_has_ended, records_left, records_count_types, types_in_force}
-use Words.{memory_allowed, place_takes, Stop, AtFault, AtLines, Looking, can_go_on, event_record, header_line}
-use Words.{header_line_fault, types_fault, is_again, Direction, Rejects, InEpoch, Made, Notice, Phase}
-use Words.{RunState, Step, after_warning, is_in_epoch, is_skipped_in, kept_in, phase_after_items, state_next}
-use Words.{state_of, step_of_made, may_take_memory, takes_memory, rules, none-some, and_parts, by_bool}
+use Words.{memory_allowed, place_takes, Stop, AtFault, AtLines, Looking, event_record, header_line}
+use Words.{header_line_fault, types_fault, is_again, Rejects, Made, Notice, Phase, LookingOn}
+use Words.{RunState, Step, is_skipped_in, kept_in, phase_after_items, state_next}
+use Words.{step_of_made, may_take_memory, takes_memory, rules, and_parts, by_bool}
 use Words.{false-true, Count, cond, count_in, noticed_by}
-use Rattle.crx_filter.proofs.{Pending.again-lines, following.Following.{AgreeOn, IsCarriedOut, body-place}}
-use Rattle.crx_filter.proofs.following.Following.{failed-ends, place, failed-skipped, state_in, skipped-same}
-use Rattle.crx_filter.proofs.following.{Following.wrong-last, Lines.{IsStopped, by_phase, header-place}}
-use Rattle.crx_filter.proofs.{following.MoreLines.{read_from, state_from}, reading.Stopping.reading-stopped}
-use Rattle.crx_filter.proofs.{following.Lines.record-place, steps.EngineAnswers.{ComesAgain, comes-again}}
+use Rattle.crx_filter.proofs.{Pending.again-lines, following.Following.{Agrees, IsCarriedOut, Meaning, place}}
+use Rattle.crx_filter.proofs.following.Following.{body-place, failed-ends, failed-skipped, state_at, StandsAt}
+use Rattle.crx_filter.proofs.following.{Lines.{IsStopped, by_phase, seen_after, stands, wrong-last}}
+use Rattle.crx_filter.proofs.following.{Lines.{header-place, record-place}, MoreLines.{read_from, state_from}}
+use Rattle.crx_filter.proofs.{reading.{Stopping.reading-stopped, WhatWasRead.allowed}}
+use Rattle.crx_filter.proofs.{steps.EngineAnswers.{ComesAgain, comes-again}}
 use Rattle.crx_filter.specs.meaning.Memory.{line_takes}
 use Rattle.{crx_header.specs.meaning.ObservationTypes.count_of_types_line, std.specs.Prelude.is_none}
 use Rattle.crx_filter.specs.meaning.Items.{are_lacking}
@@ -48,133 +49,118 @@ record-takes {E = E} takes items line h = grind (arith, common_steps, and_parts,
 
 -- where a line may take memory by what is kept, it does by what is at the lines: where an epoch or an event
 -- may begin, and in an epoch
-pub record TakesAsItStands {E U O K : Type 0} (beginning : List (Item E) → List ReadLine → Place (FileUnit E))
-    (direction : Direction U O K) (open_with : List (Item E) → List ReadLine → Option O)
-    (kept_of : List (Item E) → K) (takes : ℕ → Bool) : Type 0 where
+pub record TakesAsItStands {E U O K V : Type 0} (m : Meaning E U O K V) (takes : ℕ → Bool) : Type 0 where
   pub first : (items : List (Item E)) (line : List ℕ) → is_event_line line ≡ false
-      → direction.memory_first (types_in_force items) (kept_of items) line ≡ true
-      → place_takes takes items 0 (beginning items (Content line ∷ [])) ≡ true
+      → m.direction.memory_first (types_in_force items) (m.kept_of items) line ≡ true
+      → place_takes takes items 0 (m.beginning items (Content line ∷ [])) ≡ true
   pub next : (items : List (Item E)) (lines : List ReadLine) (line : List ℕ) (so_far : O)
-      → open_with items lines ≡ Some so_far → direction.memory_next so_far line ≡ true
-      → place_takes takes items (length lines) (beginning items (lines ++ Content line ∷ [])) ≡ true
+      → m.open_with items lines ≡ Some so_far → m.direction.memory_next so_far line ≡ true
+      → place_takes takes items (length lines) (m.beginning items (lines ++ Content line ∷ [])) ≡ true
 
-module _ {E U O K : Type 0} {beginning : List (Item E) → List ReadLine → Place (FileUnit E)}
-    {direction : Direction U O K} {open_with : List (Item E) → List ReadLine → Option O}
-    {kept_of : List (Item E) → K} {unit_lines : List (Item E) → FileUnit E → List (List ℕ)}
-    {choices : Choices} (h : IsCarriedOut beginning direction open_with kept_of unit_lines choices)
-    {takes : ℕ → Bool} (t : TakesAsItStands beginning direction open_with kept_of takes) where
+module _ {E U O K V : Type 0} {m : Meaning E U O K V} (h : IsCarriedOut m) {takes : ℕ → Bool}
+    (t : TakesAsItStands m takes) where
   -- whether memory may run out in a phase
   abbrev taken_in : List (Item E) → ReadLine → Phase O → Bool
-  taken_in items line phase = may_take_memory (types_in_force items) (direction.memory_first
-      (types_in_force items) (kept_in direction phase (kept_of items))) direction.memory_next phase line
+  taken_in items line phase = may_take_memory (types_in_force items) (m.direction.memory_first
+      (types_in_force items) (kept_in m.direction phase (m.kept_of items))) m.direction.memory_next phase line
+
+  abbrev allowed_after : Reading E → ReadLine → Option (List At)
+  allowed_after = memory_allowed (place m) takes m.choices.skip
 
   -- where an epoch or an event may begin
   begins-takes : (items : List (Item E)) (line : List ℕ) → header_has_ended items ≡ true
-      → records_left items ≡ 0 → (not (is_event_line line) && direction.memory_first (types_in_force items)
-      (kept_of items) line) ≡ true → line_takes (place h) takes items [] (Content line) ≡ true
+      → records_left items ≡ 0 → (not (is_event_line line) && m.direction.memory_first (types_in_force items)
+      (m.kept_of items) line) ≡ true → line_takes (place m) takes items [] (Content line) ≡ true
   begins-takes items line ended none e = grind (arith, common_steps)
 
   -- where more lines are wanted
-  lines-take : (items : List (Item E)) (rest : List ReadLine) (line : ReadLine) → place h items rest ≡
-      NeedsMore → taken_in items line (phase_after_items items (open_with items rest)) ≡ true
-      → line_takes (place h) takes items rest line ≡ true
+  lines-take : (items : List (Item E)) (rest : List ReadLine) (line : ReadLine) → place m items rest ≡
+      NeedsMore → taken_in items line (phase_after_items items (m.open_with items rest)) ≡ true
+      → line_takes (place m) takes items rest line ≡ true
   lines-take items rest Overlong wanted = λ taken. false-true taken
   lines-take items rest (Content line) wanted = by_phase h (λ ls p. taken_in items (Content line) p ≡ true
-      → line_takes (place h) takes items ls (Content line) ≡ true) items rest wanted
-      (λ e taken. ap (place_takes takes items 0) (header-place beginning items (Content line ∷ []) e)
+      → line_takes (place m) takes items ls (Content line) ≡ true) items rest wanted
+      (λ e taken. ap (place_takes takes items 0) (header-place m.beginning items (Content line ∷ []) e)
       ∙ header-takes takes items (is_at_start items) line taken)
-      (λ left e some taken. ap (place_takes takes items 0) (record-place beginning items left
+      (λ left e some taken. ap (place_takes takes items 0) (record-place m.beginning items left
       (Content line ∷ []) e some) ∙ record-takes takes items line taken)
       (λ e none. begins-takes items line e none)
       (λ so_far e none opens taken.
-      ap (place_takes takes items (length rest)) (body-place beginning items (rest ++ Content line ∷ [])
+      ap (place_takes takes items (length rest)) (body-place m.beginning items (rest ++ Content line ∷ [])
       e none) ∙ t.next items rest line so_far opens (and_parts (not (begins_epoch line)) _ taken).1)
 
   -- memory may run out at a line at once
   pub allowed-first : (number count : ℕ) (lines : List ReadLine) (line : ReadLine)
       → number + length lines ≡ count + 1
-      → takes_memory direction (state_from h number count lines) line ≡ true
-      → memory_allowed (place h) takes choices.skip (read_from h number lines) line ≡ Some []
+      → takes_memory m.direction (state_from h number count lines) line ≡ true
+      → allowed_after (read_from h number lines) line ≡ Some []
   allowed-first number count lines line counted e = grind (
     arith,
     common_steps,
     lines-take,
     begins-takes,
-    reading-stopped (place h) h.forward choices.skip [] number (count + 1) lines counted,
+    reading-stopped (place m) h.forward m.choices.skip [] number (count + 1) lines counted,
   )
 
-  -- a line that cuts an epoch off, and is read anew after the warning
-  cut-takes : (items : List (Item E)) (number count : ℕ) (rest : List ReadLine) (line : ReadLine) (so_far : O)
-      (next : RunState O K) (notice : At) → place h items rest ≡ NeedsMore → number + length rest ≡ count + 1
-      → header_has_ended items ≡ true → records_left items ≡ 0 → open_with items rest ≡ Some so_far
-      → (m : Made U O) → AgreeOn beginning direction open_with kept_of unit_lines choices items (rest ++ line
-      ∷ []) m → record { answer = Notice notice true; handed_out = []; next = next } ≡ step_of_made direction
-      (state_in choices count (InEpoch so_far) (types_in_force items) (direction.kept_open (kept_of items)))
-      line m → takes_memory direction next line ≡ true → memory_allowed (place h) takes choices.skip (record
-      { items = items; stop = AtLines number rest }) line ≡ Some (notice ∷ [])
-  cut-takes items number count rest line so_far next notice wanted counted ended none open_is
-      (Rejects fault) a e taken = by_bool (is_skipped_in before fault) (λ on.
-      let is = e ∙ failed-skipped direction before line fault on in
-      let goes = sym (ap (λ (s : Step O K). is_again s.answer) is) in
-      let noted = ap (λ (s : Step O K). noticed_by s.answer) is in
-      let then = ap (λ (s : Step O K). s.next) is in
-      let here = body-place beginning items (rest ++ line ∷ []) ended none ∙ a.1 in
-      let last = wrong-last h.forward items rest line a.0 fault wanted here in
-      let same : number + a.0 ≡ count + 1 = omega (arith, last, counted) in
-      let skipped = skipped-same choices count (InEpoch so_far) (types_in_force items)
-      (direction.kept_open (kept_of items)) items fault ended none refl ∙ on in
-      let again = anew line (subst (λ (s : RunState O K). takes_memory direction s line ≡ true) then taken) in
-      rw (here, same, skipped, last, not_none rest open_is, goes, again) (ap Some (sym noted)))
+  -- a line that cuts an epoch off is looked at again after its warning
+  again-takes : (items : List (Item E)) (next : RunState O K) (line : ReadLine) → header_has_ended items ≡ true
+      → records_left items ≡ 0 → next.phase ≡ LookingOn → next.types ≡ types_in_force items
+      → next.kept ≡ m.kept_of items → takes_memory m.direction next line ≡ true
+      → line_takes (place m) takes items [] line ≡ true
+  again-takes items next line ended none phase types kept taken =
+      grind (arith, common_steps, begins-takes, and_parts)
+
+  cut-takes : (items : List (Item E)) (number count : ℕ) (rest : List ReadLine) (line : ReadLine)
+      (phase : Phase O) (kept : K) (next : RunState O K) (notice : At) → StandsAt m items rest phase kept
+      → number + length rest ≡ count + 1 → ComesAgain m.direction (state_at m count phase items kept) next line
+      → (made : Made U O) → Agrees m items phase kept (rest ++ line ∷ []) made
+      → record { answer = Notice notice true; handed_out = []; next = next }
+      ≡ step_of_made m.direction (state_at m count phase items kept) line made
+      → takes_memory m.direction next line ≡ true
+      → allowed_after (record { items = items; stop = AtLines number rest }) line ≡ Some (notice ∷ [])
+  cut-takes items number count rest line phase kept next notice s counted again (Rejects fault) (offset, here)
+      e taken = by_bool (is_skipped_in before fault) (λ on.
+      let at : At = record { line = count + 1; fault = fault } in
+      let noted = ap (λ (s : Step O K). noticed_by s.answer) (e ∙ failed-skipped m.direction before line fault on)
+      in
+      let last = wrong-last h items number count rest line phase kept s counted offset fault here in
+      rw (
+        here,
+        s.skips fault ∙ on,
+        last,
+        counted,
+        sym s.inside ∙ again.epoch,
+        again.fits,
+        again-takes (Warned at ∷ items) next line (allowed m.choices.skip items fault (s.skips fault ∙ on)).0 refl
+            again.phase again.types (again.kept ∙ s.emptied ∙ h.warned items at) taken,
+      ) (ap Some (sym noted)))
       (λ off.
-      let no = ap (λ (s : Step O K). is_again s.answer) (e ∙ failed-ends direction before line fault off) in
+      let no = ap (λ (s : Step O K). is_again s.answer) (e ∙ failed-ends m.direction before line fault off) in
       absurd (cc))
     where
-      at : At
-      at = record { line = count + 1; fault = fault }
-
       before : RunState O K
-      before = state_in choices count (InEpoch so_far) (types_in_force items) (direction.kept_open
-          (kept_of items))
-
-      not_none : (ls : List ReadLine) → open_with items ls ≡ Some so_far → nat_lt 0 (length ls) ≡ true
-      not_none ls opens = grind (arith, common_steps, none-some)
-
-      anew : (l : ReadLine) → takes_memory direction (after_warning direction before (can_go_on line))
-          l ≡ true → line_takes (place h) takes (Warned at ∷ items) [] l ≡ true
-      anew Overlong t = false-true t
-      anew (Content content) t = begins-takes (Warned at ∷ items) content ended refl (subst
-          (λ (k : K). (not (is_event_line content) && direction.memory_first (types_in_force items) k content)
-          ≡ true) (h.emptied_open (kept_of items) ∙ h.warned items at) (and_parts (begins_epoch content) _
-          t).1)
-  cut-takes items number count rest line so_far next notice wanted counted ended none open_is
-      m a e taken = grind (arith, common_steps, again-lines)
+      before = state_at m count phase items kept
+  cut-takes items number count rest line phase kept next notice s counted again made agree e taken =
+      grind (arith, common_steps, again-lines)
 
   -- memory may run out at a line after its warning
   pub allowed-again : (number count : ℕ) (lines : List ReadLine) (line : ReadLine) (next : RunState O K)
       (notice : At) → number + length lines ≡ count + 1
       → record { answer = Notice notice true; handed_out = []; next = next }
-      ≡ state_next direction (state_from h number count lines) line → takes_memory direction next line ≡ true
-      → memory_allowed (place h) takes choices.skip (read_from h number lines) line ≡ Some (notice ∷ [])
+      ≡ state_next m.direction (state_from h number count lines) line → takes_memory m.direction next line ≡ true
+      → allowed_after (read_from h number lines) line ≡ Some (notice ∷ [])
   allowed-again number count lines line next notice counted e taken =
       by_stop (read_from h number lines).items (read_from h number lines).stop
-      (reading-stopped (place h) h.forward choices.skip [] number (count + 1) lines counted)
-      (comes-again direction _ next line notice [] e) e
+      (reading-stopped (place m) h.forward m.choices.skip [] number (count + 1) lines counted)
+      (comes-again m.direction _ next line notice [] e) e
     where
-      by_stop : (items : List (Item E)) (s : Stop) → IsStopped (place h) items s (count + 1)
-          → ComesAgain direction
-          (state_of direction open_with kept_of choices count (record { items = items; stop = s })) next line
-          → record { answer = Notice notice true; handed_out = []; next = next } ≡ state_next direction
-          (state_of direction open_with kept_of choices count (record { items = items; stop = s })) line
-          → memory_allowed (place h) takes choices.skip (record { items = items; stop = s }) line
-          ≡ Some (notice ∷ [])
+      by_stop : (items : List (Item E)) (stop : Stop) → IsStopped (place m) items stop (count + 1)
+          → ComesAgain m.direction (seen_after h count (record { items = items; stop = stop })) next line
+          → record { answer = Notice notice true; handed_out = []; next = next }
+          ≡ state_next m.direction (seen_after h count (record { items = items; stop = stop })) line
+          → allowed_after (record { items = items; stop = stop }) line ≡ Some (notice ∷ [])
       by_stop items (AtFault at) stopped again e = false-true again.epoch
       by_stop items (Looking number) stopped again e = false-true again.epoch
-      by_stop items (AtLines number rest) stopped again e = by_phase h (λ ls p. is_in_epoch p ≡ true → record
-          { answer = Notice notice true; handed_out = []; next = next } ≡ state_next direction (state_in
-          choices count p (types_in_force items) (kept_in direction p (kept_of items))) line → memory_allowed
-          (place h) takes choices.skip (record { items = items; stop = AtLines number rest }) line ≡ Some
-          (notice ∷ [])) items rest stopped.0 (λ f inside. false-true inside) (λ left f some inside.
-          false-true inside) (λ f none inside. false-true inside) (λ so_far f none opens inside step.
-          cut-takes items number count rest line so_far next notice stopped.0 stopped.1 f none opens
-          (direction.continues so_far line) (h.continues items rest line so_far opens) step taken) again.epoch
-          e
+      by_stop items (AtLines number rest) stopped again e =
+          let all = stands h items rest stopped.0 in
+          cut-takes items number count rest line _ _ next notice all.0 stopped.1 again _ (all.1 line) e taken

@@ -2,12 +2,12 @@
 use Rattle.crx_filter.proofs
 use proofs.Words.{common_steps, ℕ, ◌≡◌, true, false, List, [], ◌∷◌, length, Option, Some, None, refl}
 use proofs.Words.{ReadLine, Content, Overlong, ReadEpoch, OpenRawEpoch, RawStep, first_step, Tail, Choices}
-use proofs.Words.{Item, types_in_force, place_takes, compact_open, expansion, made_of_raw_step, tail_of_items}
+use proofs.Words.{Item, types_in_force, place_takes, expansion, made_of_raw_step, tail_of_items}
 use proofs.Words.{◌+◌, drop, arith, length-drop, At, Place, Done, Fails, NeedsMore, expansion_state, Notice}
 use proofs.Words.{RunState, state_next, takes_memory, compact_memory, compact_place, first_lines}
 use proofs.{Words.{memory_allowed, not-true, false-true}, following.ExpandedOn.reading_by}
-use proofs.following.{ExpandedOn.state_by, Expansion.{Agrees, agree-content, expansion-carried_out}}
-use proofs.following.{Expansion.same-epochs, Memory.{TakesAsItStands, allowed-again}}
+use proofs.following.{ExpandedOn.state_by, Expansion.{Agrees, agree-content, expansion-carried_out, expansion_meaning}}
+use proofs.following.{Memory.{TakesAsItStands, allowed-again}}
 use proofs.{following.Memory.allowed-first, reading.CompactPrefixes.remains}
 use proofs.reading.{ForwardCompact.{compact_beginning}}
 use proofs.steps.EngineAnswers.{comes-again}
@@ -16,17 +16,17 @@ use Rattle.{crx_compact.specs.OpenEpochs.is_faulty, crx_filter.specs.meaning.Mem
 -- a step without a fault takes memory, where its line does
 step-takes : (choices : Choices) (items : List (Item ReadEpoch)) (lines : List ReadLine) (count : ℕ)
     (step : RawStep) → expansion_takes count ≡ true → is_faulty step ≡ false
-    → Agrees (same-epochs choices) items lines (made_of_raw_step step)
+    → Agrees choices items lines (made_of_raw_step step)
     → place_takes expansion_takes items count (compact_beginning items lines) ≡ true
 step-takes choices items lines count step takes fine a = grind (arith, common_steps)
 
 pub expansion-takes : (choices : Choices)
-    → TakesAsItStands compact_beginning expansion compact_open tail_of_items expansion_takes
+    → TakesAsItStands (expansion_meaning choices) expansion_takes
 expansion-takes choices = record {
   first = λ items line other good. step-takes choices items (Content line ∷ []) 0
       (first_step (types_in_force items) (tail_of_items items) (Content line)) refl
       (not-true (is_faulty (first_step (types_in_force items) (tail_of_items items) (Content line))) good)
-      (agree-content (same-epochs choices) items line false other);
+      (agree-content choices items line false other);
   next = λ items lines line so_far opens good. false-true good;
 }
 

@@ -2,9 +2,9 @@
 use Rattle.crx_filter.proofs
 use proofs.Words.{common_steps, ℕ, ◌≡◌, Bool, true, false, List, [], ◌∷◌, ◌++◌, length, Some, Result}
 use proofs.Words.{arith, none-some, ReadLine, Content, Fault, OpenEpoch, next_row, Epoch, Row, EpochStep}
-use proofs.Words.{Faulty, after_row, epoch_step, Choices, Item, compaction_takes, place_takes, checking}
-use proofs.Words.{totals_of, compaction, made_of_epoch_step, rinex_open, written_of, compact_unit, false-true}
-use proofs.following.{Compaction.compaction-carried_out, Following.AgreeOn, Memory.TakesAsItStands}
+use proofs.Words.{Faulty, after_row, epoch_step, Choices, Item, compaction_takes, place_takes}
+use proofs.Words.{made_of_epoch_step, rinex_open, false-true}
+use proofs.following.{Check.check_meaning, Compaction.{compaction-carried_out, compaction_meaning}, Following.AgreeOn, Memory.TakesAsItStands}
 use proofs.reading.Forward.{rinex_beginning}
 use Rattle.{crx_filter.specs.meaning.Memory.check_takes, std.specs.Result.is_ok}
 
@@ -18,8 +18,8 @@ fine-row : (so_far : OpenEpoch) (r : Result Row Fault) → is_ok r ≡ true → 
 fine-row so_far v1 e = grind (arith, false-true)
 
 step-takes : (choices : Choices) (items : List (Item Epoch)) (lines : List ReadLine) (count : ℕ)
-    (step : EpochStep) → compaction_takes count ≡ true → is_fine step ≡ true → AgreeOn rinex_beginning
-    compaction rinex_open (written_of choices.every) (compact_unit choices) choices items lines
+    (step : EpochStep) → compaction_takes count ≡ true → is_fine step ≡ true → AgreeOn
+    (compaction_meaning choices) items lines
     (made_of_epoch_step step) → place_takes compaction_takes items count (rinex_beginning items lines) ≡ true
 step-takes choices items lines count step takes fine a = grind (arith, common_steps, place_takes, false-true)
 
@@ -31,7 +31,7 @@ after-first items lines so_far opens = grind (arith, common_steps, none-some)
 -- ---- both
 
 pub compaction-takes : (choices : Choices)
-    → TakesAsItStands rinex_beginning compaction rinex_open (written_of choices.every) compaction_takes
+    → TakesAsItStands (compaction_meaning choices) compaction_takes
 compaction-takes choices = record {
   first = λ items line other good. false-true good;
   next = λ items lines line so_far opens good. step-takes choices items (lines ++ Content line ∷ [])
@@ -40,5 +40,5 @@ compaction-takes choices = record {
       (Content line) so_far opens);
 }
 
-pub check-takes : TakesAsItStands rinex_beginning checking rinex_open totals_of check_takes
+pub check-takes : TakesAsItStands check_meaning check_takes
 check-takes = grind (arith, common_steps, false-true)

@@ -9,16 +9,34 @@ use Words.{Whole, Faulty, when_wanted, epoch_step, Choices, Item, types_in_force
 use Words.{made_of_epoch_step, made_of_beginning, rinex_begins, rinex_open}
 use Rattle.crx_rinex.proofs.OpenEpochs.{wanted-open, next-by_open, open_none}
 use Rattle.crx_rinex.specs.EpochPlaces.{whole_or_going, still_open, open_with, place_after}
-use Rattle.crx_filter.proofs.following.Following.{IsSameEpoch, AgreeOn}
+use Rattle.crx_filter.proofs.{following.Following.{Meaning, IsSameEpoch, AgreeOn}, reading.Forward.rinex_beginning}
 
 -- ---- what is asked of a direction
+
+-- an epoch that is read comes line by line as it is
+abbrev pub as_it_is : Epoch → Epoch
+as_it_is epoch = epoch
+
+-- what the definitions say of a direction that reads RINEX, and keeps and writes this
+abbrev pub rinex_meaning : {K : Type 0} → Direction Epoch OpenEpoch K → (List (Item Epoch) → K)
+    → (List (Item Epoch) → FileUnit Epoch → List (List ℕ)) → Choices → Meaning Epoch Epoch OpenEpoch K Epoch
+rinex_meaning direction kept_of unit_lines choices = record {
+  direction = direction;
+  choices = choices;
+  beginning = rinex_beginning;
+  open_with = rinex_open;
+  kept_of = kept_of;
+  unit_lines = unit_lines;
+  epoch_of = as_it_is;
+  epoch_read = as_it_is;
+}
 
 -- an epoch that is read is kept and written as it is
 abbrev pub AreSame : {K : Type 0} → Direction Epoch OpenEpoch K → (List (Item Epoch) → K)
     → (List (Item Epoch) → FileUnit Epoch → List (List ℕ)) → Choices → Type 0
 AreSame direction kept_of unit_lines choices = (items : List (Item Epoch)) (lines : List ReadLine)
     (epoch : Epoch) (count : ℕ) → epoch_place (types_in_force items) lines ≡ Done (Observation epoch) count
-    → IsSameEpoch direction kept_of unit_lines choices items epoch epoch
+    → IsSameEpoch (rinex_meaning direction kept_of unit_lines choices) items epoch epoch
 
 -- what an open epoch leaves as it was is kept in one way
 pub either-same : {X : Type 0} {a b : X} → (a ≡ b) ⊎ (a ≡ b) → a ≡ b
@@ -30,8 +48,7 @@ module _ {K : Type 0} {direction : Direction Epoch OpenEpoch K} {kept_of : List 
     {unit_lines : List (Item Epoch) → FileUnit Epoch → List (List ℕ)} {choices : Choices}
     (s : AreSame direction kept_of unit_lines choices) where
   abbrev Agrees : List (Item Epoch) → List ReadLine → Made Epoch OpenEpoch → Type 0
-  Agrees = AgreeOn (λ (before : List (Item Epoch)). epoch_place (types_in_force before))
-      direction rinex_open kept_of unit_lines choices
+  Agrees = AgreeOn (rinex_meaning direction kept_of unit_lines choices)
 
   -- a line that begins an epoch with so many satellites
   agree-when : (items : List (Item Epoch)) (content : List ℕ) (so_far : OpenEpoch) (wanted : ℕ)

@@ -1,81 +1,78 @@
--- What is written for some lines is at the beginning of what is written for more lines.
-use Rattle.crx_filter.proofs.Words.{ℕ, ◌≡◌, ◌+◌, Bool, List, [], ◌∷◌, ◌++◌, length, refl, ap, sym}
-use Rattle.crx_filter.proofs.Words.{append_assoc, append-nil, flat_map-append, arith, ReadLine, Place}
-use Rattle.crx_filter.proofs.Words.{FileUnit, Item, Accepted, Warned, Stop, AtFault, AtLines, Looking}
-use Rattle.crx_filter.proofs.Words.{reading_from, ended_reading, whole_reading, continued_reading}
-use Rattle.crx_filter.proofs.Words.{IsReadForward, lines_text, Begins, written_lines, common_steps}
-use Rattle.crx_filter.proofs.reading.{WhatWasRead.of-ended, Resuming.resumed, KeptThroughout.IsKept}
-use Rattle.crx_filter.proofs.reading.KeptThroughout.{looked-kept, within-kept}
+-- What is written and reported for some lines is at the beginning of what is for more lines.
+use Rattle.crx_filter.proofs
+use proofs.Words.{arith, ◌≡◌, List, [], ◌∷◌, ◌++◌, ap, sym, ◌∙◌, append_assoc, append-nil, ReadLine, Choices}
+use proofs.Words.{flat_map-append, ℕ, InputLine, RunState, Direction, lines_text, Begins, IsWrittenFirst, At}
+use proofs.Words.{compacted, compacted_so_far, expanded, expanded_so_far, compact_lines, expanded_lines}
+use proofs.Words.{whole_rinex, whole_compact}
+use proofs.following.{CompactedOn.compacted-on, ExpandedOn.expanded-on}
+use proofs.reading.Ended.{compaction-ended, expansion-ended}
+use Rattle.crx_filter.specs.{Compacted.compaction_so_far, EngineLaws.GoesLineByLine, Expanded.expansion_so_far}
+use Rattle.crx_runs.specs.meaning.Filters.{Filter}
 
--- some items with others before them
-pub record AreMore {E : Type 0} (items all : List (Item E)) : Type 0 where
-  pub news : List (Item E)
-  pub same : all ≡ news ++ items
+-- what grows with each thing more grows with more of them
+pub grown : {X Y : Type 0} (made : List X → List Y)
+    → ((xs : List X) (x : X) → (ys : List Y) × (made (xs ++ x ∷ []) ≡ made xs ++ ys))
+    → (xs more : List X) → (ys : List Y) × (made (xs ++ more) ≡ made xs ++ ys)
+grown made one xs [] = ([], ap made (append-nil xs) ∙ sym (append-nil (made xs)))
+grown made one xs (x ∷ more) =
+    let first = one xs x in
+    let rest = grown made one (xs ++ x ∷ []) more in (
+      first.0 ++ rest.0,
+      ap made (sym (append_assoc xs (x ∷ []) more)) ∙ rest.1 ∙ ap (λ ys. ys ++ rest.0) first.1
+          ∙ append_assoc (made xs) first.0 rest.0,
+    )
 
-pub no_more : {E : Type 0} (items : List (Item E)) → AreMore items items
-no_more items = record { news = []; same = refl }
+-- the same in the words of a filter that goes line by line
+module _ {U O K : Type 0} {direction : Direction U O K} {closing_after : List InputLine → List (List ℕ)}
+    {state_after : List ReadLine → RunState O K} {outgrows : List InputLine → InputLine → _}
+    {filter : Filter} (goes : GoesLineByLine direction closing_after state_after outgrows filter)
+    (lines more : List InputLine) where
+  pub output-grows : Begins (filter.so_far (lines ++ more)).output (filter.so_far lines).output
+  output-grows =
+      let g = grown (λ ls. (filter.so_far ls).output) (λ ls l. (_, (goes.follows ls l).output)) lines more in
+      record { rest = g.0; same = g.1 }
 
-one_more : {E : Type 0} (item : Item E) (items all : List (Item E))
-    → AreMore items all → AreMore items (item ∷ all)
-one_more item items all h = record { news = item ∷ h.news; same = ap (λ l. item ∷ l) h.same }
+  pub output-goes_on : Begins (filter.whole (lines ++ more)).output (filter.so_far lines).output
+  output-goes_on = grind (arith, output-grows, goes.ends (lines ++ more), append_assoc)
 
-pub more_of_more : {E : Type 0} (items some_more all : List (Item E))
-    → AreMore items some_more → AreMore some_more all → AreMore items all
-more_of_more items some_more all h k = record {
-  news = k.news ++ h.news;
-  same = cc (k.same, h.same, append_assoc k.news h.news items);
-}
+  pub warnings-go_on : (later : List At)
+      × ((filter.whole (lines ++ more)).warnings ≡ (filter.so_far lines).warnings ++ later)
+  warnings-go_on =
+      let g = grown (λ ls. (filter.so_far ls).warnings) (λ ls l. (_, (goes.follows ls l).warnings)) lines more in
+      (_, rw (g.1, append_assoc) at (goes.ends (lines ++ more)).warnings)
 
-more-kept : {E : Type 0} (place : List (Item E) → List ReadLine → Place (FileUnit E)) (skip : Bool)
-    (items : List (Item E)) → IsKept place skip (λ all lines. AreMore items all)
-more-kept place skip items = search (one_more)
+-- the text of lines, with others after them
+text-grows : (some_lines all : List (List ℕ)) → (rest : List (List ℕ)) × (all ≡ some_lines ++ rest)
+    → Begins (lines_text all) (lines_text some_lines)
+text-grows some_lines all more = grind (arith, flat_map-append)
 
-pub continued_reading-items : {E : Type 0} (place : List (Item E) → List ReadLine → Place (FileUnit E))
-    (skip : Bool) (items : List (Item E)) (stop : Stop) (more : List ReadLine)
-    → AreMore items (continued_reading place skip (record { items = items; stop = stop }) more).items
-continued_reading-items place skip items (AtFault at) more = no_more items
-continued_reading-items place skip items (AtLines number lines) more = (within-kept place skip
-    (λ all ls. AreMore items all) (more-kept place skip items) (length (lines ++ more) + 1) items number
-    (lines ++ more) (no_more items)).1
-continued_reading-items place skip items (Looking number) more = (looked-kept place skip
-    (λ all ls. AreMore items all) items (reading_from place skip items) number more (λ n. no_more items)
-    (λ m ls h. within-kept place skip (λ all rest. AreMore items all) (more-kept place skip items)
-    (length ls + 1) items m ls h)).1
+module _ (choices : Choices) (lines : List ReadLine) where
+  compaction-grows : (more : List ReadLine) → (rest : List (List ℕ)) × (compaction_so_far choices (lines ++ more)
+      ≡ compaction_so_far choices lines ++ rest)
+  compaction-grows = grown (compaction_so_far choices) (λ ls l. (_, (compacted-on choices ls l).handed_out)) lines
 
-pub ended-items : {E : Type 0} (skip : Bool) (items : List (Item E)) (stop : Stop)
-    → AreMore items (ended_reading skip (record { items = items; stop = stop })).items
-ended-items skip items stop = of-ended (AreMore items) skip items stop (no_more items)
-    (λ at on. one_more (Warned at) items items (no_more items))
+  pub compacted-first : IsWrittenFirst compacted_so_far (λ input (c : Choices). (compacted input c).output) choices
+      lines
+  compacted-first = record {
+    longer = λ more. text-grows _ _ (compaction-grows more);
+    whole = λ input more cut. text-grows _ _ (
+      _,
+      ap (λ ls. compact_lines choices (whole_rinex choices.skip ls).items)
+          cut ∙ (compaction-ended choices (lines ++ more)).written ∙ (compaction-grows more).1,
+    );
+  }
 
--- ---- the text of more items
+  expansion-grows : (more : List ReadLine) → (rest : List (List ℕ)) × (expansion_so_far choices (lines ++ more)
+      ≡ expansion_so_far choices lines ++ rest)
+  expansion-grows = grown (expansion_so_far choices) (λ ls l. (_, (expanded-on choices ls l).handed_out)) lines
 
-pub written-more : {E : Type 0} (unit_lines : List (Item E) → FileUnit E → List (List ℕ))
-    (news items : List (Item E)) → (rest : List (List ℕ)) × (written_lines unit_lines (news ++ items)
-    ≡ written_lines unit_lines items ++ rest)
-written-more unit_lines [] items = ([], sym (append-nil (written_lines unit_lines items)))
-written-more unit_lines (Accepted unit ∷ news) items =
-    let h = written-more unit_lines news items in
-    (h.0 ++ unit_lines (news ++ items) unit, grind (arith, append_assoc, h.1))
-written-more unit_lines (Warned at ∷ news) items = written-more unit_lines news items
-
-pub text-more : {E : Type 0} (unit_lines : List (Item E)
-    → FileUnit E → List (List ℕ)) (items all : List (Item E)) → AreMore items all
-    → Begins (lines_text (written_lines unit_lines all)) (lines_text (written_lines unit_lines items))
-text-more unit_lines items all h =
-    let m = written-more unit_lines h.news items in
-    grind (arith, common_steps, flat_map-append)
-
--- the items of the reading of some lines and more
-pub reading-items : {E : Type 0} (place : List (Item E) → List ReadLine → Place (FileUnit E))
-    → IsReadForward place → (skip : Bool) (number : ℕ) (lines more : List ReadLine) → AreMore
-    (reading_from place skip [] number lines).items (reading_from place skip [] number (lines ++ more)).items
-reading-items place h skip number lines more =
-    let r = reading_from place skip [] number lines in
-    rw (resumed place h skip [] number lines more) (continued_reading-items place skip r.items r.stop more)
-
-pub whole-items : {E : Type 0} (place : List (Item E) → List ReadLine → Place (FileUnit E))
-    → IsReadForward place → (skip : Bool) (number : ℕ) (lines more : List ReadLine) → AreMore
-    (reading_from place skip [] number lines).items (whole_reading place skip number (lines ++ more)).items
-whole-items place h skip number lines more =
-    let all = reading_from place skip [] number (lines ++ more) in
-    more_of_more _ _ _ (reading-items _ h _ _ _ _) (ended-items _ _ _)
+  pub expanded-first : IsWrittenFirst expanded_so_far (λ input (c : Choices). (expanded input c).output) choices
+      lines
+  expanded-first = record {
+    longer = λ more. text-grows _ _ (expansion-grows more);
+    whole = λ input more cut. text-grows _ _ (
+      _,
+      ap (λ ls. expanded_lines (whole_compact choices.skip ls).items)
+          cut ∙ (expansion-ended choices (lines ++ more)).written ∙ (expansion-grows more).1,
+    );
+  }

@@ -1,7 +1,7 @@
 -- A reading goes on from where it stopped, once more lines have come.
 use Rattle.crx_filter.{specs.Laws.IsResumed, proofs.Words.{common_steps, ℕ, zero, suc, ◌≡◌, ◌+◌, max, ◌<◌}}
-use Rattle.crx_filter.proofs.Words.{◌≤◌, Bool, true, false, List, [], ◌∷◌, ◌++◌, length, drop, refl, arith}
-use Rattle.crx_filter.proofs.Words.{length-append, drop-append-le, length-drop, ReadLine, Fault, At, Place}
+use Rattle.crx_filter.proofs.Words.{◌≤◌, Bool, true, false, List, [], ◌∷◌, ◌++◌, length, drop, refl, arith, ◌∙◌}
+use Rattle.crx_filter.proofs.Words.{drop-append-le, length-drop, ReadLine, Fault, At, Place}
 use Rattle.crx_filter.proofs.Words.{Done, Fails, NeedsMore, FileUnit, Item, Accepted, Warned, Reading}
 use Rattle.crx_filter.proofs.Words.{AtLines, is_skipped, can_go_on, looked_for, after_fault}
 use Rattle.crx_filter.proofs.Words.{reading_within, reading_from, continued_reading, IsReadForward, by_bool}
@@ -102,55 +102,84 @@ enough-units place h skip (suc one) (suc two) items number lines short_one short
     (omega (arith, wrong-within place h items lines offset fault e, length-drop (max offset 1) lines))))
     (λ off. rw (e, reading_within, off, after_fault) refl)) (λ e. rw (e, reading_within) refl)
 
+-- ---- a reading, by what is at its lines
+
+module _ {E : Type 0} (place : List (Item E) → List ReadLine → Place (FileUnit E)) (h : IsReadForward place)
+    (skip : Bool) (items : List (Item E)) (number : ℕ) (lines : List ReadLine) where
+  one-more : reading_from place skip items number lines
+      ≡ reading_within place skip (suc (length lines)) items number lines
+  one-more = enough-units place h skip (length lines + 1) (suc (length lines)) items number lines (omega arith)
+      (omega arith)
+
+  pub from-here : (unit : FileUnit E) (count : ℕ) → place items lines ≡ Done unit count
+      → reading_from place skip items number lines
+      ≡ reading_from place skip (Accepted unit ∷ items) (number + count) (drop count lines)
+  from-here unit count e =
+      let within = here-within place h items lines unit count e in
+      one-more ∙ within-here place skip (length lines) items number lines unit count e
+      ∙ enough-units place h skip (length lines) (length (drop count lines) + 1) (Accepted unit ∷ items)
+      (number + count) (drop count lines)
+      (omega (arith, within.0, within.1, length-drop count lines)) (omega arith)
+
+  pub from-wrong : (offset : ℕ) (fault : Fault) → place items lines ≡ Fails offset fault
+      → reading_from place skip items number lines
+      ≡ after_fault skip (reading_from place skip) items number lines offset fault
+  from-wrong offset fault e = one-more ∙ within-wrong place skip (length lines) items number lines offset fault e
+      ∙ by_bool (is_skipped skip items fault) (λ on. rw (on, after_fault)
+      (looked-same passed (reading_within place skip (length lines) passed) (reading_from place skip passed)
+      (length lines) (number + max offset 1) (drop (max offset 1) lines)
+      (λ m ls few. enough-units place h skip (length lines) (length ls + 1) passed m ls few (omega arith))
+      (omega (arith, wrong-within place h items lines offset fault e, length-drop (max offset 1) lines))))
+      (λ off. rw (off, after_fault) refl)
+    where
+      passed : List (Item E)
+      passed = Warned (record { line = number + offset; fault = fault }) ∷ items
+
+  pub from-wanted : place items lines ≡ NeedsMore
+      → reading_from place skip items number lines ≡ record { items = items; stop = AtLines number lines }
+  from-wanted e = one-more ∙ within-wanted place skip (length lines) items number lines e
+
 -- ---- more lines
 
-looked-more : {E : Type 0} (place : List (Item E) → List ReadLine → Place (FileUnit E))
-    (skip : Bool) (items : List (Item E)) (one two : ℕ → List ReadLine → Reading E) (bound number : ℕ)
-    (lines more : List ReadLine) → ((number : ℕ) (lines : List ReadLine) → length lines < bound
-    → two number (lines ++ more) ≡ continued_reading place skip (one number lines) more)
-    → ((number : ℕ) (lines : List ReadLine) → length lines < suc (length more)
-    → two number lines ≡ reading_from place skip items number lines) → length lines < bound → looked_for
-    two items number (lines ++ more) ≡ continued_reading place skip (looked_for one items number lines) more
-looked-more place skip items one two bound number [] more h rest short = grind (arith, looked-same)
-looked-more place skip items one two bound number (line ∷ lines) more h rest short =
-    grind (arith, looked-more place skip items one two bound (number + 1) lines more h rest (omega arith))
+module _ {E : Type 0} (place : List (Item E) → List ReadLine → Place (FileUnit E)) (h : IsReadForward place)
+    (skip : Bool) (more : List ReadLine) where
+  -- the reading of so few lines and more goes on from the reading of the first
+  abbrev GoesOn : ℕ → List (Item E) → Type 0
+  GoesOn bound items = (number : ℕ) (lines : List ReadLine) → length lines < bound
+      → reading_from place skip items number (lines ++ more)
+      ≡ continued_reading place skip (reading_from place skip items number lines) more
 
-pub resumed-within : {E : Type 0} (place : List (Item E) → List ReadLine → Place (FileUnit E)) → IsReadForward
-    place → (skip : Bool) (one two : ℕ) (items : List (Item E)) (number : ℕ) (lines more : List ReadLine)
-    → length lines < one → length lines + length more < two → reading_within place skip two items number
-    (lines ++ more) ≡ continued_reading place skip (reading_within place skip one items number lines) more
-resumed-within place h skip zero two items number lines more short_one short_two = absurd (omega arith)
-resumed-within place h skip (suc one) zero items number lines more short_one short_two = absurd (omega arith)
-resumed-within place h skip (suc one) (suc two) items number lines more short_one short_two =
-    by_place (place items lines) (λ unit count e.
-    let within = here-within place h items lines unit count e in
-    let left = length-drop count lines in
-    rw (
-      within-here place skip one items number lines unit count e,
-      within-here place skip two items number (lines ++ more) unit count (here-stays place h items lines more
-          unit count e),
-      drop-append-le count lines more within.1,
-    ) (resumed-within place h skip one two (Accepted unit ∷ items) (number + count) (drop count lines) more
-    (omega (arith, within.0, within.1, left)) (omega (arith, within.0, within.1, left)))) (λ offset fault e.
-    rw (
-      within-wrong place skip one items number lines offset fault e,
-      within-wrong place skip two items number (lines ++ more) offset fault (wrong-stays place h items lines
-          more offset fault e),
-    ) (by_bool (is_skipped skip items fault) (λ on.
-    let at : At = record { line = number + offset; fault = fault } in
-    let n = max offset 1 in
-    let short = wrong-within place h items lines offset fault e in
-    rw (on, after_fault, drop-append-le n lines more (omega (arith, short)))
-    (looked-more place skip (Warned at ∷ items) (reading_within place skip one (Warned at ∷ items))
-    (reading_within place skip two (Warned at ∷ items)) (length lines) (number + n) (drop n lines) more
-    (λ m ls few. resumed-within place h skip one two (Warned at ∷ items) m ls more (omega arith)
-    (omega arith)) (λ m ls few. enough-units place h skip two (length ls + 1) (Warned at ∷ items) m ls (omega
-    (arith, short, few, short_two)) (omega arith)) (omega (arith, short, length-drop (max offset 1) lines))))
-    (λ off. rw (off, after_fault) refl))) (λ e. rw (within-wanted place skip one items number lines e)
-    (enough-units place h skip (suc two) (length (lines ++ more) + 1) items number
-    (lines ++ more) (omega (arith, short_two, length-append lines more)) (omega arith)))
+  looked-more : (items : List (Item E)) (bound number : ℕ) (lines : List ReadLine) → GoesOn bound items
+      → length lines < bound → looked_for (reading_from place skip items) items number (lines ++ more)
+      ≡ continued_reading place skip (looked_for (reading_from place skip items) items number lines) more
+  looked-more items bound number [] h short = refl
+  looked-more items bound number (line ∷ lines) h short =
+      grind (arith, looked-more items bound (number + 1) lines h (omega arith))
+
+  resumed-within : (bound : ℕ) (items : List (Item E)) → GoesOn bound items
+  resumed-within zero items number lines short = absurd (omega arith)
+  resumed-within (suc bound) items number lines short = by_place (place items lines) (λ unit count e.
+      let within = here-within place h items lines unit count e in
+      rw (
+        from-here place h skip items number lines unit count e,
+        from-here place h skip items number (lines ++ more) unit count
+            (here-stays place h items lines more unit count e),
+        drop-append-le count lines more within.1,
+      ) (resumed-within bound (Accepted unit ∷ items) (number + count) (drop count lines)
+      (omega (arith, within.0, within.1, length-drop count lines)))) (λ offset fault e.
+      let few = wrong-within place h items lines offset fault e in
+      rw (
+        from-wrong place h skip items number lines offset fault e,
+        from-wrong place h skip items number (lines ++ more) offset fault
+            (wrong-stays place h items lines more offset fault e),
+      ) (by_bool (is_skipped skip items fault) (λ on.
+      rw (on, after_fault, drop-append-le (max offset 1) lines more (omega (arith, few)))
+      (looked-more _ bound (number + max offset 1) (drop (max offset 1) lines) (resumed-within bound _)
+      (omega (arith, few, length-drop (max offset 1) lines)))) (λ off. rw (off, after_fault) refl)))
+      (λ e. rw (from-wanted place h skip items number lines e) refl)
 
 -- the reading of some lines and more goes on from the reading of the first
 pub resumed : {E : Type 0} (place : List (Item E) → List ReadLine → Place (FileUnit E))
     → IsReadForward place → IsResumed place
-resumed place h skip items number lines more = grind (arith, resumed-within, length-append)
+resumed place h skip items number lines more =
+    resumed-within place h skip more (suc (length lines)) items number lines (omega arith)
