@@ -11,7 +11,7 @@ use Rattle.crx_compact.specs.{OpenEpochs.HeldEpoch}
 use Rattle.crx_filter.proofs.following.{Collecting.Collects, Expansion.{expansion-carried_out, of_read}}
 use Rattle.crx_filter.proofs.following.{Expansion.expansion_meaning, Following.{Follows, state_in, fed-once}}
 use Rattle.crx_filter.proofs.following.{Lines.{last_made, last-once, quiet-elsewhere}, MoreLines.more-line}
-use Rattle.crx_filter.proofs.reading.{CompactPrefixes.remains}
+use Rattle.crx_filter.proofs.{Choosing.by_result, reading.CompactPrefixes.remains}
 use Rattle.crx_filter.specs.{Laws.IsExpandedOn, meaning.Memory.accepted_epochs}
 pub use Rattle.crx_filter.proofs.following.Expansion.{of_held}
 
@@ -80,24 +80,17 @@ module _ (choices : Choices) where
   -- the first line
   first-line : (line : ReadLine) → FollowsBy [] line (first_lines []) (first_lines (line ∷ []))
   first-line Overlong = grind (arith, common_steps, by-once, ends)
-  first-line (Content content) = by-once [] (Content content) (by_result (crinex_version content) refl)
-    where
-      by_result : (r : Result (List ℕ) Fault) → crinex_version content ≡ r → FollowsOnce [] (Content content)
-      by_result (Ok version) e = rw e (search rules)
-      by_result (Err fault) e = rw (e, ends 0 (Content content) fault) (search rules)
+  first-line (Content content) = by-once [] (Content content) (by_result (crinex_version content)
+      (λ version e. rw e (search rules)) (λ fault e. rw (e, ends 0 (Content content) fault) (search rules)))
 
   -- the second line, the first being good
   second-line : (first : List ℕ) (line : ReadLine) (version : List ℕ) → crinex_version first ≡ Ok version
       → FollowsBy (Content first ∷ []) line NeedsMore (first_lines (Content first ∷ line ∷ []))
   second-line first Overlong version good =
       by-once (Content first ∷ []) Overlong (rw good (rw (ends 1 Overlong LineTooLong) (search rules)))
-  second-line first (Content content) version good =
-      by-once (Content first ∷ []) (Content content) (by_result (crinex_program content) refl)
-    where
-      by_result : (r : Result (List ℕ) Fault) → crinex_program content ≡ r
-          → FollowsOnce (Content first ∷ []) (Content content)
-      by_result (Ok program) e = rw good (rw e (search rules))
-      by_result (Err fault) e = rw good (rw (e, ends 1 (Content content) fault) (search rules))
+  second-line first (Content content) version good = by-once (Content first ∷ []) (Content content)
+      (by_result (crinex_program content) (λ program e. rw good (rw e (search rules)))
+      (λ fault e. rw good (rw (e, ends 1 (Content content) fault) (search rules))))
 
   -- a direction that reads compact text is given one line more
   pub compact-on : (lines : List ReadLine) (line : ReadLine) (p : Place (List (List ℕ)))
@@ -113,13 +106,10 @@ module _ (choices : Choices) where
   compact-on [] line NeedsMore e = first-line line
   compact-on (Overlong ∷ lines) line NeedsMore e = absurd (cc)
   compact-on (Content first ∷ []) line NeedsMore e = subst (λ p. FollowsBy (Content first ∷ []) line p
-      (first_lines (Content first ∷ line ∷ []))) (sym e) (by_result (crinex_version first) refl)
-    where
-      by_result : (r : Result (List ℕ) Fault) → crinex_version first ≡ r
-          → FollowsBy (Content first ∷ []) line NeedsMore (first_lines (Content first ∷ line ∷ []))
-      by_result (Ok version) good = second-line first line version good
-      by_result (Err fault) bad = let at : first_lines (Content first ∷ []) ≡ Fails 0 fault = rw bad refl in
-          absurd (cc)
+      (first_lines (Content first ∷ line ∷ []))) (sym e) (by_result (crinex_version first)
+      (second-line first line) (λ fault bad.
+      let at : first_lines (Content first ∷ []) ≡ Fails 0 fault = rw bad refl in
+      absurd (cc)))
   compact-on (Content first ∷ next ∷ lines) line NeedsMore e =
       absurd (two-lines first next lines (crinex_version first) refl e)
 

@@ -1,6 +1,6 @@
 -- Expansion line by line reads, keeps and writes as the expansion of all lines does.
 use Rattle.crx_filter.proofs
-use proofs.Words.{common_steps, arith, ℕ, suc, ◌≡◌, Bool, true, false, cond, List, [], ◌∷◌, ◌++◌, length}
+use proofs.Words.{common_steps, arith, ℕ, ◌≡◌, Bool, true, false, cond, List, [], ◌∷◌, ◌++◌, length}
 use proofs.Words.{Option, Some, None, Result, Ok, Err, refl, ap, sym, ◌∙◌, true≢false, is_some, none-some}
 use proofs.Words.{ReadLine, Content, Fault, BadEpoch, is_event_line, records_in, Place, Done, Fails}
 use proofs.Words.{NeedsMore, FileUnit, EventLine, RawEpoch, ReadEpoch, epoch_at, Tail, OpenRawEpoch, RawStep}
@@ -61,22 +61,6 @@ same-satellites types older lines read count tail here left =
     ∙ rows-left block read.raw.rows ∙ subst (λ (r : ReadEpoch). map satellite_of_raw r.raw.rows ≡ of_read r)
     facts.is_read (rows-read _ facts.satellites facts.own facts.rows facts.rows_ok)
 
--- ---- what is at a place, by what it leaves
-
--- an epoch that was read is held as the steps hold it
-placed-here : (tail : Option Tail) (p : Place ReadEpoch) (held : HeldEpoch) (count : ℕ)
-    → placed_as (held_after tail) p ≡ Done held count
-    → (read : ReadEpoch) × (p ≡ Done read count) × (held_after tail read ≡ held)
-placed-here tail p held count e = grind (arith, common_steps, held_after)
-
-placed-wrong : (tail : Option Tail) (p : Place ReadEpoch) (offset : ℕ) (fault : Fault)
-    → placed_as (held_after tail) p ≡ Fails offset fault → p ≡ Fails offset fault
-placed-wrong tail p offset fault e = grind (arith, common_steps)
-
-placed-wanted : (tail : Option Tail) (p : Place ReadEpoch) → placed_as (held_after tail) p ≡ NeedsMore → p
-    ≡ NeedsMore
-placed-wanted tail p e = grind (arith, common_steps)
-
 -- ---- one line
 
 -- a first line alone
@@ -125,26 +109,25 @@ module _ (choices : Choices) where
       }
 
   -- what some lines make where no event begins, by the step that the last of them is
+  agree-by : (items : List (Item ReadEpoch)) (lines : List ReadLine) (before : ℕ) (step : RawStep)
+      (p : Place ReadEpoch) → epoch_at (types_in_force items) (raws_kept items) lines ≡ p
+      → compact_beginning items lines ≡ as_observation p
+      → placed_as (held_after (tail_of_items items)) p ≡ place_of_step before step
+      → compact_open items lines ≡ open_raw_after step [] → Agrees items lines (made_of_raw_step step)
+  agree-by items lines before (Going so_far) NeedsMore here place placed opens = (so_far, refl, place, opens)
+  agree-by items lines before (Whole held) (Done read count) here place placed opens =
+      (count, read, place, same-epochs items lines read held count here (cc))
+  agree-by items lines before (Faulty fault) (Fails offset other) here place placed opens = (offset, cc)
+  agree-by items lines before step p here place placed opens = absurd (cc)
+
   agree-step : (items : List (Item ReadEpoch))
       (lines : List ReadLine) (before : ℕ) (step : RawStep) → compact_beginning items lines ≡ as_observation
       (epoch_at (types_in_force items) (raws_kept items) lines) → placed_as (held_after (tail_of_items items))
       (epoch_after (types_in_force items) (tail_of_items items) lines) ≡ place_of_step before step
       → compact_open items lines ≡ open_raw_after step [] → Agrees items lines (made_of_raw_step step)
-  agree-step items lines before (Going so_far) place placed opens =
-      grind (arith, common_steps, place-by_tail, placed-wanted)
-  agree-step items lines before (Whole held) place placed opens =
-      let h = placed-here (tail_of_items items) _ held (suc before) placed in
-      let here = place-by_tail (types_in_force items) (raws_kept items) lines ∙ h.1 in (
-        suc before,
-        h.0,
-        place ∙ ap as_observation here,
-        same-epochs items lines h.0 held (suc before) here h.2,
-      )
-  agree-step items lines before (Faulty fault) place placed opens = (
-    before,
-    place ∙ ap as_observation (place-by_tail (types_in_force items) (raws_kept items) lines
-        ∙ placed-wrong (tail_of_items items) _ before fault placed),
-  )
+  agree-step items lines before step place placed opens =
+      let same = place-by_tail (types_in_force items) (raws_kept items) lines in
+      agree-by items lines before step _ same (place ∙ ap as_observation same) placed opens
 
   agree-event : (items : List (Item ReadEpoch)) (content : List ℕ)
       → is_event_line content ≡ true → (o : Option ℕ)

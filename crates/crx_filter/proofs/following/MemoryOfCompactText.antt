@@ -1,16 +1,17 @@
 -- The memory that an expansion takes, by what is at its lines.
 use Rattle.crx_filter.proofs
-use proofs.Words.{common_steps, ℕ, ◌≡◌, true, false, List, [], ◌∷◌, length, Option, Some, None, refl}
-use proofs.Words.{ReadLine, Content, Overlong, ReadEpoch, OpenRawEpoch, RawStep, first_step, Tail, Choices}
+use proofs.Words.{common_steps, ℕ, ◌≡◌, true, false, List, [], ◌∷◌, length, Option, Some, refl}
+use proofs.Words.{ReadLine, Content, ReadEpoch, OpenRawEpoch, RawStep, first_step, Tail, Choices}
 use proofs.Words.{Item, types_in_force, place_takes, expansion, made_of_raw_step, tail_of_items}
-use proofs.Words.{◌+◌, drop, arith, length-drop, At, Place, Done, Fails, NeedsMore, expansion_state, Notice}
-use proofs.Words.{RunState, state_next, takes_memory, compact_memory, compact_place, first_lines}
-use proofs.{Words.{memory_allowed, not-true, false-true}, following.ExpandedOn.reading_by}
-use proofs.following.{ExpandedOn.state_by, Expansion.{Agrees, agree-content, expansion-carried_out, expansion_meaning}}
+use proofs.Words.{◌+◌, drop, arith, length-drop, At, Done, expansion_state, Notice}
+use proofs.Words.{RunState, state_next, takes_memory, compact_memory, first_lines}
+use proofs.{Words.{not-true, false-true}}
+use proofs.following.{Expansion.{Agrees, agree-content, expansion-carried_out, expansion_meaning}}
 use proofs.following.{Memory.{TakesAsItStands, allowed-again}}
-use proofs.{following.Memory.allowed-first, reading.CompactPrefixes.remains}
-use proofs.reading.{ForwardCompact.{compact_beginning}}
-use proofs.steps.EngineAnswers.{comes-again}
+use proofs.{following.Memory.allowed-first, reading.CompactPrefixes.{remains, reading-at}}
+use proofs.reading.{ForwardCompact.compact_beginning, Resuming.by_place}
+use proofs.steps.EngineAnswers.{ComesAgain, comes-again}
+use Rattle.crx_filter.specs.{ExpansionByLine.phase_from_first_lines}
 use Rattle.{crx_compact.specs.OpenEpochs.is_faulty, crx_filter.specs.meaning.Memory.expansion_takes}
 
 -- a step without a fault takes memory, where its line does
@@ -32,40 +33,24 @@ expansion-takes choices = record {
 
 -- ---- where memory may run out
 
--- the same by what is at the first two lines
-abbrev memory_by : Choices → List ReadLine → ReadLine → Place (List (List ℕ)) → Place (List (List ℕ))
-    → Option (List At)
-memory_by choices lines line p read = elim p [
-  | Done two count ↦
-      memory_allowed compact_place expansion_takes choices.skip (reading_by choices.skip lines read) line
-  | Fails offset fault ↦ None
-  | NeedsMore ↦ None
-]
-
 pub expansion-allowed : (choices : Choices) (lines : List ReadLine) (line : ReadLine) → takes_memory expansion
     (expansion_state choices lines) line ≡ true → compact_memory choices.skip lines line ≡ Some []
-expansion-allowed choices lines line e = decided (first_lines lines) line refl e
-  where
-    decided : (p : Place (List (List ℕ))) (l : ReadLine) → first_lines lines ≡ p
-        → takes_memory expansion (state_by choices lines p) l ≡ true → memory_by choices lines l p p ≡ Some []
-    decided (Done two count) l is t = allowed-first (expansion-carried_out choices) (expansion-takes choices)
-        (count + 1) (length lines) (drop count lines) l
-        (omega (arith, length-drop count lines, (remains lines [] (Done two count) is).0)) t
-    decided p Overlong is t = false-true t
-    decided p (Content content) is t = false-true t
+expansion-allowed choices lines line e = by_place (first_lines lines) (λ two count is.
+    rw (is, compact_memory, reading-at choices.skip lines two count is) (allowed-first (expansion-carried_out choices) (expansion-takes choices) (count + 1) (length lines)
+    (drop count lines) line (omega (arith, length-drop count lines, (remains lines [] (Done two count) is).0))
+    (rw (is, phase_from_first_lines, reading-at choices.skip lines two count is) at e))) (λ offset fault is. grind (arith, common_steps, e, is)) (λ is. grind (arith, common_steps, e, is))
 
 pub expansion-allowed-again : (choices : Choices) (lines : List ReadLine) (line : ReadLine)
     (next : RunState OpenRawEpoch (Option Tail)) (notice : At)
     → record { answer = Notice notice true; handed_out = []; next = next }
     ≡ state_next expansion (expansion_state choices lines) line → takes_memory expansion next line ≡ true
     → compact_memory choices.skip lines line ≡ Some (notice ∷ [])
-expansion-allowed-again choices lines line next notice step e = decided (first_lines lines) refl step
+expansion-allowed-again choices lines line next notice step e = by_place (first_lines lines) (λ two count is.
+    rw (is, compact_memory, reading-at choices.skip lines two count is) (allowed-again (expansion-carried_out choices) (expansion-takes choices) (count + 1) (length lines)
+    (drop count lines) line next notice
+    (omega (arith, length-drop count lines, (remains lines [] (Done two count) is).0)) (rw (is, phase_from_first_lines, reading-at choices.skip lines two count is) at step) e))
+    (λ offset fault is. grind (arith, common_steps, again.epoch, is))
+    (λ is. grind (arith, common_steps, again.epoch, is))
   where
-    decided : (p : Place (List (List ℕ))) → first_lines lines ≡ p
-        → record { answer = Notice notice true; handed_out = []; next = next } ≡ state_next expansion
-        (state_by choices lines p) line → memory_by choices lines line p p ≡ Some (notice ∷ [])
-    decided (Done two count) is s =
-        allowed-again (expansion-carried_out choices) (expansion-takes choices) (count + 1) (length lines)
-        (drop count lines) line next notice
-        (omega (arith, length-drop count lines, (remains lines [] (Done two count) is).0)) s e
-    decided p is s = false-true (comes-again expansion (state_by choices lines p) next line notice [] s).epoch
+    again : ComesAgain expansion (expansion_state choices lines) next line
+    again = comes-again expansion (expansion_state choices lines) next line notice [] step

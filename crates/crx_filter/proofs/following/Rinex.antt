@@ -44,34 +44,19 @@ either-same e = grind (arith, common_steps)
 
 -- ---- one line
 
+-- an epoch's line with so many satellites
+first-place : (so_far : OpenEpoch) (wanted : ℕ) → after_lines 1 (then_place (rows_at so_far wanted []) []
+    (λ epoch rest. Done (Observation epoch) 0)) ≡ place_after 0 (when_wanted wanted so_far)
+first-place so_far zero = refl
+first-place so_far (suc wanted) = refl
+
 module _ {K : Type 0} {direction : Direction Epoch OpenEpoch K} {kept_of : List (Item Epoch) → K}
     {unit_lines : List (Item Epoch) → FileUnit Epoch → List (List ℕ)} {choices : Choices}
     (s : AreSame direction kept_of unit_lines choices) where
   abbrev Agrees : List (Item Epoch) → List ReadLine → Made Epoch OpenEpoch → Type 0
   Agrees = AgreeOn (rinex_meaning direction kept_of unit_lines choices)
 
-  -- a line that begins an epoch with so many satellites
-  agree-when : (items : List (Item Epoch)) (content : List ℕ) (so_far : OpenEpoch) (wanted : ℕ)
-      → epoch_place (types_in_force items) (Content content ∷ [])
-      ≡ after_lines 1 (then_place (rows_at so_far wanted []) [] (λ epoch rest. Done (Observation epoch) 0))
-      → open_with (types_in_force items) (Content content ∷ []) ≡ still_open (when_wanted wanted so_far)
-      → Agrees items (Content content ∷ []) (made_of_epoch_step (when_wanted wanted so_far))
-  agree-when items content so_far zero place opens =
-      (1, epoch_of so_far, place, s items (Content content ∷ []) (epoch_of so_far) 1 place)
-  agree-when items content so_far (suc wanted) place opens = (so_far, refl, place, opens)
-
-  agree-beginning : (items : List (Item Epoch)) (content : List ℕ) (b : Result Beginning Fault) → beginning_of
-      content ≡ b → Agrees items (Content content ∷ []) (made_of_beginning (types_in_force items) b)
-  agree-beginning items content (Err fault) e = (0, rw e refl)
-  agree-beginning items content (Ok (EventBegins line)) e = (1, rw e refl, refl)
-  agree-beginning items content (Ok (EpochBegins head)) e = agree-when items content
-      (opened (types_in_force items) head) (rows_wanted (opened (types_in_force items) head))
-      (rw e refl) (rw e (open_none (still_open (whole_or_going (opened (types_in_force items) head)))))
-
-  pub agree-begins : (items : List (Item Epoch)) (line : ReadLine)
-      → Agrees items (line ∷ []) (rinex_begins (types_in_force items) (kept_of items) line)
-  agree-begins items line = grind (arith, common_steps, agree-beginning, beginning_of)
-
+  -- what some lines make, by the step that the last of them is
   agree-step : (items : List (Item Epoch)) (lines : List ReadLine) (line : ReadLine) (step : EpochStep)
       → epoch_place (types_in_force items) (lines ++ line ∷ []) ≡ place_after (length lines) step
       → open_with (types_in_force items) (lines ++ line ∷ []) ≡ still_open step
@@ -80,6 +65,19 @@ module _ {K : Type 0} {direction : Direction Epoch OpenEpoch K} {kept_of : List 
   agree-step items lines line (Whole epoch) place opens =
       (suc (length lines), epoch, place, s items (lines ++ line ∷ []) epoch (suc (length lines)) place)
   agree-step items lines line (Faulty fault) place opens = (length lines, place)
+
+  agree-beginning : (items : List (Item Epoch)) (content : List ℕ) (b : Result Beginning Fault) → beginning_of
+      content ≡ b → Agrees items (Content content ∷ []) (made_of_beginning (types_in_force items) b)
+  agree-beginning items content (Err fault) e = (0, rw e refl)
+  agree-beginning items content (Ok (EventBegins line)) e = (1, rw e refl, refl)
+  agree-beginning items content (Ok (EpochBegins head)) e =
+      let so_far = opened (types_in_force items) head in
+      agree-step items [] (Content content) (whole_or_going so_far) (rw e (first-place so_far (rows_wanted so_far)))
+      (rw e (open_none (still_open (whole_or_going so_far))))
+
+  pub agree-begins : (items : List (Item Epoch)) (line : ReadLine)
+      → Agrees items (line ∷ []) (rinex_begins (types_in_force items) (kept_of items) line)
+  agree-begins items line = grind (arith, common_steps, agree-beginning, beginning_of)
 
   pub agree-continues : (items : List (Item Epoch)) (lines : List ReadLine) (line : ReadLine)
       (so_far : OpenEpoch) → rinex_open items lines ≡ Some so_far

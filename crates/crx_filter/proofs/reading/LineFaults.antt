@@ -6,7 +6,7 @@ use Words.{epoch_head, head_of, OpenEpoch, Beginning, with_next_row, next_row, r
 use Words.{beginning_of, unit_begun, epoch_place, has_satellite, Epoch, Count, Place, first_line, FileUnit}
 use Words.{ReadEpoch, epoch_at, RawEpoch, Item, unless_wrong, types_fault, header_line, event_record}
 use Words.{unit_place, rinex_place, compact_epoch_place, compact_place, first_lines, is_of_lines, event_line}
-use Words.{as_observation, one_line, Row, Content, Overlong, [], is_event_line, ◌∷◌, cond, rules}
+use Words.{as_observation, one_line, Row, Content, Overlong, [], is_event_line, ◌∷◌, rules}
 use Rattle.crx_filter.proofs.reading.{WhatStands.chosen, EpochFaults.{FaultsPass, FaultsPassAt, place-then}}
 use Rattle.crx_filter.proofs.reading.EpochFaults.{place-first, IsSkippableAt, epoch-skippable}
 use Rattle.crx_filter.{proofs.reading.EpochFaults.place-observation, specs.meaning.UnitPlaces.first_fault}
@@ -26,13 +26,6 @@ IsFineFault (Some fault) = is_of_lines fault ≡ true
 
 abbrev pub IsFineAt : {X : Type 0} → Place X → Type 0
 IsFineAt p = FaultsPassAt is_of_lines p
-
--- of two results, and of two places
-either-fine : {X : Type 0} (b : Bool) (x y : Result X Fault) → IsFine x → IsFine y → IsFine (cond b x y)
-either-fine b = chosen IsFine b
-
-place-either : {X : Type 0} (b : Bool) (p q : Place X) → IsFineAt p → IsFineAt q → IsFineAt (cond b p q)
-place-either b = chosen IsFineAt b
 
 -- ---- the header and an event's records
 
@@ -58,7 +51,7 @@ record-fine E counted line = grind (arith, fine-unless, chosen, types-fine)
 unit-fine : {E : Type 0} (beginning : List (Item E) → List ReadLine → Place (FileUnit E))
     → ((items : List (Item E)) (lines : List ReadLine) → IsFineAt (beginning items lines))
     → (items : List (Item E)) (lines : List ReadLine) → IsFineAt (unit_place beginning items lines)
-unit-fine beginning h items lines = search (rules, place-either, place-first, header-fine, record-fine, h)
+unit-fine {E = E} beginning h items lines = search (rules, chosen (IsFineAt {X = FileUnit E}), place-first, header-fine, record-fine, h)
 
 -- ---- RINEX
 
@@ -117,4 +110,4 @@ pub compact-fine : (items : List (Item ReadEpoch)) (lines : List ReadLine)
 compact-fine items lines = search (unit-fine, compact_epoch-fine)
 
 pub first_lines-fine : (lines : List ReadLine) → IsFineAt (first_lines lines)
-first_lines-fine lines = search (rules, place-then, place-first, either-fine)
+first_lines-fine lines = search (rules, place-then, place-first, chosen (IsFine {X = List ℕ}))
