@@ -16,24 +16,24 @@ pub use Rattle.crx_text.specs.meaning.{Columns.is_blank, Numbers.{clock_text, cl
 pub use Rattle.crx_text.specs.meaning.{PrintedCells.printed_cells, Texts.is_kept}
 pub use Rattle.crx_base.specs.declared.fault.{At.At, Fault.{Fault, TheVariants.BadEpoch}}
 pub use Rattle.crx_base.specs.declared.fault.Fault.TheVariants.{LineTooLong, Truncated, BadClock}
-pub use Rattle.crx_base.specs.declared.fault.Fault.TheVariants.{RepeatedSatellite, BadField, BadFlags}
-pub use Rattle.crx_base.specs.declared.fault.Fault.TheVariants.{MissingVersion, OutOfMemory}
+pub use Rattle.crx_base.specs.declared.fault.Fault.TheVariants.{BadField}
+pub use Rattle.crx_base.specs.declared.fault.Fault.TheVariants.{OutOfMemory}
 pub use Rattle.crx_base.specs.declared.limits.TheConstants.{LINE_LIMIT, TYPES_LIMIT, OBSERVATION_WIDTH}
-pub use Rattle.crx_base.specs.declared.limits.TheConstants.{CLOCK_WIDTH, HEAD_WIDTH, NAME_WIDTH}
+pub use Rattle.crx_base.specs.declared.limits.TheConstants.{CLOCK_WIDTH, NAME_WIDTH}
 pub use Rattle.crx_base.specs.meaning.{AsRead.{ReadLine, Content, as_read, Overlong}, Choices.Choices}
 pub use Rattle.crx_base.specs.meaning.{Choices.is_date, Faults.is_skippable, Lines.{is_printable, InputLine}}
 pub use Rattle.crx_base.specs.meaning.Lines.{lines_text, ends_with_return, Piece, pieces_of, onto_first}
 pub use Rattle.crx_base.specs.meaning.Lines.{without_return, line_of, lines_of, is_long}
 pub use Rattle.crx_compact.specs.{Laws.LinesCanStand, OpenEpochs.{OpenRawEpoch, RawStep, first_step}}
 pub use Rattle.crx_compact.specs.{OpenEpochs.{next_step, open_raw_after, open_raw_with}, ReadingLaws.IsGood}
-pub use Rattle.crx_compact.specs.{Steps.{lines_after_tail, tail_after}, Tails.Tail, Written.epoch_by_rows}
+pub use Rattle.crx_compact.specs.{Steps.{lines_after_tail}, Tails.Tail, Written.epoch_by_rows}
 pub use Rattle.crx_compact.specs.meaning.{Cells.cell_read, CompactPlaces.{ReadEpoch, epoch_at}}
 pub use Rattle.crx_compact.specs.meaning.CompactPlaces.{satellites_of_line, BegunEpoch, epoch_begun}
 pub use Rattle.crx_compact.specs.meaning.CompactPlaces.{clock_line_read, satellite_line_read, rows_read}
-pub use Rattle.crx_compact.specs.meaning.{CompactPlaces.{epoch_of_rows, epoch_after_line}, Compaction.Marked}
+pub use Rattle.crx_compact.specs.meaning.{CompactPlaces.{epoch_after_line}, Compaction.Marked}
 pub use Rattle.crx_compact.specs.meaning.{Compaction.{compact_epoch, epoch_line}, EpochText.Satellite}
 pub use Rattle.crx_compact.specs.meaning.{Expansion.{RawEpoch, block_of}, Past.{Past, past_of_line}}
-pub use Rattle.crx_compact.specs.meaning.{Past.{past_of_block, past_of_epochs}, Sequences.and_then}
+pub use Rattle.crx_compact.specs.meaning.{Past.{past_of_block}, Sequences.and_then}
 pub use Rattle.crx_filter.{proofs.Choosing.{by_bool, false-true}, specs.Anew.{IsBetweenUnits, starts_anew}}
 pub use Rattle.crx_filter.specs.{Anew.GoOnAlike, CheckByLine.{checking, no_choices, totals_of, Totals}}
 pub use Rattle.crx_filter.specs.CheckByLine.{printed_open, printed_so_far, printed_made, earliest, CheckState}
@@ -67,15 +67,15 @@ pub use Rattle.crx_filter.specs.meaning.Compacted.{is_in_full, marked_epochs, wh
 pub use Rattle.crx_filter.specs.{meaning.{Compacted.{compacted, is_interrupted}, Accounts.with_epochs}, Damage.BeginsAnew}
 pub use Rattle.crx_filter.specs.Damage.{lines_of_epochs, lines_after}
 pub use Rattle.crx_filter.specs.meaning.Directions.{rinex_reading, compact_reading, compaction_filter}
-pub use Rattle.crx_filter.specs.meaning.Directions.{expansion_filter, compact_memory, course_so_far}
+pub use Rattle.crx_filter.specs.meaning.Directions.{expansion_filter, compact_memory}
 pub use Rattle.crx_filter.specs.meaning.{Directions.check_filter, Expanded.{expanded_unit, whole_compact}}
 pub use Rattle.crx_filter.specs.meaning.Expanded.{raws_kept, empties_state, event_line, as_observation}
 pub use Rattle.crx_filter.specs.meaning.Expanded.{compact_place, crinex_version, crinex_program, first_lines}
-pub use Rattle.crx_filter.specs.meaning.Expanded.{expanded, compact_epoch_place, fault_in_first_lines}
+pub use Rattle.crx_filter.specs.meaning.Expanded.{expanded, compact_epoch_place}
 pub use Rattle.crx_filter.specs.meaning.Items.{Item, types_in_force, Accepted, Warned, is_at_start}
 pub use Rattle.crx_filter.specs.meaning.Items.{header_has_ended, records_announced, records_left}
 pub use Rattle.crx_filter.specs.meaning.Items.{counts_types, records_count_types, declaring_lines}
-pub use Rattle.crx_filter.specs.meaning.{Items.ends_header, Memory.{compaction_takes, memory_allowed}}
+pub use Rattle.crx_filter.specs.meaning.{Memory.{compaction_takes, memory_allowed}}
 pub use Rattle.crx_filter.specs.meaning.{Memory.place_takes, Reading.{Reading, reading_from, fault_of_stop}}
 pub use Rattle.crx_filter.specs.meaning.Reading.{WholeReading, AtFault, AtLines, Looking, is_skipped}
 pub use Rattle.crx_filter.specs.meaning.Reading.{can_go_on, looked_for, reading_within, Stop, fault_at_end}
@@ -83,17 +83,15 @@ pub use Rattle.crx_filter.specs.meaning.Reading.{ended_with, ended_reading, whol
 pub use Rattle.crx_filter.specs.meaning.Standard.{whole_reading_of, findings_of, printed_items}
 pub use Rattle.crx_filter.specs.meaning.Standard.{is_standard_line, first_not_standard, whole_of, IsStandard}
 pub use Rattle.crx_filter.specs.meaning.Standard.{normal_form, checked_by, checked}
-pub use Rattle.crx_filter.specs.meaning.Stretches.{announces_records, Stretch, up_to_end, up_to_next}
+pub use Rattle.crx_filter.specs.meaning.Stretches.{Stretch, up_to_end, up_to_next}
 pub use Rattle.crx_filter.specs.meaning.Stretches.{with_stretches, IsStretch, AreStretches}
 pub use Rattle.crx_filter.specs.meaning.UnitPlaces.{unit_place, unless_wrong, types_fault, header_line_fault}
 pub use Rattle.crx_filter.specs.meaning.{UnitPlaces.{header_line, event_record}, WayBack.OfCopiedLine}
 pub use Rattle.crx_filter.specs.meaning.WayBack.{OfCopiedLines, HaveNoReturns, written_well, HasNormalForm}
-pub use Rattle.crx_filter.specs.meaning.Written.{warnings_in, written_lines, whole_course, result_of}
-pub use Rattle.crx_header.specs.ObservationTypes.{with_line}
+pub use Rattle.crx_filter.specs.meaning.Written.{warnings_in, written_lines, result_of}
 pub use Rattle.crx_header.specs.declared.crinex.TheConstants.{CRINEX_PROGRAM_LABEL}
 pub use Rattle.crx_header.specs.meaning.CompactHeader.{version_line, program_line}
-pub use Rattle.crx_header.specs.meaning.EpochColumns.{is_event_line, records_in, begins_epoch, is_event_flag}
-pub use Rattle.crx_header.specs.meaning.{EpochColumns.epoch_count, Header.is_end_of_header}
+pub use Rattle.crx_header.specs.meaning.EpochColumns.{is_event_line, records_in, begins_epoch}
 pub use Rattle.crx_header.specs.meaning.ObservationTypes.{Count, types_of, count_in, is_types_line}
 pub use Rattle.crx_header.specs.meaning.Satellites.{types_of_satellite}
 pub use Rattle.crx_lines.specs.Reading.{HasNoFeed}
