@@ -25,17 +25,17 @@ use Rattle.crx_filter.proofs.{following.DirectionSteps.{compaction-goes, expansi
 -- ---- warnings
 
 -- where more are warned of, their messages come after the others
-begins-more : {all some_of : List At} → (later : List At) × (all ≡ some_of ++ later)
+begins-more : (all some_of : List At) → (later : List At) × (all ≡ some_of ++ later)
     → Begins (notices_text all) (notices_text some_of)
-begins-more {some_of = some_of} (later, e) = record { rest = notices_text later; same = rw e (notices-both some_of later) }
+begins-more all some_of (later, e) = record { rest = notices_text later; same = rw e (notices-both some_of later) }
 
 -- the warnings of the first lines are first in those of all
 pub warned-first : (task : Task) (lines more : List InputLine)
     → Begins (notices_text ((filter_for task).whole (lines ++ more)).warnings)
     (notices_text ((filter_for task).so_far lines).warnings)
 warned-first (Compact choices limit) lines more =
-    begins-more (warnings-go_on (compaction-goes choices refl) lines more)
-warned-first (Expand choices limit) lines more = begins-more (warnings-go_on (expansion-goes choices refl) lines more)
+    begins-more _ _ (warnings-go_on (compaction-goes choices refl) lines more)
+warned-first (Expand choices limit) lines more = begins-more _ _ (warnings-go_on (expansion-goes choices refl) lines more)
 warned-first Check lines more = record { rest = []; same = refl }
 
 -- the messages of a result begin with the warnings

@@ -5,7 +5,7 @@ use proofs.Words.{◌++◌, length, Option, Some, None, Result, refl, ap, sym, s
 use proofs.Words.{append_assoc, ◌&&◌, ⊤, nat_lt, ReadLine, Content, Overlong, Fault}
 use proofs.Words.{At, none-some, Place, NeedsMore, one_line, first_line}
 use proofs.Words.{FileUnit, HeaderLine, EventLine, EventRecord, Observation, Item, Accepted, Warned}
-use proofs.Words.{is_at_start, header_has_ended, records_left, records_count_types, declaring_lines}
+use proofs.Words.{is_at_start, header_has_ended, records_left, records_count_types}
 use proofs.Words.{types_in_force, unless_wrong, types_fault, header_line_fault, header_line, event_record}
 use proofs.Words.{unit_place, Reading, Stop, AtFault, AtLines, Looking, can_go_on, reading_from}
 use proofs.Words.{fault_at_end, continued_reading, Fed, fed, fed_once, fed_twice}
@@ -15,7 +15,7 @@ use proofs.Words.{made_in, with_records_left, is_in_epoch, is_skipped_in, kept_i
 use proofs.Words.{step_of_made, state_next, phase_in_body, phase_after_items, state_of, and_parts, by_bool}
 use proofs.{Pending.{again-lines, noticed-lines, failed-lines}, reading.Resuming.{from-wanted, looked-here}}
 use proofs.following.Following.{Meaning, IsCarriedOut, IsSameUnit, Agrees, AgreeOn, AreKept, StandsAt, place}
-use proofs.following.Following.{collected, state_at, Follows, body-place, fed-once, fed-twice, failed-ends}
+use proofs.following.Following.{state_at, Follows, body-place, fed-once, fed-twice, failed-ends}
 use proofs.following.Following.{failed-skipped}
 use proofs.reading.{Resuming.{from-here, from-wrong, looked-on, wrong-within}, WhatWasRead.allowed}
 use proofs.Words.{false-true, length-append, state_end, max, ◌≤◌, drop, drop-append_seam, Done, Fails, looked_for}
@@ -167,13 +167,7 @@ module _ {E U O K V : Type 0} {m : Meaning E U O K V} (h : IsCarriedOut m) where
     count,
     EventLine l,
     body-place m.beginning items lines ended none ∙ here,
-    record {
-      phases = rw ended (records-phase _ _);
-      types = refl;
-      keeps = λ n. rw (first one) (h.event_kept items n phase (types_in_force items) l);
-      lines = λ n. h.event_lines items n phase (types_in_force items) kept l;
-      epochs = refl;
-    },
+    grind (arith, common_steps, records-phase, h.event_kept, h.event_lines),
   )
   body-agrees items phase kept lines (Completes (Observation held)) ended none keeps first (
     count,
@@ -184,13 +178,7 @@ module _ {E U O K V : Type 0} {m : Meaning E U O K V} (h : IsCarriedOut m) where
     count,
     Observation epoch,
     body-place m.beginning items lines ended none ∙ here,
-    record {
-      phases = rw ended refl;
-      types = refl;
-      keeps = λ n. same.kept n phase (types_in_force items) kept keeps;
-      lines = λ n. same.lines n phase (types_in_force items) kept keeps;
-      epochs = ap (λ v. v ∷ collected m items) (sym same.alike);
-    },
+    grind (arith, common_steps, same.kept, same.lines, same.alike),
   )
   body-agrees items phase kept lines (Moves next) ended none keeps first agree =
       grind (arith, common_steps, body-place, h.open_open)
@@ -213,59 +201,23 @@ module _ {E U O K V : Type 0} {m : Meaning E U O K V} (h : IsCarriedOut m) where
       → Stands items rest (phase_after_items items (m.open_with items rest))
   stands items rest wanted = by_phase (Stands items) items rest wanted
       (λ e. (
-        record {
-          wanted = h.forward.wants items;
-          skips = λ fault. rw e refl;
-          inside = refl;
-          emptied = refl;
-          ends = λ n. grind (arith, common_steps, e, state_end);
-        },
+        grind (arith, common_steps, h.forward, closes-well, nat_lt, state_end, some_lines, h.emptied_open),
         λ line. copied-agrees items _ _ HeaderLine HeaderLine (header_line_fault (is_at_start items)) line
-            (header-place m.beginning items (line ∷ []) e) (λ l. record {
-              phases = rw e (grind (arith, common_steps));
-              types = types_of-push (declaring_lines items) l;
-              keeps = λ n. h.header_kept items n (types_in_force items) l;
-              lines = λ n. h.header_lines items n (types_in_force items) l;
-              epochs = refl;
-            }),
+            (header-place m.beginning items (line ∷ []) e) (λ l. grind (arith, common_steps, types_of-push, h.header_kept, h.header_lines)),
       ))
       (λ left e some. (
-        record {
-          wanted = h.forward.wants items;
-          skips = λ fault. grind (arith, common_steps, e, some);
-          inside = refl;
-          emptied = refl;
-          ends = λ n. grind (arith, common_steps, e, some, nat_lt, state_end);
-        },
+        grind (arith, common_steps, h.forward, closes-well, nat_lt, state_end, some_lines, h.emptied_open),
         λ line. copied-agrees items _ _ EventRecord EventRecord
             (λ l. cond (records_count_types items) (types_fault l) None) line
-            (record-place m.beginning items left (line ∷ []) e some) (λ l. record {
-              phases = rw (e, some) (records-phase _ _);
-              types = grind (arith, common_steps, types_of-push);
-              keeps = λ n. h.record_kept items n (suc left) (types_in_force items) l;
-              lines = λ n. h.record_lines items n _ (types_in_force items) (m.kept_of items) l;
-              epochs = refl;
-            }),
+            (record-place m.beginning items left (line ∷ []) e some) (λ l. grind (arith, common_steps, records-phase, types_of-push, h.record_kept, h.record_lines)),
       ))
       (λ e none. (
-        record {
-          wanted = h.forward.wants items;
-          skips = λ fault. rw (e, none) refl;
-          inside = refl;
-          emptied = refl;
-          ends = λ n. rw (closes-well items e none) refl;
-        },
+        grind (arith, common_steps, h.forward, closes-well, nat_lt, state_end, some_lines, h.emptied_open),
         λ line. body-agrees items BetweenUnits (m.kept_of items) (line ∷ []) _ e none (inl refl) (λ one. refl)
             (h.begins items line),
       ))
       (λ so_far e none opens. (
-        record {
-          wanted = wanted;
-          skips = λ fault. rw (e, none) refl;
-          inside = grind (arith, common_steps, some_lines, opens);
-          emptied = h.emptied_open (m.kept_of items);
-          ends = λ n. grind (arith, common_steps, e, some_lines, opens, state_end);
-        },
+        grind (arith, common_steps, h.forward, closes-well, nat_lt, state_end, some_lines, h.emptied_open),
         λ line. body-agrees items (InEpoch so_far) (m.direction.kept_open (m.kept_of items)) (rest ++ line ∷ [])
             _ e none (inr refl) (λ one. absurd (omega (
               arith,
@@ -281,13 +233,7 @@ module _ {E U O K V : Type 0} {m : Meaning E U O K V} (h : IsCarriedOut m) where
       × Agrees m items LookingOn (m.kept_of items) (line ∷ [])
       (made_in m.direction LookingOn (types_in_force items) (m.kept_of items) line)
   looking-stands items line e none goes = (
-    record {
-      wanted = h.forward.wants items;
-      skips = λ fault. rw (e, none) refl;
-      inside = refl;
-      emptied = refl;
-      ends = λ n. rw (closes-well items e none) refl;
-    },
+    grind (arith, common_steps, h.forward, closes-well, nat_lt, state_end, some_lines, h.emptied_open),
     rw goes (body-agrees items LookingOn (m.kept_of items) (line ∷ []) _ e none (inl refl) (λ one. refl)
         (h.begins items line)),
   )
