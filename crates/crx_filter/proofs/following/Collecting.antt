@@ -1,9 +1,9 @@
 -- What is collected of the epochs that were accepted, after a line that is given to a direction.
 use Rattle.crx_filter.proofs
-use proofs.Words.{common_steps, ℕ, ◌≡◌, inl, inr, true, false, List, [], ◌∷◌, ◌++◌, map, ap, ◌∙◌, arith}
+use proofs.Words.{common_steps, ℕ, ◌≡◌, true, false, List, [], ◌∷◌, ◌++◌, map, ◌∙◌, arith}
 use proofs.Words.{length, map-append, InputLine, ReadLine, as_read, Choices, Count, RunState, Phase, Made}
 use proofs.Words.{Rejects, Direction, made_in, state_next, step_of_made, is_again, with_next, Content}
-use proofs.Words.{Overlong, LineTooLong, not-true, false-true, sym, LineStep}
+use proofs.Words.{Overlong, LineTooLong, not-true, false-true}
 use proofs.{Pending.taken-either, following.Lines.{last_made, last-once, last-twice}}
 use Rattle.crx_filter.specs.DirectionParts.{DirectionParts, ComesAfter, brings_nothing, state_by}
 use Rattle.crx_filter.specs.{LineByLine.answer_of_lines}
@@ -51,14 +51,7 @@ module _ {U O K V : Type 0} (direction : Direction U O K) (epoch_of : U → V) w
         → epochs_after (map as_read (with_next lines line)) ≡ add_made epoch_of
         (epochs_after (map as_read lines)) (made_in direction seen.phase seen.types seen.kept (as_read line))
     given-epochs once =
-        ap epochs_after (map-append as_read lines (line ∷ [])) ∙ collects (map as_read lines) (as_read line)
-        ∙ ap (add_made epoch_of (epochs_after (map as_read lines))) (elim (taken-either direction
-        (state_after choices) seen lines given.notices line given.has_taken given.awaited) [
-          | inl h ↦ rw (← h.1) (last-once direction seen (as_read line) once)
-          | inr h ↦ last-twice direction _ (as_read line) (ap (λ (t : LineStep O K). is_again t.answer) (sym h.2))
-              ∙ ap (λ (t : LineStep O K). made_in direction t.next.phase t.next.types t.next.kept (as_read line))
-              (sym h.2)
-        ])
+        grind (arith, common_steps, map-append, collects, given.awaited, given.has_taken, taken-either, last-once, last-twice)
 
     pub given-past : ((types : List Count) (kept : K)
         → direction.begins types kept Overlong ≡ Rejects LineTooLong)

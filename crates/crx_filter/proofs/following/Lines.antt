@@ -132,11 +132,8 @@ module _ {E U O K V : Type 0} {m : Meaning E U O K V} (h : IsCarriedOut m) where
       cases : (ended : Bool) → header_has_ended items ≡ ended → (left : ℕ) → records_left items ≡ left
           → (so_far : Option O) → m.open_with items rest ≡ so_far
           → P rest (phase_after_items items (m.open_with items rest))
-      cases false e left some so_far opens = both (header e) (only_none (header_line {E = E} (is_at_start
-          items)) rest (sym (header-place m.beginning items rest e) ∙ wanted)) (rw e refl)
-      cases true e (suc left) some so_far opens = both (event left e some) (only_none (event_record
-          (records_count_types items)) rest (sym (record-place m.beginning items left rest e some) ∙ wanted))
-          (rw (e, some) refl)
+      cases false e left some so_far opens = grind (arith, common_steps, both, only_none, header-place)
+      cases true e (suc left) some so_far opens = grind (arith, common_steps, both, only_none, record-place)
       cases true e zero none None opens =
           grind (arith, common_steps, both, body-place, phase_in_body, records_count_types)
       cases true e zero none (Some so_far) opens =
@@ -163,22 +160,17 @@ module _ {E U O K V : Type 0} {m : Meaning E U O K V} (h : IsCarriedOut m) where
       → header_has_ended items ≡ true → records_left items ≡ 0 → AreKept m items kept
       → (length lines ≡ 1 → kept ≡ m.kept_of items) → AgreeOn m items lines made
       → Agrees m items phase kept lines made
-  body-agrees items phase kept lines (Completes (EventLine l)) ended none keeps first (count, here, one) = (
-    count,
+  body-agrees items phase kept lines (Completes (EventLine l)) ended none keeps first agree = (
+    agree.0,
     EventLine l,
-    body-place m.beginning items lines ended none ∙ here,
-    grind (arith, common_steps, records-phase, h.event_kept, h.event_lines),
+    body-place m.beginning items lines ended none ∙ agree.1,
+    grind (arith, common_steps, agree, records-phase, h.event_kept, h.event_lines),
   )
-  body-agrees items phase kept lines (Completes (Observation held)) ended none keeps first (
-    count,
-    epoch,
-    here,
-    same,
-  ) = (
-    count,
-    Observation epoch,
-    body-place m.beginning items lines ended none ∙ here,
-    grind (arith, common_steps, same.kept, same.lines, same.alike),
+  body-agrees items phase kept lines (Completes (Observation held)) ended none keeps first agree = (
+    agree.0,
+    Observation agree.1,
+    body-place m.beginning items lines ended none ∙ agree.2,
+    grind (arith, common_steps, agree),
   )
   body-agrees items phase kept lines (Moves next) ended none keeps first agree =
       grind (arith, common_steps, body-place, h.open_open)

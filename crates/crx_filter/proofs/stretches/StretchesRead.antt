@@ -1,6 +1,6 @@
 -- The reading of a text that is damaged in stretches: after each stretch the units that are kept, exactly.
 use Rattle.crx_filter.proofs
-use proofs.Words.{arith, ◌≡◌, true, List, [], ◌∷◌, ◌++◌, map, refl, sym, ◌∙◌, subst, append_assoc, append-nil}
+use proofs.Words.{arith, ◌≡◌, true, List, [], ◌∷◌, ◌++◌, map, refl, ◌∙◌, subst, append_assoc, append-nil}
 use proofs.Words.{AllByRecursion, flat_map, flat_map-append, ReadLine, Content, Epoch, FileUnit, IsWholeEpoch}
 use proofs.Words.{printed_epoch, Observation, IsGood, ReadEpoch, Item, Accepted, Warned, header_has_ended}
 use proofs.Words.{records_left, types_in_force, reading_from, compact_place, printed_items, IsBetweenUnits}
@@ -77,12 +77,7 @@ one-stretch before s later so_far items sound come =
     let first = stretch-more items so_far s.instead come.between come.stops h.allowed in
     let x : List (Item ReadEpoch) = first.news ++ items in
     let header : header_has_ended (as_items block) ≡ true = header-on s.lost before sound.header in
-    let k = units-kept block s.kept s.lines h.last x (so_far ++ s.instead) (record {
-      header = header;
-      left = h.ends;
-      between = first.between;
-      types = epochs-types first.news items first.epochs ∙ come.types ∙ sym h.types;
-    }) (placed-up_to (up_to_next before s) later next.in_place) h.written first.stops in
+    let k = units-kept block s.kept s.lines h.last x (so_far ++ s.instead) (grind (arith, common_steps, h.ends, first.between, epochs-types, first.news, first.epochs, come.types, h.types)) (placed-up_to (up_to_next before s) later next.in_place) h.written first.stops in
     record {
       first = first;
       kept = k;
