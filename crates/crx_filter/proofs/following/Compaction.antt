@@ -27,13 +27,11 @@ same-epochs choices items lines epoch count here =
     let by_tail = epoch-by_tail (marked choices items epoch) (marked_epochs choices.every items)
     (sound-epoch_place (types_in_force items) lines epoch count (counts-in_force items) here).0.sound.apart in
     record {
-      kept = λ number phase types kept either. rw (either-same either) (ap (λ (t : Tail). record
-          { index = epochs_accepted items + 1; tail = Some t }) (cc (
-            same-tail choices items epoch,
-            by_tail.tail,
-          )));
-      lines = λ number phase types kept either. rw (either-same either) (ap (λ t. lines_after_tail t epoch)
-          (sym (same-tail choices items epoch)) ∙ sym by_tail.lines);
+      taken = λ number phase types kept either. rw (either-same either) (
+        ap (λ (t : Tail). record { index = epochs_accepted items + 1; tail = Some t })
+            (cc (same-tail choices items epoch, by_tail.tail)),
+        ap (λ t. lines_after_tail t epoch) (sym (same-tail choices items epoch)) ∙ sym by_tail.lines,
+      );
       alike = refl;
     }
 

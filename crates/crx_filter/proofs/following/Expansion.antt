@@ -103,8 +103,7 @@ module _ (choices : Choices) where
       ap {B = Option Tail} (λ (h : HeldEpoch). Some h.tail) (sym same)
       ∙ sym (left-by_tail read.raw (raws_kept items) (reads-soundly (types_in_force items) (raws_kept items)
       lines read count here).single) in record {
-        kept = λ number phase types kept either. left;
-        lines = λ number phase types kept either. cc;
+        taken = λ number phase types kept either. (left, cc);
         alike = same-satellites (types_in_force items) (raws_kept items) lines read count held.tail here left;
       }
 

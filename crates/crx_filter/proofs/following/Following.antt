@@ -55,14 +55,15 @@ module _ {E U O K V : Type 0} (m : Meaning E U O K V) where
   abbrev pub AreKept : List (Item E) → K → Type 0
   AreKept items kept = (kept ≡ m.kept_of items) ⊎ (kept ≡ m.direction.kept_open (m.kept_of items))
 
+  -- what is kept and written of a unit as it comes line by line is what is kept and written of it as it is read
+  abbrev pub IsTaken : List (Item E) → RunState O K → FileUnit E → FileUnit U → Type 0
+  IsTaken items state unit held = (m.direction.kept_after state held ≡ m.kept_of (Accepted unit ∷ items))
+      × (m.direction.written state held ≡ m.unit_lines items unit)
+
   -- an epoch that is read, and the same as it comes line by line
   pub record IsSameEpoch (items : List (Item E)) (epoch : E) (held : U) : Type 0 where
-    pub kept : (number : ℕ) (phase : Phase O) (types : List Count) (kept : K) → AreKept items kept
-        → m.direction.kept_after (state_in m.choices number phase types kept) (Observation held)
-        ≡ m.kept_of (Accepted (Observation epoch) ∷ items)
-    pub lines : (number : ℕ) (phase : Phase O) (types : List Count) (kept : K) → AreKept items kept
-        → m.direction.written (state_in m.choices number phase types kept) (Observation held)
-        ≡ m.unit_lines items (Observation epoch)
+    pub taken : (number : ℕ) (phase : Phase O) (types : List Count) (kept : K) → AreKept items kept
+        → IsTaken items (state_in m.choices number phase types kept) (Observation epoch) (Observation held)
     pub alike : m.epoch_of held ≡ m.epoch_read epoch
 
   -- what is at some lines where an epoch or an event may begin, and what the last of them makes
@@ -88,24 +89,14 @@ module _ {E U O K V : Type 0} (m : Meaning E U O K V) where
     pub continues : (items : List (Item E)) (lines : List ReadLine) (line : ReadLine) (so_far : O)
         → m.open_with items lines ≡ Some so_far
         → AgreeOn items (lines ++ line ∷ []) (m.direction.continues so_far line)
-    pub header_kept : (items : List (Item E)) (number : ℕ) (types : List Count) (line : List ℕ)
-        → m.direction.kept_after (state_in m.choices number (InHeader (is_at_start items)) types
-        (m.kept_of items)) (HeaderLine line) ≡ m.kept_of (Accepted (HeaderLine line) ∷ items)
-    pub header_lines : (items : List (Item E)) (number : ℕ) (types : List Count) (line : List ℕ)
-        → m.direction.written (state_in m.choices number (InHeader (is_at_start items)) types
-        (m.kept_of items)) (HeaderLine line) ≡ m.unit_lines items (HeaderLine line)
-    pub event_kept : (items : List (Item E)) (number : ℕ) (phase : Phase O) (types : List Count)
-        (line : List ℕ) → m.direction.kept_after (state_in m.choices number phase types (m.kept_of items))
-        (EventLine line) ≡ m.kept_of (Accepted (EventLine line) ∷ items)
-    pub event_lines : (items : List (Item E)) (number : ℕ) (phase : Phase O) (types : List Count) (kept : K)
-        (line : List ℕ) → m.direction.written (state_in m.choices number phase types kept) (EventLine line)
-        ≡ m.unit_lines items (EventLine line)
-    pub record_kept : (items : List (Item E)) (number left : ℕ) (types : List Count) (line : List ℕ)
-        → m.direction.kept_after (state_in m.choices number (InEvent left (records_count_types items)) types
-        (m.kept_of items)) (EventRecord line) ≡ m.kept_of (Accepted (EventRecord line) ∷ items)
-    pub record_lines : (items : List (Item E)) (number : ℕ) (phase : Phase O) (types : List Count) (kept : K)
-        (line : List ℕ) → m.direction.written (state_in m.choices number phase types kept) (EventRecord line)
-        ≡ m.unit_lines items (EventRecord line)
+    pub header : (items : List (Item E)) (number : ℕ) (types : List Count) (line : List ℕ)
+        → IsTaken items (state_in m.choices number (InHeader (is_at_start items)) types (m.kept_of items))
+        (HeaderLine line) (HeaderLine line)
+    pub event : (items : List (Item E)) (number : ℕ) (phase : Phase O) (types : List Count) (line : List ℕ)
+        → IsTaken items (state_in m.choices number phase types (m.kept_of items)) (EventLine line) (EventLine line)
+    pub copied : (items : List (Item E)) (number left : ℕ) (types : List Count) (line : List ℕ)
+        → IsTaken items (state_in m.choices number (InEvent left (records_count_types items)) types
+        (m.kept_of items)) (EventRecord line) (EventRecord line)
     pub warned : (items : List (Item E)) (at : At) → m.direction.emptied (m.kept_of items)
         ≡ m.kept_of (Warned at ∷ items)
     pub emptied_open : (kept : K) → m.direction.emptied (m.direction.kept_open kept) ≡ m.direction.emptied kept
@@ -118,10 +109,7 @@ module _ {E U O K V : Type 0} (m : Meaning E U O K V) where
       (held : FileUnit U) : Type 0 where
     pub phases : phase_after_items {O = O} (Accepted unit ∷ items) None ≡ phase_after phase held
     pub types : types_in_force (Accepted unit ∷ items) ≡ types_after phase (types_in_force items) held
-    pub keeps : (count : ℕ)
-        → m.direction.kept_after (state_at count phase items kept) held ≡ m.kept_of (Accepted unit ∷ items)
-    pub lines : (count : ℕ)
-        → m.direction.written (state_at count phase items kept) held ≡ m.unit_lines items unit
+    pub taken : (count : ℕ) → IsTaken items (state_at count phase items kept) unit held
     pub epochs : collected (Accepted unit ∷ items) ≡ add_unit m.epoch_of (collected items) held
 
   -- what is at some lines, and what the last of them makes

@@ -164,7 +164,7 @@ module _ {E U O K V : Type 0} {m : Meaning E U O K V} (h : IsCarriedOut m) where
     agree.0,
     EventLine l,
     body-place m.beginning items lines ended none ∙ agree.1,
-    grind (arith, common_steps, agree, records-phase, h.event_kept, h.event_lines),
+    grind (arith, common_steps, agree, records-phase, h.event),
   )
   body-agrees items phase kept lines (Completes (Observation held)) ended none keeps first agree = (
     agree.0,
@@ -195,13 +195,13 @@ module _ {E U O K V : Type 0} {m : Meaning E U O K V} (h : IsCarriedOut m) where
       (λ e. (
         grind (arith, common_steps, h.forward, closes-well, nat_lt, state_end, some_lines, h.emptied_open),
         λ line. copied-agrees items _ _ HeaderLine HeaderLine (header_line_fault (is_at_start items)) line
-            (header-place m.beginning items (line ∷ []) e) (λ l. grind (arith, common_steps, types_of-push, h.header_kept, h.header_lines)),
+            (header-place m.beginning items (line ∷ []) e) (λ l. grind (arith, common_steps, types_of-push, h.header)),
       ))
       (λ left e some. (
         grind (arith, common_steps, h.forward, closes-well, nat_lt, state_end, some_lines, h.emptied_open),
         λ line. copied-agrees items _ _ EventRecord EventRecord
             (λ l. cond (records_count_types items) (types_fault l) None) line
-            (record-place m.beginning items left (line ∷ []) e some) (λ l. grind (arith, common_steps, records-phase, types_of-push, h.record_kept, h.record_lines)),
+            (record-place m.beginning items left (line ∷ []) e some) (λ l. grind (arith, common_steps, records-phase, types_of-push, h.copied)),
       ))
       (λ e none. (
         grind (arith, common_steps, h.forward, closes-well, nat_lt, state_end, some_lines, h.emptied_open),

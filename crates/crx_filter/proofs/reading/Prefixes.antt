@@ -16,11 +16,8 @@ pub grown : {X Y : Type 0} (made : List X → List Y)
 grown made one xs [] = ([], ap made (append-nil xs) ∙ sym (append-nil (made xs)))
 grown made one xs (x ∷ more) =
     let first = one xs x in
-    let rest = grown made one (xs ++ x ∷ []) more in (
-      first.0 ++ rest.0,
-      ap made (sym (append_assoc xs (x ∷ []) more)) ∙ rest.1 ∙ ap (λ ys. ys ++ rest.0) first.1
-          ∙ append_assoc (made xs) first.0 rest.0,
-    )
+    let rest = grown made one (xs ++ x ∷ []) more in
+    (first.0 ++ rest.0, grind (arith, append_assoc, first, rest))
 
 -- the same in the words of a filter that goes line by line
 module _ {U O K : Type 0} {direction : Direction U O K} {closing_after : List InputLine → List (List ℕ)}
