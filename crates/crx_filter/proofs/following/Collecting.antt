@@ -18,14 +18,10 @@ module _ {U O K V : Type 0} (direction : Direction U O K) (epoch_of : U → V) w
         → add_made epoch_of epochs (made_in direction phase types kept Overlong) ≡ epochs
     long-adds phase types kept = grind (arith, common_steps, long_first, long_next)
 
-    lines-brought : {X : Type 0} (lines : List (List ℕ)) (content : List ℕ)
-        → brings_nothing (answer_of_lines lines) (Content content) ≡ true → X
-    lines-brought lines content passed = grind (arith, common_steps, false-true)
-
     passed-adds : (s : RunState O K) (content : List ℕ) (made : Made U O)
         → brings_nothing (step_of_made direction s (Content content) made).answer (Content content) ≡ true
         → add_made epoch_of epochs made ≡ epochs
-    passed-adds s content made passed = grind (arith, common_steps, lines-brought)
+    passed-adds s content made passed = grind (arith, common_steps, answer_of_lines)
 
     past-adds : (s : RunState O K) (line : ReadLine)
         → brings_nothing (state_next direction s line).answer line ≡ true

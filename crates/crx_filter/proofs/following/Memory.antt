@@ -4,7 +4,7 @@ use Words.{common_steps, ℕ, ◌≡◌, ◌+◌, Bool, true, false, not, List, 
 use Words.{refl, ap, sym, ◌∙◌, arith, ◌&&◌, is_some, ReadLine, Content, Overlong, At}
 use Words.{begins_epoch, is_event_line, is_types_line, NeedsMore, first_line, Item, Reading}
 use Words.{Warned, is_at_start, header_has_ended, records_left, records_count_types, types_in_force}
-use Words.{memory_allowed, place_takes, Stop, AtFault, AtLines, Looking, event_record, header_line}
+use Words.{memory_allowed, place_takes, Stop, AtLines, event_record, header_line}
 use Words.{header_line_fault, types_fault, is_again, Rejects, Made, Notice, Phase, LookingOn}
 use Words.{RunState, Step, is_skipped_in, kept_in, phase_after_items, state_next}
 use Words.{step_of_made, may_take_memory, takes_memory, rules, and_parts, by_bool}
@@ -159,8 +159,7 @@ module _ {E U O K V : Type 0} {m : Meaning E U O K V} (h : IsCarriedOut m) {take
           → record { answer = Notice notice true; handed_out = []; next = next }
           ≡ state_next m.direction (seen_after h count (record { items = items; stop = stop })) line
           → allowed_after (record { items = items; stop = stop }) line ≡ Some (notice ∷ [])
-      by_stop items (AtFault at) stopped again e = false-true again.epoch
-      by_stop items (Looking number) stopped again e = false-true again.epoch
       by_stop items (AtLines number rest) stopped again e =
           let all = stands h items rest stopped.0 in
           cut-takes items number count rest line _ _ next notice all.0 stopped.1 again _ (all.1 line) e taken
+      by_stop items stop stopped again e = false-true again.epoch

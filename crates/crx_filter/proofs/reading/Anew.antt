@@ -66,15 +66,7 @@ module _ (a b : List (Item ReadEpoch)) (h : AreAlike a b) where
       → compact_place a lines ≡ compact_place b lines
   anew-same [] none anew = grind (arith, body-place)
   anew-same (Overlong ∷ lines) none anew = absurd (cc)
-  anew-same (Content line ∷ lines) none anew =
-      let begins = (and_parts (begins_epoch line) _ anew).0 in
-      cc (
-        body-place compact_beginning a (Content line ∷ lines) h.one none,
-        body-place compact_beginning b (Content line ∷ lines) h.two (sym h.left ∙ none),
-        h.types,
-        (forgets (types_in_force a) (raws_kept a) line lines begins).place,
-        (forgets (types_in_force b) (raws_kept b) line lines begins).place,
-      )
+  anew-same (Content line ∷ lines) none anew = grind (arith, common_steps, body-place, and_parts, forgets, h)
 
   place-same : (lines : List ReadLine) → GoesOn a b lines → (n : ℕ) → records_left a ≡ n
       → compact_place a lines ≡ compact_place b lines
