@@ -224,11 +224,7 @@ module _ {E U O K V : Type 0} {m : Meaning E U O K V} (h : IsCarriedOut m) where
       → records_left items ≡ 0 → can_go_on line ≡ true → StandsAt m items [] LookingOn (m.kept_of items)
       × Agrees m items LookingOn (m.kept_of items) (line ∷ [])
       (made_in m.direction LookingOn (types_in_force items) (m.kept_of items) line)
-  looking-stands items line e none goes = (
-    grind (arith, common_steps, h.forward, closes-well, nat_lt, state_end, some_lines, h.emptied_open),
-    rw goes (body-agrees items LookingOn (m.kept_of items) (line ∷ []) _ e none (inl refl) (λ one. refl)
-        (h.begins items line)),
-  )
+  looking-stands items line e none goes = grind (arith, common_steps, closes-well, body-agrees)
 
   -- ---- what a step comes to
 
@@ -296,12 +292,7 @@ module _ {E U O K V : Type 0} {m : Meaning E U O K V} (h : IsCarriedOut m) where
 
       last-off : is_skipped_in state fault ≡ true → (is_in_epoch phase && can_go_on line) ≡ false
           → FollowsAs (count + 1) items after (fed_once (step (Rejects fault))) (Rejects fault)
-      last-off on stays = rw (
-        last-skips on,
-        (looked-off (reads (Warned at ∷ items)) (Warned at ∷ items) number rest
-            line (rw (← s.inside) stays)).1,
-      )
-          (grind (arith, common_steps, failed-skipped, append-nil, written_lines, s.emptied, h.warned))
+      last-off on stays = grind (arith, common_steps, last-skips, looked-off, failed-skipped, append-nil)
 
     followed-unit : (n : ℕ) (unit : FileUnit E) (held : FileUnit U) → IsSameUnit m items phase kept unit held
         → FollowsAs (count + 1) items (record { items = Accepted unit ∷ items; stop = AtLines n [] })
