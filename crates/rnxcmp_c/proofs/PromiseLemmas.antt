@@ -20,14 +20,19 @@ use Rattle.rnxcmp_c.proofs.Words.{with_one_more, bare_answer, MISUSED}
 use Rattle.rnxcmp_c.specs.Opened.{EndsHandle, FeedsHandle, HandleStands, IsSoundHandle, has_ended, run_state}
 use Rattle.rnxcmp_c.specs.{Handles.{fault_now, status_now}, Opened.texts_kept}
 use Rattle.rnxcmp_c.specs.meaning.Handles.{HandlePromise, RunWasEnded, TakesBytes, joined_texts}
-use Rattle.crx_filter.proofs.{following.DirectionSteps.{compaction-goes, expansion-goes}, reading.Prefixes.warnings-go_on}
+use Rattle.crx_filter.proofs.{following.DirectionSteps.{compaction-goes, expansion-goes}}
+use Rattle.crx_filter.proofs.{reading.Prefixes.warnings-go_on}
 
 -- ---- warnings
 
 -- where more are warned of, their messages come after the others
 begins-more : (all some_of : List At) → (later : List At) × (all ≡ some_of ++ later)
     → Begins (notices_text all) (notices_text some_of)
-begins-more all some_of (later, e) = record { rest = notices_text later; same = rw e (notices-both some_of later) }
+begins-more all some_of (later, e) = record {
+  rest = notices_text later;
+  same = rw e (notices-both some_of
+      later);
+}
 
 -- the warnings of the first lines are first in those of all
 pub warned-first : (task : Task) (lines more : List InputLine)
@@ -35,7 +40,8 @@ pub warned-first : (task : Task) (lines more : List InputLine)
     (notices_text ((filter_for task).so_far lines).warnings)
 warned-first (Compact choices limit) lines more =
     begins-more _ _ (warnings-go_on (compaction-goes choices refl) lines more)
-warned-first (Expand choices limit) lines more = begins-more _ _ (warnings-go_on (expansion-goes choices refl) lines more)
+warned-first (Expand choices limit) lines more = begins-more _ _ (warnings-go_on (expansion-goes choices refl)
+    lines more)
 warned-first Check lines more = record { rest = []; same = refl }
 
 -- the messages of a result begin with the warnings

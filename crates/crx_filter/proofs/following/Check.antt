@@ -2,7 +2,8 @@
 use Rattle.crx_filter.proofs.Words
 use Words.{common_steps, ℕ, List, arith, Epoch, FileUnit, printed_unit, Item, OpenEpoch, Totals}
 use Words.{checking, totals_of, no_choices}
-use Rattle.crx_filter.proofs.following.{Following.{IsCarriedOut, Meaning}, Rinex.{AreSame, rinex_meaning, either-same, agree-begins}}
+use Rattle.crx_filter.proofs.following.{Following.{IsCarriedOut, Meaning}}
+use Rattle.crx_filter.proofs.following.{Rinex.{AreSame, rinex_meaning, either-same, agree-begins}}
 use Rattle.crx_filter.proofs.{following.Rinex.{agree-continues, no-lines}, reading.Forward.rinex-forward}
 
 -- the lines of a unit, whatever is before it

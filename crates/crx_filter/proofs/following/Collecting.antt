@@ -47,7 +47,17 @@ module _ {U O K V : Type 0} (direction : Direction U O K) (epoch_of : U → V) w
         → epochs_after (map as_read (with_next lines line)) ≡ add_made epoch_of
         (epochs_after (map as_read lines)) (made_in direction seen.phase seen.types seen.kept (as_read line))
     given-epochs once =
-        grind (arith, common_steps, map-append, collects, given.awaited, given.has_taken, taken-either, last-once, last-twice)
+        grind (
+          arith,
+          common_steps,
+          map-append,
+          collects,
+          given.awaited,
+          given.has_taken,
+          taken-either,
+          last-once,
+          last-twice,
+        )
 
     pub given-past : ((types : List Count) (kept : K)
         → direction.begins types kept Overlong ≡ Rejects LineTooLong)

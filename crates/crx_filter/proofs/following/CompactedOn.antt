@@ -11,7 +11,8 @@ use Rattle.crx_filter.specs.meaning.Memory.{accepted_epochs}
 pub compacted-on : (choices : Choices) (lines : List ReadLine) (line : ReadLine)
     → IsCompactedOn choices lines line
 compacted-on choices lines line = (more-line (compaction-carried_out choices) 1 (length lines) (length
-    (lines ++ line ∷ [])) lines (lines ++ line ∷ []) line (omega arith) (length-append lines (line ∷ [])) refl).followed
+    (lines ++ line ∷ [])) lines (lines ++ line ∷ []) line (omega arith) (length-append lines (line ∷ []))
+    refl).followed
 
 -- the epochs that were accepted in some lines
 abbrev pub epochs_collected : Choices → List ReadLine → List Epoch
@@ -24,4 +25,5 @@ compaction-collects choices lines line = rw (
   map-id
       (epochs_collected choices lines),
 ) at (more-line (compaction-carried_out choices) 1 (length lines) (length
-    (lines ++ line ∷ [])) lines (lines ++ line ∷ []) line (omega arith) (length-append lines (line ∷ [])) refl).epochs
+    (lines ++ line ∷ [])) lines (lines ++ line ∷ []) line (omega arith) (length-append lines (line ∷ []))
+    refl).epochs

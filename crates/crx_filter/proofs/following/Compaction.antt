@@ -4,8 +4,10 @@ use Rattle.crx_filter.proofs.Words.{Marked, OpenEpoch, Written, refl, Tail, line
 use Rattle.crx_filter.proofs.Words.{types_in_force, epochs_accepted, is_at_every, is_in_full, marked_epochs}
 use Rattle.crx_filter.proofs.Words.{compact_unit, compaction, written_of}
 use Rattle.crx_compact.{proofs.wayback.Tailing.epoch-by_tail, specs.Laws.tail_before}
-use Rattle.{crx_compact.specs.Steps.tail_written_after, crx_filter.proofs.following.Following.{IsCarriedOut, Meaning}}
-use Rattle.crx_filter.proofs.following.Rinex.{AreSame, rinex_meaning, either-same, agree-begins, agree-continues, no-lines}
+use Rattle.{crx_compact.specs.Steps.tail_written_after}
+use Rattle.{crx_filter.proofs.following.Following.{IsCarriedOut, Meaning}}
+use Rattle.crx_filter.proofs.following.Rinex.{AreSame, rinex_meaning, either-same, agree-begins}
+use Rattle.crx_filter.proofs.following.Rinex.{agree-continues, no-lines}
 use Rattle.crx_filter.proofs.reading.{Forward.rinex-forward, Types.counts-in_force}
 use Rattle.crx_rinex.proofs.SoundEpochs.{sound-epoch_place}
 
@@ -36,7 +38,8 @@ same-epochs choices items lines epoch count here =
     }
 
 abbrev pub compaction_meaning : Choices → Meaning Epoch Epoch OpenEpoch Written Epoch
-compaction_meaning choices = rinex_meaning compaction (written_of choices.every) (compact_unit choices) choices
+compaction_meaning choices = rinex_meaning compaction (written_of choices.every) (compact_unit choices)
+    choices
 
 pub compaction-carried_out : (choices : Choices) → IsCarriedOut (compaction_meaning choices)
 compaction-carried_out choices = search (rinex-forward, no-lines, agree-begins, same-epochs, agree-continues)

@@ -1,7 +1,8 @@
 -- An expansion is given one line more.
 use Rattle.crx_filter.proofs.Words
 use Words.{common_steps, ℕ, ◌≡◌, ◌+◌, Bool, List, [], ◌∷◌, ◌++◌, length, drop, Option, Some, None, Result, Ok}
-use Words.{Err, LineTooLong, refl, sym, subst, arith, length-append, drop-append-le, length-drop, ReadLine, Content, Overlong}
+use Words.{Err, LineTooLong, refl, sym, subst, arith, length-append, drop-append-le, length-drop, ReadLine}
+use Words.{Content, Overlong}
 use Words.{Fault, Place, Done, Fails, NeedsMore, ReadEpoch, OpenRawEpoch, Tail, Choices, Reading, AtFault}
 use Words.{AtLines, reading_from, Fed, fed, fed_once, Phase}
 use Words.{InFirstLines, Ended, RunState, Rejects, Made, made_in, step_of_made, state_next, state_of}
@@ -45,15 +46,18 @@ two-lines first (Content second) lines (Ok version) e wanted =
     grind (arith, common_steps, crinex_program, first_lines)
 
 module _ (choices : Choices) where
-  -- one line more, by what is at the first two lines before and then, by what it is fed as, and by what it makes
+  -- one line more, by what is at the first two lines before and then, by what it is fed as, and by what it
+  -- makes
   abbrev FollowsAs : List ReadLine → ReadLine → Place (List (List ℕ)) → Place (List (List ℕ))
       → Fed OpenRawEpoch (Option Tail) → Made HeldEpoch OpenRawEpoch → Type 0
-  FollowsAs lines line before after = Follows (expansion_meaning choices) (state_by choices (lines ++ line ∷ [])
-      after) (reading_by choices.skip lines before).items (reading_by choices.skip (lines ++ line ∷ []) after)
+  FollowsAs lines line before after = Follows (expansion_meaning choices) (state_by choices (lines ++ line ∷
+      []) after) (reading_by choices.skip lines before).items (reading_by choices.skip (lines ++ line ∷ [])
+      after)
 
   abbrev FollowsBy : List ReadLine → ReadLine → Place (List (List ℕ)) → Place (List (List ℕ)) → Type 0
   FollowsBy lines line before after = FollowsAs lines line before after
-      (fed expansion (state_by choices lines before) line) (last_made expansion (state_by choices lines before) line)
+      (fed expansion (state_by choices lines before) line) (last_made expansion (state_by choices lines
+      before) line)
 
   -- in the first two lines no line comes again
   abbrev FollowsOnce : List ReadLine → ReadLine → Type 0

@@ -16,7 +16,8 @@ use Rattle.crx_compact.specs.{OpenEpochs.place_of_steps, ReadingLaws.is_wanted, 
 use Rattle.crx_compact.proofs.soundness.Soundness.{Paired, RowFacts, epoch-facts}
 use Rattle.crx_compact.specs.{Placing.satellite_of as satellite_of_tail, Tails.{raw_row_tail, tail_of_block}}
 use Rattle.crx_compact.specs.{meaning.{CompactPlaces.ReadRow, Expansion.{RawRow, raw_run_of}}}
-use Rattle.crx_filter.specs.{ExpansionByLine.compact_begins, meaning.Memory.{satellite_of_row, satellites_had}}
+use Rattle.crx_filter.specs.{ExpansionByLine.compact_begins}
+use Rattle.crx_filter.specs.{meaning.Memory.{satellite_of_row, satellites_had}}
 use Rattle.{crx_text.proofs.EachPlace.length-each_place, std.proofs.lemmas.Option.same_Some}
 use proofs.following.{Following.{Meaning, IsSameEpoch, AgreeOn, IsCarriedOut}, Lines.one_line-decided}
 use proofs.reading.ForwardCompact.{compact-forward, compact_beginning}
@@ -78,7 +79,8 @@ at-observation : (items : List (Item ReadEpoch)) (line : ReadLine) (lines : List
 at-observation items line lines e = grind (arith, common_steps)
 
 -- what the definitions say of an expansion
-abbrev pub expansion_meaning : Choices → Meaning ReadEpoch HeldEpoch OpenRawEpoch (Option Tail) (List Satellite)
+abbrev pub expansion_meaning : Choices → Meaning ReadEpoch HeldEpoch OpenRawEpoch (Option Tail) (List
+    Satellite)
 expansion_meaning choices = record {
   direction = expansion;
   choices = choices;

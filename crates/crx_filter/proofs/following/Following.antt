@@ -16,9 +16,9 @@ pub use Rattle.crx_filter.proofs.Pending.{state_in}
 
 -- ---- what a direction has to keep to
 
--- what the definitions of whole inputs say of a direction, by the user's choices: what is at some lines where an
--- epoch or an event may begin, and the epoch that they leave open; what is kept after some items, and the lines of a
--- unit; and what is collected of an epoch, as it comes line by line and as it is read
+-- what the definitions of whole inputs say of a direction, by the user's choices: what is at some lines where
+-- an epoch or an event may begin, and the epoch that they leave open; what is kept after some items, and the
+-- lines of a unit; and what is collected of an epoch, as it comes line by line and as it is read
 pub record Meaning (E U O K V : Type 0) : Type 0 where
   pub direction : Direction U O K
   pub choices : Choices
@@ -55,7 +55,8 @@ module _ {E U O K V : Type 0} (m : Meaning E U O K V) where
   abbrev pub AreKept : List (Item E) → K → Type 0
   AreKept items kept = (kept ≡ m.kept_of items) ⊎ (kept ≡ m.direction.kept_open (m.kept_of items))
 
-  -- what is kept and written of a unit as it comes line by line is what is kept and written of it as it is read
+  -- what is kept and written of a unit as it comes line by line is what is kept and written of it as it is
+  -- read
   abbrev pub IsTaken : List (Item E) → RunState O K → FileUnit E → FileUnit U → Type 0
   IsTaken items state unit held = (m.direction.kept_after state held ≡ m.kept_of (Accepted unit ∷ items))
       × (m.direction.written state held ≡ m.unit_lines items unit)
@@ -93,18 +94,22 @@ module _ {E U O K V : Type 0} (m : Meaning E U O K V) where
         → IsTaken items (state_in m.choices number (InHeader (is_at_start items)) types (m.kept_of items))
         (HeaderLine line) (HeaderLine line)
     pub event : (items : List (Item E)) (number : ℕ) (phase : Phase O) (types : List Count) (line : List ℕ)
-        → IsTaken items (state_in m.choices number phase types (m.kept_of items)) (EventLine line) (EventLine line)
+        → IsTaken items (state_in m.choices number phase types (m.kept_of items)) (EventLine line) (EventLine
+        line)
     pub copied : (items : List (Item E)) (number left : ℕ) (types : List Count) (line : List ℕ)
         → IsTaken items (state_in m.choices number (InEvent left (records_count_types items)) types
         (m.kept_of items)) (EventRecord line) (EventRecord line)
     pub warned : (items : List (Item E)) (at : At) → m.direction.emptied (m.kept_of items)
         ≡ m.kept_of (Warned at ∷ items)
-    pub emptied_open : (kept : K) → m.direction.emptied (m.direction.kept_open kept) ≡ m.direction.emptied kept
-    pub open_open : (kept : K) → m.direction.kept_open (m.direction.kept_open kept) ≡ m.direction.kept_open kept
+    pub emptied_open : (kept : K) → m.direction.emptied (m.direction.kept_open kept) ≡ m.direction.emptied
+        kept
+    pub open_open : (kept : K) → m.direction.kept_open (m.direction.kept_open kept) ≡ m.direction.kept_open
+        kept
 
   -- ---- in each phase
 
-  -- a unit that is read in a phase, and the same as it comes line by line: what follows from it, and its lines
+  -- a unit that is read in a phase, and the same as it comes line by line: what follows from it, and its
+  -- lines
   pub record IsSameUnit (items : List (Item E)) (phase : Phase O) (kept : K) (unit : FileUnit E)
       (held : FileUnit U) : Type 0 where
     pub phases : phase_after_items {O = O} (Accepted unit ∷ items) None ≡ phase_after phase held
@@ -122,22 +127,23 @@ module _ {E U O K V : Type 0} (m : Meaning E U O K V) where
   Agrees items phase kept lines (Rejects fault) = (offset : ℕ) × (place items lines ≡ Fails offset fault)
   Agrees items phase kept lines made = ⊥
 
-  -- a phase says what these items and lines say: more lines are wanted; faults are skipped in both; an epoch is open
-  -- where there are lines; what a fault leaves; and what the end of the input means
-  pub record StandsAt (items : List (Item E)) (rest : List ReadLine) (phase : Phase O) (kept : K) : Type 0 where
-    pub wanted : place items rest ≡ NeedsMore
-    pub skips : (fault : Fault) → is_skipped m.choices.skip items fault
-        ≡ (m.choices.skip && (may_skip phase && is_skippable fault))
-    pub inside : is_in_epoch phase ≡ nat_lt 0 (length rest)
-    pub emptied : m.direction.emptied kept ≡ m.direction.emptied (m.kept_of items)
-    pub ends : (count : ℕ) → state_end m.direction (state_at count phase items kept)
-        ≡ end_step m.direction [] (state_at count phase items kept) (fault_at_end items rest)
+  -- a phase says what these items and lines say: more lines are wanted; faults are skipped in both; an epoch
+  -- is open where there are lines; what a fault leaves; and what the end of the input means
+  pub record StandsAt (items : List (Item E)) (rest : List ReadLine) (phase : Phase O) (kept : K) : Type 0
+    where
+      pub wanted : place items rest ≡ NeedsMore
+      pub skips : (fault : Fault) → is_skipped m.choices.skip items fault
+          ≡ (m.choices.skip && (may_skip phase && is_skippable fault))
+      pub inside : is_in_epoch phase ≡ nat_lt 0 (length rest)
+      pub emptied : m.direction.emptied kept ≡ m.direction.emptied (m.kept_of items)
+      pub ends : (count : ℕ) → state_end m.direction (state_at count phase items kept)
+          ≡ end_step m.direction [] (state_at count phase items kept) (fault_at_end items rest)
 
   -- a reading after these items, and what is seen after it, where one line more is fed so and makes this
   pub record Follows (state_then : RunState O K) (items : List (Item E)) (r : Reading E) (line_fed : Fed O K)
       (made : Made U O) : Type 0 where
-    pub followed : IsFollowed state_then (written_lines m.unit_lines items) (written_lines m.unit_lines r.items)
-        (warnings_in items) (warnings_in r.items) (fault_of_stop r.stop) line_fed
+    pub followed : IsFollowed state_then (written_lines m.unit_lines items) (written_lines m.unit_lines
+        r.items) (warnings_in items) (warnings_in r.items) (fault_of_stop r.stop) line_fed
     pub epochs : collected r.items ≡ add_made m.epoch_of (collected items) made
 
 -- where an epoch or an event may begin

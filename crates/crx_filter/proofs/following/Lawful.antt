@@ -4,7 +4,8 @@ use Rattle.crx_filter.proofs.{Words.{expansion_filter, IsLawful}}
 use Rattle.crx_filter.proofs.following.DirectionSteps.{compaction-goes, expansion-goes}
 use Rattle.crx_filter.proofs.reading.FineReadings.{rinex-found, rinex-found-at-end}
 use Rattle.crx_filter.proofs.reading.FineReadings.{compact-found, compact-found-at-end}
-use Rattle.crx_filter.proofs.reading.{Prefixes.{output-grows, output-goes_on}, StaysEnded.{rinex-stays, compact-stays}}
+use Rattle.crx_filter.proofs.reading.{Prefixes.{output-grows, output-goes_on}}
+use Rattle.crx_filter.proofs.reading.{StaysEnded.{rinex-stays, compact-stays}}
 
 pub compaction-lawful : (choices : Choices) → IsLawful (compaction_filter choices)
 compaction-lawful choices = record {

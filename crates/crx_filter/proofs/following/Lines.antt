@@ -18,7 +18,8 @@ use proofs.following.Following.{Meaning, IsCarriedOut, IsSameUnit, Agrees, Agree
 use proofs.following.Following.{state_at, Follows, body-place, fed-once, fed-twice, failed-ends}
 use proofs.following.Following.{failed-skipped}
 use proofs.reading.{Resuming.{from-here, from-wrong, looked-on, wrong-within}, WhatWasRead.allowed}
-use proofs.Words.{false-true, length-append, state_end, max, ◌≤◌, drop, drop-append_seam, Done, Fails, looked_for}
+use proofs.Words.{false-true, length-append, state_end, max, ◌≤◌, drop, drop-append_seam, Done, Fails}
+use proofs.Words.{looked_for}
 use proofs.Words.{after_fault}
 use Rattle.crx_filter.specs.LineByLine.{made_of_line}
 use Rattle.crx_header.proofs.Counts.{types_of-push}
@@ -75,9 +76,11 @@ closes-well items e f = grind (arith, common_steps)
 module _ {E : Type 0} (read : ℕ → List ReadLine → Reading E) (items : List (Item E)) (number : ℕ)
     (rest : List ReadLine) (line : ReadLine) where
   abbrev looked : Reading E
-  looked = looked_for read items (number + max (length rest) 1) (drop (max (length rest) 1) (rest ++ line ∷ []))
+  looked = looked_for read items (number + max (length rest) 1) (drop (max (length rest) 1) (rest ++ line ∷
+      []))
 
-  looked-again : (nat_lt 0 (length rest) && can_go_on line) ≡ true → looked ≡ read (number + length rest) (line ∷ [])
+  looked-again : (nat_lt 0 (length rest) && can_go_on line) ≡ true → looked ≡ read (number + length rest)
+      (line ∷ [])
   looked-again goes = grind (arith, common_steps, max, drop-append_seam, looked-here)
 
   looked-off : (nat_lt 0 (length rest) && can_go_on line) ≡ false
@@ -143,10 +146,10 @@ module _ {E U O K V : Type 0} {m : Meaning E U O K V} (h : IsCarriedOut m) where
 
   -- a line that is a unit of its own, or has a fault
   copied-agrees : (items : List (Item E)) (phase : Phase O) (kept : K) (unit : List ℕ → FileUnit E)
-      (same : List ℕ → FileUnit U) (fault_in : List ℕ → Option Fault) (line : ReadLine) → place m items (line ∷ [])
-      ≡ first_line (line ∷ []) (λ l. unless_wrong (unit l) (fault_in l))
-      → ((l : List ℕ) → IsSameUnit m items phase kept (unit l) (same l)) → Agrees m items phase kept (line ∷ [])
-      (made_of_line (λ l. made_of_unit (unless_wrong (same l) (fault_in l))) line)
+      (same : List ℕ → FileUnit U) (fault_in : List ℕ → Option Fault) (line : ReadLine) → place m items (line
+      ∷ []) ≡ first_line (line ∷ []) (λ l. unless_wrong (unit l) (fault_in l))
+      → ((l : List ℕ) → IsSameUnit m items phase kept (unit l) (same l)) → Agrees m items phase kept (line ∷
+      []) (made_of_line (λ l. made_of_unit (unless_wrong (same l) (fault_in l))) line)
   copied-agrees items phase kept unit same fault_in Overlong e s = (0, e)
   copied-agrees items phase kept unit same fault_in (Content l) e s = by_fault (fault_in l) e
     where
@@ -195,13 +198,15 @@ module _ {E U O K V : Type 0} {m : Meaning E U O K V} (h : IsCarriedOut m) where
       (λ e. (
         grind (arith, common_steps, h.forward, closes-well, nat_lt, state_end, some_lines, h.emptied_open),
         λ line. copied-agrees items _ _ HeaderLine HeaderLine (header_line_fault (is_at_start items)) line
-            (header-place m.beginning items (line ∷ []) e) (λ l. grind (arith, common_steps, types_of-push, h.header)),
+            (header-place m.beginning items (line ∷ []) e)
+            (λ l. grind (arith, common_steps, types_of-push, h.header)),
       ))
       (λ left e some. (
         grind (arith, common_steps, h.forward, closes-well, nat_lt, state_end, some_lines, h.emptied_open),
         λ line. copied-agrees items _ _ EventRecord EventRecord
             (λ l. cond (records_count_types items) (types_fault l) None) line
-            (record-place m.beginning items left (line ∷ []) e some) (λ l. grind (arith, common_steps, records-phase, types_of-push, h.copied)),
+            (record-place m.beginning items left (line ∷ []) e some)
+            (λ l. grind (arith, common_steps, records-phase, types_of-push, h.copied)),
       ))
       (λ e none. (
         grind (arith, common_steps, h.forward, closes-well, nat_lt, state_end, some_lines, h.emptied_open),
@@ -210,7 +215,8 @@ module _ {E U O K V : Type 0} {m : Meaning E U O K V} (h : IsCarriedOut m) where
       ))
       (λ so_far e none opens. (
         grind (arith, common_steps, h.forward, closes-well, nat_lt, state_end, some_lines, h.emptied_open),
-        λ line. body-agrees items (InEpoch so_far) (m.direction.kept_open (m.kept_of items)) (rest ++ line ∷ [])
+        λ line. body-agrees items (InEpoch so_far) (m.direction.kept_open (m.kept_of items)) (rest ++ line ∷
+            [])
             _ e none (inr refl) (λ one. absurd (omega (
               arith,
               one,
@@ -238,8 +244,8 @@ module _ {E U O K V : Type 0} {m : Meaning E U O K V} (h : IsCarriedOut m) where
   abbrev pub FollowsAs : ℕ → List (Item E) → Reading E → Fed O K → Made U O → Type 0
   FollowsAs count items r = Follows m (seen_after count r) items r
 
-  module _ (items : List (Item E)) (number count : ℕ) (rest : List ReadLine) (line : ReadLine) (phase : Phase O)
-      (kept : K) (s : StandsAt m items rest phase kept) (counted : number + length rest ≡ count + 1) where
+  module _ (items : List (Item E)) (number count : ℕ) (rest : List ReadLine) (line : ReadLine) (phase : Phase
+      O) (kept : K) (s : StandsAt m items rest phase kept) (counted : number + length rest ≡ count + 1) where
     abbrev state : RunState O K
     state = state_at m count phase items kept
 
@@ -255,8 +261,8 @@ module _ {E U O K V : Type 0} {m : Meaning E U O K V} (h : IsCarriedOut m) where
     -- what is read of it: a unit that it completes; a fault that it decides, which ends with it
     last-here : (unit : FileUnit E) (lines : ℕ) → place m items (rest ++ line ∷ []) ≡ Done unit lines
         → after ≡ record { items = Accepted unit ∷ items; stop = AtLines (number + lines) [] }
-    last-here unit lines e = from-here (place m) h.forward m.choices.skip items number (rest ++ line ∷ []) unit
-        lines e ∙ grind (arith, common_steps, from-wanted, h.forward, s.wanted)
+    last-here unit lines e = from-here (place m) h.forward m.choices.skip items number (rest ++ line ∷ [])
+        unit lines e ∙ grind (arith, common_steps, from-wanted, h.forward, s.wanted)
 
     pub wrong-last : (offset : ℕ) (fault : Fault)
         → place m items (rest ++ line ∷ []) ≡ Fails offset fault → offset ≡ length rest
@@ -270,8 +276,8 @@ module _ {E U O K V : Type 0} {m : Meaning E U O K V} (h : IsCarriedOut m) where
       at = record { line = count + 1; fault = fault }
 
       at-last : after ≡ after_fault m.choices.skip reads items number (rest ++ line ∷ []) (length rest) fault
-      at-last = from-wrong (place m) h.forward m.choices.skip items number (rest ++ line ∷ []) (length rest) fault
-          (e ∙ ap (λ n. Fails n fault) (wrong-last offset fault e))
+      at-last = from-wrong (place m) h.forward m.choices.skip items number (rest ++ line ∷ []) (length rest)
+          fault (e ∙ ap (λ n. Fails n fault) (wrong-last offset fault e))
 
       last-skips : is_skipped_in state fault ≡ true → after ≡ looked_for (reads (Warned at ∷ items))
           (Warned at ∷ items) (number + max (length rest) 1) (drop (max (length rest) 1) (rest ++ line ∷ []))
@@ -287,8 +293,8 @@ module _ {E U O K V : Type 0} {m : Meaning E U O K V} (h : IsCarriedOut m) where
 
       last-on : is_skipped_in state fault ≡ true → (is_in_epoch phase && can_go_on line) ≡ true
           → after ≡ reads (Warned at ∷ items) (count + 1) (line ∷ [])
-      last-on on goes = last-skips on ∙ looked-again (reads (Warned at ∷ items)) (Warned at ∷ items) number rest line
-          (rw (← s.inside) goes) ∙ ap (λ n. reads (Warned at ∷ items) n (line ∷ [])) counted
+      last-on on goes = last-skips on ∙ looked-again (reads (Warned at ∷ items)) (Warned at ∷ items) number
+          rest line (rw (← s.inside) goes) ∙ ap (λ n. reads (Warned at ∷ items) n (line ∷ [])) counted
 
       last-off : is_skipped_in state fault ≡ true → (is_in_epoch phase && can_go_on line) ≡ false
           → FollowsAs (count + 1) items after (fed_once (step (Rejects fault))) (Rejects fault)
@@ -310,7 +316,8 @@ module _ {E U O K V : Type 0} {m : Meaning E U O K V} (h : IsCarriedOut m) where
     -- where it is given once
     made-once : (made : Made U O) → Agrees m items phase kept (rest ++ line ∷ []) made
         → is_again (step made).answer ≡ false → FollowsAs (count + 1) items after (fed_once (step made)) made
-    made-once (Completes held) (lines, unit, there, same) quiet = rw (last-here unit lines there) (followed-unit _ unit held same)
+    made-once (Completes held) (lines, unit, there, same) quiet = rw (last-here unit lines there)
+        (followed-unit _ unit held same)
     made-once (Moves next) agree quiet = rw (from-wanted (place m) h.forward m.choices.skip items number
         (rest ++ line ∷ []) agree.0) (grind (arith, common_steps, append-nil))
     made-once (Rejects fault) (offset, there) quiet = by_bool (is_skipped_in state fault)
@@ -321,12 +328,12 @@ module _ {E U O K V : Type 0} {m : Meaning E U O K V} (h : IsCarriedOut m) where
   -- its warning, and then what it makes the second time
   followed-twice : (count : ℕ) (items : List (Item E)) (at : At) (r : Reading E) (next : RunState O K)
       (two : Step O K) (made : Made U O) → FollowsAs count (Warned at ∷ items) r (fed_once two) made
-      → FollowsAs count items r (fed_twice (record { answer = Notice at true; handed_out = []; next = next }) two)
-      made
+      → FollowsAs count items r (fed_twice (record { answer = Notice at true; handed_out = []; next = next })
+      two) made
   followed-twice count items at r next two made f = grind (arith, common_steps, append_assoc, warnings_in)
 
-  module _ (items : List (Item E)) (number count : ℕ) (rest : List ReadLine) (line : ReadLine) (phase : Phase O)
-      (kept : K) (s : StandsAt m items rest phase kept) (counted : number + length rest ≡ count + 1) where
+  module _ (items : List (Item E)) (number count : ℕ) (rest : List ReadLine) (line : ReadLine) (phase : Phase
+      O) (kept : K) (s : StandsAt m items rest phase kept) (counted : number + length rest ≡ count + 1) where
     abbrev here : RunState O K
     here = state_at m count phase items kept
 
@@ -334,23 +341,24 @@ module _ {E U O K V : Type 0} {m : Meaning E U O K V} (h : IsCarriedOut m) where
     one made = step_of_made m.direction here line made
 
     made-again : (made : Made U O) → Agrees m items phase kept (rest ++ line ∷ []) made
-        → is_again (one made).answer ≡ true → FollowsAs (count + 1) items (reads items number (rest ++ line ∷ []))
-        (fed_twice (one made) (state_next m.direction (one made).next line))
+        → is_again (one made).answer ≡ true → FollowsAs (count + 1) items (reads items number (rest ++ line ∷
+        [])) (fed_twice (one made) (state_next m.direction (one made).next line))
         (made_in m.direction (one made).next.phase (one made).next.types (one made).next.kept line)
     made-again (Rejects fault) (offset, there) on = by_bool (is_skipped_in here fault) (λ skipped.
-        let both : (is_in_epoch phase && can_go_on line) ≡ true = sym (ap (λ (t : Step _ _). is_again t.answer)
-        (failed-skipped m.direction here line fault skipped)) ∙ on in
+        let both : (is_in_epoch phase && can_go_on line) ≡ true = sym (ap (λ (t : Step _ _). is_again
+        t.answer) (failed-skipped m.direction here line fault skipped)) ∙ on in
         let at : At = record { line = count + 1; fault = fault } in
         let then : List (Item E) = Warned at ∷ items in
         let looking : RunState O K = state_at m count LookingOn then (m.kept_of then) in
         let is_one : failed_step m.direction here line fault
         ≡ record { answer = Notice at true; handed_out = []; next = looking } =
         rw (skipped, both, s.emptied, h.warned items at) refl in
-        let stands = looking-stands then line (allowed m.choices.skip items fault (s.skips fault ∙ skipped)).0 refl
-        (and_parts (is_in_epoch phase) (can_go_on line) both).1 in
+        let stands = looking-stands then line (allowed m.choices.skip items fault (s.skips fault ∙ skipped)).0
+        refl (and_parts (is_in_epoch phase) (can_go_on line) both).1 in
         rw (last-on items number count rest line phase kept s counted fault offset there skipped both, is_one)
         (followed-twice (count + 1) items at _ looking _ _ (made-once then (count + 1) count [] line LookingOn
-        (m.kept_of then) stands.0 (omega arith) _ stands.1 (quiet-elsewhere m.direction looking line _ refl))))
+        (m.kept_of then) stands.0 (omega arith) _ stands.1 (quiet-elsewhere m.direction looking line _
+        refl))))
         (λ off. false-true (sym (ap (λ (t : Step _ _). is_again t.answer)
         (failed-ends m.direction here line fault off)) ∙ on))
     made-again (Completes held) agree on = false-true (sym (again-lines (m.direction.written here held)) ∙ on)
@@ -362,7 +370,8 @@ module _ {E U O K V : Type 0} {m : Meaning E U O K V} (h : IsCarriedOut m) where
     here-line agree =
         let made = made_in m.direction phase (types_in_force items) kept line in
         by_bool (is_again (one made).answer)
-        (λ on. rw (fed-twice m.direction here line on, last-twice m.direction here line on) (made-again made agree on))
+        (λ on. rw (fed-twice m.direction here line on, last-twice m.direction here line on) (made-again made
+        agree on))
         (λ off. rw (fed-once m.direction here line off, last-once m.direction here line off)
         (made-once items number count rest line phase kept s counted made agree off))
 

@@ -103,8 +103,8 @@ module _ {E U O K V : Type 0} {m : Meaning E U O K V} (h : IsCarriedOut m) {take
   )
 
   -- a line that cuts an epoch off is looked at again after its warning
-  again-takes : (items : List (Item E)) (next : RunState O K) (line : ReadLine) → header_has_ended items ≡ true
-      → records_left items ≡ 0 → next.phase ≡ LookingOn → next.types ≡ types_in_force items
+  again-takes : (items : List (Item E)) (next : RunState O K) (line : ReadLine) → header_has_ended items ≡
+      true → records_left items ≡ 0 → next.phase ≡ LookingOn → next.types ≡ types_in_force items
       → next.kept ≡ m.kept_of items → takes_memory m.direction next line ≡ true
       → line_takes (place m) takes items [] line ≡ true
   again-takes items next line ended none phase types kept taken =
@@ -112,8 +112,8 @@ module _ {E U O K V : Type 0} {m : Meaning E U O K V} (h : IsCarriedOut m) {take
 
   cut-takes : (items : List (Item E)) (number count : ℕ) (rest : List ReadLine) (line : ReadLine)
       (phase : Phase O) (kept : K) (next : RunState O K) (notice : At) → StandsAt m items rest phase kept
-      → number + length rest ≡ count + 1 → ComesAgain m.direction (state_at m count phase items kept) next line
-      → (made : Made U O) → Agrees m items phase kept (rest ++ line ∷ []) made
+      → number + length rest ≡ count + 1 → ComesAgain m.direction (state_at m count phase items kept) next
+      line → (made : Made U O) → Agrees m items phase kept (rest ++ line ∷ []) made
       → record { answer = Notice notice true; handed_out = []; next = next }
       ≡ step_of_made m.direction (state_at m count phase items kept) line made
       → takes_memory m.direction next line ≡ true
@@ -121,8 +121,8 @@ module _ {E U O K V : Type 0} {m : Meaning E U O K V} (h : IsCarriedOut m) {take
   cut-takes items number count rest line phase kept next notice s counted again (Rejects fault) (offset, here)
       e taken = by_bool (is_skipped_in before fault) (λ on.
       let at : At = record { line = count + 1; fault = fault } in
-      let noted = ap (λ (s : Step O K). noticed_by s.answer) (e ∙ failed-skipped m.direction before line fault on)
-      in
+      let noted = ap (λ (s : Step O K). noticed_by s.answer) (e ∙ failed-skipped m.direction before line fault
+      on) in
       let last = wrong-last h items number count rest line phase kept s counted offset fault here in
       rw (
         here,
@@ -131,8 +131,8 @@ module _ {E U O K V : Type 0} {m : Meaning E U O K V} (h : IsCarriedOut m) {take
         counted,
         sym s.inside ∙ again.epoch,
         again.fits,
-        again-takes (Warned at ∷ items) next line (allowed m.choices.skip items fault (s.skips fault ∙ on)).0 refl
-            again.phase again.types (again.kept ∙ s.emptied ∙ h.warned items at) taken,
+        again-takes (Warned at ∷ items) next line (allowed m.choices.skip items fault (s.skips fault ∙ on)).0
+            refl again.phase again.types (again.kept ∙ s.emptied ∙ h.warned items at) taken,
       ) (ap Some (sym noted)))
       (λ off.
       let no = ap (λ (s : Step O K). is_again s.answer) (e ∙ failed-ends m.direction before line fault off) in
@@ -147,8 +147,8 @@ module _ {E U O K V : Type 0} {m : Meaning E U O K V} (h : IsCarriedOut m) {take
   pub allowed-again : (number count : ℕ) (lines : List ReadLine) (line : ReadLine) (next : RunState O K)
       (notice : At) → number + length lines ≡ count + 1
       → record { answer = Notice notice true; handed_out = []; next = next }
-      ≡ state_next m.direction (state_from h number count lines) line → takes_memory m.direction next line ≡ true
-      → allowed_after (read_from h number lines) line ≡ Some (notice ∷ [])
+      ≡ state_next m.direction (state_from h number count lines) line → takes_memory m.direction next line ≡
+      true → allowed_after (read_from h number lines) line ≡ Some (notice ∷ [])
   allowed-again number count lines line next notice counted e taken =
       by_stop (read_from h number lines).items (read_from h number lines).stop
       (reading-stopped (place m) h.forward m.choices.skip [] number (count + 1) lines counted)

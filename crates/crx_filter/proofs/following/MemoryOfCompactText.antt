@@ -36,9 +36,12 @@ expansion-takes choices = record {
 pub expansion-allowed : (choices : Choices) (lines : List ReadLine) (line : ReadLine) → takes_memory expansion
     (expansion_state choices lines) line ≡ true → compact_memory choices.skip lines line ≡ Some []
 expansion-allowed choices lines line e = by_place (first_lines lines) (λ two count is.
-    rw (is, compact_memory, reading-at choices.skip lines two count is) (allowed-first (expansion-carried_out choices) (expansion-takes choices) (count + 1) (length lines)
-    (drop count lines) line (omega (arith, length-drop count lines, (remains lines [] (Done two count) is).0))
-    (rw (is, phase_from_first_lines, reading-at choices.skip lines two count is) at e))) (λ offset fault is. grind (arith, common_steps, e, is)) (λ is. grind (arith, common_steps, e, is))
+    let within = (remains lines [] (Done two count) is).0 in
+    let read = reading-at choices.skip lines two count is in
+    rw (is, compact_memory, read) (allowed-first (expansion-carried_out choices) (expansion-takes choices)
+    (count + 1) (length lines) (drop count lines) line (omega (arith, length-drop count lines, within))
+    (rw (is, phase_from_first_lines, read) at e)))
+    (λ offset fault is. grind (arith, common_steps, e, is)) (λ is. grind (arith, common_steps, e, is))
 
 pub expansion-allowed-again : (choices : Choices) (lines : List ReadLine) (line : ReadLine)
     (next : RunState OpenRawEpoch (Option Tail)) (notice : At)
@@ -46,9 +49,11 @@ pub expansion-allowed-again : (choices : Choices) (lines : List ReadLine) (line 
     ≡ state_next expansion (expansion_state choices lines) line → takes_memory expansion next line ≡ true
     → compact_memory choices.skip lines line ≡ Some (notice ∷ [])
 expansion-allowed-again choices lines line next notice step e = by_place (first_lines lines) (λ two count is.
-    rw (is, compact_memory, reading-at choices.skip lines two count is) (allowed-again (expansion-carried_out choices) (expansion-takes choices) (count + 1) (length lines)
-    (drop count lines) line next notice
-    (omega (arith, length-drop count lines, (remains lines [] (Done two count) is).0)) (rw (is, phase_from_first_lines, reading-at choices.skip lines two count is) at step) e))
+    let within = (remains lines [] (Done two count) is).0 in
+    let read = reading-at choices.skip lines two count is in
+    rw (is, compact_memory, read) (allowed-again (expansion-carried_out choices) (expansion-takes choices)
+    (count + 1) (length lines) (drop count lines) line next notice
+    (omega (arith, length-drop count lines, within)) (rw (is, phase_from_first_lines, read) at step) e))
     (λ offset fault is. grind (arith, common_steps, again.epoch, is))
     (λ is. grind (arith, common_steps, again.epoch, is))
   where

@@ -4,7 +4,8 @@ use proofs.Words.{common_steps, ℕ, ◌≡◌, Bool, true, false, List, [], ◌
 use proofs.Words.{arith, none-some, ReadLine, Content, Fault, OpenEpoch, next_row, Epoch, Row, EpochStep}
 use proofs.Words.{Faulty, after_row, epoch_step, Choices, Item, compaction_takes, place_takes}
 use proofs.Words.{made_of_epoch_step, rinex_open, false-true}
-use proofs.following.{Check.check_meaning, Compaction.{compaction-carried_out, compaction_meaning}, Following.AgreeOn, Memory.TakesAsItStands}
+use proofs.following.{Check.check_meaning, Compaction.{compaction-carried_out, compaction_meaning}}
+use proofs.following.{Following.AgreeOn, Memory.TakesAsItStands}
 use proofs.reading.Forward.{rinex_beginning}
 use Rattle.{crx_filter.specs.meaning.Memory.check_takes, std.specs.Result.is_ok}
 

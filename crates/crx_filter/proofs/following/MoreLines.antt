@@ -1,5 +1,6 @@
 -- One line more after some, where the reading begins with no items, at a line of any number.
-use Rattle.crx_filter.proofs.following.{Following.{Meaning, IsCarriedOut, place}, Lines.{FollowsAs, seen_after}}
+use Rattle.crx_filter.proofs.following.{Following.{Meaning, IsCarriedOut, place}}
+use Rattle.crx_filter.proofs.following.{Lines.{FollowsAs, seen_after}}
 use Rattle.crx_filter.proofs.{following.Lines.{last_made, next-line}, reading.Resuming.resumed}
 use Rattle.crx_filter.proofs.{reading.Stopping.reading-stopped, Words.{ℕ, ◌≡◌, ◌+◌, List, [], ◌∷◌, ◌++◌}}
 use Rattle.crx_filter.proofs.Words.{length, ReadLine, Reading, reading_from, RunState, fed}

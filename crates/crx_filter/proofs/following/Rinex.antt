@@ -9,7 +9,8 @@ use Words.{Whole, Faulty, when_wanted, epoch_step, Choices, Item, types_in_force
 use Words.{made_of_epoch_step, made_of_beginning, rinex_begins, rinex_open}
 use Rattle.crx_rinex.proofs.OpenEpochs.{wanted-open, next-by_open, open_none}
 use Rattle.crx_rinex.specs.EpochPlaces.{whole_or_going, still_open, open_with, place_after}
-use Rattle.crx_filter.proofs.{following.Following.{Meaning, IsSameEpoch, AgreeOn}, reading.Forward.rinex_beginning}
+use Rattle.crx_filter.proofs.{following.Following.{Meaning, IsSameEpoch, AgreeOn}}
+use Rattle.crx_filter.proofs.{reading.Forward.rinex_beginning}
 
 -- ---- what is asked of a direction
 
@@ -72,7 +73,8 @@ module _ {K : Type 0} {direction : Direction Epoch OpenEpoch K} {kept_of : List 
   agree-beginning items content (Ok (EventBegins line)) e = (1, rw e refl, refl)
   agree-beginning items content (Ok (EpochBegins head)) e =
       let so_far = opened (types_in_force items) head in
-      agree-step items [] (Content content) (whole_or_going so_far) (rw e (first-place so_far (rows_wanted so_far)))
+      agree-step items [] (Content content) (whole_or_going so_far) (rw e (first-place so_far (rows_wanted
+      so_far)))
       (rw e (open_none (still_open (whole_or_going so_far))))
 
   pub agree-begins : (items : List (Item Epoch)) (line : ReadLine)

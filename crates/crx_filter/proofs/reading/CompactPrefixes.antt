@@ -1,5 +1,6 @@
 -- Where the first two lines of compact text are read.
-use Rattle.crx_filter.proofs.Words.{ℕ, ◌≡◌, ◌+◌, List, [], ◌++◌, length, drop, refl, Bool, ReadLine, Place, Done}
+use Rattle.crx_filter.proofs.Words.{ℕ, ◌≡◌, ◌+◌, List, [], ◌++◌, length, drop, refl, Bool, ReadLine, Place}
+use Rattle.crx_filter.proofs.Words.{Done}
 use Rattle.crx_filter.proofs.Words.{Remains, reading_from, whole_reading, first_lines, compact_place}
 use Rattle.crx_filter.proofs.Words.{whole_compact, compact_reading}
 use Rattle.crx_filter.proofs.reading.ForwardCompact.{steady-first_lines}

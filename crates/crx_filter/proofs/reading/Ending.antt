@@ -11,13 +11,13 @@ pub use Rattle.crx_filter.proofs.following.Lines.{closes-well}
 module _ {E U O K V : Type 0} {m : Meaning E U O K V} (h : IsCarriedOut m) where
   -- the end after some items, and as it is fed
   abbrev EndsAs : List (Item E) → WholeReading E → Step O K → Type 0
-  EndsAs items whole end = IsEndedBy (written_lines m.unit_lines items) (written_lines m.unit_lines whole.items)
-      (warnings_in items) (warnings_in whole.items) whole.fault end
+  EndsAs items whole end = IsEndedBy (written_lines m.unit_lines items) (written_lines m.unit_lines
+      whole.items) (warnings_in items) (warnings_in whole.items) whole.fault end
 
   -- where the phase means what the items mean
   ends-same : (items : List (Item E)) (count : ℕ) (phase : Phase O) (kept : K) (fault : Option Fault)
-      → ((f : Fault) → is_skipped m.choices.skip items f ≡ is_skipped_in (state_at m count phase items kept) f)
-      → EndsAs items (ended_with m.choices.skip items (count + 1) fault)
+      → ((f : Fault) → is_skipped m.choices.skip items f ≡ is_skipped_in (state_at m count phase items kept)
+      f) → EndsAs items (ended_with m.choices.skip items (count + 1) fault)
       (end_step m.direction [] (state_at m count phase items kept) fault)
   ends-same items count phase kept None same = search rules
   ends-same items count phase kept (Some fault) same = by_bool (is_skipped_in (state_at m count phase items

@@ -51,7 +51,8 @@ record-fine E counted line = grind (arith, fine-unless, chosen, types-fine)
 unit-fine : {E : Type 0} (beginning : List (Item E) → List ReadLine → Place (FileUnit E))
     → ((items : List (Item E)) (lines : List ReadLine) → IsFineAt (beginning items lines))
     → (items : List (Item E)) (lines : List ReadLine) → IsFineAt (unit_place beginning items lines)
-unit-fine {E = E} beginning h items lines = search (rules, chosen (IsFineAt {X = FileUnit E}), place-first, header-fine, record-fine, h)
+unit-fine {E = E} beginning h items lines =
+    search (rules, chosen (IsFineAt {X = FileUnit E}), place-first, header-fine, record-fine, h)
 
 -- ---- RINEX
 

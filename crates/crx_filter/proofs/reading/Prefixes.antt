@@ -6,7 +6,8 @@ use proofs.Words.{compacted, compacted_so_far, expanded, expanded_so_far, compac
 use proofs.Words.{whole_rinex, whole_compact}
 use proofs.following.{CompactedOn.compacted-on, ExpandedOn.expanded-on}
 use proofs.reading.Ended.{compaction-ended, expansion-ended}
-use Rattle.crx_filter.specs.{Compacted.compaction_so_far, EngineLaws.GoesLineByLine, Expanded.expansion_so_far}
+use Rattle.crx_filter.specs.{Compacted.compaction_so_far, EngineLaws.GoesLineByLine}
+use Rattle.crx_filter.specs.{Expanded.expansion_so_far}
 use Rattle.crx_runs.specs.meaning.Filters.{Filter}
 
 -- what grows with each thing more grows with more of them
@@ -35,8 +36,8 @@ module _ {U O K : Type 0} {direction : Direction U O K} {closing_after : List In
   pub warnings-go_on : (later : List At)
       × ((filter.whole (lines ++ more)).warnings ≡ (filter.so_far lines).warnings ++ later)
   warnings-go_on =
-      let g = grown (λ ls. (filter.so_far ls).warnings) (λ ls l. (_, (goes.follows ls l).warnings)) lines more in
-      (_, rw (g.1, append_assoc) at (goes.ends (lines ++ more)).warnings)
+      let g = grown (λ ls. (filter.so_far ls).warnings) (λ ls l. (_, (goes.follows ls l).warnings)) lines more
+      in (_, rw (g.1, append_assoc) at (goes.ends (lines ++ more)).warnings)
 
 -- the text of lines, with others after them
 text-grows : (some_lines all : List (List ℕ)) → (rest : List (List ℕ)) × (all ≡ some_lines ++ rest)
@@ -44,12 +45,13 @@ text-grows : (some_lines all : List (List ℕ)) → (rest : List (List ℕ)) × 
 text-grows some_lines all more = grind (arith, flat_map-append)
 
 module _ (choices : Choices) (lines : List ReadLine) where
-  compaction-grows : (more : List ReadLine) → (rest : List (List ℕ)) × (compaction_so_far choices (lines ++ more)
-      ≡ compaction_so_far choices lines ++ rest)
-  compaction-grows = grown (compaction_so_far choices) (λ ls l. (_, (compacted-on choices ls l).handed_out)) lines
-
-  pub compacted-first : IsWrittenFirst compacted_so_far (λ input (c : Choices). (compacted input c).output) choices
+  compaction-grows : (more : List ReadLine) → (rest : List (List ℕ)) × (compaction_so_far choices (lines ++
+      more) ≡ compaction_so_far choices lines ++ rest)
+  compaction-grows = grown (compaction_so_far choices) (λ ls l. (_, (compacted-on choices ls l).handed_out))
       lines
+
+  pub compacted-first : IsWrittenFirst compacted_so_far (λ input (c : Choices). (compacted input c).output)
+      choices lines
   compacted-first = record {
     longer = λ more. text-grows _ _ (compaction-grows more);
     whole = λ input more cut. text-grows _ _ (
@@ -59,12 +61,13 @@ module _ (choices : Choices) (lines : List ReadLine) where
     );
   }
 
-  expansion-grows : (more : List ReadLine) → (rest : List (List ℕ)) × (expansion_so_far choices (lines ++ more)
-      ≡ expansion_so_far choices lines ++ rest)
-  expansion-grows = grown (expansion_so_far choices) (λ ls l. (_, (expanded-on choices ls l).handed_out)) lines
-
-  pub expanded-first : IsWrittenFirst expanded_so_far (λ input (c : Choices). (expanded input c).output) choices
+  expansion-grows : (more : List ReadLine) → (rest : List (List ℕ)) × (expansion_so_far choices (lines ++
+      more) ≡ expansion_so_far choices lines ++ rest)
+  expansion-grows = grown (expansion_so_far choices) (λ ls l. (_, (expanded-on choices ls l).handed_out))
       lines
+
+  pub expanded-first : IsWrittenFirst expanded_so_far (λ input (c : Choices). (expanded input c).output)
+      choices lines
   expanded-first = record {
     longer = λ more. text-grows _ _ (expansion-grows more);
     whole = λ input more cut. text-grows _ _ (

@@ -1,6 +1,7 @@
 -- A reading goes on from where it stopped, once more lines have come.
 use Rattle.crx_filter.{specs.Laws.IsResumed, proofs.Words.{common_steps, ℕ, zero, suc, ◌≡◌, ◌+◌, max, ◌<◌}}
-use Rattle.crx_filter.proofs.Words.{◌≤◌, Bool, true, false, List, [], ◌∷◌, ◌++◌, length, drop, refl, arith, ◌∙◌}
+use Rattle.crx_filter.proofs.Words.{◌≤◌, Bool, true, false, List, [], ◌∷◌, ◌++◌, length, drop, refl, arith}
+use Rattle.crx_filter.proofs.Words.{◌∙◌}
 use Rattle.crx_filter.proofs.Words.{drop-append-le, length-drop, ReadLine, Fault, At, Place}
 use Rattle.crx_filter.proofs.Words.{Done, Fails, NeedsMore, FileUnit, Item, Accepted, Warned, Reading}
 use Rattle.crx_filter.proofs.Words.{AtLines, is_skipped, can_go_on, looked_for, after_fault}
@@ -108,8 +109,8 @@ module _ {E : Type 0} (place : List (Item E) → List ReadLine → Place (FileUn
     (skip : Bool) (items : List (Item E)) (number : ℕ) (lines : List ReadLine) where
   one-more : reading_from place skip items number lines
       ≡ reading_within place skip (suc (length lines)) items number lines
-  one-more = enough-units place h skip (length lines + 1) (suc (length lines)) items number lines (omega arith)
-      (omega arith)
+  one-more = enough-units place h skip (length lines + 1) (suc (length lines)) items number lines (omega
+      arith) (omega arith)
 
   pub from-here : (unit : FileUnit E) (count : ℕ) → place items lines ≡ Done unit count
       → reading_from place skip items number lines
@@ -124,8 +125,8 @@ module _ {E : Type 0} (place : List (Item E) → List ReadLine → Place (FileUn
   pub from-wrong : (offset : ℕ) (fault : Fault) → place items lines ≡ Fails offset fault
       → reading_from place skip items number lines
       ≡ after_fault skip (reading_from place skip) items number lines offset fault
-  from-wrong offset fault e = one-more ∙ within-wrong place skip (length lines) items number lines offset fault e
-      ∙ by_bool (is_skipped skip items fault) (λ on. rw (on, after_fault)
+  from-wrong offset fault e = one-more ∙ within-wrong place skip (length lines) items number lines offset
+      fault e ∙ by_bool (is_skipped skip items fault) (λ on. rw (on, after_fault)
       (looked-same passed (reading_within place skip (length lines) passed) (reading_from place skip passed)
       (length lines) (number + max offset 1) (drop (max offset 1) lines)
       (λ m ls few. enough-units place h skip (length lines) (length ls + 1) passed m ls few (omega arith))

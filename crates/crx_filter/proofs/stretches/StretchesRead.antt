@@ -77,8 +77,18 @@ one-stretch before s later so_far items sound come =
     let first = stretch-more items so_far s.instead come.between come.stops h.allowed in
     let x : List (Item ReadEpoch) = first.news ++ items in
     let header : header_has_ended (as_items block) ≡ true = header-on s.lost before sound.header in
-    let k = units-kept block s.kept s.lines h.last x (so_far ++ s.instead) (grind (arith, common_steps, h.ends, first.between, epochs-types, first.news, first.epochs, come.types, h.types)) (placed-up_to (up_to_next before s) later next.in_place) h.written first.stops in
-    record {
+    let k = units-kept block s.kept s.lines h.last x (so_far ++ s.instead) (grind (
+      arith,
+      common_steps,
+      h.ends,
+      first.between,
+      epochs-types,
+      first.news,
+      first.epochs,
+      come.types,
+      h.types,
+    )) (placed-up_to
+    (up_to_next before s) later next.in_place) h.written first.stops in record {
       first = first;
       kept = k;
       come = subst (λ (is : List (Item ReadEpoch)). WereReadAs ((so_far ++ s.instead) ++ map Content s.lines) is (up_to_next before s))
