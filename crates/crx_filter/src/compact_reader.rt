@@ -136,7 +136,8 @@ impl CompactReader {
                 }
                 Ok(false)
             }
-            Stage::Open | Stage::Closed | Stage::Ended(_) => Ok(false),
+            Stage::Closed => Ok(false),
+            Stage::Open | Stage::Ended(_) => unreachable!(),
         }
     }
 

@@ -116,9 +116,8 @@ impl RinexReader {
                     Ok(RinexStep::Nothing)
                 }
             }
-            Stage::Open | Stage::FirstLines { .. } | Stage::Closed | Stage::Ended(_) => {
-                Ok(RinexStep::Nothing)
-            }
+            Stage::Closed => Ok(RinexStep::Nothing),
+            Stage::Open | Stage::FirstLines { .. } | Stage::Ended(_) => unreachable!(),
         }
     }
 
