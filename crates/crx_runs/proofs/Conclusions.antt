@@ -108,7 +108,7 @@ module _ (filter : Filter) (lawful : IsLawful filter) (input : Input)
         let h = s.2.read in
         let stopped = HasRead-stopped _ _ _ _ _ _ h s.0 s.2.stopped in
         interrupted h.given h.lead
-        (reader-stands filter lawful input w m now last warned halt status fault lines s.0 s.1 s.2 finished)
+        (reader-stands filter lawful input w m now last warned halt status fault finished lines s.0 s.1 s.2)
         (λ rn wn mn memory rest none within. absurd (stopped-none s.0.fault h.given lines rest stopped.0
         within rn))
         (grind arith)
@@ -116,7 +116,7 @@ module _ (filter : Filter) (lawful : IsLawful filter) (input : Input)
     stopped-in-lines lines (inr (inl e)) last_is =
         let h = e.read in
         interrupted h.given h.lead
-        (line-stands filter lawful input w m now last warned halt status fault lines e last_is finished)
+        (line-stands filter lawful input w m now last warned halt status fault finished lines e last_is)
         (λ rn wn mn memory rest none within. let first = first-lines h e.going rest none in
         ends-whole _ _ (filter.so_far lines) (filter.so_far (with_next lines e.line)) _ halt last warned
         status fault
@@ -125,7 +125,7 @@ module _ (filter : Filter) (lawful : IsLawful filter) (input : Input)
     stopped-in-lines lines (inr (inr (is, s))) last_is =
         let h = s.read in
         interrupted h.given h.lead
-        (handing-stands filter lawful input w m now last warned halt status fault lines is s last_is finished)
+        (handing-stands filter lawful input w m now last warned halt status fault finished lines is s last_is)
         (λ rn wn mn memory rest none within. absurd (handing-none s.failed (subst (λ (stop : Halt). Finishes
         writer2 messages2 last warned (Some stop) status fault) is finished).0.1 wn))
         (asked-once h s.going) (λ other. none-failed h s.going)
@@ -134,8 +134,8 @@ module _ (filter : Filter) (lawful : IsLawful filter) (input : Input)
         → Comes filter input writer messages has_ended status fault
     stopped-by-end s =
         let h = s.read in
-        interrupted h.given h.lead (end-stands filter lawful input w m now last warned halt status fault s
-        finished)
+        interrupted h.given h.lead (end-stands filter lawful input w m now last warned halt status fault
+        finished s)
         (λ rn wn mn memory rest none within.
         ends-whole None (length s.lines) (filter.so_far s.lines) (filter.whole s.lines) _ halt last warned
         status fault
@@ -144,8 +144,8 @@ module _ (filter : Filter) (lawful : IsLawful filter) (input : Input)
 
     stopped-at-start : StoppedAtStart input writer1 messages1 last halt
         → Comes filter input writer messages has_ended status fault
-    stopped-at-start s = interrupted [] s.gave (start-stands filter lawful input w m last warned halt status
-        fault s finished) (grind arith) (inl (ap (λ t. t.ends) s.counts)) (λ other. ap (λ t. t.failures)
+    stopped-at-start s = interrupted [] s.gave (start-stands filter lawful input w m now last warned halt
+        status fault finished s) (grind arith) (inl (ap (λ t. t.ends) s.counts)) (λ other. ap (λ t. t.failures)
         s.counts)
 
   pub runs-as : (has_ended : List InputLine → Type 0) (now : ReaderState) (last : ℕ) (warned : Bool)
@@ -186,7 +186,7 @@ module _ (filter : Filter) (lawful : IsLawful filter) (input : Input)
         (λ e. absurd (never e)),
       )
   runs-as has_ended now last warned (Some halt) status fault (inl s) finished =
-      stopped-in-lines has_ended now last warned halt status fault finished s.lines s.stops s.last_is
+      stopped-in-lines has_ended now last warned halt status fault finished s.0 s.1 s.2
   runs-as has_ended now last warned (Some halt) status fault (inr (inl s)) finished =
       stopped-by-end has_ended now last warned halt status fault finished s
   runs-as has_ended now last warned (Some halt) status fault (inr (inr s)) finished =

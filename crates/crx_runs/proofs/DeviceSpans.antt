@@ -26,6 +26,20 @@ pub span-joins : {S : Type 0} (sink : Ghosts S) → ((a b c : S) (xs ys : List �
     b ys c → sink.took a (xs ++ ys) c) → {a b c : S} → Joins (span sink a b) (span sink b c) (span sink a c)
 span-joins = search
 
+-- a stretch in which nothing happens, before a device
+abbrev idle : Device → Device
+idle device =
+    record { took = λ text. text ≡ []; flushed = device.flushed; before = device.before; after = device.before }
+
+pub joins-idle : {device : Device} → Joins (idle device) device device
+joins-idle {device = device} = record {
+  same = refl;
+  start = refl;
+  end = refl;
+  joined = λ xs ys none took. subst (λ (first : List ℕ). device.took (first ++ ys)) (sym none) took;
+  flushed = λ flushed. flushed;
+}
+
 pub all-all : {first second both : Device} → Joins first second both → (xs ys : List ℕ)
     → TookAll first xs → TookAll second ys → TookAll both (xs ++ ys)
 all-all j xs ys a b = (j.joined xs ys a.0 b.0, j.end ∙ b.1 ∙ j.same ∙ a.1 ∙ sym j.start)

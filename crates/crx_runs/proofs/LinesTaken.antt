@@ -1,16 +1,17 @@
 -- A line that an engine takes, at once or a second time.
 use Rattle.std.proofs.lemmas.Grind.{common_steps}
 use Rattle.std.proofs.Common.{◌≡◌, ◌⊎◌, ℕ, ◌+◌, Bool, true, false, List, [], ◌∷◌, ◌++◌, length}
-use Rattle.std.proofs.Common.{Some, None, Result, Ok, Err, IfOk, IfErr, refl, sym, ap, ◌∙◌}
+use Rattle.std.proofs.Common.{Some, None, Result, Ok, Err, IfOk, IfErr, refl, sym, ap, ◌∙◌, ◌||◌}
+use Rattle.std.specs.Prelude.{⊤}
 use Rattle.std.proofs.Common.{arith, append_assoc, append-nil}
 use Rattle.crx_base.specs.{declared.fault.{At.At, Fault.TheVariants.OutOfMemory}, meaning.Lines.InputLine}
 use Rattle.crx_base.specs.meaning.Lines.{lines_text}
-use Rattle.crx_runs.proofs.{DeviceSpans.Joins, LineEndings.{all-next, answer-ends, step-done, step-ends}}
-use Rattle.crx_runs.specs.Endings.{Adds, EndEndsRun, EndsAt, IsAllOut, LineEndsRun, WarnsAtEnd}
+use Rattle.crx_runs.proofs.{DeviceSpans.{Joins, joins-idle}, LineEndings.{all-next, answer-ends, step-done, step-ends}}
+use Rattle.crx_runs.specs.Endings.{Adds, WarnsAtEnd}
 use Rattle.crx_runs.specs.Engines.{Awaited, awaited_notices, EngineAnswers, IsDrainedAfter, EndsWith}
 use Rattle.crx_runs.specs.Engines.{Concludes}
 use Rattle.crx_runs.specs.Engines.{GoesOn, RunsOutAt, Stays, answer_given}
-use Rattle.crx_runs.specs.Taking.{IsDone, IsSettled, made_by, step_notices}
+use Rattle.crx_runs.specs.Taking.{Becomes, IsSettled, made_by, step_notices}
 use Rattle.crx_runs.specs.declared.engine.HandedOut.{HandedOut, TheVariants.{Nothing, Lines, AsItIs}}
 use Rattle.crx_runs.specs.declared.{engine.Step.{Step, TheVariants.{Quiet, Ready, Warned}}, one_line.Halt.Halt}
 use Rattle.crx_runs.specs.declared.one_line.Halt.TheVariants.{Fault, Unwritten}
@@ -47,51 +48,61 @@ either-out : (filter : Filter) (lines : List InputLine) (line : InputLine) (noti
     line ≡ Some notices)) ⊎ EndsWith (filter.so_far lines) (filter.so_far (with_next lines line)) notices at
 either-out = grind arith
 
--- lines that were ready were written in part
+-- lines that were ready were written, or in part
+pub ready-all : (writer messages : Device) (ready : List (List ℕ)) → TookAll writer (lines_text ready)
+    → TookAll messages [] → IsSettled writer messages (made_by ready Ready) (Ok false)
+ready-all = grind arith
+
 pub ready-cut : (writer messages : Device) (ready : List (List ℕ)) → TookPart writer (lines_text ready)
     → TookAll messages [] → IsSettled writer messages (made_by ready Ready) (Err Unwritten)
 ready-cut = grind arith
+
+-- what a line comes to, by what its last answer does: after a warning of the first time there was one
+abbrev pub after_first : List Awaited → Result Bool Halt → Result Bool Halt
+after_first earlier (Ok warned) = Ok (are_some (awaited_notices earlier) || warned)
+after_first earlier (Err halt) = Err halt
+
+are-some-append : (xs ys : List At) → (are_some xs || are_some ys) ≡ are_some (xs ++ ys)
+are-some-append [] ys = refl
+are-some-append (x ∷ xs) ys = refl
+
+-- a line that comes once
+pub once : (made : Result Bool Halt) → made ≡ after_first [] made
+once (Ok warned) = refl
+once (Err halt) = refl
+
+pub always-ok : {P : Type 0} (made : Result Bool Halt) → P → IfOk made (λ warned. P)
+always-ok (Ok warned) is = is
+always-ok (Err halt) is = tt
 
 module _ {writer1 writer2 writer messages1 messages2 messages : Device} (w : Joins writer1 writer2 writer)
     (m : Joins messages1 messages2 messages) (filter : Filter) (lines : List InputLine) (line : InputLine)
     (earlier : List Awaited) (wrote : TookAll writer1 [])
     (reported : TookAll messages1 (notices_text (awaited_notices earlier)))
     (shows : List InputLine → List Awaited → Type 0) (ready : List (List ℕ)) where
+  abbrev LineBecomes : Type 0 → Result Bool Halt → Type 0
+  LineBecomes shown result = Becomes (filter.memory_after lines line) (length lines + 1) (filter.so_far lines)
+      (filter.so_far (with_next lines line)) shown writer messages result
+
   -- a line with a fault
   pub line-refused : (at : At) → EngineAnswers filter shows ready lines earlier line (Err at)
       → (awaited_notices earlier ≡ []) ⊎ AreNext (filter.so_far lines) (filter.so_far (with_next lines line))
-      (awaited_notices earlier) → TookAll writer2 [] → TookAll messages2 []
-      → LineEndsRun filter lines line writer messages (Fault at)
-  line-refused at a first still quiet = answer-ends w m _ _ (awaited_notices earlier) wrote reported _ _ at
-      first
-      (either-out filter lines line (awaited_notices earlier) at a) still quiet
-
-  -- a line that doesn't come a second time
-  pub line-done : (step : Step) → Stays step → IsDrainedAfter step ready
-      → EngineAnswers filter shows ready lines earlier line (Ok step)
-      → (shown : Type 0) → (shows (with_next lines line) [] → shown)
-      → IsAllOut writer2 messages2 (made_by ready step) → (warned : Bool)
-      → warned ≡ are_some (awaited_notices earlier ++ step_notices step)
-      → IsDone (filter.so_far lines) (filter.so_far (with_next lines line)) shown writer messages warned
-  line-done step stays drained a shown kept out warned flag =
-      grind (arith, common_steps, answers-add, step-done, awaited_notices)
+      (awaited_notices earlier) → TookAll writer2 [] → TookAll messages2 [] → LineBecomes ⊤ (Err (Fault at))
+  line-refused at a first still quiet = answer-ends w m _ _ (awaited_notices earlier) wrote reported _ _
+      at first (either-out filter lines line (awaited_notices earlier) at a) still quiet
 
   cut-by : (step : Step) → Stays step → IsDrainedAfter step ready
       → EngineAnswers filter shows ready lines earlier line (Ok step) → (halt : Halt)
-      → EndsAt None 0 writer2 messages2 (record { output = []; warnings = []; fault = None })
-      (made_by ready step) halt
-      → LineEndsRun filter lines line writer messages halt
+      → IsSettled writer2 messages2 (made_by ready step) (Err halt) → LineBecomes ⊤ (Err halt)
   cut-by step stays drained a halt e =
       let adds = answers-add filter shows ready lines earlier line step stays drained a in
       step-ends w m _ _ (awaited_notices earlier) wrote reported _ _ _ _ (λ some. adds.1) (all-next adds.1)
       halt e
 
   -- a line whose text couldn't be written, or a warning of which couldn't be reported
-  pub line-cut : (step : Step) → IsDrainedAfter step ready
+  line-cut : (step : Step) → IsDrainedAfter step ready
       → EngineAnswers filter shows ready lines earlier line (Ok step) → (halt : Halt)
-      → EndsAt None 0 writer2 messages2 (record { output = []; warnings = []; fault = None })
-      (made_by ready step) halt
-      → LineEndsRun filter lines line writer messages halt
+      → IsSettled writer2 messages2 (made_by ready step) (Err halt) → LineBecomes ⊤ (Err halt)
   line-cut Quiet drained a halt e = cut-by Quiet tt drained a halt e
   line-cut Ready drained a halt e = cut-by Ready tt drained a halt e
   line-cut (Warned notice true) drained a halt e = step-ends w m _ _ (awaited_notices earlier) wrote reported
@@ -100,51 +111,38 @@ module _ {writer1 writer2 writer messages1 messages2 messages : Device} (w : Joi
       (rw (a.1) (a.2.0, a.2.1 ∙ sym (append_assoc _ (notice ∷ []) a.2.0))) halt e
   line-cut (Warned notice false) drained a halt e = cut-by (Warned notice false) tt drained a halt e
 
+  -- what was answered was written and reported, after which the line doesn't come a second time; or that failed
+  settled-becomes : (step : Step) → IsDrainedAfter step ready
+      → EngineAnswers filter shows ready lines earlier line (Ok step) → (shown : Type 0)
+      → (shows (with_next lines line) [] → shown) → (made : Result Bool Halt) → IfOk made (λ warned. Stays step)
+      → IsSettled writer2 messages2 (made_by ready step) made → LineBecomes shown (after_first earlier made)
+  settled-becomes step drained a shown kept (Ok warned) stays s =
+      let adds = answers-add filter shows ready lines earlier line step stays drained a in
+      step-done w m _ _ (awaited_notices earlier) wrote reported _ _ (kept adds.0) adds.1 s.0 _
+      (ap (λ b. are_some (awaited_notices earlier) || b) s.1 ∙ are-some-append (awaited_notices earlier) _)
+  settled-becomes step drained a shown kept (Err halt) stays s = line-cut step drained a halt s
+
+  pub line-becomes : (step : Step) → IsDrainedAfter step ready
+      → EngineAnswers filter shows ready lines earlier line (Ok step) → (shown : Type 0)
+      → (shows (with_next lines line) [] → shown) → (made result : Result Bool Halt)
+      → result ≡ after_first earlier made → IfOk made (λ warned. Stays step)
+      → IsSettled writer2 messages2 (made_by ready step) made → LineBecomes shown result
+  line-becomes step drained a shown kept made result is stays s =
+      rw (is) (settled-becomes step drained a shown kept made stays s)
+
   -- a line that hands lines out
-  handed-adds : (out : HandedOut) (stored : Result Step At)
+  pub handed-becomes : (out : HandedOut) (stored : Result Step At)
       → EngineAnswers filter shows ready lines earlier line (answer_given (Some out) stored)
-      → IfOk (answer_given (Some out) stored) (λ step. IsDrainedAfter step ready)
-      → shows (with_next lines line) [] × Adds (filter.so_far lines) (filter.so_far (with_next lines line))
-      (lines_text ready) (awaited_notices earlier ++ [])
-  handed-adds Nothing stored a drained = answers-add filter shows ready lines earlier line Quiet tt drained a
-  handed-adds Lines stored a drained = answers-add filter shows ready lines earlier line Ready tt drained a
-  handed-adds AsItIs stored a drained = answers-add filter shows ready lines earlier line Ready tt drained a
-
-  pub handed-done : (out : HandedOut) (stored : Result Step At)
-      → EngineAnswers filter shows ready lines earlier line (answer_given (Some out) stored)
-      → IfOk (answer_given (Some out) stored) (λ step. IsDrainedAfter step ready)
-      → (shown : Type 0) → (shows (with_next lines line) [] → shown)
-      → TookAll writer2 (lines_text ready) → TookAll messages2 [] → (warned : Bool)
-      → warned ≡ are_some (awaited_notices earlier)
-      → IsDone (filter.so_far lines) (filter.so_far (with_next lines line)) shown writer messages warned
-  handed-done out stored a drained shown kept all quiet warned flag =
-      let adds = handed-adds out stored a drained in
-      step-done w m _ _ (awaited_notices earlier) wrote reported _ [] (kept adds.0) adds.1
-      (record { good = refl; wrote = all; reported = quiet }) warned (flag ∙ ap are_some (sym (append-nil _)))
-
-  pub handed-cut : (out : HandedOut) (stored : Result Step At)
-      → EngineAnswers filter shows ready lines earlier line (answer_given (Some out) stored)
-      → IfOk (answer_given (Some out) stored) (λ step. IsDrainedAfter step ready)
-      → TookPart writer2 (lines_text ready) → TookAll messages2 []
-      → LineEndsRun filter lines line writer messages Unwritten
-  handed-cut out stored a drained part quiet =
-      let adds = handed-adds out stored a drained in
-      step-ends w m _ _ (awaited_notices earlier) wrote reported (filter.memory_after lines line)
-      (length lines + 1) _ []
-      (λ some. adds.1) (all-next adds.1) Unwritten
-      (ready-cut writer2 messages2 ready part quiet)
-
-  -- what was answered to a line that didn't come before was written and reported, or that failed
-  pub line-settled : (step : Step) → Stays step → IsDrainedAfter step ready
-      → EngineAnswers filter shows ready lines earlier line (Ok step) → earlier ≡ []
-      → (shown : Type 0) → (shows (with_next lines line) [] → shown) → (result : Result Bool Halt)
-      → IsSettled writer2 messages2 (made_by ready step) result
-      → IfOk result (IsDone (filter.so_far lines) (filter.so_far (with_next lines line)) shown writer
-      messages)
-      × IfErr result (LineEndsRun filter lines line writer messages)
-  line-settled step stays drained a none shown kept (Ok warned) s =
-      (line-done step stays drained a shown kept s.0 warned (rw (none) s.1), tt)
-  line-settled step stays drained a none shown kept (Err halt) s = (tt, line-cut step drained a halt s)
+      → IfOk (answer_given (Some out) stored) (λ step. IsDrainedAfter step ready) → (shown : Type 0)
+      → (shows (with_next lines line) [] → shown) → (made result : Result Bool Halt)
+      → result ≡ after_first earlier made → IsSettled writer2 messages2 (made_by ready Ready) made
+      → LineBecomes shown result
+  handed-becomes Nothing _ a drained shown kept made result is s =
+      line-becomes Quiet drained a shown kept made result is (always-ok made tt) s
+  handed-becomes Lines _ a drained shown kept made result is s =
+      line-becomes Ready drained a shown kept made result is (always-ok made tt) s
+  handed-becomes AsItIs _ a drained shown kept made result is s =
+      line-becomes Ready drained a shown kept made result is (always-ok made tt) s
 
 -- a warning after which a line comes a second time was reported
 pub again-out : {writer messages : Device} (ready : List (List ℕ)) (step : Step) (notice : At) (warned : Bool)
@@ -174,19 +172,20 @@ end-warns : (filter : Filter) (ready : List (List ℕ)) (lines : List InputLine)
     (filter.whole lines) halt
 end-warns = grind (arith, common_steps, append-nil, no-part, none-first)
 
-pub end-comes : (filter : Filter) (ready : List (List ℕ)) (lines : List InputLine) (step : Step)
-    (shown : Type 0)
-    → shown → {writer1 writer2 messages1 messages2 : Device} → Joins writer1 writer2 writer2
-    → Joins messages1 messages2 messages2 → TookAll writer1 [] → TookAll messages1 [] →
-    (result : Result Bool Halt)
+pub end-becomes : (filter : Filter) (ready : List (List ℕ)) (lines : List InputLine) (step : Step)
+    (shown : Type 0) → shown → (writer messages : Device) (result : Result Bool Halt)
     → IsDrainedAfter step ready → Concludes filter ready lines (Ok step)
-    → IsSettled writer2 messages2 (made_by ready step) result
-    → IfOk result (IsDone (filter.so_far lines) (filter.whole lines) shown writer2 messages2)
-    × IfErr result (EndEndsRun filter lines writer2 messages2)
-end-comes filter ready lines step shown is w m wrote reported (Ok warned) drained a settled =
-    grind (arith, common_steps, concludes-add, step-done)
-end-comes filter ready lines step shown is w m wrote reported (Err halt) drained a settled =
-    let adds = concludes-add filter ready lines step drained a in
-    let ends = step-ends w m _ _ [] wrote reported None (length lines) _ _ (λ some. adds) (all-next adds) halt
-    settled in
-    (tt, (ends, end-warns filter ready lines step _ _ halt drained a settled))
+    → IsSettled writer messages (made_by ready step) result
+    → Becomes None (length lines) (filter.so_far lines) (filter.whole lines) shown writer messages result
+    × IfErr result (WarnsAtEnd (filter.so_far lines) (filter.whole lines))
+end-becomes filter ready lines step shown is writer messages (Ok warned) drained a settled = (
+  step-done joins-idle joins-idle _ _ [] (refl, refl) (refl, refl) _ _ is
+      (concludes-add filter ready lines step drained a) settled.0 warned settled.1,
+  tt,
+)
+end-becomes filter ready lines step shown is writer messages (Err halt) drained a settled =
+    let adds = concludes-add filter ready lines step drained a in (
+      step-ends joins-idle joins-idle _ _ [] (refl, refl) (refl, refl) None (length lines) _ _ (λ some. adds)
+          (all-next adds) halt settled,
+      end-warns filter ready lines step _ _ halt drained a settled,
+    )

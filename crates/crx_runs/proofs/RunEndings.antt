@@ -1,6 +1,6 @@
 -- What is after a run, by how its work ended and how it was finished.
 use Rattle.std.proofs.lemmas.Grind.{common_steps}
-use Rattle.std.proofs.Common.{◌≡◌, ◌⊎◌, inl, inr, ℕ, ◌+◌, Bool, true, List, [], ◌++◌, length, take, Option}
+use Rattle.std.proofs.Common.{◌≡◌, ◌⊎◌, inl, inr, ℕ, ◌+◌, Bool, true, List, [], ◌++◌, length, Option}
 use Rattle.std.proofs.Common.{Some, None, ◌∷◌, refl, sym, ap, subst, ◌∙◌, arith, length-append}
 use Rattle.crx_lines.{proofs.ProgressLemmas.HasRead-stopped, specs.Progress.IsStopped}
 use Rattle.crx_lines.specs.Reading.{ReaderState}
@@ -15,7 +15,7 @@ use Rattle.crx_runs.specs.{Endings.{FlushFailed, write_failed_at}, Lawful.{IsLaw
 use Rattle.crx_runs.specs.{declared.one_line.Halt.Halt, meaning.Filters.{Filter, with_next}}
 use Rattle.crx_runs.specs.meaning.Interruptions.{IsTurn, IsWritten, AreReported, NoMemoryAtLine, FaultFound}
 use Rattle.crx_runs.specs.meaning.{Interruptions.{Stands, IsFrontPart}, Messages.{notices_text}}
-use Rattle.crx_runs.specs.meaning.{Results.Course, Spans.{Device, TookAll, AreNext, Input}}
+use Rattle.crx_runs.specs.meaning.{Results.{Begins, Course}, Spans.{Device, TookAll, AreNext, Input}}
 use Rattle.crx_runs.specs.declared.one_line.Halt.TheVariants as halt
 
 -- what is after a run that a fault ended
@@ -36,6 +36,11 @@ module _ (filter : Filter) (lawful : IsLawful filter) (input : Input)
       → TookAll messages1 (notices_text warnings) → IsReported messages2 at → AreReported messages warnings at
   reported = grind (arith, common_steps, part-then)
 
+  -- what is after a run that ended before the good end of its input
+  abbrev pub Stood : List ℕ → ℕ → Option At → Type 0
+  Stood given status fault = StandsAfter filter input writer messages given status fault
+      × IsFrontPart filter input given writer
+
   stands-after : (given : List ℕ) {status : ℕ} {fault : Option At} (at : At) → status ≡ 1 → fault ≡ Some at
       → Stands filter input given writer messages at at.fault
       → StandsAfter filter input writer messages given status fault
@@ -45,113 +50,73 @@ module _ (filter : Filter) (lawful : IsLawful filter) (input : Input)
 
   module _ (given : List ℕ) (before after : Course) (last : ℕ)
       (turn : IsTurn filter input given before after last) (can : Option (List At)) (number : ℕ) where
+    front-before : writer.took before.output → IsFrontPart filter input given writer
+    front-before wrote = record {
+      written = before.output;
+      wrote = wrote;
+      first = first-before-turn lawful input given _ turn (begins-itself before.output);
+    }
+
+    front-after : (text : List ℕ) → Begins after.output text → writer.took text
+        → IsFrontPart filter input given writer
+    front-after text first wrote =
+        record { written = text; wrote = wrote; first = first-after-turn lawful input given _ turn first }
+
     found-stands : (f : Fault) (at : At) → is_of_lines f ≡ true
         → FaultFound filter input given writer messages at → Stands filter input given writer messages at f
     found-stands = grind arith
 
-    pub turn-stands : (halt : Halt) (warned : Bool) (status : ℕ) (fault : Option At) → ((at : At)
+    pub turn-stood : (halt : Halt) (warned : Bool) (status : ℕ) (fault : Option At) → ((at : At)
         (notices : List At) → can ≡ Some notices → at.line ≡ number → (notices ≡ []) ⊎ AreNext before after
         notices → IsWritten writer before.output → AreReported messages (before.warnings ++ notices) at
         → NoMemoryAtLine filter input given writer messages at) → ((at : At) → after.fault ≡ Some at
         → is_of_lines at.fault ≡ true) → EndsAt can number writer1 messages1 before after halt → Finishes
-        writer2 messages2 last warned (Some halt) status fault → StandsAfter filter input writer messages
-        given status fault
-    turn-stands (halt.Fault at) warned status fault memory found (inl ran) finished = stands-after given at
-        finished.3 finished.2 (subst (λ f. Stands filter input given writer messages at f) (sym ran.fault)
-        (inr (memory at ran.notices ran.allowed ran.place ran.next (written before.output ran.wrote
-        finished.0) (reported _ at ran.reported finished.1))))
-    turn-stands (halt.Fault at) warned status fault memory found (inr r) finished = stands-after given at
-        finished.3 finished.2 (found-stands at.fault at (found at r.ends.fault) (record {
-          before = before;
-          after = after;
-          last = last;
-          turn = turn;
-          fault = r.ends.fault;
-          wrote = written after.output r.wrote finished.0;
-          reported = reported after.warnings at r.reported finished.1;
-        }))
-    turn-stands halt.Unwritten warned status fault memory found r finished =
-        stands-after given _ finished.3 finished.2 (inl (record {
-          before = before;
-          after = after;
-          turn = turn;
-          good = r.adds.good;
-          wrote = part-still w before.output after.output r.wrote finished.0;
-          reported = reported after.warnings (write_failed_at last) r.reported finished.1;
-        }))
-    turn-stands halt.Unreported warned status fault memory found r finished =
-        stands-after given _ finished.3 finished.2 (inr (inl (record {
-          before = before;
-          after = after;
-          turn = turn;
-          wrote = all-still w before.output r.wrote finished.0;
-          reported = part-still m _ _ (part-more _ (notices_text (before.warnings ++ r.notices)) (notices_text
-              r.next.0) _ (ap notices_text r.next.1 ∙ notices-append (before.warnings ++ r.notices) r.next.0)
-              r.reported) finished.1;
-        })))
-
-    pub turn-front : (halt : Halt) (warned : Bool) (status : ℕ) (fault : Option At) → EndsAt can number
-        writer1 messages1 before after halt → Finishes writer2 messages2 last warned (Some halt) status fault
-        → IsFrontPart filter input given writer
-    turn-front (halt.Fault at) warned status fault (inl ran) finished = record {
-      written = before.output;
-      wrote = (written before.output ran.wrote finished.0).0;
-      first = first-before-turn lawful input given _ turn (begins-itself before.output);
-    }
-    turn-front (halt.Fault at) warned status fault (inr r) finished = record {
-      written = after.output;
-      wrote = (written after.output r.wrote finished.0).0;
-      first = first-after-turn lawful input given _ turn (begins-itself after.output);
-    }
-    turn-front halt.Unwritten warned status fault r finished =
-        let part = part-still w before.output after.output r.wrote finished.0 in
-        record {
-          written = take part.count after.output;
-          wrote = part.took;
-          first = first-after-turn lawful input given _ turn (begins-taken part.count after.output);
-        }
-    turn-front halt.Unreported warned status fault r finished = record {
-      written = before.output;
-      wrote = (all-still w before.output r.wrote finished.0).0;
-      first = first-before-turn lawful input given _ turn (begins-itself before.output);
-    }
-
-  -- ---- the work of a run
-
-  pub line-stands : (now : ReaderState) (last : ℕ) (warned : Bool) (halt : Halt) (status : ℕ)
-      (fault : Option At) (lines : List InputLine)
-      (ends : EndsBy filter input writer1 messages1 now lines halt) → last ≡ now.number → Finishes writer2
-      messages2 last warned (Some halt) status fault → StandsAfter filter input writer messages
-      ends.read.given status fault × IsFrontPart filter input ends.read.given writer
-  line-stands now last warned halt status fault lines ends last_is finished =
-      let h = ends.read in
-      let next = with_next lines ends.line in
-      let taken = taken-read h ends.going in
-      let turn : IsTurn filter input h.given (filter.so_far lines) (filter.so_far next) last = inl (record {
-        lines = lines;
-        line = ends.line;
-        taken = taken;
-        before_is = refl;
-        after_is = refl;
-        last_is = omega (arith, last_is, ends.read.number, length-append lines (ends.line ∷ []));
-      }) in (
-        turn-stands h.given _ _ last turn _ _ halt warned status fault
-            (grind arith) (λ at bad. lawful.found next at bad) ends.ends finished,
-        turn-front h.given _ _ last turn _ _ halt warned status fault ends.ends finished,
-      )
-
-  pub end-stands : (now : ReaderState) (last : ℕ) (warned : Bool) (halt : Halt) (status : ℕ)
-      (fault : Option At) (s : StoppedByEnd filter input writer1 messages1 now last halt) → Finishes writer2
-      messages2 last warned (Some halt) status fault → StandsAfter filter input writer messages s.read.given
-      status fault × IsFrontPart filter input s.read.given writer
-  end-stands now last warned halt status fault s finished =
-      let all = all-read s.read s.ended in
-      let turn : IsTurn filter input s.read.given (filter.so_far s.lines) (filter.whole s.lines) last =
-      grind arith in (
-        turn-stands _ _ _ last turn None (length s.lines) halt warned status fault (grind arith) (λ at bad.
-            lawful.found_at_end s.lines at bad) s.ends finished,
-        turn-front _ _ _ last turn None (length s.lines) halt warned status fault s.ends finished,
-      )
+        writer2 messages2 last warned (Some halt) status fault → Stood given status fault
+    turn-stood (halt.Fault at) warned status fault memory found (inl ran) finished =
+        let wrote = written before.output ran.wrote finished.0 in (
+          stands-after given at finished.3 finished.2 (subst (λ f. Stands filter input given writer messages at f)
+              (sym ran.fault) (inr (memory at ran.notices ran.allowed ran.place ran.next wrote
+              (reported _ at ran.reported finished.1)))),
+          front-before wrote.0,
+        )
+    turn-stood (halt.Fault at) warned status fault memory found (inr r) finished =
+        let wrote = written after.output r.wrote finished.0 in (
+          stands-after given at finished.3 finished.2 (found-stands at.fault at (found at r.ends.fault) (record {
+            before = before;
+            after = after;
+            last = last;
+            turn = turn;
+            fault = r.ends.fault;
+            wrote = wrote;
+            reported = reported after.warnings at r.reported finished.1;
+          })),
+          front-after _ (begins-itself after.output) wrote.0,
+        )
+    turn-stood halt.Unwritten warned status fault memory found r finished =
+        let part = part-still w before.output after.output r.wrote finished.0 in (
+          stands-after given _ finished.3 finished.2 (inl (record {
+            before = before;
+            after = after;
+            turn = turn;
+            good = r.adds.good;
+            wrote = part;
+            reported = reported after.warnings (write_failed_at last) r.reported finished.1;
+          })),
+          front-after _ (begins-taken part.count after.output) part.took,
+        )
+    turn-stood halt.Unreported warned status fault memory found r finished =
+        let wrote = all-still w before.output r.wrote finished.0 in (
+          stands-after given _ finished.3 finished.2 (inr (inl (record {
+            before = before;
+            after = after;
+            turn = turn;
+            wrote = wrote;
+            reported = part-still m _ _ (part-more _ (notices_text (before.warnings ++ r.notices)) (notices_text
+                r.next.0) _ (ap notices_text r.next.1 ∙ notices-append (before.warnings ++ r.notices) r.next.0)
+                r.reported) finished.1;
+          }))),
+          front-before wrote.0,
+        )
 
   -- the reading stopped
   stopped-stands : (given : List ℕ) (lines : List InputLine) (f : Fault) (at : At) → IsStopped f input.start
@@ -160,62 +125,83 @@ module _ (filter : Filter) (lawful : IsLawful filter) (input : Input)
       filter input given writer messages at f
   stopped-stands = grind (arith, common_steps, complete-stopped)
 
-  pub reader-stands : (now : ReaderState) (last : ℕ) (warned : Bool) (stop : Halt) (status : ℕ)
-      (fault : Option At) (lines : List InputLine) (at : At) → stop ≡ halt.Fault at
-      → (s : ReaderStopped input writer1 messages1 now lines (filter.so_far lines) at) → Finishes writer2
-      messages2 last warned (Some stop) status fault → StandsAfter filter input writer messages s.read.given
-      status fault × IsFrontPart filter input s.read.given writer
-  reader-stands now last warned stop status fault lines at halt_is s finishes =
-      let finished : Finishes writer2 messages2 last warned (Some (halt.Fault at)) status fault =
-      grind arith in
-      let h = s.read in
-      let stopped = HasRead-stopped _ _ _ _ _ _ h at s.stopped in
-      let wrote = written _ s.out.wrote finished.0 in
-      let same = complete-stopped h.given lines at.fault input.start input.counted stopped.0 in (
-        stands-after h.given at finished.3 finished.2 (stopped-stands h.given lines at.fault at stopped.0
-            stopped.1 s.out.good wrote (reported _ at s.out.reported finished.1)),
-        record { written = _; wrote = wrote.0; first = first-complete lawful input h.given lines same },
-      )
+  -- ---- the work of a run
 
-  -- what was written couldn't be handed on before a read
-  pub handing-stands : (now : ReaderState) (last : ℕ) (warned : Bool) (stop : Halt) (status : ℕ)
-      (fault : Option At) (lines : List InputLine) → stop ≡ halt.Unwritten → (s : HandingFailed input writer1
-      messages1 now lines (filter.so_far lines)) → last ≡ now.number → Finishes writer2 messages2 last warned
-      (Some stop) status fault → StandsAfter filter input writer messages s.read.given status fault
-      × IsFrontPart filter input s.read.given writer
-  handing-stands now last warned stop status fault lines halt_is s last_is finishes =
-      let finished : Finishes writer2 messages2 last warned (Some halt.Unwritten) status fault = grind arith in
-      let h = s.read in
-      let taken = taken-read h s.going in
-      let wrote = took-still w _ s.wrote finished.0.0 in (
-        stands-after h.given _ finished.3 finished.2 (inr (inr (inr (record {
+  module _ (now : ReaderState) (last : ℕ) (warned : Bool) (stop : Halt) (status : ℕ) (fault : Option At)
+      (finished : Finishes writer2 messages2 last warned (Some stop) status fault) where
+    pub line-stands : (lines : List InputLine) (ends : EndsBy filter input writer1 messages1 now lines stop)
+        → last ≡ now.number → Stood ends.read.given status fault
+    line-stands lines ends last_is =
+        let h = ends.read in
+        let next = with_next lines ends.line in
+        let taken = taken-read h ends.going in
+        let turn : IsTurn filter input h.given (filter.so_far lines) (filter.so_far next) last = inl (record {
           lines = lines;
-          taken = all-so-far h s.going s.unheld;
-          line = last_is ∙ h.number;
-          good = s.good;
-          wrote = wrote;
-          counted = grind arith;
-          reported = reported _ (write_failed_at last) s.reported finished.1;
-        })))),
-        record { written = _; wrote = wrote; first = first-taken lawful input h.given lines _ taken (begins-itself _) },
-      )
+          line = ends.line;
+          taken = taken;
+          before_is = refl;
+          after_is = refl;
+          last_is = omega (arith, last_is, ends.read.number, length-append lines (ends.line ∷ []));
+        }) in
+        turn-stood h.given _ _ last turn _ _ stop warned status fault (grind arith)
+        (λ at bad. lawful.found next at bad) ends.ends finished
 
-  pub start-stands : (last : ℕ) (warned : Bool)
-      (stop : Halt) (status : ℕ) (fault : Option At) (s : StoppedAtStart input writer1 messages1 last stop)
-      → Finishes writer2 messages2 last warned (Some stop) status fault
-      → StandsAfter filter input writer messages [] status fault × IsFrontPart filter input [] writer
-  start-stands last warned stop status fault s finishes =
-      let finished : Finishes writer2 messages2 last warned (Some (halt.Fault (record
-      { line = 0; fault = OutOfMemory }))) status fault = grind arith in
-      let wrote = written [] s.wrote finished.0 in (
-        stands-after [] _ finished.3 finished.2 (inl (record {
-          line = refl;
-          nothing = refl;
-          wrote = wrote;
-          reported = reported [] (record { line = 0; fault = OutOfMemory }) s.reported finished.1;
-        })),
-        grind arith,
-      )
+    pub end-stands : (s : StoppedByEnd filter input writer1 messages1 now last stop) → Stood s.read.given status fault
+    end-stands s =
+        let all = all-read s.read s.ended in
+        let turn : IsTurn filter input s.read.given (filter.so_far s.lines) (filter.whole s.lines) last =
+        grind arith in
+        turn-stood _ _ _ last turn None (length s.lines) stop warned status fault (grind arith)
+        (λ at bad. lawful.found_at_end s.lines at bad) s.ends finished
+
+    pub reader-stands : (lines : List InputLine) (at : At) → stop ≡ halt.Fault at
+        → (s : ReaderStopped input writer1 messages1 now lines (filter.so_far lines) at)
+        → Stood s.read.given status fault
+    reader-stands lines at halt_is s =
+        let done : Finishes writer2 messages2 last warned (Some (halt.Fault at)) status fault = grind arith in
+        let h = s.read in
+        let stopped = HasRead-stopped _ _ _ _ _ _ h at s.stopped in
+        let wrote = written _ s.out.wrote done.0 in
+        let same = complete-stopped h.given lines at.fault input.start input.counted stopped.0 in (
+          stands-after h.given at done.3 done.2 (stopped-stands h.given lines at.fault at stopped.0
+              stopped.1 s.out.good wrote (reported _ at s.out.reported done.1)),
+          record { written = _; wrote = wrote.0; first = first-complete lawful input h.given lines same },
+        )
+
+    -- what was written couldn't be handed on before a read
+    pub handing-stands : (lines : List InputLine) → stop ≡ halt.Unwritten
+        → (s : HandingFailed input writer1 messages1 now lines (filter.so_far lines)) → last ≡ now.number
+        → Stood s.read.given status fault
+    handing-stands lines halt_is s last_is =
+        let done : Finishes writer2 messages2 last warned (Some halt.Unwritten) status fault = grind arith in
+        let h = s.read in
+        let taken = taken-read h s.going in
+        let wrote = took-still w _ s.wrote done.0.0 in (
+          stands-after h.given _ done.3 done.2 (inr (inr (inr (record {
+            lines = lines;
+            taken = all-so-far h s.going s.unheld;
+            line = last_is ∙ h.number;
+            good = s.good;
+            wrote = wrote;
+            counted = grind arith;
+            reported = reported _ (write_failed_at last) s.reported done.1;
+          })))),
+          record { written = _; wrote = wrote; first = first-taken lawful input h.given lines _ taken (begins-itself _) },
+        )
+
+    pub start-stands : (s : StoppedAtStart input writer1 messages1 last stop) → Stood [] status fault
+    start-stands s =
+        let at : At = record { line = 0; fault = OutOfMemory } in
+        let done : Finishes writer2 messages2 last warned (Some (halt.Fault at)) status fault = grind arith in
+        let wrote = written [] s.wrote done.0 in (
+          stands-after [] _ done.3 done.2 (inl (record {
+            line = refl;
+            nothing = refl;
+            wrote = wrote;
+            reported = reported [] at s.reported done.1;
+          })),
+          grind arith,
+        )
 
   -- the flush alone failed
   pub flush-stands : (has_ended : List InputLine → Type 0) (now : ReaderState) (last : ℕ) (warned : Bool)

@@ -1,14 +1,19 @@
 -- A run goes on by a line, or ends at it; and its end.
 use Rattle.std.proofs.lemmas.Grind.{common_steps}
-use Rattle.std.proofs.Common.{arith, ◌≡◌, ℕ, Bool, ◌||◌, List, []}
+use Rattle.std.proofs.Common.{arith, ◌≡◌, ℕ, ◌+◌, Bool, ◌||◌, List, [], length, Option, Some, None, Result, Ok, Err}
 use Rattle.crx_base.specs.meaning.Lines.{InputLine}
 use Rattle.crx_lines.specs.Reading.{HasNoFeed, ReaderState}
 use Rattle.crx_lines.specs.declared.phase.Phase.TheVariants.{Open}
 use Rattle.crx_runs.proofs.{DeviceSpans.{Joins, all-still, took-still}, LineEndings.out-more, StepReading.ReadsLine}
-use Rattle.crx_runs.specs.{Endings.{EndEndsRun, EndsBy, FlushFailed, HandingFailed, LineEndsRun, StoppedByEnd, WellDone}, Engines.Awaited}
-use Rattle.crx_runs.specs.{Running.{ComesToEnd, GoesOnBy, IsRunning}, Taking.IsDone}
+use Rattle.crx_runs.specs.{Endings.{EndsFrom, FlushFailed, HandingFailed, StoppedByEnd, WellDone}, Engines.Awaited}
+use Rattle.crx_runs.specs.{Running.{ComesToEnd, GoesOnBy, IsRunning, StepGoes}, Taking.{Becomes, IsDone}}
 use Rattle.crx_runs.specs.{declared.one_line.Halt.Halt, meaning.Filters.{Filter, with_next}}
 use Rattle.crx_runs.specs.meaning.{Results.{Course, are_some}, Spans.{Device, Input, TookAll}}
+
+-- a step that took a line
+abbrev pub stepped : Result Bool Halt → Result (Option Bool) Halt
+stepped (Ok warned) = Ok (Some warned)
+stepped (Err halt) = Err halt
 
 -- the run goes on
 pub go-on : {filter : Filter} {shows : List InputLine → List Awaited → Type 0} {input : Input}
@@ -18,21 +23,18 @@ pub go-on : {filter : Filter} {shows : List InputLine → List Awaited → Type 
     messages now ls (filter.so_far ls) × (both ≡ are_some (filter.so_far ls).warnings)
 go-on = grind arith
 
-module _ {filter : Filter} {input then : Input} {old new : ReaderState} {lines : List InputLine}
+module _ (filter : Filter) {input then : Input} {old new : ReaderState} {lines : List InputLine}
     {writer1 writer2 writer messages1 messages2 messages : Device} (w : Joins writer1 writer2 writer)
     (m : Joins messages1 messages2 messages)
     (running : IsRunning input writer1 messages1 old lines (filter.so_far lines)) {line : InputLine}
     {number : ℕ} (read : ReadsLine then.gave then.at_end then.start then.counted new lines line number) where
-  -- a line was taken
-  pub goes-by : {shows : List InputLine → List Awaited → Type 0} {warned : Bool}
-      → IsDone (filter.so_far lines) (filter.so_far (with_next lines line)) (shows (with_next lines line) [])
-      writer2 messages2 warned → GoesOnBy filter shows then writer messages new lines warned
-  goes-by = grind (arith, common_steps, out-more)
-
-  -- a line ended the run
-  pub ends-by : (halt : Halt) → LineEndsRun filter lines line writer2 messages2 halt
-      → EndsBy filter then writer messages new lines halt
-  ends-by = grind arith
+  -- a line was taken, or it ended the run
+  pub goes-by : (shows : List InputLine → List Awaited → Type 0) (result : Result Bool Halt)
+      → Becomes (filter.memory_after lines line) (length lines + 1) (filter.so_far lines)
+      (filter.so_far (with_next lines line)) (shows (with_next lines line) []) writer2 messages2 result
+      → StepGoes filter shows then writer messages new lines (stepped result)
+  goes-by shows (Ok warned) = grind (arith, common_steps, out-more)
+  goes-by shows (Err halt) = grind arith
 
 module _ {filter : Filter} {input : Input} {now : ReaderState} {lines : List InputLine}
     {writer1 writer2 writer messages1 messages2 messages : Device} (w : Joins writer1 writer2 writer)
@@ -47,7 +49,8 @@ module _ {filter : Filter} {input : Input} {now : ReaderState} {lines : List Inp
   well-done = grind (arith, common_steps, out-more)
 
   -- the end ended the run
-  pub stopped-end : (halt : Halt) → EndEndsRun filter lines writer2 messages2 halt
+  pub stopped-end : (halt : Halt)
+      → EndsFrom None (length lines) writer2 messages2 (filter.so_far lines) (filter.whole lines) halt
       → StoppedByEnd filter input writer messages now last halt
   stopped-end = grind arith
 

@@ -85,21 +85,10 @@ abbrev pub EndsFrom : Option (List At) → ℕ → Device → Device → Course 
 EndsFrom memory number writer messages before after halt = EndsAt memory number
     (resumed writer before.output) (resumed messages (notices_text before.warnings)) before after halt
 
--- a line that comes after some others ended it
-abbrev pub LineEndsRun : Filter → List InputLine → InputLine → Device → Device → Halt → Type 0
-LineEndsRun filter lines line writer messages halt = EndsFrom (filter.memory_after lines line) (length lines + 1)
-    writer messages (filter.so_far lines) (filter.so_far (with_next lines line)) halt
-
 -- the end of the input has no warning where a fault, or its lines, ended the run, and else one
 abbrev pub WarnsAtEnd : Course → Course → Halt → Type 0
 WarnsAtEnd before after Unreported = (notice : At) × (after.warnings ≡ before.warnings ++ notice ∷ [])
 WarnsAtEnd before after halt = after.warnings ≡ before.warnings
-
--- the end of the input ended it, after these lines
-abbrev pub EndEndsRun : Filter → List InputLine → Device → Device → Halt → Type 0
-EndEndsRun filter lines writer messages halt =
-    EndsFrom None (length lines) writer messages (filter.so_far lines) (filter.whole lines) halt
-    × WarnsAtEnd (filter.so_far lines) (filter.whole lines) halt
 
 -- ---- in a run over an input
 
@@ -138,13 +127,6 @@ StopsAt filter input writer messages now lines halt =
     ⊎ (EndsBy filter input writer messages now lines halt
     ⊎ ((halt ≡ Unwritten) × HandingFailed input writer messages now lines (filter.so_far lines)))
 
--- the same after some lines, and the number of the last line that was read
-pub record StoppedInLines (filter : Filter)
-    (input : Input) (writer messages : Device) (now : ReaderState) (last : ℕ) (halt : Halt) : Type 0 where
-  pub lines : List InputLine
-  pub stops : StopsAt filter input writer messages now lines halt
-  pub last_is : last ≡ now.number
-
 -- the end of the input ended it
 pub record StoppedByEnd (filter : Filter)
     (input : Input) (writer messages : Device) (now : ReaderState) (last : ℕ) (halt : Halt) : Type 0 where
@@ -174,13 +156,13 @@ pub record WellDone (filter : Filter) (has_ended : List InputLine
   pub engine_ended : has_ended lines
   pub last_is : last ≡ length lines
 
--- where the work of a run ended: at the good end of its input, or before
+-- where the work of a run ended: at the good end of its input, or before. The last line is the last one that was read
 abbrev pub WorkEnds : Filter → (List InputLine → Type 0)
     → Input → Device → Device → ReaderState → ℕ → Bool → Option Halt → Type 0
 WorkEnds filter has_ended input writer messages now last warned None =
     WellDone filter has_ended input writer messages now last warned
 WorkEnds filter has_ended input writer messages now last warned (Some halt) =
-    StoppedInLines filter input writer messages now last halt
+    ((lines : List InputLine) × StopsAt filter input writer messages now lines halt × (last ≡ now.number))
     ⊎ (StoppedByEnd filter input writer messages now last halt
     ⊎ StoppedAtStart input writer messages last halt)
 

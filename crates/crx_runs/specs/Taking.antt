@@ -1,5 +1,5 @@
 -- What becomes of one line of the input.
-use Rattle.std.specs.Prelude.{◌≡◌, ◌⊎◌, ◌≤◌, ℕ, ◌+◌, ⊤, Bool, true, List, [], ◌∷◌, length, None, Result, Ok, Err, IfErr, IfOk, OnOk}
+use Rattle.std.specs.Prelude.{◌≡◌, ◌⊎◌, ◌≤◌, ℕ, ◌+◌, ⊤, Bool, true, List, [], ◌∷◌, length, Option, None, Result, Ok, Err, IfErr, IfOk, OnOk}
 use Rattle.crx_base.specs.meaning.Lines.{InputLine, lines_text}
 use Rattle.crx_base.specs.declared.fault.At.{At}
 use Rattle.crx_base.specs.declared.limits.TheConstants.{INPUT_LIMIT, LINE_LIMIT}
@@ -11,7 +11,7 @@ use Rattle.crx_runs.specs.declared.one_line.Halt.{Halt}
 use Rattle.crx_runs.specs.meaning.Results.{Course}
 use Rattle.crx_runs.specs.meaning.Filters.{Filter, with_next}
 use Rattle.crx_runs.specs.Engines.{IsDrainedAfter, KeepsAllElse, taken_after}
-use Rattle.crx_runs.specs.Endings.{Adds, EndEndsRun, EndsAt, IsAllOut, LineEndsRun}
+use Rattle.crx_runs.specs.Endings.{Adds, EndsAt, EndsFrom, IsAllOut, WarnsAtEnd}
 use Rattle.crx_runs.specs.meaning.Messages.{notices_text}
 pub use Rattle.crx_runs.specs.meaning.Results.{are_some}
 use Rattle.crx_runs.specs.meaning.Spans.{Device, TookAll}
@@ -84,26 +84,29 @@ pub record IsDone (before after : Course) (shown : Type 0) (writer messages : De
   pub reported : TookAll messages (notices_text notices)
   pub flag : warned ≡ are_some notices
 
--- an engine of a filter took a line, whichever it is of those that can come after some others and that it can be: what
--- it adds was written and reported, or it ended the run
+-- what comes next of the input was taken; or it ended the run: memory may have run out at the line of this number
+abbrev pub Becomes : Option (List At) → ℕ → Course → Course → Type 0 → Device → Device → Result Bool Halt → Type 0
+Becomes memory number before after shown writer messages (Ok warned) =
+    IsDone before after shown writer messages warned
+Becomes memory number before after shown writer messages (Err halt) =
+    EndsFrom memory number writer messages before after halt
+
+-- an engine of a filter took a line, whichever it is of those that can come after some others and that it can be
 pub record LineIsTaken {E : Type 0} (engine : EngineGhosts E) (its : Filter) (now : E)
     (comes : List InputLine → InputLine → Type 0) (can_be : InputLine → Type 0)
     (writer messages : Device) (result : Result Bool Halt) : Type 0 where
   pub filter : engine.filter now ≡ its
   pub drained : OnOk result (engine.ready now ≡ [])
-  pub done : (lines : List InputLine) (line : InputLine) → comes lines line → can_be line
-      → IfOk result (IsDone (its.so_far lines) (its.so_far (with_next lines line))
-      (engine.shows now (with_next lines line) []) writer messages)
-  pub cut : (lines : List InputLine) (line : InputLine) → comes lines line → can_be line
-      → IfErr result (LineEndsRun its lines line writer messages)
+  pub becomes : (lines : List InputLine) (line : InputLine) → comes lines line → can_be line
+      → Becomes (its.memory_after lines line) (length lines + 1) (its.so_far lines) (its.so_far (with_next lines line))
+      (engine.shows now (with_next lines line) []) writer messages result
 
--- an engine took the end of the input, after whichever lines: what that adds was written and reported, or it ended the
--- run
+-- an engine took the end of the input, after whichever lines
 pub record EndIsTaken {E : Type 0} (engine : EngineGhosts E) (before now : E) (writer messages : Device)
     (result : Result Bool Halt) : Type 0 where
   pub filter : engine.filter now ≡ engine.filter before
-  pub done : (lines : List InputLine) → engine.shows before lines []
-      → IfOk result (IsDone ((engine.filter before).so_far lines) ((engine.filter before).whole lines)
-      (engine.has_ended now lines) writer messages)
-  pub cut : (lines : List InputLine) → engine.shows before lines []
-      → IfErr result (EndEndsRun (engine.filter before) lines writer messages)
+  pub becomes : (lines : List InputLine) → engine.shows before lines []
+      → Becomes None (length lines) ((engine.filter before).so_far lines) ((engine.filter before).whole lines)
+      (engine.has_ended now lines) writer messages result
+  pub warns : (lines : List InputLine) → engine.shows before lines []
+      → IfErr result (WarnsAtEnd ((engine.filter before).so_far lines) ((engine.filter before).whole lines))

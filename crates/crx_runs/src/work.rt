@@ -45,13 +45,13 @@ pub(crate) fn take_all<E: Engine, R: Source, W: Sink, M: Sink>(
     let mut warned = false;
     'lines: loop {
         match step(engine, input, reader, writer, messages) {
-            Ok(Some(warning)) => warned = warned || warning,
+            Ok(Some(warning)) => warned |= warning,
             Ok(None) => {
                 let last = input.number();
                 return match take_end(engine, writer, messages) {
                     Ok(warning) => Work {
                         last,
-                        warned: warned || warning,
+                        warned: warned | warning,
                         halt: None,
                     },
                     Err(halt) => Work {

@@ -4,7 +4,8 @@ use Rattle.rnxcmp_c.proofs.{GoingLemmas.notices-both, Words.{◌≡◌, ℕ, Boo
 use Rattle.rnxcmp_c.proofs.Words.{Option, None, sym, ◌∙◌, append-nil, arith, length-append}
 use Rattle.rnxcmp_c.proofs.Words.{take-append-drop, At, notices_text, Begins, Course, Halt, AreNext, Device}
 use Rattle.rnxcmp_c.proofs.Words.{waiting, Pending, IsKept, StopsBy}
-use Rattle.crx_runs.specs.{Endings.EndsFrom, Taking.IsDone}
+use Rattle.std.proofs.Common.{Result, Ok, Err, IfOk, IfErr}
+use Rattle.crx_runs.specs.{Endings.EndsFrom, Taking.{Becomes, IsDone}}
 
 -- the first warnings by which a course goes on are first in its messages
 pub begins-next : (before after : Course) (here : List At) → AreNext before after here
@@ -35,19 +36,34 @@ kept-by old new = record {
 
 -- a line, or the end, was taken, or ended the run
 module _ (before after : Course) (output then_output kept then_kept : Pending) where
-  pub kept-where_done : (shown : Type 0) (warned : Bool)
+  kept-where_done : (shown : Type 0) (warned : Bool)
       → IsDone before after shown (kept-by output then_output) (kept-by kept then_kept) warned
       → IsKept before after shown output then_output kept then_kept warned
   kept-where_done = grind arith
 
-  pub cut-stops : (memory : Option (List At)) (number : ℕ) (halt : Halt)
+  cut-stops : (memory : Option (List At)) (number : ℕ) (halt : Halt)
       → EndsFrom memory number (kept-by output then_output) (kept-by kept then_kept) before after halt
       → StopsBy number memory before after output then_output kept then_kept halt
   cut-stops =
       search (rules, none-more, append-nil, rest-of, notices-both, begins-taken, begins-next, length-append)
 
   -- the same of the end, at which memory may run out for the texts alone
-  pub halted-stops : (number last : ℕ) (halt : Halt)
+  halted-stops : (number last : ℕ) (halt : Halt)
       → EndsFrom None last (kept-by output then_output) (kept-by kept then_kept) before after halt
       → StopsBy number None before after output then_output kept then_kept halt
   halted-stops = grind (arith, common_steps, cut-stops)
+
+  module _ (shown : Type 0) where
+    pub line-kept : (memory : Option (List At)) (number : ℕ) (result : Result Bool Halt) → Becomes memory number
+        before after shown (kept-by output then_output) (kept-by kept then_kept) result
+        → IfOk result (IsKept before after shown output then_output kept then_kept)
+        × IfErr result (StopsBy number memory before after output then_output kept then_kept)
+    line-kept memory number (Ok warned) done = (kept-where_done shown warned done, tt)
+    line-kept memory number (Err halt) ends = (tt, cut-stops memory number halt ends)
+
+    pub end-kept : (number last : ℕ) (result : Result Bool Halt) → Becomes None last before after shown
+        (kept-by output then_output) (kept-by kept then_kept) result
+        → IfOk result (IsKept before after shown output then_output kept then_kept)
+        × IfErr result (StopsBy number None before after output then_output kept then_kept)
+    end-kept number last (Ok warned) done = (kept-where_done shown warned done, tt)
+    end-kept number last (Err halt) ends = (tt, halted-stops number last halt ends)

@@ -1,13 +1,15 @@
 use Rattle.std.proofs.lemmas.{Grind.common_steps, Result.err_from_is_err_and}
-use Rattle.std.proofs.Common.{◌≡◌, [], ◌∷◌, true, List, Some, arith, refl, sym, ◌∙◌}
+use Rattle.std.proofs.Common.{◌≡◌, [], ◌∷◌, true, false, List, Ok, Err, arith, refl, sym, ap, ◌∙◌}
+use Rattle.std.specs.Prelude.{⊤}
 use Rattle.crx_base.specs.Padded.{line_in}
 use Rattle.crx_base.specs.meaning.Lines.{InputLine}
 use Rattle.crx_lines.specs.Reading.{line_shown}
-use Rattle.crx_runs.proofs.{DeviceSpans.span-joins, LinesTaken.{again-out, handed-cut, handed-done}}
-use Rattle.crx_runs.proofs.LinesTaken.{line-cut, line-done, stays-then}
+use Rattle.crx_runs.proofs.{DeviceSpans.{joins-idle, span-joins}}
+use Rattle.crx_runs.proofs.LinesTaken.{again-out, handed-becomes, line-becomes, ready-all, ready-cut, stays-then}
 use Rattle.crx_runs.proofs.one_line.take_again.{Given.Over, Goals.After-take}
 use Rattle.crx_runs.specs.Engines.{Awaited, EngineAnswers, answer_given, lines_handed_out}
 use Rattle.crx_runs.specs.declared.engine.Step.TheVariants.{Warned}
+use Rattle.crx_runs.specs.declared.one_line.Halt.TheVariants.{Unwritten}
 use Rattle.crx_runs.specs.meaning.{Messages.notices_text, Spans.{TookAll, span}}
 use Rattle.crx_runs.proofs.one_line.take_again.Goals as goal
 
@@ -49,63 +51,47 @@ returns-in_err-warned-clause-taken g c =
     rw (p.1, p.2) (record {
       filter = c.carry_out.ensures.kept.filter;
       drained = tt;
-      done = λ lines line a same. tt;
-      cut = λ lines line a same. line-cut (span-joins g.W.Sink g.met.W.Sink.took_both {a = c.args.writer.now}
-          {b = c.args.writer.now}) (span-joins g.M.Sink g.met.M.Sink.took_both {a = c.args.messages.now}
-          {b = c.args.messages.now}) (g.E.Engine.filter c.args.engine.now) lines line []
-          (g.met.W.Sink.took_none _, refl)
-          (g.met.M.Sink.took_none _, refl) (g.E.Engine.shows c.args.engine.now)
-          (g.E.Engine.ready c.args.engine.now)
-          c.in_ok-step.step (rw (is) at c.requires.drained) (rw (is) at a) _ c.in_err-warned.ensures.settled;
+      becomes = λ lines line a same. line-becomes joins-idle joins-idle (g.E.Engine.filter c.args.engine.now)
+          lines line [] (refl, refl) (refl, refl) (g.E.Engine.shows c.args.engine.now)
+          (g.E.Engine.ready c.args.engine.now) c.in_ok-step.step (rw (is) at c.requires.drained) (rw (is) at a)
+          ⊤ (λ shown. tt) (Err _) _ refl tt c.in_err-warned.ensures.settled;
     })
 
 pub returns-in-Ok-clause-taken : goal.returns-in-Ok-clause-taken
 returns-in-Ok-clause-taken g c =
     let at = (goal.at.returns-in-Ok-clause-taken g c).After-take in
-    let then = c.take.new.self in
     let out = first-out g at in
     let kept = c.write_handed_out.ensures.kept in
     record {
       filter = kept.filter ∙ c.take.ensures.stepped.filter ∙ c.carry_out.ensures.kept.filter;
       drained = c.in-Ok.ensures.drained;
-      done = λ lines line a is. handed-done (span-joins g.W.Sink g.met.W.Sink.took_both)
+      becomes = λ lines line a is. handed-becomes (span-joins g.W.Sink g.met.W.Sink.took_both)
           (span-joins g.M.Sink g.met.M.Sink.took_both) (g.E.Engine.filter c.args.engine.now) lines line
-          (awaited g at line) out.0 out.1 (g.E.Engine.shows then)
-          (lines_handed_out (Some c.in-Some.handed_out)
-          (line_shown c.of-line.result).content (g.E.Engine.ready then)) c.in-Some.handed_out
-          (g.E.Engine.answer then)
-          (rw c.in-Some.is at (second g at lines line a is)) (rw c.in-Some.is at
-          c.take.ensures.stepped.drained) _
-          (kept.shows _ []) (rw (c.bytes.ensures.content) at c.in-Ok.ensures.all)
-          (g.met.M.Sink.took_none _, refl) _ out.2;
-      cut = λ lines line a is. tt;
+          (awaited g at line) out.0 out.1 (g.E.Engine.shows c.take.new.self) _ c.in-Some.handed_out
+          (g.E.Engine.answer c.take.new.self) (rw c.in-Some.is at (second g at lines line a is))
+          (rw c.in-Some.is at c.take.ensures.stepped.drained) _ (kept.shows _ []) (Ok false) _ (ap Ok out.2)
+          (ready-all _ _ _ (rw (c.bytes.ensures.content) at c.in-Ok.ensures.all) (g.met.M.Sink.took_none _, refl));
     }
 
 pub returns-in-Err-clause-taken : goal.returns-in-Err-clause-taken
 returns-in-Err-clause-taken g c =
     let at = (goal.at.returns-in-Err-clause-taken g c).After-take in
-    let then = c.take.new.self in
     let out = first-out g at in
+    let kept = c.write_handed_out.ensures.kept in
     record {
-      filter = c.write_handed_out.ensures.kept.filter ∙ c.take.ensures.stepped.filter ∙
-          c.carry_out.ensures.kept.filter;
+      filter = kept.filter ∙ c.take.ensures.stepped.filter ∙ c.carry_out.ensures.kept.filter;
       drained = tt;
-      done = λ lines line a is. tt;
-      cut = λ lines line a is. handed-cut (span-joins g.W.Sink g.met.W.Sink.took_both)
+      becomes = λ lines line a is. handed-becomes (span-joins g.W.Sink g.met.W.Sink.took_both)
           (span-joins g.M.Sink g.met.M.Sink.took_both) (g.E.Engine.filter c.args.engine.now) lines line
-          (awaited g at line) out.0 out.1 (g.E.Engine.shows then)
-          (lines_handed_out (Some c.in-Some.handed_out)
-          (line_shown c.of-line.result).content (g.E.Engine.ready then)) c.in-Some.handed_out
-          (g.E.Engine.answer then)
-          (rw c.in-Some.is at (second g at lines line a is)) (rw c.in-Some.is at
-          c.take.ensures.stepped.drained)
-          (rw (c.bytes.ensures.content) at c.in-Err.ensures.part) (g.met.M.Sink.took_none _, refl);
+          (awaited g at line) out.0 out.1 (g.E.Engine.shows c.take.new.self) _ c.in-Some.handed_out
+          (g.E.Engine.answer c.take.new.self) (rw c.in-Some.is at (second g at lines line a is))
+          (rw c.in-Some.is at c.take.ensures.stepped.drained) ⊤ (λ shown. tt) (Err Unwritten) _ refl
+          (ready-cut _ _ _ (rw (c.bytes.ensures.content) at c.in-Err.ensures.part) (g.met.M.Sink.took_none _, refl));
     }
 
 pub returns-in_err-carry_out-in-None-clause-taken : goal.returns-in_err-carry_out-in-None-clause-taken
 returns-in_err-carry_out-in-None-clause-taken g c =
     let at = (goal.at.returns-in_err-carry_out-in-None-clause-taken g c).After-take in
-    let then = c.take.new.self in
     let out = first-out g at in
     let made = c.from_residual-in_err-carry_out-in-None in
     let p = err_from_is_err_and made.result made.ensures.1 in
@@ -114,13 +100,11 @@ returns-in_err-carry_out-in-None-clause-taken g c =
       filter = c.carry_out-in-None.ensures.kept.filter ∙ c.take.ensures.stepped.filter ∙
           c.carry_out.ensures.kept.filter;
       drained = tt;
-      done = λ lines line a same. tt;
-      cut = λ lines line a same. line-cut (span-joins g.W.Sink g.met.W.Sink.took_both)
+      becomes = λ lines line a same. line-becomes (span-joins g.W.Sink g.met.W.Sink.took_both)
           (span-joins g.M.Sink g.met.M.Sink.took_both) (g.E.Engine.filter c.args.engine.now) lines line
-          (awaited g at line) out.0 out.1 (g.E.Engine.shows then) (g.E.Engine.ready then)
-          c.in_ok-second-in-None.second
-          (rw (c.in-None.is, is) at c.take.ensures.stepped.drained)
-          (rw (c.in-None.is, is) at (second g at lines line a same)) _
+          (awaited g at line) out.0 out.1 (g.E.Engine.shows c.take.new.self) (g.E.Engine.ready c.take.new.self)
+          c.in_ok-second-in-None.second (rw (c.in-None.is, is) at c.take.ensures.stepped.drained)
+          (rw (c.in-None.is, is) at (second g at lines line a same)) ⊤ (λ shown. tt) (Err _) _ refl tt
           c.in_err-carry_out-in-None.ensures.settled;
     })
 
@@ -134,16 +118,12 @@ returns-in_ok-carry_out-in-None-clause-taken g c =
     record {
       filter = kept.filter ∙ c.take.ensures.stepped.filter ∙ c.carry_out.ensures.kept.filter;
       drained = c.in_ok-carry_out-in-None.ensures.drained;
-      done = λ lines line a same. let answered = rw (c.in-None.is, is) at (second g at lines line a same) in
-          line-done (span-joins g.W.Sink g.met.W.Sink.took_both) (span-joins g.M.Sink g.met.M.Sink.took_both)
+      becomes = λ lines line a same. let answered = rw (c.in-None.is, is) at (second g at lines line a same) in
+          line-becomes (span-joins g.W.Sink g.met.W.Sink.took_both) (span-joins g.M.Sink g.met.M.Sink.took_both)
           (g.E.Engine.filter c.args.engine.now) lines line (awaited g at line) out.0 out.1
-          (g.E.Engine.shows then)
-          (g.E.Engine.ready then) c.in_ok-second-in-None.second
-          (stays-then (g.E.Engine.filter c.args.engine.now) (g.E.Engine.shows then) (g.E.Engine.ready then)
-          lines
-          (record { notice = c.in-Warned-default-true.notice; line = line }) line
-          c.in_ok-second-in-None.second answered)
-          (rw (c.in-None.is, is) at c.take.ensures.stepped.drained) answered _ (kept.shows _ [])
-          c.in_ok-carry_out-in-None.ensures.settled.0 _ out.2;
-      cut = λ lines line a same. tt;
+          (g.E.Engine.shows then) (g.E.Engine.ready then) c.in_ok-second-in-None.second
+          (rw (c.in-None.is, is) at c.take.ensures.stepped.drained) answered _ (kept.shows _ []) (Ok _) _
+          (ap Ok out.2) (stays-then (g.E.Engine.filter c.args.engine.now) (g.E.Engine.shows then)
+          (g.E.Engine.ready then) lines (record { notice = c.in-Warned-default-true.notice; line = line }) line
+          c.in_ok-second-in-None.second answered) c.in_ok-carry_out-in-None.ensures.settled;
     }

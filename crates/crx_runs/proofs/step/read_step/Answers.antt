@@ -1,11 +1,12 @@
-use Rattle.std.proofs.{lemmas.Result.err_from_is_err_and, Common.{◌≡◌, inl, inr, List, Ok, refl, sym, ap}}
+use Rattle.std.proofs.{lemmas.Result.err_from_is_err_and, Common.{◌≡◌, inl, inr, List, Ok, Err, refl, sym, ap}}
 use Rattle.std.proofs.Common.{subst, ◌∙◌, arith}
 use Rattle.crx_lines.specs.{Progress.HasRead, Reading.ReaderState, Readers.reading}
 use Rattle.crx_lines.specs.{declared.phase.Phase.TheVariants.Ended, meaning.Devices.{Tally, tally_of}}
 use Rattle.crx_base.specs.meaning.Lines.{InputLine}
 use Rattle.crx_runs.proofs.StepReading.{HasAsked, line-read, overlong-read, stop-read, end-read}
-use Rattle.crx_runs.proofs.{StepReading.{ended-not-open}, RunningSteps.{goes-by, ends-by}}
+use Rattle.crx_runs.proofs.{StepReading.{ended-not-open}, RunningSteps.goes-by}
 use Rattle.crx_runs.proofs.{step.read_step.Goals.After-next_line, step.read_step.Given.Over, DeviceSpans.span-joins}
+use Rattle.std.specs.Prelude.{⊤}
 use Rattle.crx_runs.proofs.step.read_step.Goals as goal
 
 -- How often a reader has failed and has told the end.
@@ -26,20 +27,20 @@ asked = grind arith
 pub returns-in_ok-take_line-in-Ok-Some-clause-goes : goal.returns-in_ok-take_line-in-Ok-Some-clause-goes
 returns-in_ok-take_line-in-Ok-Some-clause-goes g c = λ r0 w0 m0 lines shown running.
     let at = (goal.at.returns-in_ok-take_line-in-Ok-Some-clause-goes g c).After-next_line in
-    goes-by (span-joins g.W.Sink g.met.W.Sink.took_both) (span-joins g.M.Sink g.met.M.Sink.took_both)
+    goes-by (g.E.Engine.filter c.args.engine.now) (span-joins g.W.Sink g.met.W.Sink.took_both) (span-joins g.M.Sink g.met.M.Sink.took_both)
     running (line-read (asked g at) (g.met.R.Source.gave_both r0 _ _) running.read _
-    (c.in-Ok-Some.is ∙ ap Ok c.in-Ok-Some.field-0-is))
-    (c.in_ok-take_line-in-Ok-Some.ensures.taken.done lines _ shown refl)
+    (c.in-Ok-Some.is ∙ ap Ok c.in-Ok-Some.field-0-is)) _ (Ok _)
+    (c.in_ok-take_line-in-Ok-Some.ensures.taken.becomes lines _ shown refl)
 
 pub returns-in_err-take_line-in-Ok-Some-clause-goes : goal.returns-in_err-take_line-in-Ok-Some-clause-goes
 returns-in_err-take_line-in-Ok-Some-clause-goes g c = λ r0 w0 m0 lines shown running.
     let at = (goal.at.returns-in_err-take_line-in-Ok-Some-clause-goes g c).After-next_line in
     let p = err_from_is_err_and c.from_residual.result c.from_residual.ensures.1 in
-    rw (p.1, p.2) (inr (inl (ends-by (span-joins g.W.Sink g.met.W.Sink.took_both)
+    rw (p.1, p.2) (goes-by (g.E.Engine.filter c.args.engine.now) (span-joins g.W.Sink g.met.W.Sink.took_both)
     (span-joins g.M.Sink g.met.M.Sink.took_both) running
     (line-read (asked g at) (g.met.R.Source.gave_both r0 _ _) running.read _
-    (c.in-Ok-Some.is ∙ ap Ok c.in-Ok-Some.field-0-is)) _
-    (c.in_err-take_line-in-Ok-Some.ensures.taken.cut lines _ shown refl))))
+    (c.in-Ok-Some.is ∙ ap Ok c.in-Ok-Some.field-0-is)) (λ ls notices. ⊤) (Err _)
+    (c.in_err-take_line-in-Ok-Some.ensures.taken.becomes lines _ shown refl))
 
 pub returns-in-Ok-None-clause-goes : goal.returns-in-Ok-None-clause-goes
 returns-in-Ok-None-clause-goes g c = λ r0 w0 m0 lines shown running.
@@ -67,8 +68,8 @@ returns-in_ok-take_overlong-in-LineTooLong-clause-goes g c = λ r0 w0 m0 lines s
     let at = (goal.at.returns-in_ok-take_overlong-in-LineTooLong-clause-goes g c).After-next_line in
     let over = overlong-read (asked g at) (g.met.R.Source.gave_both r0 _ c.next_line.new.reader) running.read
     c.in-Err.at c.in-Err.is c.in-LineTooLong.is in
-    goes-by (span-joins g.W.Sink g.met.W.Sink.took_both) (span-joins g.M.Sink g.met.M.Sink.took_both)
-    running over.2 (c.in_ok-take_overlong-in-LineTooLong.ensures.taken.done lines over.0 shown over.1)
+    goes-by (g.E.Engine.filter c.args.engine.now) (span-joins g.W.Sink g.met.W.Sink.took_both) (span-joins g.M.Sink g.met.M.Sink.took_both)
+    running over.2 _ (Ok _) (c.in_ok-take_overlong-in-LineTooLong.ensures.taken.becomes lines over.0 shown over.1)
 
 pub returns-in_err-take_overlong-in-LineTooLong-clause-goes :
     goal.returns-in_err-take_overlong-in-LineTooLong-clause-goes
@@ -78,9 +79,9 @@ returns-in_err-take_overlong-in-LineTooLong-clause-goes g c = λ r0 w0 m0 lines 
     c.in-Err.at c.in-Err.is c.in-LineTooLong.is in
     let made = c.from_residual-in_err-take_overlong-in-LineTooLong in
     let p = err_from_is_err_and made.result made.ensures.1 in
-    rw (p.1, p.2) (inr (inl (ends-by (span-joins g.W.Sink g.met.W.Sink.took_both)
-    (span-joins g.M.Sink g.met.M.Sink.took_both) running over.2 _
-    (c.in_err-take_overlong-in-LineTooLong.ensures.taken.cut lines over.0 shown over.1))))
+    rw (p.1, p.2) (goes-by (g.E.Engine.filter c.args.engine.now) (span-joins g.W.Sink g.met.W.Sink.took_both)
+    (span-joins g.M.Sink g.met.M.Sink.took_both) running over.2 (λ ls notices. ⊤) (Err _)
+    (c.in_err-take_overlong-in-LineTooLong.ensures.taken.becomes lines over.0 shown over.1))
 
 pub returns-in_default-clause-goes : goal.returns-in_default-clause-goes
 returns-in_default-clause-goes g c = λ r0 w0 m0 lines shown running.

@@ -1,4 +1,4 @@
-use Rattle.std.proofs.Common.{inl, inr, ◌||◌, [], sym, ap, arith, ◌∙◌}
+use Rattle.std.proofs.Common.{inl, inr, [], refl, arith, ◌∙◌}
 use Rattle.crx_lines.specs.Readers.{reading}
 use Rattle.crx_runs.proofs.{DeviceSpans.span-joins, RunningSteps.{go-on, stopped-end, well-done}}
 use Rattle.crx_runs.proofs.work.take_all.{Given.Over, Goals.{After-step, In-Ok}}
@@ -12,22 +12,11 @@ goes : (g : Over) (c : After-step g) → StepGoes (g.E.Engine.filter c.args.engi
     (reading c.step.new.input) c.lines.invariant.0.0 c.step.result
 goes = grind arith
 
-pub lines-preserved-then-warned : goal.lines-preserved-then-warned
-lines-preserved-then-warned g c =
-    let by = rw (c.in-Ok-Some.is, c.in-Ok-Some.field-0-is) at
-    (goes g (goal.at.lines-preserved-then-warned g c).After-step) in (
-      go-on c.lines.invariant.0.3 by
-          (c.if-warned.true ∙ sym (ap (λ b. b || c.in-Ok-Some.warning) c.if-warned.true)),
-      c.in-Ok-Some.ensures.stepped.drained,
-      c.step.ensures.stepped.filter ∙ c.lines.invariant.2,
-      c.in-Ok-Some.ensures.stepped.counted,
-    )
-
 pub lines-preserved : goal.lines-preserved
 lines-preserved g c =
     let by = rw (c.in-Ok-Some.is, c.in-Ok-Some.field-0-is) at (goes g (goal.at.lines-preserved g
     c).After-step) in (
-      go-on c.lines.invariant.0.3 by (ap (λ b. b || c.in-Ok-Some.warning) (sym c.if-warned.false)),
+      go-on c.lines.invariant.0.3 by refl,
       c.in-Ok-Some.ensures.stepped.drained,
       c.step.ensures.stepped.filter ∙ c.lines.invariant.2,
       c.in-Ok-Some.ensures.stepped.counted,
@@ -40,25 +29,14 @@ end-done : (g : Over) (c : In-Ok g) → g.E.Engine.shows c.step.new.engine c.lin
     c.take_end.new.engine c.lines.invariant.0.0) (span g.W.Sink c.step.new.writer c.take_end.new.writer)
     (span g.M.Sink c.step.new.messages c.take_end.new.messages) c.in-Ok.warning
 end-done g c shown = rw (← c.lines.invariant.2, ← c.step.ensures.stepped.filter)
-    (c.in-Ok.ensures.taken.done _ shown)
+    (c.in-Ok.ensures.taken.becomes _ shown)
 
-pub returns-then-warned-2 : goal.returns-then-warned-2
-returns-then-warned-2 g c =
-    let at = goal.at.returns-then-warned-2 g c in
+pub returns-in-Ok : goal.returns-in-Ok
+returns-in-Ok g c =
+    let at = goal.at.returns-in-Ok g c in
     let comes = rw (c.in-Ok-None.is, c.in-Ok-None.field-0-is) at (goes g at.After-step) in
     well-done (span-joins g.W.Sink g.met.W.Sink.took_both) (span-joins g.M.Sink g.met.M.Sink.took_both) comes
-    c.number-last.ensures.value c.lines.invariant.0.3
-    (c.if-warned-2.true ∙ sym (ap (λ b. b || c.in-Ok.warning) c.if-warned-2.true))
-    (end-done g at.In-Ok comes.shown)
-
-pub returns-else-warned-2 : goal.returns-else-warned-2
-returns-else-warned-2 g c =
-    let at = goal.at.returns-else-warned-2 g c in
-    let comes = rw (c.in-Ok-None.is, c.in-Ok-None.field-0-is) at (goes g at.After-step) in
-    well-done (span-joins g.W.Sink g.met.W.Sink.took_both) (span-joins g.M.Sink g.met.M.Sink.took_both) comes
-    c.number-last.ensures.value c.lines.invariant.0.3 (ap (λ b. b || c.in-Ok.warning) (sym
-    c.if-warned-2.false))
-    (end-done g at.In-Ok comes.shown)
+    c.number-last.ensures.value c.lines.invariant.0.3 refl (end-done g at.In-Ok comes.shown)
 
 pub take_end-requires-clause-within : goal.take_end-requires-clause-within
 take_end-requires-clause-within g c =
@@ -75,11 +53,11 @@ returns-in-Err-take_end g c =
     g.met.M.Sink.took_both)
     comes c.number-last.ensures.value c.in-Err-take_end.halt
     (rw (c.step.ensures.stepped.filter, c.lines.invariant.2) at
-    (c.in-Err-take_end.ensures.taken.cut _ comes.shown))))
+    (c.in-Err-take_end.ensures.taken.becomes _ comes.shown))))
 
 pub returns-in-Err : goal.returns-in-Err
-returns-in-Err g c = inl (record {
-  lines = c.lines.invariant.0.0;
-  stops = rw c.in-Err.is at (goes g (goal.at.returns-in-Err g c).After-step);
-  last_is = c.number.ensures.value;
-})
+returns-in-Err g c = inl (
+  c.lines.invariant.0.0,
+  rw c.in-Err.is at (goes g (goal.at.returns-in-Err g c).After-step),
+  c.number.ensures.value,
+)

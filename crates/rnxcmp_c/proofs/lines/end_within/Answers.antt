@@ -1,7 +1,7 @@
 use Rattle.std.proofs.{Common.arith, lemmas.Grind.common_steps}
-use Rattle.rnxcmp_c.proofs.{Cut.{halted-stops, kept-where_done}, WithinLemmas.{Ended, Kept, marks-within}}
+use Rattle.rnxcmp_c.proofs.{Cut.end-kept, WithinLemmas.{Ended, Kept, marks-within}}
 use Rattle.rnxcmp_c.proofs.{WithinLemmas.{step-stays, step-stops}, Words.{List, [], None, refl, IfErr-weaker}}
-use Rattle.rnxcmp_c.proofs.{Words.{IfOk-weaker, on_ok_weaker, InputLine, HandleState}}
+use Rattle.rnxcmp_c.proofs.{Words.{on_ok_weaker, InputLine, HandleState}}
 use Rattle.rnxcmp_c.proofs.{lines.end_within.Given.Over}
 use Rattle.rnxcmp_c.proofs.lines.end_within.Goals.{After-take_end-taken}
 use Rattle.rnxcmp_c.proofs.lines.end_within.Goals as goal
@@ -21,13 +21,9 @@ came : (g : Over) (c : After-take_end-taken g) (lines : List InputLine)
     (g.E.Engine.has_ended c.take_end-taken.new.engine lines) c.args.held.now (mid g c) c.take_end-taken.result
 came g c lines shown =
     let held = c.args.held.now in
-    let taken = c.take_end-taken in (
-      IfOk-weaker taken.result _ _
-          (grind (arith, common_steps, kept-where_done)) (taken.ensures.taken.done lines shown),
-      IfErr-weaker taken.result _ _
-          (λ halt cut. halted-stops _ _ held.output taken.new.writer held.messages taken.new.messages
-          held.number _ halt cut.0) (taken.ensures.taken.cut lines shown),
-    )
+    let taken = c.take_end-taken in
+    end-kept _ _ held.output taken.new.writer held.messages taken.new.messages _ held.number _ taken.result
+    (taken.ensures.taken.becomes lines shown)
 
 pub counted-requires : goal.counted-requires
 counted-requires g c = grind (arith, common_steps, came, marks-within)

@@ -1,7 +1,7 @@
 use Rattle.std.proofs.{lemmas.Bool.lt-ltb}
-use Rattle.rnxcmp_c.proofs.{Cut.{cut-stops, kept-where_done}, PieceLemmas.long-where_long}
+use Rattle.rnxcmp_c.proofs.{Cut.line-kept, PieceLemmas.long-where_long}
 use Rattle.rnxcmp_c.proofs.{PieceLemmas.whole-where_not_long, Words.{◌≡◌, ap, refl, subst, ◌∙◌}}
-use Rattle.rnxcmp_c.proofs.Words.{rules, IfErr-weaker, IfOk-weaker, InputLine, LINE_LIMIT, piece_line}
+use Rattle.rnxcmp_c.proofs.Words.{rules, InputLine, LINE_LIMIT, piece_line}
 use Rattle.rnxcmp_c.{proofs.lines.offer_line.Goals.{then-is_ended, else-is_ended}, specs.Going.LineIsGiven}
 use Rattle.crx_lines.specs.Reading.{line_shown}
 use Rattle.rnxcmp_c.proofs.lines.offer_line.Goals as goal
@@ -12,13 +12,9 @@ returns-then-content-gt-LINE_LIMIT-clause-step g c = λ lines whole shown kept.
     let output = c.args.output.now in
     let messages = c.args.messages.now in
     let long = lt-ltb _ _ (long-where_long _ whole kept
-    (rw c.content_of-has_return.ensures.content at c.if-content-gt-LINE_LIMIT.true)) in (
-      IfOk-weaker _ _ _ (λ warned done. kept-where_done _ _ output _ _ _ _ warned done)
-          (taken.ensures.taken.done lines _ shown long),
-      IfErr-weaker taken.result _ _
-          (λ halt cut. cut-stops _ _ output taken.new.writer messages taken.new.messages _ _ halt cut)
-          (taken.ensures.taken.cut lines (piece_line whole _) shown long),
-    )
+    (rw c.content_of-has_return.ensures.content at c.if-content-gt-LINE_LIMIT.true)) in
+    line-kept _ _ output taken.new.writer messages taken.new.messages _ _ _ taken.result
+    (taken.ensures.taken.becomes lines (piece_line whole _) shown long)
 
 pub returns-clause-step : goal.returns-clause-step
 returns-clause-step g c = λ lines whole shown kept.
@@ -31,10 +27,5 @@ returns-clause-step g c = λ lines whole shown kept.
     elim c.if-is_ended.branch [ then-is_ended w ↦ search rules | else-is_ended w ↦ search rules ] in
     subst (λ (line : InputLine). LineIsGiven taken.result (g.E.Engine.filter c.args.engine.now)
     (g.E.Engine.shows taken.new.engine) lines line output taken.new.writer messages taken.new.messages)
-    (same ∙ ap (λ bs. piece_line bs c.args.is_ended) all) (
-      IfOk-weaker _ _ _ (λ warned done. kept-where_done _ _ output _ _ _ _ warned done)
-          (taken.ensures.taken.done lines _ shown refl),
-      IfErr-weaker taken.result _ _
-          (λ halt cut. cut-stops _ _ output taken.new.writer messages taken.new.messages _ _ halt cut)
-          (taken.ensures.taken.cut lines _ shown refl),
-    )
+    (same ∙ ap (λ bs. piece_line bs c.args.is_ended) all) (line-kept _ _ output taken.new.writer messages
+    taken.new.messages _ _ _ taken.result (taken.ensures.taken.becomes lines _ shown refl))
