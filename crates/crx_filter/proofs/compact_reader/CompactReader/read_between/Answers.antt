@@ -1,4 +1,4 @@
-use Rattle.crx_filter.proofs.{Words.{ap, refl, subst, sym, ◌∙◌}, steps.HeldRows.nothing-held}
+use Rattle.crx_filter.proofs.{Words.{ap, subst, sym, ◌∙◌}, steps.HeldRows.nothing-held}
 use Rattle.crx_compact.specs.{Placing.KeepsRooms, ReadingRooms.HeldColumns}
 use Rattle.crx_filter.proofs.compact_reader.CompactReader.read_between.Goals.{then-branch, else-branch}
 use Rattle.crx_filter.proofs.compact_reader.CompactReader.read_between.Goals as goal
