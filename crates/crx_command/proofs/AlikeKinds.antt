@@ -10,7 +10,7 @@ use Rattle.clap.specs.Faults.{fault_of, flag_word_fault, flags_fault, level_faul
 use Rattle.clap.specs.Faults.{other_fault, positional_fault, react_fault, set_fault}
 use Rattle.clap.specs.Faults.{settle_fault, short_fault, step_fault, stray_fault, turn_fault, use_fault}
 use Rattle.clap.specs.{Faults.walk_fault, Kinds.{IsAmong, Kinds, check_kinds, or_else}}
-use Rattle.clap.specs.Kinds.{value_kinds, values_kinds}
+use Rattle.clap.specs.Kinds.{values_kinds}
 use Rattle.clap.specs.Simple.{App, Shape, argument_words, built}
 use Rattle.clap.specs.Walk.{Held, Names, Row, Rule, Step}
 use Rattle.clap.specs.Walk.{Text, Waiting, Walk, nothing_held}
@@ -41,19 +41,17 @@ alike_option = grind (arith, common_steps, alike_none)
 
 -- ---- one use of an argument
 
-alike_value : (i : Bool) (p : ValueParser) (text : Text) → Alike (value_kinds i p text)
-alike_value i p text = grind (arith, common_steps, alike_if, alike_none, alike_one)
-
 alike_values : (i : Bool) (p : ValueParser) (texts : List Text) → Alike (values_kinds i p texts)
 alike_values i p [] = alike_none
-alike_values i p (text ∷ rest) = grind (arith, common_steps, alike_or, alike_value, alike_values i p rest)
+alike_values i p (text ∷ rest) =
+    search (rules, alike_or, alike_if, alike_none, alike_one, alike_values i p rest)
 
 alike_count : (a : Rule) (values : List Text) (rows : List Row) → Alike (count_fault a values rows)
-alike_count = grind (arith, common_steps, alike_value, alike_values)
+alike_count = grind (arith, common_steps, alike_if, alike_none, alike_one, alike_values)
 
 alike_set : (again : Bool) (a : Rule) (values : List Text) (rows : List Row)
     → Alike (set_fault again a values rows)
-alike_set = grind (arith, common_steps, alike_or, alike_if, alike_one, alike_none, alike_values)
+alike_set = search (rules, alike_or, alike_if, alike_one, alike_none, alike_values)
 
 alike_action : (x : ArgAction) (again : Bool) (a : Rule) (values : List Text) (rows : List Row)
     → Alike (action_fault x again a values rows)
@@ -128,12 +126,9 @@ disabled s (Some name) word h off = rw (off, and-false) alike_none
 alike_positional : (c : List Rule) (again : Bool) (a : Rule) (h : Held) → Alike (positional_fault c again a h)
 alike_positional c again a h = alike_if _ _ _ alike_none (alike_settle c again h)
 
-alike_stray : (s : Shape) → Alike (stray_fault s)
-alike_stray s = grind arith
-
 alike_position : (s : Shape) (h : Held) (found : Option Rule)
     → Alike (option_map_or (λ a. positional_fault s.rules s.args_override_self a h) found (stray_fault s))
-alike_position = grind (arith, common_steps, alike_stray, alike_positional)
+alike_position = grind (arith, common_steps, alike_if, alike_one, alike_positional)
 
 alike_step : (s : Shape) (position : ℕ) (h : Held) (step : Step) → Alike (step_fault s position h step)
 alike_step = grind (arith, common_steps, alike_position, alike_none)
