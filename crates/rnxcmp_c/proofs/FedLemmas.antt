@@ -1,49 +1,36 @@
--- What became of a run by some bytes, of which it may have as many as an input may have.
-use Rattle.std.proofs.lemmas.{Grind.common_steps, List.take-take}
-use Rattle.rnxcmp_c.proofs.Words.{◌≡◌, ◌∙◌, ℕ, ◌-◌, ◌<◌, ◌≤◌, ap, false, List, length, take, Option, None}
-use Rattle.rnxcmp_c.proofs.Words.{is_some, arith}
-use Rattle.rnxcmp_c.proofs.Words.{length-take, INPUT_LIMIT, Outcome, FeedsBy, FeedsBytes, HasFed, ReaderRuns}
-use Rattle.rnxcmp_c.proofs.Words.{StandsBy, answer_now, HandlePast, fed_with, Task, StopsSoon}
-use Rattle.rnxcmp_c.proofs.Words.{filter_for, Answer, Reader}
-use Rattle.rnxcmp_c.specs.Handles.{IsFed, ReaderHasPassed}
+-- How many bytes a call takes, of those that an input may still have.
+use Rattle.std.proofs.lemmas.Grind.{common_steps}
+use Rattle.rnxcmp_c.proofs.Words.{◌≡◌, ℕ, ◌-◌, ◌<◌, false, true, List, length, take, arith, length-append, INPUT_LIMIT}
+use Rattle.rnxcmp_c.proofs.Words.{HandleState, BothTexts, Task, run_for, texts_of_held, ready_in, READY_LIMIT}
+use Rattle.rnxcmp_c.specs.{Going.IsTaken, Past.StopsSoon, meaning.Handles.TakesBytes}
 
-module _ (task : Task) (old new : Reader) (past : HandlePast) (bytes allowed : List ℕ) (used : ℕ)
-    (answer : Answer) (first : allowed ≡ take (INPUT_LIMIT - old.fed) bytes) (answers : answer ≡ answer_now
-    new)
-    (runs : ReaderRuns task old past) where
-  -- an input may have some of them, or there are none
-  pub fed-bytes : (0 < length bytes → 0 < length allowed)
-      → HasFed past.fed task new (fed_with past (take used allowed)) → IsFed old new (length allowed) used
-      → (new.outcome ≡ None → 0 < used → StopsSoon (filter_for task) past allowed used)
-      → FeedsBytes task old new past bytes used answer
-  fed-bytes some fed count soon =
-      let most : ℕ = INPUT_LIMIT - length past.fed in
-      let same : allowed ≡ take most bytes = first ∙ ap (λ n. take (INPUT_LIMIT - n) bytes) runs.counted in
-      let few : used ≤ most = omega (arith, count.within, ap length same, length-take most bytes) in
-      grind (
-        arith,
-        common_steps,
-        take-take used most bytes few,
-        same,
-        fed,
-        soon,
-        count.some,
-        count.all,
-        count.still,
-      )
+module _ (task : Task) (fed : List ℕ) (taken : BothTexts) (bytes allowed : List ℕ)
+    (first : allowed ≡ take (INPUT_LIMIT - length fed) bytes) (old new : HandleState) (used : ℕ) where
+  -- the run goes on
+  pub takes-some : (0 < length bytes → 0 < length allowed) → IsTaken old new (length allowed) used
+      → (0 < used → StopsSoon (run_for task) fed taken allowed used)
+      → TakesBytes (run_for task) fed taken bytes used (texts_of_held old) (texts_of_held new) false
+  takes-some some count soon = record {
+    allowed = allowed;
+    allowed_is = first;
+    within = count.within;
+    some = grind (arith, common_steps, length-append, count.some);
+    all = grind (arith, common_steps, length-append, count.all);
+    soon = λ _ more. soon more;
+    still = grind (arith, common_steps, length-append, count.still);
+    over = grind arith;
+  }
 
-  -- there are some, and an input may have none of them
-  pub passed-bytes : 0 < length bytes → length allowed ≡ 0 → used ≡ 0 → ReaderHasPassed task new past
-      → FeedsBytes task old new past bytes used answer
-  passed-bytes = grind arith
-
--- a run that hasn't ended goes on
-pub runs-where_none : (task : Task) (reader : Reader) (past : HandlePast) (outcome : Option Outcome)
-    → is_some outcome ≡ false → StandsBy task reader past outcome → ReaderRuns task reader past
-runs-where_none = grind arith
-
-pub fed-by : (task : Task) (old new : Reader) (past : HandlePast) (bytes : List ℕ) (used : ℕ) (answer :
-    Answer)
-    (outcome : Option Outcome) → is_some outcome ≡ false → FeedsBytes task old new past bytes used answer
-    → FeedsBy task old new past bytes used answer outcome
-fed-by = grind arith
+  -- all that the input may still have ended it
+  pub takes-all : used ≡ length allowed → (0 < length allowed → ready_in old < READY_LIMIT)
+      → TakesBytes (run_for task) fed taken bytes used (texts_of_held old) (texts_of_held new) true
+  takes-all all low = record {
+    allowed = allowed;
+    allowed_is = first;
+    within = grind arith;
+    some = grind arith;
+    all = grind arith;
+    soon = grind arith;
+    still = grind (arith, common_steps, length-append);
+    over = grind arith;
+  }

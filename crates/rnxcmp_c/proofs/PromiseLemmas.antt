@@ -1,16 +1,15 @@
 -- What the state of a reader says of its run, in the words of the promise.
-use Rattle.std.proofs.Common.{rules}
-use Rattle.std.proofs.{lemmas.Grind.common_steps}
-use Rattle.rnxcmp_c.proofs.Words.{◌≡◌, ◌⊎◌, inl, inr, ⊎_elim, ℕ, ◌<◌, List, [], ◌∷◌, ◌++◌, length}
+use Rattle.std.proofs.lemmas.Grind.{common_steps}
+use Rattle.rnxcmp_c.proofs.Words.{◌≡◌, ◌⊎◌, inl, inr, ⊎_elim, ℕ, List, [], ◌∷◌, ◌++◌}
 use Rattle.rnxcmp_c.proofs.Words.{take, drop, append_assoc, Option, Some, None, is_some, true, false, arith}
 use Rattle.rnxcmp_c.proofs.Words.{refl, sym, ◌∙◌, subst, append-nil, InputLine, lines_of, At}
 use Rattle.rnxcmp_c.proofs.Words.{with_next, notices_text, Begins, FilterResult}
-use Rattle.rnxcmp_c.proofs.Words.{AreNext, Outcome, IsLastLine}
+use Rattle.rnxcmp_c.proofs.Words.{AreNext, Outcome}
+use Rattle.rnxcmp_c.specs.{Going.IsLastLine, Handles.ReaderHasEnded}
 use Rattle.rnxcmp_c.proofs.Words.{ReaderStands}
-use Rattle.rnxcmp_c.proofs.Words.{StandsBy, answer_now, FeedsBy, HasEndedBy}
-use Rattle.rnxcmp_c.proofs.Words.{HasFedBy, HasPassedBy, ReaderHasEnded, texts_of_held, Holds, Handle}
-use Rattle.rnxcmp_c.proofs.Words.{HandlePast, fed_with, filter_for}
-use Rattle.rnxcmp_c.proofs.Words.{past_of, result_for, texts_made, Answer}
+use Rattle.rnxcmp_c.proofs.Words.{StandsBy, answer_now, HasEndedBy}
+use Rattle.rnxcmp_c.proofs.Words.{HasFedBy, texts_of_held, Holds, Handle, FeedsBytes}
+use Rattle.rnxcmp_c.proofs.Words.{filter_for, result_for, Answer, joined_texts}
 use Rattle.rnxcmp_c.proofs.Words.{Reader, BothTexts, RunHasEnded, StopsAtLimit, StopsForMemory}
 use Rattle.rnxcmp_c.proofs.Words.{Task, Compact, Expand, Check, handle_answer, run_for}
 use Rattle.rnxcmp_c.proofs.{Cut.begins-next, HandleLemmas.{either-fed, ends-stands, feeds-stands, none-fed}}
@@ -20,8 +19,8 @@ use Rattle.rnxcmp_c.proofs.Words.{with_one_more, bare_answer, MISUSED}
 use Rattle.rnxcmp_c.specs.Opened.{EndsHandle, FeedsHandle, HandleStands, IsSoundHandle, has_ended, run_state}
 use Rattle.rnxcmp_c.specs.{Handles.{fault_now, status_now}, Opened.texts_kept}
 use Rattle.rnxcmp_c.specs.meaning.Handles.{HandlePromise, RunWasEnded, TakesBytes, joined_texts}
-use Rattle.crx_filter.proofs.{following.DirectionSteps.{compaction-goes, expansion-goes}}
-use Rattle.crx_filter.proofs.{reading.Prefixes.warnings-go_on}
+use Rattle.crx_filter.proofs.following.DirectionSteps.{compaction-goes, expansion-goes}
+use Rattle.crx_filter.proofs.reading.Prefixes.{warnings-go_on}
 
 -- ---- warnings
 
@@ -90,70 +89,55 @@ answer_by outcome reader = handle_answer (status_now outcome) (fault_now outcome
 
 -- ---- the cases
 
-module _ (task : Task) (reader : Reader) (past : HandlePast) where
+module _ (task : Task) (reader : Reader) (fed : List ℕ) (taken : BothTexts) where
   abbrev kept : BothTexts
   kept = texts_of_held reader.held
 
   abbrev made : BothTexts
-  made = texts_made past kept
+  made = joined_texts taken kept
 
-  stands-by : (outcome : Option Outcome) → StandsBy task reader past outcome
-      → HandlePromise outcome (run_for task) past.fed made kept (answer_by outcome reader)
+  stands-by : (outcome : Option Outcome) → StandsBy task reader fed taken outcome
+      → HandlePromise outcome (run_for task) fed made kept (answer_by outcome reader)
   stands-by None runs = grind arith
-  stands-by (Some outcome) (ended, few) = record {
+  stands-by (Some outcome) over = record {
     goes_on = λ none. absurd (cc);
     answered = λ other is. cc;
-    ended = λ _. ended-as _ _ made kept _ ended (λ result is. grind arith);
-    within = few;
+    ended = λ _. (ended-as over (λ result is. grind arith)).ended;
+    within = over.few;
   }
 
   -- how a run stands whose end was reported
   abbrev Last : FilterResult → Type 0
-  Last result = (result ≡ result_for task past.fed) ⊎ (StopsAtLimit (run_for task) past.fed result
-      ⊎ StopsForMemory (IsLastLine past.fed) (run_for task) past.fed result)
+  Last result = (result ≡ result_for task fed) ⊎ (StopsAtLimit (run_for task) fed result
+      ⊎ StopsForMemory (IsLastLine fed) (run_for task) fed result)
 
-  ended-by : (outcome : Option Outcome) → HasEndedBy task reader past outcome
-      → (is_some outcome ≡ true) × RunHasEnded Last made kept (answer_by outcome reader)
-  ended-by None ended = absurd ended
-  ended-by (Some outcome) (ended, few) =
-      (refl, ended-as _ _ made kept _ ended (λ result is. grind arith))
+  ended-by : {P Q : FilterResult → Type 0} (outcome : Option Outcome) → HasEndedBy task P reader taken outcome
+      → ((result : FilterResult) → P result → Q result)
+      → (is_some outcome ≡ true) × RunHasEnded Q made kept (answer_by outcome reader)
+  ended-by None ended weaker = absurd ended
+  ended-by (Some outcome) ended weaker = (refl, (ended-as ended weaker).ended)
 
   fed-ended : (before left : List ℕ) (outcome : Option Outcome) → is_some outcome ≡ true
-      → HasFedBy before task reader past outcome
-      → RunWasEnded (run_for task) before past.fed left made kept (answer_by outcome reader)
-  fed-ended before left None ended fed = absurd (cc)
-  fed-ended before left (Some outcome) ended fed =
-      inl (λ (more : List ℕ). ended-as _ _ made kept _ (fed more).0 (λ result is. grind arith))
-
-  passed-ended : (left : List ℕ) → 0 < length left → (outcome : Option Outcome)
-      → HasPassedBy task reader past outcome
-      → RunWasEnded (run_for task) past.fed past.fed left made kept (answer_by outcome reader)
-  passed-ended = grind arith
+      → HasFedBy before task reader fed taken outcome
+      → RunWasEnded (run_for task) before fed left made kept (answer_by outcome reader)
+  fed-ended before left None ended over = absurd (cc)
+  fed-ended before left (Some outcome) ended over =
+      inl (λ (more : List ℕ). (ended-as (over more) (λ result is. grind arith)).ended)
 
 -- what bytes have ended
 module _ (task : Task) (old new : Reader) (fed : List ℕ) (taken : BothTexts) (bytes : List ℕ) (used : ℕ)
     (answer : Answer) where
-  abbrev past : HandlePast
-  past = past_of fed taken
+  abbrev BytesEnded : List ℕ → ℕ → Type 0
+  BytesEnded then count = RunWasEnded (run_for task) fed then (drop count bytes)
+      (joined_texts taken (texts_of_held new.held)) (texts_of_held new.held) (answer_now new)
 
-  abbrev BytesEnded : HandlePast → ℕ → Type 0
-  BytesEnded then count = RunWasEnded (run_for task) fed then.fed (drop count bytes)
-      (texts_made then (texts_of_held new.held)) (texts_of_held new.held) (answer_now new)
-
-  feeds-ended : (outcome : Option Outcome) → is_some outcome ≡ false → is_some new.outcome ≡ true
-      → FeedsBy task old new past bytes used answer outcome
-      → BytesEnded (fed_with past (take used bytes)) used
-  feeds-ended None runs ended feeds =
-      ⊎_elim (fed-ended task new (fed_with past (take used bytes)) fed (drop used bytes) new.outcome ended)
-      (λ passed. subst (λ (then : HandlePast). BytesEnded then used) (none-fed past bytes used passed.1)
-      (rw passed.1 (passed-ended task new past bytes passed.0 new.outcome passed.2))) (either-fed feeds)
-  feeds-ended (Some outcome) runs ended feeds = absurd (cc)
-
-  takes-bytes : (outcome : Option Outcome) → is_some outcome ≡ false
-      → FeedsBy task old new past bytes used answer outcome
-      → TakesBytes (run_for task) fed taken bytes used (texts_of_held old.held) (texts_of_held new.held)
-      (is_some new.outcome)
-  takes-bytes = grind (arith, common_steps, is_some)
+  feeds-ended : is_some new.outcome ≡ true → FeedsBytes task old new fed taken bytes used answer
+      → BytesEnded (fed ++ take used bytes) used
+  feeds-ended ended feeds =
+      ⊎_elim (fed-ended task new (fed ++ take used bytes) taken fed (drop used bytes) new.outcome ended)
+      (λ passed. subst (λ (then : List ℕ). BytesEnded then used) (none-fed fed bytes used passed.1)
+      (rw passed.1 (inr (passed.0, refl, (ended-by task new fed taken new.outcome passed.2 (λ result is. is)).1))))
+      (either-fed feeds)
 
 -- ---- a handle
 
@@ -164,21 +148,20 @@ sound-holds sound is_open = let is = sound is_open in (is.3.reader, is.3.holds)
 
 -- a handle stands as the reader does that it holds
 pub stood : {task : Task} {handle : Handle} {fed : List ℕ} {taken : BothTexts} {reader : Reader}
-    → Holds handle reader → HandleStands task handle fed taken → ReaderStands task reader (past_of fed taken)
+    → Holds handle reader → HandleStands task handle fed taken → ReaderStands task reader fed taken
 stood {task} {handle} {fed} {taken} {reader} holds stands = grind arith
 
--- so it has a past by which its reader stands
+-- so there is that by which its reader stands
 pub sound-stands : {handle : Handle} {reader : Reader} → IsSoundHandle handle → handle.is_open ≡ true
-    → Holds handle reader → (task : Task) × (past : HandlePast) × ReaderStands task reader past
-sound-stands sound is_open holds =
-    let is = sound is_open in (is.0, past_of is.1 is.2, stood holds is.3)
+    → Holds handle reader → (task : Task) × (fed : List ℕ) × (taken : BothTexts) × ReaderStands task reader fed taken
+sound-stands sound is_open holds = let is = sound is_open in (is.0, is.1, is.2, stood holds is.3)
 
 pub handle-promise : {task : Task} {handle : Handle} {fed : List ℕ} {taken : BothTexts} {reader : Reader}
     {answer : Answer} → HandleStands task handle fed taken → Holds handle reader → answer ≡ answer_now reader
     → HandlePromise (run_state handle) (run_for task) fed (joined_texts taken (texts_kept handle))
     (texts_kept handle) answer
 handle-promise {task} {handle} {fed} {taken} {reader} {answer} stands holds answers =
-    rw (holds, answers) (stands-by task reader (past_of fed taken) reader.outcome (stood holds stands))
+    rw (holds, answers) (stands-by task reader fed taken reader.outcome (stood holds stands))
 
 -- what is promised of a handle that was fed
 module _ {task : Task} {old new : Handle} {fed : List ℕ} {taken : BothTexts} {bytes : List ℕ} {used : ℕ}
@@ -189,7 +172,7 @@ module _ {task : Task} {old new : Handle} {fed : List ℕ} {taken : BothTexts} {
     reader = is.after;
     is_open = is.is_open;
     holds = is.holds;
-    stands = feeds-stands task is.before is.after (past_of fed taken) bytes used answer is.before.outcome
+    stands = feeds-stands task is.before is.after fed taken bytes used answer is.before.outcome
         (stood is.held stands) is.feeds;
   }
 
@@ -198,18 +181,22 @@ module _ {task : Task} {old new : Handle} {fed : List ℕ} {taken : BothTexts} {
   feeds-refused ended = grind arith
 
   module _ (runs : has_ended old ≡ false) where
+    feeds-bytes : FeedsBytes task is.before is.after fed taken bytes used answer
+    feeds-bytes = grind arith
+
     pub feeds-promise : HandlePromise (run_state new) (run_for task) (fed ++ take used bytes)
         (joined_texts taken (texts_kept new)) (texts_kept new) answer
-    feeds-promise = handle-promise feeds-on is.holds (grind arith)
+    feeds-promise = handle-promise feeds-on is.holds feeds-bytes.answers
 
     pub feeds-takes : TakesBytes (run_for task) fed taken bytes used (texts_kept old) (texts_kept new)
         (has_ended new)
-    feeds-takes = let went-on = rw is.held at runs in grind (arith, common_steps, takes-bytes, went-on)
+    feeds-takes = rw (is.held, is.holds) feeds-bytes.takes
 
     pub feeds-was_ended : has_ended new ≡ true
         → RunWasEnded (run_for task) fed (fed ++ take used bytes) (drop used bytes)
         (joined_texts taken (texts_kept new)) (texts_kept new) answer
-    feeds-was_ended ended = let went-on = rw is.held at runs in search (rules, feeds-ended, went-on)
+    feeds-was_ended ended = rw (is.holds, feeds-bytes.answers)
+        (feeds-ended task is.before is.after fed taken bytes used answer (rw is.holds at ended) feeds-bytes)
 
 -- and of one whose input has ended
 module _ {task : Task} {old new : Handle} {fed : List ℕ} {taken : BothTexts} {answer : Answer}
@@ -219,8 +206,7 @@ module _ {task : Task} {old new : Handle} {fed : List ℕ} {taken : BothTexts} {
     reader = is.after;
     is_open = is.is_open;
     holds = is.holds;
-    stands = ends-stands task is.before is.after (past_of fed taken) answer is.before.outcome
-        (stood is.held stands) is.ends;
+    stands = ends-stands task is.before is.after fed taken answer is.before.outcome (stood is.held stands) is.ends;
   }
 
   pub ends-refused : has_ended old ≡ true
@@ -232,9 +218,9 @@ module _ {task : Task} {old new : Handle} {fed : List ℕ} {taken : BothTexts} {
         (texts_kept new) answer
     ends-promise = handle-promise ends-on is.holds (grind arith)
 
-    pub ends-was_ended : (has_ended new ≡ true) × RunHasEnded (Last task is.after (past_of fed taken))
+    pub ends-was_ended : (has_ended new ≡ true) × RunHasEnded (Last task is.after fed taken)
         (joined_texts taken (texts_kept new)) (texts_kept new) answer
     ends-was_ended =
-        let came : ReaderHasEnded task is.after (past_of fed taken) × (answer ≡ answer_now is.after) =
-        grind arith in
-        rw (is.holds, came.1) (ended-by task is.after (past_of fed taken) is.after.outcome came.0)
+        let came : ReaderHasEnded task is.after fed taken × (answer ≡ answer_now is.after) = grind arith in
+        rw (is.holds, came.1)
+        (ended-by task is.after fed taken is.after.outcome came.0 (λ result is. grind arith))

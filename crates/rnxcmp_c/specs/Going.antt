@@ -9,9 +9,10 @@ use Rattle.crx_base.specs.declared.fault.At.{At}
 use Rattle.crx_base.specs.declared.fault.Fault.TheVariants.{OutOfMemory}
 use Rattle.crx_base.specs.declared.limits.TheConstants.{INPUT_LIMIT}
 use Rattle.crx_runs.specs.Engines.{Awaited}
+use Rattle.crx_runs.specs.Lawful.{IsLawful}
 use Rattle.crx_runs.specs.meaning.Filters.{Filter, with_next}
-use Rattle.crx_runs.specs.meaning.Messages.{notices_text}
-use Rattle.crx_runs.specs.meaning.Results.{Begins, Course, are_some}
+use Rattle.crx_runs.specs.meaning.Messages.{error_text, notices_text}
+use Rattle.crx_runs.specs.meaning.Results.{Begins, Course, FilterResult, are_some, result_of_course}
 use Rattle.crx_runs.specs.meaning.Spans.{AreNext}
 use Rattle.crx_runs.specs.declared.engine.Engine.{Ghosts}
 use Rattle.crx_runs.specs.declared.one_line.Halt.{Halt}
@@ -20,20 +21,17 @@ use Rattle.rnxcmp_c.specs.Waiting.{waiting}
 use Rattle.rnxcmp_c.specs.declared.pending.Pending.{Pending}
 use Rattle.rnxcmp_c.specs.declared.handle_state.HandleState.{HandleState}
 use Rattle.rnxcmp_c.specs.declared.limits.TheConstants.{LINE_ROOM, READY_LIMIT}
-use Rattle.rnxcmp_c.specs.Holding.{AreUnfailed, IsMemoryLacking, texts_of_held, ready_in}
-use Rattle.rnxcmp_c.specs.meaning.Answers.{KeepsToLimit}
-use Rattle.rnxcmp_c.specs.meaning.Handles.{with_one_more}
-use Rattle.rnxcmp_c.specs.Past.{AsksMemory, HandlePast, IsMadeByLines, fed_with, memory_next, texts_made}
+use Rattle.rnxcmp_c.specs.Holding.{AreUnfailed, IsMemoryLacking, ready_in}
+use Rattle.rnxcmp_c.specs.meaning.Answers.{BothTexts, KeepsToLimit}
+use Rattle.rnxcmp_c.specs.meaning.Handles.{StopsAtLimit, StopsForMemory, TaskRun}
+use Rattle.rnxcmp_c.specs.Past.{AsksMemory, StopsSoon, memory_next}
+use Rattle.rnxcmp_c.specs.declared.answer.TheConstants.{OUTPUT_LIMIT}
 use Rattle.rnxcmp_c.specs.declared.stop.Stop.{Stop}
 use Rattle.rnxcmp_c.specs.declared.stop.Stop.TheVariants.{Fault, Limit}
 
 -- the line of some bytes, by whether an LF followed them
 abbrev pub piece_line : List ℕ → Bool → InputLine
 piece_line bytes is_ended = line_of (record { bytes = bytes; is_ended = is_ended })
-
--- the same run goes on: its filter is the same, and so is the limit of its output
-abbrev pub IsSameRun : Filter → Filter → HandleState → HandleState → Type 0
-IsSameRun filter then old new = (then ≡ filter) × (new.limit ≡ old.limit)
 
 -- ---- one line, or the end
 
@@ -195,94 +193,112 @@ EndStaysWithin taken filter has_ended lines old new =
     × IfErr taken (λ stop. StepStops old.number None (filter.so_far lines) (filter.whole lines) old new stop)
 
 -- a text was written and reported: what was taken of it, and then what is kept
-pub record IsText (course : Course) (held : HandleState) (past : HandlePast) : Type 0 where
-  pub wrote : course.output ≡ past.output ++ waiting held.output
-  pub reported : notices_text course.warnings ≡ past.messages ++ waiting held.messages
+pub record IsText (course : Course) (held : HandleState) (taken : BothTexts) : Type 0 where
+  pub wrote : course.output ≡ taken.output ++ waiting held.output
+  pub reported : notices_text course.warnings ≡ taken.messages ++ waiting held.messages
 
--- the lines whose LF was fed were taken, and no fault ended the run; what they make was taken by the caller or is kept;
--- and so are the bytes after them, as far as a line may be long
-pub record IsGoing (filter : Filter)
-    (shows : List InputLine → List Awaited → Type 0) (held : HandleState) (past : HandlePast) : Type 0 where
-  pub shown : shows (ended_lines_of past.fed) []
-  pub good : (filter.so_far (ended_lines_of past.fed)).fault ≡ None
-  pub text : IsText (filter.so_far (ended_lines_of past.fed)) held past
-  pub flag : held.warned ≡ are_some (filter.so_far (ended_lines_of past.fed)).warnings
-  pub number : held.number ≡ length (ended_lines_of past.fed)
+-- some lines were taken, and no fault ended the run: what they make was taken by the caller or is kept
+pub record AreTaken (run : TaskRun) (held : HandleState) (taken : BothTexts) (lines : List InputLine) : Type 0 where
+  pub lawful : IsLawful run.filter
+  pub good : (run.filter.so_far lines).fault ≡ None
+  pub text : IsText (run.filter.so_far lines) held taken
+  pub flag : held.warned ≡ are_some (run.filter.so_far lines).warnings
+  pub number : held.number ≡ length lines
+  pub limit : held.limit ≡ run.limit
+  pub left : 0 < run.limit → held.left + length (run.filter.so_far lines).output ≡ run.limit
+  pub unfailed : AreUnfailed held
+
+-- the lines whose LF was fed were taken, none is pending, and the bytes after them are kept, as far as a line may be long
+pub record IsGoing (run : TaskRun) (ready : List (List ℕ)) (shows : List InputLine → List Awaited → Type 0)
+    (held : HandleState) (fed : List ℕ) (taken : BothTexts) : Type 0 where
+  pub drained : ready ≡ []
+  pub after : AreTaken run held taken (ended_lines_of fed)
+  pub shown : shows (ended_lines_of fed) []
   pub tail : List ℕ
   pub kept : held.tail.bytes.items ≡ take LINE_ROOM tail
   pub no_feed : HasNoFeed tail
-  pub cut : (more : List ℕ) → lines_of (past.fed ++ more) ≡ ended_lines_of past.fed ++ lines_of (tail ++ more)
+  pub cut : (more : List ℕ) → lines_of (fed ++ more) ≡ ended_lines_of fed ++ lines_of (tail ++ more)
   pub cut_ended : (more : List ℕ)
-      → ended_lines_of (past.fed ++ more) ≡ ended_lines_of past.fed ++ ended_lines_of (tail ++ more)
-  pub counted : held.number + length tail ≤ length past.fed
-  pub left : 0 < held.limit → held.left + length (filter.so_far (ended_lines_of past.fed)).output ≡ held.limit
-  pub unfailed : AreUnfailed held
+      → ended_lines_of (fed ++ more) ≡ ended_lines_of fed ++ ended_lines_of (tail ++ more)
+  pub counted : held.number + length tail ≤ length fed
 
--- a fault of some of the first lines ended the run, whatever follows
-pub record IsBroken (filter : Filter) (held : HandleState) (past : HandlePast) (at : At) : Type 0 where
-  pub lines : List InputLine
-  pub first : (more : List ℕ) → (rest : List InputLine) × (lines_of (past.fed ++ more) ≡ lines ++ rest)
-  pub fault : (filter.so_far lines).fault ≡ Some at
-  pub text : IsText (filter.so_far lines) held past
+-- ---- what stops a run
 
--- memory ran out between what is made before a line, or the end, and with it: what was taken of both texts
--- and then what is kept is what is made before, with these warnings more
-pub record IsCutBy (before after : Course) (memory : Option (List At)) (held : HandleState)
-    (past : HandlePast) : Type 0 where
-  pub notices : List At
-  pub asked : AsksMemory memory before after notices
-  pub own : (notices ≡ []) ⊎ AreNext before after notices
-  pub made : IsMadeByLines before (notices_text notices) (texts_made past (texts_of_held held))
+-- the number of the line that comes after some lines; of the last of them where none does
+abbrev pub line_reached : List InputLine → List InputLine → ℕ
+line_reached lines [] = length lines
+line_reached lines (line ∷ more) = length lines + 1
+
+-- memory ran out at such a line, or at the end, which takes memory, or a write to one of the texts failed
+pub record RanOutOfMemory (is_line : ℕ → Type 0) (run : TaskRun) (input : List ℕ) (held : HandleState)
+    (result : FilterResult) : Type 0 where
+  pub stops : StopsForMemory is_line run input result
+  pub lacking : IsMemoryLacking (is_some (memory_next run.filter stops.lines stops.others)) held
+
+-- the output would be longer than it may be, or memory ran out
+abbrev pub StopsEarly : (ℕ → Type 0) → TaskRun → List ℕ → HandleState → FilterResult → Type 0
+StopsEarly is_line run input held result =
+    StopsAtLimit run input result ⊎ RanOutOfMemory is_line run input held result
+
+-- a fault is in what the lines of an input make
+pub record FailsIn (filter : Filter) (input : List ℕ) (result : FilterResult) : Type 0 where
+  pub at : At
+  pub fault : (filter.whole (lines_of input)).fault ≡ Some at
+  pub result_is : result ≡ result_of_course (filter.whole (lines_of input))
+
+-- the status and the fault of a run that was stopped
+abbrev pub status_by : Stop → ℕ
+status_by (Fault at) = 1
+status_by Limit = OUTPUT_LIMIT
+
+abbrev pub fault_by : Stop → Option At
+fault_by (Fault at) = Some at
+fault_by Limit = None
+
+-- a run was stopped as it ends with one of these results: all of it is there but the message of its fault
+pub record StopsAs (limit : ℕ) (is_one : FilterResult → Type 0) (held : HandleState) (taken : BothTexts)
+    (stop : Stop) : Type 0 where
+  pub result : FilterResult
+  pub is : is_one result
+  pub status : result.status ≡ status_by stop
+  pub fault : result.fault ≡ fault_by stop
+  pub output : result.output ≡ taken.output ++ waiting held.output
+  pub messages : result.messages ≡ (taken.messages ++ waiting held.messages) ++ error_text (fault_by stop)
+  pub within : KeepsToLimit limit result.output
+
+-- a run was stopped in an input, at such a line
+abbrev pub IsStopped : (ℕ → Type 0) → TaskRun → List ℕ → HandleState → BothTexts → Stop → Type 0
+IsStopped is_line run input held taken stop = StopsAs run.limit
+    (λ result. FailsIn run.filter input result ⊎ StopsEarly is_line run input held result) held taken stop
 
 -- the number of a line whose line end is among the bytes that came after others
 abbrev pub IsLineEnded : List ℕ → List ℕ → ℕ → Type 0
 IsLineEnded before fed line = (length (ended_lines_of before) < line) × (line ≤ length (ended_lines_of fed))
 
--- memory ran out in a line whose LF came after some bytes, the one that comes after these lines, whatever
--- follows
-pub record RunsShort (before : List ℕ) (filter : Filter) (held : HandleState) (past : HandlePast)
-    (at : At) : Type 0 where
-  pub fault : at.fault ≡ OutOfMemory
-  pub there : IsLineEnded before past.fed at.line
-  pub lines : List InputLine
-  pub line : InputLine
-  pub first : (more : List ℕ) → (rest : List InputLine) × (lines_of (past.fed ++ more) ≡ lines ++ line ∷ rest)
-  pub number : at.line ≡ length lines + 1
-  pub cut : IsCutBy (filter.so_far lines) (filter.so_far (with_next lines line))
-      (filter.memory_after lines line) held past
-  pub lacking : IsMemoryLacking (is_some (filter.memory_after lines line)) held
+-- the number of the last line of the bytes that were fed
+abbrev pub IsLastLine : List ℕ → ℕ → Type 0
+IsLastLine fed line = line ≡ length (lines_of fed)
 
--- memory ran out, or a fault ended the run
-abbrev pub Breaks : List ℕ → Filter → HandleState → HandlePast → At → Type 0
-Breaks before filter held past at = RunsShort before filter held past at ⊎ IsBroken filter held past at
+-- of some bytes so many were taken, the last of them since little enough was ready, and the run goes on; or they ended
+-- it, whatever follows
+abbrev pub GoesOnOrStops : Result ℕ Stop → TaskRun → (List ℕ → Type 0) → HandleState → List ℕ → BothTexts → List ℕ
+    → Type 0
+GoesOnOrStops result run goes_on held fed taken bytes =
+    IfOk result (λ n. goes_on (fed ++ take n bytes) × (0 < n → StopsSoon run fed taken bytes n))
+    × IfErr result (λ stop. (more : List ℕ) → IsStopped (IsLineEnded fed (fed ++ bytes)) run
+    ((fed ++ bytes) ++ more) held taken stop)
 
--- the output of some of the first lines is within its limit, and with one line more it isn't, whatever follows; what was
--- taken and then what is kept is what those first ones make
-pub record IsPastLimit (filter : Filter) (held : HandleState) (past : HandlePast) : Type 0 where
-  pub lines : List InputLine
-  pub line : InputLine
-  pub first : (more : List ℕ) → (rest : List InputLine) × (lines_of (past.fed ++ more) ≡ lines ++ line ∷ rest)
-  pub good : (filter.so_far lines).fault ≡ None
-  pub limited : 0 < held.limit
-  pub within : length (filter.so_far lines).output ≤ held.limit
-  pub over : held.limit < length (filter.so_far (with_next lines line)).output
-  pub text : IsText (filter.so_far lines) held past
+-- the whole input was taken, and no fault ended the run
+pub record IsAll (run : TaskRun) (held : HandleState) (fed : List ℕ) (taken : BothTexts) : Type 0 where
+  pub good : (run.filter.whole (lines_of fed)).fault ≡ None
+  pub text : IsText (run.filter.whole (lines_of fed)) held taken
+  pub flag : held.warned ≡ are_some (run.filter.whole (lines_of fed)).warnings
+  pub within : KeepsToLimit run.limit (run.filter.whole (lines_of fed)).output
 
--- what was taken of the output and then what is kept is within its limit
-abbrev pub IsKeptWithin : HandleState → HandlePast → Type 0
-IsKeptWithin held past = KeepsToLimit held.limit (past.output ++ waiting held.output)
-
--- what ended the run: memory or a fault, and the output is within its limit; or that limit
-abbrev pub RunBreaks : List ℕ → Filter → HandleState → HandlePast → Stop → Type 0
-RunBreaks before filter held past (Fault at) = Breaks before filter held past at × IsKeptWithin held past
-RunBreaks before filter held past Limit = IsPastLimit filter held past
-
--- of some bytes so many were taken, and the run goes on; or they ended it
-abbrev pub GoesOnOrBreaks : Result ℕ Stop → Filter → (List InputLine → List Awaited → Type 0) → HandleState → HandlePast
-    → List ℕ → Type 0
-GoesOnOrBreaks taken filter shows held past bytes =
-    IfOk taken (λ n. IsGoing filter shows held (fed_with past (take n bytes)))
-    × IfErr taken (RunBreaks past.fed filter held (fed_with past bytes))
+-- the last line was taken, and then the end; or one of them ended the run
+abbrev pub LastIsTaken : Result Unit Stop → TaskRun → Type 0 → HandleState → List ℕ → BothTexts → Type 0
+LastIsTaken result run has_ended held fed taken = OnOk result (has_ended × IsAll run held fed taken)
+    × IfErr result (IsStopped (IsLastLine fed) run fed held taken)
 
 -- ---- any engine, with what is held beside it
 
@@ -295,81 +311,29 @@ module _ {E : Type 0} (e : Ghosts E) where
   abbrev pub HasShown : E → Type 0
   HasShown engine = CanTake engine × ((lines : List InputLine) × e.shows engine lines [])
 
-  -- a step keeps its run, and where the run isn't over, it takes what comes next
-  abbrev pub KeepsItsRun : {A : Type 0} → E → E → HandleState → HandleState → Result A Stop → Type 0
-  KeepsItsRun before after old new taken =
-      IsSameRun (e.filter before) (e.filter after) old new × OnOk taken (CanTake after)
+  -- a step keeps its filter, and where the run isn't over, it takes what comes next
+  abbrev pub KeepsItsRun : {A : Type 0} → E → E → Result A Stop → Type 0
+  KeepsItsRun before after result = (e.filter after ≡ e.filter before) × OnOk result (CanTake after)
 
-  -- its run goes on, and an input may have so many bytes more
+  -- it is an engine of a run, which goes on
+  abbrev pub IsRunning : TaskRun → E → HandleState → List ℕ → BothTexts → Type 0
+  IsRunning run engine held fed taken =
+      (run.filter ≡ e.filter engine) × IsGoing run (e.ready engine) (e.shows engine) held fed taken
+
+  -- and an input may have so many bytes more
   abbrev pub CanBeFed : E → HandleState → ℕ → Type 0
-  CanBeFed engine held count = CanTake engine × ((past : HandlePast)
-      × IsGoing (e.filter engine) (e.shows engine) held past × (length past.fed + count ≤ INPUT_LIMIT))
+  CanBeFed engine held count = (run : TaskRun) × (fed : List ℕ) × (taken : BothTexts)
+      × IsRunning run engine held fed taken × (length fed + count ≤ INPUT_LIMIT)
 
   -- what is kept of a line was taken as a line, which comes after some lines
   abbrev pub LineIsTaken : E → E → HandleState → HandleState → Bool → Result Unit Stop → Type 0
-  LineIsTaken before after old new is_ended taken = (lines : List InputLine) (whole : List ℕ)
+  LineIsTaken before after old new is_ended result = (lines : List InputLine) (whole : List ℕ)
       → e.shows before lines [] → old.tail.bytes.items ≡ take LINE_ROOM whole
-      → LineStaysWithin taken (e.filter before) (e.shows after) lines (piece_line whole is_ended) old new
+      → LineStaysWithin result (e.filter before) (e.shows after) lines (piece_line whole is_ended) old new
 
   -- its run goes on with the first of these bytes, or they ended it
   abbrev pub WasFed : E → E → HandleState → HandleState → List ℕ → Result ℕ Stop → Type 0
-  WasFed before after old new bytes taken = (past : HandlePast)
-      → IsGoing (e.filter before) (e.shows before) old past
-      → GoesOnOrBreaks taken (e.filter before) (e.shows after) new past bytes
-
--- ---- the end
-
--- the whole input was taken, and no fault ended the run
-pub record IsAll (course : Course) (held : HandleState) (past : HandlePast) : Type 0 where
-  pub good : course.fault ≡ None
-  pub text : IsText course held past
-  pub flag : held.warned ≡ are_some course.warnings
-  pub within : IsKeptWithin held past
-
--- a fault ended the run
-pub record IsFailed (course : Course) (held : HandleState) (past : HandlePast) (at : At) : Type 0 where
-  pub fault : course.fault ≡ Some at
-  pub text : IsText course held past
-
--- the number of the line that comes after some lines; of the last of them where none does
-abbrev pub line_reached : List InputLine → List InputLine → ℕ
-line_reached lines [] = length lines
-line_reached lines (line ∷ more) = length lines + 1
-
--- memory ran out at the last line, or at the end after it
-pub record EndsShort (filter : Filter) (held : HandleState) (past : HandlePast) (at : At) : Type 0 where
-  pub ran_out : RanOutAt (length (lines_of past.fed)) at
-  pub lines : List InputLine
-  pub others : List InputLine
-  pub first : lines_of past.fed ≡ lines ++ others
-  pub number : at.line ≡ line_reached lines others
-  pub cut : IsCutBy (filter.so_far lines) (with_one_more filter lines others)
-      (memory_next filter lines others) held past
-  pub lacking : IsMemoryLacking (is_some (memory_next filter lines others)) held
-
--- the output of some of the first lines is within its limit, and with one line more, or the end, it isn't
-pub record EndsPastLimit (filter : Filter) (held : HandleState) (past : HandlePast) : Type 0 where
-  pub lines : List InputLine
-  pub others : List InputLine
-  pub first : lines_of past.fed ≡ lines ++ others
-  pub good : (filter.so_far lines).fault ≡ None
-  pub limited : 0 < held.limit
-  pub within : length (filter.so_far lines).output ≤ held.limit
-  pub over : held.limit < length (with_one_more filter lines others).output
-  pub text : IsText (filter.so_far lines) held past
-
--- memory ran out, or a fault ended the run
-abbrev pub LineFails : Filter → HandleState → HandlePast → At → Type 0
-LineFails filter held past at = EndsShort filter held past at
-    ⊎ IsFailed (filter.whole (lines_of past.fed)) held past at
-
--- what ended the run: memory or a fault, and the output is within its limit; or that limit
-abbrev pub RunFails : Filter → HandleState → HandlePast → Stop → Type 0
-RunFails filter held past (Fault at) = LineFails filter held past at × IsKeptWithin held past
-RunFails filter held past Limit = EndsPastLimit filter held past
-
--- the last line was taken, and then the end; or one of them ended the run
-abbrev pub LastIsTaken : Result Unit Stop → Filter → Type 0 → HandleState → HandlePast → Type 0
-LastIsTaken taken filter has_ended held past =
-    OnOk taken (has_ended × IsAll (filter.whole (lines_of past.fed)) held past)
-    × IfErr taken (RunFails filter held past)
+  WasFed before after old new bytes result = (run : TaskRun) (fed : List ℕ) (taken : BothTexts)
+      → IsRunning run before old fed taken
+      → GoesOnOrStops result run (λ fed. IsGoing run (e.ready after) (e.shows after) new fed taken) new fed taken
+      bytes

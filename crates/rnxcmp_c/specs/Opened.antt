@@ -6,7 +6,6 @@ use Rattle.crx_base.specs.meaning.Choices.{Choices}
 use Rattle.crx_base.specs.meaning.Faults.{code_of_fault}
 use Rattle.crx_runs.specs.declared.outcome.Outcome.{Outcome}
 use Rattle.rnxcmp_c.specs.Handles.{Ends, Feeds, ReaderStands, fault_now, status_now}
-use Rattle.rnxcmp_c.specs.Past.{past_of}
 use Rattle.rnxcmp_c.specs.meaning.Answers.{BothTexts, HasNoMemory, bare_answer, placed}
 use Rattle.rnxcmp_c.specs.meaning.Ended.{ExpansionPromises}
 use Rattle.rnxcmp_c.specs.meaning.Handles.{Task, Check, Expand, handle_answer, joined_texts}
@@ -25,7 +24,7 @@ pub record HandleStands (task : Task) (handle : Handle) (fed : List ℕ) (taken 
   pub reader : Reader
   pub is_open : handle.is_open ≡ true
   pub holds : Holds handle reader
-  pub stands : ReaderStands task reader (past_of fed taken)
+  pub stands : ReaderStands task reader fed taken
 
 -- a handle that is closed, or as a call left it: what a C program owes
 abbrev pub IsSoundHandle : Handle → Type 0
@@ -115,7 +114,7 @@ pub record FeedsHandle (task : Task) (old new : Handle) (fed : List ℕ) (taken 
   pub held : Holds old before
   pub holds : Holds new after
   pub is_open : new.is_open ≡ true
-  pub feeds : Feeds task before after (past_of fed taken) bytes used answer
+  pub feeds : Feeds task before after fed taken bytes used answer
 
 -- and by the end of the input
 pub record EndsHandle (task : Task) (old new : Handle) (fed : List ℕ) (taken : BothTexts) (answer : Answer)
@@ -125,7 +124,7 @@ pub record EndsHandle (task : Task) (old new : Handle) (fed : List ℕ) (taken :
   pub held : Holds old before
   pub holds : Holds new after
   pub is_open : new.is_open ≡ true
-  pub ends : Ends task before after (past_of fed taken) answer
+  pub ends : Ends task before after fed taken answer
 
 -- what is kept of both texts was put into two rooms as far as it fits, and what is left of them is kept; how the
 -- run is was answered, which is the same, and how much is left

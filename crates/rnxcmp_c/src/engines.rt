@@ -1,12 +1,11 @@
 //! The engines of the three tasks, as one type.
 
-ghost use Rattle.std.specs.Prelude.{◌≡◌, ◌<◌, length, take, OnErr, OnOk, IfOk, IfErr};
-ghost use Rattle.crx_base.specs.meaning.Lines.{lines_of};
-ghost use Rattle.rnxcmp_c.specs.Going.{IsTaken, LastIsTaken, RunBreaks};
+ghost use Rattle.std.specs.Prelude.{◌≡◌, ◌<◌, length, OnErr, IfOk};
+ghost use Rattle.rnxcmp_c.specs.Going.{IsTaken};
 ghost use Rattle.rnxcmp_c.specs.Holding.{ready_in};
 ghost use Rattle.rnxcmp_c.specs.declared.limits.TheConstants.{READY_LIMIT};
-ghost use Rattle.rnxcmp_c.specs.Handles.{EngineCanBeFed, EngineGoesOn, EngineIsReady, KeepsItsTask, engine_filter, has_ended_of, status_at_end};
-ghost use Rattle.rnxcmp_c.specs.Past.{HandlePast, StopsSoon, fed_with};
+ghost use Rattle.rnxcmp_c.specs.Handles.{EngineCanBeFed, EngineHasEnded, EngineWasFed, IsOf, status_at_end};
+ghost use Rattle.rnxcmp_c.specs.meaning.Handles.{Task};
 
 use crate::handle_state::HandleState;
 use crate::lines::{take_bytes, take_last};
@@ -34,16 +33,10 @@ pub(crate) fn feed_engine(
     bytes: &[u8],
 ) -> Result<usize, Stop>
     requires { EngineCanBeFed engine.old held.old (length bytes.now) }
-    ensures keeps { KeepsItsTask engine.old engine.new held.old held.new }
-    ensures ready { OnOk result (EngineIsReady engine.new) }
+    ensures keeps { (task : Task) → IsOf task engine.old → IsOf task engine.new }
     ensures count { IfOk result (IsTaken held.old held.new (length bytes.now)) }
-    ensures soon { (past : HandlePast) → EngineGoesOn engine.old held.old past
-        → IfOk result (λ n. 0 < n → StopsSoon (engine_filter engine.old) past bytes.now n) }
     ensures low { OnErr result (ready_in held.old < READY_LIMIT) }
-    ensures going { (past : HandlePast) → EngineGoesOn engine.old held.old past
-        → IfOk result (λ n. EngineGoesOn engine.new held.new (fed_with past (take n bytes.now))) }
-    ensures breaks { (past : HandlePast) → EngineGoesOn engine.old held.old past
-        → IfErr result (RunBreaks past.fed (engine_filter engine.old) held.new (fed_with past bytes.now)) }
+    ensures fed { EngineWasFed engine.old engine.new held.old held.new bytes.now result }
 {
     match engine {
         AnyEngine::Compacting(compactor) => take_bytes(compactor, held, bytes),
@@ -55,9 +48,8 @@ pub(crate) fn feed_engine(
 /// Gives the end of the input to the engine of a run.
 pub(crate) fn end_engine(engine: &mut AnyEngine, held: &mut HandleState) -> Result<(), Stop>
     requires { EngineCanBeFed engine.old held.old 0 }
-    ensures keeps { KeepsItsTask engine.old engine.new held.old held.new }
-    ensures ends { (past : HandlePast) → EngineGoesOn engine.old held.old past
-        → LastIsTaken result (engine_filter engine.old) (has_ended_of engine.new (lines_of past.fed)) held.new past }
+    ensures keeps { (task : Task) → IsOf task engine.old → IsOf task engine.new }
+    ensures ends { EngineHasEnded engine.old engine.new held.old held.new result }
 {
     match engine {
         AnyEngine::Compacting(compactor) => take_last(compactor, held),

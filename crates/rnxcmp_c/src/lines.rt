@@ -1,12 +1,11 @@
 //! Lines out of the bytes that are fed, through an engine.
 
-ghost use Rattle.std.specs.Prelude.{◌≡◌, ◌≤◌, ◌<◌, ◌+◌, ◌-◌, ℕ, List, [], length, take, drop, false, true, OnOk, OnErr, IfOk, IfErr};
+ghost use Rattle.std.specs.Prelude.{◌≡◌, ◌≤◌, ◌<◌, ◌+◌, ◌-◌, ℕ, List, [], length, take, false, true, OnOk, OnErr, IfOk, IfErr};
 ghost use Rattle.crx_base.specs.declared.limits.TheConstants.{INPUT_LIMIT};
 ghost use Rattle.crx_base.specs.meaning.Lines.{InputLine, ends_with_return, lines_of, without_return};
-ghost use Rattle.crx_lines.specs.Reading.{HasNoFeed};
-ghost use Rattle.crx_runs.specs.Lawful.{IsLawful};
-ghost use Rattle.rnxcmp_c.specs.Going.{CanBeFed, CanTake, EndStaysWithin, HasShown, IsGoing, IsSameRun, IsTaken, KeepsItsRun, LastIsTaken, LineIsGiven, LineIsTaken, WasFed, piece_line};
-ghost use Rattle.rnxcmp_c.specs.Past.{HandlePast, StopsSoon};
+ghost use Rattle.rnxcmp_c.specs.Going.{CanBeFed, CanTake, EndStaysWithin, HasShown, IsRunning, IsTaken, KeepsItsRun, LastIsTaken, LineIsGiven, LineIsTaken, WasFed, piece_line};
+ghost use Rattle.rnxcmp_c.specs.meaning.Answers.{BothTexts};
+ghost use Rattle.rnxcmp_c.specs.meaning.Handles.{TaskRun};
 ghost use Rattle.rnxcmp_c.specs.Holding.{IsCounted, IsMarkWithin, StopsCounted, ready_in};
 ghost use Rattle.rnxcmp_c.specs.declared.limits.TheConstants.{LINE_ROOM, READY_LIMIT};
 
@@ -112,7 +111,7 @@ fn take_within<E: Engine>(
     requires shown { HasShown E.Engine engine.old }
     requires next { held.old.number ≡ E.taken engine.old }
     requires within { held.old.number < INPUT_LIMIT }
-    ensures keeps { KeepsItsRun E.Engine engine.old engine.new held.old held.new result }
+    ensures keeps { KeepsItsRun E.Engine engine.old engine.new result }
     ensures next { OnOk result ((held.new.number ≡ held.old.number + 1) × (held.new.tail.bytes.items ≡ [])) }
     ensures step { LineIsTaken E.Engine engine.old engine.new held.old held.new is_ended result }
 {
@@ -140,9 +139,9 @@ fn take_to_line_end<E: Engine>(
     bytes: &[u8],
 ) -> Result<usize, Stop>
     requires going { CanBeFed E.Engine engine.old held.old (length bytes.now) }
-    ensures keeps { KeepsItsRun E.Engine engine.old engine.new held.old held.new result }
+    requires low { ready_in held.old < READY_LIMIT }
+    ensures filter { E.filter engine.new ≡ E.filter engine.old }
     ensures count { IfOk result (λ n. (n ≤ length bytes.now) × (0 < length bytes.now → 0 < n)) }
-    ensures piece { IfOk result (λ n. HasNoFeed (take (n - 1) bytes.now)) }
     ensures fed { WasFed E.Engine engine.old engine.new held.old held.new bytes.now result }
 {
     match feed_from(bytes, 0) {
@@ -166,10 +165,8 @@ pub(crate) fn take_bytes<E: Engine>(
     bytes: &[u8],
 ) -> Result<usize, Stop>
     requires going { CanBeFed E.Engine engine.old held.old (length bytes.now) }
-    ensures keeps { KeepsItsRun E.Engine engine.old engine.new held.old held.new result }
+    ensures filter { E.filter engine.new ≡ E.filter engine.old }
     ensures count { IfOk result (IsTaken held.old held.new (length bytes.now)) }
-    ensures soon { (past : HandlePast) → IsGoing (E.filter engine.old) (E.shows engine.old) held.old past
-        → IfOk result (λ n. 0 < n → StopsSoon (E.filter engine.old) past bytes.now n) }
     ensures low { OnErr result (ready_in held.old < READY_LIMIT) }
     ensures fed { WasFed E.Engine engine.old engine.new held.old held.new bytes.now result }
 {
@@ -185,7 +182,7 @@ pub(crate) fn take_bytes<E: Engine>(
 fn end_within<E: Engine>(engine: &mut E, held: &mut HandleState) -> Result<(), Stop>
     requires shown { HasShown E.Engine engine.old }
     requires within { E.taken engine.old ≤ INPUT_LIMIT }
-    ensures same { IsSameRun (E.filter engine.old) (E.filter engine.new) held.old held.new }
+    ensures filter { E.filter engine.new ≡ E.filter engine.old }
     ensures step { (lines : List InputLine) → E.shows engine.old lines [] → EndStaysWithin result (E.filter engine.old)
         (E.has_ended engine.new lines) lines held.old held.new }
 {
@@ -197,11 +194,11 @@ fn end_within<E: Engine>(engine: &mut E, held: &mut HandleState) -> Result<(), S
 
 /// Takes the end of the input, and before it the last line, where no LF ended it.
 pub(crate) fn take_last<E: Engine>(engine: &mut E, held: &mut HandleState) -> Result<(), Stop>
-    requires lawful { IsLawful (E.filter engine.old) }
     requires going { CanBeFed E.Engine engine.old held.old 0 }
-    ensures same { IsSameRun (E.filter engine.old) (E.filter engine.new) held.old held.new }
-    ensures ends { (past : HandlePast) → IsGoing (E.filter engine.old) (E.shows engine.old) held.old past
-        → LastIsTaken result (E.filter engine.old) (E.has_ended engine.new (lines_of past.fed)) held.new past }
+    ensures filter { E.filter engine.new ≡ E.filter engine.old }
+    ensures ends { (run : TaskRun) (fed : List ℕ) (taken : BothTexts)
+        → IsRunning E.Engine run engine.old held.old fed taken
+        → LastIsTaken result run (E.has_ended engine.new (lines_of fed)) held.new fed taken }
 {
     if held.tail.bytes.is_empty() {
         return end_within(engine, held);

@@ -2,7 +2,7 @@ use Rattle.std.proofs.Common.{arith}
 use Rattle.rnxcmp_c.proofs.{EndedLemmas.{result-where, run-check, run-expansion, task-keeps}, PromiseLemmas.ends-on}
 use Rattle.rnxcmp_c.proofs.PromiseLemmas.{ends-promise, ends-refused, ends-was_ended, sound-holds}
 use Rattle.rnxcmp_c.proofs.PromiseLemmas.{sound-stands, stood}
-use Rattle.rnxcmp_c.proofs.{Words.{Holds, past_of, Expand, Check}, handle.rnxcmp_c_end.Goals.After-put_in}
+use Rattle.rnxcmp_c.proofs.{Words.{Holds, Expand, Check}, handle.rnxcmp_c_end.Goals.After-put_in}
 use Rattle.rnxcmp_c.proofs.Words.{ℕ, List, Task, BothTexts}
 use Rattle.rnxcmp_c.specs.Opened.{EndsHandle, HandleStands}
 use Rattle.rnxcmp_c.proofs.handle.rnxcmp_c_end.Goals as goal
@@ -24,7 +24,7 @@ ends c task fed taken stands =
       held = holds;
       holds = c.put_in.ensures.reader;
       is_open = c.put_in.ensures.opened;
-      ends = c.take_end-answer.ensures task (past_of fed taken) (stood holds stands);
+      ends = c.take_end-answer.ensures task fed taken (stood holds stands);
     }
 
 pub returns : goal.returns

@@ -2,7 +2,7 @@ use Rattle.std.proofs.Common.{arith}
 use Rattle.rnxcmp_c.proofs.PromiseLemmas.{feeds-on, feeds-promise, feeds-refused, feeds-takes}
 use Rattle.rnxcmp_c.proofs.PromiseLemmas.{feeds-was_ended, sound-holds, sound-stands, stood}
 use Rattle.rnxcmp_c.proofs.handle.rnxcmp_c_feed.Goals.{After-put_in}
-use Rattle.rnxcmp_c.proofs.Words.{ℕ, List, Task, BothTexts, Holds, past_of}
+use Rattle.rnxcmp_c.proofs.Words.{ℕ, List, Task, BothTexts, Holds}
 use Rattle.rnxcmp_c.specs.Opened.{FeedsHandle, HandleStands}
 use Rattle.rnxcmp_c.proofs.handle.rnxcmp_c_feed.Goals as goal
 
@@ -24,7 +24,7 @@ feeds c task fed taken stands =
       held = holds;
       holds = c.put_in.ensures.reader;
       is_open = c.put_in.ensures.opened;
-      feeds = c.take_in-count.ensures task (past_of fed taken) (stood holds stands);
+      feeds = c.take_in-count.ensures task fed taken (stood holds stands);
     }
 
 pub returns : goal.returns

@@ -2,7 +2,7 @@ use Rattle.std.proofs.{Common.{rules, arith}, lemmas.Grind.common_steps}
 use Rattle.rnxcmp_c.proofs.EndedLemmas.{ended-where, result-where, run-check, run-expansion}
 use Rattle.rnxcmp_c.proofs.EndedLemmas.{task-keeps}
 use Rattle.rnxcmp_c.proofs.PromiseLemmas.{handle-promise, sound-holds, stood}
-use Rattle.rnxcmp_c.proofs.Words.{ℕ, List, Holds, past_of, BothTexts, Task, Expand, Check}
+use Rattle.rnxcmp_c.proofs.Words.{ℕ, List, Holds, BothTexts, Task, Expand, Check}
 use Rattle.rnxcmp_c.proofs.handle.rnxcmp_c_take.Goals as goal
 
 pub take_out-reader-requires : goal.take_out-reader-requires
@@ -18,7 +18,7 @@ returns-clause-stands c = λ (task : Task) (fed : List ℕ) (taken : BothTexts) 
       reader = c.hand_out-answer.new.self;
       is_open = c.put_in.ensures.opened;
       holds = c.put_in.ensures.reader;
-      stands = rw holds (c.hand_out-answer.ensures.stands task (past_of fed taken) (stood holds stands));
+      stands = rw holds (c.hand_out-answer.ensures.stands task fed taken (stood holds stands));
     }
 
 pub returns-clause-promise : goal.returns-clause-promise

@@ -1,6 +1,6 @@
 use Rattle.std.proofs.{Common.rules, lemmas.{Grind.common_steps, List.take_more}}
-use Rattle.rnxcmp_c.proofs.GoingLemmas.{breaks, cut-at, goes-on, keeps-going, mid-kept, no_feed-before}
-use Rattle.rnxcmp_c.proofs.Words.{◌≡◌, ◌+◌, [], ◌∷◌, ◌++◌, length, take, drop, ap, ◌∙◌, subst, arith}
+use Rattle.rnxcmp_c.proofs.GoingLemmas.{cut-at, goes-on, keeps-going, mid-kept, no_feed-before, soon-by, stops-there}
+use Rattle.rnxcmp_c.proofs.Words.{◌≡◌, ◌+◌, ◌-◌, [], ◌∷◌, ◌++◌, length, take, drop, ap, ◌∙◌, sym, subst, arith}
 use Rattle.rnxcmp_c.proofs.Words.{take_all, err_from_is_err_and, HasNoFeed}
 use Rattle.rnxcmp_c.proofs.lines.take_to_line_end.{Given.Over, Goals.In-Some}
 use Rattle.rnxcmp_c.proofs.lines.take_to_line_end.Goals as goal
@@ -10,15 +10,22 @@ none-before : (g : Over) (c : In-Some g) → HasNoFeed (take c.in-Some.end c.arg
 none-before g c = search (rules, no_feed-before, c.in-Some.ensures.within.1, c.in-Some.ensures.first)
 
 pub returns-in-None-clause-fed : goal.returns-in-None-clause-fed
-returns-in-None-clause-fed g c past is =
+returns-in-None-clause-fed g c run fed taken is =
     let bytes = c.args.bytes.now in
     let all : take (length bytes) bytes ≡ bytes = take_all (length bytes) bytes (omega arith) in
     let none = rw all at (no_feed-before bytes (length bytes) (omega arith)
     (λ k h. c.in-None.ensures.none k (omega arith) h)) in
-    (rw all (keeps-going is c.add.new.self bytes c.add.ensures none), tt)
+    let last : HasNoFeed (take (length bytes - 1) bytes) =
+    grind (arith, common_steps, no_feed-before, c.in-None.ensures.none) in (
+      (
+        rw all (keeps-going is.1 c.add.new.self bytes c.add.ensures none),
+        λ more. soon-by is.1 bytes (length bytes) last c.requires.low,
+      ),
+      tt,
+    )
 
 pub returns-in_ok-take_within-in-Some-clause-fed : goal.returns-in_ok-take_within-in-Some-clause-fed
-returns-in_ok-take_within-in-Some-clause-fed g c past is =
+returns-in_ok-take_within-in-Some-clause-fed g c run fed taken is =
     let bytes = c.args.bytes.now in
     let end = c.in-Some.end in
     let piece = c.add-in-Some.new.self in
@@ -26,31 +33,30 @@ returns-in_ok-take_within-in-Some-clause-fed g c past is =
     let all =
     take_more bytes end 0 c.in-Some.ensures.within.1 ∙ ap (λ b. take end bytes ++ b ∷ [])
     c.in-Some.ensures.found in
-    let taken = c.in_ok-take_within-in-Some.ensures in (
-      rw all (goes-on is piece (take end bytes) c.add-in-Some.ensures none _ _ (taken.step _ _ is.shown
-          (mid-kept is piece (take end bytes) c.add-in-Some.ensures none)).0 taken.next.0 taken.next.1),
+    let line = c.in_ok-take_within-in-Some.ensures in
+    let step = rw (sym is.0) at (line.step _ _ is.1.shown
+    (mid-kept is.1 piece (take end bytes) c.add-in-Some.ensures none)) in (
+      (
+        rw all (goes-on is.1 piece (take end bytes) c.add-in-Some.ensures none line.keeps.1 _ _ step.0
+            line.next.0 line.next.1),
+        λ more. soon-by is.1 bytes (end + 1) (subst (λ n. HasNoFeed (take n bytes)) (omega arith) none)
+            c.requires.low,
+      ),
       tt,
     )
 
 pub returns-in_err-take_within-in-Some-clause-fed : goal.returns-in_err-take_within-in-Some-clause-fed
-returns-in_err-take_within-in-Some-clause-fed g c past is =
+returns-in_err-take_within-in-Some-clause-fed g c run fed taken is =
     let bytes = c.args.bytes.now in
     let end = c.in-Some.end in
     let piece = c.add-in-Some.new.self in
     let none = none-before g (goal.at.returns-in_err-take_within-in-Some-clause-fed g c).In-Some in
     let p = err_from_is_err_and c.from_residual.result c.from_residual.ensures.1 in
+    let step = rw (sym is.0) at (c.in_err-take_within-in-Some.ensures.step _ _ is.1.shown
+    (mid-kept is.1 piece (take end bytes) c.add-in-Some.ensures none)) in
     rw (p.1, p.2) (
       tt,
-      rw (cut-at bytes end c.in-Some.ensures.within.1 c.in-Some.ensures.found)
-          (breaks is piece (take end bytes) c.add-in-Some.ensures none _ (drop (end + 1) bytes) _
-          (c.in_err-take_within-in-Some.ensures.step _ _ is.shown
-          (mid-kept is piece (take end bytes) c.add-in-Some.ensures none)).1),
+      λ more. rw (cut-at bytes end c.in-Some.ensures.within.1 c.in-Some.ensures.found)
+          (stops-there is.1 piece (take end bytes) c.add-in-Some.ensures none _ (drop (end + 1) bytes) _ step.1
+          more),
     )
-
-pub returns-in-None-clause-piece : goal.returns-in-None-clause-piece
-returns-in-None-clause-piece g c = grind (arith, common_steps, no_feed-before, c.in-None.ensures.none)
-
-pub returns-in_ok-take_within-in-Some-clause-piece : goal.returns-in_ok-take_within-in-Some-clause-piece
-returns-in_ok-take_within-in-Some-clause-piece g c =
-    subst (λ n. HasNoFeed (take n c.args.bytes.now)) (omega arith)
-    (none-before g (goal.at.returns-in_ok-take_within-in-Some-clause-piece g c).In-Some)
