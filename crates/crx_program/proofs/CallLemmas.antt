@@ -1,6 +1,6 @@
 -- How a log of calls grows.
 use Rattle.std.proofs.Common.{◌≡◌, ◌∙◌, ℕ, Bool, List, [], ◌++◌, Option, Some, ap, sym, inl, inr, refl}
-use Rattle.std.proofs.Common.{append_assoc, append-nil}
+use Rattle.std.proofs.{Common.{append_assoc, append-nil, arith}, lemmas.Grind.common_steps}
 use Rattle.std.specs.declared.fs.options.OpenOptions.{OpenOptions}
 use Rattle.crx_lines.specs.declared.device.{Sink.Ghosts as SinkGhosts, Source.Ghosts as SourceGhosts, Std.Std}
 use Rattle.crx_runs.specs.meaning.Spans.{Input, Device}
@@ -23,24 +23,10 @@ pub called-to_read : (before after : List Call) (name : List ℕ) (source : Opti
     → source ≡ Some name → after ≡ with_call before name options_to_read → after ≡ before ++ call_to_read source
 called-to_read before after name source named made = rw named made
 
--- a call to read and a call to write
-pub called-both : (read written before between after : List Call) → between ≡ before ++ read
-    → after ≡ between ++ written → after ≡ before ++ (read ++ written)
-called-both read written before between after begun made =
-    made ∙ ap (λ (calls : List Call). calls ++ written) begun ∙ append_assoc before read written
-
 -- what was made until a hindrance after a call to read
 pub made-after_read : (why : Hindrance) (read written before between after : List Call)
     → between ≡ before ++ read → MadeUntil why [] written between after → MadeUntil why read written before after
-made-after_read NoMemory read written before between after begun made = elim made [
-  | inl same ↦ inr (same ∙ begun)
-  | inr same ↦ inr (same ∙ append-nil between ∙ begun)
-]
-made-after_read (CannotRead name) read written before between after begun made = made ∙ append-nil between ∙ begun
-made-after_read (FileExists name) read written before between after begun made =
-    called-both read written before between after begun made
-made-after_read (CannotCreate name) read written before between after begun made =
-    called-both read written before between after begun made
+made-after_read = grind (arith, common_steps, append_assoc, append-nil)
 
 -- what was made until a hindrance is the first of a job's calls
 pub opens-until : (why : Hindrance) (job : Job) (before after : List Call)

@@ -1,5 +1,6 @@
 -- What a run promises of its input follows from what its logs are.
-use Rattle.std.proofs.Common.{◌≡◌, ℕ, List, Option, Some, None, map, refl, ◌∙◌}
+use Rattle.std.proofs.lemmas.Grind.{common_steps}
+use Rattle.std.proofs.Common.{arith, ◌≡◌, ℕ, List, Option, Some, None, map, refl, ◌∙◌}
 use Rattle.std.specs.Prelude.{reverse}
 use Rattle.crx_base.specs.declared.fault.At.{At}
 use Rattle.crx_base.specs.meaning.{AsRead.as_read, Choices.Choices, Lines.lines_of}
@@ -15,26 +16,10 @@ use Rattle.crx_program.specs.declared.streams.Whole.{Whole}
 use Rattle.crx_program.specs.meaning.{Jobs.tool_result, Kept.{KeepsItsPromises, IsLogged, ToolKeeps}, Streams.IsExact}
 
 -- a result without status 1 has no fault
-without-fault : (warnings : List At) (fault : Option At) → (status_after warnings fault ≡ 1 → ⊥) → fault ≡ None
-without-fault warnings None well = refl
-without-fault warnings (Some at) well = absurd (well refl)
-
-without-check_fault : (fault : Option At) (found : Findings)
-    → (FilterResult.status (checked_by fault found) ≡ 1 → ⊥) → FilterResult.fault (checked_by fault found) ≡ None
-without-check_fault None found well = refl
-without-check_fault (Some at) found well = absurd (well refl)
-
 good-result : (tool : Tool) (choices : Choices) (input : List ℕ)
     → (FilterResult.status (tool_result tool choices input) ≡ 1 → ⊥)
     → FilterResult.fault (tool_result tool choices input) ≡ None
-good-result Compact choices input well =
-    let whole : WholeReading Epoch = whole_rinex choices.skip (map as_read (lines_of input)) in
-    without-fault (reverse (warnings_in whole.items)) whole.fault well
-good-result Expand choices input well =
-    let whole : WholeReading ReadEpoch = whole_compact choices.skip (map as_read (lines_of input)) in
-    without-fault (reverse (warnings_in whole.items)) whole.fault well
-good-result Check choices input well =
-    without-check_fault (whole_of input).fault (findings_of (lines_of input)) well
+good-result = grind (arith, common_steps)
 
 tool-keeps : (tool : Tool) (choices : Choices) (holds : FilterResult → Type 0) (status : ℕ) (input : List ℕ)
     → holds (tool_result tool choices input) → status ≡ FilterResult.status (tool_result tool choices input)

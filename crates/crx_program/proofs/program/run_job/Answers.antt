@@ -1,5 +1,5 @@
 use Rattle.std.proofs.Common.{◌∙◌, Some, ap, inl, inr, refl, sym}
-use Rattle.crx_program.{proofs.CallLemmas.{called-both, called-to_read, made-after_read}}
+use Rattle.crx_program.{proofs.CallLemmas.{called-to_read, made-after_read}, specs.Logs.adds_both}
 use Rattle.crx_program.specs.meaning.Jobs.{CannotRead, call_to_read, call_to_write}
 use Rattle.crx_program.proofs.program.run_job.Goals as goal
 
@@ -16,7 +16,7 @@ returns-in-Ok-open_to_read-clause-done g c =
       | inl begun ↦ inl (
         c.in-Ok.options,
         c.in-Ok.ensures,
-        called-both (call_to_read job.source) (call_to_write job.target job.force) first between last read begun.0,
+        adds_both first between last (call_to_read job.source) (call_to_write job.target job.force) read begun.0,
         rw named (
           c.in-Ok-open_to_read.opened,
           c.run_to_target-ended.new.reader,
