@@ -165,27 +165,7 @@ module _ {run : TaskRun} {held : HandleState} {taken : BothTexts} {lines : List 
 pub early-weaker : {run : TaskRun} {P Q : ℕ → Type 0} {input : List ℕ} {held : HandleState} {result : FilterResult}
     → ((n : ℕ) → P n → Q n) → StopsEarly P run input held result → StopsEarly Q run input held result
 early-weaker weaker (inl limit) = inl limit
-early-weaker weaker (inr ran) =
-    let s = ran.stops in inr (record {
-      stops = record {
-        lines = s.lines;
-        others = s.others;
-        first = s.first;
-        before = s.before;
-        before_is = s.before_is;
-        good = s.good;
-        after = s.after;
-        after_is = s.after_is;
-        line = s.line;
-        line_is = s.line_is;
-        there = weaker _ s.there;
-        notices = s.notices;
-        own = s.own;
-        asked = s.asked;
-        result_is = s.result_is;
-      };
-      lacking = ran.lacking;
-    })
+early-weaker weaker (inr ran) = inr (record { stops = search (rules, weaker, ran.stops); lacking = ran.lacking })
 
 pub stopped-weaker : {run : TaskRun} {P Q : ℕ → Type 0} {input : List ℕ} {held : HandleState} {taken : BothTexts}
     {stop : Stop} → ((n : ℕ) → P n → Q n) → IsStopped P run input held taken stop

@@ -1,11 +1,11 @@
 -- A handle stays sound from call to call.
 use Rattle.std.proofs.{lemmas.Grind.common_steps}
 use Rattle.rnxcmp_c.proofs.{PieceLemmas.none-or, Words.{◌≡◌, ◌⊎◌, inl, inr, ℕ, ◌<◌, ◌≤◌, ◌-◌, List, [], ◌++◌, length, Option}}
-use Rattle.rnxcmp_c.proofs.Words.{Some, None, take, arith, append-nil, length-append, ⊎_elim, lines_of}
+use Rattle.rnxcmp_c.proofs.Words.{Some, None, take, drop, refl, arith, append-nil, length-append, ⊎_elim, lines_of}
 use Rattle.rnxcmp_c.proofs.Words.{ended_lines_of, ended_lines-come_first, Outcome, ReaderRuns, FeedsBy}
 use Rattle.rnxcmp_c.proofs.Words.{HasEndedBy, HasFedBy, ReaderStands, BothTexts, INPUT_LIMIT, rooms}
 use Rattle.rnxcmp_c.proofs.Words.{StandsBy, FilterResult, answer_now, is_some, false, limit_for, FeedsBytes, HasFed}
-use Rattle.rnxcmp_c.proofs.Words.{subst, Task, Answer, AnyEngine, HandleState, Reader}
+use Rattle.rnxcmp_c.proofs.Words.{Task, Answer, AnyEngine, HandleState, Reader}
 use Rattle.rnxcmp_c.specs.Handles.{IsFresh, IsOverWith, ReaderEndsBy, ReaderHasEnded, ReaderHasPassed}
 use Rattle.rnxcmp_c.specs.Holding.{HoldsNothing}
 use Rattle.rnxcmp_c.proofs.{GoingLemmas.early-weaker, ReaderLemmas.{ended-as, lawful-for}}
@@ -46,18 +46,16 @@ pub ended-by_none : (task : Task) (old new : Reader) (fed : List ℕ) (taken : B
     → ReaderEndsBy task old new fed taken answer outcome
 ended-by_none = grind arith
 
--- where nothing was taken, nothing more was fed
-pub none-fed : (fed bytes : List ℕ) (used : ℕ) → used ≡ 0 → fed ≡ fed ++ take used bytes
-none-fed fed bytes used none = grind (arith, append-nil)
-
 -- bytes were fed, or there are some and an input may have none of them
 pub either-fed : {task : Task} {old new : Reader} {fed : List ℕ} {taken : BothTexts} {bytes : List ℕ} {used : ℕ}
     {answer : Answer} → FeedsBytes task old new fed taken bytes used answer
     → HasFed fed task new (fed ++ take used bytes) taken
-    ⊎ ((0 < length bytes) × (used ≡ 0) × ReaderHasPassed task new fed taken)
-either-fed {task} {old} {new} {fed} {taken} {bytes} feeds = ⊎_elim (λ none. ⊎_elim
+    ⊎ ((0 < length (drop used bytes)) × (fed ++ take used bytes ≡ fed)
+    × ReaderHasPassed task new (fed ++ take used bytes) taken)
+either-fed {task} {old} {new} {fed} {taken} {bytes} {used} feeds = ⊎_elim (λ none. ⊎_elim
     (λ empty. inl (feeds.fed_on (λ some. absurd (omega (arith, some, empty)))))
-    (λ some. inr (some, grind (arith, feeds.takes), feeds.over some none)) (none-or (length bytes)))
+    (λ some. let nothing : used ≡ 0 = grind (arith, feeds.takes) in
+    inr (rw (nothing, append-nil fed) (some, refl, feeds.over some none))) (none-or (length bytes)))
     (λ more. inl (feeds.fed_on (λ _. more))) (none-or (length (take (INPUT_LIMIT - length fed) bytes)))
 
 pub feeds-stands : (task : Task) (old new : Reader) (fed : List ℕ) (taken : BothTexts) (bytes : List ℕ) (used : ℕ)
@@ -65,11 +63,10 @@ pub feeds-stands : (task : Task) (old new : Reader) (fed : List ℕ) (taken : Bo
     → FeedsBy task old new fed taken bytes used answer outcome
     → ReaderStands task new (fed ++ take used bytes) taken
 feeds-stands task old new fed taken bytes used answer None stands feeds =
-    ⊎_elim (fed-stands fed task new (fed ++ take used bytes) taken new.outcome) (λ passed.
-    subst (λ (l : List ℕ). ReaderStands task new l taken) (none-fed fed bytes used passed.1)
-    (ended-stands task new fed taken new.outcome passed.2 (λ result full. inr (inr full)))) (either-fed feeds)
+    ⊎_elim (fed-stands fed task new _ taken new.outcome) (λ passed. ended-stands task new _ taken new.outcome
+    passed.2 (λ result full. inr (inr full))) (either-fed feeds)
 feeds-stands task old new fed taken bytes used answer (Some outcome) stands (misused, none, same) =
-    rw same (subst (λ (l : List ℕ). ReaderStands task old l taken) (none-fed fed bytes used none) stands)
+    rw (same, none, append-nil fed) stands
 
 pub ends-stands : (task : Task) (old new : Reader) (fed : List ℕ) (taken : BothTexts) (answer : Answer)
     (outcome : Option Outcome) → ReaderStands task old fed taken → ReaderEndsBy task old new fed taken answer outcome

@@ -2,7 +2,7 @@
 use Rattle.std.proofs.lemmas.Grind.{common_steps}
 use Rattle.rnxcmp_c.proofs.Words.{◌≡◌, ◌⊎◌, inl, inr, ⊎_elim, ℕ, List, [], ◌∷◌, ◌++◌}
 use Rattle.rnxcmp_c.proofs.Words.{take, drop, append_assoc, Option, Some, None, is_some, true, false, arith}
-use Rattle.rnxcmp_c.proofs.Words.{refl, sym, ◌∙◌, subst, append-nil, InputLine, lines_of, At}
+use Rattle.rnxcmp_c.proofs.Words.{refl, sym, ◌∙◌, append-nil, InputLine, lines_of, At}
 use Rattle.rnxcmp_c.proofs.Words.{with_next, notices_text, Begins, FilterResult}
 use Rattle.rnxcmp_c.proofs.Words.{AreNext, Outcome}
 use Rattle.rnxcmp_c.specs.{Going.IsLastLine, Handles.ReaderHasEnded}
@@ -12,7 +12,7 @@ use Rattle.rnxcmp_c.proofs.Words.{HasFedBy, texts_of_held, Holds, Handle, FeedsB
 use Rattle.rnxcmp_c.proofs.Words.{filter_for, result_for, Answer, joined_texts}
 use Rattle.rnxcmp_c.proofs.Words.{Reader, BothTexts, RunHasEnded, StopsAtLimit, StopsForMemory}
 use Rattle.rnxcmp_c.proofs.Words.{Task, Compact, Expand, Check, handle_answer, run_for}
-use Rattle.rnxcmp_c.proofs.{Cut.begins-next, HandleLemmas.{either-fed, ends-stands, feeds-stands, none-fed}}
+use Rattle.rnxcmp_c.proofs.{Cut.begins-next, HandleLemmas.{either-fed, ends-stands, feeds-stands}}
 use Rattle.rnxcmp_c.proofs.GoingLemmas.{begins-then, notices-both}
 use Rattle.rnxcmp_c.proofs.ReaderLemmas.{ended-as, lawful-for, output-for}
 use Rattle.rnxcmp_c.proofs.Words.{with_one_more, bare_answer, MISUSED}
@@ -124,21 +124,6 @@ module _ (task : Task) (reader : Reader) (fed : List ℕ) (taken : BothTexts) wh
   fed-ended before left (Some outcome) ended over =
       inl (λ (more : List ℕ). (ended-as (over more) (λ result is. grind arith)).ended)
 
--- what bytes have ended
-module _ (task : Task) (old new : Reader) (fed : List ℕ) (taken : BothTexts) (bytes : List ℕ) (used : ℕ)
-    (answer : Answer) where
-  abbrev BytesEnded : List ℕ → ℕ → Type 0
-  BytesEnded then count = RunWasEnded (run_for task) fed then (drop count bytes)
-      (joined_texts taken (texts_of_held new.held)) (texts_of_held new.held) (answer_now new)
-
-  feeds-ended : is_some new.outcome ≡ true → FeedsBytes task old new fed taken bytes used answer
-      → BytesEnded (fed ++ take used bytes) used
-  feeds-ended ended feeds =
-      ⊎_elim (fed-ended task new (fed ++ take used bytes) taken fed (drop used bytes) new.outcome ended)
-      (λ passed. subst (λ (then : List ℕ). BytesEnded then used) (none-fed fed bytes used passed.1)
-      (rw passed.1 (inr (passed.0, refl, (ended-by task new fed taken new.outcome passed.2 (λ result is. is)).1))))
-      (either-fed feeds)
-
 -- ---- a handle
 
 -- a handle that is open and sound holds a reader
@@ -196,7 +181,13 @@ module _ {task : Task} {old new : Handle} {fed : List ℕ} {taken : BothTexts} {
         → RunWasEnded (run_for task) fed (fed ++ take used bytes) (drop used bytes)
         (joined_texts taken (texts_kept new)) (texts_kept new) answer
     feeds-was_ended ended = rw (is.holds, feeds-bytes.answers)
-        (feeds-ended task is.before is.after fed taken bytes used answer (rw is.holds at ended) feeds-bytes)
+        (⊎_elim (fed-ended task is.after (fed ++ take used bytes) taken fed (drop used bytes) is.after.outcome
+        (rw is.holds at ended)) (λ passed. inr (
+          passed.0,
+          passed.1,
+          (ended-by task is.after (fed ++ take used bytes)
+              taken is.after.outcome passed.2 (λ result is. is)).1,
+        )) (either-fed feeds-bytes))
 
 -- and of one whose input has ended
 module _ {task : Task} {old new : Handle} {fed : List ℕ} {taken : BothTexts} {answer : Answer}

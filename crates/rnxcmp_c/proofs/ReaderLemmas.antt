@@ -7,7 +7,6 @@ use Rattle.rnxcmp_c.proofs.Words.{Course, check-lawful, compaction-lawful, expan
 use Rattle.rnxcmp_c.proofs.Words.{Stop, Fault, Limit, result_of_course, FilterResult, BothTexts, StopsWhenFull, TaskRun}
 use Rattle.rnxcmp_c.proofs.Words.{engine_filter, has_ended_of, run_for, limit_for, result_for, Task, Compact}
 use Rattle.rnxcmp_c.proofs.Words.{Expand, Check, filter_for, AnyEngine, HandleState, ended_lines_of}
-use Rattle.rnxcmp_c.proofs.Words.{Compacting, Expanding, Checking}
 use Rattle.rnxcmp_c.specs.Going.{AreTaken, FailsIn, IsLastLine, IsStopped, StopsAs, StopsEarly}
 use Rattle.rnxcmp_c.specs.Handles.{EndsRunBy, EndsWithin, IsOf, IsPut, status_at_end}
 

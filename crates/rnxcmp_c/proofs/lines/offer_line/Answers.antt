@@ -1,7 +1,7 @@
 use Rattle.std.proofs.{lemmas.Bool.lt-ltb}
 use Rattle.rnxcmp_c.proofs.{Cut.line-kept, PieceLemmas.long-where_long}
 use Rattle.rnxcmp_c.proofs.{PieceLemmas.whole-where_not_long, Words.{◌≡◌, ap, refl, subst, ◌∙◌}}
-use Rattle.rnxcmp_c.proofs.Words.{rules, InputLine, LINE_LIMIT, piece_line}
+use Rattle.rnxcmp_c.proofs.Words.{rules, InputLine, piece_line}
 use Rattle.rnxcmp_c.{proofs.lines.offer_line.Goals.{then-is_ended, else-is_ended}, specs.Going.LineIsGiven}
 use Rattle.crx_lines.specs.Reading.{line_shown}
 use Rattle.rnxcmp_c.proofs.lines.offer_line.Goals as goal

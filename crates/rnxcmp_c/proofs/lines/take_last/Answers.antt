@@ -1,6 +1,6 @@
 use Rattle.std.proofs.{lemmas.Grind.common_steps}
 use Rattle.rnxcmp_c.proofs.GoingLemmas.{all-ended, all-but_last, end-taken, stopped, taken-more}
-use Rattle.rnxcmp_c.proofs.Words.{◌<◌, ◌+◌, [], ◌∷◌, length, false, true, arith, sym, refl, ap, ◌∙◌}
+use Rattle.rnxcmp_c.proofs.Words.{◌<◌, ◌+◌, [], ◌∷◌, length, false, arith, sym, refl, ap, ◌∙◌}
 use Rattle.rnxcmp_c.proofs.Words.{err_from_is_err_and, ended_lines_of, length-append, piece_line}
 use Rattle.rnxcmp_c.proofs.lines.take_last.{Given.Over, Goals.Else-is_empty}
 use Rattle.rnxcmp_c.proofs.lines.take_last.Goals as goal
