@@ -1,20 +1,17 @@
 -- An empty body. The borrow is opened, and closed at another list. The row behind the second reference is
 -- read by contracts alone.
-use Rattle.std.proofs.Common.{rules, ℕ, List, [], ◌∷◌, ◌++◌, refl, MutBor}
-use seplogic.Ra.Ura.{Ura}
+use Rattle.std.proofs.Common.{List, [], ◌∷◌, ◌++◌, refl}
 use mir.{Syntax.named, Val.{Val, vunit, vptr}}
-use base.{Fml.{GName, Lft, Share, ftrue, flft, fobs, fbor}, Logic.{SProp, ent, sep, emp, via, fst∗, id⊢}}
-use prog.{Memory.Memory, Routine.Routine, Wp.{Calls, Loops, WpFn, Tables}}
-use types.{ByLocal.{alloc_all, pass_all, free_all, look_at, sets}, Kit.{‵, ◌⊛◌, ◌$◌, ◌∵◌, !, qed, by, move}}
+use base.{Fml.{ftrue, flft}, Logic.{SProp, id⊢}}
+use types.{ByLocal.{alloc_all, pass_all, free_all, look_at, sets}, Kit.{‵, raw, ◌⊛◌, ◌$◌, ◌∵◌, !, qed, move}}
 use types.Kit.{keep, drop, use1, split, join, fsplit, fsplit3, fjoin, fjoin3, feq_i, suffices, frame, done}
-use types.{Logic.Logic, Run.{unit_lit, of_opd, returns, enter}, SemTy.Body}
-use contract.{Monad.Fun, Running.{tables, tables_of}}
-use sound.WpLaws.{WpFn-mono}
-use denote.{Exit.yes, Memory.mem, RattleType.owns, Ref.{Bor, MutRef, ShrRef, mut_vals, mut_Tells, shr_vals}}
-use denote.{Ref.shr_Tells, Signature.plain, Steps.{opens, closes}, Triple.{Entry.on_entry, Spec.Meets}}
-use denote.Triple.{Spec.triple_of, Table.entered, Walked.{says, Stays, stay_ref, stay_none_ref, walk_of}}
-use denote.Triple.Walked.{AllGo, Goes-ref, Goes-none_ref, Walks, ends_at, walked, walk_Meets}
-use Rattle.crx_rinex.specs.{declared.rows_so_far.RowsSoFar.RowsSoFar, meaning.Observations.Row}
+use types.Run.{unit_lit, of_opd, returns, enter}
+use contract.Running.{tables}
+use denote.{Exit.yes, RattleType.owns, Ref.{MutRef, ShrRef, mut_vals, mut_Tells, shr_vals, shr_Tells}}
+use denote.{Signature.plain, Steps.{opens, closes}}
+use denote.Triple.Walked.{says, Stays, stay_ref, stay_none_ref, walk_of, Goes-ref, Goes-none_ref, ends_at}
+use Rattle.std.proofs.raw_atomic.Walks.{proved}
+use Rattle.crx_rinex.specs.declared.rows_so_far.RowsSoFar.{RowsSoFar}
 use Rattle.crx_rinex.specs.contracts.rows_so_far.RowsSoFar.add.Key.{name as #it}
 use Rattle.crx_rinex.specs.contracts.rows_so_far.RowsSoFar as T
 use Rattle.crx_rinex.specs.contracts.row_buffer.RowBuffer as R
@@ -22,80 +19,33 @@ use Rattle.crx_rinex.specs.contracts.rows_so_far.RowsSoFar.add as it
 use Rattle.crx_rinex.proofs.rows_so_far.RowsSoFar.add.Statement as stated
 use Rattle.crx_rinex.proofs.rows_so_far.RowsSoFar.add.Code as code
 
-abbrev Arg : Type 0
-Arg = MutBor RowsSoFar × (Bor Row × Unit {0})
-
-abbrev stayed : Stays (it.ended).signature.params (it.ended).kept
-stayed = (
-  stay_ref (0 ∷ []) tt (plain (λ _. T.the_row)),
-  (stay_none_ref (1 ∷ []) tt (plain (λ _. R.the_row)) yes, tt),
-)
-
-module _ {M : Type 1} {𝓤 : Ura M} (𝓛 : Logic 𝓤) (at_mem : Memory → SProp 𝓤) (run : Routine → Fun 𝓤)
-    (κ κ' : Lft) (q q' : Share) (b o : ℕ) (γ : GName) (h : RowsSoFar) (s : Bor Row) where
-  open 𝓛 use {H, A}
-
-  abbrev x : Arg
-  x = (record { ref_ptr = (b, o); ghost_name = γ; now = h }, (s, tt))
-
-  abbrev h' : RowsSoFar
-  h' = record { marker = h.marker; rows = h.rows ++ s.now ∷ [] }
-
-  abbrev at : List Val × (List Val × Unit {0})
-  at = (vptr b o ∷ [], (vptr s.ref_ptr.0 s.ref_ptr.1 ∷ [], tt))
-
-  abbrev rest : base.Fml.Fml
-  rest = owns (ShrRef (named 1) κ' R.the_row ∷ []) x.1 at.1
-
-  abbrev Post : Val → SProp 𝓤
-  Post = (walk_of 𝓛 it.ended stayed (it.clauses 𝓛 at_mem run)).post
-      (((κ, (κ', tt)), (q, (q', tt)), tt, x, at), tt)
-
-  exits : ent 𝓤 (sep 𝓤 (A.obs γ ((T.the_row).coded.code h')) (sep 𝓤 (A.bor κ (Body (mem T.the_row) b o γ))
-      (sep 𝓤 (A.lft κ q) (sep 𝓤 (types.Logic.sem 𝓛 rest) (sep 𝓤 (A.lft κ' q') (emp 𝓤)))))) (Post vunit)
-  exits =
-      qed 𝓛 (‵ (fobs γ _) ∷ ‵ (fbor κ _) ∷ ‵ (flft κ q) ∷ ‵ rest ∷ (‵ (flft κ' q') ⊛ ‵ ftrue) ∷ []) ∵
-      suffices ! _ (ends_at 𝓛 it.ended stayed (it.clauses 𝓛 at_mem run)
-      (((κ, (κ', tt)), (q, (q', tt)), tt, x, at), tt) vunit tt (h', (tt, tt)) (tt, (tt, tt))) $ says ! refl $
-      move ! (2 ∷ 4 ∷ []) $ join ! $ frame ! $ feq_i ! (List Val) (vptr b o ∷ []) _ refl $ fjoin3 ! $ fjoin !
-      $ feq_i ! (List Val) (vunit ∷ []) _ refl $ move ! (1 ∷ 0 ∷ []) $ done !
-
-  module _ (C : Calls 𝓤 H) (Λ : Loops 𝓤 H) where
-    walk : ent 𝓤 (on_entry 𝓛 it.signature (κ, (κ', tt)) (q, (q', tt)) x at)
-        (WpFn 𝓤 H C Λ code.function (vptr b o ∷ vptr s.ref_ptr.0 s.ref_ptr.1 ∷ []) Post)
-    walk =
-        qed 𝓛 ((‵ (flft κ q) ⊛ (‵ (flft κ' q') ⊛ ‵ ftrue)) ∷ ‵
-        (owns (MutRef (named 0) κ T.the_row ∷ ShrRef (named 1) κ' R.the_row ∷ []) x at) ∷ []) ∵ split ! $ move
-        ! (2 ∷ []) $ fsplit ! $ fsplit3 ! $ drop ! $ move ! (0 ∷ 1 ∷ 3 ∷ []) $ enter ! C Λ code.function
-        (vptr b o ∷ vptr s.ref_ptr.0 s.ref_ptr.1 ∷ []) _ $ alloc_all !
-        (λ l. pass_all ! refl ((tt, tt), ((tt, tt), tt)) $ move ! (0 ∷ 1 ∷ 2 ∷ []) $ opens ! tt T.the_row
-        {h = h} b o (λ vs. sets ! (of_opd ! (unit_lit !)) refl (tt, tt) $ move ! (1 ∷ []) $ use1 𝓛
-        (‵ ((T.the_row).own_val h' vs)) (id⊢ 𝓤 _) $ move ! (1 ∷ 0 ∷ []) $ closes ! tt T.the_row h' vs b o $
-        returns ! (look_at ! 0 refl) $ free_all ! refl $ keep ! (0 ∷ 1 ∷ 2 ∷ 3 ∷ 4 ∷ []) $ by ! exits))
-
-module _ {M : Type 1} {𝓤 : Ura M} (𝓛 : Logic 𝓤) (at_mem : Memory → SProp 𝓤) (run : Routine → Fun 𝓤) where
-  open 𝓛 use {H}
-
-  walks : (C : Calls 𝓤 H) (Λ : Loops 𝓤 H)
-      → Walks 𝓛 it.ended stayed (WpFn 𝓤 H C Λ code.function) (it.clauses 𝓛 at_mem run)
-  walks C Λ = walked 𝓛 it.ended stayed (it.clauses 𝓛 at_mem run) (WpFn 𝓤 H C Λ code.function)
-      (λ κs. (mut_vals, (shr_vals, tt)))
-      (λ κs. (mut_Tells (named 0) κs.0 T.the_row, (shr_Tells (named 1) κs.1.0 R.the_row, tt)))
-      (λ κs qs bounds a _ _. via 𝓤 _ (fst∗ 𝓤 _ (emp 𝓤))
-      (walk 𝓛 at_mem run κs.0 κs.1.0 qs.0 qs.1.0 _ _ _ a.0.now a.1.0 C Λ))
-
-  goes : AllGo 𝓛 2 (it.signature).params (it.ended).kept stayed
-  goes = search (rules, Goes-ref, Goes-none_ref)
-
-meets : {M : Type 1} {𝓤 : Ura M} (𝓛 : Logic 𝓤) → (at_mem : Memory → SProp 𝓤) (run : Routine → Fun 𝓤)
-    (𝓣 : Tables 𝓤 𝓛.H) → Meets 𝓛 it.signature (WpFn 𝓤 𝓛.H 𝓣.C 𝓣.Λ code.function) (it.spec 𝓛 at_mem run)
-meets {𝓤 = 𝓤} 𝓛 at_mem run 𝓣 =
-    walk_Meets 𝓛 it.ended stayed (goes 𝓛 at_mem run) (it.clauses 𝓛 at_mem run)
-    (WpFn 𝓤 𝓛.H 𝓣.C 𝓣.Λ _) (WpFn-mono 𝓤 𝓛.H 𝓛.laws 𝓣 _) (walks 𝓛 at_mem run 𝓣.C 𝓣.Λ)
-
 pub add_spec : {M : Type 1} → stated.statement M
-unfolding tables_of
 add_spec 𝓤 𝓛 𝓜 𝓡 wired =
-    entered 𝓤 𝓛.H (triple_of 𝓛 it.signature (it.spec 𝓛 𝓜.mem 𝓡.returns))
-    (tables 𝓤 𝓛.H 𝓜 𝓡 𝓡.env).C (tables 𝓤 𝓛.H 𝓜 𝓡 𝓡.env).Λ #it code.function (code.unfolded 𝓤 𝓛.H 𝓜 𝓡 wired)
-    (meets 𝓛 𝓜.mem 𝓡.returns (tables_of 𝓤 𝓛.H 𝓜 (tables 𝓤 𝓛.H 𝓜 𝓡 𝓡.env)))
+    let 𝓣 = tables 𝓤 𝓛.H 𝓜 𝓡 𝓡.env in let c = it.clauses 𝓛 𝓜.mem 𝓡.returns in
+    let stayed : Stays (it.ended).signature.params (it.ended).kept = (
+      stay_ref (0 ∷ []) tt (plain (λ _. T.the_row)),
+      (stay_none_ref (1 ∷ []) tt (plain (λ _. R.the_row)) yes, tt),
+    ) in
+    proved 𝓛 it.ended stayed c 𝓜 𝓡 (
+      Goes-ref 𝓛 2 0 tt (plain (λ _. T.the_row)),
+      (Goes-none_ref 𝓛 2 (1 ∷ []) tt (plain (λ _. R.the_row)) yes, tt),
+    ) #it code.function (code.unfolded 𝓤 𝓛.H 𝓜 𝓡 wired) (λ κs. (mut_vals, (shr_vals, tt)))
+    (λ κs. (mut_Tells (named 0) κs.0 T.the_row, (shr_Tells (named 1) κs.1.0 R.the_row, tt)))
+    (λ κs qs bounds a g are.
+    let b = a.0.ref_ptr.0 in let o = a.0.ref_ptr.1 in let h : RowsSoFar = a.0.now in
+    let s : Val = vptr a.1.0.ref_ptr.0 a.1.0.ref_ptr.1 in
+    let h' : RowsSoFar = record { marker = h.marker; rows = h.rows ++ a.1.0.now ∷ [] } in
+    let at : List Val × (List Val × Unit {0}) = (vptr b o ∷ [], (s ∷ [], tt)) in
+    let Post : Val → SProp 𝓤 = (walk_of 𝓛 it.ended stayed c).post ((κs, qs, bounds, a, at), g) in
+    qed 𝓛 (((‵ (flft κs.0 qs.0) ⊛ (‵ (flft κs.1.0 qs.1.0) ⊛ ‵ ftrue)) ⊛ ‵
+    (owns (MutRef (named 0) κs.0 T.the_row ∷ ShrRef (named 1) κs.1.0 R.the_row ∷ []) a at)) ∷ raw
+    ((c κs a).requires g) ∷ []) ∵ split ! $ split ! $ move ! (2 ∷ []) $ fsplit ! $ fsplit3 ! $ drop ! $ move !
+    (0 ∷ 1 ∷ 3 ∷ []) $ enter ! 𝓣.C 𝓣.Λ code.function (vptr b o ∷ s ∷ []) Post $ alloc_all !
+    (λ l. pass_all ! refl ((tt, tt), ((tt, tt), tt)) $ move ! (0 ∷ 1 ∷ 2 ∷ []) $
+    opens ! tt T.the_row {h = h} b o (λ vs. sets ! (of_opd ! (unit_lit !)) refl (tt, tt) $ move ! (1 ∷ []) $
+    use1 𝓛 (‵ ((T.the_row).own_val h' vs)) (id⊢ 𝓤 _) $ move ! (1 ∷ 0 ∷ []) $
+    closes ! tt T.the_row h' vs b o $ returns ! (look_at ! 0 refl) $ free_all ! refl $ keep !
+    (0 ∷ 1 ∷ 2 ∷ 3 ∷ 4 ∷ []) $ suffices ! _
+    (ends_at 𝓛 it.ended stayed c ((κs, qs, bounds, a, at), g) vunit tt (h', (tt, tt)) (tt, (tt, tt))) $ says !
+    refl $ move ! (2 ∷ 4 ∷ []) $ join ! $ frame ! $ feq_i ! (List Val) (vptr b o ∷ []) (vptr b o ∷ []) refl $
+    fjoin3 ! $ fjoin ! $ feq_i ! (List Val) (vunit ∷ []) (vunit ∷ []) refl $ move ! (1 ∷ 0 ∷ []) $ done !)))

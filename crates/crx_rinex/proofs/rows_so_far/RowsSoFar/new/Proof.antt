@@ -1,15 +1,11 @@
 -- `new` makes a value of no rows, at the empty list.
 use mathlib.Core.{List.{[], ◌∷◌}, Path.refl}
-use seplogic.Ra.Ura.{Ura}
 use mir.Val.{Val, vstruct, vcons, vnil}
-use base.Logic.{SProp}
-use prog.{Memory.Memory, Routine.Routine, Wp.{WpFn, Tables}}
 use types.{ByLocal.{alloc_all, pass_all, free_all, look_at, get, sets}, Kit.{raw, ◌$◌, ◌∵◌, !, qed, keep}}
-use types.{Kit.{join, suffices, done}, Logic.Logic, Part.agg, Run.{no_more, and_then, returns, enter}}
-use contract.{Monad.Fun, Running.{tables, tables_of}}
-use sound.WpLaws.{WpFn-mono}
-use denote.{Shadow.pure_i, Steps.nothing, Triple.{Entry.on_entry, Spec.Meets, Table.entered, Walked.says}}
-use denote.Triple.Walked.{ends_at, walked, walk_Meets}
+use types.{Kit.{join, suffices, done}, Part.agg, Run.{no_more, and_then, returns, enter}}
+use contract.Running.{tables}
+use denote.{Shadow.pure_i, Steps.nothing, Triple.{Entry.on_entry, Walked.{says, ends_at}}}
+use Rattle.std.proofs.raw_atomic.Walks.{proved}
 use Rattle.crx_rinex.specs.declared.rows_so_far.RowsSoFar.{RowsSoFar}
 use Rattle.crx_rinex.specs.contracts.rows_so_far.RowsSoFar.new.Key.{name as #it}
 use Rattle.crx_rinex.specs.contracts.rows_so_far.RowsSoFar as T
@@ -17,28 +13,17 @@ use Rattle.crx_rinex.specs.contracts.rows_so_far.RowsSoFar.new as it
 use Rattle.crx_rinex.proofs.rows_so_far.RowsSoFar.new.Statement as stated
 use Rattle.crx_rinex.proofs.rows_so_far.RowsSoFar.new.Code as code
 
-abbrev v : Val
-v = vstruct (vcons (vstruct vnil) vnil)
-
-abbrev r : RowsSoFar
-r = record { marker = record {}; rows = [] }
-
-meets : {M : Type 1} {𝓤 : Ura M} (𝓛 : Logic 𝓤) → (at_mem : Memory → SProp 𝓤) (run : Routine → Fun 𝓤)
-    (𝓣 : Tables 𝓤 𝓛.H) → Meets 𝓛 it.signature (WpFn 𝓤 𝓛.H 𝓣.C 𝓣.Λ code.function) (it.spec 𝓛 at_mem run)
-meets {𝓤 = 𝓤} 𝓛 at_mem run 𝓣 =
-    walk_Meets 𝓛 it.ended tt tt (it.clauses 𝓛 at_mem run) (WpFn 𝓤 𝓛.H 𝓣.C 𝓣.Λ _) (WpFn-mono 𝓤 𝓛.H 𝓛.laws 𝓣 _)
-    (walked 𝓛 it.ended tt (it.clauses 𝓛 at_mem run) (WpFn 𝓤 𝓛.H 𝓣.C 𝓣.Λ _) (λ κs. tt) (λ κs. tt)
-    (λ κs qs bounds a g _. qed 𝓛 (raw (on_entry 𝓛 it.signature κs qs a tt) ∷ raw
-    ((it.clauses 𝓛 at_mem run κs a).requires g) ∷ []) ∵ keep ! [] $ enter ! 𝓣.C 𝓣.Λ code.function [] _ $
-    alloc_all ! (λ l. pass_all ! refl tt $ sets ! (agg ! (no_more !)) refl (tt, tt) $ sets !
-    (agg ! (and_then ! (get ! refl) (no_more !))) refl (tt, (tt, tt)) $ returns ! (look_at ! 0 refl) $
+pub new_spec : {M : Type 1} → stated.statement M
+new_spec 𝓤 𝓛 𝓜 𝓡 wired =
+    let 𝓣 = tables 𝓤 𝓛.H 𝓜 𝓡 𝓡.env in let c = it.clauses 𝓛 𝓜.mem 𝓡.returns in
+    let v : Val = vstruct (vcons (vstruct vnil) vnil) in
+    let r : RowsSoFar = record { marker = record {}; rows = [] } in
+    proved 𝓛 it.ended tt c 𝓜 𝓡 tt #it code.function (code.unfolded 𝓤 𝓛.H 𝓜 𝓡 wired) (λ κs. tt) (λ κs. tt)
+    (λ κs qs bounds a g _. qed 𝓛
+    (raw (on_entry 𝓛 it.signature κs qs a tt) ∷ raw ((c κs a).requires g) ∷ []) ∵ keep ! [] $ enter ! 𝓣.C 𝓣.Λ
+    code.function [] _ $ alloc_all ! (λ l. pass_all ! refl tt $ sets ! (agg ! (no_more !)) refl (tt, tt) $
+    sets ! (agg ! (and_then ! (get ! refl) (no_more !))) refl (tt, (tt, tt)) $ returns ! (look_at ! 0 refl) $
     free_all ! refl $ pure_i ! ((T.the_row).own_val r (v ∷ [])) ((λ vss. (tt, ((λ uss. (tt, tt)), tt))), tt)
     (((vstruct vnil ∷ [], tt), (refl, ((tt, (refl, tt)), tt))), tt) $ suffices ! _
-    (ends_at 𝓛 it.ended tt (it.clauses 𝓛 at_mem run) ((κs, qs, bounds, a, tt), g) v r tt tt) $ says ! refl $
-    nothing ! $ join ! $ nothing ! $ done !)))
-
-pub new_spec : {M : Type 1} → stated.statement M
-unfolding tables_of
-new_spec 𝓤 𝓛 𝓜 𝓡 wired =
-    entered 𝓤 𝓛.H _ (tables 𝓤 𝓛.H 𝓜 𝓡 𝓡.env).C (tables 𝓤 𝓛.H 𝓜 𝓡 𝓡.env).Λ #it code.function
-    (code.unfolded 𝓤 𝓛.H 𝓜 𝓡 wired) (meets 𝓛 𝓜.mem 𝓡.returns (tables_of 𝓤 𝓛.H 𝓜 (tables 𝓤 𝓛.H 𝓜 𝓡 𝓡.env)))
+    (ends_at 𝓛 it.ended tt c ((κs, qs, bounds, a, tt), g) v r tt tt) $ says ! refl $ nothing ! $ join ! $
+    nothing ! $ done !))
