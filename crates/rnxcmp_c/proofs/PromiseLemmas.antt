@@ -18,7 +18,7 @@ use Rattle.rnxcmp_c.proofs.ReaderLemmas.{ended-as, lawful-for, output-for}
 use Rattle.rnxcmp_c.proofs.Words.{with_one_more, bare_answer, MISUSED}
 use Rattle.rnxcmp_c.specs.Opened.{EndsHandle, FeedsHandle, HandleStands, IsSoundHandle, has_ended, run_state}
 use Rattle.rnxcmp_c.specs.{Handles.{fault_now, status_now}, Opened.texts_kept}
-use Rattle.rnxcmp_c.specs.meaning.Handles.{HandlePromise, RunWasEnded, TakesBytes, joined_texts}
+use Rattle.rnxcmp_c.specs.meaning.Handles.{HandlePromise, RunWasEnded, TakesBytes}
 use Rattle.crx_filter.proofs.following.DirectionSteps.{compaction-goes, expansion-goes}
 use Rattle.crx_filter.proofs.reading.Prefixes.{warnings-go_on}
 
