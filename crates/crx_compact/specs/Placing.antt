@@ -16,8 +16,7 @@ use Rattle.crx_base.specs.declared.fault.Fault.TheVariants.{BadFlags}
 use Rattle.crx_text.specs.meaning.Texts.{text_difference}
 use Rattle.crx_compact.specs.Cells.{arcs_of_cells}
 use Rattle.crx_compact.specs.RowsSoFar.{AreAnnounced, NamesSatellites}
-use Rattle.crx_compact.specs.ShownRows.{shown_row}
-use Rattle.crx_compact.specs.Steps.{cell_of_tail, flags_of_tail, flags_held, row_line_after, row_tail_after}
+use Rattle.crx_compact.specs.Steps.{cell_of_tail, flags_of_tail, flags_held, row_line_after}
 use Rattle.crx_compact.specs.Tails.{RowTail, Tail}
 use Rattle.crx_rinex.specs.meaning.Observations.{Row}
 use Rattle.crx_text.specs.meaning.Numbers.{IsValue}

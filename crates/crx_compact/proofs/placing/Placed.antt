@@ -1,7 +1,7 @@
 -- What is answered of a satellite that comes.
 use Rattle.crx_compact.proofs.Words.{◌≡◌, slice_index_or, take, ℕ, ◌+◌, ◌<◌, ◌≤◌, Bool, true, false, List}
-use Rattle.crx_compact.proofs.Words.{length, slice_get}
-use Rattle.crx_compact.proofs.Words.{Some, None, ap, arith, refl, sym, rules, bytes_eq, is_among}
+use Rattle.crx_compact.proofs.Words.{length, slice_get, refl}
+use Rattle.crx_compact.proofs.Words.{Some, None, ap, arith, sym, rules, bytes_eq, is_among}
 use Rattle.crx_compact.proofs.{Words.{PlacedRows, RowTail}, placing.EntryChanges.{changed-is, enough-room, little-room}}
 use Rattle.crx_compact.proofs.placing.Coming.{come-anew, emptied, come-awaited, is-new, repeated, unknown-no_row}
 use Rattle.crx_compact.proofs.placing.EntryChanges.{shown-same}
@@ -16,8 +16,7 @@ use Rattle.crx_compact.specs.Entries.{IsAt, IsOrder, entry_at, in_order, rooms_o
 use Rattle.indexmap.proofs.CallerLemmas.{keys-with_value_at}
 use Rattle.indexmap.specs.{IndexMap.{IndexMap, IsUnique, set_value_at}, Layout.length-set_value_at}
 use Rattle.crx_compact.specs.Entries.{Entry, IsPutNext, key_of, placed_rows}
-use Rattle.crx_compact.specs.Placing.{AnswersPlacing, HasAskedRoom, HasCome, HasRoom, IsPlaced, SatelliteTail}
-use Rattle.crx_compact.specs.Placing.{room_of_entry}
+use Rattle.crx_compact.specs.Placing.{AnswersPlacing, HasAskedRoom, HasCome, IsPlaced, SatelliteTail, room_of_entry}
 
 -- it isn't known
 pub placed-unknown : {name : List ℕ} {count : ℕ} (placed live : ℕ) (os es : List Entry) → is_among key_of name os
@@ -63,9 +62,7 @@ module _ {S : Type 0} (m : IndexMap (List ℕ) SatelliteTail S) (unique : IsUniq
     come : has ≡ true → {new : PlacedRows} → new.rooms ≡ rooms_of m.entries
         → HasCome name now new → AnswersPlacing name count now new (Some true)
     come roomy rooms has-come =
-        let room : HasRoom name count (rooms_of m.entries) =
-        enough-room m index name at unique count has answer roomy in
-        grind (arith, new-here, rooms, room)
+        grind (arith, new-here, enough-room m index name at unique count has answer roomy)
 
     -- one of the epoch before comes
     pub placed-next : has ≡ true → place < live → {new : List Entry}
@@ -98,8 +95,7 @@ module _ {S : Type 0} (m : IndexMap (List ℕ) SatelliteTail S) (unique : IsUniq
         let long = length-set_value_at m.entries index after in
         let below : place < length (in_order order m.entries) =
         omega (arith, stands, is.counted, length-map order (entry_at m.entries)) in
-        come roomy (shown-same room_of_entry m.entries index name at.satellite after at.there (cc empty))
-        (come-anew name
+        come roomy (shown-same room_of_entry m.entries index name at.satellite after at.there (cc empty)) (come-anew name
         placed live place (in_order order m.entries) m.entries es here apart (in_order moved es)
         (in_order next es) few beyond (ap (λ o. slice_get o live) moved-is ∙ revived-there live place _ blank beyond below
         ∙ ap (λ (s : SatelliteTail). Some (name, s)) empty)
