@@ -1,6 +1,7 @@
 -- How many bytes a call takes, of those that an input may still have.
 use Rattle.std.proofs.lemmas.Grind.{common_steps}
-use Rattle.rnxcmp_c.proofs.Words.{◌≡◌, ℕ, ◌-◌, ◌<◌, false, true, List, length, take, arith, length-append, INPUT_LIMIT}
+use Rattle.rnxcmp_c.proofs.Words.{◌≡◌, ℕ, ◌-◌, ◌<◌, false, true, List, length, take, arith, length-append}
+use Rattle.rnxcmp_c.proofs.Words.{INPUT_LIMIT}
 use Rattle.rnxcmp_c.proofs.Words.{HandleState, BothTexts, Task, run_for, texts_of_held, ready_in, READY_LIMIT}
 use Rattle.rnxcmp_c.specs.{Going.IsTaken, Past.StopsSoon, meaning.Handles.TakesBytes}
 

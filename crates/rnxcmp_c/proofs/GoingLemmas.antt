@@ -64,7 +64,8 @@ decided-next : (filter : Filter) → IsLawful filter → (lines others : List In
     → filter.whole (lines ++ others) ≡ with_one_more filter lines others
 decided-next filter lawful lines [] at fault = ap filter.whole (append-nil lines)
 decided-next filter lawful lines (line ∷ others) at fault =
-    ap filter.whole (sym (append_assoc lines (line ∷ []) others)) ∙ lawful.decided (with_next lines line) others at fault
+    ap filter.whole (sym (append_assoc lines (line ∷ []) others)) ∙ lawful.decided (with_next lines line)
+    others at fault
 
 module _ {run : TaskRun} {held : HandleState} {taken : BothTexts} {lines : List InputLine}
     (is : AreTaken run held taken lines) (new : HandleState) where
@@ -76,7 +77,8 @@ module _ {run : TaskRun} {held : HandleState} {taken : BothTexts} {lines : List 
 
   -- the end was taken
   pub ends-well : (fed : List ℕ) → lines_of fed ≡ lines → (shown : Type 0)
-      → MovesWithin (run.filter.so_far lines) (run.filter.whole lines) shown held new → IsAll run new fed taken
+      → MovesWithin (run.filter.so_far lines) (run.filter.whole lines) shown held new
+      → IsAll run new fed taken
   ends-well fed whole shown within = grind (arith, common_steps, text-grows, flag-grows)
 
   -- the next line, or the end, stopped the run
@@ -86,7 +88,8 @@ module _ {run : TaskRun} {held : HandleState} {taken : BothTexts} {lines : List 
     abbrev before : Course
     before = run.filter.so_far lines
 
-    abbrev ran_out : StopsShort (memory_next run.filter lines others) before (with_one_more run.filter lines others) held new
+    abbrev ran_out : StopsShort (memory_next run.filter lines others) before
+        (with_one_more run.filter lines others) held new
         → FilterResult
     ran_out short = result_of_course (record {
       output = before.output;
@@ -94,7 +97,8 @@ module _ {run : TaskRun} {held : HandleState} {taken : BothTexts} {lines : List 
       fault = Some (record { line = number; fault = OutOfMemory });
     })
 
-    abbrev for-memory : (short : StopsShort (memory_next run.filter lines others) before (with_one_more run.filter lines others)
+    abbrev for-memory : (short : StopsShort (memory_next run.filter lines others) before
+        (with_one_more run.filter lines others)
         held new) → StopsForMemory is_line run input (ran_out short)
     for-memory short = record {
       lines = lines;
@@ -119,7 +123,10 @@ module _ {run : TaskRun} {held : HandleState} {taken : BothTexts} {lines : List 
         (with_one_more run.filter lines others) held new stop → IsStopped is_line run input new taken stop
     stopped (Fault at) (inl (memory, short), adds) = record {
       result = ran_out short;
-      is = inr (inr (record { stops = for-memory short; lacking = grind (arith, is.unfailed, short.lacking) }));
+      is = inr (inr (record {
+        stops = for-memory short;
+        lacking = grind (arith, is.unfailed, short.lacking);
+      }));
       status = refl;
       fault = grind arith;
       output = grind (arith, is.text);
@@ -130,7 +137,12 @@ module _ {run : TaskRun} {held : HandleState} {taken : BothTexts} {lines : List 
         let whole = decided-next run.filter is.lawful lines others at ends.fault in
         record {
           result = result_of_course (with_one_more run.filter lines others);
-          is = inl (record { at = at; fault = grind (arith, first, whole, ends.fault); result_is = grind (arith, first, whole) });
+          is = inl (record {
+            at = at;
+            fault = grind (arith, first, whole, ends.fault);
+            result_is = grind
+                (arith, first, whole);
+          });
           status = grind (arith, ends.fault);
           fault = ends.fault;
           output = grind (arith, is.text, ends);
@@ -162,12 +174,21 @@ module _ {run : TaskRun} {held : HandleState} {taken : BothTexts} {lines : List 
   )
 
 -- memory ran out at a line of more kinds
-pub early-weaker : {run : TaskRun} {P Q : ℕ → Type 0} {input : List ℕ} {held : HandleState} {result : FilterResult}
+pub early-weaker : {run : TaskRun} {P Q : ℕ
+    → Type 0} {input : List ℕ} {held : HandleState} {result : FilterResult}
     → ((n : ℕ) → P n → Q n) → StopsEarly P run input held result → StopsEarly Q run input held result
 early-weaker weaker (inl limit) = inl limit
-early-weaker weaker (inr ran) = inr (record { stops = search (rules, weaker, ran.stops); lacking = ran.lacking })
+early-weaker weaker (inr ran) = inr (record {
+  stops = search (
+    rules,
+    weaker,
+    ran.stops,
+  );
+  lacking = ran.lacking;
+})
 
-pub stopped-weaker : {run : TaskRun} {P Q : ℕ → Type 0} {input : List ℕ} {held : HandleState} {taken : BothTexts}
+pub stopped-weaker : {run : TaskRun} {P Q : ℕ
+    → Type 0} {input : List ℕ} {held : HandleState} {taken : BothTexts}
     {stop : Stop} → ((n : ℕ) → P n → Q n) → IsStopped P run input held taken stop
     → IsStopped Q run input held taken stop
 stopped-weaker weaker is = record {
@@ -183,122 +204,127 @@ stopped-weaker weaker is = record {
 -- ---- bytes
 
 module _ {run : TaskRun} {ready : List (List ℕ)} {shows : List InputLine → List Awaited → Type 0}
-    {held : HandleState} {fed : List ℕ} {taken : BothTexts} (is : IsGoing run ready shows held fed taken) where
-  abbrev lines : List InputLine
-  lines = ended_lines_of fed
+    {held : HandleState} {fed : List ℕ} {taken : BothTexts} (is : IsGoing run ready shows held fed taken)
+  where
+    abbrev lines : List InputLine
+    lines = ended_lines_of fed
 
-  -- lines that were ended are no more, where the bytes that follow have no LF
-  ended-still : (more : List ℕ) → HasNoFeed more → ended_lines_of (fed ++ more) ≡ lines
-  ended-still more none =
-      is.cut_ended more ∙ ap (λ (ls : List InputLine). lines ++ ls)
-      (ended_lines-none (is.tail ++ more) (All-append (λ b. b ≢ 10) is.tail more is.no_feed none))
-      ∙ append-nil lines
+    -- lines that were ended are no more, where the bytes that follow have no LF
+    ended-still : (more : List ℕ) → HasNoFeed more → ended_lines_of (fed ++ more) ≡ lines
+    ended-still more none =
+        is.cut_ended more ∙ ap (λ (ls : List InputLine). lines ++ ls)
+        (ended_lines-none (is.tail ++ more) (All-append (λ b. b ≢ 10) is.tail more is.no_feed none))
+        ∙ append-nil lines
 
-  -- a line more is taken, or the last part of one, since little enough waits
-  pub soon-by : (bytes : List ℕ) (n : ℕ) → HasNoFeed (take (n - 1) bytes) → ready_in held < READY_LIMIT
-      → StopsSoon run fed taken bytes n
-  soon-by bytes n none low =
-      let still = ended-still (take (n - 1) bytes) none in
-      grind (arith, common_steps, length-append, is.after.text)
+    -- a line more is taken, or the last part of one, since little enough waits
+    pub soon-by : (bytes : List ℕ) (n : ℕ) → HasNoFeed (take (n - 1) bytes) → ready_in held < READY_LIMIT
+        → StopsSoon run fed taken bytes n
+    soon-by bytes n none low =
+        let still = ended-still (take (n - 1) bytes) none in
+        grind (arith, common_steps, length-append, is.after.text)
 
-  -- ---- the end
+    -- ---- the end
 
-  all-cut : lines_of fed ≡ lines ++ lines_of is.tail
-  all-cut = grind (arith, common_steps, is.cut [])
+    all-cut : lines_of fed ≡ lines ++ lines_of is.tail
+    all-cut = grind (arith, common_steps, is.cut [])
 
-  -- nothing is after the last LF
-  pub all-ended : held.tail.bytes.items ≡ [] → lines_of fed ≡ lines
-  all-ended none = grind (arith, common_steps, all-cut)
+    -- nothing is after the last LF
+    pub all-ended : held.tail.bytes.items ≡ [] → lines_of fed ≡ lines
+    all-ended none = grind (arith, common_steps, all-cut)
 
-  -- a line without LF is there
-  pub all-but_last : 0 < length held.tail.bytes.items → lines_of fed ≡ with_next lines (piece_line is.tail false)
-  all-but_last some = search (rules, all-cut, lines-last, length-take)
+    -- a line without LF is there
+    pub all-but_last : 0 < length held.tail.bytes.items → lines_of fed ≡ with_next lines
+        (piece_line is.tail false)
+    all-but_last some = search (rules, all-cut, lines-last, length-take)
 
-  -- ---- more bytes
+    -- ---- more bytes
 
-  module _ (piece : Piece) (bytes : List ℕ)
-      (added : piece.bytes.items ≡ take LINE_ROOM (held.tail.bytes.items ++ bytes)) (none : HasNoFeed bytes) where
-    -- what is held once these bytes were added to those of the last line
-    abbrev mid : HandleState
-    mid = record held { tail = piece }
+    module _ (piece : Piece) (bytes : List ℕ)
+        (added : piece.bytes.items ≡ take LINE_ROOM (held.tail.bytes.items ++ bytes)) (none : HasNoFeed bytes)
+      where
+        -- what is held once these bytes were added to those of the last line
+        abbrev mid : HandleState
+        mid = record held { tail = piece }
 
-    abbrev bytes_all : List ℕ
-    bytes_all = is.tail ++ bytes
+        abbrev bytes_all : List ℕ
+        bytes_all = is.tail ++ bytes
 
-    whole : HasNoFeed bytes_all
-    whole = All-append (λ b. b ≢ 10) is.tail bytes is.no_feed none
+        whole : HasNoFeed bytes_all
+        whole = All-append (λ b. b ≢ 10) is.tail bytes is.no_feed none
 
-    pub mid-kept : piece.bytes.items ≡ take LINE_ROOM bytes_all
-    mid-kept = rw (added, is.kept) (take-of_taken LINE_ROOM is.tail bytes)
+        pub mid-kept : piece.bytes.items ≡ take LINE_ROOM bytes_all
+        mid-kept = rw (added, is.kept) (take-of_taken LINE_ROOM is.tail bytes)
 
-    pub mid-after : AreTaken run mid taken lines
-    mid-after = grind (arith, is.after)
+        pub mid-after : AreTaken run mid taken lines
+        mid-after = grind (arith, is.after)
 
-    -- bytes without LF are kept, as far as there is room
-    pub keeps-going : IsGoing run ready shows mid (fed ++ bytes) taken
-    keeps-going =
-        let still = ended-still bytes none in
-        record {
-          drained = is.drained;
-          after = rw still mid-after;
-          shown = rw still is.shown;
-          tail = bytes_all;
-          kept = mid-kept;
-          no_feed = whole;
-          cut = λ more. rw (append_assoc fed bytes more, append_assoc is.tail bytes more, still)
-              (is.cut (bytes ++ more));
-          cut_ended = λ more. rw (append_assoc fed bytes more, append_assoc is.tail bytes more, still)
-              (is.cut_ended (bytes ++ more));
-          counted = omega (arith, is.counted, length-append is.tail bytes, length-append fed bytes);
+        -- bytes without LF are kept, as far as there is room
+        pub keeps-going : IsGoing run ready shows mid (fed ++ bytes) taken
+        keeps-going =
+            let still = ended-still bytes none in
+            record {
+              drained = is.drained;
+              after = rw still mid-after;
+              shown = rw still is.shown;
+              tail = bytes_all;
+              kept = mid-kept;
+              no_feed = whole;
+              cut = λ more. rw (append_assoc fed bytes more, append_assoc is.tail bytes more, still)
+                  (is.cut (bytes ++ more));
+              cut_ended = λ more. rw (append_assoc fed bytes more, append_assoc is.tail bytes more, still)
+                  (is.cut_ended (bytes ++ more));
+              counted = omega (arith, is.counted, length-append is.tail bytes, length-append fed bytes);
+            }
+
+        -- those bytes, and an LF
+        abbrev line : InputLine
+        line = piece_line bytes_all true
+
+        abbrev ended : List ℕ
+        ended = bytes ++ 10 ∷ []
+
+        first-by : (F : List ℕ → List InputLine) → ((more : List ℕ) → F (fed ++ more) ≡ lines ++ F
+            (is.tail ++ more))
+            → ((more : List ℕ) → F (bytes_all ++ 10 ∷ more) ≡ line ∷ F more)
+            → (more : List ℕ) → F (fed ++ (ended ++ more)) ≡ with_next lines line ++ F more
+        first-by F so_far first more = grind (arith, common_steps, append_assoc)
+
+        line-first : (more : List ℕ) → lines_of (fed ++ (ended ++ more)) ≡ with_next lines line ++ lines_of more
+        line-first = first-by lines_of is.cut (λ more. lines-first bytes_all more whole)
+
+        ended-first : (more : List ℕ)
+            → ended_lines_of (fed ++ (ended ++ more)) ≡ with_next lines line ++ ended_lines_of more
+        ended-first = first-by ended_lines_of is.cut_ended (λ more. ended_lines-first bytes_all more whole)
+
+        one-more : ended_lines_of (fed ++ ended) ≡ with_next lines line
+        one-more = rw (append-nil ended, append-nil (with_next lines line)) at (ended-first [])
+
+        pub goes-on : {pending : List (List ℕ)} → pending ≡ [] → (then : List InputLine → List Awaited → Type 0)
+            (new : HandleState)
+            → MovesWithin (run.filter.so_far lines) (run.filter.so_far (with_next lines line))
+            (then (with_next lines line) []) mid new → new.number ≡ mid.number + 1 → new.tail.bytes.items ≡ []
+            → IsGoing run pending then new (fed ++ ended) taken
+        goes-on none_pending then new within number empty = record {
+          drained = none_pending;
+          after = rw one-more (taken-more mid-after new line _ within number);
+          shown = rw one-more within.moved.kept.is_shown;
+          tail = [];
+          kept = empty;
+          no_feed = λ k d h. absurd (omega (arith, h));
+          cut = λ more. rw (append_assoc fed ended more, one-more) (line-first more);
+          cut_ended = λ more. rw (append_assoc fed ended more, one-more) (ended-first more);
+          counted = omega (arith, is.counted, number, length-append fed ended, length-append bytes (10 ∷ []));
         }
 
-    -- those bytes, and an LF
-    abbrev line : InputLine
-    line = piece_line bytes_all true
-
-    abbrev ended : List ℕ
-    ended = bytes ++ 10 ∷ []
-
-    first-by : (F : List ℕ → List InputLine) → ((more : List ℕ) → F (fed ++ more) ≡ lines ++ F (is.tail ++ more))
-        → ((more : List ℕ) → F (bytes_all ++ 10 ∷ more) ≡ line ∷ F more)
-        → (more : List ℕ) → F (fed ++ (ended ++ more)) ≡ with_next lines line ++ F more
-    first-by F so_far first more = grind (arith, common_steps, append_assoc)
-
-    line-first : (more : List ℕ) → lines_of (fed ++ (ended ++ more)) ≡ with_next lines line ++ lines_of more
-    line-first = first-by lines_of is.cut (λ more. lines-first bytes_all more whole)
-
-    ended-first : (more : List ℕ)
-        → ended_lines_of (fed ++ (ended ++ more)) ≡ with_next lines line ++ ended_lines_of more
-    ended-first = first-by ended_lines_of is.cut_ended (λ more. ended_lines-first bytes_all more whole)
-
-    one-more : ended_lines_of (fed ++ ended) ≡ with_next lines line
-    one-more = rw (append-nil ended, append-nil (with_next lines line)) at (ended-first [])
-
-    pub goes-on : {pending : List (List ℕ)} → pending ≡ [] → (then : List InputLine → List Awaited → Type 0)
-        (new : HandleState)
-        → MovesWithin (run.filter.so_far lines) (run.filter.so_far (with_next lines line))
-        (then (with_next lines line) []) mid new → new.number ≡ mid.number + 1 → new.tail.bytes.items ≡ []
-        → IsGoing run pending then new (fed ++ ended) taken
-    goes-on none_pending then new within number empty = record {
-      drained = none_pending;
-      after = rw one-more (taken-more mid-after new line _ within number);
-      shown = rw one-more within.moved.kept.is_shown;
-      tail = [];
-      kept = empty;
-      no_feed = λ k d h. absurd (omega (arith, h));
-      cut = λ more. rw (append_assoc fed ended more, one-more) (line-first more);
-      cut_ended = λ more. rw (append_assoc fed ended more, one-more) (ended-first more);
-      counted = omega (arith, is.counted, number, length-append fed ended, length-append bytes (10 ∷ []));
-    }
-
-    -- the line that they end stopped the run, whatever follows
-    pub stops-there : (new : HandleState) (rest : List ℕ) (stop : Stop)
-        → StepStops (length lines + 1) (run.filter.memory_after lines line) (run.filter.so_far lines)
-        (run.filter.so_far (with_next lines line)) mid new stop → (more : List ℕ)
-        → IsStopped (IsLineEnded fed (fed ++ (bytes ++ 10 ∷ rest))) run ((fed ++ (bytes ++ 10 ∷ rest)) ++ more) new
-        taken stop
-    stops-there new rest stop stops more =
-        let same : bytes ++ 10 ∷ rest ≡ ended ++ rest = sym (append_assoc bytes (10 ∷ []) rest) in
-        stopped mid-after new _ _ (line ∷ lines_of (rest ++ more))
-        (grind (arith, common_steps, append_assoc, line-first (rest ++ more))) (length lines + 1) refl
-        (grind (arith, common_steps, ended-first rest, same, length-append)) stop stops
+        -- the line that they end stopped the run, whatever follows
+        pub stops-there : (new : HandleState) (rest : List ℕ) (stop : Stop)
+            → StepStops (length lines + 1) (run.filter.memory_after lines line) (run.filter.so_far lines)
+            (run.filter.so_far (with_next lines line)) mid new stop → (more : List ℕ)
+            → IsStopped (IsLineEnded fed (fed ++ (bytes ++ 10 ∷ rest))) run ((fed ++ (bytes ++ 10 ∷ rest))
+            ++ more) new
+            taken stop
+        stops-there new rest stop stops more =
+            let same : bytes ++ 10 ∷ rest ≡ ended ++ rest = sym (append_assoc bytes (10 ∷ []) rest) in
+            stopped mid-after new _ _ (line ∷ lines_of (rest ++ more))
+            (grind (arith, common_steps, append_assoc, line-first (rest ++ more))) (length lines + 1) refl
+            (grind (arith, common_steps, ended-first rest, same, length-append)) stop stops

@@ -1,10 +1,12 @@
 -- A handle stays sound from call to call.
 use Rattle.std.proofs.{lemmas.Grind.common_steps}
 use Rattle.rnxcmp_c.proofs.{PieceLemmas.none-or, Words.{◌≡◌, ◌⊎◌, inl, inr, ℕ, ◌<◌, ◌≤◌, ◌-◌, List, [], ◌++◌, length, Option}}
-use Rattle.rnxcmp_c.proofs.Words.{Some, None, take, drop, refl, arith, append-nil, length-append, ⊎_elim, lines_of}
+use Rattle.rnxcmp_c.proofs.Words.{Some, None, take, drop, refl, arith, append-nil, length-append, ⊎_elim}
+use Rattle.rnxcmp_c.proofs.Words.{lines_of}
 use Rattle.rnxcmp_c.proofs.Words.{ended_lines_of, ended_lines-come_first, Outcome, ReaderRuns, FeedsBy}
 use Rattle.rnxcmp_c.proofs.Words.{HasEndedBy, HasFedBy, ReaderStands, BothTexts, INPUT_LIMIT, rooms}
-use Rattle.rnxcmp_c.proofs.Words.{StandsBy, FilterResult, answer_now, is_some, false, limit_for, FeedsBytes, HasFed}
+use Rattle.rnxcmp_c.proofs.Words.{StandsBy, FilterResult, answer_now, is_some, false, limit_for, FeedsBytes}
+use Rattle.rnxcmp_c.proofs.Words.{HasFed}
 use Rattle.rnxcmp_c.proofs.Words.{Task, Answer, AnyEngine, HandleState, Reader}
 use Rattle.rnxcmp_c.specs.Handles.{IsFresh, IsOverWith, ReaderEndsBy, ReaderHasEnded, ReaderHasPassed}
 use Rattle.rnxcmp_c.specs.Holding.{HoldsNothing}
@@ -31,7 +33,8 @@ ended-stands task reader fed taken None ended is = absurd ended
 ended-stands task reader fed taken (Some outcome) ended is = ended-as ended is
 
 -- a run that hasn't ended goes on
-pub runs-where_none : (task : Task) (reader : Reader) (fed : List ℕ) (taken : BothTexts) (outcome : Option Outcome)
+pub runs-where_none : (task : Task) (reader : Reader) (fed : List ℕ) (taken : BothTexts)
+    (outcome : Option Outcome)
     → is_some outcome ≡ false → StandsBy task reader fed taken outcome → ReaderRuns task reader fed taken
 runs-where_none = grind arith
 
@@ -42,7 +45,8 @@ pub fed-by : (task : Task) (old new : Reader) (fed : List ℕ) (taken : BothText
 fed-by = grind arith
 
 pub ended-by_none : (task : Task) (old new : Reader) (fed : List ℕ) (taken : BothTexts) (answer : Answer)
-    (outcome : Option Outcome) → is_some outcome ≡ false → ReaderHasEnded task new fed taken → answer ≡ answer_now new
+    (outcome : Option Outcome) → is_some outcome ≡ false → ReaderHasEnded task new fed taken
+    → answer ≡ answer_now new
     → ReaderEndsBy task old new fed taken answer outcome
 ended-by_none = grind arith
 
@@ -58,7 +62,8 @@ either-fed {task} {old} {new} {fed} {taken} {bytes} {used} feeds = ⊎_elim (λ 
     inr (rw (nothing, append-nil fed) (some, refl, feeds.over some none))) (none-or (length bytes)))
     (λ more. inl (feeds.fed_on (λ _. more))) (none-or (length (take (INPUT_LIMIT - length fed) bytes)))
 
-pub feeds-stands : (task : Task) (old new : Reader) (fed : List ℕ) (taken : BothTexts) (bytes : List ℕ) (used : ℕ)
+pub feeds-stands : (task : Task) (old new : Reader) (fed : List ℕ) (taken : BothTexts) (bytes : List ℕ)
+    (used : ℕ)
     (answer : Answer) (outcome : Option Outcome) → ReaderStands task old fed taken
     → FeedsBy task old new fed taken bytes used answer outcome
     → ReaderStands task new (fed ++ take used bytes) taken
@@ -69,7 +74,8 @@ feeds-stands task old new fed taken bytes used answer (Some outcome) stands (mis
     rw (same, none, append-nil fed) stands
 
 pub ends-stands : (task : Task) (old new : Reader) (fed : List ℕ) (taken : BothTexts) (answer : Answer)
-    (outcome : Option Outcome) → ReaderStands task old fed taken → ReaderEndsBy task old new fed taken answer outcome
+    (outcome : Option Outcome) → ReaderStands task old fed taken
+    → ReaderEndsBy task old new fed taken answer outcome
     → ReaderStands task new fed taken
 ends-stands task old new fed taken answer None stands (ended, answers) =
     ended-stands task new fed taken new.outcome ended (λ result is. ⊎_elim (λ whole. inl whole)

@@ -138,7 +138,8 @@ stood {task} {handle} {fed} {taken} {reader} holds stands = grind arith
 
 -- so there is that by which its reader stands
 pub sound-stands : {handle : Handle} {reader : Reader} → IsSoundHandle handle → handle.is_open ≡ true
-    → Holds handle reader → (task : Task) × (fed : List ℕ) × (taken : BothTexts) × ReaderStands task reader fed taken
+    → Holds handle reader → (task : Task) × (fed : List ℕ) × (taken : BothTexts)
+    × ReaderStands task reader fed taken
 sound-stands sound is_open holds = let is = sound is_open in (is.0, is.1, is.2, stood holds is.3)
 
 pub handle-promise : {task : Task} {handle : Handle} {fed : List ℕ} {taken : BothTexts} {reader : Reader}
@@ -197,7 +198,8 @@ module _ {task : Task} {old new : Handle} {fed : List ℕ} {taken : BothTexts} {
     reader = is.after;
     is_open = is.is_open;
     holds = is.holds;
-    stands = ends-stands task is.before is.after fed taken answer is.before.outcome (stood is.held stands) is.ends;
+    stands = ends-stands task is.before is.after fed taken answer is.before.outcome (stood is.held stands)
+        is.ends;
   }
 
   pub ends-refused : has_ended old ≡ true

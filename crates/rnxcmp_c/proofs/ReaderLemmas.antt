@@ -1,10 +1,14 @@
 -- A reader's run has ended as the whole run of its input does.
 use Rattle.std.proofs.{lemmas.Grind.common_steps}
-use Rattle.rnxcmp_c.proofs.Words.{◌≡◌, ◌⊎◌, inl, inr, ⊎_elim, ℕ, List, ◌++◌, Some, None, refl, ◌≤◌, ◌+◌, ◌∷◌, []}
-use Rattle.rnxcmp_c.proofs.Words.{ap, arith, length, append-nil, append_assoc, length-append, InputLine, lines_of}
-use Rattle.rnxcmp_c.proofs.Words.{INPUT_LIMIT, At, InputTooLong, IsLawful, Filter, with_next, Begins, with_one_more}
+use Rattle.rnxcmp_c.proofs.Words.{◌≡◌, ◌⊎◌, inl, inr, ⊎_elim, ℕ, List, ◌++◌, Some, None, refl, ◌≤◌, ◌+◌}
+use Rattle.rnxcmp_c.proofs.Words.{◌∷◌, []}
+use Rattle.rnxcmp_c.proofs.Words.{ap, arith, length, append-nil, append_assoc, length-append, InputLine}
+use Rattle.rnxcmp_c.proofs.Words.{lines_of}
+use Rattle.rnxcmp_c.proofs.Words.{INPUT_LIMIT, At, InputTooLong, IsLawful, Filter, with_next, Begins}
+use Rattle.rnxcmp_c.proofs.Words.{with_one_more}
 use Rattle.rnxcmp_c.proofs.Words.{Course, check-lawful, compaction-lawful, expansion-lawful, Outcome, IsAll}
-use Rattle.rnxcmp_c.proofs.Words.{Stop, Fault, Limit, result_of_course, FilterResult, BothTexts, StopsWhenFull, TaskRun}
+use Rattle.rnxcmp_c.proofs.Words.{Stop, Fault, Limit, result_of_course, FilterResult, BothTexts}
+use Rattle.rnxcmp_c.proofs.Words.{StopsWhenFull, TaskRun}
 use Rattle.rnxcmp_c.proofs.Words.{engine_filter, has_ended_of, run_for, limit_for, result_for, Task, Compact}
 use Rattle.rnxcmp_c.proofs.Words.{Expand, Check, filter_for, AnyEngine, HandleState, ended_lines_of}
 use Rattle.rnxcmp_c.specs.Going.{AreTaken, FailsIn, IsLastLine, IsStopped, StopsAs, StopsEarly}
@@ -24,12 +28,14 @@ pub output-for : (task : Task) (input : List ℕ) → (result_for task input).ou
 output-for = grind arith
 
 -- the result of an input in whose run a fault came
-failed-for : (task : Task) (input : List ℕ) (at : At) → ((filter_for task).whole (lines_of input)).fault ≡ Some at
+failed-for : (task : Task) (input : List ℕ) (at : At) → ((filter_for task).whole
+    (lines_of input)).fault ≡ Some at
     → result_of_course ((filter_for task).whole (lines_of input)) ≡ result_for task input
 failed-for = grind (arith, common_steps)
 
 -- a run that has ended with one of some results has ended with one of more
-pub ended-as : {P Q : FilterResult → Type 0} {limit : ℕ} {held : HandleState} {taken : BothTexts} {outcome : Outcome}
+pub ended-as : {P Q : FilterResult
+    → Type 0} {limit : ℕ} {held : HandleState} {taken : BothTexts} {outcome : Outcome}
     → EndsWithin limit P held taken outcome → ((result : FilterResult) → P result → Q result)
     → EndsWithin limit Q held taken outcome
 ended-as = grind arith
@@ -37,9 +43,16 @@ ended-as = grind arith
 -- where memory ran out there was none, or a write failed
 pub still-early : {mid held : HandleState} → held.output.failures ≡ mid.output.failures
     → held.messages.failures ≡ mid.messages.failures → {is_line : ℕ → Type 0} {run : TaskRun} {input : List ℕ}
-    {result : FilterResult} → StopsEarly is_line run input mid result → StopsEarly is_line run input held result
+    {result : FilterResult} → StopsEarly is_line run input mid result
+    → StopsEarly is_line run input held result
 still-early output messages (inl limit) = inl limit
-still-early output messages (inr ran) = inr (record { stops = ran.stops; lacking = grind (arith, ran.lacking) })
+still-early output messages (inr ran) = inr (record {
+  stops = ran.stops;
+  lacking = grind (
+    arith,
+    ran.lacking,
+  );
+})
 
 same-failures : (mid held : HandleState) (outcome : Outcome) (stop : Stop) → EndsRunBy mid held outcome stop
     → (held.output.failures ≡ mid.output.failures) × (held.messages.failures ≡ mid.messages.failures)
@@ -72,12 +85,19 @@ module _ {mid held : HandleState} {taken : BothTexts} {outcome : Outcome} where
       → EndsWithin (limit_for task) (λ result. ((result ≡ result_for task input) × (result.status ≡ 1))
       ⊎ StopsEarly is_line (run_for task) input held result) held taken outcome
   stops-over task is_line input stop stopped put = ended-as (put-ends stop stopped put) (λ result is.
-      ⊎_elim (λ (fails : FailsIn (filter_for task) input result). inl (grind (arith, failed-for task input fails.at fails.fault, fails.result_is, fails.fault)))
-      (λ early. let same = same-failures mid held outcome stop put in inr (still-early same.0 same.1 early)) is)
+      ⊎_elim (λ (fails : FailsIn (filter_for task) input result). inl (grind (
+        arith,
+        failed-for task input fails.at fails.fault,
+        fails.result_is,
+        fails.fault,
+      )))
+      (λ early. let same = same-failures mid held outcome stop put in inr (still-early same.0 same.1 early))
+      is)
 
   -- a byte more than an input may have ended it
   pub passed-over : (task : Task) (fed : List ℕ) → AreTaken (run_for task) mid taken (ended_lines_of fed)
-      → length fed ≡ INPUT_LIMIT → IsPut mid held (record { line = mid.number + 1; fault = InputTooLong }) outcome
+      → length fed ≡ INPUT_LIMIT → IsPut mid held (record { line = mid.number + 1; fault = InputTooLong })
+      outcome
       → EndsWithin (limit_for task) (StopsWhenFull (run_for task) fed) held taken outcome
   passed-over task fed is full put =
       let course : Course = (filter_for task).so_far (ended_lines_of fed) in
@@ -96,7 +116,8 @@ module _ {mid held : HandleState} {taken : BothTexts} {outcome : Outcome} where
       }) put
 
 -- the good end of an input
-pub all-over : (task : Task) (held : HandleState) (fed : List ℕ) (taken : BothTexts) (outcome : Outcome) (then : AnyEngine)
+pub all-over : (task : Task) (held : HandleState) (fed : List ℕ) (taken : BothTexts) (outcome : Outcome)
+    (then : AnyEngine)
     → IsOf task then → has_ended_of then (lines_of fed) → IsAll (run_for task) held fed taken
     → outcome ≡ record { status = status_at_end then held.warned; fault = None }
     → EndsWithin (limit_for task) (λ result. (result ≡ result_for task fed)

@@ -1,11 +1,13 @@
 -- What was taken from a handle was kept before, and its run's state doesn't change by that.
 use Rattle.std.proofs.{lemmas.Grind.common_steps, Common.arith}
 use Rattle.rnxcmp_c.proofs.Words.{◌≡◌, inl, inr, ⊎_elim, ℕ, List, ◌++◌, Option, Some, None, sym, subst}
-use Rattle.rnxcmp_c.proofs.Words.{append_assoc, KeepsToLimit, Outcome, StandsBy, limit_for, BothTexts, joined_texts, rooms}
+use Rattle.rnxcmp_c.proofs.Words.{append_assoc, KeepsToLimit, Outcome, StandsBy, limit_for, BothTexts}
+use Rattle.rnxcmp_c.proofs.Words.{joined_texts, rooms}
 use Rattle.rnxcmp_c.proofs.Words.{Task, waiting, Pending, Reader}
 use Rattle.rnxcmp_c.proofs.ReaderLemmas.{still-early}
 
-module _ (task : Task) (old : Reader) (fed : List ℕ) (taken : BothTexts) (output messages : Pending) (text told : List ℕ)
+module _ (task : Task) (old : Reader) (fed : List ℕ) (taken : BothTexts) (output messages : Pending)
+    (text told : List ℕ)
     (wrote : waiting old.held.output ≡ text ++ waiting output)
     (reported : waiting old.held.messages ≡ told ++ waiting messages)
     (output_good : output.failures ≡ old.held.output.failures)
@@ -29,7 +31,8 @@ module _ (task : Task) (old : Reader) (fed : List ℕ) (taken : BothTexts) (outp
     ended = record {
       result = over.ended.result;
       is = ⊎_elim (λ whole. inl whole) (λ other. inr (⊎_elim
-          (λ early. inl (still-early output_good messages_good early)) (λ full. inr full) other)) over.ended.is;
+          (λ early. inl (still-early output_good messages_good early)) (λ full. inr full) other))
+          over.ended.is;
       ends = grind (arith, common_steps, over.ended.ends, same-output, same-messages);
     };
     few = subst (λ (t : List ℕ). KeepsToLimit (limit_for task) t) same-output over.few;

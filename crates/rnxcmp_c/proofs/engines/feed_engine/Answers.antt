@@ -7,7 +7,8 @@ take_bytes-requires c =
     record { going = (_, _, _, (sym (filter-is asked.0 _ asked.3), asked.4), asked.5) }
 
 pub returns-in-Compacting-clause-fed : goal.returns-in-Compacting-clause-fed
-returns-in-Compacting-clause-fed c task fed taken is_of going = c.take_bytes.ensures.fed (run_for task) fed taken
+returns-in-Compacting-clause-fed c task fed taken is_of going = c.take_bytes.ensures.fed (run_for task)
+    fed taken
     (sym (filter-is task _ (rw c.in-Compacting.is at is_of)), rw c.in-Compacting.is at going)
 
 pub take_bytes-requires-in-Expanding : goal.take_bytes-requires-in-Expanding
@@ -16,7 +17,8 @@ take_bytes-requires-in-Expanding c =
     record { going = (_, _, _, (sym (filter-is asked.0 _ asked.3), asked.4), asked.5) }
 
 pub returns-in-Expanding-clause-fed : goal.returns-in-Expanding-clause-fed
-returns-in-Expanding-clause-fed c task fed taken is_of going = c.take_bytes-in-Expanding.ensures.fed (run_for task) fed taken
+returns-in-Expanding-clause-fed c task fed taken is_of going = c.take_bytes-in-Expanding.ensures.fed
+    (run_for task) fed taken
     (sym (filter-is task _ (rw c.in-Expanding.is at is_of)), rw c.in-Expanding.is at going)
 
 pub take_bytes-requires-in-Checking : goal.take_bytes-requires-in-Checking
@@ -25,5 +27,6 @@ take_bytes-requires-in-Checking c =
     record { going = (_, _, _, (sym (filter-is asked.0 _ asked.3), asked.4), asked.5) }
 
 pub returns-in-Checking-clause-fed : goal.returns-in-Checking-clause-fed
-returns-in-Checking-clause-fed c task fed taken is_of going = c.take_bytes-in-Checking.ensures.fed (run_for task) fed taken
+returns-in-Checking-clause-fed c task fed taken is_of going = c.take_bytes-in-Checking.ensures.fed
+    (run_for task) fed taken
     (sym (filter-is task _ (rw c.in-Checking.is at is_of)), rw c.in-Checking.is at going)

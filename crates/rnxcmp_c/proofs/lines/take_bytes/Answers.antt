@@ -2,7 +2,8 @@ use Rattle.std.proofs.{Common.{rules, length-drop, length-take-le}}
 use Rattle.rnxcmp_c.proofs.{GoingLemmas.stopped-weaker, PieceLemmas.none-or}
 use Rattle.rnxcmp_c.proofs.Words.{ℕ, ◌≡◌, ◌-◌, ◌+◌, ◌<◌, List, ◌++◌, length, take, drop, sym, ap, ◌∙◌, arith}
 use Rattle.rnxcmp_c.proofs.Words.{append_assoc, length-append, ⊎_elim, take-append-drop, err_from_is_err_and}
-use Rattle.rnxcmp_c.proofs.Words.{ended_lines_of, take_all, take_at, take-append-add, refl, TaskRun, BothTexts}
+use Rattle.rnxcmp_c.proofs.Words.{ended_lines_of, take_all, take_at, take-append-add, refl, TaskRun}
+use Rattle.rnxcmp_c.proofs.Words.{BothTexts}
 use Rattle.rnxcmp_c.specs.Past.{StopsSoon}
 use Rattle.rnxcmp_c.proofs.lines.take_bytes.Goals as goal
 
@@ -19,8 +20,19 @@ soon-then run fed taken bytes done left n all more soon =
 pub take_to_line_end-requires-clause-going : goal.take_to_line_end-requires-clause-going
 take_to_line_end-requires-clause-going g c =
     let i = c.bytes.invariant in
-    let r = c.requires.going in
-    (r.0, r.1 ++ i.0, r.2, (r.3.0 ∙ sym i.5, (i.2 r.0 r.1 r.2 r.3).0), omega (arith, r.4, ap length i.1, length-append i.0 c.bytes.left.now, length-append r.1 i.0))
+    let r = c.requires.going in (
+      r.0,
+      r.1 ++ i.0,
+      r.2,
+      (r.3.0 ∙ sym i.5, (i.2 r.0 r.1 r.2 r.3).0),
+      omega (
+        arith,
+        r.4,
+        ap length i.1,
+        length-append i.0 c.bytes.left.now,
+        length-append r.1 i.0,
+      ),
+    )
 
 pub bytes-preserved : goal.bytes-preserved
 bytes-preserved g c =
@@ -57,8 +69,14 @@ returns-in_err-count-clause-fed g c run fed taken is =
     let both = ap length (is.1.cut_ended done) ∙ length-append (ended_lines_of fed) _ in
     rw (p.1, p.2) (
       tt,
-      λ more. rw (i.1, ← (append_assoc fed done left)) (stopped-weaker (λ n at. (omega (arith, at.0, both), at.1))
-          ((c.in_err-count.ensures.fed run (fed ++ done) taken (is.0 ∙ sym i.5, (i.2 run fed taken is).0)).1 more)),
+      λ more. rw (i.1, ← (append_assoc fed done left)) (stopped-weaker (λ n at. (
+        omega (arith, at.0, both),
+        at.1,
+      ))
+          ((c.in_err-count.ensures.fed run (fed ++ done) taken (
+            is.0 ∙ sym i.5,
+            (i.2 run fed taken is).0,
+          )).1 more)),
     )
 
 pub returns-clause-fed : goal.returns-clause-fed

@@ -1,6 +1,8 @@
 use Rattle.std.proofs.{Common.rules, lemmas.{Grind.common_steps, List.take_more}}
-use Rattle.rnxcmp_c.proofs.GoingLemmas.{cut-at, goes-on, keeps-going, mid-kept, no_feed-before, soon-by, stops-there}
-use Rattle.rnxcmp_c.proofs.Words.{◌≡◌, ◌+◌, ◌-◌, [], ◌∷◌, ◌++◌, length, take, drop, ap, ◌∙◌, sym, subst, arith}
+use Rattle.rnxcmp_c.proofs.GoingLemmas.{cut-at, goes-on, keeps-going, mid-kept, no_feed-before, soon-by}
+use Rattle.rnxcmp_c.proofs.GoingLemmas.{stops-there}
+use Rattle.rnxcmp_c.proofs.Words.{◌≡◌, ◌+◌, ◌-◌, [], ◌∷◌, ◌++◌, length, take, drop, ap, ◌∙◌, sym, subst}
+use Rattle.rnxcmp_c.proofs.Words.{arith}
 use Rattle.rnxcmp_c.proofs.Words.{take_all, err_from_is_err_and, HasNoFeed}
 use Rattle.rnxcmp_c.proofs.lines.take_to_line_end.{Given.Over, Goals.In-Some}
 use Rattle.rnxcmp_c.proofs.lines.take_to_line_end.Goals as goal
@@ -57,6 +59,7 @@ returns-in_err-take_within-in-Some-clause-fed g c run fed taken is =
     rw (p.1, p.2) (
       tt,
       λ more. rw (cut-at bytes end c.in-Some.ensures.within.1 c.in-Some.ensures.found)
-          (stops-there is.1 piece (take end bytes) c.add-in-Some.ensures none _ (drop (end + 1) bytes) _ step.1
+          (stops-there is.1 piece (take end bytes) c.add-in-Some.ensures none _ (drop (end + 1) bytes)
+          _ step.1
           more),
     )

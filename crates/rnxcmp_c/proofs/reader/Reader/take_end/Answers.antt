@@ -20,7 +20,8 @@ returns-in-Ok c = λ task fed taken stands.
     } in
     let all = (c.in-Ok.ensures.ends task fed taken runs.is_of runs.going).0 in
     ended-by_none task _ new fed taken _ _ none (all-over task new.held fed taken _ _
-    (c.end_engine.ensures.keeps task runs.is_of) all.0 all.1 (ap (λ status. record { status = status; fault = None }) c.status_at_end.ensures)) c.answer.ensures
+    (c.end_engine.ensures.keeps task runs.is_of) all.0 all.1 (ap
+    (λ status. record { status = status; fault = None }) c.status_at_end.ensures)) c.answer.ensures
 
 pub returns-in-Err : goal.returns-in-Err
 returns-in-Err c = λ task fed taken stands.
