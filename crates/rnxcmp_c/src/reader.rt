@@ -77,7 +77,8 @@ impl Reader {
     /// Takes some bytes of the input, if its run goes on, as long as little enough waits to be taken, and
     /// answers how many.
     pub(crate) fn take_in(&mut self, bytes: &[u8]) -> (usize, Answer)
-        requires { (task : Task) × (fed : List ℕ) × (taken : BothTexts) × ReaderStands task self.old fed taken }
+        requires { (task : Task) × (fed : List ℕ) × (taken : BothTexts)
+            × ReaderStands task self.old fed taken }
         ensures { (task : Task) (fed : List ℕ) (taken : BothTexts) → ReaderStands task self.old fed taken
             → Feeds task self.old self.new fed taken bytes.now result.0 result.1 }
     {
@@ -109,7 +110,8 @@ impl Reader {
 
     /// Takes the end of the input, if its run goes on.
     pub(crate) fn take_end(&mut self) -> Answer
-        requires { (task : Task) × (fed : List ℕ) × (taken : BothTexts) × ReaderStands task self.old fed taken }
+        requires { (task : Task) × (fed : List ℕ) × (taken : BothTexts)
+            × ReaderStands task self.old fed taken }
         ensures { (task : Task) (fed : List ℕ) (taken : BothTexts) → ReaderStands task self.old fed taken
             → Ends task self.old self.new fed taken result }
     {
@@ -135,8 +137,8 @@ impl Reader {
     pub(crate) fn hand_out(&mut self, output: &mut [u8], messages: &mut [u8]) -> Answer
         ensures taken { HandsOut (self.old ∷ []) (self.new ∷ []) (rooms output.old messages.old)
             (rooms output.new messages.new) result }
-        ensures stands { (task : Task) (fed : List ℕ) (taken : BothTexts) → ReaderStands task self.old fed taken
-            → ReaderStands task self.new fed (joined_texts taken
+        ensures stands { (task : Task) (fed : List ℕ) (taken : BothTexts)
+            → ReaderStands task self.old fed taken → ReaderStands task self.new fed (joined_texts taken
             (rooms (take (length output.old) (waiting self.old.held.output))
             (take (length messages.old) (waiting self.old.held.messages)))) }
     {
