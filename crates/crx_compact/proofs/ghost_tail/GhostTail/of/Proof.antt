@@ -1,19 +1,16 @@
 -- `of` makes a value of no bytes, at the tail of the history that it is given. The history stays as it was.
-use Rattle.crx_compact.proofs.Words.{[], ◌∷◌, refl, tail_of_history, Tail}
+use Rattle.crx_compact.proofs.Words.{[], ◌∷◌, refl, tail_of_history}
 use Rattle.std.proofs.raw_atomic.Walks.{proved}
 use mir.Syntax.{named}
-use base.Logic.{ent, emp}
 use mir.Val.{Val, vcons, vnil, vptr, vstruct}
-use seplogic.Ra.Ura.{Ura}
-use types.Logic.{Logic, sem}
-use types.Kit.{‵, raw, ◌⊛◌, ◌$◌, ◌∵◌, !, qed, move, keep, use0, split, suffices, done}
+use types.Kit.{‵, raw, ◌⊛◌, ◌$◌, ◌∵◌, !, qed, move, keep, split, suffices, done}
 use types.Run.{no_more, and_then, returns, enter}
 use types.Part.{agg}
 use types.ByLocal.{alloc_all, pass_all, free_all, look_at, get, sets}
 use denote.Exit.{yes}
 use denote.RattleType.{owns}
 use denote.Ref.{shr_vals, shr_Tells}
-use denote.Shadow.{makes_shadow}
+use denote.Shadow.{pure_i}
 use denote.Signature.{plain, types_at}
 use denote.Triple.Entry.{alive}
 use denote.Triple.Walked.{says, Stays, stay_none_ref, Goes-none_ref, walk_of, ends_at}
@@ -22,24 +19,6 @@ use Rattle.crx_compact.proofs.ghost_tail.GhostTail.of.Statement.{statement}
 use Rattle.crx_compact.specs.contracts.history.History as History
 use Rattle.crx_compact.specs.contracts.ghost_tail.GhostTail.of as it
 use Rattle.crx_compact.proofs.ghost_tail.GhostTail.of.Code as code
-
--- the marker and the whole, as the machine has them
-abbrev marker : Val
-marker = vstruct vnil
-
-abbrev stored : Val
-stored = vstruct (vcons marker vnil)
-
--- the whole as contracts see it
-abbrev kept : Tail → GhostTail
-kept tail = record { marker = record {}; tail = tail }
-
--- it owns nothing, so it is had of nothing
-had_of_nothing : {M : Type 1} {𝓤 : Ura M} (𝓛 : Logic 𝓤) (tail : Tail)
-    → ent 𝓤 (emp 𝓤) (sem 𝓛 (the_row.own_val (kept tail) (stored ∷ [])))
-had_of_nothing 𝓛 tail =
-    makes_shadow 𝓛 (the_row.own_val (kept tail) (stored ∷ [])) ((λ vss. (tt, ((λ uss. (tt, tt)), tt))), tt)
-    (((marker ∷ [], tt), (refl, ((tt, (refl, tt)), tt))), tt)
 
 abbrev stayed : Stays it.ended.signature.params it.ended.kept
 stayed = (stay_none_ref (0 ∷ []) tt (plain (λ _. History.the_row)) yes, tt)
@@ -53,7 +32,8 @@ of_spec 𝓤 𝓛 𝓜 𝓡 wired =
     (λ κs. (shr_vals, tt)) (λ κs. (shr_Tells (named 0) κs.0 History.the_row, tt))
     (λ κs qs bounds a g are.
     let pointer : Val = vptr a.0.ref_ptr.0 a.0.ref_ptr.1 in
-    let tail : Tail = tail_of_history a.0.now in
+    let stored : Val = vstruct (vcons (vstruct vnil) vnil) in
+    let kept : GhostTail = record { marker = record {}; tail = tail_of_history a.0.now } in
     let bound : (walk_of 𝓛 it.ended stayed clauses).Ghost = ((κs, qs, bounds, a, (pointer ∷ [], tt)), g) in
     qed 𝓛 ((raw (alive 𝓛 it.signature κs qs) ⊛ ‵ (owns (types_at it.signature.params κs) a bound.0.4))
     ∷ raw ((clauses κs a).requires g) ∷ []) ∵ keep ! (0 ∷ []) $ split ! $
@@ -61,7 +41,8 @@ of_spec 𝓤 𝓛 𝓜 𝓡 wired =
     sets ! (agg ! (no_more !)) refl (tt, tt) $
     sets ! (agg ! (and_then ! (get ! refl) (no_more !))) refl (tt, (tt, tt)) $
     returns ! (look_at ! 0 refl) $ free_all ! refl $
-    suffices ! _ (ends_at 𝓛 it.ended stayed clauses bound stored (kept tail) (tt, tt) (tt, tt)) $
+    suffices ! _ (ends_at 𝓛 it.ended stayed clauses bound stored kept (tt, tt) (tt, tt)) $
     says ! refl $
-    use0 𝓛 (‵ (the_row.own_val (kept tail) (stored ∷ []))) (had_of_nothing 𝓛 tail) $
+    pure_i ! (the_row.own_val kept (stored ∷ [])) ((λ vss. (tt, ((λ uss. (tt, tt)), tt))), tt)
+    (((vstruct vnil ∷ [], tt), (refl, ((tt, (refl, tt)), tt))), tt) $
     move ! (1 ∷ 2 ∷ 0 ∷ []) $ done !))
