@@ -9,16 +9,6 @@ use Rattle.crx_compact.specs.ArcLaws.{arc_of_values, CodesOfValues, accepted, ar
 use Rattle.crx_compact.proofs.arcs.Inversion.{value-first}
 use Rattle.crx_compact.proofs.arcs.Stepping.{values-by_tail, first-differences, codes-by_tail}
 
--- a started arc has numbers
-abbrev HasNumbers : Option Started → Type 0
-HasNumbers None = ⊤
-HasNumbers (Some arc) = 0 < length arc.numbers
-
-has-numbers : (cs : List Code) → HasNumbers (since_start cs)
-has-numbers (Start n v ∷ cs) = omega arith
-has-numbers (Step d ∷ cs) = grind arith
-has-numbers cs = tt
-
 value-start : (n : ℕ) (v : ℤ) → value_at n (v ∷ []) ≡ v
 value-start zero v = refl
 value-start (suc n) v = value-first n v
@@ -29,25 +19,25 @@ record Steps (d : ℤ) (o : Option Started) : Type 0 where
       → value_since width (option_map (onto_started d) o) ≡ value_of_code width (Step d) (started_tail o)
   arc : started_tail (option_map (onto_started d) o) ≡ arc_of_code (Step d) (started_tail o)
 
-step-numbers : (d : ℤ) (n : ℕ) (numbers : List ℤ)
-    → 0 < length numbers → Steps d (Some (record { order = n; numbers = numbers }))
-step-numbers d n [] h = absurd (not-suc-le-zero h)
-step-numbers d n (b ∷ bs) h = search (rules, values-by_tail)
+steps-onto : (d e : ℤ) (o : Option Started) → Steps d (option_map (onto_started e) o)
+steps-onto d e None = record { value = λ width. refl; arc = refl }
+steps-onto d e (Some arc) = search (rules, values-by_tail)
 
-steps : (d : ℤ) (o : Option Started) → HasNumbers o → Steps d o
-steps d None h = record { value = λ width. refl; arc = refl }
-steps d (Some arc) h = step-numbers d arc.order arc.numbers h
+steps : (d : ℤ) (cs : List Code) → Steps d (since_start cs)
+steps d (Start n v ∷ cs) = search (rules, values-by_tail)
+steps d (Step e ∷ cs) = steps-onto d e (since_start cs)
+steps d cs = record { value = λ width. refl; arc = refl }
 
 pub value-next : (width : ℕ) (c : Code) (cs : List Code)
     → value_of width (c ∷ cs) ≡ value_of_code width c (started_tail (since_start cs))
 value-next width Missing cs = refl
 value-next width (Start n v) cs = ap (in_range width) (value-start n v)
-value-next width (Step d) cs = (steps d (since_start cs) (has-numbers cs)).value width
+value-next width (Step d) cs = (steps d cs).value width
 
 pub number-next : (c : Code) (cs : List Code)
     → started_tail (since_start (c ∷ cs)) ≡ arc_of_code c (started_tail (since_start cs))
 number-next x cs =
-    grind (arith, common_steps, first-differences, value_at, value-start, steps, since_start, has-numbers)
+    grind (arith, common_steps, first-differences, value_at, value-start, steps, since_start)
 
 pub code-next : (o : Option ℤ) (os : List (Option ℤ))
     → code_at WRITTEN_ORDER (stretch (o ∷ os)) ≡ code_of_value o (arc_tail WRITTEN_ORDER (stretch os))

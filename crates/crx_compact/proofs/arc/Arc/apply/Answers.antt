@@ -1,5 +1,5 @@
 use Rattle.crx_compact.proofs.Words.{rules, ◌≡◌, ◌<◌, ◌+◌, ◌∷◌, ℕ, ℤ, List, true, length, take, ◌∙◌, Some}
-use Rattle.crx_compact.proofs.Words.{Result, Ok, Option, is_ok, Code, ArcTail, value_of, if◌then◌else◌, Fault}
+use Rattle.crx_compact.proofs.Words.{IsWithin, Result, Ok, Option, is_ok, Code, ArcTail, value_of, if◌then◌else◌, Fault}
 use Rattle.crx_compact.proofs.arcs.Running.{StepsOn, stepped}
 use Rattle.crx_compact.proofs.arcs.Running.{same-bits, begun-list, begun-kept, lower-below, within-below}
 use Rattle.crx_compact.proofs.{Words.{arc_of_code, value_of_code}, arcs.Arcs.values-of_codes}
@@ -7,18 +7,24 @@ use Rattle.crx_compact.proofs.{arcs.Bounds.within-is, arcs.Running.goes-on-kept}
 use Rattle.std.proofs.Common.{FitsSigned, w64, to_z, of_z}
 use Rattle.crx_compact.specs.{ArcLaws.{accepted, arc_of_codes}, meaning.ArcValues.{is_within, in_range}}
 use Rattle.crx_compact.specs.{ArcSteps.differences_after}
+use Rattle.crx_compact.proofs.arc.Arc.apply.{Given.Over, Goals.{After-value_after-value, Else-not-is_within-2}}
 use Rattle.crx_compact.proofs.arc.Arc.apply.Goals as goal
+
+on : (g : Over) (c : After-value_after-value g) → StepsOn g.row.WIDTH c.self.inside.order c.self.inside.count
+    c.min-last.result c.in-Step.number c.value_after-value.result c.self.inside.differences
+on g c = stepped _ _ _ _ _ _ _ c.min-last.ensures (search rules) c.self.told c.value_after-value.ensures
+    (search rules)
+
+within : (g : Over) (c : Else-not-is_within-2 g) → IsWithin g.row.WIDTH c.value_after-value.result
+within g c = search (rules, same-bits, within-is, c.is_within-in-Step.ensures, c.if-not-is_within-2.false)
 
 pub invariant_of-self-in-Start : goal.invariant_of-self-in-Start
 invariant_of-self-in-Start g c =
-    let some : 0 < length c.self.inside.differences = search rules in
-    let fits : FitsSigned w64 c.in-Start.value = search rules in
-    let is : is_within g.row.WIDTH c.in-Start.value
-    ≡ true = search (rules, same-bits, c.is_within.ensures, c.if-not-is_within.false) in
+    let is : IsWithin g.row.WIDTH c.in-Start.value =
+    search (rules, same-bits, within-is, c.is_within.ensures, c.if-not-is_within.false) in
     let printable = rw c.in-Start.is at c.requires in
-    rw (same-bits _ fits) (begun-kept g.row.WIDTH c.in-Start.order
-    c.self.inside.differences c.in-Start.value some c.self.invariant.few_columns printable.0
-    ((within-is _ _).0 is))
+    rw (same-bits c.in-Start.value (search rules))
+    (begun-kept _ _ _ _ (search rules) c.self.invariant.few_columns printable.0 is)
 
 pub returns-else-not-is_within-clause-ok : goal.returns-else-not-is_within-clause-ok
 returns-else-not-is_within-clause-ok g c = search (rules, c.in-Start.is, same-bits, begun-list)
@@ -28,51 +34,29 @@ value_after-value-requires-clause-below g c = search (rules, lower-below)
 
 pub returns-then-not-is_within-2-clause-value : goal.returns-then-not-is_within-2-clause-value
 returns-then-not-is_within-2-clause-value g c =
-    let fits : FitsSigned w64 c.in-Step.number = search rules in
-    let on : StepsOn g.row.WIDTH c.self.inside.order c.self.inside.count
-    c.min-last.result c.in-Step.number c.value_after-value.result c.self.inside.differences =
-    stepped _ _ _ _ _ _ _ c.min-last.ensures (search rules) c.self.told c.value_after-value.ensures fits in
-    search rules
+    search (rules, on g (goal.at.returns-then-not-is_within-2-clause-value g c).After-value_after-value)
 
 pub go_on-requires-clause-below : goal.go_on-requires-clause-below
 go_on-requires-clause-below g c = search (rules, lower-below)
 
 pub go_on-requires-clause-next : goal.go_on-requires-clause-next
 go_on-requires-clause-next g c =
-    let fits' : FitsSigned w64 c.value_after-value.result = search rules in
-    let is : is_within g.row.WIDTH c.value_after-value.result ≡ true =
-    search (rules, same-bits, c.is_within-in-Step.ensures, c.if-not-is_within-2.false) in
-    rw (same-bits _ fits')
-    (within-below g.row.WIDTH c.value_after-value.result c.self.invariant.few_columns ((within-is _ _).0 is))
+    let is = within g (goal.at.go_on-requires-clause-next g c).Else-not-is_within-2 in
+    search (rules, within-below)
 
 pub invariant_of-self-in-Step : goal.invariant_of-self-in-Step
 invariant_of-self-in-Step g c =
-    let fits' : FitsSigned w64 c.value_after-value.result = search rules in
-    let is : is_within g.row.WIDTH c.value_after-value.result ≡ true =
-    search (rules, same-bits, c.is_within-in-Step.ensures, c.if-not-is_within-2.false) in
-    let after : take (c.min-last.result + 1) c.go_on.new.differences
-    ≡ differences_after c.value_after-value.result (take c.min-last.result c.self.inside.differences) =
-    rw (same-bits _ fits') at c.go_on.ensures.after in
-    goes-on-kept _ _ _ _ _ _ _ c.min-last.ensures
-    c.self.invariant ((within-is _ _).0 is) after
+    goes-on-kept _ _ _ _ _ _ _ c.min-last.ensures c.self.invariant
+    (within g (goal.at.invariant_of-self-in-Step g c).Else-not-is_within-2) (search (rules, same-bits))
 
 pub returns-else-not-is_within-2-clause-value : goal.returns-else-not-is_within-2-clause-value
 returns-else-not-is_within-2-clause-value g c =
-    let fits : FitsSigned w64 c.in-Step.number = search rules in
-    let fits' : FitsSigned w64 c.value_after-value.result = search rules in
-    let on : StepsOn g.row.WIDTH c.self.inside.order c.self.inside.count
-    c.min-last.result c.in-Step.number c.value_after-value.result c.self.inside.differences =
-    stepped _ _ _ _ _ _ _ c.min-last.ensures (search rules) c.self.told c.value_after-value.ensures fits in
-    let given : Ok (Some c.value_after-value.result) ≡ in_range g.row.WIDTH c.value_after-value.result =
-    search (rules, same-bits, c.is_within-in-Step.ensures, c.if-not-is_within-2.false) in
-    rw (c.in-Step.is, ← c.self.view_is, same-bits _ fits') (given ∙ on.value_is)
+    let on' = on g (goal.at.returns-else-not-is_within-2-clause-value g c).After-value_after-value in
+    search (rules, same-bits, c.is_within-in-Step.ensures, c.if-not-is_within-2.false)
 
 pub returns-else-not-is_within-2-clause-ok : goal.returns-else-not-is_within-2-clause-ok
 returns-else-not-is_within-2-clause-ok g c =
-    let fits : FitsSigned w64 c.in-Step.number = search rules in
-    let on : StepsOn g.row.WIDTH c.self.inside.order c.self.inside.count
-    c.min-last.result c.in-Step.number c.value_after-value.result c.self.inside.differences =
-    stepped _ _ _ _ _ _ _ c.min-last.ensures (search rules) c.self.told c.value_after-value.ensures fits in
+    let on' = on g (goal.at.returns-else-not-is_within-2-clause-ok g c).After-value_after-value in
     search (rules, same-bits)
 
 -- what is said of any codes so far, by what is said of the arc
