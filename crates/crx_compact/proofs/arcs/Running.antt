@@ -32,10 +32,7 @@ pub after-below : (bound : ℕ) (value : ℤ) (ds : List ℤ)
     → IsBelow bound value → AreBelow bound ds → AreBelow bound (differences_after value ds)
 after-below bound value [] h hs = (h, tt)
 after-below bound value (d ∷ ds) h hs =
-    (h, after-below (bound + bound) (value -ℤ d) ds (less bound value d h hs.0) hs.1)
-  where
-    less : (b : ℕ) (x y : ℤ) → IsBelow b x → IsBelow b y → IsBelow (b + b) (x -ℤ y)
-    less b x y f g = omega (arith, ints)
+    (h, after-below (bound + bound) (value -ℤ d) ds (omega (arith, ints, h, hs.0)) hs.1)
 
 pub take-below : (bound n : ℕ) (ds : List ℤ) → AreBelow bound ds → AreBelow bound (take n ds)
 take-below bound (suc n) (d ∷ ds) h = (h.0, take-below (bound + bound) n ds h.1)
@@ -211,10 +208,7 @@ module _ (width order count : ℕ) (ds : List ℤ) (third : (order ≡ 3) × (co
 
   pub onto-third-kept : (number : ℤ) → IsShort number → OntoThird number ds
   onto-third-kept number h = onto-third number ds
-      (omega (arith, long)) (short-below number h) (lower-below order count 3 ds third-last kept.below)
-    where
-      short-below : (n : ℤ) → IsShort n → IsBelow (10 ^ 18) n
-      short-below n s = grind arith
+      (omega (arith, long)) (grind (arith, h)) (lower-below order count 3 ds third-last kept.below)
 
 some-kept : (order : ℕ) (value : ℤ) (ds : List ℤ) → Some
     (record { order = order; differences = differences_after value ds })
@@ -267,10 +261,8 @@ pub record StepsOn (width order count last : ℕ) (number value : ℤ) (ds : Lis
 pub stepped : (width order count last : ℕ) (number value : ℤ) (ds : List ℤ) → last ≡ min order count
     → 0 < count → length ds ≡ 10 → value ≡ newest (differences_by (to_z w64 (of_z w64 number)) (take last ds))
     → FitsSigned w64 number → StepsOn width order count last number value ds
-stepped width order (suc count) last number value (d ∷ ds) e h l v f =
-    let lower = lower-taken order (suc count) last (d ∷ ds) e in
-    search (rules, some-kept, by-after)
-stepped width order count last number value ds e h l v f = absurd (omega arith)
+stepped width order count last number value ds e h l v f =
+    grind (arith, common_steps, same-bits, lower-taken, some-kept, by-after)
 
 -- the highest difference at a next value in range is a number that a code may have
 highest-below : (k : ℕ) (ds : List ℤ) → length ds + k ≤ 10 → AreBelow (order_bound k) ds

@@ -1,12 +1,11 @@
-use Rattle.crx_compact.proofs.Words.{rules, ◌≡◌, ◌<◌, ◌+◌, ◌∷◌, ℕ, ℤ, List, true, length, take, ◌∙◌, Some}
-use Rattle.crx_compact.proofs.Words.{IsWithin, Result, Ok, Option, is_ok, Code, ArcTail, value_of, if◌then◌else◌, Fault}
+use Rattle.crx_compact.proofs.Words.{rules, ◌≡◌, ◌∷◌, ℕ, ℤ, List, Some, IsWithin}
+use Rattle.crx_compact.proofs.Words.{Result, Ok, Option, is_ok, Code, ArcTail, value_of, if◌then◌else◌, Fault}
 use Rattle.crx_compact.proofs.arcs.Running.{StepsOn, stepped}
 use Rattle.crx_compact.proofs.arcs.Running.{same-bits, begun-list, begun-kept, lower-below, within-below}
 use Rattle.crx_compact.proofs.{Words.{arc_of_code, value_of_code}, arcs.Arcs.values-of_codes}
 use Rattle.crx_compact.proofs.{arcs.Bounds.within-is, arcs.Running.goes-on-kept}
-use Rattle.std.proofs.Common.{FitsSigned, w64, to_z, of_z}
-use Rattle.crx_compact.specs.{ArcLaws.{accepted, arc_of_codes}, meaning.ArcValues.{is_within, in_range}}
-use Rattle.crx_compact.specs.{ArcSteps.differences_after}
+use Rattle.std.proofs.Common.{w64, to_z, of_z}
+use Rattle.crx_compact.specs.{ArcLaws.{accepted, arc_of_codes}}
 use Rattle.crx_compact.proofs.arc.Arc.apply.{Given.Over, Goals.{After-value_after-value, Else-not-is_within-2}}
 use Rattle.crx_compact.proofs.arc.Arc.apply.Goals as goal
 

@@ -1,10 +1,10 @@
 use Rattle.crx_compact.proofs.Words.{rules, ◌≡◌, ◌+◌, ◌∷◌, ℤ, List, Option, take}
 use Rattle.crx_compact.proofs.Words.{slice_set, WRITTEN_ORDER, IsWithin, Code, Start, Step, ArcTail, code_at}
-use Rattle.crx_compact.proofs.arcs.Running.{GoesOn, same-bits, begun-kept, lower-below}
+use Rattle.crx_compact.proofs.arcs.Running.{same-bits, begun-kept, lower-below}
 use Rattle.crx_compact.proofs.{Words.{stretch, arc_of_value, code_of_value}, arcs.Arcs.codes-of_values}
 use Rattle.crx_compact.proofs.arcs.Running.{within-below, goes-on-kept, goes-on, highest-short, begun-list}
-use Rattle.std.proofs.Common.{FitsSigned, w64, to_z, of_z}
-use Rattle.crx_compact.specs.{ArcLaws.arc_of_values, ArcSteps.{differences_after}, Arcs.kept_tail}
+use Rattle.std.proofs.Common.{w64, to_z, of_z}
+use Rattle.crx_compact.specs.{ArcLaws.arc_of_values, Arcs.kept_tail}
 use Rattle.crx_compact.proofs.arc.Arc.push.{Given.Over, Goals.In-Some}
 use Rattle.crx_compact.proofs.arc.Arc.push.Goals as goal
 use Rattle.crx_compact.proofs.arcs.Running.{below-short}
