@@ -1,8 +1,8 @@
 -- Differences of values within their columns are numbers that a code can hold.
-use Rattle.crx_compact.proofs.Words.{◌≡◌, ℕ, zero, suc, ◌+◌, ◌^◌, ◌<◌, ◌≤◌, min, true, ℤ, pos, neg_ℤ, rules}
+use Rattle.crx_compact.proofs.Words.{◌≡◌, ℕ, zero, suc, ◌+◌, ◌^◌, ◌<◌, ◌≤◌, min, true, ℤ, pos, neg_ℤ}
 use Rattle.crx_compact.proofs.Words.{List, [], ◌∷◌, length, AllByRecursion, arith, ints, WRITTEN_ORDER}
 use Rattle.crx_compact.proofs.Words.{DIGITS_LIMIT, IsWithin, IsShort, IsPrintable, code_at}
-use Rattle.crx_compact.proofs.Words.{◌-ℤ◌, difference, is_within}
+use Rattle.crx_compact.proofs.Words.{difference, is_within}
 use Rattle.std.specs.Prelude.{◌↔◌, ◌≤ℤ◌}
 use Rattle.std.proofs.Math.Nat.{pow-le-pow_right}
 use Rattle.crx_compact.proofs.arcs.Weights.{difference-suc, difference-zero}
@@ -17,19 +17,13 @@ abbrev pub doubled : ℕ → ℕ → ℕ
 doubled zero b = b
 doubled (suc k) b = doubled k b + doubled k b
 
-near-sub : (b : ℕ) (x y : ℤ) → IsNear b x → IsNear b y → IsNear (b + b) (x -ℤ y)
-near-sub b x y h k = omega (arith, ints)
-
-pub near-more : (b c : ℕ) (z : ℤ) → b ≤ c → IsNear b z → IsNear c z
-near-more b c z le h = omega (arith, ints)
-
 pub difference-near : (k b : ℕ) (xs : List ℤ) → AllByRecursion (IsNear b) xs
     → IsNear (doubled k b) (difference k xs)
 difference-near zero b [] h = omega (arith, ints)
 difference-near zero b (x ∷ xs) h = rw (difference-zero x xs) h.0
 difference-near (suc k) b [] h = omega (arith, ints)
 difference-near (suc k) b (x ∷ xs) h =
-    search (rules, difference-suc, near-sub, difference-near k b (x ∷ xs) h, difference-near k b xs h.1)
+    omega (arith, ints, difference-suc k x xs, difference-near k b (x ∷ xs) h, difference-near k b xs h.1)
 
 pub doubled-more : (k n b : ℕ) → k ≤ n → doubled k b ≤ doubled n b
 doubled-more zero (suc n) b h = omega (arith, doubled-more zero n b (omega arith))
@@ -41,8 +35,7 @@ pub difference-within : (b : ℕ) (x : ℤ) (xs : List ℤ) → AllByRecursion (
     → IsNear (doubled WRITTEN_ORDER b) (difference (min (length xs) WRITTEN_ORDER) (x ∷ xs))
 difference-within b x xs h =
     let order = min (length xs) WRITTEN_ORDER in
-    near-more (doubled order b) (doubled WRITTEN_ORDER b) (difference order (x ∷ xs))
-    (doubled-more order WRITTEN_ORDER b (omega arith)) (difference-near order b (x ∷ xs) h)
+    omega (arith, ints, doubled-more order WRITTEN_ORDER b (omega arith), difference-near order b (x ∷ xs) h)
 
 short : (b : ℕ) (z : ℤ) → b < 10 ^ DIGITS_LIMIT → IsNear b z → IsShort z
 short b z h k = grind arith
