@@ -6,7 +6,8 @@ use Rattle.crx_compact.proofs.{Words.{arc_of_code, value_of_code}, arcs.Arcs.val
 use Rattle.crx_compact.proofs.{arcs.Bounds.within-is, arcs.Running.goes-on-kept}
 use Rattle.std.proofs.Common.{w64, to_z, of_z}
 use Rattle.crx_compact.specs.{ArcLaws.{accepted, arc_of_codes}}
-use Rattle.crx_compact.proofs.arc.Arc.apply.{Given.Over, Goals.{After-value_after-value, Else-not-is_within-2}}
+use Rattle.crx_compact.proofs.arc.Arc.apply.{Given.Over, Goals.After-value_after-value}
+use Rattle.crx_compact.proofs.arc.Arc.apply.Goals.{Else-not-is_within-2}
 use Rattle.crx_compact.proofs.arc.Arc.apply.Goals as goal
 
 on : (g : Over) (c : After-value_after-value g) → StepsOn g.row.WIDTH c.self.inside.order c.self.inside.count
