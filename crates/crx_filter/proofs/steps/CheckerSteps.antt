@@ -6,7 +6,7 @@ use proofs.Words.{Count, last_line, compaction, with_next, Phase, Made, made_in,
 use proofs.Words.{epoch_by_rows, reader_phase, made_at, TakesRinexLine, is_standard_line, Totals, checking}
 use proofs.Words.{printed_made, earliest, CheckState, no_choices, check_state, checker_state_with, Held}
 use proofs.Words.{RinexReader, RinexStep, false-true, first_not_standard, printed_so_far, Stage}
-use proofs.Words.{phase_of_stage, epoch_open, ◌≤◌, is_open_stage, is_row, drop, Row as ObservationRow, Ok}
+use proofs.Words.{phase_of_stage, ◌≤◌, is_open_stage, is_row, drop, Row as ObservationRow, Ok}
 use proofs.Words.{Err, IsSameReader, Choices, length-drop, check_by_line, check_reading, map, length}
 use proofs.Words.{false≢true, Written, state_next, Begun, Bool, Rejects, bytes_eq, has_satellite}
 use proofs.{Words.{inl, inr, ◌||◌, ◌++◌, ◌∷◌}, following.CheckGoes.{made-quiet}}
@@ -73,36 +73,10 @@ grows-printed : (number : ℕ) (phase : Phase OpenEpoch) (types : List Count) (k
     (made : Made ObservationEpoch OpenEpoch) → Grows number phase types kept line made → HasPrinted made
 grows-printed number phase types kept line made h = grind (arith, common_steps)
 
-pub has-printed : (before : RinexReader) (content : List ℕ) → is_reading (reader_phase before) ≡ true
-    → HasPrinted (made_there before content)
-has-printed before content reading =
-    let none : Totals = record { version = []; epochs = 0; events = 0; observations = 0 } in
-    subst HasPrinted (made-same (reader_phase before) before.types none (Content content))
-    (grows-printed 0 (reader_phase before) before.types none
-    (Content content) (made_in checking (reader_phase before) before.types none (Content content))
-    (line-grows 0
-    (reader_phase before) before.types none (Content content) (reached (reader_phase before) reading)))
-
--- ---- what is seen then
-
-pub took-line : (before after : RinexReader) (number : ℕ) (totals then : Held) (named named_then : Option ℕ)
-    (line : InputLine) (step : RinexStep) (lines : List InputLine) → is_long line ≡ false
-    → IsTaken before line.content step after → AreTotals before line.content totals then
-    → named_then ≡ earliest named (is_standard_line line (last_line (printed_made (made_there before
-    line.content)))) (number + 1) → checker_state_with before number totals named ≡ check_state lines
-    → (fault_so_far (with_next lines line) ≡ None) × (checker_state_with after (number + 1) then named_then
-    ≡ check_state (with_next lines line))
-took-line before after number totals then named named_then line step lines short takes totals_then named_is
-    same = grind (
-      arith,
-      common_steps,
-      as-read-short,
-      made-same,
-      steps-to,
-      made-quiet,
-      (checked-on lines line).fault,
-      (checked-on lines line).next,
-    )
+has-printed : (phase : Phase OpenEpoch) (types : List Count) (kept : Totals) (line : ReadLine) → IsReached phase
+    → HasPrinted (made_in compaction phase types nothing_kept line)
+has-printed phase types kept line is = subst HasPrinted (made-same phase types kept line)
+    (grows-printed 0 phase types kept line _ (line-grows 0 phase types kept line is))
 
 -- ---- what a check's direction answers
 
@@ -120,12 +94,6 @@ module _ (serves : Choices → Type 0) (before after : RinexReader) (totals : He
       (HaveTypes before.stage before.types) (Err fault) ready
       (parts_with after (totals_held totals))
   refused-reads fault same closed refuses none = grind (arith, common_steps, rejected-reads, false≢true)
-
-  taken-reads : {room : Type 0} (then : Held) (step : RinexStep) → IsTaken before content step after
-      → AreTotals before content totals then → ready ≡ []
-      → Reads check_by_line serves (parts_with before (totals_held totals)) content room (Ok false) ready
-      (parts_with after (totals_held then))
-  taken-reads then step takes totals_then none = grind (arith, common_steps, made-same, steps-to)
 
 -- ---- what a check knows
 
@@ -156,46 +124,55 @@ module _ (choices : Choices) (before : RinexReader) (totals : Held) (lines : Lis
   pub has-reached : IsReached (reader_phase before)
   has-reached = grind (arith, common_steps, phase-reached)
 
-  module _ (named : Option ℕ) (named_is : named ≡ first_not_standard 1 lines (printed_so_far lines)) where
-    pub state-there : checker_state_with before (length lines) totals named ≡ check_state lines
-    state-there = grind (arith, common_steps, state_in, same-state)
+  pub state-there : (named : Option ℕ) → named ≡ first_not_standard 1 lines (printed_so_far lines)
+      → checker_state_with before (length lines) totals named ≡ check_state lines
+  state-there named known = grind (arith, common_steps, state_in, same-state)
 
-    noted-next : (after : RinexReader) (then : Held) (named_then : Option ℕ) (line : InputLine)
-        (step : RinexStep) (number : ℕ) → is_ended before.stage ≡ false → is_long line ≡ false
-        → IsTaken before line.content step after → AreTotals before line.content totals then
-        → (HasPrinted (made_there before line.content) → named_then ≡ earliest named (is_standard_line line
-        (last_line (printed_made (made_there before line.content)))) number) → number ≡ length lines + 1
-        → named_then ≡ first_not_standard 1 (with_next lines line) (printed_so_far (with_next lines line))
-    noted-next after then named_then line step number running short takes totals_then standard counted =
-        let reading = reads-on (epoch_open before) before.stage has-reached running in
-        ap (λ (c : CheckState). c.not_standard) (took-line before after (length lines) totals then named
-        named_then line step lines short takes totals_then (standard (has-printed before line.content reading)
-        ∙ ap (λ (n : ℕ). earliest named (is_standard_line line (last_line
-        (printed_made (made_there before line.content)))) n) counted) state-there).1
+-- whether a line is the last one that printing gives for it
+abbrev is_standard_there : RinexReader → InputLine → Bool
+is_standard_there before line = is_standard_line line (last_line (printed_made (made_there before line.content)))
 
 -- a check has taken a line that its reader took, and noted it
-pub noted-takes : {served : Choices → Type 0} (before after : RinexReader) (totals then : Held)
-    (named named_then : Option ℕ) (number : ℕ) (line : InputLine) (step : RinexStep) {room : Type 0}
-    (ready : List (List ℕ)) → is_ended before.stage ≡ false → is_long line ≡ false
-    → IsTaken before line.content step after → AreTotals before line.content totals then
-    → (HasPrinted (made_there before line.content) → named_then ≡ earliest named (is_standard_line line
-    (last_line (printed_made (made_there before line.content)))) number) → ready ≡ []
-    → then.epochs + then.events ≤ totals.epochs + totals.events + 1
-    → DirectionTakes check_by_line (λ choices. no_choices) (λ choices. check_reading) served
-    (parts_with before (totals_held totals)) number line room (Ok false) ready (parts_with after (totals_held then))
-    (λ choices. true) (totals.epochs + totals.events) (then.epochs + then.events)
-    (λ choices lines. named ≡ first_not_standard 1 lines (printed_so_far lines))
-    (λ choices lines. named_then ≡ first_not_standard 1 lines (printed_so_far lines))
-noted-takes before after totals then named named_then number line step ready running short takes totals_then
-    standard none counts = record {
-      reads = taken-reads _ before after totals line.content ready then step takes totals_then none;
-      serving = λ choices served. refl;
-      counts = counts;
-      notes = λ choices lines given known counted. noted-next choices before totals lines given.taken_as
-          (given-after choices lines line (parts_with before (totals_held totals)) given) named known after then
-          named_then line step number running short takes totals_then standard counted;
-      stays = λ choices lines known. tt;
-    }
+module _ (before after : RinexReader) (totals then : Held) (named named_then : Option ℕ) (line : InputLine)
+    (step : RinexStep) (short : is_long line ≡ false) (takes : IsTaken before line.content step after)
+    (totals_then : AreTotals before line.content totals then) where
+  took-line : (lines : List InputLine) → checker_state_with before (length lines) totals named ≡ check_state lines
+      → named_then ≡ earliest named (is_standard_there before line) (length lines + 1)
+      → (fault_so_far (with_next lines line) ≡ None)
+      × (checker_state_with after (length lines + 1) then named_then ≡ check_state (with_next lines line))
+  took-line lines same named_is = grind (
+    arith,
+    common_steps,
+    as-read-short,
+    made-same,
+    steps-to,
+    made-quiet,
+    (checked-on lines line).fault,
+    (checked-on lines line).next,
+  )
+
+  pub noted-takes : {served : Choices → Type 0} {room : Type 0} {number : ℕ} {ready : List (List ℕ)}
+      → (HasPrinted (made_there before line.content)
+      → named_then ≡ earliest named (is_standard_there before line) number) → ready ≡ []
+      → then.epochs + then.events ≤ totals.epochs + totals.events + 1
+      → DirectionTakes check_by_line (λ choices. no_choices) (λ choices. check_reading) served
+      (parts_with before (totals_held totals)) number line room (Ok false) ready
+      (parts_with after (totals_held then)) (λ choices. true) (totals.epochs + totals.events)
+      (then.epochs + then.events) (λ choices lines. named ≡ first_not_standard 1 lines (printed_so_far lines))
+      (λ choices lines. named_then ≡ first_not_standard 1 lines (printed_so_far lines))
+  noted-takes standard none counts = record {
+    reads = grind (arith, common_steps, made-same, steps-to);
+    serving = λ choices served. refl;
+    counts = counts;
+    notes = λ choices lines given known counted.
+        let is = given-after choices lines line (parts_with before (totals_held totals)) given in
+        let printed = has-printed (reader_phase before) before.types (totals_held totals) (Content line.content)
+        (has-reached choices before totals lines given.taken_as is) in
+        ap (λ (c : CheckState). c.not_standard) (took-line lines
+        (state-there choices before totals lines given.taken_as is named known)
+        (standard printed ∙ ap (earliest named (is_standard_there before line)) counted)).1;
+    stays = λ choices lines known. tt;
+  }
 
 -- or has refused a line as its reader did
 pub refused-takes : {served : Choices → Type 0} {before after : DirectionParts OpenEpoch Totals} {number count : ℕ}
@@ -260,10 +237,6 @@ module _ (made : Made ObservationEpoch OpenEpoch) (before after : RinexReader) (
   step-named names step no_row takes empty is_open = grind (arith, common_steps, step-begun, none-named)
 
 -- all six lines of a report were handed out where none is pending, and only there
-pub none-pending : (handed_out : ℕ) (found : Findings) → 6 ≤ handed_out
-    → drop handed_out (report_lines found) ≡ []
-none-pending handed_out found out = drop_all handed_out (report_lines found) out
-
 pub all-out : (handed_out : ℕ) (found : Findings) → drop handed_out (report_lines found) ≡ [] → 6 ≤ handed_out
 all-out handed_out found none =
     omega (arith, length-drop handed_out (report_lines found), ap length none)
@@ -271,12 +244,10 @@ all-out handed_out found none =
 -- so none is pending, whatever was found
 pub still-drained : (handed_out : ℕ) (found other : Findings)
     → drop handed_out (report_lines found) ≡ [] → drop handed_out (report_lines other) ≡ []
-still-drained handed_out found other none = none-pending handed_out other (all-out handed_out found none)
+still-drained handed_out found other none =
+    drop_all handed_out (report_lines other) (all-out handed_out found none)
 
 -- a row is to be counted
 pub row-counting : (observed : ℕ) (reader : RinexReader) (step : RinexStep) → is_row step ≡ true
     → IsBehindARow observed reader → IsCounting step observed reader
 row-counting observed reader step row behind = grind (arith, common_steps, false≢true)
-
-pub open-runs : (stage : Stage) → is_open_stage stage ≡ true → is_ended stage ≡ false
-open-runs stage opened = grind (arith, common_steps, false≢true)

@@ -40,10 +40,9 @@ returns c =
     let was = c.self.inside in
     let takes = rw c.bytes.ensures.content at (c.in_ok-step.ensures.reads.takes nothing_kept) in
     let drained = rw (← c.self.view_is) at c.requires.asked.drained in
-    let running = rw (← c.self.view_is) at c.requires.running in
     rw (← c.self.view_is) (record {
       takes = noted-takes was.reader c.take.new.self was.noted.totals
-          c.note.new.self.totals _ _ _ line c.in_ok-step.step _ running (short-line line c.args.line.short) takes
+          c.note.new.self.totals _ _ line c.in_ok-step.step (short-line line c.args.line.short) takes
           (c.note.ensures.totals _ _ takes) (c.note.ensures.standard _ _ takes)
           (still-drained was.handed_out _ _ drained) c.note.ensures.count;
     })

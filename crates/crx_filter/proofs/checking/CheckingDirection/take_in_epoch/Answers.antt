@@ -1,7 +1,7 @@
 use Rattle.crx_filter.proofs.Words.{common_steps, arith}
 use Rattle.crx_base.specs.Padded.{line_in}
 use Rattle.crx_filter.proofs.steps.CheckerSteps.{noted-takes, refused-takes}
-use Rattle.crx_filter.proofs.steps.CheckerSteps.{nothing_kept, open-runs, row-counting, rejected-reads}
+use Rattle.crx_filter.proofs.steps.CheckerSteps.{nothing_kept, row-counting, rejected-reads}
 use Rattle.crx_filter.proofs.steps.{CheckerSteps.still-drained, EngineAnswers.short-line}
 use Rattle.{crx_lines.specs.Reading.{line_shown}, std.proofs.lemmas.Result.err_from_is_err_and}
 use Rattle.crx_filter.proofs.checking.CheckingDirection.take_in_epoch.Goals as goal
@@ -37,10 +37,9 @@ returns c =
     let was = c.self.inside in
     let takes = rw c.padded.ensures.content at (c.in_ok-step.ensures.takes nothing_kept) in
     let drained = rw (← c.self.view_is) at c.requires.asked.drained in
-    let running = open-runs _ (rw (← c.self.view_is) at c.requires.open) in
     rw (← c.self.view_is) (record {
       takes = noted-takes was.reader c.take_row.new.reader was.noted.totals
-          c.note.new.self.totals _ _ _ line c.in_ok-step.step _ running (short-line line c.args.line.short) takes
+          c.note.new.self.totals _ _ line c.in_ok-step.step (short-line line c.args.line.short) takes
           (c.note.ensures.totals _ _ takes) (c.note.ensures.standard _ _ takes)
           (still-drained was.handed_out _ _ drained) c.note.ensures.count;
     })
