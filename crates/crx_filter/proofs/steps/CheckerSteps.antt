@@ -73,8 +73,8 @@ grows-printed : (number : ℕ) (phase : Phase OpenEpoch) (types : List Count) (k
     (made : Made ObservationEpoch OpenEpoch) → Grows number phase types kept line made → HasPrinted made
 grows-printed number phase types kept line made h = grind (arith, common_steps)
 
-has-printed : (phase : Phase OpenEpoch) (types : List Count) (kept : Totals) (line : ReadLine) → IsReached phase
-    → HasPrinted (made_in compaction phase types nothing_kept line)
+has-printed : (phase : Phase OpenEpoch) (types : List Count) (kept : Totals) (line : ReadLine)
+    → IsReached phase → HasPrinted (made_in compaction phase types nothing_kept line)
 has-printed phase types kept line is = subst HasPrinted (made-same phase types kept line)
     (grows-printed 0 phase types kept line _ (line-grows 0 phase types kept line is))
 
@@ -130,13 +130,15 @@ module _ (choices : Choices) (before : RinexReader) (totals : Held) (lines : Lis
 
 -- whether a line is the last one that printing gives for it
 abbrev is_standard_there : RinexReader → InputLine → Bool
-is_standard_there before line = is_standard_line line (last_line (printed_made (made_there before line.content)))
+is_standard_there before line =
+    is_standard_line line (last_line (printed_made (made_there before line.content)))
 
 -- a check has taken a line that its reader took, and noted it
 module _ (before after : RinexReader) (totals then : Held) (named named_then : Option ℕ) (line : InputLine)
     (step : RinexStep) (short : is_long line ≡ false) (takes : IsTaken before line.content step after)
     (totals_then : AreTotals before line.content totals then) where
-  took-line : (lines : List InputLine) → checker_state_with before (length lines) totals named ≡ check_state lines
+  took-line : (lines : List InputLine)
+      → checker_state_with before (length lines) totals named ≡ check_state lines
       → named_then ≡ earliest named (is_standard_there before line) (length lines + 1)
       → (fault_so_far (with_next lines line) ≡ None)
       × (checker_state_with after (length lines + 1) then named_then ≡ check_state (with_next lines line))
@@ -158,7 +160,8 @@ module _ (before after : RinexReader) (totals then : Held) (named named_then : O
       → DirectionTakes check_by_line (λ choices. no_choices) (λ choices. check_reading) served
       (parts_with before (totals_held totals)) number line room (Ok false) ready
       (parts_with after (totals_held then)) (λ choices. true) (totals.epochs + totals.events)
-      (then.epochs + then.events) (λ choices lines. named ≡ first_not_standard 1 lines (printed_so_far lines))
+      (then.epochs + then.events)
+      (λ choices lines. named ≡ first_not_standard 1 lines (printed_so_far lines))
       (λ choices lines. named_then ≡ first_not_standard 1 lines (printed_so_far lines))
   noted-takes standard none counts = record {
     reads = grind (arith, common_steps, made-same, steps-to);
@@ -166,8 +169,8 @@ module _ (before after : RinexReader) (totals then : Held) (named named_then : O
     counts = counts;
     notes = λ choices lines given known counted.
         let is = given-after choices lines line (parts_with before (totals_held totals)) given in
-        let printed = has-printed (reader_phase before) before.types (totals_held totals) (Content line.content)
-        (has-reached choices before totals lines given.taken_as is) in
+        let printed = has-printed (reader_phase before) before.types (totals_held totals)
+        (Content line.content) (has-reached choices before totals lines given.taken_as is) in
         ap (λ (c : CheckState). c.not_standard) (took-line lines
         (state-there choices before totals lines given.taken_as is named known)
         (standard printed ∙ ap (earliest named (is_standard_there before line)) counted)).1;

@@ -15,8 +15,10 @@ use proofs.Words.{is_long}
 use proofs.{Words.{LINE_LIMIT, ◌≤◌}, Pending.again-lines}
 use proofs.following.{Collecting.{add_made, given-epochs, given-past}, CompactedOn.as_it_is}
 use proofs.following.CompactedOn.{compaction-collects, epochs_collected}
-use proofs.steps.CompactionSteps.{AddsHeld, is_first_line, of-copied}
-use proofs.Words.{Begun, Nothing, RinexStep, TakesRinexLine, false, is_row}
+use proofs.steps.CompactionSteps.{AddsHeld, is_first_line}
+use proofs.Words.{Begun, Nothing, Header, HeaderLine, EventLine, EventRecord, RinexStep, TakesRinexLine}
+use proofs.Words.{is_row}
+use Rattle.crx_filter.specs.declared.rinex_reader.RinexStep.TheVariants.{Event, Record}
 use proofs.steps.{EngineAnswers.{as-read-within, as-read-short}, Together.served-closed}
 use proofs.steps.{Enough.{epochs-kept, known-room}, Given.{counts-there, types-there}}
 use Rattle.crx_compact.specs.{Encoding.{EncoderState, EndsEpoch, forgotten}, Placing.{HasRoom, HaveRoom}}
@@ -33,33 +35,12 @@ use Rattle.crx_filter.specs.declared.compaction.Compaction.TheInside.{Inside as 
 use Rattle.std.proofs.lemmas.{Bool.{not-false, or_parts}, List.Elements.{All-map}}
 use Rattle.std.specs.Prelude.{IfOk}
 
--- ---- the epochs after one line more
+-- ---- what is known after one line more
 
 all-added : (rooms : List (List ℕ × ℕ)) (epochs : List Epoch) (made : Made Epoch OpenEpoch)
     → AddsHeld rooms made → HaveEpochsRoom rooms epochs → HaveEpochsRoom rooms (add_made as_it_is epochs made)
 all-added rooms epochs (Completes (Observation epoch)) adds all = grind (arith, common_steps)
 all-added rooms epochs made adds all = all
-
-module _ (choices : Choices) (lines : List InputLine) (line : InputLine) (before : CompactionState)
-    (given : ComesAfter compaction (λ choices. choices) compaction_state choices lines line
-    (compaction_parts before)) (knew : HaveEpochsRoom before.encoder.rooms (rinex_epochs choices lines)) where
-  abbrev state : RunState OpenEpoch Written
-  state = state_by choices (length lines) (compaction_parts before)
-
-  -- after a line that makes this
-  knows-next : (rooms : List (List ℕ × ℕ)) (made : Made Epoch OpenEpoch)
-      → KeepsRooms before.encoder.rooms rooms
-      → made_in compaction state.phase state.types state.kept (as_read line) ≡ made
-      → is_again (step_of_made compaction state (as_read line) made).answer ≡ false
-      → AddsHeld rooms made → HaveEpochsRoom rooms (rinex_epochs choices (with_next lines line))
-  knows-next rooms made kept is once adds =
-      let epochs = epochs_collected choices (map as_read lines) in
-      let then = given-epochs compaction as_it_is compaction_state choices (epochs_collected choices)
-      (compaction-collects choices) lines line (compaction_parts before) given
-      (ap (λ (m : Made Epoch OpenEpoch). is_again (step_of_made compaction state (as_read line) m).answer) is
-      ∙ once) ∙ ap (add_made as_it_is epochs) is in
-      subst (HaveEpochsRoom rooms) (sym then) (all-added rooms epochs made adds
-      (epochs-kept before.encoder.rooms rooms epochs kept knew))
 
 -- a line that brings nothing
 pub knows-past : (choices : Choices) (lines : List InputLine) (line : InputLine) (c : CompactionState)
@@ -154,10 +135,16 @@ module _ (served : Choices → Type 0) (room : Type 0) (before after : Compactio
         → HaveEpochsRoom before.encoder.rooms (rinex_epochs choices lines) → number ≡ length lines + 1
         → HaveEpochsRoom after.encoder.rooms (rinex_epochs choices (with_next lines line))
     noted makes is once adds = λ choices lines given knew counted.
-        knows-next choices lines line before given knew after.encoder.rooms makes kept
-        (ap (made_in compaction (reader_phase before.reader) before.reader.types (kept_of before))
-        (as-read-within line line.content short refl) ∙ is)
-        (once (state_by choices (length lines) (compaction_parts before))) adds
+        let state = state_by choices (length lines) (compaction_parts before) in
+        let epochs = epochs_collected choices (map as_read lines) in
+        let made_is = ap (made_in compaction (reader_phase before.reader) before.reader.types
+        (kept_of before)) (as-read-within line line.content short refl) ∙ is in
+        let then = given-epochs compaction as_it_is compaction_state choices (epochs_collected choices)
+        (compaction-collects choices) lines line (compaction_parts before) given
+        (ap (λ (m : Made Epoch OpenEpoch). is_again (step_of_made compaction state (as_read line) m).answer)
+        made_is ∙ once state) ∙ ap (add_made as_it_is epochs) made_is in
+        subst (HaveEpochsRoom after.encoder.rooms) (sym then) (all-added after.encoder.rooms epochs makes adds
+        (epochs-kept before.encoder.rooms after.encoder.rooms epochs kept knew))
 
     -- it completes no unit
     pub moved-takes : {ready : List (List ℕ)} → MovesReader made before.reader after.reader
@@ -181,15 +168,25 @@ module _ (served : Choices → Type 0) (room : Type 0) (before after : Compactio
         → after.encoder ≡ record (forgotten before.encoder (lines_before_header date (is_first_line step)))
         { rooms = after.encoder.rooms } → after.index ≡ before.index
         → Takes (Ok true) (after.encoder.pending ++ line.content ∷ [])
-    copied-takes step date nothing begun row takes dated emptied counted =
-        let copies = of-copied step nothing begun row takes in
-        unit-takes copies.unit copies.done (copies.adds after.encoder.rooms) (λ choices number is.
-        let state = state_by choices number (compaction_parts before) in (
+    copied-takes (Header is_first) date nothing begun row takes dated emptied counted =
+        unit-takes (HeaderLine line.content) takes.0 tt (λ choices number is. (
           ap (λ (e : EncoderState). e.pending ++ line.content ∷ []) emptied
-              ∙ ap (λ d. lines_before_header d (is_first_line step) ++ line.content ∷ []) (sym (dated choices is))
-              ∙ sym (copies.written state refl),
-          (rw (counted, emptied) refl) ∙ sym (copies.kept state),
+              ∙ ap (λ d. lines_before_header d is_first ++ line.content ∷ []) (sym (dated choices is))
+              ∙ ap (λ b. lines_before_header choices.date b ++ line.content ∷ []) takes.1,
+          rw (counted, emptied) refl,
         )) (omega (arith, counted))
+    copied-takes Event date nothing begun row takes dated emptied counted =
+        unit-takes (EventLine line.content) takes tt (λ choices number is. (
+          ap (λ (e : EncoderState). e.pending ++ line.content ∷ []) emptied,
+          rw (counted, emptied) refl,
+        )) (omega (arith, counted))
+    copied-takes Record date nothing begun row takes dated emptied counted =
+        unit-takes (EventRecord line.content) takes tt (λ choices number is. (
+          ap (λ (e : EncoderState). e.pending ++ line.content ∷ []) emptied,
+          rw (counted, emptied) refl,
+        )) (omega (arith, counted))
+    copied-takes step date nothing begun row takes dated emptied counted =
+        grind (arith, common_steps, true≢false)
 
     -- it completes an epoch, whose rows the encoder had
     pub ended-takes : (done : CompletedEpoch made line.content before.reader after.reader) (mid : EncoderState)

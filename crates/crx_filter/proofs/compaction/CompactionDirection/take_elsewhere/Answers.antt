@@ -1,7 +1,7 @@
 use Rattle.crx_filter.proofs.Words.{common_steps, arith, ap, refl, sym, subst, ◌∙◌, ◌≡◌, ◌+◌, Choices, Header}
 use Rattle.{crx_filter.proofs.Words.is_at_every, crx_compact.specs.{Encoding.EncoderState, Placing.{HaveRoom, KeepsRooms}}}
 use Rattle.crx_filter.proofs.steps.CompactionKnows.{compaction_of, copied-takes, ended-takes, kept_in, moved-takes}
-use Rattle.crx_filter.proofs.steps.{CompactionKnows.refused-takes, CompactionSteps.{not-first, of-copied}}
+use Rattle.crx_filter.proofs.steps.{CompactionKnows.refused-takes, CompactionSteps.{copied-closed, not-first}}
 use Rattle.crx_filter.proofs.steps.Together.{begun-asked, begun-holds, begun-kept, begun-open, begun-rows}
 use Rattle.crx_filter.proofs.steps.Together.{begun-together, begun-whole, closed-together, none-there}
 use Rattle.crx_filter.proofs.steps.Together.{same-together, served-closed, served-open}
@@ -136,7 +136,7 @@ pub invariant_of-self-in_default : goal.invariant_of-self-in_default
 invariant_of-self-in_default c =
     let step = c.in_default in
     let takes = c.in_ok-take.ensures.reads.takes (kept_in c.self.inside) in
-    let closed = (of-copied _ step.not-Nothing step.not-Begun c.in_ok-take.ensures.reads.steps takes).done.closed in
+    let closed = copied-closed _ _ _ _ _ step.not-Begun c.in_ok-take.ensures.reads.steps takes in
     grind (arith, common_steps, closed-together, closed)
 
 pub returns-in_default : goal.returns-in_default
