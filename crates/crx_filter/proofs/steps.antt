@@ -5,7 +5,6 @@ pub mod CompactionSteps
 pub mod RowSteps
 pub mod Together
 pub mod EngineFaults
-pub mod LostLines
 pub mod Enough
 pub mod Given
 pub mod HeldRows

@@ -4,16 +4,17 @@ use Rattle.crx_filter.specs
 use Words.{common_steps, arith, ◌≡◌, ℕ, ◌+◌, Bool, true, false, ◌&&◌, List, [], Option, Some, None, Result}
 use Words.{Ok, Err, Content, Overlong, At, Fault, LineTooLong, Count, Choices, RunState, Direction}
 use Words.{Rejects, made_in, is_skipped_in, may_skip, is_skippable, failed_step, state_next}
-use Words.{begins_epoch, step_made, is_held, phase_of_stage, Stage, false≢true, InputLine, with_next}
-use Words.{ReadLine, Steps, as_read, length}
+use Words.{begins_epoch, step_made, is_held, phase_of_stage, Stage, false≢true, InputLine}
+use Words.{ReadLine, Steps, as_read, length, LINE_LIMIT, ◌≤◌, refl}
 use specs.DirectionParts.{DirectionParts, state_by, Reads, AnswersToFault, HasStopped, TakesLine, handed_out_by}
-use specs.{DirectionParts.{ComesAfter, KnowsStill}, EngineState.{KnowsAfter}}
+use specs.{DirectionParts.{ComesAfter, EngineParts, KnowsStill}, EngineState.{KnowsAfter, EngineReads}}
+use specs.{EngineState.{engine_ready, engine_state}, declared.direction.Direction.Ghosts}
 use specs.{DirectionParts.hands_out, EngineSteps.answer_of_step, LineByLine.{end_step, answer_of_lines}}
 use specs.{LineByLine.fault_at_end_in, LineByLine.state_end_with, Stages.{bare_phase, is_settled}}
 use specs.declared.stage.Stage.TheVariants.{Looking, Closed, Ended}
-use Rattle.crx_filter.proofs.steps.EngineLemmas.{ran-out}
+use Rattle.crx_filter.proofs.steps.{EngineAnswers.as-read-within, EngineLemmas.ran-out}
 use Rattle.crx_runs.specs.declared.engine.Step.{Step, TheVariants.{Warned}}
-use Rattle.std.proofs.Common.{OnErr, IfOk}
+use Rattle.std.proofs.Common.{OnErr}
 use Rattle.crx_runs.specs.Engines.{answer_given, lines_handed_out}
 use Rattle.crx_runs.specs.declared.engine.HandedOut.{HandedOut}
 
@@ -25,13 +26,6 @@ not-settled stage a b c = grind (arith, common_steps)
 -- what is true after any answer is true after an error
 pub after-error : {A B P : Type 0} (result : Result A B) → P → OnErr result P
 after-error result is = grind (arith, common_steps)
-
--- what is known after a line that hands something out, or nothing
-pub notes-handed : (knows : List InputLine → Type 0) (lines : List InputLine) (line : InputLine)
-    (out : HandedOut) (stored : Result Step At)
-    → IfOk (hands_out (Ok out)) (λ is_ready. knows (with_next lines line))
-    → KnowsAfter knows lines line (answer_given (Some out) stored)
-notes-handed knows lines line out stored known = grind (arith, common_steps)
 
 module _ {U O K : Type 0} (direction : Direction U O K) (chosen : Choices → Choices)
     (state_after_lines : Choices → List ReadLine → RunState O K) (choices : Choices) (number : ℕ)
@@ -61,20 +55,8 @@ module _ {U O K : Type 0} (direction : Direction U O K) where
   handed-line serves choices last before parts line room out stored ready chosen reads =
       grind (arith, common_steps, reads.takes choices last chosen)
 
-  -- a fault that a line was refused with is answered so
-  pub refused-stops : (choices : Choices) (last : ℕ) (stage : Stage) (fault : Fault) (goes_on : Bool)
-      (before parts : DirectionParts O K) (line : List ℕ) (room : Type 0) (serves : Choices → Type 0)
-      (result : Result Step At) (given ready : List (List ℕ)) (after : RunState O K) → AnswersToFault
-      direction choices (last + 1) stage fault goes_on parts result ready after → before.stage ≡ stage → is_held
-      stage before.begun ≡ true → begins_epoch line ≡ goes_on
-      → Reads direction serves before line room (Err fault) given parts
-      → HasStopped (failed_step direction (state_by choices last before) (Content line) fault) result ready
-      (state_by choices last before) after
-  refused-stops choices last stage fault goes_on before parts line room serves result given ready after fails was
-      held goes reads = grind (arith, common_steps, fails before (Content line) last)
-
   -- a line was refused: with its fault, or because memory ran out
-  pub refused-line : (choices : Choices) (last : ℕ) (fault : Fault) (serves : Choices → Type 0)
+  refused-line : (choices : Choices) (last : ℕ) (fault : Fault) (serves : Choices → Type 0)
       (before parts : DirectionParts O K) (line : List ℕ) (room : Type 0) (result : Result Step At)
       (given ready : List (List ℕ)) (after : RunState O K)
       → HasStopped (failed_step direction (state_by choices last before) (Content line) fault) result ready
@@ -142,3 +124,26 @@ module _ {U O K : Type 0} (direction : Direction U O K) where
           ≡ false → step_made (Err (record { line = number + 1; fault = fault })) []
           (state_by choices number after) ≡ state_end_with direction closing (state_by choices number before)
       ends-failed staged off = grind (arith, common_steps, ends, skips)
+
+-- a line was refused, and its fault answered
+pub refused-read : {D : Type 0} (d : Ghosts D) (before after : EngineParts D) (line : InputLine)
+    {stage : Stage} {fault : Fault} {goes_on : Bool} {parts : DirectionParts d.Open d.Kept}
+    {serves : Choices → Type 0} {given : List (List ℕ)} → length line.content ≤ LINE_LIMIT
+    → AnswersToFault d.by_line before.options (before.number + 1) stage fault goes_on parts after.answer
+    (engine_ready d after) (engine_state d after) → (d.parts before.direction).stage ≡ stage
+    → is_held stage (d.parts before.direction).begun ≡ true → begins_epoch line.content ≡ goes_on
+    → Reads d.by_line serves (d.parts before.direction) line.content
+    (d.has_room before.direction line.content) (Err fault) given parts
+    → KnowsStill d.by_line d.chosen d.state_after_lines (d.parts before.direction) (d.notes before.direction)
+    → ((lines : List InputLine) → d.notes before.direction before.options lines
+    → d.notes after.direction before.options lines) → EngineReads d before line None after
+refused-read d before after line {fault = fault} short fails was held goes reads past stays =
+    let stopped = fails (d.parts before.direction) (Content line.content) before.number
+    (record { stage_was = was; held = held; types = reads.types; kept = reads.kept; goes = goes }) refl in
+    let takes = refused-line d.by_line before.options before.number fault _ (d.parts before.direction) _
+    line.content _ _ _ _ _ stopped reads in
+    record {
+      takes = takes;
+      notes = notes-refused d.by_line d.chosen d.state_after_lines _ _ _ _ (d.notes after.direction) past
+          stays line fault _ _ _ _ _ stopped (as-read-within line line.content short refl) takes.steps;
+    }

@@ -1,45 +1,32 @@
 -- How many lines have been taken after a step, and where lines are borrowed.
-use Rattle.crx_filter.proofs.Words.{common_steps, arith, ◌≡◌, inl, inr, ℕ, ◌+◌, true, false, List, [], Result}
-use Rattle.crx_filter.proofs.Words.{length, length-append, InputLine, sym, subst, ⊤, ReadLine, At, Direction}
-use Rattle.crx_filter.proofs.Words.{RunState, Made, Answer, Notice, Failed, LineStep, made_in, step_of_made}
-use Rattle.crx_filter.proofs.{Words.{Steps, answer_of_step, step_made}, Pending.{quiet-next}}
+use Rattle.crx_filter.proofs.Words.{common_steps, arith, ◌≡◌, inl, inr, ℕ, false, List, [], Result, length}
+use Rattle.crx_filter.proofs.Words.{length-append, InputLine, ReadLine, At, Direction, RunState, Made, made_in}
+use Rattle.crx_filter.proofs.{Words.{Steps, answer_of_step, step_made, step_of_made}, Pending.{quiet-next}}
 use Rattle.crx_filter.specs.{Laws.is_ready, LineByLine.state_end_with}
 use Rattle.crx_runs.specs.Engines.{Awaited, EngineAnswers, taken_after, IsDrainedAfter}
 use Rattle.{crx_runs.specs.{declared.engine.Step.Step, meaning.Filters.Filter}, std.proofs.Common.IfOk}
-
--- a line counts unless it comes again
-abbrev Counts : ℕ → Answer → ℕ → Type 0
-Counts before (Notice at true) after = after ≡ before
-Counts before (Failed at) after = ⊤
-Counts before answer after = after ≡ before + 1
-
-made-counts : {U O K : Type 0} (direction : Direction U O K) (state : RunState O K) (line : ReadLine)
-    (made : Made U O) → Counts state.number (step_of_made direction state line made).answer
-    (step_of_made direction state line made).next.number
-made-counts direction state line made = grind (arith, common_steps)
-
-counted-result : (before after : ℕ) (result : Result Step At) → Counts before (answer_of_step result) after
-    → IfOk result (λ step. after ≡ taken_after step before)
-counted-result before after result h = grind (arith, common_steps)
 
 -- only where the answer is that lines are ready are some borrowed
 drained-where : (ready : List (List ℕ)) (result : Result Step At) → (is_ready (answer_of_step result) ≡ false
     → ready ≡ []) → IfOk result (λ step. IsDrainedAfter step ready)
 drained-where ready result none = grind (arith, common_steps)
 
-module _ {U O K : Type 0} (direction : Direction U O K)
-    (before now : RunState O K) (line : ReadLine) {room : Type 0} (ready : List (List ℕ))
-    (result : Result Step At) where
-  -- how many lines were taken after a line
-  pub steps-counted : Steps direction before line room result ready now
+module _ {U O K : Type 0} (direction : Direction U O K) (before now : RunState O K) (line : ReadLine)
+    (ready : List (List ℕ)) (result : Result Step At) where
+  -- a line counts unless it comes again
+  made-counted : (made : Made U O) → step_made result ready now ≡ step_of_made direction before line made
       → IfOk result (λ s. now.number ≡ taken_after s before.number)
-  steps-counted (inl step) = counted-result before.number now.number result
-      (subst (λ (s : LineStep O K). Counts before.number s.answer s.next.number) (sym step)
-      (made-counts direction before line (made_in direction before.phase before.types before.kept line)))
+  made-counted made step = grind (arith, common_steps)
+
+  -- how many lines were taken after a line
+  pub steps-counted : {room : Type 0} → Steps direction before line room result ready now
+      → IfOk result (λ s. now.number ≡ taken_after s before.number)
+  steps-counted (inl step) = made-counted (made_in direction before.phase before.types before.kept line) step
   steps-counted (inr out) = grind (arith, common_steps, taken_after)
 
   -- lines are borrowed only where they are said to be ready
-  pub steps-drained : Steps direction before line room result ready now → IfOk result (λ s. IsDrainedAfter s ready)
+  pub steps-drained : {room : Type 0} → Steps direction before line room result ready now
+      → IfOk result (λ s. IsDrainedAfter s ready)
   steps-drained (inl step) =
       drained-where ready result (quiet-next direction before line (step_made result ready now) step)
   steps-drained (inr out) = grind (arith, common_steps)

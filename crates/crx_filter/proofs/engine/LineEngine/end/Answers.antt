@@ -1,5 +1,5 @@
 use Rattle.crx_filter.proofs.Words.{common_steps, arith, sym, ◌∙◌, ◌≡◌, ap, and_parts, List, ℕ, Ok, refl}
-use Rattle.crx_filter.proofs.steps.{EngineAnswers.end-answered, EngineFaults.{after-error, ends-failed}}
+use Rattle.crx_filter.proofs.steps.{EngineAnswers.end-answered, EngineFaults.ends-failed}
 use Rattle.crx_filter.proofs.steps.EngineFaults.{ends-skipped, ends-well}
 use Rattle.crx_filter.proofs.engine.LineEngine.end.{Given.Over, Goals.{After-conclude, After-stage-stage}}
 use Rattle.crx_filter.specs.{DirectionParts.{DirectionParts, EngineParts, answer_for}, EngineSteps.answer_of_step}

@@ -1,4 +1,4 @@
-use Rattle.crx_filter.proofs.Words.{ap, refl, ◌∙◌, sym, ◌+◌, ◌≡◌, inl, List, ℕ, LineTooLong, Overlong}
+use Rattle.crx_filter.proofs.Words.{ap, refl, ◌∙◌, sym, ◌+◌, inl, List, ℕ, LineTooLong}
 use Rattle.crx_filter.proofs.Words.{step_made}
 use Rattle.crx_filter.proofs.steps.{EngineAnswers.{as-read-long, line-answered}, EngineFaults.after-error}
 use Rattle.crx_filter.proofs.steps.EngineFaults.{long-failed, not-settled, notes-refused}

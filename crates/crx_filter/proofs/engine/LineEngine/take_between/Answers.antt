@@ -1,31 +1,20 @@
-use Rattle.crx_filter.proofs.Words.{sym, refl, ap, ◌+◌, ◌∙◌, begins_epoch, InputLine}
-use Rattle.crx_filter.proofs.steps.{EngineAnswers.as-read-within, EngineFaults.{after-error, handed-line}}
-use Rattle.crx_filter.proofs.steps.EngineFaults.{notes-handed, notes-refused, refused-line, refused-stops}
-use Rattle.{crx_filter.proofs.steps.LostLines.handed-well, crx_lines.specs.Reading.line_shown}
+use Rattle.crx_filter.proofs.Words.{common_steps, arith, sym, refl, ap, ◌+◌, ◌∙◌, begins_epoch, InputLine}
+use Rattle.crx_filter.proofs.steps.EngineFaults.{after-error, handed-line, refused-read}
+use Rattle.{crx_lines.specs.Reading.line_shown}
 use Rattle.crx_filter.proofs.engine.LineEngine.take_between.Goals as goal
 
 pub returns-in-Err : goal.returns-in-Err
 returns-in-Err g c =
-    let d = g.D.Direction in
-    let line = line_shown c.of-line.result in
-    let stopped = refused-stops d.by_line _ c.self.inside.number _ _ _ (d.parts c.self.inside.direction) _ _ _ _ _ _ _ _
-    (c.fail.ensures.fails _ c.may_skip.ensures.value c.is_in_epoch-is_open.ensures.value)
-    (sym c.stage-stage.ensures.value) c.stage-stage.ensures.held
-    (sym (c.begins_epoch-begins.ensures.value ∙ ap begins_epoch c.line.ensures.value
-    ∙ ap (λ (l : InputLine). begins_epoch l.content) (sym c.of-line.ensures.shown)))
-    c.in-Err.ensures.takes.reads in
-    let takes = refused-line d.by_line _ c.self.inside.number _ _ (d.parts c.self.inside.direction) _ _ _ _ _ _ _
-    stopped c.in-Err.ensures.takes.reads in
+    let taken = c.in-Err.ensures.takes in
     rw (← c.self.view_is, ← c.of-line.ensures.shown) (record {
-      reads = record {
-        takes = takes;
-        notes = notes-refused d.by_line d.chosen d.state_after_lines _ _ _ _
-            (d.notes c.fail.new.self.direction) c.stage-stage.ensures.passes
-            (λ lines known. c.fail.ensures.stays _ lines (c.in-Err.ensures.takes.stays _ lines known)) line c.in-Err.fault _ _ _ _ _
-            stopped (as-read-within line line.content c.of-line.result.short refl) takes.steps;
-      };
+      reads = refused-read g.D.Direction _ c.fail.new.self (line_shown c.of-line.result) c.of-line.result.short
+          (c.fail.ensures.fails _ c.may_skip.ensures.value c.is_in_epoch-is_open.ensures.value)
+          (sym c.stage-stage.ensures.value) c.stage-stage.ensures.held
+          (sym (c.begins_epoch-begins.ensures.value ∙ ap begins_epoch c.line.ensures.value
+          ∙ ap (λ (l : InputLine). begins_epoch l.content) (sym c.of-line.ensures.shown))) taken.reads
+          c.stage-stage.ensures.passes (λ lines known. c.fail.ensures.stays _ lines (taken.stays _ lines known));
       stays = λ choices lines known. after-error _
-          (c.fail.ensures.stays choices lines (c.in-Err.ensures.takes.stays choices lines known));
+          (c.fail.ensures.stays choices lines (taken.stays choices lines known));
     })
 
 pub returns-in-Ok : goal.returns-in-Ok
@@ -38,11 +27,12 @@ returns-in-Ok g c =
         takes = handed-line d.by_line _ c.self.inside.options c.self.inside.number
             (d.parts c.self.inside.direction) (d.parts c.take_elsewhere-taken.new.self) _ _ out _ _ refl
             c.in-Ok.ensures.takes.reads;
-        notes = λ lines counted come known. notes-handed
-            (d.notes c.take_elsewhere-taken.new.self c.self.inside.options) lines
-            (line_shown c.of-line.result) out _
-            (c.in-Ok.ensures.takes.notes c.self.inside.options lines come known
-            (c.of-line.ensures.number ∙ next.next ∙ ap (λ n. n + 1) counted));
+        notes = λ lines counted come known. grind (
+          arith,
+          common_steps,
+          c.in-Ok.ensures.takes.notes c.self.inside.options lines come known
+              (c.of-line.ensures.number ∙ next.next ∙ ap (λ n. n + 1) counted),
+        );
       };
-      stays = λ choices lines known. handed-well out _ _;
+      stays = λ choices lines known. grind (arith, common_steps);
     })
