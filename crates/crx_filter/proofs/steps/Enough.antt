@@ -27,27 +27,21 @@ epochs-kept before after epochs kept held = grind (arith, common_steps)
 
 -- ---- epochs before
 
--- one that passes a test, where all have something
-record IsFound {X : Type 0} (p : X → Bool) (P : X → Type 0) : Type 0 where
-  pub thing : X
-  pub passes : p thing ≡ true
-  pub has : P thing
-
-found : {X : Type 0} (p : X → Bool) (P : X → Type 0) (xs : List X)
-    → All P xs → list_any p xs ≡ true → IsFound p P
-found p P [] each e = false-true e
-found p P (x ∷ xs) each e = by_bool (p x)
-    (λ on. record { thing = x; passes = on; has = All-head P x xs each })
-    (λ off. found p P xs (All-tail P x xs each) (rw off at e))
+-- one passes a test, and all have something: what follows from both
+found : {X : Type 0} (p : X → Bool) (P : X → Type 0) (Q : Type 0) (xs : List X)
+    → All P xs → list_any p xs ≡ true → ((x : X) → p x ≡ true → P x → Q) → Q
+found p P Q [] each e follows = false-true e
+found p P Q (x ∷ xs) each e follows = by_bool (p x) (λ on. follows x on (All-head P x xs each))
+    (λ off. found p P Q xs (All-tail P x xs each) (rw off at e) follows)
 
 -- a satellite that was there, with as many types
 abbrev is_satellite_for : Satellite → Satellite → Bool
 is_satellite_for satellite other = bytes_eq other.name satellite.name && nat_le satellite.count other.count
 
-room-there : (satellite : Satellite) (rooms : List (List ℕ × ℕ))
-    → IsFound (is_satellite_for satellite) (HasRoomIn rooms)
+room-there : (satellite : Satellite) (rooms : List (List ℕ × ℕ)) (other : Satellite)
+    → is_satellite_for satellite other ≡ true → HasRoomIn rooms other
     → HasRoom satellite.name satellite.count rooms
-room-there satellite rooms there = grind (arith, common_steps, and_parts, leb-true, bytes_eq-Decides)
+room-there satellite rooms other is has = grind (arith, common_steps, and_parts, leb-true, bytes_eq-Decides)
 
 -- satellites that were in these epochs have room
 pub known-room : (rooms : List (List ℕ × ℕ)) (epochs : List Epoch) → HaveEpochsRoom rooms epochs
@@ -56,10 +50,9 @@ known-room rooms epochs each brought e = λ k d within.
     let s = get_or brought k d in
     let passes = AllPass-from_list_all (λ (satellite : Satellite). list_any (has_satellite_for satellite) epochs)
     brought e k d within in
-    let there = found (has_satellite_for s) (λ (epoch : Epoch). HaveTypesRoom (satellites_had epoch) rooms)
-    epochs each passes in
-    room-there s rooms
-    (found (is_satellite_for s) (HasRoomIn rooms) (satellites_had there.thing) there.has there.passes)
+    found (has_satellite_for s) (λ (epoch : Epoch). HaveTypesRoom (satellites_had epoch) rooms)
+    (HasRoom s.name s.count rooms) epochs each passes (λ epoch was has. found (is_satellite_for s)
+    (HasRoomIn rooms) (HasRoom s.name s.count rooms) (satellites_had epoch) has was (room-there s rooms))
 
 -- ---- where types lines count
 

@@ -17,10 +17,10 @@ use Rattle.crx_compact.proofs.{AnnouncedRows.satellites-again, reading.RawTailin
 use Rattle.crx_compact.specs.HeldRows.{past_of_tail}
 use Rattle.crx_compact.specs.OpenEpochs.{ColumnsState, HeldEpoch, Idle, Reading as ReadingOn, opened_raw, rows_before}
 use Rattle.crx_compact.specs.OpenEpochs.{tail_for_line, tail_held}
-use Rattle.crx_compact.specs.{Placing.{HaveTypesRoom, KeepsRooms}, ReadingRooms.{HaveCellsRoom, HeldColumns}}
+use Rattle.crx_compact.specs.{Placing.HaveTypesRoom, ReadingRooms.{HaveCellsRoom, HeldColumns}}
 use Rattle.crx_filter.specs.DirectionParts.{DirectionParts, DirectionTakes, ComesAfter, answer_for, brings_nothing}
 use Rattle.crx_filter.specs.{CompactReaders.{ReadsCompactLine, compact_reader_parts}, DirectionParts.state_by}
-use Rattle.crx_filter.specs.{ExpansionParts.expansion_parts, EpochRooms.{HaveEpochsRoom, HaveHeldRoom, HaveRoomInColumns, KeepsRoomInColumns}}
+use Rattle.crx_filter.specs.{ExpansionParts.expansion_parts, EpochRooms.{HaveEpochsRoom, HaveRoomInColumns, KeepsRoomInColumns}}
 use Rattle.crx_filter.specs.EpochRooms.{compact_epochs}
 use Rattle.crx_filter.specs.{EpochRooms.rows_held, Rooms.{HasRoomInExpansion}}
 use Rattle.crx_filter.specs.Rooms.{HasRoomToBegin, may_begin, do_types_count}
@@ -63,12 +63,6 @@ epochs-of_found choices lines rooms has =
 -- an expansion of these parts
 abbrev pub expansion_of : CompactReader → PendingLines → Expansion
 expansion_of reader lines = record { reader = reader; lines = lines }
-
--- ---- what stays
-
-room-after : (old new : HeldColumns) (epochs : List ObservationEpoch) → KeepsRooms old.rooms new.rooms
-    → (HaveHeldRoom old → HaveHeldRoom new) → HaveRoomInColumns old epochs → HaveRoomInColumns new epochs
-room-after old new epochs kept held has = (epochs-kept old.rooms new.rooms epochs kept has.0, held has.1)
 
 -- ---- an epoch more
 
@@ -224,16 +218,13 @@ pub reader-takes : (old new : CompactReader) (block : PendingLines) {served : Ch
     (λ choices lines. HaveRoomInColumns old.columns.value (compact_epochs choices lines))
     (λ choices lines. HaveRoomInColumns new.columns.value (compact_epochs choices lines))
 reader-takes old new block number line result ready short reads kept =
-    let later = λ (epochs : List ObservationEpoch). room-after old.columns.value new.columns.value epochs kept.rooms
-    kept.held in
+    let later : (epochs : List ObservationEpoch) → HaveRoomInColumns old.columns.value epochs
+    → HaveRoomInColumns new.columns.value epochs = λ epochs held. (
+      epochs-kept old.columns.value.rooms new.columns.value.rooms epochs kept.rooms held.0,
+      kept.held held.1,
+    ) in
     record {
-      reads = record {
-        takes = λ choices number served. reads.takes choices number tt;
-        refuses = reads.refuses;
-        types = reads.types;
-        kept = reads.kept;
-        nothing = reads.nothing;
-      };
+      reads = grind (arith, common_steps, reads.takes);
       serving = λ choices served. refl;
       counts = grind (arith, common_steps);
       notes = λ choices lines given known counted. known-if_taken (expansion_of old block) choices lines line given

@@ -1,6 +1,6 @@
 -- The rows of the epoch whose compact lines come have room, line by line.
-use Rattle.crx_filter.proofs.Words.{common_steps, arith, ◌≡◌, Bool, refl, sym}
-use Rattle.crx_filter.proofs.Words.{subst, ℕ, List, [], ◌∷◌, length, map, Option, Some, None, Result, Ok}
+use Rattle.crx_filter.proofs.Words.{common_steps, arith, ◌≡◌, Bool, refl}
+use Rattle.crx_filter.proofs.Words.{ℕ, List, [], ◌∷◌, length, map, Option, Some, None, Result, Ok}
 use Rattle.crx_filter.proofs.Words.{length-map, Fault, Content, Satellite, Tail, All, All-nil, All-cons}
 use Rattle.crx_filter.proofs.Words.{All-head, All-tail, OpenRawEpoch, next_step, RawStep, satellite_line_read}
 use Rattle.crx_compact.proofs.{Results.{and_then-ok}, reading.Announced.satellites-set}
@@ -99,22 +99,16 @@ held-on (Idle tail) line rooms has = All-nil (λ (row : RowTail). HasRoom row.na
 held-on (Reading begun) line rooms has = step-held (map satellite_of_tail begun.rows) rooms
     (next_step begun (Content line)) (step-satellites begun line) (types-of_rows begun.rows rooms has)
 
-cells-kept : (rows : List RowTail) (before after : List (List ℕ × ℕ)) → KeepsRooms before after
-    → HaveCellsRoom rows before → HaveCellsRoom rows after
-cells-kept rows before after kept has = grind (arith, common_steps)
+printed-after : (step : RawStep) (then : ColumnsState) (is_whole : Bool) (lines : List (List ℕ))
+    → HasPrintedLines step then is_whole lines → then ≡ state_after step
+printed-after step then is_whole lines made = grind (arith, common_steps)
 
 -- a line of an open epoch was taken
 pub printed-held : (old new : HeldColumns) (line : List ℕ) (is_whole : Bool) (lines : List (List ℕ))
     → HasPrintedLines (step_in old.state (Content line)) new.state is_whole lines
     → KeepsRooms old.rooms new.rooms → HaveHeldRoom old → HaveHeldRoom new
-printed-held old new line is_whole lines made kept has =
-    subst (λ (s : ColumnsState). HaveCellsRoom (rows_held s) new.rooms)
-    (sym (printed-after (step_in old.state (Content line)) new.state is_whole lines made))
-    (held-on old.state line new.rooms (cells-kept (rows_held old.state) old.rooms new.rooms kept has))
-  where
-    printed-after : (step : RawStep) (then : ColumnsState) (b : Bool) (ls : List (List ℕ))
-        → HasPrintedLines step then b ls → then ≡ state_after step
-    printed-after step then b ls h = grind (arith, common_steps)
+printed-held old new line is_whole lines made kept has = rw (printed-after _ new.state is_whole lines made)
+    (held-on old.state line new.rooms (grind (arith, common_steps)))
 
 -- nothing is held
 pub nothing-held : (columns : HeldColumns) → columns.state ≡ Idle None → HaveHeldRoom columns
