@@ -6,12 +6,11 @@ use proofs.Words.{◌+◌, true≢false, InputLine, Content, as_read, Count, Epo
 use proofs.Words.{Observation, Satellite, All-head}
 use proofs.Words.{OpenEpoch, row_of, Choices, types_in_force}
 use proofs.Words.{rinex_reading, Reading, RunState, Made, Completes}
-use proofs.Words.{made_in, state_next, step_of_made, is_again, compaction, compaction_state, rinex_open}
+use proofs.Words.{made_in, step_of_made, is_again, compaction, compaction_state, rinex_open}
 use proofs.Words.{Written, with_next}
 use proofs.Words.{RinexReader, made_at, reader_phase, MovesReader}
 use proofs.Words.{CompletedEpoch, Completed, FileUnit, epoch_by_rows, Fault, Bool, ◌++◌, common_steps, arith}
 use proofs.Words.{compact_written, written_kept, is_at_every}
-use proofs.Words.{is_long}
 use proofs.{Words.{LINE_LIMIT, ◌≤◌}, Pending.again-lines}
 use proofs.following.{Collecting.{add_made, given-epochs, given-past}, CompactedOn.as_it_is}
 use proofs.following.CompactedOn.{compaction-collects, epochs_collected}
@@ -27,7 +26,7 @@ use Rattle.crx_filter.specs.CompactionParts.{CompactionState, compaction_line_ou
 use Rattle.crx_filter.specs.CompactionParts.{is_full_where_due}
 use Rattle.crx_filter.specs.RinexReaders.{RefusesRinexLine}
 use Rattle.crx_header.specs.meaning.CompactHeader.{lines_before_header}
-use Rattle.crx_filter.specs.DirectionParts.{ComesAfter, DirectionTakes, brings_nothing, state_by}
+use Rattle.crx_filter.specs.DirectionParts.{ComesAfter, DirectionTakes, HasEnough, KnowsStill, state_by}
 use Rattle.crx_filter.specs.{EpochRooms.{HaveEpochsRoom, rinex_epochs}, Rooms.HasRoomForRow}
 use Rattle.crx_filter.specs.{Rooms.HasRoomInCompaction, meaning.Memory.{are_known, are_types_awaited}}
 use Rattle.crx_filter.specs.meaning.Memory.{accepted_epochs, brought_by_row, satellite_of_row}
@@ -42,17 +41,16 @@ all-added : (rooms : List (List ℕ × ℕ)) (epochs : List Epoch) (made : Made 
 all-added rooms epochs (Completes (Observation epoch)) adds all = grind (arith, common_steps)
 all-added rooms epochs made adds all = all
 
+-- what a compaction knows of these lines
+abbrev knows_in : CompactionState → Choices → List InputLine → Type 0
+knows_in c choices lines = HaveEpochsRoom c.encoder.rooms (rinex_epochs choices lines)
+
 -- a line that brings nothing
-pub knows-past : (choices : Choices) (lines : List InputLine) (line : InputLine) (c : CompactionState)
-    → (given : ComesAfter compaction (λ choices. choices) compaction_state choices lines line
-    (compaction_parts c))
-    → HaveEpochsRoom c.encoder.rooms (rinex_epochs choices lines) → brings_nothing (state_next compaction
-    (state_by choices (length lines) (compaction_parts c)) (as_read line)).answer (as_read line) ≡ true
-    → HaveEpochsRoom c.encoder.rooms (rinex_epochs choices (with_next lines line))
-knows-past choices lines line c given knew passed = subst (HaveEpochsRoom c.encoder.rooms) (sym (given-past
+pub knows-past : (c : CompactionState)
+    → KnowsStill compaction (λ choices. choices) compaction_state (compaction_parts c) (knows_in c)
+knows-past c choices lines line given knew passed = subst (HaveEpochsRoom c.encoder.rooms) (sym (given-past
     compaction as_it_is compaction_state choices (epochs_collected choices) (compaction-collects choices)
-    lines
-    line (compaction_parts c) given (λ types kept. refl) (λ so_far. refl) passed)) knew
+    lines line (compaction_parts c) given (λ types kept. refl) (λ so_far. refl) passed)) knew
 
 -- ---- what is enough
 
@@ -68,27 +66,19 @@ row-there line types epochs rooms held known = by_row (row_of types line) refl
     by_row (Ok row) is = All-head (λ (s : Satellite). HasRoom s.name s.count rooms) (satellite_of_row row) []
         (known-room rooms epochs held (satellite_of_row row ∷ []) (rw is at known))
 
-module _ (choices : Choices) (lines : List InputLine) (line : InputLine) (c : CompactionState)
-    (given : ComesAfter compaction (λ choices. choices) compaction_state choices lines line (compaction_parts
-    c))
-  where
-    abbrev read : Reading Epoch
-    read = rinex_reading choices.skip (map as_read lines)
-
-    pub has-enough : HaveEpochsRoom c.encoder.rooms (rinex_epochs choices lines) → is_long line ≡ false
-        → compaction_line_outgrows choices lines line ≡ false → HasRoomInCompaction c.reader c.encoder.rooms line.content
-    has-enough knew short needs =
-        let there = types-there compaction compaction_state choices lines line (compaction_parts c) given in
-        let both = or_parts (are_types_awaited read.items) _ (rw (as-read-short line short) at needs) in
-        record {
-          types = λ counts none. true≢false (sym (counts-there compaction compaction_state
-              choices lines line (compaction_parts c) given rinex_open read refl (λ counted same. same)
-              counts none)
-              ∙ both.0);
-          row = λ opened. subst (λ (t : List Count). HasRoomForRow t line.content c.encoder.rooms) (sym there)
-              (row-there line.content (types_in_force read.items) (accepted_epochs read.items) c.encoder.rooms
-              knew (not-false _ both.1));
-        }
+pub has-enough : (c : CompactionState) → HasEnough compaction (λ choices. choices) compaction_state
+    compaction_line_outgrows (compaction_parts c) (knows_in c) (HasRoomInCompaction c.reader c.encoder.rooms)
+has-enough c choices lines line given knew short needs =
+    let read : Reading Epoch = rinex_reading choices.skip (map as_read lines) in
+    let there = types-there compaction compaction_state choices lines line (compaction_parts c) given in
+    let both = or_parts (are_types_awaited read.items) _ (rw (as-read-short line short) at needs) in
+    record {
+      types = λ counts none. true≢false (sym (counts-there compaction compaction_state choices lines line
+          (compaction_parts c) given rinex_open read refl (λ counted same. same) counts none) ∙ both.0);
+      row = λ opened. subst (λ (t : List Count). HasRoomForRow t line.content c.encoder.rooms) (sym there)
+          (row-there line.content (types_in_force read.items) (accepted_epochs read.items) c.encoder.rooms
+          knew (not-false _ both.1));
+    }
 
 -- ---- after a line that was taken
 
@@ -115,8 +105,7 @@ module _ (served : Choices → Type 0) (room : Type 0) (before after : Compactio
   abbrev Takes : Result Bool Fault → List (List ℕ) → Type 0
   Takes result ready = DirectionTakes compaction (λ cs. cs) compaction_state served (compaction_parts before) number
       line room result ready (compaction_parts after) (serves_in after) before.index after.index
-      (λ choices lines. HaveEpochsRoom before.encoder.rooms (rinex_epochs choices lines))
-      (λ choices lines. HaveEpochsRoom after.encoder.rooms (rinex_epochs choices lines))
+      (knows_in before) (knows_in after)
 
   -- it was refused
   pub refused-takes : {lacks : Type 0} {fault : Fault} {ready : List (List ℕ)}
@@ -132,8 +121,8 @@ module _ (served : Choices → Type 0) (room : Type 0) (before after : Compactio
         → is_again (step_of_made compaction s (as_read line) makes).answer ≡ false)
         → AddsHeld after.encoder.rooms makes → (choices : Choices) (lines : List InputLine)
         → ComesAfter compaction (λ cs. cs) compaction_state choices lines line (compaction_parts before)
-        → HaveEpochsRoom before.encoder.rooms (rinex_epochs choices lines) → number ≡ length lines + 1
-        → HaveEpochsRoom after.encoder.rooms (rinex_epochs choices (with_next lines line))
+        → knows_in before choices lines → number ≡ length lines + 1
+        → knows_in after choices (with_next lines line)
     noted makes is once adds = λ choices lines given knew counted.
         let state = state_by choices (length lines) (compaction_parts before) in
         let epochs = epochs_collected choices (map as_read lines) in

@@ -31,12 +31,6 @@ pub due-there : (s : Stage) (in_full due : Bool) → is_open_stage s ≡ true
     → is_full_where_due s in_full due ≡ true → in_full ≡ due
 due-there s in_full due e f = grind (arith, common_steps, false≢true)
 
--- one that stays open is what it was
-pub still-served : (was s : Stage) (was_full in_full due : Bool) → is_open_stage was ≡ true → is_open_stage s ≡ true
-    → in_full ≡ was_full → is_full_where_due was was_full due ≡ true → is_full_where_due s in_full due ≡ true
-still-served was s was_full in_full due opened opens same served =
-    served-open s in_full due (same ∙ due-there was was_full due opened served)
-
 -- ---- together
 
 -- no epoch is open
@@ -77,10 +71,6 @@ pub row-known : (answer : Bool) (row read : ObservationRow) (rows there : List O
     → answer ≡ not (has_satellite row.name rows) → row ≡ read → rows ≡ there
     → has_satellite read.name there ≡ not answer
 row-known answer row read rows there said same where_ = grind (arith, common_steps)
-
--- a row that isn't the last one leaves the epoch open, and the last one ends it
-pub row-or-epoch : (step : RinexStep) → is_row step ≡ true → (step ≡ Row → ⊥) → step ≡ Epoch
-row-or-epoch step is not_row = grind (arith, common_steps, false≢true)
 
 module _ (before mid : RinexReader) (encoder new : EncoderState) (line : List ℕ)
     (together : BelongTogether before encoder) (same : IsSameReader before mid) where
@@ -138,9 +128,6 @@ module _ {before after : RinexReader} {encoder new : EncoderState} {line : List 
   pub row-ends : (kept : Written) → is_last ≡ true
       → CompletedEpoch (made_at before line kept) line before after
   row-ends kept is = rw is at (row.takes kept)
-
-  pub row-closed : is_last ≡ true → is_open_stage after.stage ≡ false
-  row-closed is = (row-ends (record { index = 0; tail = None }) is).is.closed
 
   module _ (together : BelongTogether before encoder) (opened : is_open_stage before.stage ≡ true) where
     still-open : new.is_open ≡ true

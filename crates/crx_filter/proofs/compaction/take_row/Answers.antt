@@ -1,6 +1,6 @@
 use Rattle.crx_filter.proofs.{Words.{common_steps, arith, inl, inr, refl, ap, not, ◌∙◌, false≢true}}
 use Rattle.crx_filter.proofs.{steps.Together.{row-lost, rows-few}}
-use Rattle.crx_filter.proofs.steps.Together.{row-known, row-or-epoch, row-refused, row-written, rows-there}
+use Rattle.crx_filter.proofs.steps.Together.{row-known, row-refused, row-written, rows-there}
 use Rattle.std.proofs.lemmas.Result.{err_from_is_err_and}
 use Rattle.crx_filter.proofs.compaction.take_row.Goals as goal
 
@@ -53,6 +53,6 @@ returns c =
           (encoded.known.room c.in-Ok-true.field-0-test) encoded.known.rooms c.requires.open read.ok read.row
           refl encoded.answer c.in-Ok-true.field-0-test
           (encoded.written c.in-Ok-true.field-0-test) took.takes took.steps took.rows
-          (row-or-epoch _ took.steps c.in_default.not-Row);
+          (grind (arith, common_steps, false≢true, took.steps, c.in_default.not-Row));
       refused = tt;
     }

@@ -6,13 +6,9 @@ pub returns-clause-lawful : goal.returns-clause-lawful
 returns-clause-lawful c = compaction-goes
 
 pub returns-clause-passes : goal.returns-clause-passes
-returns-clause-passes c =
-    let inside = c.self.inside in
-    rw (← c.self.view_is) (λ choices lines line given knew passed. knows-past choices lines line
-    (compaction_of inside.index inside.reader inside.encoder) given knew passed)
+returns-clause-passes c = rw (← c.self.view_is)
+    (knows-past (compaction_of c.self.inside.index c.self.inside.reader c.self.inside.encoder))
 
 pub returns-clause-enough : goal.returns-clause-enough
-returns-clause-enough c =
-    let inside = c.self.inside in
-    rw (← c.self.view_is) (λ choices lines line given knew short needs. has-enough choices lines line
-    (compaction_of inside.index inside.reader inside.encoder) given knew short needs)
+returns-clause-enough c = rw (← c.self.view_is)
+    (has-enough (compaction_of c.self.inside.index c.self.inside.reader c.self.inside.encoder))

@@ -1,8 +1,8 @@
 use Rattle.crx_filter.proofs.Words.{ap, refl, sym, subst, ◌+◌, ◌∙◌, None}
 use Rattle.crx_compact.specs.{Encoding.EncoderState, Placing.{HaveRoom, KeepsRooms}}
 use Rattle.crx_filter.proofs.steps.CompactionKnows.{compaction_of, ended-takes, kept_in, moved-takes, refused-takes}
-use Rattle.crx_filter.proofs.steps.Together.{closed-together, due-there, row-asked, row-closed, row-ends, row-moves}
-use Rattle.crx_filter.proofs.steps.Together.{row-together, still-served}
+use Rattle.crx_filter.proofs.steps.Together.{closed-together, due-there, row-asked, row-ends, row-moves}
+use Rattle.crx_filter.proofs.steps.Together.{row-together, served-open}
 use Rattle.{crx_lines.specs.Reading.line_shown, std.proofs.lemmas.Result.err_from_is_err_and}
 use Rattle.crx_filter.proofs.compaction.CompactionDirection.take_in_epoch.Goals as goal
 
@@ -36,7 +36,8 @@ returns-then-not-is_last c =
           (compaction_of was.index c.take_row.new.reader c.take_row.new.encoder) (line_shown c.args.line) _
           c.args.line.short row.kept moves.0
           (ap (λ (e : EncoderState). record { index = was.index; tail = e.before }) row.written)
-          (λ choices chosen. still-served _ _ _ _ _ opened moves.1 (ap (λ (e : EncoderState). e.in_full) row.written) chosen)
+          (λ choices chosen. served-open _ _ _ (ap (λ (e : EncoderState). e.in_full) row.written
+          ∙ due-there _ _ _ opened chosen))
           (ap (λ (e : EncoderState). e.pending) row.written ∙ drained);
     })
 
@@ -50,7 +51,7 @@ invariant_of-self-2 c =
     let row = c.in_ok-is_last.ensures.written in
     let done = row-ends row (record { index = 0; tail = None }) c.if-not-is_last.false in
     let ends = c.end_epoch.ensures.ends done.head done.held in
-    closed-together _ _ (row-closed row c.if-not-is_last.false) ends.closed ends.rows
+    closed-together _ _ done.is.closed ends.closed ends.rows
 
 pub returns : goal.returns
 returns c =
