@@ -7,42 +7,20 @@ use Words.{Rejects, made_in, is_skipped_in, may_skip, is_skippable, failed_step,
 use Words.{begins_epoch, step_made, is_held, phase_of_stage, Stage, false≢true, InputLine}
 use Words.{ReadLine, Steps, as_read, length, LINE_LIMIT, ◌≤◌, refl}
 use specs.DirectionParts.{DirectionParts, state_by, Reads, AnswersToFault, HasStopped, TakesLine, handed_out_by}
-use specs.{DirectionParts.{ComesAfter, EngineParts, KnowsStill}, EngineState.{KnowsAfter, EngineReads}}
+use specs.{DirectionParts.{EngineParts, KnowsStill}, EngineState.{EngineNotes, EngineReads}}
 use specs.{EngineState.{engine_ready, engine_state}, declared.direction.Direction.Ghosts}
 use specs.{DirectionParts.hands_out, EngineSteps.answer_of_step, LineByLine.{end_step, answer_of_lines}}
 use specs.{LineByLine.fault_at_end_in, LineByLine.state_end_with, Stages.{bare_phase, is_settled}}
-use specs.declared.stage.Stage.TheVariants.{Looking, Closed, Ended}
+use specs.declared.stage.Stage.TheVariants.{Closed, Ended}
 use Rattle.crx_filter.proofs.steps.{EngineAnswers.as-read-within, EngineLemmas.ran-out}
 use Rattle.crx_runs.specs.declared.engine.Step.{Step, TheVariants.{Warned}}
 use Rattle.std.proofs.Common.{OnErr}
 use Rattle.crx_runs.specs.Engines.{answer_given, lines_handed_out}
 use Rattle.crx_runs.specs.declared.engine.HandedOut.{HandedOut}
 
--- no fault is answered where one has ended the run, or after the end
-pub not-settled : (stage : Stage) → (stage ≡ Looking → ⊥) → (stage ≡ Closed → ⊥)
-    → ((at : At) → stage ≡ Ended at → ⊥) → is_settled stage ≡ false
-not-settled stage a b c = grind (arith, common_steps)
-
 -- what is true after any answer is true after an error
 pub after-error : {A B P : Type 0} (result : Result A B) → P → OnErr result P
 after-error result is = grind (arith, common_steps)
-
-module _ {U O K : Type 0} (direction : Direction U O K) (chosen : Choices → Choices)
-    (state_after_lines : Choices → List ReadLine → RunState O K) (choices : Choices) (number : ℕ)
-    (before : DirectionParts O K) (knew knows : Choices → List InputLine → Type 0)
-    (past : KnowsStill direction chosen state_after_lines before knew)
-    (stays : (lines : List InputLine) → knew choices lines → knows choices lines) (line : InputLine) where
-  -- what is known after a line that was refused
-  pub notes-refused : (fault : Fault) (result : Result Step At) (read : ReadLine) (room : Type 0)
-      (ready : List (List ℕ)) (after : RunState O K)
-      → HasStopped (failed_step direction (state_by choices number before) read fault) result ready
-      (state_by choices number before) after → as_read line ≡ read
-      → Steps direction (state_by choices number before) read room result ready after
-      → (lines : List InputLine) → number ≡ length lines
-      → ComesAfter direction chosen state_after_lines choices lines line before → knew choices lines
-      → KnowsAfter (knows choices) lines line result
-  notes-refused fault result read room ready after stopped is steps lines counted given known =
-      grind (arith, common_steps, false≢true)
 
 module _ {U O K : Type 0} (direction : Direction U O K) where
   -- a line was taken that hands something out, or nothing
@@ -125,25 +103,37 @@ module _ {U O K : Type 0} (direction : Direction U O K) where
           (state_by choices number after) ≡ state_end_with direction closing (state_by choices number before)
       ends-failed staged off = grind (arith, common_steps, ends, skips)
 
--- a line was refused, and its fault answered
-pub refused-read : {D : Type 0} (d : Ghosts D) (before after : EngineParts D) (line : InputLine)
-    {stage : Stage} {fault : Fault} {goes_on : Bool} {parts : DirectionParts d.Open d.Kept}
-    {serves : Choices → Type 0} {given : List (List ℕ)} → length line.content ≤ LINE_LIMIT
-    → AnswersToFault d.by_line before.options (before.number + 1) stage fault goes_on parts after.answer
-    (engine_ready d after) (engine_state d after) → (d.parts before.direction).stage ≡ stage
-    → is_held stage (d.parts before.direction).begun ≡ true → begins_epoch line.content ≡ goes_on
-    → Reads d.by_line serves (d.parts before.direction) line.content
-    (d.has_room before.direction line.content) (Err fault) given parts
-    → KnowsStill d.by_line d.chosen d.state_after_lines (d.parts before.direction) (d.notes before.direction)
-    → ((lines : List InputLine) → d.notes before.direction before.options lines
-    → d.notes after.direction before.options lines) → EngineReads d before line None after
-refused-read d before after line {fault = fault} short fails was held goes reads past stays =
-    let stopped = fails (d.parts before.direction) (Content line.content) before.number
-    (record { stage_was = was; held = held; types = reads.types; kept = reads.kept; goes = goes }) refl in
-    let takes = refused-line d.by_line before.options before.number fault _ (d.parts before.direction) _
-    line.content _ _ _ _ _ stopped reads in
-    record {
-      takes = takes;
-      notes = notes-refused d.by_line d.chosen d.state_after_lines _ _ _ _ (d.notes after.direction) past
-          stays line fault _ _ _ _ _ stopped (as-read-within line line.content short refl) takes.steps;
-    }
+-- ---- a line that was refused
+
+module _ {D : Type 0} (d : Ghosts D) (before after : EngineParts D) (line : InputLine)
+    (past : KnowsStill d.by_line d.chosen d.state_after_lines (d.parts before.direction)
+    (d.notes before.direction))
+    (stays : (lines : List InputLine) → d.notes before.direction before.options lines
+    → d.notes after.direction before.options lines) where
+  -- what is known after it
+  pub notes-refused : (fault : Fault) (result : Result Step At) (read : ReadLine) (room : Type 0)
+      (ready : List (List ℕ)) → HasStopped (failed_step d.by_line (engine_state d before) read fault) result
+      ready (engine_state d before) (engine_state d after) → as_read line ≡ read
+      → Steps d.by_line (engine_state d before) read room result ready (engine_state d after)
+      → EngineNotes d before line result after
+  notes-refused fault result read room ready stopped is steps lines counted given known =
+      grind (arith, common_steps, false≢true)
+
+  -- and what was read, once its fault is answered
+  pub refused-read : {stage : Stage} {fault : Fault} {goes_on : Bool} {parts : DirectionParts d.Open d.Kept}
+      {serves : Choices → Type 0} {given : List (List ℕ)} → length line.content ≤ LINE_LIMIT
+      → AnswersToFault d.by_line before.options (before.number + 1) stage fault goes_on parts after.answer
+      (engine_ready d after) (engine_state d after) → (d.parts before.direction).stage ≡ stage
+      → is_held stage (d.parts before.direction).begun ≡ true → begins_epoch line.content ≡ goes_on
+      → Reads d.by_line serves (d.parts before.direction) line.content
+      (d.has_room before.direction line.content) (Err fault) given parts
+      → EngineReads d before line None after
+  refused-read {fault = fault} short fails was held goes reads =
+      let stopped = fails (d.parts before.direction) (Content line.content) before.number
+      (record { stage_was = was; held = held; types = reads.types; kept = reads.kept; goes = goes }) refl in
+      let takes = refused-line d.by_line before.options before.number fault _ (d.parts before.direction) _
+      line.content _ _ _ _ _ stopped reads in
+      record {
+        takes = takes;
+        notes = notes-refused fault _ _ _ _ stopped (as-read-within line line.content short refl) takes.steps;
+      }

@@ -7,12 +7,13 @@ pub returns-in-Err : goal.returns-in-Err
 returns-in-Err g c =
     let taken = c.in-Err.ensures.takes in
     rw (← c.self.view_is, ← c.of-line.ensures.shown) (record {
-      reads = refused-read g.D.Direction _ c.fail.new.self (line_shown c.of-line.result) c.of-line.result.short
+      reads = refused-read g.D.Direction _ c.fail.new.self (line_shown c.of-line.result)
+          c.stage-stage.ensures.passes (λ lines known. c.fail.ensures.stays _ lines (taken.stays _ lines known))
+          c.of-line.result.short
           (c.fail.ensures.fails _ c.may_skip.ensures.value c.is_in_epoch-is_open.ensures.value)
           (sym c.stage-stage.ensures.value) c.stage-stage.ensures.held
           (sym (c.begins_epoch-begins.ensures.value ∙ ap begins_epoch c.line.ensures.value
-          ∙ ap (λ (l : InputLine). begins_epoch l.content) (sym c.of-line.ensures.shown))) taken.reads
-          c.stage-stage.ensures.passes (λ lines known. c.fail.ensures.stays _ lines (taken.stays _ lines known));
+          ∙ ap (λ (l : InputLine). begins_epoch l.content) (sym c.of-line.ensures.shown))) taken.reads;
       stays = λ choices lines known. after-error _
           (c.fail.ensures.stays choices lines (taken.stays choices lines known));
     })
