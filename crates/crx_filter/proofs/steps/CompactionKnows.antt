@@ -180,12 +180,12 @@ module _ (served : Choices → Type 0) (room : Type 0) (before after : Compactio
     -- it completes an epoch, whose rows the encoder had
     pub ended-takes : (done : CompletedEpoch made line.content before.reader after.reader) (mid : EncoderState)
         → ((choices : Choices) → served choices → mid.in_full ≡ is_at_every choices.every before.index)
-        → mid.before ≡ before.encoder.before → mid.rows ≡ after.reader.rows.rows → HaveRoom mid.rows after.encoder.rooms
+        → mid.before ≡ before.encoder.before → mid.rows ≡ after.reader.rows.rows → HaveRoom mid.rows mid.rooms
         → EndsEpoch done.head mid after.encoder → after.index ≡ before.index + 1
         → Takes (Ok true) after.encoder.pending
     ended-takes done mid due tail there holds ends counted =
         unit-takes (Observation (epoch_by_rows done.head after.reader.rows.rows)) done.is
         (All-map (λ (s : Satellite). HasRoom s.name s.count after.encoder.rooms) satellite_of_row
-        after.reader.rows.rows (rw (← there) holds))
+        after.reader.rows.rows (rw (← there, ends.rooms) holds))
         (λ choices number chosen. grind (arith, common_steps, epoch_by_rows, due choices chosen))
         (omega (arith, counted))

@@ -165,9 +165,6 @@ module _ {made : Made ObservationEpoch OpenEpoch} {line : List ℕ} {before afte
   pub begun-holds : HaveRoom new.rows new.rooms
   begun-holds = rw begun (All-nil (λ (r : ObservationRow). HasRoom r.name (length r.values) encoder.rooms))
 
-  pub begun-kept : KeepsRooms encoder.rooms new.rooms
-  begun-kept = rw begun (λ name count has. has)
-
   pub begun-together : is_open_stage after.stage ≡ true → BelongTogether after new
   begun-together opened = grind (arith, common_steps, open-together, begun-rows, begun-holds)
 

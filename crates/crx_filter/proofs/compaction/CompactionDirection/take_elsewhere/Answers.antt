@@ -1,8 +1,8 @@
-use Rattle.crx_filter.proofs.Words.{common_steps, arith, ap, refl, sym, subst, ◌∙◌, ◌≡◌, ◌+◌, Choices, Header}
-use Rattle.{crx_filter.proofs.Words.is_at_every, crx_compact.specs.{Encoding.EncoderState, Placing.{HaveRoom, KeepsRooms}}}
+use Rattle.crx_filter.proofs.Words.{common_steps, arith, ap, refl, sym, ◌∙◌, ◌≡◌, ◌+◌, Choices, Header}
+use Rattle.{crx_filter.proofs.Words.is_at_every, crx_compact.specs.Encoding.EncoderState}
 use Rattle.crx_filter.proofs.steps.CompactionKnows.{compaction_of, copied-takes, ended-takes, kept_in, moved-takes}
 use Rattle.crx_filter.proofs.steps.{CompactionKnows.refused-takes, CompactionSteps.{copied-closed, not-first}}
-use Rattle.crx_filter.proofs.steps.Together.{begun-asked, begun-holds, begun-kept, begun-open, begun-rows}
+use Rattle.crx_filter.proofs.steps.Together.{begun-asked, begun-holds, begun-open, begun-rows}
 use Rattle.crx_filter.proofs.steps.Together.{begun-together, begun-whole, closed-together, none-there}
 use Rattle.crx_filter.proofs.steps.Together.{same-together, served-closed, served-open}
 use Rattle.{crx_filter.proofs.compaction.CompactionDirection.take_elsewhere.Goals.After-begin}
@@ -63,7 +63,7 @@ returns-then-is_in_epoch c =
     rw (← c.self.view_is) (record {
       takes = moved-takes _ _ (compaction_of was.index was.reader was.encoder)
           (compaction_of was.index c.take.new.self c.begin.new.self) (line_shown c.args.line) _ c.args.line.short
-          (begun-kept was.encoder takes begun) (begun-open _ _ _ _ takes opened) (rw begun refl)
+          (rw begun (λ name count has. has)) (begun-open _ _ _ _ takes opened) (rw begun refl)
           (λ choices chosen. served-open _ _ _ (due (goal.at.returns-then-is_in_epoch c).After-begin choices chosen))
           (ap (λ (e : EncoderState). e.pending) begun);
     })
@@ -93,10 +93,10 @@ returns-else-is_in_epoch c =
     rw (← c.self.view_is) (record {
       takes = ended-takes _ _ (compaction_of was.index was.reader was.encoder)
           (compaction_of (was.index + 1) c.take.new.self c.end_epoch.new.encoder) (line_shown c.args.line) _
-          c.args.line.short (subst (KeepsRooms was.encoder.rooms) (sym ends.rooms) (begun-kept was.encoder takes begun))
-          done c.begin.new.self (due (goal.at.returns-else-is_in_epoch c).After-begin)
+          c.args.line.short (rw (ends.rooms, begun) (λ name count has. has)) done
+          c.begin.new.self (due (goal.at.returns-else-is_in_epoch c).After-begin)
           (ap (λ (e : EncoderState). e.before) begun) (begun-rows was.encoder takes begun)
-          (subst (HaveRoom c.begin.new.self.rows) (sym ends.rooms) (begun-holds was.encoder takes begun)) ends refl;
+          (begun-holds was.encoder takes begun) ends refl;
     })
 
 pub invariant_of-self-then-is_first : goal.invariant_of-self-then-is_first

@@ -1,5 +1,5 @@
-use Rattle.crx_filter.proofs.Words.{ap, refl, sym, subst, ◌+◌, ◌∙◌, None}
-use Rattle.crx_compact.specs.{Encoding.EncoderState, Placing.{HaveRoom, KeepsRooms}}
+use Rattle.crx_filter.proofs.Words.{ap, refl, ◌+◌, ◌∙◌, None}
+use Rattle.crx_compact.specs.Encoding.{EncoderState}
 use Rattle.crx_filter.proofs.steps.CompactionKnows.{compaction_of, ended-takes, kept_in, moved-takes, refused-takes}
 use Rattle.crx_filter.proofs.steps.Together.{closed-together, due-there, row-asked, row-ends, row-moves}
 use Rattle.crx_filter.proofs.steps.Together.{row-together, served-open}
@@ -63,8 +63,8 @@ returns c =
     rw (← c.self.view_is) (record {
       takes = ended-takes _ _ (compaction_of was.index was.reader was.encoder)
           (compaction_of (was.index + 1) c.take_row.new.reader c.end_epoch.new.encoder) (line_shown c.args.line) _
-          c.args.line.short (subst (KeepsRooms was.encoder.rooms) (sym ends.rooms) row.kept) done c.take_row.new.encoder
+          c.args.line.short (rw ends.rooms row.kept) done c.take_row.new.encoder
           (λ choices chosen. ap (λ (e : EncoderState). e.in_full) row.written ∙ due-there _ _ _ opened chosen)
           (ap (λ (e : EncoderState). e.before) row.written) (ap (λ (e : EncoderState). e.rows) row.written)
-          (subst (HaveRoom c.take_row.new.encoder.rows) (sym ends.rooms) row.held) ends refl;
+          row.held ends refl;
     })

@@ -8,8 +8,8 @@ returns-in-Err g c =
     let taken = c.in-Err.ensures.takes in
     rw (← c.self.view_is, ← c.of-line.ensures.shown) (record {
       reads = refused-read g.D.Direction _ c.fail.new.self (line_shown c.of-line.result)
-          c.stage-stage.ensures.passes (λ lines known. c.fail.ensures.stays _ lines (taken.stays _ lines known))
-          c.of-line.result.short
+          c.stage-stage.ensures.passes
+          (λ lines known. c.fail.ensures.stays _ lines (taken.stays _ lines known)) c.of-line.result.short
           (c.fail.ensures.fails _ c.may_skip.ensures.value c.is_in_epoch-is_open.ensures.value)
           (sym c.stage-stage.ensures.value) c.stage-stage.ensures.held
           (sym (c.begins_epoch-begins.ensures.value ∙ ap begins_epoch c.line.ensures.value

@@ -4,7 +4,8 @@ use Rattle.crx_filter.proofs.engine.LineEngineEngine.overlong.Goals as goal
 
 pub returns-clause-count : goal.returns-clause-count
 returns-clause-count g c = steps-counted g.D.Direction.by_line
-    (engine_state g.D.Direction c.args.self.now) _ Overlong _ _ {room = ⊤} (inl c.overlong.ensures.stops.steps)
+    (engine_state g.D.Direction c.args.self.now) _ Overlong _ _ {room = ⊤}
+    (inl c.overlong.ensures.stops.steps)
 
 pub returns-clause-answers : goal.returns-clause-answers
 returns-clause-answers g c = λ lines notices line shown awaited long.
